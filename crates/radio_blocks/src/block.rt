@@ -1,0 +1,65 @@
+ghost use Rattle.std.specs.Prelude.{◌≡◌, ℕ, ◌≤◌, ◌↔◌, length, IsSome, IfSome, IfOk, List};
+ghost use Rattle.radio_blocks.specs.Block.{IsBlock};
+
+use bytes::Bytes;
+use std::marker::Model;
+
+use crate::OutOfMemory;
+
+/// The largest number of bytes in one block.
+pub const MAX_BLOCK: usize = 4096;
+
+/// Data that a source delivered at once: 1 to 4096 bytes. A listener begins at the start of one.
+#[derive(Drop)]
+pub struct Block {
+    bytes: Bytes,
+}
+
+impl Model for Block {
+    ghost Value = { List ℕ };
+
+    ghost view = { λ b. b.bytes };
+
+    ghost invariant = { λ b. IsBlock b.bytes };
+}
+
+impl Block {
+    /// The block of these bytes; `None` where they are none, or more than 4096.
+    pub fn new(bytes: Bytes) -> Option<Block>
+        // there is a block of exactly 1 to 4096 bytes
+        ensures valid { IsSome result ↔ IsBlock bytes }
+        // and it has these bytes
+        ensures value { IfSome result (λ block. block ≡ bytes) }
+    {
+        if bytes.is_empty() || bytes.len() > MAX_BLOCK {
+            None
+        } else {
+            Some(Block { bytes })
+        }
+    }
+
+    /// Its number of bytes, 1 to 4096.
+    pub fn len(&self) -> usize
+        ensures value { result ≡ length self.now }
+        ensures range { IsBlock self.now }
+    {
+        self.bytes.len()
+    }
+
+    /// Its bytes.
+    pub fn as_bytes(&self) -> &[u8]
+        ensures { result.now ≡ self.now }
+    {
+        self.bytes.as_slice()
+    }
+
+    /// Another handle on the same bytes, which need not be copied for it.
+    /// `OutOfMemory` where memory was refused.
+    pub fn share(&self) -> Result<Block, OutOfMemory>
+        ensures { IfOk result (λ block. block ≡ self.now) }
+    {
+        Ok(Block {
+            bytes: self.bytes.clone()?,
+        })
+    }
+}

@@ -1,0 +1,33 @@
+//! The server's state, and what each event does to it.
+//!
+//! - [`Core`]: the state; [`Core::step`] is one event.
+//! - [`Event`], [`Reply`]: what happens to the server, and what it replies.
+//! - [`MountName`], [`Peer`], [`Settings`], [`Shown`], [`Text`]: the plain values of both.
+//!
+//! The state is kept by parts: the clients, the seats of those who listen, and the live mounts'
+//! sessions with their streams. Each event has a file of its own under `server`.
+#![tactic(auto)]
+
+mod clients;
+mod event;
+mod live;
+mod mount_name;
+mod peer;
+mod seats;
+mod server;
+mod settings;
+mod shown;
+mod standing;
+mod stream;
+mod text;
+
+pub use event::{Event, Reply};
+pub use mount_name::{MAX_MOUNT_NAME, MountName};
+pub use peer::Peer;
+pub use server::Core;
+pub use settings::{Lists, Settings};
+pub use shown::Shown;
+pub use text::Text;
+
+/// What a call answers where memory was refused. Nothing has changed then, unless it is said.
+pub type OutOfMemory = std::alloc::AllocError;

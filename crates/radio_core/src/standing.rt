@@ -1,0 +1,20 @@
+use radio_policy::Rule;
+
+use crate::{MountName, Peer};
+
+/// How a client stands: what decides which of his events count.
+#[derive(Clone, Copy)]
+pub(crate) enum Standing {
+    /// There is no client of that number.
+    Unknown,
+    /// He has asked for nothing yet.
+    Undecided(Peer),
+    /// He is the source of the mount.
+    Feeds(MountName),
+    /// He is a listener who has a seat.
+    Sits,
+    /// He has had his answer, and nothing more is to come.
+    Answered,
+    /// He was finished by the rule.
+    Finished(Rule),
+}

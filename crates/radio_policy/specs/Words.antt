@@ -1,0 +1,25 @@
+use Rattle.std.specs.Prelude.{ℕ, List, codes}
+use Rattle.radio_policy.specs.declared.rule.Rule.{Rule}
+use Rattle.radio_policy.specs.declared.rule.Rule.TheVariants.{BadMount, MountInUse, NoMount, NotLive, NumbersSpent, BadHead, BadMethod}
+use Rattle.radio_policy.specs.declared.rule.Status.{Status}
+use Rattle.radio_policy.specs.declared.rule.Status.TheVariants.{BadRequest, Forbidden, NotFound}
+
+-- the name by which a rule is told
+abbrev pub word_of : Rule → List ℕ
+word_of BadMount = codes "bad-mount"
+word_of MountInUse = codes "mount-in-use"
+word_of NoMount = codes "no-mount"
+word_of NotLive = codes "not-live"
+word_of NumbersSpent = codes "numbers-spent"
+word_of BadHead = codes "bad-head"
+word_of BadMethod = codes "bad-method"
+
+-- the status of the answer that tells a denial by the rule
+abbrev pub status_of : Rule → Status
+status_of BadMount = BadRequest
+status_of MountInUse = Forbidden
+status_of NoMount = NotFound
+status_of NotLive = NotFound
+status_of NumbersSpent = Forbidden
+status_of BadHead = BadRequest
+status_of BadMethod = BadRequest

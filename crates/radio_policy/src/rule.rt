@@ -1,0 +1,69 @@
+ghost use Rattle.std.specs.Prelude.{◌≡◌};
+
+use std::fmt;
+
+/// The status of a denial's answer (RFC 9110, section 15.5).
+#[derive(Clone, Copy, Debug, PartialEq, Eq)]
+pub enum Status {
+    /// 400: what was sent cannot be served.
+    BadRequest,
+    /// 403: the server is not willing.
+    Forbidden,
+    /// 404: there is no such mount.
+    NotFound,
+}
+
+/// A rule by which something is denied, or by which a client was finished.
+#[derive(Clone, Copy, Debug, PartialEq, Eq)]
+pub enum Rule {
+    /// The path is no mount name.
+    BadMount,
+    /// The mount has a live source already.
+    MountInUse,
+    /// The server does not know the mount.
+    NoMount,
+    /// The mount has no live source.
+    NotLive,
+    /// A count would pass the largest number of 64 bits.
+    NumbersSpent,
+    /// What came is no head of a request.
+    BadHead,
+    /// The method is none that the server serves.
+    BadMethod,
+}
+
+impl Rule {
+    ghost use Rattle.radio_policy.specs.Words.{word_of, status_of};
+
+    /// The rule's name, as it is told in an answer and in a transcript.
+    pub fn word(self) -> &'static str
+        ensures { result.now ≡ word_of self }
+    {
+        match self {
+            Rule::BadMount => "bad-mount",
+            Rule::MountInUse => "mount-in-use",
+            Rule::NoMount => "no-mount",
+            Rule::NotLive => "not-live",
+            Rule::NumbersSpent => "numbers-spent",
+            Rule::BadHead => "bad-head",
+            Rule::BadMethod => "bad-method",
+        }
+    }
+
+    /// The status of the answer that tells a denial by this rule.
+    pub fn status(self) -> Status
+        ensures { result ≡ status_of self }
+    {
+        match self {
+            Rule::BadMount | Rule::BadHead | Rule::BadMethod => Status::BadRequest,
+            Rule::MountInUse | Rule::NumbersSpent => Status::Forbidden,
+            Rule::NoMount | Rule::NotLive => Status::NotFound,
+        }
+    }
+}
+
+impl fmt::Display for Rule {
+    fn fmt<W: fmt::Write>(&self, f: &mut fmt::Formatter<W>) -> fmt::Result {
+        f.write_str(self.word())
+    }
+}
