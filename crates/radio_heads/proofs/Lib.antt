@@ -1,0 +1,10 @@
+pub mod HeaderLemmas
+pub mod ReadingLemmas
+pub mod SearchLemmas
+pub mod WritingLemmas
+pub mod LineLemmas
+pub mod EndLemmas
+pub mod FoundLemmas
+pub mod ValueLemmas
+pub mod ReadBackLemmas
+pub mod AnswerLemmas

@@ -1,0 +1,7 @@
+pub mod Answer
+pub mod Head
+pub mod Headers
+pub mod Laws
+pub mod Reading
+pub mod Response
+pub mod Search

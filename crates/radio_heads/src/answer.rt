@@ -1,0 +1,84 @@
+//! The answers that the server gives.
+ghost use Rattle.std.specs.Prelude.{◌≡◌};
+ghost use Rattle.radio_heads.specs.Answer.{content_type};
+
+use http::StatusCode;
+
+/// An answer of the server. Its texts are written as they are, so a caller cleans them first: a
+/// header's value holds no CR and no LF.
+#[derive(Clone, Copy, Debug)]
+pub enum Answer<'a> {
+    /// A listener is admitted (200), and the stream's bytes follow.
+    Listener(Welcome<'a>),
+    /// A source is admitted (200).
+    Source,
+    /// A source may send its body (100; RFC 9110, section 15.2.1).
+    Continue,
+    /// A request is denied by the rule of that name.
+    Denial { status: DenialStatus, rule: &'a str },
+    /// A command's answer (200), whose body is of that kind.
+    Text { kind: TextKind, body: &'a [u8] },
+}
+
+/// What a listener who is admitted is told of the stream.
+#[derive(Clone, Copy, Debug)]
+pub struct Welcome<'a> {
+    /// The stream's media type, written even where it is empty.
+    pub content_type: &'a [u8],
+    /// The stream's name, which is left out where it is empty.
+    pub name: &'a [u8],
+    /// The stream's genre, which is left out where it is empty.
+    pub genre: &'a [u8],
+    /// The data bytes between two metadata blocks, where the listener asked for metadata.
+    pub interval: Option<u32>,
+}
+
+/// The status of a denial (RFC 9110, section 15.5); 401 alone asks for a name and a password.
+#[derive(Clone, Copy, Debug, PartialEq, Eq)]
+pub enum DenialStatus {
+    /// 400
+    BadRequest,
+    /// 401
+    Unauthorized,
+    /// 403
+    Forbidden,
+    /// 404
+    NotFound,
+}
+
+/// The kind of a command's answer.
+#[derive(Clone, Copy, Debug, PartialEq, Eq)]
+pub enum TextKind {
+    /// `text/plain; charset=utf-8`
+    Plain,
+    /// `application/json`
+    Json,
+}
+
+impl From<DenialStatus> for StatusCode {
+    ghost use Rattle.std.specs.Prelude.{◌≡◌};
+    ghost use Rattle.radio_heads.specs.Answer.{status_number};
+
+    ghost from_gives = { λ status code. code ≡ status_number status };
+
+    fn from(status: DenialStatus) -> StatusCode {
+        match status {
+            DenialStatus::BadRequest => StatusCode::BAD_REQUEST,
+            DenialStatus::Unauthorized => StatusCode::UNAUTHORIZED,
+            DenialStatus::Forbidden => StatusCode::FORBIDDEN,
+            DenialStatus::NotFound => StatusCode::NOT_FOUND,
+        }
+    }
+}
+
+impl TextKind {
+    /// The media type, as a `Content-Type` names it.
+    pub fn content_type(self) -> &'static [u8]
+        ensures { result.now ≡ content_type self }
+    {
+        match self {
+            TextKind::Plain => b"text/plain; charset=utf-8",
+            TextKind::Json => b"application/json",
+        }
+    }
+}

@@ -1,0 +1,37 @@
+//! Laws on readings, which run no code.
+ghost use Rattle.radio_heads.specs.Head.{ShowsRequest};
+ghost use Rattle.radio_heads.specs.Response.{ShowsResponse};
+ghost use Rattle.radio_heads.specs.Laws.{ReadingsAgree, IsSettled, FrontsAreUnfinished, RequestsAreFound, ResponsesAreFound, ListenerIsReadBack, DenialIsReadBack, TextIsReadBack};
+
+/// Two readings of the same bytes are equal, or both are faults.
+pub fn readings_agree()
+    ensures requests { ReadingsAgree ShowsRequest }
+    ensures responses { ReadingsAgree ShowsResponse }
+{}
+
+/// Once a reading is not `More`, more bytes change nothing.
+pub fn settled()
+    ensures requests { IsSettled ShowsRequest }
+    ensures responses { IsSettled ShowsResponse }
+{}
+
+/// A front of bytes whose reading is `More` gives `More` too.
+pub fn fronts_are_unfinished()
+    ensures { FrontsAreUnfinished }
+{}
+
+/// The rule for ends loses no head of the grammar: one that stands at the front, of at most 64
+/// headers and 8192 bytes, is a head to a reading, whatever follows it.
+pub fn heads_are_found()
+    ensures requests { RequestsAreFound }
+    ensures responses { ResponsesAreFound }
+{}
+
+/// What `write_answer` writes for a listener, a denial or a text, and whatever bytes follow it, is
+/// read back with that status and those headers; of a listener's where the values have no control
+/// bytes and no white space at their ends, and the head has at most 8192 bytes.
+pub fn answers_read_back()
+    ensures listener { ListenerIsReadBack }
+    ensures denial { DenialIsReadBack }
+    ensures text { TextIsReadBack }
+{}

@@ -1,0 +1,161 @@
+//! The texts of the answers.
+ghost use Rattle.std.specs.Prelude.{◌≡◌, [], ◌++◌, codes, decimal, length, IfOk, OnOk};
+ghost use Rattle.radio_heads.specs.Answer.{answer_text, line, header_line, shown_line, interval_line, challenge_line, status_line, listener_text, sized_head, sized_text, denial_text, content_type};
+
+use crate::OutOfMemory;
+use crate::answer::{Answer, DenialStatus, TextKind, Welcome};
+use http::StatusCode;
+use std::alloc::Global;
+
+/// The text of an answer, byte for byte, with its body where it has one.
+///
+/// The only error is `OutOfMemory`.
+pub fn write_answer(alloc: Global, answer: &Answer) -> Result<Vec<u8>, OutOfMemory>
+    ensures { IfOk result (λ text. text.items ≡ answer_text answer.now) }
+{
+    match answer {
+        Answer::Listener(welcome) => write_welcome(alloc, welcome),
+        Answer::Source => write_bare(alloc, "HTTP/1.0", StatusCode::OK),
+        Answer::Continue => write_bare(alloc, "HTTP/1.1", StatusCode::CONTINUE),
+        Answer::Denial { status, rule } => write_denial(alloc, *status, rule),
+        Answer::Text { kind, body } => write_sized(alloc, StatusCode::OK, *kind, body),
+    }
+}
+
+fn write_welcome(alloc: Global, welcome: &Welcome) -> Result<Vec<u8>, OutOfMemory>
+    ensures { IfOk result (λ text. text.items ≡ listener_text welcome.now) }
+{
+    let mut text = Vec::new(alloc);
+    push_status(alloc, &mut text, "HTTP/1.0", StatusCode::OK)?;
+    push_header(&mut text, "Content-Type", welcome.content_type)?;
+    push_shown(&mut text, "icy-name", welcome.name)?;
+    push_shown(&mut text, "icy-genre", welcome.genre)?;
+    push_interval(alloc, &mut text, welcome.interval)?;
+    push_header(&mut text, "Connection", b"close")?;
+    push_line(&mut text, b"")?;
+    Ok(text)
+}
+
+fn write_bare(alloc: Global, version: &str, status: StatusCode) -> Result<Vec<u8>, OutOfMemory>
+    ensures { IfOk result (λ text. text.items ≡ status_line version.now status ++ line []) }
+{
+    let mut text = Vec::new(alloc);
+    push_status(alloc, &mut text, version, status)?;
+    push_line(&mut text, b"")?;
+    Ok(text)
+}
+
+fn write_denial(alloc: Global, status: DenialStatus, rule: &str) -> Result<Vec<u8>, OutOfMemory>
+    ensures { IfOk result (λ text. text.items ≡ denial_text status rule.now) }
+{
+    let body = format!(in alloc; "denied: {rule}\n")?;
+    write_sized(
+        alloc,
+        StatusCode::from(status),
+        TextKind::Plain,
+        body.as_bytes(),
+    )
+}
+
+fn write_sized(
+    alloc: Global,
+    status: StatusCode,
+    kind: TextKind,
+    body: &[u8],
+) -> Result<Vec<u8>, OutOfMemory>
+    ensures { IfOk result (λ text. text.items ≡ sized_text status (content_type kind) body.now) }
+{
+    let mut text = write_sized_head(alloc, status, kind, body.len())?;
+    text.extend_from_slice(body)?;
+    Ok(text)
+}
+
+fn write_sized_head(
+    alloc: Global,
+    status: StatusCode,
+    kind: TextKind,
+    size: usize,
+) -> Result<Vec<u8>, OutOfMemory>
+    ensures { IfOk result (λ text. text.items ≡ sized_head status (content_type kind) size) }
+{
+    let mut text = Vec::new(alloc);
+    push_status(alloc, &mut text, "HTTP/1.0", status)?;
+    push_header(&mut text, "Content-Type", kind.content_type())?;
+    push_number(alloc, &mut text, "Content-Length", size)?;
+    push_challenge(&mut text, status)?;
+    push_header(&mut text, "Connection", b"close")?;
+    push_line(&mut text, b"")?;
+    Ok(text)
+}
+
+#[tactic(auto, unfolding(crate::specs::Answer::status_line))]
+fn push_status(
+    alloc: Global,
+    text: &mut Vec<u8>,
+    version: &str,
+    status: StatusCode,
+) -> Result<(), OutOfMemory>
+    ensures { OnOk result (text.new.items ≡ text.old.items ++ status_line version.now status) }
+{
+    text.extend_from_slice(version.as_bytes())?;
+    text.extend_from_slice(b" ")?;
+    push_line(text, status.to_string(alloc)?.as_bytes())
+}
+
+/// A header that stands only where its value is not empty.
+fn push_shown(text: &mut Vec<u8>, name: &str, value: &[u8]) -> Result<(), OutOfMemory>
+    ensures { OnOk result (text.new.items ≡ text.old.items ++ shown_line name.now value.now) }
+{
+    if value.is_empty() {
+        return Ok(());
+    }
+    push_header(text, name, value)
+}
+
+fn push_interval(
+    alloc: Global,
+    text: &mut Vec<u8>,
+    interval: Option<u32>,
+) -> Result<(), OutOfMemory>
+    ensures { OnOk result (text.new.items ≡ text.old.items ++ interval_line interval) }
+{
+    match interval {
+        Some(bytes) => push_number(alloc, text, "icy-metaint", bytes as usize),
+        None => Ok(()),
+    }
+}
+
+fn push_challenge(text: &mut Vec<u8>, status: StatusCode) -> Result<(), OutOfMemory>
+    ensures { OnOk result (text.new.items ≡ text.old.items ++ challenge_line status) }
+{
+    if status.as_u16() == 401 {
+        return push_header(text, "WWW-Authenticate", b"Basic realm=\"radio\"");
+    }
+    Ok(())
+}
+
+fn push_number(
+    alloc: Global,
+    text: &mut Vec<u8>,
+    name: &str,
+    value: usize,
+) -> Result<(), OutOfMemory>
+    ensures { OnOk result (text.new.items ≡ text.old.items ++ header_line name.now (decimal value)) }
+{
+    push_header(text, name, value.to_string(alloc)?.as_bytes())
+}
+
+fn push_header(text: &mut Vec<u8>, name: &str, value: &[u8]) -> Result<(), OutOfMemory>
+    ensures { OnOk result (text.new.items ≡ text.old.items ++ header_line name.now value.now) }
+{
+    text.extend_from_slice(name.as_bytes())?;
+    text.extend_from_slice(b": ")?;
+    push_line(text, value)
+}
+
+fn push_line(text: &mut Vec<u8>, content: &[u8]) -> Result<(), OutOfMemory>
+    ensures { OnOk result (text.new.items ≡ text.old.items ++ line content.now) }
+{
+    text.extend_from_slice(content)?;
+    text.extend_from_slice(b"\r\n")
+}
