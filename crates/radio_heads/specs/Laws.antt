@@ -28,6 +28,10 @@ IsSettled {P} Shows =
     (bytes more : List ℕ) (r : Result (Progress P) HeadFault)
     → IsReading Shows bytes r → r ≢ Ok More → IsReading Shows (bytes ++ more) r
 
+-- a head lies within the bytes that it was read from
+abbrev pub HeadsLieWithin : {P : Type 0} → (List ℕ → P → Type 0) → Type 0
+HeadsLieWithin {P} Shows = (bytes : List ℕ) (parts : P) (n : ℕ) → IsHead Shows bytes parts n → n ≤ length bytes
+
 -- a front of unfinished bytes is unfinished
 abbrev pub FrontsAreUnfinished : Type 0
 FrontsAreUnfinished = (bytes more : List ℕ) → IsUnfinished (bytes ++ more) → IsUnfinished bytes

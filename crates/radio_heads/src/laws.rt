@@ -1,7 +1,7 @@
 //! Laws on readings, which run no code.
 ghost use Rattle.radio_heads.specs.Head.{ShowsRequest};
 ghost use Rattle.radio_heads.specs.Response.{ShowsResponse};
-ghost use Rattle.radio_heads.specs.Laws.{ReadingsAgree, IsSettled, FrontsAreUnfinished, RequestsAreFound, ResponsesAreFound, ListenerIsReadBack, DenialIsReadBack, TextIsReadBack};
+ghost use Rattle.radio_heads.specs.Laws.{ReadingsAgree, IsSettled, HeadsLieWithin, FrontsAreUnfinished, RequestsAreFound, ResponsesAreFound, ListenerIsReadBack, DenialIsReadBack, TextIsReadBack};
 
 /// Two readings of the same bytes are equal, or both are faults.
 pub fn readings_agree()
@@ -18,6 +18,12 @@ pub fn settled()
 /// A front of bytes whose reading is `More` gives `More` too.
 pub fn fronts_are_unfinished()
     ensures { FrontsAreUnfinished }
+{}
+
+/// A head lies within the bytes that it was read from.
+pub fn heads_lie_within()
+    ensures requests { HeadsLieWithin ShowsRequest }
+    ensures responses { HeadsLieWithin ShowsResponse }
 {}
 
 /// The rule for ends loses no head of the grammar: one that stands at the front, of at most 64

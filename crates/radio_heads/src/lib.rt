@@ -34,7 +34,8 @@ pub use answer::{Answer, DenialStatus, TextKind, Welcome};
 pub use head::Head;
 pub use headers::MAX_HEADERS;
 pub use laws::{
-    answers_read_back, fronts_are_unfinished, heads_are_found, readings_agree, settled,
+    answers_read_back, fronts_are_unfinished, heads_are_found, heads_lie_within, readings_agree,
+    settled,
 };
 pub use outcome::{HeadFault, Progress};
 pub use reading::{read_request, read_request_from, read_response, read_response_from};
