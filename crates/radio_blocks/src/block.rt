@@ -1,10 +1,9 @@
 ghost use Rattle.std.specs.Prelude.{◌≡◌, ℕ, ◌≤◌, ◌↔◌, length, IsSome, IfSome, IfOk, List};
 ghost use Rattle.radio_blocks.specs.Block.{IsBlock};
 
+use crate::OutOfMemory;
 use bytes::Bytes;
 use std::marker::Model;
-
-use crate::OutOfMemory;
 
 /// The largest number of bytes in one block.
 pub const MAX_BLOCK: usize = 4096;

@@ -1,9 +1,8 @@
 ghost use Rattle.std.specs.Prelude.{◌≡◌, ℕ, ◌++◌, [], length, List, OnOk, OnErr};
 
+use crate::OutOfMemory;
 use std::alloc::Global;
 use std::marker::Model;
-
-use crate::OutOfMemory;
 
 /// Data drawn from a stream, in order. Callers see the bytes joined.
 #[derive(Drop)]

@@ -1,5 +1,5 @@
-use Rattle.std.proofs.Common.{◌≡◌, ℕ, zero, suc, ◌<◌, ◌≤◌, ltb, cond, not, Bool, true, false, Option, Some, None, List, [], ◌∷◌, ◌++◌, length, take, drop, get_or, set, ap, sym, ◌∙◌, refl, arith}
-use Rattle.std.specs.Prelude.{position, remove}
+use Rattle.std.proofs.Common.{◌≡◌, ℕ, zero, suc, ◌<◌, ◌≤◌, ltb, cond, not, Bool, true, false, is_some, Option, Some, None, List, [], ◌∷◌, ◌++◌, length, take, drop, get_or, set, ap, sym, ◌∙◌, refl, arith}
+use Rattle.std.specs.Prelude.{position, find, remove, if◌then◌else◌}
 use Rattle.std.specs.List.{prefix_len, position_or_len}
 use Rattle.std.proofs.lemmas.Bool.Decides.{nat_tests}
 use Rattle.std.proofs.lemmas.List.Quantifiers.{position-Some}
@@ -48,3 +48,35 @@ update_first-none p f xs e = update_first-all p f xs (none_found p xs e)
 
 pub without_first-none : {X : Type 0} (p : X → Bool) (xs : List X) → position p xs ≡ None → without_first p xs ≡ xs
 without_first-none p xs e = without_first-all p xs (none_found p xs e)
+
+-- what is found at a place that was found
+find-place : {X : Type 0} (p : X → Bool) (d : X) (xs : List X) (i : ℕ) → i < length xs → p (get_or xs i d) ≡ true → ((k : ℕ) → k < i → p (get_or xs k d) ≡ false) → find p xs ≡ Some (get_or xs i d)
+find-place p d [] i low here before = absurd (omega arith)
+find-place p d (x ∷ xs) zero low here before = rw here refl
+find-place p d (x ∷ xs) (suc i) low here before =
+    let not_first : p x ≡ false = before 0 (omega arith) in
+    rw not_first (find-place p d xs i (omega arith) here (λ k h. before (suc k) (omega arith)))
+
+pub find-at : {X : Type 0} (p : X → Bool) (d : X) (xs : List X) (i : ℕ) → position p xs ≡ Some i → find p xs ≡ Some (get_or xs i d)
+find-at p d xs i e = let h = position-Some p xs i d e in find-place p d xs i h.0 h.1 h.2
+
+find-all : {X : Type 0} (p : X → Bool) (xs : List X) → length xs ≤ prefix_len (λ x. not (p x)) xs → find p xs ≡ None
+find-all p [] h = refl
+find-all p (x ∷ xs) h = grind (arith, nat_tests, find-all p xs)
+
+pub find-none : {X : Type 0} (p : X → Bool) (xs : List X) → position p xs ≡ None → find p xs ≡ None
+find-none p xs e = find-all p xs (none_found p xs e)
+
+-- of two changes of the first that passes, where the first change lets it pass still, the second stands
+twice_at : {X : Type 0} (p : X → Bool) (f g : X → X) → ((x : X) → p x ≡ true → p (f x) ≡ true) → ((x : X) → g (f x) ≡ g x) → (x : X) (xs : List X) (b : Bool) → p x ≡ b → update_first p g (update_first p f xs) ≡ update_first p g xs → update_first p g (if b then f x ∷ xs else x ∷ update_first p f xs) ≡ (if b then g x ∷ xs else x ∷ update_first p g xs)
+twice_at p f g stays same x xs true e h = rw (stays x e) (ap (λ y. y ∷ xs) (same x))
+twice_at p f g stays same x xs false e h = rw e (ap (λ ys. x ∷ ys) h)
+
+pub update_first-twice : {X : Type 0} (p : X → Bool) (f g : X → X) → ((x : X) → p x ≡ true → p (f x) ≡ true) → ((x : X) → g (f x) ≡ g x) → (xs : List X) → update_first p g (update_first p f xs) ≡ update_first p g xs
+update_first-twice p f g stays same [] = refl
+update_first-twice p f g stays same (x ∷ xs) = twice_at p f g stays same x xs (p x) refl (update_first-twice p f g stays same xs)
+
+-- where a place is found, something is found
+pub find-some : {X : Type 0} (p : X → Bool) (xs : List X) (i : ℕ) → position p xs ≡ Some i → is_some (find p xs) ≡ true
+find-some p [] i e = cc
+find-some p (x ∷ xs) i e = ap is_some (find-at p x (x ∷ xs) i e)

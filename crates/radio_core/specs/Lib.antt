@@ -16,3 +16,4 @@ pub mod Listen
 pub mod Draw
 pub mod Leave
 pub mod Step
+pub mod Shown

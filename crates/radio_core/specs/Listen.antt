@@ -22,8 +22,14 @@ burst_of settings = min settings.burst_size settings.queue_size
 -- the seat of a new listener: he asked for the mount, and begins at the start of a block
 abbrev pub first_seat : World → ℕ → Peer → Session → Seat
 first_seat w id peer session = record {
-  id = id; home = session.mount; mount = session.mount; session = session.number;
-  place = burst_start session.stream (burst_of w.settings); peer = peer; since = w.time }
+  id = id;
+  home = session.mount;
+  mount = session.mount;
+  session = session.number;
+  place = burst_start session.stream (burst_of w.settings);
+  peer = peer;
+  since = w.time;
+}
 
 -- the listener sits down; where the mount is not live, which the policy denies, nothing happens
 abbrev pub sits_down : World → ℕ → Peer → Option Session → Outcome

@@ -13,7 +13,7 @@ use Rattle.radio_core.specs.Draw.{draws}
 use Rattle.radio_core.specs.Leave.{leaves}
 
 -- what comes of each event
-abbrev pub outcome : World → Event → Outcome
+unfoldable pub outcome : World → Event → Outcome
 outcome w (Arrive peer) = arrives w peer
 outcome w (Source id path shown) = asks_to_feed w id path shown
 outcome w (Push id block) = delivers w id block

@@ -49,10 +49,12 @@ finished_in seats mount rule = map (λ seat. record { id = seat.id; rule = rule 
 abbrev pub finished_at : Table → List ℕ → Rule → Table
 finished_at table mount rule = record {
   seats = filter (λ seat. not (is_at mount seat)) table.seats;
-  finished = table.finished ++ finished_in table.seats mount rule }
+  finished = table.finished ++ finished_in table.seats mount rule;
+}
 
 -- nothing is left of the listener
 abbrev pub without_id : Table → ℕ → Table
 without_id table id = record {
   seats = without_first (λ seat. has_id seat.id id) table.seats;
-  finished = without_first (λ row. has_id row.id id) table.finished }
+  finished = without_first (λ row. has_id row.id id) table.finished;
+}

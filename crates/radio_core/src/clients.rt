@@ -2,10 +2,9 @@ ghost use Rattle.std.specs.Prelude.{◌≡◌, [], ◌∷◌, ◌++◌, find, On
 ghost use Rattle.std.specs.Option.{option_copied};
 ghost use Rattle.radio_core.specs.Clients.{newcomer, has_number, client_of, in_state, without_client};
 
+use crate::{MountName, OutOfMemory, Peer};
 use std::alloc::Global;
 use std::marker::Model;
-
-use crate::{MountName, OutOfMemory, Peer};
 
 /// What a client does.
 #[derive(Clone, Copy)]

@@ -1,7 +1,6 @@
+use crate::{Peer, Shown, Text};
 use radio_blocks::{Block, Pieces};
 use radio_policy::Rule;
-
-use crate::{Peer, Shown, Text};
 
 /// What happens to the server.
 #[derive(Drop)]

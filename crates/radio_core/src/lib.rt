@@ -25,7 +25,7 @@ pub use event::{Event, Reply};
 pub use mount_name::{MAX_MOUNT_NAME, MountName};
 pub use peer::Peer;
 pub use server::Core;
-pub use settings::{Lists, Settings};
+pub use settings::{Key, Lists, MAX_BYTES, Settings, SettingsFault};
 pub use shown::Shown;
 pub use text::Text;
 

@@ -2,12 +2,11 @@ ghost use Rattle.std.specs.Prelude.{◌≡◌, [], ◌∷◌, ◌++◌, position
 ghost use Rattle.std.specs.Option.{option_copied};
 ghost use Rattle.radio_core.specs.Live.{is_of, session_of, opened, fed, without_session};
 
+use crate::stream::Stream;
+use crate::{MountName, OutOfMemory, Shown};
 use radio_blocks::Block;
 use std::alloc::Global;
 use std::marker::Model;
-
-use crate::stream::Stream;
-use crate::{MountName, OutOfMemory, Shown};
 
 /// What a source feeds to a mount, from its admission on.
 #[derive(Drop)]
@@ -51,12 +50,21 @@ impl Live {
     pub(crate) fn get(&self, mount: &[u8]) -> Option<&Session>
         ensures { option_copied result ≡ session_of self.now mount.now }
     {
-        self.sessions.iter().find(|session| session.mount.as_bytes() == mount)
+        self.sessions
+            .iter()
+            .find(|session| session.mount.as_bytes() == mount)
     }
 
     /// Adds a session that has delivered nothing. `OutOfMemory` where memory was refused; nothing
     /// has changed then.
-    pub(crate) fn open(&mut self, alloc: Global, mount: MountName, number: u64, shown: Shown, moment: u64) -> Result<(), OutOfMemory>
+    pub(crate) fn open(
+        &mut self,
+        alloc: Global,
+        mount: MountName,
+        number: u64,
+        shown: Shown,
+        moment: u64,
+    ) -> Result<(), OutOfMemory>
         ensures ok { OnOk result (self.new ≡ self.old ++ opened mount number shown moment ∷ []) }
         ensures err { OnErr result (self.new ≡ self.old) }
     {
@@ -73,7 +81,12 @@ impl Live {
 
     /// Appends a block to the stream of the mount's session. `OutOfMemory` where memory was
     /// refused; nothing has changed then.
-    pub(crate) fn feed(&mut self, mount: &MountName, block: &Block, moment: u64) -> Result<(), OutOfMemory>
+    pub(crate) fn feed(
+        &mut self,
+        mount: &MountName,
+        block: &Block,
+        moment: u64,
+    ) -> Result<(), OutOfMemory>
         ensures ok { OnOk result (self.new ≡ fed self.old mount.now block.now moment) }
         ensures err { OnErr result (self.new ≡ self.old) }
     {

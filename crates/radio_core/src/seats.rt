@@ -3,12 +3,11 @@ ghost use Rattle.radio_core.specs.Lists.{update_first, without_first};
 ghost use Rattle.std.specs.Option.{option_copied};
 ghost use Rattle.radio_core.specs.Table.{Table, no_seats, has_id, seat_of, rule_of, inserted, with_seat, moved_to, is_at, finished_in, finished_at, without_id};
 
+use crate::{MountName, OutOfMemory, Peer};
 use radio_blocks::Place;
 use radio_policy::Rule;
 use std::alloc::Global;
 use std::marker::Model;
-
-use crate::{MountName, OutOfMemory, Peer};
 
 /// A listener's seat at a mount.
 #[derive(Clone, Copy)]

@@ -4,14 +4,13 @@ ghost use Rattle.radio_core.specs.Table.{rule_of};
 ghost use Rattle.radio_core.specs.Cases.{answered};
 ghost use Rattle.radio_core.specs.Step.{Step, Represents, TakesNoMemory};
 
-use std::alloc::Global;
-use std::marker::Model;
-
 use crate::clients::{ClientState, Clients};
 use crate::live::Live;
 use crate::seats::Seats;
 use crate::standing::Standing;
 use crate::{Event, Lists, OutOfMemory, Reply, Settings};
+use std::alloc::Global;
+use std::marker::Model;
 
 mod arrive;
 mod draw;
@@ -61,6 +60,7 @@ impl Core {
     }
 
     /// One event. `OutOfMemory` where memory was refused; nothing has changed then.
+    #[tactic(auto, unfolding(crate::specs::Step::outcome))]
     pub fn step(&mut self, event: Event) -> Result<Reply, OutOfMemory>
         // whatever state the core stands for, the reply is that of a step from it, and the core stands for the state after it
         ensures step { (w : World) → Represents self.old w → IfOk result (λ reply. (w' : World) × Step w event reply w' × Represents self.new w') }

@@ -1,8 +1,8 @@
-ghost use Rattle.std.specs.Prelude.{◌≡◌, [], IfOk, codes};
-
-use std::alloc::Global;
+ghost use Rattle.std.specs.Prelude.{◌≡◌, IfOk};
+ghost use Rattle.radio_core.specs.Shown.{nothing_told};
 
 use crate::{OutOfMemory, Text};
+use std::alloc::Global;
 
 /// The content type of a source that names none (Icecast 2.4 documentation).
 pub const DEFAULT_CONTENT_TYPE: &str = "audio/mpeg";
@@ -21,9 +21,7 @@ pub struct Shown {
 impl Shown {
     /// What a session shows whose source told nothing. `OutOfMemory` where memory was refused.
     pub fn nothing_told(alloc: Global) -> Result<Shown, OutOfMemory>
-        ensures content_type { IfOk result (λ shown. shown.content_type ≡ codes "audio/mpeg") }
-        ensures name { IfOk result (λ shown. shown.name ≡ []) }
-        ensures genre { IfOk result (λ shown. shown.genre ≡ []) }
+        ensures { IfOk result (λ shown. shown ≡ nothing_told) }
     {
         Ok(Shown {
             content_type: Text::new(alloc, DEFAULT_CONTENT_TYPE.as_bytes())?,

@@ -1,6 +1,5 @@
-use radio_policy::Rule;
-
 use crate::{MountName, Peer};
+use radio_policy::Rule;
 
 /// How a client stands: what decides which of his events count.
 #[derive(Clone, Copy)]

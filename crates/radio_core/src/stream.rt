@@ -2,11 +2,10 @@ ghost use Rattle.std.specs.Prelude.{◌≡◌, ◌+◌, ◌-◌, ◌++◌, ◌^�
 ghost use Rattle.std.specs.Option.{option_copied};
 ghost use Rattle.radio_core.specs.Stream.{WholeStream, no_data, end_of, with_block, burst_start, data_at};
 
+use crate::OutOfMemory;
 use radio_blocks::{Block, Pieces, Place};
 use std::alloc::Global;
 use std::marker::Model;
-
-use crate::OutOfMemory;
 
 /// The whole data of one session, from its first block on.
 #[derive(Drop)]
@@ -58,12 +57,21 @@ impl Stream {
         ensures { result ≡ burst_start self.now burst }
     {
         let end = self.end();
-        Place::new(first_start_within(self.starts.as_slice(), end, burst).copied().unwrap_or(end))
+        Place::new(
+            first_start_within(self.starts.as_slice(), end, burst)
+                .copied()
+                .unwrap_or(end),
+        )
     }
 
     /// Appends to the pieces what stands at the place, at most `room` bytes, and answers the place
     /// behind it. `OutOfMemory` where memory was refused; the pieces are unchanged then.
-    pub(crate) fn draw(&self, place: Place, room: u32, pieces: &mut Pieces) -> Result<Place, OutOfMemory>
+    pub(crate) fn draw(
+        &self,
+        place: Place,
+        room: u32,
+        pieces: &mut Pieces,
+    ) -> Result<Place, OutOfMemory>
         ensures pieces { OnOk result (pieces.new ≡ pieces.old ++ data_at self.now place room) }
         ensures place { IfOk result (λ after. after ≡ place + length (data_at self.now place room)) }
         ensures err { OnErr result (pieces.new ≡ pieces.old) }
@@ -80,7 +88,9 @@ impl Stream {
 fn first_start_within(starts: &[u64], end: u64, burst: u64) -> Option<&u64>
     ensures { option_copied result ≡ find (λ start. nat_le (end - start) burst) starts.now }
 {
-    starts.iter().find(|start| end.saturating_sub(**start) <= burst)
+    starts
+        .iter()
+        .find(|start| end.saturating_sub(**start) <= burst)
 }
 
 /// At most `room` bytes from the front.

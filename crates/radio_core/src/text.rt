@@ -1,9 +1,8 @@
 ghost use Rattle.std.specs.Prelude.{◌≡◌, ℕ, List, [], IfOk};
 
+use crate::OutOfMemory;
 use std::alloc::Global;
 use std::marker::Model;
-
-use crate::OutOfMemory;
 
 /// Bytes that a peer or a file gave: a path, a password or a field of a head.
 #[derive(Drop)]

@@ -14,5 +14,4 @@ use crate::Verdict;
 pub fn denials_name_the_first_rule()
     ensures allows { (facts : Facts) (subject : Subject) (action : Action) → (verdict_in (table facts subject action) ≡ Verdict.Allow) ↔ Allows (table facts subject action) }
     ensures denies { (facts : Facts) (subject : Subject) (action : Action) (rule : Rule) → (verdict_in (table facts subject action) ≡ Verdict.Deny rule) ↔ Denies (table facts subject action) rule }
-{
-}
+{}

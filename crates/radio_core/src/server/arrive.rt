@@ -2,9 +2,8 @@ ghost use Rattle.std.specs.Prelude.{◌≡◌, ◌<◌, ◌-◌, ◌^◌, IfOk, 
 ghost use Rattle.radio_core.specs.Arrive.{arrives, comes_in};
 ghost use Rattle.radio_core.specs.Cases.{says};
 
-use radio_policy::{Action, Facts, Subject, Verdict, judge};
-
 use crate::{Core, OutOfMemory, Peer, Reply};
+use radio_policy::{Action, Facts, Subject, Verdict, judge};
 
 impl Core {
     /// A connection arrives.
@@ -16,7 +15,9 @@ impl Core {
             number_is_spent: self.last_id == u64::MAX,
             ..Facts::NONE
         };
-        let asker = Subject { names_a_mount: false };
+        let asker = Subject {
+            names_a_mount: false,
+        };
         match judge(&facts, &asker, &Action::Arrive) {
             Verdict::Deny(rule) => Ok(Reply::Deny(rule)),
             Verdict::Allow => self.come_in(peer),

@@ -3,10 +3,9 @@ ghost use Rattle.radio_core.specs.Draw.{draws, hands_out_at};
 ghost use Rattle.radio_core.specs.Table.{seat_of};
 ghost use Rattle.radio_core.specs.Cases.{says};
 
-use radio_blocks::Pieces;
-
 use crate::standing::Standing;
 use crate::{Core, OutOfMemory, Reply};
+use radio_blocks::Pieces;
 
 impl Core {
     /// A listener has room for so many bytes.

@@ -3,12 +3,11 @@ ghost use Rattle.radio_core.specs.Live.{session_of};
 ghost use Rattle.radio_core.specs.Listen.{asks_to_hear, sits_down, burst_of};
 ghost use Rattle.radio_core.specs.Cases.{says};
 
-use radio_policy::{Action, Facts, Rule, Subject, Verdict, judge};
-
 use crate::clients::ClientState;
 use crate::seats::Seat;
 use crate::standing::Standing;
 use crate::{Core, MountName, OutOfMemory, Peer, Reply, Text};
+use radio_policy::{Action, Facts, Rule, Subject, Verdict, judge};
 
 impl Core {
     /// A client wants to hear the mount of this path.
@@ -27,7 +26,9 @@ impl Core {
             walk_stops: if is_live { None } else { Some(Rule::NotLive) },
             ..Facts::NONE
         };
-        let asker = Subject { names_a_mount: MountName::read(path.as_bytes()).is_some() };
+        let asker = Subject {
+            names_a_mount: MountName::read(path.as_bytes()).is_some(),
+        };
         match judge(&facts, &asker, &Action::Listen) {
             Verdict::Deny(rule) => {
                 self.answer(id);

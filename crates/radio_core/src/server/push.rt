@@ -3,11 +3,10 @@ ghost use Rattle.radio_core.specs.Facts.{live_end};
 ghost use Rattle.radio_core.specs.Push.{delivers};
 ghost use Rattle.radio_core.specs.Cases.{says};
 
-use radio_blocks::Block;
-use radio_policy::{Action, Facts, Subject, Verdict, judge};
-
 use crate::standing::Standing;
 use crate::{Core, MountName, OutOfMemory, Reply};
+use radio_blocks::Block;
+use radio_policy::{Action, Facts, Subject, Verdict, judge};
 
 impl Core {
     /// A source delivers a block.
@@ -25,7 +24,9 @@ impl Core {
             number_is_spent: end.checked_add(block.len() as u64).is_none(),
             ..Facts::NONE
         };
-        let asker = Subject { names_a_mount: true };
+        let asker = Subject {
+            names_a_mount: true,
+        };
         match judge(&facts, &asker, &Action::Push) {
             Verdict::Deny(rule) => Ok(Reply::Deny(rule)),
             Verdict::Allow => {

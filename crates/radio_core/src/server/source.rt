@@ -2,15 +2,19 @@ ghost use Rattle.std.specs.Prelude.{◌≡◌, IfOk, OnErr};
 ghost use Rattle.radio_core.specs.Source.{asks_to_feed, begins};
 ghost use Rattle.radio_core.specs.Cases.{says};
 
-use radio_policy::{Action, Facts, Subject, Verdict, judge};
-
 use crate::clients::ClientState;
 use crate::standing::Standing;
 use crate::{Core, MountName, OutOfMemory, Reply, Shown, Text};
+use radio_policy::{Action, Facts, Subject, Verdict, judge};
 
 impl Core {
     /// A client wants to feed the mount of this path.
-    pub(super) fn source(&mut self, id: u64, path: &Text, shown: Shown) -> Result<Reply, OutOfMemory>
+    pub(super) fn source(
+        &mut self,
+        id: u64,
+        path: &Text,
+        shown: Shown,
+    ) -> Result<Reply, OutOfMemory>
         ensures step { IfOk result (λ reply. asks_to_feed self.old id path.now shown ≡ says reply self.new) }
         ensures err { OnErr result (self.new ≡ self.old) }
     {
@@ -24,7 +28,9 @@ impl Core {
             mount_is_live: self.live.get(path.as_bytes()).is_some(),
             ..Facts::NONE
         };
-        let asker = Subject { names_a_mount: name.is_some() };
+        let asker = Subject {
+            names_a_mount: name.is_some(),
+        };
         match judge(&facts, &asker, &Action::Source) {
             Verdict::Deny(rule) => {
                 self.answer(id);

@@ -2,10 +2,9 @@ ghost use Rattle.std.specs.Prelude.{◌≡◌};
 ghost use Rattle.radio_core.specs.SourceEnd.{stops_feeding, falls_silent};
 ghost use Rattle.radio_core.specs.Cases.{says};
 
-use radio_policy::Rule;
-
 use crate::standing::Standing;
 use crate::{Core, MountName, Reply};
+use radio_policy::Rule;
 
 impl Core {
     /// A source has come to the end of its data. It takes no memory.

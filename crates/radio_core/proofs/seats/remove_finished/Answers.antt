@@ -9,12 +9,12 @@ pub returns-in-Some-clause-removed : goal.returns-in-Some-clause-removed
 returns-in-Some-clause-removed c =
     let is_his = λ (row : Finished). has_id row.id c.args.id in
     let found : position is_his c.args.finished.now.items ≡ Some c.in-Some.at =
-        ap (position is_his) (sym c.as_slice.ensures.value) ∙ sym c.finished_position.ensures ∙ c.in-Some.is in
+    ap (position is_his) (sym c.as_slice.ensures.value) ∙ sym c.finished_position.ensures ∙ c.in-Some.is in
     c.remove.ensures.items ∙ sym (without_first-at is_his c.remove.result c.args.finished.now.items c.in-Some.at found)
 
 pub returns-in_default-clause-removed : goal.returns-in_default-clause-removed
 returns-in_default-clause-removed c =
     let is_his = λ (row : Finished). has_id row.id c.args.id in
     let none : position is_his c.args.finished.now.items ≡ None =
-        ap (position is_his) (sym c.as_slice.ensures.value) ∙ sym c.finished_position.ensures ∙ c.in_default.is in
+    ap (position is_his) (sym c.as_slice.ensures.value) ∙ sym c.finished_position.ensures ∙ c.in_default.is in
     sym (without_first-none is_his c.args.finished.now.items none)
