@@ -1,0 +1,151 @@
+use Rattle.std.proofs.Common.{◌≡◌, ℕ, zero, suc, ◌≤◌, Bool, true, false, List, [], ◌∷◌, ◌++◌, length, take, drop, map, ap, sym, ◌∙◌, refl, subst, inl, inr, Result, Ok, Err, IsErr, arith, append_assoc, length-drop}
+use Rattle.std.specs.Prelude.{codes, if◌then◌else◌}
+use Rattle.std.specs.Str.{bytes_eq}
+use Rattle.std.proofs.lemmas.List.{drop-append-le, take-append-drop, map-append}
+use Rattle.radio_blocks.specs.declared.block.TheConstants.{MAX_BLOCK}
+use Rattle.radio_core.specs.declared.event.Event.{Event}
+use Rattle.radio_core.specs.declared.event.Event.TheVariants.{Push, Source, Listen}
+use Rattle.radio_core.specs.Shown.{nothing_told}
+use Rattle.radio_heads.specs.declared.outcome.Progress.{Progress}
+use Rattle.radio_heads.specs.declared.outcome.Progress.TheVariants.{More, Whole}
+use Rattle.radio_heads.specs.declared.outcome.HeadFault.{HeadFault}
+use Rattle.radio_heads.specs.Head.{RequestParts, ShowsRequest}
+use Rattle.radio_heads.specs.Reading.{IsReading}
+use Rattle.radio_heads.specs.Laws.{ReadingsAgree, IsSettled, HeadsLieWithin}
+use Rattle.radio_floor.specs.declared.connection.Hears.{Hears}
+use Rattle.radio_floor.specs.declared.connection.Hears.TheVariants.{Head, Body, Nothing}
+use Rattle.radio_floor.specs.Talk.{Talk}
+use Rattle.radio_floor.specs.Blocks.{cut_into, blocks_of, pushes}
+use Rattle.radio_floor.specs.Hearing.{Heard, HearsAs, IsHeard, head_heard, request_heard, source_heard, refuses, going_on}
+use Rattle.radio_policy.specs.declared.rule.Rule.TheVariants.{BadHead, BadMethod}
+use Rattle.radio_floor.specs.Cuts.{Atom, datum, other, atoms_of, atoms, CutsDoNotMatter}
+
+-- lists of atoms joined
+pub atoms-append : (xs ys : List Event) → atoms (xs ++ ys) ≡ atoms xs ++ atoms ys
+atoms-append [] ys = refl
+atoms-append (x ∷ xs) ys = ap (λ (zs : List Atom). atoms_of x ++ zs) (atoms-append xs ys) ∙ sym (append_assoc (atoms_of x) (atoms xs) (atoms ys))
+
+-- the blocks of some data, taken apart, are the data
+atoms-cut : (id pieces : ℕ) (bytes : List ℕ) → length bytes ≤ pieces → atoms (map (Push id) (cut_into pieces bytes)) ≡ map (datum id) bytes
+atoms-cut id zero [] h = refl
+atoms-cut id zero (b ∷ bytes) h = absurd (omega arith)
+atoms-cut id (suc pieces) [] h = refl
+atoms-cut id (suc pieces) (b ∷ bytes) h =
+    let all = b ∷ bytes in
+    let less = length-drop MAX_BLOCK (b ∷ bytes) in
+    ap (λ (zs : List Atom). map (datum id) (take MAX_BLOCK (b ∷ bytes)) ++ zs) (atoms-cut id pieces (drop MAX_BLOCK (b ∷ bytes)) (omega (arith, less)))
+    ∙ sym (map-append (datum id) (take MAX_BLOCK (b ∷ bytes)) (drop MAX_BLOCK (b ∷ bytes)))
+    ∙ ap (map (datum id)) (take-append-drop MAX_BLOCK (b ∷ bytes))
+
+pub atoms-pushes : (id : ℕ) (bytes : List ℕ) → atoms (pushes id bytes) ≡ map (datum id) bytes
+unfolding blocks_of
+atoms-pushes id bytes = atoms-cut id (length bytes) bytes (omega arith)
+
+-- data in two pieces
+pub pushes-cut : (id : ℕ) (first second : List ℕ) → atoms (pushes id first ++ pushes id second) ≡ atoms (pushes id (first ++ second))
+pushes-cut id first second =
+    atoms-append (pushes id first) (pushes id second)
+    ∙ ap (λ (zs : List Atom). zs ++ atoms (pushes id second)) (atoms-pushes id first)
+    ∙ ap (λ (zs : List Atom). map (datum id) first ++ zs) (atoms-pushes id second)
+    ∙ sym (map-append (datum id) first second)
+    ∙ sym (atoms-pushes id (first ++ second))
+
+-- two faults are heard alike
+faults-alike : (talk : Talk) (bytes : List ℕ) (r s : Result (Progress RequestParts) HeadFault) → IsErr r → IsErr s → head_heard talk bytes r ≡ head_heard talk bytes s
+faults-alike talk bytes (Err e) (Err f) h k = refl
+faults-alike talk bytes (Err e) (Ok p) h k = cc
+faults-alike talk bytes (Ok p) s h k = cc
+
+-- what was held before a head is heard as does not matter
+held-alike : (talk : Talk) (held bytes : List ℕ) (r : Result (Progress RequestParts) HeadFault) → head_heard (record talk { held = held }) bytes r ≡ head_heard talk bytes r
+held-alike talk held bytes (Ok More) = refl
+held-alike talk held bytes (Ok (Whole request n)) = refl
+held-alike talk held bytes (Err e) = refl
+
+-- two pieces and the whole, each by what it is heard as
+by_parts : (X Y Z two whole : Heard) → two ≡ Y → whole ≡ Z → atoms (X.events ++ Y.events) ≡ atoms Z.events → Y.talk ≡ Z.talk → (atoms (X.events ++ two.events) ≡ atoms whole.events) × (two.talk ≡ whole.talk)
+by_parts X Y Z two whole e f g h = (
+  ap (λ (y : Heard). atoms (X.events ++ y.events)) e ∙ g ∙ sym (ap (λ (z : Heard). atoms z.events) f),
+  ap (λ (y : Heard). y.talk) e ∙ h ∙ sym (ap (λ (z : Heard). z.talk) f),
+)
+
+-- what a request is heard as, by the tests of its method
+request_by : Bool → Bool → Talk → RequestParts → List ℕ → Heard
+request_by source get talk request behind =
+    if source then source_heard talk request.path behind
+    else if get then record { events = Listen talk.id request.path ∷ []; talk = going_on talk Nothing }
+    else refuses talk BadMethod
+
+-- a request, and more bytes behind it
+request-cut : (source get : Bool) (talk : Talk) (request : RequestParts) (behind second : List ℕ) (two whole : Heard) → IsHeard (request_by source get talk request behind).talk second two → whole ≡ request_by source get talk request (behind ++ second) → (atoms ((request_by source get talk request behind).events ++ two.events) ≡ atoms whole.events) × (two.talk ≡ whole.talk)
+unfolding request_by
+request-cut true get talk request behind second two whole h w =
+    by_parts (source_heard talk request.path behind) (record { events = pushes talk.id second; talk = going_on talk Body }) (source_heard talk request.path (behind ++ second)) two whole h w
+    (ap (λ (zs : List Atom). other (Source talk.id request.path nothing_told) ∷ zs) (pushes-cut talk.id behind second)) refl
+request-cut false true talk request behind second two whole h w =
+    let heard : Heard = record { events = Listen talk.id request.path ∷ []; talk = going_on talk Nothing } in
+    by_parts heard (record { events = []; talk = going_on talk Nothing }) heard two whole h w refl refl
+request-cut false false talk request behind second two whole h w =
+    by_parts (refuses talk BadMethod) (record { events = []; talk = (refuses talk BadMethod).talk }) (refuses talk BadMethod) two whole h w refl refl
+
+module _ (agree : ReadingsAgree ShowsRequest) (settled : IsSettled ShowsRequest) (fits : HeadsLieWithin ShowsRequest) where
+  -- what two readings of the same bytes are heard as is one thing
+  heard-alike : (talk : Talk) (bytes : List ℕ) (r s : Result (Progress RequestParts) HeadFault) → IsReading ShowsRequest bytes r → IsReading ShowsRequest bytes s → head_heard talk bytes r ≡ head_heard talk bytes s
+  heard-alike talk bytes r s p q = elim (agree bytes r s p q) [
+    | inl same ↦ ap (head_heard talk bytes) same
+    | inr faults ↦ faults-alike talk bytes r s faults.0 faults.1
+  ]
+
+  -- a head in two pieces, by what the first piece is read as
+  head-cut : (talk : Talk) (first second : List ℕ) (two whole : Heard) (r s : Result (Progress RequestParts) HeadFault) → talk.hears ≡ Head → IsReading ShowsRequest (talk.held ++ first) r → IsHeard (head_heard talk (talk.held ++ first) r).talk second two → IsReading ShowsRequest (talk.held ++ (first ++ second)) s → whole ≡ head_heard talk (talk.held ++ (first ++ second)) s → (atoms ((head_heard talk (talk.held ++ first) r).events ++ two.events) ≡ atoms whole.events) × (two.talk ≡ whole.talk)
+  unfolding request_by
+  head-cut talk first second two whole (Ok More) s hears read h again w =
+      let held = talk.held ++ first in
+      let waiting : Talk = record talk { held = held } in
+      let as_head : HearsAs Head waiting second two = subst (λ (x : Hears). HearsAs x waiting second two) hears h in
+      let same : held ++ second ≡ talk.held ++ (first ++ second) = append_assoc talk.held first second in
+      let reading : IsReading ShowsRequest (talk.held ++ (first ++ second)) as_head.0 = subst (λ (xs : List ℕ). IsReading ShowsRequest xs as_head.0) same as_head.1 in
+      let alike : two ≡ whole =
+      as_head.2
+      ∙ held-alike talk held (held ++ second) as_head.0
+      ∙ ap (λ (xs : List ℕ). head_heard talk xs as_head.0) same
+      ∙ heard-alike talk (talk.held ++ (first ++ second)) as_head.0 s reading again
+      ∙ sym w in
+      (ap (λ (y : Heard). atoms y.events) alike, ap (λ (y : Heard). y.talk) alike)
+  head-cut talk first second two whole (Ok (Whole request n)) s hears read h again w =
+      let bytes = talk.held ++ first in
+      let same : bytes ++ second ≡ talk.held ++ (first ++ second) = append_assoc talk.held first second in
+      let longer : IsReading ShowsRequest (bytes ++ second) (Ok (Whole request n)) = settled bytes second (Ok (Whole request n)) read (λ e. cc) in
+      let reading : IsReading ShowsRequest (talk.held ++ (first ++ second)) (Ok (Whole request n)) = subst (λ (xs : List ℕ). IsReading ShowsRequest xs (Ok (Whole request n))) same longer in
+      let behind : drop n (talk.held ++ (first ++ second)) ≡ drop n bytes ++ second = ap (drop n) (sym same) ∙ drop-append-le n bytes second (fits bytes request n read) in
+      let alike : whole ≡ request_heard talk request (drop n bytes ++ second) =
+      w ∙ heard-alike talk (talk.held ++ (first ++ second)) s (Ok (Whole request n)) again reading ∙ ap (request_heard talk request) behind in
+      request-cut (bytes_eq request.method (codes "SOURCE")) (bytes_eq request.method (codes "GET")) talk request (drop n bytes) second two whole h alike
+  head-cut talk first second two whole (Err e) s hears read h again w =
+      let bytes = talk.held ++ first in
+      let same : bytes ++ second ≡ talk.held ++ (first ++ second) = append_assoc talk.held first second in
+      let longer : IsReading ShowsRequest (bytes ++ second) (Err e) = settled bytes second (Err e) read (λ x. cc) in
+      let reading : IsReading ShowsRequest (talk.held ++ (first ++ second)) (Err e) = subst (λ (xs : List ℕ). IsReading ShowsRequest xs (Err e)) same longer in
+      let alike : whole ≡ refuses talk BadHead = w ∙ heard-alike talk (talk.held ++ (first ++ second)) s (Err e) again reading in
+      by_parts (refuses talk BadHead) (record { events = []; talk = (refuses talk BadHead).talk }) (refuses talk BadHead) two whole h alike refl refl
+
+  -- any two pieces, by what the talk hears
+  cuts : (hears : Hears) (talk : Talk) (first second : List ℕ) (one two whole : Heard) → talk.hears ≡ hears → HearsAs hears talk first one → IsHeard one.talk second two → HearsAs hears talk (first ++ second) whole → (atoms (one.events ++ two.events) ≡ atoms whole.events) × (two.talk ≡ whole.talk)
+  cuts Nothing talk first second one two whole hears h k w =
+      let X : Heard = record { events = []; talk = talk } in
+      let later : two ≡ X = subst (λ (x : Hears). HearsAs x talk second two) hears (subst (λ (x : Heard). IsHeard x.talk second two) h k) in
+      subst (λ (x : Heard). (atoms (x.events ++ two.events) ≡ atoms whole.events) × (two.talk ≡ whole.talk)) (sym h) (by_parts X X X two whole later w refl refl)
+  cuts Body talk first second one two whole hears h k w =
+      let X : Heard = record { events = pushes talk.id first; talk = talk } in
+      let Y : Heard = record { events = pushes talk.id second; talk = talk } in
+      let Z : Heard = record { events = pushes talk.id (first ++ second); talk = talk } in
+      let later : two ≡ Y = subst (λ (x : Hears). HearsAs x talk second two) hears (subst (λ (x : Heard). IsHeard x.talk second two) h k) in
+      subst (λ (x : Heard). (atoms (x.events ++ two.events) ≡ atoms whole.events) × (two.talk ≡ whole.talk)) (sym h) (by_parts X Y Z two whole later w (pushes-cut talk.id first second) refl)
+  cuts Head talk first second one two whole hears h k w =
+      let X = head_heard talk (talk.held ++ first) h.0 in
+      let later : IsHeard X.talk second two = subst (λ (x : Heard). IsHeard x.talk second two) h.2 k in
+      subst (λ (x : Heard). (atoms (x.events ++ two.events) ≡ atoms whole.events) × (two.talk ≡ whole.talk)) (sym h.2)
+      (head-cut talk first second two whole h.0 w.0 hears h.1 later w.1 w.2)
+
+  pub cuts_do_not_matter : CutsDoNotMatter
+  cuts_do_not_matter talk first second one two whole h k w = cuts talk.hears talk first second one two whole refl h k w

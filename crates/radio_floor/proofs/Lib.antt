@@ -1,0 +1,14 @@
+mod NumberLemmas
+mod EscapeLemmas
+mod FeedLemmas
+mod SpellingLemmas
+mod TranscriptLemmas
+mod LinePlays
+mod ScriptPlays
+mod RunLemmas
+mod LawLemmas
+mod BlockLemmas
+mod CutLemmas
+mod FloorLemmas
+mod SimulationLemmas
+mod DeskSimulation

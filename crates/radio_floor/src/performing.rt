@@ -1,0 +1,173 @@
+//! The server as the performer of a script's deliveries.
+
+ghost use Rattle.radio_core.specs.declared.event.Event.TheVariants.{Draw};
+ghost use Rattle.std.specs.Prelude.{◌≡◌, ℕ, List, [], ◌∷◌, ◌++◌, None, Some, Err, OnOk};
+ghost use Rattle.radio_core.specs.World.{World};
+ghost use Rattle.radio_core.specs.Step.{Represents};
+ghost use Rattle.radio_floor.specs.Hearing.{Heard, IsHeard};
+ghost use Rattle.radio_floor.specs.Floor.{exchanges, closes};
+ghost use Rattle.radio_floor.specs.Desk.{floor_of, DoesAs};
+ghost use Rattle.radio_floor.specs.Performing.{PerformsAs};
+ghost use Rattle.radio_floor.specs.declared.delivery.Delivery.TheVariants.{Open, In, Room, End};
+
+use crate::OutOfMemory;
+use crate::connection::{Connection, Ending};
+use crate::delivery::Delivery;
+use crate::desk::{Desk, has_label, leave, push_told, swap_connection};
+use crate::faults::PerformFault;
+use crate::performer::Performer;
+use radio_core::{Event, Peer};
+use std::alloc::Global;
+
+impl Desk {
+    /// Bytes come on a connection that was taken out.
+    fn hear_on(
+        &mut self,
+        label: u32,
+        connection: Connection,
+        bytes: &[u8],
+        lines: &mut Vec<u8>,
+    ) -> Result<(), OutOfMemory>
+        ensures { OnOk result (DoesAs self.old.core self.new.core self.new.connections.items lines.old.items lines.new.items
+            (λ w done. (heard : Heard) × IsHeard connection bytes.now heard × (exchanges (floor_of w self.old.connections.items) label heard.talk heard.events ≡ done))) }
+    {
+        let mut connection = connection;
+        let events = connection.take(bytes)?;
+        self.exchange_on(label, connection, events, lines)?;
+        Ok(())
+    }
+
+    /// There is room for so many bytes on a connection that was taken out.
+    fn draw_on(
+        &mut self,
+        label: u32,
+        connection: Connection,
+        room: u32,
+        lines: &mut Vec<u8>,
+    ) -> Result<(), OutOfMemory>
+        ensures { OnOk result (DoesAs self.old.core self.new.core self.new.connections.items lines.old.items lines.new.items
+            (λ w done. exchanges (floor_of w self.old.connections.items) label connection (Draw connection.id room ∷ []) ≡ done)) }
+    {
+        let mut events = Vec::new(self.alloc);
+        events.push(Event::Draw {
+            id: connection.id(),
+            room,
+        })?;
+        self.exchange_on(label, connection, events, lines)?;
+        Ok(())
+    }
+
+    /// The peer has closed a connection that was taken out.
+    fn close(
+        &mut self,
+        label: u32,
+        connection: Connection,
+        lines: &mut Vec<u8>,
+    ) -> Result<(), OutOfMemory>
+        ensures { OnOk result (DoesAs self.old.core self.new.core self.new.connections.items lines.old.items lines.new.items
+            (λ w done. closes (floor_of w self.old.connections.items) label connection ≡ done)) }
+    {
+        leave(&mut self.core, connection.id())?;
+        swap_connection(&mut self.connections, label, None);
+        push_told(self.alloc, label, &[], Some(Ending::Done), lines)?;
+        Ok(())
+    }
+}
+
+impl Desk {
+    fn perform_delivery(
+        &mut self,
+        delivery: &Delivery,
+        lines: &mut Vec<u8>,
+    ) -> Result<(), PerformFault>
+        ensures { PerformsAs result self.old.core self.old.connections.items delivery.now lines.old.items lines.new.items self.new.core self.new.connections.items }
+    {
+        match delivery {
+            Delivery::Open { label, peer } => self.perform_open(*label, *peer, lines),
+            Delivery::In { label, bytes } => self.perform_in(*label, bytes.as_bytes(), lines),
+            Delivery::Room { label, room } => self.perform_room(*label, *room, lines),
+            Delivery::End { label } => self.perform_end(*label, lines),
+        }
+    }
+
+    fn perform_open(
+        &mut self,
+        label: u32,
+        peer: Peer,
+        lines: &mut Vec<u8>,
+    ) -> Result<(), PerformFault>
+        ensures { PerformsAs result self.old.core self.old.connections.items (Open label peer) lines.old.items lines.new.items self.new.core self.new.connections.items }
+    {
+        if has_label(self.connections.as_slice(), label) {
+            return Err(PerformFault::Label);
+        }
+        match self.open(label, peer, lines) {
+            Ok(()) => Ok(()),
+            Err(_) => Err(PerformFault::OutOfMemory),
+        }
+    }
+
+    fn perform_in(
+        &mut self,
+        label: u32,
+        bytes: &[u8],
+        lines: &mut Vec<u8>,
+    ) -> Result<(), PerformFault>
+        ensures { PerformsAs result self.old.core self.old.connections.items (In label bytes.now) lines.old.items lines.new.items self.new.core self.new.connections.items }
+    {
+        match swap_connection(&mut self.connections, label, None) {
+            None => Err(PerformFault::Label),
+            Some(None) => Ok(()),
+            Some(Some(connection)) => match self.hear_on(label, connection, bytes, lines) {
+                Ok(()) => Ok(()),
+                Err(_) => Err(PerformFault::OutOfMemory),
+            },
+        }
+    }
+
+    fn perform_room(
+        &mut self,
+        label: u32,
+        room: u32,
+        lines: &mut Vec<u8>,
+    ) -> Result<(), PerformFault>
+        ensures { PerformsAs result self.old.core self.old.connections.items (Room label room) lines.old.items lines.new.items self.new.core self.new.connections.items }
+    {
+        match swap_connection(&mut self.connections, label, None) {
+            None => Err(PerformFault::Label),
+            Some(None) => Ok(()),
+            Some(Some(connection)) => match self.draw_on(label, connection, room, lines) {
+                Ok(()) => Ok(()),
+                Err(_) => Err(PerformFault::OutOfMemory),
+            },
+        }
+    }
+
+    fn perform_end(&mut self, label: u32, lines: &mut Vec<u8>) -> Result<(), PerformFault>
+        ensures { PerformsAs result self.old.core self.old.connections.items (End label) lines.old.items lines.new.items self.new.core self.new.connections.items }
+    {
+        match swap_connection(&mut self.connections, label, None) {
+            None => Err(PerformFault::Label),
+            Some(None) => Ok(()),
+            Some(Some(connection)) => match self.close(label, connection, lines) {
+                Ok(()) => Ok(()),
+                Err(_) => Err(PerformFault::OutOfMemory),
+            },
+        }
+    }
+}
+
+impl Performer for Desk {
+    ghost use Rattle.radio_floor.specs.Performing.{Performs};
+
+    ghost performs = { λ old delivery lines new. Performs old.core old.connections.items delivery lines new.core new.connections.items };
+
+    fn perform(
+        &mut self,
+        _alloc: Global,
+        delivery: &Delivery,
+        lines: &mut Vec<u8>,
+    ) -> Result<(), PerformFault> {
+        self.perform_delivery(delivery, lines)
+    }
+}

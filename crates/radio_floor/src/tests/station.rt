@@ -1,0 +1,175 @@
+//! Scripts over the server itself.
+
+use super::devices::Frail;
+use crate::{Delivery, OutOfMemory, PlayFault, RunFault, Tally, play, read_delivery, run};
+use radio_core::{Lists, Settings, Text};
+use std::alloc::Global;
+
+const EIGHT_BYTES: &[u8] = b"open 1 10.0.0.1\n\
+    in 1 SOURCE /a HTTP/1.0\\r\\n\\r\\n\n\
+    in 1 abcdefgh\n\
+    open 2 10.0.0.2\n\
+    in 2 GET /a HTTP/1.0\\r\\n\\r\\n\n\
+    room 2 100\n\
+    end 2\n\
+    end 1\n";
+
+const EIGHT_BYTES_TRANSCRIPT: &[u8] = b"out 1 HTTP/1.0 200 OK\\r\\n\\r\\n\n\
+    out 2 HTTP/1.0 200 OK\\r\\nContent-Type: audio/mpeg\\r\\nConnection: close\\r\\n\\r\\n\n\
+    out 2 abcdefgh\n\
+    shut 2 done\n\
+    shut 1 done\n";
+
+// Two blocks of four bytes, and then a listener.
+const TWO_BLOCKS: &[u8] = b"open 1 10.0.0.1\n\
+    in 1 SOURCE /a HTTP/1.0\\r\\n\\r\\n\n\
+    in 1 abcd\n\
+    in 1 efgh\n\
+    open 2 10.0.0.2\n\
+    in 2 GET /a HTTP/1.0\\r\\n\\r\\n\n\
+    room 2 100\n";
+
+const ONE_BLOCK_TRANSCRIPT: &[u8] = b"out 1 HTTP/1.0 200 OK\\r\\n\\r\\n\n\
+    out 2 HTTP/1.0 200 OK\\r\\nContent-Type: audio/mpeg\\r\\nConnection: close\\r\\n\\r\\n\n\
+    out 2 efgh\n";
+
+// Settings with this burst size.
+fn settings(alloc: Global, burst_size: u32) -> Result<Settings, OutOfMemory> {
+    Ok(Settings {
+        source_password: Text::new(alloc, b"hackme")?,
+        admin_password: Text::new(alloc, b"letmein")?,
+        queue_size: 524_288,
+        burst_size,
+    })
+}
+
+// What a script comes to over devices that do not fail: the result, and what was written.
+fn played(
+    alloc: Global,
+    burst: u32,
+    script: &[u8],
+) -> Result<(Result<(), PlayFault>, Vec<u8>), OutOfMemory> {
+    let mut reader = Tally::new(script);
+    let mut written = Vec::new(alloc);
+    let mut writer = Tally::new(&mut written);
+    let result = play(
+        alloc,
+        settings(alloc, burst)?,
+        Lists::default(),
+        &mut reader,
+        &mut writer,
+    );
+    drop(writer);
+    Ok((result, written))
+}
+
+#[test]
+fn plays_the_worked_rows(rt: HostRuntime) -> Result<(), OutOfMemory> {
+    let rows: [(&str, u32, &[u8], &[u8]); 4] = [
+        ("eight_bytes", 8, EIGHT_BYTES, EIGHT_BYTES_TRANSCRIPT),
+        ("burst_of_one_block", 4, TWO_BLOCKS, ONE_BLOCK_TRANSCRIPT),
+        ("burst_between_blocks", 5, TWO_BLOCKS, ONE_BLOCK_TRANSCRIPT),
+        ("empty_script", 8, b"", b""),
+    ];
+    for (name, burst, script, transcript) in rows {
+        let (result, written) = played(rt.alloc(), burst, script)?;
+        assert_eq!(rt; result, Ok(()), "{name}");
+        assert_eq!(rt; written.as_slice(), transcript, "{name}");
+    }
+    Ok(())
+}
+
+// The deliveries of a script's lines.
+fn deliveries(alloc: Global, script: &[u8]) -> Result<Vec<Delivery>, OutOfMemory> {
+    let mut all = Vec::new(alloc);
+    for line in script.split(|b| *b == b'\n') {
+        if let Some(delivery) = read_delivery(alloc, line)? {
+            all.push(delivery)?;
+        }
+    }
+    Ok(all)
+}
+
+#[test]
+fn runs_eight_bytes(rt: HostRuntime) -> Result<(), OutOfMemory> {
+    let alloc = rt.alloc();
+    let all = deliveries(alloc, EIGHT_BYTES)?;
+    assert_eq!(rt; all.len(), 8);
+    match run(alloc, settings(alloc, 8)?, Lists::default(), &all) {
+        Ok(text) => assert_eq!(rt; text.as_slice(), EIGHT_BYTES_TRANSCRIPT),
+        Err(fault) => panic!(rt; "{fault}"),
+    }
+    let strange = deliveries(alloc, b"open 1 10.0.0.1\nend 2")?;
+    match run(alloc, settings(alloc, 8)?, Lists::default(), &strange) {
+        Ok(_) => panic!(rt; "label 2 was not opened"),
+        Err(fault) => assert_eq!(rt; fault, RunFault::Delivery { number: 2 }),
+    }
+    Ok(())
+}
+
+// At each call of the reader in its turn, and of the writer: a front of the transcript was written.
+#[test]
+fn ends_with_a_failing_device(rt: HostRuntime) -> Result<(), OutOfMemory> {
+    let alloc = rt.alloc();
+    for sound in 0..EIGHT_BYTES.len() {
+        let mut reader = Tally::new(Frail {
+            device: EIGHT_BYTES,
+            sound,
+            most: 1,
+        });
+        let mut written = Vec::new(alloc);
+        let mut writer = Tally::new(&mut written);
+        let result = play(
+            alloc,
+            settings(alloc, 8)?,
+            Lists::default(),
+            &mut reader,
+            &mut writer,
+        );
+        drop(writer);
+        assert_eq!(rt; result, Err(PlayFault::Read), "at {sound}");
+        assert!(rt;
+            EIGHT_BYTES_TRANSCRIPT.starts_with(written.as_slice()),
+            "at {sound}"
+        );
+    }
+    for sound in 0..EIGHT_BYTES_TRANSCRIPT.len() {
+        let mut reader = Tally::new(EIGHT_BYTES);
+        let mut written = Vec::new(alloc);
+        let mut writer = Tally::new(Frail {
+            device: &mut written,
+            sound,
+            most: 1,
+        });
+        let result = play(
+            alloc,
+            settings(alloc, 8)?,
+            Lists::default(),
+            &mut reader,
+            &mut writer,
+        );
+        drop(writer);
+        assert_eq!(rt; result, Err(PlayFault::Write), "at {sound}");
+        assert_eq!(rt; written.len(), sound);
+        assert!(rt;
+            EIGHT_BYTES_TRANSCRIPT.starts_with(written.as_slice()),
+            "at {sound}"
+        );
+    }
+    Ok(())
+}
+
+// With each allocation refused in its turn (`rt try --test --fail-alloc N`): the transcript, or
+// want of memory, and then a front of the transcript was written.
+#[test]
+fn plays_or_wants_memory(rt: HostRuntime) {
+    let Ok((result, written)) = played(rt.alloc(), 8, EIGHT_BYTES) else {
+        return;
+    };
+    match result {
+        Ok(()) => assert_eq!(rt; written.as_slice(), EIGHT_BYTES_TRANSCRIPT),
+        Err(PlayFault::Write) => {}
+        Err(fault) => assert_eq!(rt; fault, PlayFault::OutOfMemory),
+    }
+    assert!(rt; EIGHT_BYTES_TRANSCRIPT.starts_with(written.as_slice()));
+}
