@@ -14,7 +14,7 @@ use Rattle.radio_heads.specs.Reading.{IsReading}
 use Rattle.radio_heads.specs.Laws.{ReadingsAgree, IsSettled, HeadsLieWithin}
 use Rattle.radio_floor.specs.declared.connection.Hears.{Hears}
 use Rattle.radio_floor.specs.declared.connection.Hears.TheVariants.{Head, Body, Nothing}
-use Rattle.radio_floor.specs.Talk.{Talk}
+use Rattle.radio_floor.specs.Conversation.{Conversation}
 use Rattle.radio_floor.specs.Blocks.{cut_into, blocks_of, pushes}
 use Rattle.radio_floor.specs.Hearing.{Heard, HearsAs, IsHeard, head_heard, request_heard, source_heard, refuses, going_on}
 use Rattle.radio_policy.specs.declared.rule.Rule.TheVariants.{BadHead, BadMethod}
@@ -51,101 +51,101 @@ pushes-cut id first second =
     ∙ sym (atoms-pushes id (first ++ second))
 
 -- two faults are heard alike
-faults-alike : (talk : Talk) (bytes : List ℕ) (r s : Result (Progress RequestParts) HeadFault) → IsErr r → IsErr s → head_heard talk bytes r ≡ head_heard talk bytes s
-faults-alike talk bytes (Err e) (Err f) h k = refl
-faults-alike talk bytes (Err e) (Ok p) h k = cc
-faults-alike talk bytes (Ok p) s h k = cc
+pub faults-alike : (conversation : Conversation) (bytes : List ℕ) (r s : Result (Progress RequestParts) HeadFault) → IsErr r → IsErr s → head_heard conversation bytes r ≡ head_heard conversation bytes s
+faults-alike conversation bytes (Err e) (Err f) h k = refl
+faults-alike conversation bytes (Err e) (Ok p) h k = cc
+faults-alike conversation bytes (Ok p) s h k = cc
 
 -- what was held before a head is heard as does not matter
-held-alike : (talk : Talk) (held bytes : List ℕ) (r : Result (Progress RequestParts) HeadFault) → head_heard (record talk { held = held }) bytes r ≡ head_heard talk bytes r
-held-alike talk held bytes (Ok More) = refl
-held-alike talk held bytes (Ok (Whole request n)) = refl
-held-alike talk held bytes (Err e) = refl
+held-alike : (conversation : Conversation) (held bytes : List ℕ) (r : Result (Progress RequestParts) HeadFault) → head_heard (record conversation { held = held }) bytes r ≡ head_heard conversation bytes r
+held-alike conversation held bytes (Ok More) = refl
+held-alike conversation held bytes (Ok (Whole request n)) = refl
+held-alike conversation held bytes (Err e) = refl
 
 -- two pieces and the whole, each by what it is heard as
-by_parts : (X Y Z two whole : Heard) → two ≡ Y → whole ≡ Z → atoms (X.events ++ Y.events) ≡ atoms Z.events → Y.talk ≡ Z.talk → (atoms (X.events ++ two.events) ≡ atoms whole.events) × (two.talk ≡ whole.talk)
+by_parts : (X Y Z two whole : Heard) → two ≡ Y → whole ≡ Z → atoms (X.events ++ Y.events) ≡ atoms Z.events → Y.conversation ≡ Z.conversation → (atoms (X.events ++ two.events) ≡ atoms whole.events) × (two.conversation ≡ whole.conversation)
 by_parts X Y Z two whole e f g h = (
   ap (λ (y : Heard). atoms (X.events ++ y.events)) e ∙ g ∙ sym (ap (λ (z : Heard). atoms z.events) f),
-  ap (λ (y : Heard). y.talk) e ∙ h ∙ sym (ap (λ (z : Heard). z.talk) f),
+  ap (λ (y : Heard). y.conversation) e ∙ h ∙ sym (ap (λ (z : Heard). z.conversation) f),
 )
 
 -- what a request is heard as, by the tests of its method
-request_by : Bool → Bool → Talk → RequestParts → List ℕ → Heard
-request_by source get talk request behind =
-    if source then source_heard talk request.path behind
-    else if get then record { events = Listen talk.id request.path ∷ []; talk = going_on talk Nothing }
-    else refuses talk BadMethod
+request_by : Bool → Bool → Conversation → RequestParts → List ℕ → Heard
+request_by source get conversation request behind =
+    if source then source_heard conversation request.path behind
+    else if get then record { events = Listen conversation.id request.path ∷ []; conversation = going_on conversation Nothing }
+    else refuses conversation BadMethod
 
 -- a request, and more bytes behind it
-request-cut : (source get : Bool) (talk : Talk) (request : RequestParts) (behind second : List ℕ) (two whole : Heard) → IsHeard (request_by source get talk request behind).talk second two → whole ≡ request_by source get talk request (behind ++ second) → (atoms ((request_by source get talk request behind).events ++ two.events) ≡ atoms whole.events) × (two.talk ≡ whole.talk)
+request-cut : (source get : Bool) (conversation : Conversation) (request : RequestParts) (behind second : List ℕ) (two whole : Heard) → IsHeard (request_by source get conversation request behind).conversation second two → whole ≡ request_by source get conversation request (behind ++ second) → (atoms ((request_by source get conversation request behind).events ++ two.events) ≡ atoms whole.events) × (two.conversation ≡ whole.conversation)
 unfolding request_by
-request-cut true get talk request behind second two whole h w =
-    by_parts (source_heard talk request.path behind) (record { events = pushes talk.id second; talk = going_on talk Body }) (source_heard talk request.path (behind ++ second)) two whole h w
-    (ap (λ (zs : List Atom). other (Source talk.id request.path nothing_told) ∷ zs) (pushes-cut talk.id behind second)) refl
-request-cut false true talk request behind second two whole h w =
-    let heard : Heard = record { events = Listen talk.id request.path ∷ []; talk = going_on talk Nothing } in
-    by_parts heard (record { events = []; talk = going_on talk Nothing }) heard two whole h w refl refl
-request-cut false false talk request behind second two whole h w =
-    by_parts (refuses talk BadMethod) (record { events = []; talk = (refuses talk BadMethod).talk }) (refuses talk BadMethod) two whole h w refl refl
+request-cut true get conversation request behind second two whole h w =
+    by_parts (source_heard conversation request.path behind) (record { events = pushes conversation.id second; conversation = going_on conversation Body }) (source_heard conversation request.path (behind ++ second)) two whole h w
+    (ap (λ (zs : List Atom). other (Source conversation.id request.path nothing_told) ∷ zs) (pushes-cut conversation.id behind second)) refl
+request-cut false true conversation request behind second two whole h w =
+    let heard : Heard = record { events = Listen conversation.id request.path ∷ []; conversation = going_on conversation Nothing } in
+    by_parts heard (record { events = []; conversation = going_on conversation Nothing }) heard two whole h w refl refl
+request-cut false false conversation request behind second two whole h w =
+    by_parts (refuses conversation BadMethod) (record { events = []; conversation = (refuses conversation BadMethod).conversation }) (refuses conversation BadMethod) two whole h w refl refl
 
 module _ (agree : ReadingsAgree ShowsRequest) (settled : IsSettled ShowsRequest) (fits : HeadsLieWithin ShowsRequest) where
   -- what two readings of the same bytes are heard as is one thing
-  heard-alike : (talk : Talk) (bytes : List ℕ) (r s : Result (Progress RequestParts) HeadFault) → IsReading ShowsRequest bytes r → IsReading ShowsRequest bytes s → head_heard talk bytes r ≡ head_heard talk bytes s
-  heard-alike talk bytes r s p q = elim (agree bytes r s p q) [
-    | inl same ↦ ap (head_heard talk bytes) same
-    | inr faults ↦ faults-alike talk bytes r s faults.0 faults.1
+  heard-alike : (conversation : Conversation) (bytes : List ℕ) (r s : Result (Progress RequestParts) HeadFault) → IsReading ShowsRequest bytes r → IsReading ShowsRequest bytes s → head_heard conversation bytes r ≡ head_heard conversation bytes s
+  heard-alike conversation bytes r s p q = elim (agree bytes r s p q) [
+    | inl same ↦ ap (head_heard conversation bytes) same
+    | inr faults ↦ faults-alike conversation bytes r s faults.0 faults.1
   ]
 
   -- a head in two pieces, by what the first piece is read as
-  head-cut : (talk : Talk) (first second : List ℕ) (two whole : Heard) (r s : Result (Progress RequestParts) HeadFault) → talk.hears ≡ Head → IsReading ShowsRequest (talk.held ++ first) r → IsHeard (head_heard talk (talk.held ++ first) r).talk second two → IsReading ShowsRequest (talk.held ++ (first ++ second)) s → whole ≡ head_heard talk (talk.held ++ (first ++ second)) s → (atoms ((head_heard talk (talk.held ++ first) r).events ++ two.events) ≡ atoms whole.events) × (two.talk ≡ whole.talk)
+  head-cut : (conversation : Conversation) (first second : List ℕ) (two whole : Heard) (r s : Result (Progress RequestParts) HeadFault) → conversation.hears ≡ Head → IsReading ShowsRequest (conversation.held ++ first) r → IsHeard (head_heard conversation (conversation.held ++ first) r).conversation second two → IsReading ShowsRequest (conversation.held ++ (first ++ second)) s → whole ≡ head_heard conversation (conversation.held ++ (first ++ second)) s → (atoms ((head_heard conversation (conversation.held ++ first) r).events ++ two.events) ≡ atoms whole.events) × (two.conversation ≡ whole.conversation)
   unfolding request_by
-  head-cut talk first second two whole (Ok More) s hears read h again w =
-      let held = talk.held ++ first in
-      let waiting : Talk = record talk { held = held } in
+  head-cut conversation first second two whole (Ok More) s hears read h again w =
+      let held = conversation.held ++ first in
+      let waiting : Conversation = record conversation { held = held } in
       let as_head : HearsAs Head waiting second two = subst (λ (x : Hears). HearsAs x waiting second two) hears h in
-      let same : held ++ second ≡ talk.held ++ (first ++ second) = append_assoc talk.held first second in
-      let reading : IsReading ShowsRequest (talk.held ++ (first ++ second)) as_head.0 = subst (λ (xs : List ℕ). IsReading ShowsRequest xs as_head.0) same as_head.1 in
+      let same : held ++ second ≡ conversation.held ++ (first ++ second) = append_assoc conversation.held first second in
+      let reading : IsReading ShowsRequest (conversation.held ++ (first ++ second)) as_head.0 = subst (λ (xs : List ℕ). IsReading ShowsRequest xs as_head.0) same as_head.1 in
       let alike : two ≡ whole =
       as_head.2
-      ∙ held-alike talk held (held ++ second) as_head.0
-      ∙ ap (λ (xs : List ℕ). head_heard talk xs as_head.0) same
-      ∙ heard-alike talk (talk.held ++ (first ++ second)) as_head.0 s reading again
+      ∙ held-alike conversation held (held ++ second) as_head.0
+      ∙ ap (λ (xs : List ℕ). head_heard conversation xs as_head.0) same
+      ∙ heard-alike conversation (conversation.held ++ (first ++ second)) as_head.0 s reading again
       ∙ sym w in
-      (ap (λ (y : Heard). atoms y.events) alike, ap (λ (y : Heard). y.talk) alike)
-  head-cut talk first second two whole (Ok (Whole request n)) s hears read h again w =
-      let bytes = talk.held ++ first in
-      let same : bytes ++ second ≡ talk.held ++ (first ++ second) = append_assoc talk.held first second in
+      (ap (λ (y : Heard). atoms y.events) alike, ap (λ (y : Heard). y.conversation) alike)
+  head-cut conversation first second two whole (Ok (Whole request n)) s hears read h again w =
+      let bytes = conversation.held ++ first in
+      let same : bytes ++ second ≡ conversation.held ++ (first ++ second) = append_assoc conversation.held first second in
       let longer : IsReading ShowsRequest (bytes ++ second) (Ok (Whole request n)) = settled bytes second (Ok (Whole request n)) read (λ e. cc) in
-      let reading : IsReading ShowsRequest (talk.held ++ (first ++ second)) (Ok (Whole request n)) = subst (λ (xs : List ℕ). IsReading ShowsRequest xs (Ok (Whole request n))) same longer in
-      let behind : drop n (talk.held ++ (first ++ second)) ≡ drop n bytes ++ second = ap (drop n) (sym same) ∙ drop-append-le n bytes second (fits bytes request n read) in
-      let alike : whole ≡ request_heard talk request (drop n bytes ++ second) =
-      w ∙ heard-alike talk (talk.held ++ (first ++ second)) s (Ok (Whole request n)) again reading ∙ ap (request_heard talk request) behind in
-      request-cut (bytes_eq request.method (codes "SOURCE")) (bytes_eq request.method (codes "GET")) talk request (drop n bytes) second two whole h alike
-  head-cut talk first second two whole (Err e) s hears read h again w =
-      let bytes = talk.held ++ first in
-      let same : bytes ++ second ≡ talk.held ++ (first ++ second) = append_assoc talk.held first second in
+      let reading : IsReading ShowsRequest (conversation.held ++ (first ++ second)) (Ok (Whole request n)) = subst (λ (xs : List ℕ). IsReading ShowsRequest xs (Ok (Whole request n))) same longer in
+      let behind : drop n (conversation.held ++ (first ++ second)) ≡ drop n bytes ++ second = ap (drop n) (sym same) ∙ drop-append-le n bytes second (fits bytes request n read) in
+      let alike : whole ≡ request_heard conversation request (drop n bytes ++ second) =
+      w ∙ heard-alike conversation (conversation.held ++ (first ++ second)) s (Ok (Whole request n)) again reading ∙ ap (request_heard conversation request) behind in
+      request-cut (bytes_eq request.method (codes "SOURCE")) (bytes_eq request.method (codes "GET")) conversation request (drop n bytes) second two whole h alike
+  head-cut conversation first second two whole (Err e) s hears read h again w =
+      let bytes = conversation.held ++ first in
+      let same : bytes ++ second ≡ conversation.held ++ (first ++ second) = append_assoc conversation.held first second in
       let longer : IsReading ShowsRequest (bytes ++ second) (Err e) = settled bytes second (Err e) read (λ x. cc) in
-      let reading : IsReading ShowsRequest (talk.held ++ (first ++ second)) (Err e) = subst (λ (xs : List ℕ). IsReading ShowsRequest xs (Err e)) same longer in
-      let alike : whole ≡ refuses talk BadHead = w ∙ heard-alike talk (talk.held ++ (first ++ second)) s (Err e) again reading in
-      by_parts (refuses talk BadHead) (record { events = []; talk = (refuses talk BadHead).talk }) (refuses talk BadHead) two whole h alike refl refl
+      let reading : IsReading ShowsRequest (conversation.held ++ (first ++ second)) (Err e) = subst (λ (xs : List ℕ). IsReading ShowsRequest xs (Err e)) same longer in
+      let alike : whole ≡ refuses conversation BadHead = w ∙ heard-alike conversation (conversation.held ++ (first ++ second)) s (Err e) again reading in
+      by_parts (refuses conversation BadHead) (record { events = []; conversation = (refuses conversation BadHead).conversation }) (refuses conversation BadHead) two whole h alike refl refl
 
-  -- any two pieces, by what the talk hears
-  cuts : (hears : Hears) (talk : Talk) (first second : List ℕ) (one two whole : Heard) → talk.hears ≡ hears → HearsAs hears talk first one → IsHeard one.talk second two → HearsAs hears talk (first ++ second) whole → (atoms (one.events ++ two.events) ≡ atoms whole.events) × (two.talk ≡ whole.talk)
-  cuts Nothing talk first second one two whole hears h k w =
-      let X : Heard = record { events = []; talk = talk } in
-      let later : two ≡ X = subst (λ (x : Hears). HearsAs x talk second two) hears (subst (λ (x : Heard). IsHeard x.talk second two) h k) in
-      subst (λ (x : Heard). (atoms (x.events ++ two.events) ≡ atoms whole.events) × (two.talk ≡ whole.talk)) (sym h) (by_parts X X X two whole later w refl refl)
-  cuts Body talk first second one two whole hears h k w =
-      let X : Heard = record { events = pushes talk.id first; talk = talk } in
-      let Y : Heard = record { events = pushes talk.id second; talk = talk } in
-      let Z : Heard = record { events = pushes talk.id (first ++ second); talk = talk } in
-      let later : two ≡ Y = subst (λ (x : Hears). HearsAs x talk second two) hears (subst (λ (x : Heard). IsHeard x.talk second two) h k) in
-      subst (λ (x : Heard). (atoms (x.events ++ two.events) ≡ atoms whole.events) × (two.talk ≡ whole.talk)) (sym h) (by_parts X Y Z two whole later w (pushes-cut talk.id first second) refl)
-  cuts Head talk first second one two whole hears h k w =
-      let X = head_heard talk (talk.held ++ first) h.0 in
-      let later : IsHeard X.talk second two = subst (λ (x : Heard). IsHeard x.talk second two) h.2 k in
-      subst (λ (x : Heard). (atoms (x.events ++ two.events) ≡ atoms whole.events) × (two.talk ≡ whole.talk)) (sym h.2)
-      (head-cut talk first second two whole h.0 w.0 hears h.1 later w.1 w.2)
+  -- any two pieces, by what the conversation hears
+  cuts : (hears : Hears) (conversation : Conversation) (first second : List ℕ) (one two whole : Heard) → conversation.hears ≡ hears → HearsAs hears conversation first one → IsHeard one.conversation second two → HearsAs hears conversation (first ++ second) whole → (atoms (one.events ++ two.events) ≡ atoms whole.events) × (two.conversation ≡ whole.conversation)
+  cuts Nothing conversation first second one two whole hears h k w =
+      let X : Heard = record { events = []; conversation = conversation } in
+      let later : two ≡ X = subst (λ (x : Hears). HearsAs x conversation second two) hears (subst (λ (x : Heard). IsHeard x.conversation second two) h k) in
+      subst (λ (x : Heard). (atoms (x.events ++ two.events) ≡ atoms whole.events) × (two.conversation ≡ whole.conversation)) (sym h) (by_parts X X X two whole later w refl refl)
+  cuts Body conversation first second one two whole hears h k w =
+      let X : Heard = record { events = pushes conversation.id first; conversation = conversation } in
+      let Y : Heard = record { events = pushes conversation.id second; conversation = conversation } in
+      let Z : Heard = record { events = pushes conversation.id (first ++ second); conversation = conversation } in
+      let later : two ≡ Y = subst (λ (x : Hears). HearsAs x conversation second two) hears (subst (λ (x : Heard). IsHeard x.conversation second two) h k) in
+      subst (λ (x : Heard). (atoms (x.events ++ two.events) ≡ atoms whole.events) × (two.conversation ≡ whole.conversation)) (sym h) (by_parts X Y Z two whole later w (pushes-cut conversation.id first second) refl)
+  cuts Head conversation first second one two whole hears h k w =
+      let X = head_heard conversation (conversation.held ++ first) h.0 in
+      let later : IsHeard X.conversation second two = subst (λ (x : Heard). IsHeard x.conversation second two) h.2 k in
+      subst (λ (x : Heard). (atoms (x.events ++ two.events) ≡ atoms whole.events) × (two.conversation ≡ whole.conversation)) (sym h.2)
+      (head-cut conversation first second two whole h.0 w.0 hears h.1 later w.1 w.2)
 
   pub cuts_do_not_matter : CutsDoNotMatter
-  cuts_do_not_matter talk first second one two whole h k w = cuts talk.hears talk first second one two whole refl h k w
+  cuts_do_not_matter conversation first second one two whole h k w = cuts conversation.hears conversation first second one two whole refl h k w

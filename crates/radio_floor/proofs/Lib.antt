@@ -9,6 +9,7 @@ mod RunLemmas
 mod LawLemmas
 mod BlockLemmas
 mod CutLemmas
-mod FloorLemmas
+mod ScriptStateLemmas
 mod SimulationLemmas
-mod DeskSimulation
+mod ServerSimulation
+mod OneTranscript

@@ -3,7 +3,7 @@ use Rattle.std.specs.Prelude.{◌≡◌, ℕ, List, [], ◌∷◌, ◌++◌, map
 use Rattle.std.specs.List.{flat_map}
 use Rattle.radio_core.specs.declared.event.Event.{Event}
 use Rattle.radio_core.specs.declared.event.Event.TheVariants.{Push}
-use Rattle.radio_floor.specs.Talk.{Talk}
+use Rattle.radio_floor.specs.Conversation.{Conversation}
 use Rattle.radio_floor.specs.Hearing.{Heard, IsHeard}
 
 -- a byte of a source's data, or another event
@@ -19,8 +19,8 @@ atoms_of event = other event ∷ []
 abbrev pub atoms : List Event → List Atom
 atoms events = flat_map atoms_of events
 
--- Bytes that come in two pieces are heard as if they had come in one: the same events, but for where blocks are cut, and the same talk after them.
+-- Bytes that come in two pieces are heard as if they had come in one: the same events, but for where blocks are cut, and the same conversation after them.
 abbrev pub CutsDoNotMatter : Type 0
-CutsDoNotMatter = (talk : Talk) (first second : List ℕ) (one two whole : Heard) →
-    IsHeard talk first one → IsHeard one.talk second two → IsHeard talk (first ++ second) whole →
-    (atoms (one.events ++ two.events) ≡ atoms whole.events) × (two.talk ≡ whole.talk)
+CutsDoNotMatter = (conversation : Conversation) (first second : List ℕ) (one two whole : Heard) →
+    IsHeard conversation first one → IsHeard one.conversation second two → IsHeard conversation (first ++ second) whole →
+    (atoms (one.events ++ two.events) ≡ atoms whole.events) × (two.conversation ≡ whole.conversation)

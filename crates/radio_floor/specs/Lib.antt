@@ -15,13 +15,13 @@ pub mod Answers
 pub mod Laws
 pub mod Tally
 pub mod Spelling
-pub mod Talk
+pub mod Conversation
 pub mod Blocks
 pub mod Hearing
 pub mod Saying
 pub mod Exchanges
-pub mod Floor
-pub mod Desk
+pub mod ScriptState
+pub mod ScriptServer
 pub mod Performing
 pub mod Transcript
 pub mod Cuts

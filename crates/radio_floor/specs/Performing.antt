@@ -5,14 +5,14 @@ use Rattle.radio_core.specs.Step.{Represents}
 use Rattle.radio_floor.specs.declared.delivery.Delivery.{Delivery}
 use Rattle.radio_floor.specs.declared.faults.PerformFault.{PerformFault}
 use Rattle.radio_floor.specs.declared.faults.PerformFault.TheVariants.{Label, OutOfMemory}
-use Rattle.radio_floor.specs.declared.desk.Labelled.{Labelled}
-use Rattle.radio_floor.specs.Floor.{IsPerformed}
-use Rattle.radio_floor.specs.Desk.{floor_of, performed_as}
+use Rattle.radio_floor.specs.declared.script_server.Labelled.{Labelled}
+use Rattle.radio_floor.specs.ScriptState.{IsPerformed}
+use Rattle.radio_floor.specs.ScriptServer.{script_state_of, performed_as}
 
 -- Whatever state the core stood for, the delivery comes to these lines from it, and the core stands for the state after it.
 abbrev pub Performs : World → List Labelled → Delivery → Option (List ℕ) → World → List Labelled → Type 0
 Performs core connections delivery lines core' connections' = (w : World) → Represents core w →
-    (w' : World) × Represents core' w' × IsPerformed (floor_of w connections) delivery (performed_as lines w' connections')
+    (w' : World) × Represents core' w' × IsPerformed (script_state_of w connections) delivery (performed_as lines w' connections')
 
 -- the delivery is performed, or its label is at fault; of want of memory nothing is said
 abbrev pub PerformsAs : Result (Unit {0}) PerformFault → World → List Labelled → Delivery → List ℕ → List ℕ → World → List Labelled → Type 0

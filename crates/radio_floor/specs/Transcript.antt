@@ -3,18 +3,18 @@ use Rattle.std.specs.Prelude.{ℕ, List, Option, Result}
 use Rattle.radio_core.specs.declared.settings.Settings.{Settings}
 use Rattle.radio_floor.specs.declared.delivery.Delivery.{Delivery}
 use Rattle.radio_floor.specs.declared.faults.PlayFault.{PlayFault}
-use Rattle.radio_floor.specs.Floor.{Floor, opening_floor, IsPerformed}
+use Rattle.radio_floor.specs.ScriptState.{ScriptState, opening_script, IsPerformed}
 use Rattle.radio_floor.specs.Runs.{Conduct, Runs}
 use Rattle.radio_floor.specs.Plays.{Plays}
 
--- from this floor the delivery comes to these lines, or is at fault, and to that floor
-abbrev pub conduct : Conduct Floor
-conduct old delivery lines new = IsPerformed old delivery (record { lines = lines; floor = new })
+-- from this state the delivery comes to these lines, or is at fault, and to that state
+abbrev pub conduct : Conduct ScriptState
+conduct old delivery lines new = IsPerformed old delivery (record { lines = lines; state = new })
 
 -- the text is the transcript of the deliveries, up to the number of the first whose label is at fault, if there is one
 abbrev pub IsTranscriptOf : Settings → List Delivery → List ℕ → Option ℕ → Type 0
-IsTranscriptOf settings deliveries text stop = (last : Floor) × Runs conduct (opening_floor settings) 1 deliveries text stop last
+IsTranscriptOf settings deliveries text stop = (last : ScriptState) × Runs conduct (opening_script settings) 1 deliveries text stop last
 
 -- a script was played so: what was left unread, the result, what was written, and in how many turns
 abbrev pub PlaysScript : Settings → List ℕ → List ℕ → Result (Unit {0}) PlayFault → List ℕ → ℕ → Type 0
-PlaysScript settings script left result written turns = (last : Floor) × Plays conduct (opening_floor settings) 1 script left result written turns last
+PlaysScript settings script left result written turns = (last : ScriptState) × Plays conduct (opening_script settings) 1 script left result written turns last

@@ -2,7 +2,7 @@
 //! go out on it.
 
 ghost use Rattle.std.specs.Prelude.{◌≡◌};
-ghost use Rattle.radio_floor.specs.Talk.{Talk, fresh};
+ghost use Rattle.radio_floor.specs.Conversation.{Conversation, fresh};
 
 use radio_policy::Rule;
 use std::alloc::Global;
@@ -44,7 +44,7 @@ pub(crate) enum Ending {
 }
 
 impl Ending {
-    ghost use Rattle.radio_floor.specs.Talk.{ending_word};
+    ghost use Rattle.radio_floor.specs.Conversation.{ending_word};
 
     /// The word for it in a transcript.
     pub(crate) fn word(self) -> &'static str
@@ -69,10 +69,10 @@ pub(crate) struct Connection {
 }
 
 impl Model for Connection {
-    ghost use Rattle.radio_floor.specs.Talk.{Talk};
+    ghost use Rattle.radio_floor.specs.Conversation.{Conversation};
     ghost use Rattle.radio_heads.specs.Search.{HasNoEnd};
 
-    ghost Value = { Talk };
+    ghost Value = { Conversation };
 
     ghost view = { λ c. record { id = c.id; held = c.held.items; hears = c.hears; says = c.says } };
 

@@ -1,17 +1,19 @@
-//! The floor of the server: whole scripts, from their lines to their transcripts.
+//! Whole scripts: from the lines that a script delivers to the lines of its transcript.
 //!
-//! A script is read line by line (`reading`), each line is a delivery to one connection
-//! (`delivery`, made of `parts`, `numbers`, a `peer` and `escapes`), a `performer` performs it,
-//! and what it comes to is written (`transcript_lines`, `writing`) before anything behind the
-//! line is read (`play`). A list of deliveries runs without devices (`run`). The `devices` count
-//! their calls and failures, as a `tally` does for any reader or writer.
+//! - [`play`]: a script from a reader, its transcript to a writer; [`run`]: a list of deliveries.
+//! - A line of a script: `delivery`, made of `parts`, `numbers`, a `peer` and `escapes`.
+//! - Devices: `reading`, `writing`, and `devices`, which count their calls and failures, as a
+//!   `tally` does for any reader or writer.
+//! - The loops over deliveries, whoever performs them: `performer`, `playing`, `running`.
+//! - The server as their performer: `script_server` (its core, and the connections of the labels),
+//!   `performing`, and `connection` (one connection's bytes to events, and replies to bytes).
+//! - Laws, which run no code: `laws`, `connection_laws`.
 #![tactic(auto)]
 
 mod byte_string;
 mod connection;
-mod cut_law;
+mod connection_laws;
 mod delivery;
-mod desk;
 mod devices;
 mod escapes;
 mod faults;
@@ -25,6 +27,7 @@ mod performing;
 mod playing;
 mod reading;
 mod running;
+mod script_server;
 mod tally;
 #[cfg(test)]
 mod tests;
@@ -33,7 +36,7 @@ mod whole;
 mod writing;
 
 pub use byte_string::ByteString;
-pub use cut_law::cuts_do_not_matter;
+pub use connection_laws::{cuts_do_not_matter, the_transcript_is_one};
 pub use delivery::{Delivery, read_delivery};
 pub use devices::{Counted, CountedRead, CountedWrite};
 pub use escapes::{push_escaped, unescape};

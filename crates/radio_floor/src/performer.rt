@@ -1,4 +1,4 @@
-//! What performs deliveries: the server behind the floor.
+//! What performs deliveries.
 
 ghost use Rattle.std.specs.Prelude.{◌≡◌, ◌++◌, ℕ, List, Option, None, Some, Err, OnOk};
 

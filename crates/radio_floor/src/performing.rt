@@ -5,21 +5,21 @@ ghost use Rattle.std.specs.Prelude.{◌≡◌, ℕ, List, [], ◌∷◌, ◌++�
 ghost use Rattle.radio_core.specs.World.{World};
 ghost use Rattle.radio_core.specs.Step.{Represents};
 ghost use Rattle.radio_floor.specs.Hearing.{Heard, IsHeard};
-ghost use Rattle.radio_floor.specs.Floor.{exchanges, closes};
-ghost use Rattle.radio_floor.specs.Desk.{floor_of, DoesAs};
+ghost use Rattle.radio_floor.specs.ScriptState.{exchanges, closes};
+ghost use Rattle.radio_floor.specs.ScriptServer.{script_state_of, DoesAs};
 ghost use Rattle.radio_floor.specs.Performing.{PerformsAs};
 ghost use Rattle.radio_floor.specs.declared.delivery.Delivery.TheVariants.{Open, In, Room, End};
 
 use crate::OutOfMemory;
 use crate::connection::{Connection, Ending};
 use crate::delivery::Delivery;
-use crate::desk::{Desk, has_label, leave, push_told, swap_connection};
 use crate::faults::PerformFault;
 use crate::performer::Performer;
+use crate::script_server::{ScriptServer, has_label, leave, push_told, swap_connection};
 use radio_core::{Event, Peer};
 use std::alloc::Global;
 
-impl Desk {
+impl ScriptServer {
     /// Bytes come on a connection that was taken out.
     fn hear_on(
         &mut self,
@@ -29,7 +29,7 @@ impl Desk {
         lines: &mut Vec<u8>,
     ) -> Result<(), OutOfMemory>
         ensures { OnOk result (DoesAs self.old.core self.new.core self.new.connections.items lines.old.items lines.new.items
-            (λ w done. (heard : Heard) × IsHeard connection bytes.now heard × (exchanges (floor_of w self.old.connections.items) label heard.talk heard.events ≡ done))) }
+            (λ w done. (heard : Heard) × IsHeard connection bytes.now heard × (exchanges (script_state_of w self.old.connections.items) label heard.conversation heard.events ≡ done))) }
     {
         let mut connection = connection;
         let events = connection.take(bytes)?;
@@ -46,7 +46,7 @@ impl Desk {
         lines: &mut Vec<u8>,
     ) -> Result<(), OutOfMemory>
         ensures { OnOk result (DoesAs self.old.core self.new.core self.new.connections.items lines.old.items lines.new.items
-            (λ w done. exchanges (floor_of w self.old.connections.items) label connection (Draw connection.id room ∷ []) ≡ done)) }
+            (λ w done. exchanges (script_state_of w self.old.connections.items) label connection (Draw connection.id room ∷ []) ≡ done)) }
     {
         let mut events = Vec::new(self.alloc);
         events.push(Event::Draw {
@@ -65,7 +65,7 @@ impl Desk {
         lines: &mut Vec<u8>,
     ) -> Result<(), OutOfMemory>
         ensures { OnOk result (DoesAs self.old.core self.new.core self.new.connections.items lines.old.items lines.new.items
-            (λ w done. closes (floor_of w self.old.connections.items) label connection ≡ done)) }
+            (λ w done. closes (script_state_of w self.old.connections.items) label connection ≡ done)) }
     {
         leave(&mut self.core, connection.id())?;
         swap_connection(&mut self.connections, label, None);
@@ -74,7 +74,7 @@ impl Desk {
     }
 }
 
-impl Desk {
+impl ScriptServer {
     fn perform_delivery(
         &mut self,
         delivery: &Delivery,
@@ -157,7 +157,7 @@ impl Desk {
     }
 }
 
-impl Performer for Desk {
+impl Performer for ScriptServer {
     ghost use Rattle.radio_floor.specs.Performing.{Performs};
 
     ghost performs = { λ old delivery lines new. Performs old.core old.connections.items delivery lines new.core new.connections.items };

@@ -6,11 +6,11 @@ ghost use Rattle.radio_floor.specs.Reading.{reader_failures, writer_failures};
 ghost use Rattle.radio_floor.specs.Transcript.{IsTranscriptOf, PlaysScript};
 
 use crate::delivery::Delivery;
-use crate::desk::Desk;
 use crate::devices::{CountedRead, CountedWrite};
 use crate::faults::{PlayFault, RunFault};
 use crate::playing::play_with;
 use crate::running::run_with;
+use crate::script_server::ScriptServer;
 use radio_core::{Lists, Settings};
 use std::alloc::Global;
 
@@ -34,8 +34,8 @@ pub fn run(
     // the fault comes only at a delivery whose label is at fault
     ensures delivery { (number : ℕ) → result ≡ Err (RunFault.Delivery number) → (text : List ℕ) × IsTranscriptOf settings deliveries.now text (Some number) }
 {
-    let mut desk = Desk::new(alloc, settings, lists);
-    run_with(alloc, &mut desk, deliveries)
+    let mut server = ScriptServer::new(alloc, settings, lists);
+    run_with(alloc, &mut server, deliveries)
 }
 
 /// Plays a script: reads it line by line, runs each delivery through a server of these settings,
@@ -65,6 +65,6 @@ pub fn play<R: CountedRead, W: CountedWrite>(
     // nothing that was written is kept back
     ensures flushed { result ≢ Err PlayFault.Write → W.is_flushed writer.old ≡ true → W.is_flushed writer.new ≡ true }
 {
-    let mut desk = Desk::new(alloc, settings, lists);
-    play_with(alloc, &mut desk, reader, writer)
+    let mut server = ScriptServer::new(alloc, settings, lists);
+    play_with(alloc, &mut server, reader, writer)
 }

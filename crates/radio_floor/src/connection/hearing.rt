@@ -15,7 +15,7 @@ impl Connection {
     /// Takes bytes that have come, and answers the events that they mean, in order. `OutOfMemory`
     /// where memory was refused: there are no events then, and all that comes is passed over.
     pub(crate) fn take(&mut self, bytes: &[u8]) -> Result<Vec<Event>, OutOfMemory>
-        ensures heard { IfOk result (λ events. IsHeard self.old bytes.now (record { events = events.items; talk = self.new })) }
+        ensures heard { IfOk result (λ events. IsHeard self.old bytes.now (record { events = events.items; conversation = self.new })) }
     {
         match self.hears {
             Hears::Head => self.take_head(bytes),
@@ -35,7 +35,7 @@ impl Connection {
 
     /// A part of a head.
     fn take_head(&mut self, bytes: &[u8]) -> Result<Vec<Event>, OutOfMemory>
-        ensures { IfOk result (λ events. HearsAs Hears.Head self.old bytes.now (record { events = events.items; talk = self.new })) }
+        ensures { IfOk result (λ events. HearsAs Hears.Head self.old bytes.now (record { events = events.items; conversation = self.new })) }
     {
         let seen = self.held.len();
         let mut held = mem::replace(&mut self.held, Vec::new(self.alloc));
@@ -52,7 +52,7 @@ impl Connection {
 
     /// A whole head, and the bytes behind it.
     fn take_request(&mut self, head: &Head, behind: &[u8]) -> Result<Vec<Event>, OutOfMemory>
-        ensures { IfOk result (λ events. request_heard self.old head.now behind.now ≡ record { events = events.items; talk = self.new }) }
+        ensures { IfOk result (λ events. request_heard self.old head.now behind.now ≡ record { events = events.items; conversation = self.new }) }
     {
         let id = self.id;
         let method = head.method();
@@ -71,7 +71,7 @@ impl Connection {
 
     /// A source's head, and the first of its data.
     fn take_source(&mut self, head: &Head, behind: &[u8]) -> Result<Vec<Event>, OutOfMemory>
-        ensures { IfOk result (λ events. source_heard self.old head.now.path behind.now ≡ record { events = events.items; talk = self.new }) }
+        ensures { IfOk result (λ events. source_heard self.old head.now.path behind.now ≡ record { events = events.items; conversation = self.new }) }
     {
         let id = self.id;
         let mut events = Vec::new(self.alloc);
@@ -85,7 +85,7 @@ impl Connection {
 
     /// The connection refuses by its own rule: the client leaves, and is told then.
     fn refuse(&mut self, rule: Rule) -> Result<Vec<Event>, OutOfMemory>
-        ensures { IfOk result (λ events. refuses self.old rule ≡ record { events = events.items; talk = self.new }) }
+        ensures { IfOk result (λ events. refuses self.old rule ≡ record { events = events.items; conversation = self.new }) }
     {
         let mut events = Vec::new(self.alloc);
         events.push(Event::Leave { id: self.id })?;

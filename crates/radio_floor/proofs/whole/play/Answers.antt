@@ -1,11 +1,11 @@
 use Rattle.radio_floor.specs.Plays.{Plays, Writes}
 use Rattle.radio_floor.specs.Transcript.{PlaysScript}
-use Rattle.radio_floor.proofs.DeskSimulation.{desk_conduct, desk_plays, known-weaker, writes-weaker}
+use Rattle.radio_floor.proofs.ServerSimulation.{server_conduct, server_plays, known-weaker, writes-weaker}
 use Rattle.radio_floor.proofs.whole.play.Goals as goal
 
 pub returns-clause-plays : goal.returns-clause-plays
 returns-clause-plays g c =
-    let desk = c.new-desk.result in
+    let server = c.new-server.result in
     let last = c.play_with.new.performer in
     let result = c.play_with.result in
     let remaining = g.R.Read.remaining in
@@ -14,10 +14,10 @@ returns-clause-plays g c =
     let old = c.args.writer.now in
     let new = c.play_with.new.writer in
     known-weaker (remaining c.args.reader.now) (remaining c.play_with.new.reader)
-    (λ script left. Writes (contents old) (contents new) (calls old) (calls new) (λ written turns. Plays desk_conduct desk 1 script left result written turns last))
+    (λ script left. Writes (contents old) (contents new) (calls old) (calls new) (λ written turns. Plays server_conduct server 1 script left result written turns last))
     (λ script left. Writes (contents old) (contents new) (calls old) (calls new) (λ written turns. PlaysScript c.args.settings script left result written turns))
     (λ script left. writes-weaker (contents old) (contents new) (calls old) (calls new)
-    (λ written turns. Plays desk_conduct desk 1 script left result written turns last)
+    (λ written turns. Plays server_conduct server 1 script left result written turns last)
     (λ written turns. PlaysScript c.args.settings script left result written turns)
-    (λ written turns. desk_plays desk last c.args.settings script left result written turns c.new-desk.ensures.core c.new-desk.ensures.connections))
+    (λ written turns. server_plays server last c.args.settings script left result written turns c.new-server.ensures.core c.new-server.ensures.connections))
     c.play_with.ensures.plays

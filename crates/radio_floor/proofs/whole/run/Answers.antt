@@ -2,18 +2,18 @@ use Rattle.std.proofs.Common.{ℕ, List, None, Some}
 use Rattle.std.proofs.lemmas.Result.{IfOk-weaker}
 use Rattle.radio_floor.specs.Runs.{Runs}
 use Rattle.radio_floor.specs.Transcript.{IsTranscriptOf}
-use Rattle.radio_floor.proofs.DeskSimulation.{desk_conduct, desk_runs}
+use Rattle.radio_floor.proofs.ServerSimulation.{server_conduct, server_runs}
 use Rattle.radio_floor.proofs.whole.run.Goals as goal
 
 pub returns-clause-ok : goal.returns-clause-ok
 returns-clause-ok c =
     IfOk-weaker c.run_with.result
-    (λ text. Runs desk_conduct c.new-desk.result 1 c.args.deliveries.now text.items None c.run_with.new.performer)
+    (λ text. Runs server_conduct c.new-server.result 1 c.args.deliveries.now text.items None c.run_with.new.performer)
     (λ text. IsTranscriptOf c.args.settings c.args.deliveries.now text.items None)
-    (λ text r. desk_runs c.new-desk.result c.run_with.new.performer c.args.settings c.args.deliveries.now text.items None c.new-desk.ensures.core c.new-desk.ensures.connections r)
+    (λ text r. server_runs c.new-server.result c.run_with.new.performer c.args.settings c.args.deliveries.now text.items None c.new-server.ensures.core c.new-server.ensures.connections r)
     c.run_with.ensures.ok
 
 pub returns-clause-delivery : goal.returns-clause-delivery
 returns-clause-delivery c number e =
-    let d : (text : List ℕ) × Runs desk_conduct c.new-desk.result 1 c.args.deliveries.now text (Some number) c.run_with.new.performer = c.run_with.ensures.delivery number e in
-    (d.0, desk_runs c.new-desk.result c.run_with.new.performer c.args.settings c.args.deliveries.now d.0 (Some number) c.new-desk.ensures.core c.new-desk.ensures.connections d.1)
+    let d : (text : List ℕ) × Runs server_conduct c.new-server.result 1 c.args.deliveries.now text (Some number) c.run_with.new.performer = c.run_with.ensures.delivery number e in
+    (d.0, server_runs c.new-server.result c.run_with.new.performer c.args.settings c.args.deliveries.now d.0 (Some number) c.new-server.ensures.core c.new-server.ensures.connections d.1)

@@ -1,0 +1,125 @@
+-- The server behind a script: what each delivery comes to.
+use Rattle.std.specs.Prelude.{◌≡◌, ℕ, Bool, ◌==◌, List, [], ◌∷◌, ◌++◌, Option, None, Some, find}
+use Rattle.std.specs.Option.{option_map}
+use Rattle.radio_core.specs.declared.event.Event.{Event}
+use Rattle.radio_core.specs.declared.event.Event.TheVariants.{Arrive, Draw, Leave}
+use Rattle.radio_core.specs.declared.event.Reply.{Reply}
+use Rattle.radio_core.specs.declared.event.Reply.TheVariants.{Arrived}
+use Rattle.radio_core.specs.declared.peer.Peer.{Peer}
+use Rattle.radio_core.specs.declared.settings.Settings.{Settings}
+use Rattle.radio_core.specs.World.{World, opening}
+use Rattle.radio_core.specs.Lists.{update_first}
+use Rattle.radio_core.specs.Step.{outcome}
+use Rattle.radio_floor.specs.declared.connection.Says.TheVariants.{Asking}
+use Rattle.radio_floor.specs.declared.connection.Ending.{Ending}
+use Rattle.radio_floor.specs.declared.connection.Ending.TheVariants.{Done}
+use Rattle.radio_floor.specs.declared.delivery.Delivery.{Delivery}
+use Rattle.radio_floor.specs.declared.delivery.Delivery.TheVariants.{Open, In, Room, End}
+use Rattle.radio_floor.specs.declared.script_server.Labelled.{Labelled}
+use Rattle.radio_floor.specs.TranscriptLines.{answer_lines}
+use Rattle.radio_floor.specs.Conversation.{Conversation, fresh, ending_word}
+use Rattle.radio_floor.specs.Hearing.{Heard, IsHeard}
+use Rattle.radio_floor.specs.Saying.{said}
+use Rattle.radio_floor.specs.Exchanges.{exchanged}
+
+-- the server's state, and the connections of the labels opened so far, in that order; a connection that was shut is none
+pub record ScriptState : Type 0 where
+  pub world : World
+  pub connections : List Labelled
+
+-- no label was opened yet
+abbrev pub opening_script : Settings → ScriptState
+opening_script settings = record { world = opening settings; connections = [] }
+
+abbrev pub has_label : ℕ → Labelled → Bool
+has_label label connection = connection.label == label
+
+-- what became of the label, if it was opened
+abbrev pub connection_of : List Labelled → ℕ → Option (Option Conversation)
+connection_of connections label = option_map (λ labelled. labelled.connection) (find (has_label label) connections)
+
+-- something else has become of the label
+abbrev pub with_connection : List Labelled → ℕ → Option Conversation → List Labelled
+with_connection connections label conversation = update_first (has_label label) (λ labelled. record labelled { connection = conversation }) connections
+
+-- the word of an ending
+abbrev pub word_of_ending : Option Ending → Option (List ℕ)
+word_of_ending None = None
+word_of_ending (Some ending) = Some (ending_word ending)
+
+-- the transcript's lines of one delivery: the bytes that went out, if any did, and the word of its end, if it ended
+abbrev pub told_lines : ℕ → List ℕ → Option Ending → List ℕ
+told_lines label bytes ending = answer_lines label bytes (word_of_ending ending)
+
+-- what a delivery comes to: None where its label is at fault, else some lines; and how things stand after it
+pub record Performed : Type 0 where
+  pub lines : Option (List ℕ)
+  pub state : ScriptState
+
+-- the label was not opened, or is opened twice: nothing happens
+abbrev pub at_fault : ScriptState → Performed
+at_fault state = record { lines = None; state = state }
+
+-- the connection was shut before: nothing happens, and nothing is written
+abbrev pub passed_over : ScriptState → Performed
+passed_over state = record { lines = Some []; state = state }
+
+-- the label's new connection, if the server takes it in
+abbrev pub taken_in : Reply → Option Conversation
+taken_in (Arrived id) = Some (fresh id)
+taken_in reply = None
+
+-- a connection arrives under a new label
+abbrev pub opens : ScriptState → ℕ → Peer → Performed
+opens state label peer =
+    let o = outcome state.world (Arrive peer) in
+    let told = said Asking o.reply in
+    record {
+      lines = Some (told_lines label told.bytes told.ending);
+      state = record { world = o.world; connections = state.connections ++ record { label = label; connection = taken_in o.reply } ∷ [] };
+    }
+
+-- the conversation, unless its connection has ended
+abbrev pub conversation_unless : Conversation → Option Ending → Option Conversation
+conversation_unless conversation None = Some conversation
+conversation_unless conversation (Some ending) = None
+
+-- a connection's events are exchanged with the server
+abbrev pub exchanges : ScriptState → ℕ → Conversation → List Event → Performed
+exchanges state label conversation events =
+    let x = exchanged state.world conversation.id conversation.says events in
+    record {
+      lines = Some (told_lines label x.bytes x.ending);
+      state = record { world = x.world; connections = with_connection state.connections label (conversation_unless (record conversation { says = x.says }) x.ending) };
+    }
+
+-- the peer has closed the connection
+abbrev pub closes : ScriptState → ℕ → Conversation → Performed
+closes state label conversation =
+    record {
+      lines = Some (told_lines label [] (Some Done));
+      state = record { world = (outcome state.world (Leave conversation.id)).world; connections = with_connection state.connections label None };
+    }
+
+-- a delivery for a connection, by what became of it
+abbrev pub on_connection : ScriptState → (Conversation → Performed → Type 0) → Performed → Option (Option Conversation) → Type 0
+on_connection state OnConversation performed None = performed ≡ at_fault state
+on_connection state OnConversation performed (Some None) = performed ≡ passed_over state
+on_connection state OnConversation performed (Some (Some conversation)) = OnConversation conversation performed
+
+-- a delivery for a label that must have been opened
+abbrev pub for_label : ScriptState → ℕ → (Conversation → Performed → Type 0) → Performed → Type 0
+for_label state label OnConversation performed = on_connection state OnConversation performed (connection_of state.connections label)
+
+-- a label is opened once
+abbrev pub for_new_label : ScriptState → Performed → Option (Option Conversation) → Performed
+for_new_label state performed None = performed
+for_new_label state performed (Some connection) = at_fault state
+
+-- from this state the delivery comes to that (a relation, since the grammar of heads is one; there is one answer)
+abbrev pub IsPerformed : ScriptState → Delivery → Performed → Type 0
+IsPerformed state (Open label peer) performed = performed ≡ for_new_label state (opens state label peer) (connection_of state.connections label)
+IsPerformed state (In label bytes) performed = for_label state label (λ conversation done.
+    (heard : Heard) × IsHeard conversation bytes heard × (done ≡ exchanges state label heard.conversation heard.events)) performed
+IsPerformed state (Room label room) performed = for_label state label (λ conversation done. done ≡ exchanges state label conversation (Draw conversation.id room ∷ [])) performed
+IsPerformed state (End label) performed = for_label state label (λ conversation done. done ≡ closes state label conversation) performed
