@@ -1,0 +1,74 @@
+//! Laws: what is true of every stream and every text, by the definitions that the calls cite.
+//!
+//! Each law is a function that does nothing, and its contract is the law.
+//! A caller that needs a law in a proof calls the function, and cites its clause.
+ghost use Rattle.std.specs.Prelude.{◌≡◌, ℕ, ◌<◌, ◌≤◌, List, [], ◌∷◌, ◌++◌, length, take, drop, map, Some, true, encode_utf8_all};
+ghost use Rattle.std.specs.List.{concat, list_all};
+ghost use Rattle.std.specs.Str.{IsUtf8, chars};
+ghost use Rattle.radio_icy.specs.Block.{metadata_block, title_text};
+ghost use Rattle.radio_icy.specs.Weaving.{Call, new_weaving, woven_by_calls};
+ghost use Rattle.radio_icy.specs.Stream.{IsWoven, AreUntitled, sound_of_calls, parts_of, news_at, titles_sent};
+ghost use Rattle.radio_icy.specs.Unweaving.{Unweaving, new_unweaving, heard, after_feeding, heard_by_pieces, after_pieces};
+ghost use Rattle.radio_icy.specs.Bare.{bare, after_block, block_texts, sound_in, texts_in};
+ghost use Rattle.radio_icy.specs.Titles.{title_of, HasNoUrlInside};
+ghost use Rattle.radio_icy.specs.Cleaning.{cleaned, shown_chars, is_shown};
+
+/// What a weaver writes over a list of calls, from the start of a stream, is woven: the sound of all calls, cut after
+/// each multiple of the interval, with the block of each part. Without any title each block is one zero byte.
+pub fn woven_streams()
+    ensures woven { (n : ℕ) (calls : List Call)
+        → 0 < n → IsWoven n calls (woven_by_calls (new_weaving n) calls) }
+    ensures untitled { (n : ℕ) (calls : List Call) (k : ℕ)
+        → AreUntitled calls → metadata_block (news_at n calls k) ≡ 0 ∷ [] }
+{}
+
+/// The bare sound of a stream, by two cases: all of it, where it has no more than the interval; or else the first
+/// interval, and past a byte q and 16 q bytes the bare sound of the rest.
+pub fn bare_streams()
+    ensures short { (n : ℕ) (out : List ℕ) → length out ≤ n → bare n out ≡ out }
+    ensures long { (n : ℕ) (out : List ℕ)
+        → n < length out → bare n out ≡ take n out ++ bare n (after_block (drop n out)) }
+{}
+
+/// The bare sound of what was woven is the sound that went in, and the texts of its blocks are those of the titles
+/// that were sent.
+pub fn bare_of_woven()
+    ensures sound { (n : ℕ) (calls : List Call) (out : List ℕ)
+        → 0 < n → IsWoven n calls out → bare n out ≡ sound_of_calls calls }
+    ensures texts { (n : ℕ) (calls : List Call) (out : List ℕ)
+        → 0 < n → IsWoven n calls out → block_texts n out ≡ map title_text (titles_sent n calls (parts_of n calls)) }
+{}
+
+/// However a stream is cut into pieces, the same is heard, and the reader stands at the same place after it.
+pub fn cut_streams()
+    ensures heard { (u : Unweaving) (pieces : List (List ℕ))
+        → heard_by_pieces u pieces ≡ heard u (concat pieces) }
+    ensures after { (u : Unweaving) (pieces : List (List ℕ))
+        → after_pieces u pieces ≡ after_feeding u (concat pieces) }
+{}
+
+/// What is heard in a stream from its start is its bare sound and the texts of its blocks.
+pub fn unwoven_streams()
+    ensures sound { (n : ℕ) (out : List ℕ) → sound_in (heard (new_unweaving n) out) ≡ bare n out }
+    ensures texts { (n : ℕ) (out : List ℕ) → texts_in (heard (new_unweaving n) out) ≡ block_texts n out }
+{}
+
+/// The title of the text that was made of a title is that title, unless `';StreamUrl=` stands in it.
+pub fn titles_of_texts()
+    ensures { (title : List ℕ) → HasNoUrlInside title → title_of (title_text title) ≡ Some title }
+{}
+
+/// A cleaned text is UTF-8 of at most n bytes, and is left as it is by cleaning. Its characters are the longest front
+/// of those that may be shown which fits n bytes: no longer front of them does.
+pub fn clean_texts()
+    ensures text { (n : ℕ) (bytes : List ℕ) → IsUtf8 (cleaned n bytes) }
+    ensures fits { (n : ℕ) (bytes : List ℕ) → length (cleaned n bytes) ≤ n }
+    ensures again { (n : ℕ) (bytes : List ℕ) → cleaned n (cleaned n bytes) ≡ cleaned n bytes }
+
+    ensures shown { (n : ℕ) (bytes : List ℕ) → list_all is_shown (chars (cleaned n bytes)) ≡ true }
+    ensures front { (n : ℕ) (bytes : List ℕ)
+        → take (length (chars (cleaned n bytes))) (shown_chars bytes) ≡ chars (cleaned n bytes) }
+    ensures longest { (n : ℕ) (bytes : List ℕ) (k : ℕ)
+        → length (encode_utf8_all (take k (shown_chars bytes))) ≤ n
+        → take k (chars (cleaned n bytes)) ≡ take k (shown_chars bytes) }
+{}

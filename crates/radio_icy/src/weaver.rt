@@ -1,0 +1,136 @@
+//! Sound in, sound with metadata blocks out.
+ghost use Rattle.std.specs.Prelude.{◌≡◌, ◌+◌, ◌<◌, ◌≤◌, ◌++◌, length, take, vec_len, IfOk, IfSome, OnOk, OnErr};
+ghost use Rattle.std.specs.Option.{option_copied};
+ghost use Rattle.radio_icy.specs.Block.{news_of};
+ghost use Rattle.radio_icy.specs.Weaving.{new_weaving, from_place, woven, after_weaving};
+ghost use Rattle.radio_icy.specs.declared.TheConstants.{LONGEST_TITLE};
+
+use crate::block::append_block;
+use crate::texts::copy_of;
+use crate::{LONGEST_TITLE, OutOfMemory};
+use std::alloc::Global;
+use std::marker::Model;
+
+/// Weaves the titles of a stream into its sound, for one listener (ICY convention: `icy-metaint`, `StreamTitle`).
+///
+/// After each interval of sound stands a metadata block. It carries the stream's title, where there is one that differs
+/// from the last one sent through this weaver, or none was sent; else it is one zero byte. The count of the interval
+/// goes on from call to call.
+#[derive(Debug, Drop)]
+pub struct Weaver {
+    alloc: Global,
+    /// Bytes of sound from one block to the next.
+    interval: usize,
+    /// Bytes of sound since the last block.
+    place: usize,
+    /// The last title sent.
+    sent: Option<Vec<u8>>,
+}
+
+impl Model for Weaver {
+    ghost use Rattle.std.specs.Prelude.{◌<◌};
+    ghost use Rattle.std.specs.Option.{option_map};
+    ghost use Rattle.radio_icy.specs.Weaving.{Weaving};
+
+    ghost Value = { Weaving };
+
+    ghost view = { λ a. record { interval = a.interval; place = a.place; sent = option_map (λ v. v.items) a.sent } };
+
+    ghost invariant = { λ a. a.place < a.interval };
+}
+
+impl Weaver {
+    /// A weaver at the start of a stream with a block after each `interval` bytes of sound. It keeps `alloc` for the
+    /// titles that it sends.
+    pub fn new(alloc: Global, interval: usize) -> Weaver
+        requires { 1 ≤ interval }
+        ensures { result ≡ new_weaving interval }
+    {
+        Weaver {
+            alloc,
+            interval,
+            place: 0,
+            sent: None,
+        }
+    }
+
+    /// Appends the bytes of `sound` to `out`, and the block of each interval that ends in them. `title` is the stream's
+    /// title now, of at most [`LONGEST_TITLE`] bytes, or `None` where it has none.
+    ///
+    /// An `Err` means that memory ran out: the weaver and the bytes of `out` are then as they were.
+    pub fn weave(
+        &mut self,
+        sound: &[u8],
+        title: Option<&[u8]>,
+        out: &mut Vec<u8>,
+    ) -> Result<(), OutOfMemory>
+        requires { IfSome title (λ t. length t.now ≤ LONGEST_TITLE) }
+        ensures woven { let title_now = option_copied title.entry in
+            OnOk result (out.new.items ≡ out.old.items ++ woven self.old title_now sound.now) }
+        ensures after { let title_now = option_copied title.entry in
+            OnOk result (self.new ≡ after_weaving self.old title_now sound.now) }
+
+        // A refused call changes neither the weaver nor what was written.
+        ensures err { OnErr result (self.new ≡ self.old) }
+        ensures out_err { OnErr result (out.new.items ≡ out.old.items) }
+    {
+        let news = self.news_of(title);
+        let is_due = self.interval - self.place <= sound.len();
+        let due = if is_due { news } else { None };
+        let sent = copy_of(self.alloc, due)?;
+        let start = out.len();
+        match append_woven(self.interval, self.place, sound, news, out) {
+            Ok(place) => {
+                self.place = place;
+                self.sent = sent.or(self.sent.take());
+                Ok(())
+            }
+            Err(e) => {
+                out.truncate(start);
+                Err(e)
+            }
+        }
+    }
+
+    // The title that the next block carries.
+    fn news_of<'t>(&self, title: Option<&'t [u8]>) -> Option<&'t [u8]>
+        ensures { option_copied result ≡ news_of (option_copied title.entry) self.now.sent }
+    {
+        let title = title?;
+        match &self.sent {
+            Some(sent) if title == sent.as_slice() => None,
+            _ => Some(title),
+        }
+    }
+}
+
+// Weaves from a place in the interval, with a title that is to be sent, and gives the place after it.
+fn append_woven(
+    interval: usize,
+    place: usize,
+    sound: &[u8],
+    news: Option<&[u8]>,
+    out: &mut Vec<u8>,
+) -> Result<usize, OutOfMemory>
+    requires inside { place < interval }
+    requires fits { IfSome news (λ t. length t.now ≤ LONGEST_TITLE) }
+    ensures woven { let start = from_place interval place in
+        OnOk result (out.new.items ≡ out.old.items ++ woven start (option_copied news.entry) sound.now) }
+    ensures place { let start = from_place interval place in
+        IfOk result (λ after. after ≡ (after_weaving start (option_copied news.entry) sound.now).place) }
+    ensures err { OnErr result (take (vec_len out.old) out.new.items ≡ out.old.items) }
+{
+    let mut place = place;
+    let mut news = news;
+    let mut rest = sound;
+    'intervals: while interval - place <= rest.len() {
+        let (part, later) = rest.split_at(interval - place);
+        out.extend_from_slice(part)?;
+        append_block(news, out)?;
+        place = 0;
+        news = None;
+        rest = later;
+    }
+    out.extend_from_slice(rest)?;
+    Ok(place + rest.len())
+}
