@@ -1,0 +1,11 @@
+use Rattle.std.proofs.Common.{◌≡◌, ◌+◌, ◌-◌, ◌≤◌, length, drop}
+use Rattle.std.specs.List.{prefix_len}
+use Rattle.radio_addr.specs.Lists.{is_blank}
+use Rattle.radio_addr.proofs.lines.blanks_in_front.Given as goal
+
+abbrev pub invariant-loop-n : goal.invariant-loop-n
+invariant-loop-n l =
+    (l.n ≤ length l.text) × (l.n + prefix_len is_blank (drop l.n l.text) ≡ prefix_len is_blank l.text)
+
+abbrev pub decreases-loop-n : goal.decreases-loop-n
+decreases-loop-n l = length l.text - l.n

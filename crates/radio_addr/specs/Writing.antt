@@ -1,0 +1,27 @@
+-- How a peer is written.
+use Rattle.std.specs.Prelude.{◌≢◌, ℕ, false, ◌-◌, ◌*◌, ◌/◌, ◌%◌, ◌^◌, ◌<◌, List, ◌∷◌, ◌++◌}
+use Rattle.std.specs.Fmt.{decimal, digits}
+use Rattle.radio_addr.specs.declared.peer.Peer.{Peer}
+use Rattle.radio_addr.specs.declared.peer.Peer.TheVariants.{V4, V6}
+
+-- the k-th 16-bit group of an IPv6 address, from 0
+abbrev pub group_at : ℕ → ℕ → ℕ
+group_at n k = n / 2 ^ (16 * (7 - k)) % 65536
+
+-- a group in lower hexadecimal with no needless zeros
+abbrev pub hexadecimal : ℕ → List ℕ
+hexadecimal group = digits 16 false group
+
+-- a dotted quad, or eight groups with colons between them
+abbrev pub written : Peer → List ℕ
+written (V4 n) =
+    decimal (n / 2 ^ 24) ++ (46 ∷ (decimal (n / 2 ^ 16 % 256) ++ (46 ∷ (decimal (n / 2 ^ 8 % 256) ++ (46 ∷ decimal (n % 256))))))
+written (V6 n) =
+    hexadecimal (group_at n 0) ++ (58 ∷ (hexadecimal (group_at n 1) ++ (58 ∷ (hexadecimal (group_at n 2) ++ (58 ∷
+    (hexadecimal (group_at n 3) ++ (58 ∷ (hexadecimal (group_at n 4) ++ (58 ∷ (hexadecimal (group_at n 5) ++ (58 ∷
+    (hexadecimal (group_at n 6) ++ (58 ∷ hexadecimal (group_at n 7))))))))))))))
+
+-- a peer as one is read: its number fits, and it is no IPv4-mapped IPv6 address
+abbrev pub IsPeer : Peer → Type 0
+IsPeer (V4 n) = n < 2 ^ 32
+IsPeer (V6 n) = (n < 2 ^ 128) × (n / 2 ^ 32 ≢ 0xffff)

@@ -1,0 +1,20 @@
+//! Addresses of peers, and lists of addresses.
+//!
+//! - [`Peer`] is the address of a connection's other end, and [`read_peer`] reads one. Its `Display` writes it so that
+//!   it is read back as the same peer ([`written_peers`]).
+//! - [`AddressList`] is a list of addresses, one a line, that a server denies or allows.
+#![tactic(auto)]
+
+mod cuts;
+mod groups;
+mod lines;
+mod lists;
+mod numbers;
+mod peer;
+mod quad;
+#[cfg(test)]
+mod tests;
+
+pub use lines::AddressRange;
+pub use lists::{AddressList, ListFault, whole_families};
+pub use peer::{Peer, read_peer, written_peers};

@@ -1,0 +1,121 @@
+//! The lines of address lists.
+ghost use Rattle.std.specs.Prelude.{◌≡◌, ◌≤◌, ◌+◌, length};
+ghost use Rattle.std.specs.List.{prefix_len, suffix_len};
+ghost use Rattle.radio_addr.specs.Lists.{is_blank, without_return, without_blanks, width_of, range_of, line_of};
+
+use crate::cuts::cut;
+use crate::numbers::read_number;
+use crate::peer::{Peer, read_address};
+
+/// The addresses that agree with `address` in its first `bits` bits.
+#[derive(Debug, Clone, Copy, PartialEq, Eq)]
+pub struct AddressRange {
+    /// The address that others are compared with.
+    pub address: Peer,
+    /// How many bits count, to 32 or 128.
+    pub bits: u32,
+}
+
+/// What a line of an address list says.
+#[derive(Debug, Clone, Copy)]
+pub enum Line {
+    /// Nothing: it is empty, or a comment.
+    Passed,
+    /// That these addresses are listed.
+    Listed(AddressRange),
+    /// It is of no known form.
+    Bad,
+}
+
+/// What a line says.
+#[tactic(auto, unfolding(crate::specs::Lists::line_of))]
+pub fn read_line(line: &[u8]) -> Line
+    ensures { result ≡ line_of line.now }
+{
+    let text = trimmed(cut_return(line));
+    if text.is_empty() || text[0] == b'#' {
+        return Line::Passed;
+    }
+    match read_range(text) {
+        Some(range) => Line::Listed(range),
+        None => Line::Bad,
+    }
+}
+
+#[tactic(auto, unfolding(crate::specs::Lists::range_of))]
+fn read_range(text: &[u8]) -> Option<AddressRange>
+    ensures { result ≡ range_of text.now }
+{
+    match cut(text, b'/') {
+        None => {
+            let address = read_address(text)?;
+            let bits = width(address);
+            Some(AddressRange { address, bits })
+        }
+        Some((front, back)) => {
+            let address = read_address(front)?;
+            let bits = read_number(back, 10, width(address))?;
+            Some(AddressRange { address, bits })
+        }
+    }
+}
+
+/// How many bits an address has.
+fn width(address: Peer) -> u32
+    ensures { result ≡ width_of address }
+{
+    match address {
+        Peer::V4(_) => 32,
+        Peer::V6(_) => 128,
+    }
+}
+
+#[tactic(auto, unfolding(crate::specs::Lists::without_return))]
+fn cut_return(line: &[u8]) -> &[u8]
+    ensures { result.now ≡ without_return line.now }
+{
+    if line.is_empty() {
+        return line;
+    }
+    let last = line.len() - 1;
+    if line[last] == b'\r' {
+        return &line[..last];
+    }
+    line
+}
+
+#[tactic(auto, unfolding(crate::specs::Lists::without_blanks))]
+fn trimmed(text: &[u8]) -> &[u8]
+    ensures { result.now ≡ without_blanks text.now }
+{
+    let (_, rest) = text.split_at(blanks_in_front(text));
+    let (front, _) = rest.split_at(len_without_blanks(rest));
+    front
+}
+
+fn blanks_in_front(text: &[u8]) -> usize
+    ensures value { result ≡ prefix_len is_blank text.now }
+    ensures fits { result ≤ length text.now }
+{
+    let mut n = 0;
+    while n < text.len() && is_blank(text[n]) {
+        n += 1;
+    }
+    n
+}
+
+fn len_without_blanks(text: &[u8]) -> usize
+    ensures { result + suffix_len is_blank text.now ≡ length text.now }
+{
+    let mut n = text.len();
+    while n > 0 && is_blank(text[n - 1]) {
+        n -= 1;
+    }
+    n
+}
+
+fn is_blank(b: u8) -> bool
+    ensures { result ≡ is_blank b }
+{
+    b == b' ' || b == b'\t'
+}
