@@ -1,3 +1,10 @@
 pub mod NameLemmas
 pub mod ListLemmas
 pub mod SeatLemmas
+pub mod DenialLemmas
+pub mod CaseLemmas
+pub mod FindLemmas
+pub mod SoundLemmas
+pub mod AccessLemmas
+pub mod FinishLemmas
+pub mod AdmissionLemmas

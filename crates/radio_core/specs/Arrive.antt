@@ -1,4 +1,4 @@
-use Rattle.std.specs.Prelude.{ℕ, ◌+◌, [], ◌∷◌, ◌++◌}
+use Rattle.std.specs.Prelude.{◌+◌, [], ◌∷◌, ◌++◌}
 use Rattle.radio_policy.specs.Table.{arrive_rows}
 use Rattle.radio_policy.specs.Verdicts.{verdict_in}
 use Rattle.radio_core.specs.declared.event.Reply.TheVariants.{Arrived}

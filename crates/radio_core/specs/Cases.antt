@@ -1,5 +1,4 @@
 use Rattle.std.specs.Prelude.{ℕ, List}
-use Rattle.radio_policy.specs.declared.rule.Rule.{Rule}
 use Rattle.radio_policy.specs.declared.judgement.Verdict.{Verdict}
 use Rattle.radio_policy.specs.declared.judgement.Verdict.TheVariants.{Allow, Deny as Denied}
 use Rattle.radio_core.specs.declared.clients.ClientState.TheVariants.{Answered}
@@ -7,7 +6,7 @@ use Rattle.radio_core.specs.declared.event.Reply.{Reply}
 use Rattle.radio_core.specs.declared.event.Reply.TheVariants.{Deny, Finished, Stray}
 use Rattle.radio_core.specs.declared.peer.Peer.{Peer}
 use Rattle.radio_core.specs.declared.standing.Standing.{Standing}
-use Rattle.radio_core.specs.declared.standing.Standing.TheVariants.{Unknown, Undecided, Feeds, Sits, Answered as IsAnswered, Finished as HasFinished}
+use Rattle.radio_core.specs.declared.standing.Standing.TheVariants.{Undecided, Feeds, Sits, Finished as HasFinished}
 use Rattle.radio_core.specs.Clients.{in_state}
 use Rattle.radio_core.specs.World.{World, standing_of}
 

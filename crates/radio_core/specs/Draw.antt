@@ -1,4 +1,4 @@
-use Rattle.std.specs.Prelude.{ℕ, ◌+◌, List, length, Option, Some, None}
+use Rattle.std.specs.Prelude.{ℕ, ◌+◌, length, Option, Some, None}
 use Rattle.radio_core.specs.declared.event.Reply.TheVariants.{Drawn, Stray}
 use Rattle.radio_core.specs.declared.live.Session.{Session}
 use Rattle.radio_core.specs.declared.seats.Seat.{Seat}

@@ -17,3 +17,10 @@ pub mod Draw
 pub mod Leave
 pub mod Step
 pub mod Shown
+pub mod Run
+pub mod Denials
+pub mod Open
+pub mod Sound
+pub mod Access
+pub mod Finishes
+pub mod Admission

@@ -1,4 +1,4 @@
-use Rattle.std.proofs.Common.{◌≡◌, ℕ, ◌-◌, ◌≤◌, List, ◌++◌, length, take, replicate, ap, sym, ◌∙◌, arith}
+use Rattle.std.proofs.Common.{◌≡◌, ℕ, ◌-◌, List, ◌++◌, length, take, replicate, ap, sym, arith}
 use Rattle.std.proofs.lemmas.List.{length-take-le}
 use Rattle.radio_core.specs.declared.mount_name.MountName.TheInside.{Inside}
 use Rattle.radio_core.specs.MountName.{IsPadded}

@@ -1,4 +1,4 @@
-use Rattle.std.specs.Prelude.{ℕ, ◌+◌, ◌-◌, nat_le, List, [], ◌∷◌, ◌++◌, length, take, drop, find, unwrap_or}
+use Rattle.std.specs.Prelude.{ℕ, ◌-◌, nat_le, List, [], ◌∷◌, ◌++◌, length, take, drop, find, unwrap_or}
 
 -- the data of a session: all its bytes from its first block on, and the places where blocks start
 pub record WholeStream : Type 0 where

@@ -3,6 +3,7 @@
 //! - [`Core`]: the state; [`Core::step`] is one event.
 //! - [`Event`], [`Reply`]: what happens to the server, and what it replies.
 //! - [`MountName`], [`Peer`], [`Settings`], [`Shown`], [`Text`]: the plain values of both.
+//! - [`access_is_kept`] and the other functions of `laws`: what holds of every run of events.
 //!
 //! The state is kept by parts: the clients, the seats of those who listen, and the live mounts'
 //! sessions with their streams. Each event has a file of its own under `server`.
@@ -10,6 +11,7 @@
 
 mod clients;
 mod event;
+mod laws;
 mod live;
 mod mount_name;
 mod peer;
@@ -19,9 +21,14 @@ mod settings;
 mod shown;
 mod standing;
 mod stream;
+#[cfg(test)]
+mod tests;
 mod text;
 
 pub use event::{Event, Reply};
+pub use laws::{
+    access_is_kept, denials_are_the_policys, finished_are_told, listeners_begin_at_a_block,
+};
 pub use mount_name::{MAX_MOUNT_NAME, MountName};
 pub use peer::Peer;
 pub use server::Core;

@@ -1,0 +1,6 @@
+use Rattle.radio_core.specs.Run.{run_after}
+use Rattle.radio_core.proofs.DenialLemmas.{denials_hold}
+use Rattle.radio_core.proofs.laws.denials_are_the_policys.Goals as goal
+
+pub returns : goal.returns
+returns c = record { denied = λ settings events event. denials_hold (run_after settings events) event }

@@ -1,0 +1,23 @@
+use Rattle.std.specs.Prelude.{List, [], ◌∷◌}
+use Rattle.radio_core.specs.declared.event.Event.{Event}
+use Rattle.radio_core.specs.declared.event.Reply.{Reply}
+use Rattle.radio_core.specs.declared.settings.Settings.{Settings}
+use Rattle.radio_core.specs.World.{World, opening}
+use Rattle.radio_core.specs.Step.{outcome}
+
+-- the reply to an event in this state
+abbrev pub reply_to : World → Event → Reply
+reply_to w event = (outcome w event).reply
+
+-- the state after an event
+abbrev pub world_after : World → Event → World
+world_after w event = (outcome w event).world
+
+-- the state after events, in their order
+abbrev pub world_after_all : World → List Event → World
+world_after_all w [] = w
+world_after_all w (event ∷ events) = world_after_all (world_after w event) events
+
+-- the state after these events from the opening state: every state of every run is one of them
+abbrev pub run_after : Settings → List Event → World
+run_after settings events = world_after_all (opening settings) events

@@ -1,0 +1,35 @@
+//! The laws of every run: each holds after every list of events from the opening state, over the
+//! definitions that `Core::step` follows.
+
+ghost use Rattle.std.specs.Prelude.{List};
+ghost use Rattle.radio_core.specs.declared.event.Event.{Event};
+ghost use Rattle.radio_core.specs.declared.settings.Settings.{Settings};
+ghost use Rattle.radio_core.specs.Run.{run_after};
+ghost use Rattle.radio_core.specs.Access.{AccessIsKept};
+ghost use Rattle.radio_core.specs.Admission.{BeginsAtABlock};
+ghost use Rattle.radio_core.specs.Denials.{DenialsAreThePolicys};
+ghost use Rattle.radio_core.specs.Finishes.{FinishedAreTold};
+
+/// The law of denials.
+pub fn denials_are_the_policys()
+    // whatever has happened, what is denied is what the policy denies then, by its first rule, and nothing has changed but that an undecided client has had his answer
+    ensures denied { (settings : Settings) (events : List Event) (event : Event) → DenialsAreThePolicys (run_after settings events) event }
+{}
+
+/// The law of denials, for those who are told that they were finished.
+pub fn finished_are_told()
+    // whoever is told that he was finished by a rule was finished by that rule: an earlier event ended the session of the mount where he had a seat
+    ensures finished { (settings : Settings) (events : List Event) (event : Event) → FinishedAreTold settings events event }
+{}
+
+/// The law of access.
+pub fn access_is_kept()
+    // whatever has happened, data is handed out to a draw alone, and it stands at the listener's place in the stream of the mount where his seat is, which is open to him
+    ensures access { (settings : Settings) (events : List Event) (event : Event) → AccessIsKept (run_after settings events) event }
+{}
+
+/// The law of admission.
+pub fn listeners_begin_at_a_block()
+    // whatever has happened, only who asks to hear a mount is seated, in the session that the mount has then, and he begins where one of its blocks starts, or at its end
+    ensures seated { (settings : Settings) (events : List Event) (event : Event) → BeginsAtABlock (run_after settings events) event }
+{}
