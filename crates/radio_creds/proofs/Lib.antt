@@ -1,0 +1,6 @@
+pub mod PositionLemmas
+pub mod ColonLemmas
+pub mod AuthorizationLemmas
+pub mod ListedLemmas
+pub mod LinesLemmas
+pub mod LawLemmas

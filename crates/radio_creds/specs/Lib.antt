@@ -1,0 +1,4 @@
+pub mod Credentials
+pub mod Authorization
+pub mod UserLine
+pub mod UserList

@@ -1,0 +1,58 @@
+//! A user and a password.
+ghost use Rattle.std.specs.Prelude.{◌≡◌};
+ghost use Rattle.radio_creds.specs.Credentials.{credentials_of};
+
+use crate::colon::first_colon;
+use std::fmt;
+use std::marker::Model;
+
+/// A user and a password, as bytes: who asks, and what shows that it is them.
+#[derive(Drop)]
+pub struct Pair {
+    text: Vec<u8>,
+    colon: usize,
+}
+
+impl Model for Pair {
+    ghost use Rattle.std.specs.Prelude.{◌+◌, ◌<◌, length, take, drop};
+    ghost use Rattle.radio_creds.specs.Credentials.{Credentials};
+
+    ghost Value = { Credentials };
+
+    ghost view = { λ a. record { user = take a.colon a.text.items; password = drop (a.colon + 1) a.text.items } };
+
+    ghost invariant = { λ a. a.colon < length a.text.items };
+}
+
+impl Pair {
+    /// The pair of a text `user:password`, which is cut at its first colon. `None` where it has no colon.
+    pub(crate) fn of_text(text: Vec<u8>) -> Option<Pair>
+        ensures { result ≡ credentials_of text.items }
+    {
+        let colon = first_colon(text.as_slice())?;
+        Some(Pair { text, colon })
+    }
+
+    /// The user. It may be empty, and need not be text in UTF-8.
+    pub fn user(&self) -> &[u8]
+        ensures { result.now ≡ self.now.user }
+    {
+        let (user, _) = self.text.as_slice().split_at(self.colon);
+        user
+    }
+
+    /// The password. It may be empty, have colons, and need not be text in UTF-8.
+    pub fn password(&self) -> &[u8]
+        ensures { result.now ≡ self.now.password }
+    {
+        let (_, password) = self.text.as_slice().split_at(self.colon + 1);
+        password
+    }
+}
+
+/// Shows neither the user nor the password.
+impl fmt::Debug for Pair {
+    fn fmt<W: fmt::Write>(&self, f: &mut fmt::Formatter<W>) -> fmt::Result {
+        f.write_str("Pair { .. }")
+    }
+}

@@ -1,0 +1,127 @@
+//! User lists.
+ghost use Rattle.std.specs.Prelude.{◌≡◌, ◌↔◌, IsTrue, IfOk, OnOk};
+ghost use Rattle.std.specs.FinMap as finite;
+ghost use Rattle.std.specs.List.{position};
+ghost use Rattle.std.specs.Option.{option_copied};
+ghost use Rattle.radio_creds.specs.UserLine.{user_line};
+ghost use Rattle.radio_creds.specs.UserList.{Accepts, has_user, is_line_feed, users_of, with_line, without_return};
+
+use crate::OutOfMemory;
+use crate::digest::{PasswordDigest, is_same_digest};
+use crate::pair::Pair;
+use crate::user_line::user_line;
+use md5::{Digest, Md5};
+use std::alloc::Global;
+use std::collections::BTreeMap;
+use std::fmt;
+use std::marker::Model;
+
+/// The users that are let in, each with the MD5 digest (RFC 1321) of the password.
+///
+/// A look-up takes a number of steps that grows with the logarithm of the number of users.
+#[derive(Drop)]
+pub struct Users {
+    digests: BTreeMap<Vec<u8>, PasswordDigest>,
+}
+
+impl Model for Users {
+    ghost use Rattle.std.specs.Prelude.{ℕ, List};
+    ghost use Rattle.std.specs.Coded.{coded_ℕ, coded_list};
+    ghost use Rattle.std.specs.FinMap as finite;
+    ghost use Rattle.radio_creds.specs.UserList.{UserList, listed};
+
+    ghost Value = { UserList };
+
+    ghost coded = { finite.code (coded_list coded_ℕ) (coded_list coded_ℕ) };
+
+    ghost view = { λ a. finite.from_entries (listed (λ key. key.items) a.digests.entries) };
+}
+
+impl Users {
+    /// Reads a user list: lines `user:digest`, the digest in 32 hexadecimal digits of either case.
+    ///
+    /// A line feed ends a line, and a carriage return before it is dropped; the last line may lack the line feed. The
+    /// user is what stands before the first colon, and may be empty. Empty lines, lines that begin with `#` and lines
+    /// of another form are passed over. Where a user has several lines, the first one counts.
+    ///
+    /// `Err` where there is no memory for the list.
+    pub fn read(alloc: Global, bytes: &[u8]) -> Result<Users, OutOfMemory>
+        ensures { IfOk result (λ users. users ≡ users_of bytes.now) }
+    {
+        let mut users = Users {
+            digests: BTreeMap::new(alloc),
+        };
+        let mut rest = bytes;
+        while let Some(end) = first_line_feed(rest) {
+            let (line, _) = rest.split_at(end);
+            let (_, after) = rest.split_at(end + 1);
+            users.add_line(alloc, without_return(line))?;
+            rest = after;
+        }
+        users.add_line(alloc, rest)?;
+        Ok(users)
+    }
+
+    /// Whether the first well-formed line of the pair's user has the digest of the pair's password.
+    ///
+    /// It takes no memory. The two digests are compared in the same number of steps wherever they differ.
+    pub fn accepts(&self, pair: &Pair) -> bool
+        ensures { IsTrue result ↔ Accepts self.now pair.now }
+    {
+        match self.digest_of(pair.user()) {
+            Some(digest) => is_same_digest(digest, &Md5::digest(pair.password())),
+            None => false,
+        }
+    }
+
+    /// Whether some well-formed line has the user.
+    pub fn has(&self, user: &[u8]) -> bool
+        ensures { result ≡ has_user self.now user.now }
+    {
+        self.digest_of(user).is_some()
+    }
+
+    fn digest_of(&self, user: &[u8]) -> Option<&PasswordDigest>
+        ensures { option_copied result ≡ finite.get self.now user.now }
+    {
+        self.digests.get(user)
+    }
+
+    /// Adds the user of a line, if it has one and the list has not.
+    fn add_line(&mut self, alloc: Global, line: &[u8]) -> Result<(), OutOfMemory>
+        ensures { OnOk result (self.new ≡ with_line self.old (user_line line.now)) }
+    {
+        let Some(listed) = user_line(line) else {
+            return Ok(());
+        };
+        let (user, digest) = listed;
+        if self.has(user) {
+            return Ok(());
+        }
+        let user = Vec::from_slice(alloc, user)?;
+        self.digests.insert(user, digest)?;
+        Ok(())
+    }
+}
+
+/// Shows neither users nor digests.
+impl fmt::Debug for Users {
+    fn fmt<W: fmt::Write>(&self, f: &mut fmt::Formatter<W>) -> fmt::Result {
+        f.write_str("Users { .. }")
+    }
+}
+
+fn first_line_feed(text: &[u8]) -> Option<usize>
+    ensures { result ≡ position is_line_feed text.now }
+{
+    text.iter().position(|b| *b == b'\n')
+}
+
+fn without_return(line: &[u8]) -> &[u8]
+    ensures { result.now ≡ without_return line.now }
+{
+    match line {
+        [front @ .., b'\r'] => front,
+        _ => line,
+    }
+}
