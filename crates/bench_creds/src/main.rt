@@ -97,7 +97,11 @@ fn count_accepted(users: &Users, pair: &Pair, times: usize, rounds: u32) -> u64 
 
 fn write_ratio(rt: &impl Print, what: &str, few: Duration, many: Duration) -> Result<()> {
     let percent = micros(many).saturating_mul(100) / micros(few);
-    println!(rt; "  {what}: {} ns with 10 users, {} ns with 10000, {percent} %", micros(few) / 1000, micros(many) / 1000)?;
+    println!(rt;
+        "  {what}: {} ns with 10 users, {} ns with 10000, {percent} %",
+        micros(few) / 1000,
+        micros(many) / 1000
+    )?;
     Ok(())
 }
 

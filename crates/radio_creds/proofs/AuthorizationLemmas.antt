@@ -1,6 +1,6 @@
 -- The scheme, the spaces and the base64 of a value.
-use Rattle.std.proofs.Common.{◌≡◌, ℕ, suc, zero, ◌+◌, ◌/◌, ◌<◌, ◌≤◌, Bool, true, false, cond, List, [], ◌∷◌, ◌++◌, length, take, drop, replicate, get_or, eqb, Option, None, Some, refl, sym, ap, subst, ◌∙◌, ⊎_elim, arith, map}
-use Rattle.std.specs.Prelude.{codes, ◌≢◌, ◌&&◌, ◌||◌}
+use Rattle.std.proofs.Common.{◌≡◌, ℕ, suc, zero, ◌/◌, ◌<◌, Bool, true, false, cond, List, [], ◌∷◌, ◌++◌, length, take, drop, replicate, get_or, eqb, Option, None, Some, refl, sym, ap, subst, ◌∙◌, ⊎_elim, arith, map}
+use Rattle.std.specs.Prelude.{codes, ◌&&◌, ◌||◌}
 use Rattle.std.specs.Char.{to_ascii_lowercase}
 use Rattle.std.specs.List.{list_any}
 use Rattle.std.specs.Option.{is_some, unwrap_or, option_and_then}
@@ -12,7 +12,7 @@ use Rattle.std.proofs.lemmas.List.{take-append-drop, length-map, get_or_past}
 use Rattle.std.proofs.Math.Seq.{take-append_seam, drop-append_seam, drop-cons, get_or-append_seam}
 use Rattle.base64.specs.Engines.{standard}
 use Rattle.base64.specs.Rfc4648.{encode_symbols}
-use Rattle.base64.specs.GeneralPurpose.{encode_of, engine_symbols, decode_of, decoded_of, IsBytes}
+use Rattle.base64.specs.GeneralPurpose.{encode_of, engine_symbols, decoded_of, IsBytes}
 use Rattle.base64.proofs.EngineFacts.{decode_of-encode_of}
 use Rattle.base64.proofs.Streams.{decoded_of-ok}
 use Rattle.radio_creds.specs.Credentials.{Credentials, colon, credentials_of}

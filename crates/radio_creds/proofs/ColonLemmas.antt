@@ -1,5 +1,5 @@
 -- A text cut at its first colon.
-use Rattle.std.proofs.Common.{◌≡◌, ℕ, suc, add-one, ◌+◌, ◌<◌, ◌≤◌, Bool, true, false, cond, List, [], ◌∷◌, ◌++◌, length, take, drop, get_or, ltb, Option, None, Some, refl, sym, ap, subst, ◌∙◌, arith, rules, eqb}
+use Rattle.std.proofs.Common.{◌≡◌, ℕ, suc, add-one, ◌+◌, ◌<◌, false, cond, List, ◌∷◌, ◌++◌, length, take, drop, get_or, ltb, None, Some, refl, sym, ap, subst, ◌∙◌, arith, rules}
 use Rattle.std.specs.List.{position, position_or_len, Contains}
 use Rattle.std.specs.Option.{option_map, is_some, unwrap_or}
 use Rattle.std.proofs.lemmas.Bool.{false≢true}

@@ -1,15 +1,15 @@
 -- The lines of a text, taken one after another.
-use Rattle.std.proofs.Common.{◌≡◌, ℕ, ◌+◌, ◌<◌, Bool, true, false, cond, List, [], ◌∷◌, length, take, drop, Option, None, Some, refl, sym, ap, subst, ◌∙◌, arith}
+use Rattle.std.proofs.Common.{◌≡◌, ℕ, ◌+◌, ◌<◌, Bool, true, false, cond, List, [], ◌∷◌, length, take, drop, Option, None, Some, refl, sym, ap, ◌∙◌, arith}
 use Rattle.std.specs.Ordering.{nat_cmp, is_eq}
 use Rattle.std.specs.Option.{is_some}
 use Rattle.std.specs.Cmp.Lexicographic.{slice_cmp, nat_list_cmp_total}
 use Rattle.std.specs.FinMap as finite
-use Rattle.std.specs.FinMap.{get-from_entries, get-insert, get-empty, get_tied, find, same_map, nat_cmp-IsAntisymmetric, slice_cmp-IsAntisymmetric}
+use Rattle.std.specs.FinMap.{get-from_entries, get-insert, get-empty, get_tied, find, same_map}
 use Rattle.std.specs.List.{position, slice_split, filter_map, cons_option}
 use Rattle.std.proofs.lemmas.Bool.{false≢true}
 use Rattle.std.proofs.lemmas.List.Splits.{length-slice_split}
 use Rattle.radio_creds.specs.UserLine.{user_line}
-use Rattle.radio_creds.specs.UserList.{UserList, with_line, lines_of, ended_lines, is_line_feed, without_return, user_lines, users_of}
+use Rattle.radio_creds.specs.UserList.{UserList, with_line, lines_of, ended_lines, is_line_feed, without_return}
 use Rattle.radio_creds.proofs.PositionLemmas.{split-position, split-no_position}
 use Rattle.radio_creds.proofs.ListedLemmas.{order, same_user, equal}
 

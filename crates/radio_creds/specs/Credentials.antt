@@ -1,5 +1,5 @@
 -- A user and a password, and the text that has both.
-use Rattle.std.specs.Prelude.{◌≡◌, ℕ, ◌+◌, ◌==◌, Bool, List, take, drop, Option}
+use Rattle.std.specs.Prelude.{ℕ, ◌+◌, ◌==◌, Bool, List, take, drop, Option}
 use Rattle.std.specs.List.{position}
 use Rattle.std.specs.Option.{option_map}
 

@@ -1,6 +1,5 @@
 use Rattle.std.proofs.Common.{◌≡◌, None, Some, sym, ap, ◌∙◌}
-use Rattle.std.specs.Option.{option_copied, option_map, option_and_then}
-use Rattle.radio_creds.specs.Credentials.{credentials_of}
+use Rattle.std.specs.Option.{option_copied, option_map}
 use Rattle.radio_creds.specs.Authorization.{basic_pair}
 use Rattle.radio_creds.proofs.AuthorizationLemmas.{basic_pair-no_text, basic_pair-text, none-exact, found-exact}
 use Rattle.radio_creds.proofs.authorization.basic.Goals as goal

@@ -1,4 +1,4 @@
-use Rattle.std.proofs.Common.{◌≡◌, ℕ, sym, ap, ◌∙◌, get_or, drop, map, take, arith, Some}
+use Rattle.std.proofs.Common.{◌≡◌, sym, ap, ◌∙◌, get_or, map, take, arith, Some}
 use Rattle.std.specs.Prelude.{codes}
 use Rattle.std.specs.Char.{to_ascii_lowercase}
 use Rattle.std.proofs.lemmas.List.{get_or-drop, get_or_past}

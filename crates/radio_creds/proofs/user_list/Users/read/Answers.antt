@@ -1,4 +1,4 @@
-use Rattle.std.proofs.Common.{ap, sym, ◌∙◌, arith}
+use Rattle.std.proofs.Common.{ap, sym, ◌∙◌}
 use Rattle.std.specs.FinMap as finite
 use Rattle.radio_creds.specs.UserList.{listed, lines_of}
 use Rattle.radio_creds.proofs.LinesLemmas.{with_lines, with_lines-empty, lines_of-more, lines_of-last}
