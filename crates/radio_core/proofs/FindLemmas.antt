@@ -44,28 +44,77 @@ module _ {X : Type 0} (p : X → Bool) where
     find_without apart [] = refl
     find_without apart (a ∷ xs) = without_at a xs (q a) refl (apart a) (find_without apart xs)
 
-    -- changing what does not tell in the test changes nothing of it that does not tell in g
-    module _ {Y : Type 0} (f : X → X) (g : X → Y) (same_test : (x : X) → p (f x) ≡ p x) (same_value : (x : X) → g (f x) ≡ g x) where
-      abbrev pub FindsLike : X → List X → Type 0
-      FindsLike x xs = (y : X) × (find p xs ≡ Some y) × (g y ≡ g x)
+-- what a search finds after changes of what it does not look for
 
-      updated_at : (a : X) (xs : List X) (x : X) (b c : Bool) → q a ≡ b → p a ≡ c → (find p xs ≡ Some x → FindsLike x (update_first q f xs)) → find p (a ∷ xs) ≡ Some x → FindsLike x (if b then f a ∷ xs else a ∷ update_first q f xs)
-      updated_at a xs x true true eq ep later h =
-          let here : find p (a ∷ xs) ≡ Some a = find_here a xs ep in
-          let same : a ≡ x = cc in
-          (f a, find_here (f a) xs (same_test a ∙ ep), same_value a ∙ ap g same)
-      updated_at a xs x true false eq ep later h = (x, find_later (f a) xs (same_test a ∙ ep) ∙ sym (find_later a xs ep) ∙ h, refl)
-      updated_at a xs x false true eq ep later h =
-          let here : find p (a ∷ xs) ≡ Some a = find_here a xs ep in
-          let same : a ≡ x = cc in
-          (a, find_here a (update_first q f xs) ep, ap g same)
-      updated_at a xs x false false eq ep later h =
-          let found : FindsLike x (update_first q f xs) = later (sym (find_later a xs ep) ∙ h) in
-          (found.0, find_later a (update_first q f xs) ep ∙ found.1, found.2)
+module _ {X : Type 0} (p q : X → Bool) where
+  -- the first that passes q changes, and none of those is looked for
+  apart_at : (f : X → X) (a : X) (xs : List X) (b : Bool) → q a ≡ b → (q a ≡ true → (p a ≡ false) × (p (f a) ≡ false)) → find p (update_first q f xs) ≡ find p xs → find p (if b then f a ∷ xs else a ∷ update_first q f xs) ≡ find p (a ∷ xs)
+  apart_at f a xs true e apart later = find_later p (f a) xs (apart e).1 ∙ sym (find_later p a xs (apart e).0)
+  apart_at f a xs false e apart later = ap (λ found. if p a then Some a else found) later
 
-      pub find_updated : (xs : List X) (x : X) → find p xs ≡ Some x → FindsLike x (update_first q f xs)
-      find_updated [] x h = cc
-      find_updated (a ∷ xs) x h = updated_at a xs x (q a) (p a) refl refl (find_updated xs x) h
+  pub find_apart : (f : X → X) → ((x : X) → q x ≡ true → (p x ≡ false) × (p (f x) ≡ false)) → (xs : List X) → find p (update_first q f xs) ≡ find p xs
+  find_apart f apart [] = refl
+  find_apart f apart (a ∷ xs) = apart_at f a xs (q a) refl (apart a) (find_apart f apart xs)
+
+  -- the first that passes q changes, and what is looked for changes by R at most
+  module _ (f : X → X) (R : X → X → Type 0) (same_test : (x : X) → p (f x) ≡ p x) (stays : (x : X) → R x x) (changes : (x : X) → R (f x) x) where
+    abbrev pub Finds : X → List X → Type 0
+    Finds x xs = (y : X) × (find p xs ≡ Some y) × R y x
+
+    changed_at : (a : X) (xs : List X) (x : X) (b c : Bool) → q a ≡ b → p a ≡ c → (find p xs ≡ Some x → Finds x (update_first q f xs)) → find p (a ∷ xs) ≡ Some x → Finds x (if b then f a ∷ xs else a ∷ update_first q f xs)
+    changed_at a xs x true true eq ep later h =
+        let here : find p (a ∷ xs) ≡ Some a = find_here p a xs ep in
+        let same : a ≡ x = cc in
+        (f a, find_here p (f a) xs (same_test a ∙ ep), subst (λ (y : X). R (f a) y) same (changes a))
+    changed_at a xs x true false eq ep later h = (x, find_later p (f a) xs (same_test a ∙ ep) ∙ sym (find_later p a xs ep) ∙ h, stays x)
+    changed_at a xs x false true eq ep later h =
+        let here : find p (a ∷ xs) ≡ Some a = find_here p a xs ep in
+        let same : a ≡ x = cc in
+        (a, find_here p a (update_first q f xs) ep, subst (λ (y : X). R a y) same (stays a))
+    changed_at a xs x false false eq ep later h =
+        let found : Finds x (update_first q f xs) = later (sym (find_later p a xs ep) ∙ h) in
+        (found.0, find_later p a (update_first q f xs) ep ∙ found.1, found.2)
+
+    pub find_changed : (xs : List X) (x : X) → find p xs ≡ Some x → Finds x (update_first q f xs)
+    find_changed [] x h = cc
+    find_changed (a ∷ xs) x h = changed_at a xs x (q a) (p a) refl refl (find_changed xs x) h
+
+  -- what is found in a filtered list passes the filter
+  passes_at : (a : X) (xs : List X) (x : X) (b : Bool) → q a ≡ b → (c : Bool) → p a ≡ c → (find p (filter q xs) ≡ Some x → q x ≡ true) → find p (if b then a ∷ filter q xs else filter q xs) ≡ Some x → q x ≡ true
+  passes_at a xs x true e true ep later h = let here : find p (a ∷ filter q xs) ≡ Some a = find_here p a (filter q xs) ep in let same : a ≡ x = cc in ap q (sym same) ∙ e
+  passes_at a xs x true e false ep later h = later (sym (find_later p a (filter q xs) ep) ∙ h)
+  passes_at a xs x false e c ep later h = later h
+
+  pub filter_passes_found : (xs : List X) (x : X) → find p (filter q xs) ≡ Some x → q x ≡ true
+  filter_passes_found [] x h = cc
+  filter_passes_found (a ∷ xs) x h = passes_at a xs x (q a) refl (p a) refl (filter_passes_found xs x) h
+
+  -- what passes the filter is found still
+  kept_at : (a : X) (xs : List X) (x : X) (b c : Bool) → q a ≡ b → p a ≡ c → q x ≡ true → (find p xs ≡ Some x → find p (filter q xs) ≡ Some x) → find p (a ∷ xs) ≡ Some x → find p (if b then a ∷ filter q xs else filter q xs) ≡ Some x
+  kept_at a xs x true true eq ep stays later h = find_here p a (filter q xs) ep ∙ sym (find_here p a xs ep) ∙ h
+  kept_at a xs x true false eq ep stays later h = find_later p a (filter q xs) ep ∙ later (sym (find_later p a xs ep) ∙ h)
+  kept_at a xs x false true eq ep stays later h =
+      let here : find p (a ∷ xs) ≡ Some a = find_here p a xs ep in
+      let same : a ≡ x = cc in
+      let passes : q a ≡ true = ap q same ∙ stays in
+      cc
+  kept_at a xs x false false eq ep stays later h = later (sym (find_later p a xs ep) ∙ h)
+
+  pub find_kept : (xs : List X) (x : X) → q x ≡ true → find p xs ≡ Some x → find p (filter q xs) ≡ Some x
+  find_kept [] x stays h = cc
+  find_kept (a ∷ xs) x stays h = kept_at a xs x (q a) (p a) refl refl stays (find_kept xs x stays) h
+
+-- the first that passes is changed itself
+same_at : {X : Type 0} (p : X → Bool) (f : X → X) (a : X) (xs : List X) (x : X) (b : Bool) → p a ≡ b → p (f a) ≡ p a → (find p xs ≡ Some x → find p (update_first p f xs) ≡ Some (f x)) → find p (a ∷ xs) ≡ Some x → find p (if b then f a ∷ xs else a ∷ update_first p f xs) ≡ Some (f x)
+same_at p f a xs x true e same_test later h =
+    let here : find p (a ∷ xs) ≡ Some a = find_here p a xs e in
+    let same : a ≡ x = cc in
+    find_here p (f a) xs (same_test ∙ e) ∙ ap (λ y. Some (f y)) same
+same_at p f a xs x false e same_test later h = find_later p a (update_first p f xs) e ∙ later (sym (find_later p a xs e) ∙ h)
+
+pub find_same : {X : Type 0} (p : X → Bool) (f : X → X) → ((x : X) → p (f x) ≡ p x) → (xs : List X) (x : X) → find p xs ≡ Some x → find p (update_first p f xs) ≡ Some (f x)
+find_same p f same_test [] x h = cc
+find_same p f same_test (a ∷ xs) x h = same_at p f a xs x (p a) refl (same_test a) (find_same p f same_test xs x) h
 
 -- what holds of all elements, and after a change of the list
 

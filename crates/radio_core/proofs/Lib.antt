@@ -8,3 +8,4 @@ pub mod SoundLemmas
 pub mod AccessLemmas
 pub mod FinishLemmas
 pub mod AdmissionLemmas
+pub mod StretchLemmas

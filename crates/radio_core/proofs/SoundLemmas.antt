@@ -29,7 +29,7 @@ use Rattle.radio_core.specs.Step.{outcome}
 use Rattle.radio_core.specs.Run.{world_after, world_after_all, run_after}
 use Rattle.radio_core.specs.Sound.{IsSound}
 use Rattle.radio_core.proofs.CaseLemmas.{verdict_cases, undecided_cases, feeding_cases, sitting_cases, leaving_cases}
-use Rattle.radio_core.proofs.FindLemmas.{find_before, find_without, find_updated, found_passes, Each_each, Each_kept, Each_without, Each_updated}
+use Rattle.radio_core.proofs.FindLemmas.{find_before, find_without, find_changed, found_passes, Each_each, Each_kept, Each_without, Each_updated}
 
 -- a seat's mount is live in its session
 abbrev OpenIn : List Session → Seat → Type 0
@@ -48,15 +48,15 @@ open_fed live mount block moment seats all =
     let longer = λ (session : Session). record session { stream = with_block session.stream block; last_block = moment } in
     Each_each (OpenIn live) (OpenIn (fed live mount block moment))
     (λ seat h.
-    let found = find_updated (is_of seat.mount) (is_of mount) longer (λ (s : Session). s.number) (λ s. refl) (λ s. refl) live h.0 h.1 in
+    let found = find_changed (is_of seat.mount) (is_of mount) longer (λ (later session : Session). later.number ≡ session.number) (λ s. refl) (λ s. refl) (λ s. refl) live h.0 h.1 in
     (found.0, found.1, found.2 ∙ h.2))
     seats all
 
 -- two names that a session bears are one
-one_name : (a b c : List ℕ) → bytes_eq a b ≡ true → bytes_eq a c ≡ true → bytes_eq c b ≡ true
+pub one_name : (a b c : List ℕ) → bytes_eq a b ≡ true → bytes_eq a c ≡ true → bytes_eq c b ≡ true
 one_name a b c h k = subst (λ (x : List ℕ). bytes_eq x b ≡ true) ((bytes_eq-Decides a c).0 k) h
 
-is_false : (b c : Bool) → (b ≡ true → c ≡ true) → not c ≡ true → b ≡ false
+pub is_false : (b c : Bool) → (b ≡ true → c ≡ true) → not c ≡ true → b ≡ false
 is_false false c follows away = refl
 is_false true c follows away = let t : c ≡ true = follows refl in let f : not true ≡ true = rw t at away in cc
 

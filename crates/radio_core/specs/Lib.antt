@@ -24,3 +24,4 @@ pub mod Sound
 pub mod Access
 pub mod Finishes
 pub mod Admission
+pub mod Stretches

@@ -5,6 +5,7 @@ ghost use Rattle.std.specs.Prelude.{List};
 ghost use Rattle.radio_core.specs.declared.event.Event.{Event};
 ghost use Rattle.radio_core.specs.declared.settings.Settings.{Settings};
 ghost use Rattle.radio_core.specs.Run.{run_after};
+ghost use Rattle.radio_core.specs.Stretches.{StretchesAreWhole};
 ghost use Rattle.radio_core.specs.Access.{AccessIsKept};
 ghost use Rattle.radio_core.specs.Admission.{BeginsAtABlock};
 ghost use Rattle.radio_core.specs.Denials.{DenialsAreThePolicys};
@@ -32,4 +33,10 @@ pub fn access_is_kept()
 pub fn listeners_begin_at_a_block()
     // whatever has happened, only who asks to hear a mount is seated, in the session that the mount has then, and he begins where one of its blocks starts, or at its end
     ensures seated { (settings : Settings) (events : List Event) (event : Event) → BeginsAtABlock (run_after settings events) event }
+{}
+
+/// The law of stretches.
+pub fn stretches_are_whole()
+    // whatever has happened, all that a listener is handed from then on while he keeps his seat is one contiguous slice of one session's data, in order, without gap or repeat: from his place then to his place now
+    ensures stretches { (settings : Settings) (events : List Event) → StretchesAreWhole (run_after settings events) }
 {}
