@@ -9,3 +9,4 @@ pub mod AccessLemmas
 pub mod FinishLemmas
 pub mod AdmissionLemmas
 pub mod StretchLemmas
+pub mod StandingLemmas
