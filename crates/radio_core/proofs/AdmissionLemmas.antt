@@ -25,29 +25,15 @@ use Rattle.radio_core.specs.Draw.{hands_out, hands_out_at}
 use Rattle.radio_core.specs.Step.{outcome}
 use Rattle.radio_core.specs.Admission.{IsBlockStart, IsSeated, BeginsAtABlock}
 use Rattle.radio_core.proofs.CaseLemmas.{verdict_cases, undecided_cases, feeding_cases, sitting_cases, leaving_cases}
-use Rattle.radio_core.proofs.FindLemmas.{Has_found, find_here, find_later, found_passes}
-
--- a seat that was put in its place is found by its number
-found_at_its_place : (seat other : Seat) (others : List Seat) (b : Bool) → nat_lt other.id seat.id ≡ b → find (λ (x : Seat). has_id x.id seat.id) (inserted seat others) ≡ Some seat → find (λ (x : Seat). has_id x.id seat.id) (if b then other ∷ inserted seat others else seat ∷ other ∷ others) ≡ Some seat
-found_at_its_place seat other others true e later =
-    let apart : has_id other.id seat.id ≡ false = grind (arith, nat_tests) in
-    find_later (λ (x : Seat). has_id x.id seat.id) other (inserted seat others) apart ∙ later
-found_at_its_place seat other others false e later =
-    let his : has_id seat.id seat.id ≡ true = grind (arith, nat_tests) in
-    find_here (λ (x : Seat). has_id x.id seat.id) seat (other ∷ others) his
-
-found_inserted : (seat : Seat) (seats : List Seat) → find (λ (x : Seat). has_id x.id seat.id) (inserted seat seats) ≡ Some seat
-found_inserted seat [] =
-    let his : has_id seat.id seat.id ≡ true = grind (arith, nat_tests) in
-    find_here (λ (x : Seat). has_id x.id seat.id) seat [] his
-found_inserted seat (other ∷ others) = found_at_its_place seat other others (nat_lt other.id seat.id) refl (found_inserted seat others)
+use Rattle.radio_core.proofs.FindLemmas.{Has_found, found_passes}
+use Rattle.radio_core.proofs.SeatLemmas.{found_inserted}
 
 -- where a new listener begins, a block starts
 start_found : (stream : WholeStream) (near : ℕ → Bool) (found : Option ℕ) → find near stream.starts ≡ found → IsBlockStart stream (unwrap_or found (end_of stream))
 start_found stream near None e = inr refl
 start_found stream near (Some start) e = inl (Has_found near start stream.starts e)
 
-begins_at_a_start : (stream : WholeStream) (burst : ℕ) → IsBlockStart stream (burst_start stream burst)
+pub begins_at_a_start : (stream : WholeStream) (burst : ℕ) → IsBlockStart stream (burst_start stream burst)
 begins_at_a_start stream burst = start_found stream (λ start. nat_le (end_of stream - start) burst) (find (λ start. nat_le (end_of stream - start) burst) stream.starts) refl
 
 abbrev SeatsNobody : Shown → Outcome → Type 0

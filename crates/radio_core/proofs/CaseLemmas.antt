@@ -42,11 +42,14 @@ module _ (w : World) (id : ℕ) (P : Outcome → Type 0) (stray : P (says Stray 
   sitting_cases go known Answered e = rw e stray
   sitting_cases go known (HasFinished rule) e = rw e (finished rule e)
 
--- a source's session ends as he leaves; of another client nothing is left
+-- a source's session ends as he leaves; of another client, who feeds no mount, nothing is left
+pub parting_cases : (w : World) (id : ℕ) (P : Outcome → Type 0) → P (says Stray w) → ((mount : List ℕ) → standing_of w id ≡ Feeds mount → P (says Noted (is_gone (falls_silent w mount) id))) → (((mount : List ℕ) → standing_of w id ≡ Feeds mount → ⊥) → P (says Noted (is_gone w id))) → (s : Standing) → standing_of w id ≡ s → P (leaves w id)
+parting_cases w id P stray silent gone Unknown e = rw e stray
+parting_cases w id P stray silent gone (Feeds mount) e = rw e (silent mount e)
+parting_cases w id P stray silent gone (Undecided peer) e = let g = gone (λ mount d. cc) in rw e g
+parting_cases w id P stray silent gone Sits e = let g = gone (λ mount d. cc) in rw e g
+parting_cases w id P stray silent gone Answered e = let g = gone (λ mount d. cc) in rw e g
+parting_cases w id P stray silent gone (HasFinished rule) e = let g = gone (λ mount d. cc) in rw e g
+
 pub leaving_cases : (w : World) (id : ℕ) (P : Outcome → Type 0) → P (says Stray w) → ((mount : List ℕ) → standing_of w id ≡ Feeds mount → P (says Noted (is_gone (falls_silent w mount) id))) → P (says Noted (is_gone w id)) → (s : Standing) → standing_of w id ≡ s → P (leaves w id)
-leaving_cases w id P stray silent gone Unknown e = rw e stray
-leaving_cases w id P stray silent gone (Feeds mount) e = rw e (silent mount e)
-leaving_cases w id P stray silent gone (Undecided peer) e = rw e gone
-leaving_cases w id P stray silent gone Sits e = rw e gone
-leaving_cases w id P stray silent gone Answered e = rw e gone
-leaving_cases w id P stray silent gone (HasFinished rule) e = rw e gone
+leaving_cases w id P stray silent gone s e = parting_cases w id P stray silent (λ feeds_none. gone) s e

@@ -10,3 +10,10 @@ pub mod FinishLemmas
 pub mod AdmissionLemmas
 pub mod StretchLemmas
 pub mod StandingLemmas
+pub mod KeyLemmas
+pub mod StateLemmas
+pub mod FeedLemmas
+pub mod SliceLemmas
+pub mod HeardLemmas
+pub mod SliceSteps
+pub mod Slices

@@ -1,5 +1,5 @@
-use Rattle.std.proofs.Common.{◌≡◌, ℕ, ◌+◌, ◌<◌, ◌≤◌, cond, not, true, false, List, [], ◌∷◌, ◌++◌, length, take, drop, get_or, map, ap, sym, ◌∙◌, refl, arith, append_assoc}
-use Rattle.std.specs.Prelude.{filter}
+use Rattle.std.proofs.Common.{◌≡◌, ℕ, ◌+◌, ◌<◌, ◌≤◌, cond, not, Bool, true, false, Some, List, [], ◌∷◌, ◌++◌, length, take, drop, get_or, map, ap, sym, ◌∙◌, refl, arith, append_assoc}
+use Rattle.std.specs.Prelude.{filter, find, nat_lt, if◌then◌else◌}
 use Rattle.std.proofs.lemmas.List.{drop_more, take_more, drop_all, map-append, length-map, append-nil}
 use Rattle.std.proofs.lemmas.List.Elements.{filter_more}
 use Rattle.std.proofs.lemmas.List.Filters.{length-filter_both}
@@ -7,7 +7,8 @@ use Rattle.std.proofs.lemmas.Bool.Decides.{nat_tests}
 use Rattle.radio_policy.specs.declared.rule.Rule.{Rule}
 use Rattle.radio_core.specs.declared.seats.Seat.{Seat}
 use Rattle.radio_core.specs.declared.seats.Finished.{Finished}
-use Rattle.radio_core.specs.Table.{inserted, is_at, finished_in}
+use Rattle.radio_core.specs.Table.{has_id, inserted, is_at, finished_in}
+use Rattle.radio_core.proofs.FindLemmas.{find_here, find_later}
 
 -- the seat stands in front of the others
 inserted_here : (seat other : Seat) (others : List Seat) → seat.id ≤ other.id → inserted seat (other ∷ others) ≡ seat ∷ other ∷ others
@@ -63,3 +64,27 @@ seats_and_rules seats mount rule =
     let told = λ (s : Seat). let row : Finished = record { id = s.id; rule = rule } in row in
     ap (λ n. n + length (filter (λ seat. not (is_at mount seat)) seats)) (length-map (filter (is_at mount) seats) told)
     ∙ length-filter_both (is_at mount) (λ seat. not (is_at mount seat)) (λ seat. refl) seats
+
+-- a seat that was put in its place is found by its number
+found_at_its_place : (seat other : Seat) (others : List Seat) (b : Bool) → nat_lt other.id seat.id ≡ b → find (λ (x : Seat). has_id x.id seat.id) (inserted seat others) ≡ Some seat → find (λ (x : Seat). has_id x.id seat.id) (if b then other ∷ inserted seat others else seat ∷ other ∷ others) ≡ Some seat
+found_at_its_place seat other others true e later =
+    let apart : has_id other.id seat.id ≡ false = grind (arith, nat_tests) in
+    find_later (λ (x : Seat). has_id x.id seat.id) other (inserted seat others) apart ∙ later
+found_at_its_place seat other others false e later =
+    let his : has_id seat.id seat.id ≡ true = grind (arith, nat_tests) in
+    find_here (λ (x : Seat). has_id x.id seat.id) seat (other ∷ others) his
+
+pub found_inserted : (seat : Seat) (seats : List Seat) → find (λ (x : Seat). has_id x.id seat.id) (inserted seat seats) ≡ Some seat
+found_inserted seat [] =
+    let his : has_id seat.id seat.id ≡ true = grind (arith, nat_tests) in
+    find_here (λ (x : Seat). has_id x.id seat.id) seat [] his
+found_inserted seat (other ∷ others) = found_at_its_place seat other others (nat_lt other.id seat.id) refl (found_inserted seat others)
+
+-- and whoever else is looked for is found as before
+beside_at : (id : ℕ) (new other : Seat) (others : List Seat) (b : Bool) → has_id new.id id ≡ false → find (λ (x : Seat). has_id x.id id) (inserted new others) ≡ find (λ (x : Seat). has_id x.id id) others → find (λ (x : Seat). has_id x.id id) (if b then other ∷ inserted new others else new ∷ other ∷ others) ≡ find (λ (x : Seat). has_id x.id id) (other ∷ others)
+beside_at id new other others true apart later = ap (λ found. if has_id other.id id then Some other else found) later
+beside_at id new other others false apart later = find_later (λ (x : Seat). has_id x.id id) new (other ∷ others) apart
+
+pub found_beside : (id : ℕ) (new : Seat) (seats : List Seat) → has_id new.id id ≡ false → find (λ (x : Seat). has_id x.id id) (inserted new seats) ≡ find (λ (x : Seat). has_id x.id id) seats
+found_beside id new [] apart = find_later (λ (x : Seat). has_id x.id id) new [] apart
+found_beside id new (other ∷ others) apart = beside_at id new other others (nat_lt other.id new.id) apart (found_beside id new others apart)

@@ -32,6 +32,7 @@ use Rattle.radio_core.specs.Run.{world_after, world_after_all}
 use Rattle.radio_core.specs.Stretches.{data_in, handed_at, handed, IsNoLeave, SitsAt, KeepsSeat, between, IsOneStretch, StretchesAreWhole}
 use Rattle.radio_core.proofs.CaseLemmas.{verdict_cases, undecided_cases, feeding_cases, sitting_cases, leaving_cases}
 use Rattle.radio_core.proofs.FindLemmas.{find_before, find_later, find_without, find_apart, find_changed, find_same, find_kept, filter_passes_found, found_passes}
+use Rattle.radio_core.proofs.SeatLemmas.{found_beside}
 use Rattle.radio_core.proofs.SoundLemmas.{one_name, is_false}
 
 -- a session later on: it is the same one, and its data has grown at its end
@@ -94,17 +95,9 @@ module _ (w : World) (id : ℕ) (seat : Seat) (session : Session) (sits : standi
       (same ∙ stays.0, stays.1)
 
   -- another listener sits down
-  inserted_at : (new other : Seat) (others : List Seat) (b : Bool) → has_id new.id id ≡ false → find (λ (x : Seat). has_id x.id id) (inserted new others) ≡ find (λ (x : Seat). has_id x.id id) others → find (λ (x : Seat). has_id x.id id) (if b then other ∷ inserted new others else new ∷ other ∷ others) ≡ find (λ (x : Seat). has_id x.id id) (other ∷ others)
-  inserted_at new other others true apart later = ap (λ found. if has_id other.id id then Some other else found) later
-  inserted_at new other others false apart later = find_later (λ (x : Seat). has_id x.id id) new (other ∷ others) apart
-
-  found_beside : (new : Seat) (seats : List Seat) → has_id new.id id ≡ false → find (λ (x : Seat). has_id x.id id) (inserted new seats) ≡ find (λ (x : Seat). has_id x.id id) seats
-  found_beside new [] apart = find_later (λ (x : Seat). has_id x.id id) new [] apart
-  found_beside new (other ∷ others) apart = inserted_at new other others (nat_lt other.id new.id) apart (found_beside new others apart)
-
   quiet_sits_down : (him : ℕ) (peer : Peer) (found : Option Session) → (him == id) ≡ false → Stays (sits_down w him peer found).world
   quiet_sits_down him peer None other = unchanged
-  quiet_sits_down him peer (Some heard) other = (found_beside (first_seat w him peer heard) w.table.seats other ∙ here, (session, live, grew_none session))
+  quiet_sits_down him peer (Some heard) other = (found_beside id (first_seat w him peer heard) w.table.seats other ∙ here, (session, live, grew_none session))
 
   -- who sits does not ask to hear a mount
   not_himself : (him : ℕ) (peer : Peer) (b : Bool) → (him == id) ≡ b → standing_of w him ≡ Undecided peer → (him == id) ≡ false

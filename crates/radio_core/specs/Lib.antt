@@ -25,3 +25,4 @@ pub mod Access
 pub mod Finishes
 pub mod Admission
 pub mod Stretches
+pub mod Slices

@@ -6,6 +6,7 @@ ghost use Rattle.radio_core.specs.declared.event.Event.{Event};
 ghost use Rattle.radio_core.specs.declared.settings.Settings.{Settings};
 ghost use Rattle.radio_core.specs.Run.{run_after};
 ghost use Rattle.radio_core.specs.Stretches.{StretchesAreWhole};
+ghost use Rattle.radio_core.specs.Slices.{SlicesAreWhole};
 ghost use Rattle.radio_core.specs.Access.{AccessIsKept};
 ghost use Rattle.radio_core.specs.Admission.{BeginsAtABlock};
 ghost use Rattle.radio_core.specs.Denials.{DenialsAreThePolicys};
@@ -39,4 +40,10 @@ pub fn listeners_begin_at_a_block()
 pub fn stretches_are_whole()
     // whatever has happened, all that a listener is handed from then on while he keeps his seat is one contiguous slice of one session's data, in order, without gap or repeat: from his place then to his place now
     ensures stretches { (settings : Settings) (events : List Event) → StretchesAreWhole (run_after settings events) }
+{}
+
+/// The law of slices.
+pub fn slices_are_whole()
+    // over every run, whoever he is, all that he was ever handed, joined, is one contiguous slice of all that one source ever delivered, in order, without gap or repeat, and it begins where a block of that source starts, or where its next one will
+    ensures slices { (settings : Settings) (events : List Event) → SlicesAreWhole settings events }
 {}
