@@ -1,6 +1,5 @@
-use Rattle.std.proofs.Common.{◌≡◌, Bool, true, false, ℕ, Option, Some, None, List, [], ◌∷◌, inl, inr, refl, ◌∙◌, arith}
-use Rattle.std.specs.Prelude.{find, nat_lt, nat_le, unwrap_or, ◌-◌, if◌then◌else◌}
-use Rattle.std.proofs.lemmas.Bool.Decides.{nat_tests}
+use Rattle.std.proofs.Common.{◌≡◌, Bool, ℕ, Option, Some, None, List, inl, inr, refl}
+use Rattle.std.specs.Prelude.{find, nat_le, unwrap_or, ◌-◌}
 use Rattle.std.proofs.lemmas.Slice.Eq.{bytes_eq-Decides}
 use Rattle.radio_policy.specs.Table.{arrive_rows, source_rows, push_rows, listen_rows}
 use Rattle.radio_policy.specs.Verdicts.{verdict_in}
@@ -13,7 +12,7 @@ use Rattle.radio_core.specs.declared.seats.Seat.{Seat}
 use Rattle.radio_core.specs.declared.shown.Shown.{Shown}
 use Rattle.radio_core.specs.Live.{is_of, session_of}
 use Rattle.radio_core.specs.Stream.{WholeStream, end_of, burst_start}
-use Rattle.radio_core.specs.Table.{has_id, inserted, seat_of}
+use Rattle.radio_core.specs.Table.{seat_of}
 use Rattle.radio_core.specs.World.{World, standing_of}
 use Rattle.radio_core.specs.Facts.{asker_of, arrive_facts, source_facts, push_facts, listen_facts}
 use Rattle.radio_core.specs.Cases.{Outcome, answered}

@@ -4,7 +4,7 @@ use Rattle.std.proofs.lemmas.Bool.Decides.{nat_tests}
 use Rattle.std.proofs.lemmas.Slice.Eq.{bytes_eq-Decides}
 use Rattle.radio_core.specs.declared.clients.Client.{Client}
 use Rattle.radio_core.specs.declared.clients.ClientState.{ClientState}
-use Rattle.radio_core.specs.declared.clients.ClientState.TheVariants.{Undecided, Feeds}
+use Rattle.radio_core.specs.declared.clients.ClientState.TheVariants.{Feeds}
 use Rattle.radio_core.specs.declared.live.Session.{Session}
 use Rattle.radio_core.specs.declared.shown.Shown.{Shown}
 use Rattle.radio_core.specs.Lists.{Has}
@@ -120,17 +120,17 @@ module _ (clients : List Client) (live : List Session) (sent : ℕ → List ℕ)
           by_number him id
           (λ same. absurd (not_now other (sym c.his ∙ ap (state_of later) same ∙ e)))
           (λ apart. by_old apart (f.feeds id other (sym (c.others id apart) ∙ e))) where
-        by_old : (him == id) ≡ false → (session : Session) × (session_of live other ≡ Some session) × (session.number ≡ id) → (session : Session) × (session_of (without_session live mount) other ≡ Some session) × (session.number ≡ id)
-        by_old apart old = by_name mount other one (λ away. (old.0, left_over other away ∙ old.1, old.2)) where
-          one : mount ≡ other → (session : Session) × (session_of (without_session live mount) other ≡ Some session) × (session.number ≡ id)
-          one same =
-              let ours = f.feeds him mount was in
-              let both : Some ours.0 ≡ Some old.0 = sym ours.1 ∙ ap (session_of live) same ∙ old.1 in
-              let number : ours.0.number ≡ old.0.number = cc in
-              let him_too : him ≡ id = sym ours.2 ∙ number ∙ old.2 in
-              let self : (him == him) ≡ false = ap (λ n. him == n) him_too ∙ apart in
-              let true_too : (him == him) ≡ true = grind (arith, nat_tests) in
-              cc
+            by_old : (him == id) ≡ false → (session : Session) × (session_of live other ≡ Some session) × (session.number ≡ id) → (session : Session) × (session_of (without_session live mount) other ≡ Some session) × (session.number ≡ id)
+            by_old apart old = by_name mount other one (λ away. (old.0, left_over other away ∙ old.1, old.2)) where
+              one : mount ≡ other → (session : Session) × (session_of (without_session live mount) other ≡ Some session) × (session.number ≡ id)
+              one same =
+                  let ours = f.feeds him mount was in
+                  let both : Some ours.0 ≡ Some old.0 = sym ours.1 ∙ ap (session_of live) same ∙ old.1 in
+                  let number : ours.0.number ≡ old.0.number = cc in
+                  let him_too : him ≡ id = sym ours.2 ∙ number ∙ old.2 in
+                  let self : (him == him) ≡ false = ap (λ n. him == n) him_too ∙ apart in
+                  let true_too : (him == him) ≡ true = grind (arith, nat_tests) in
+                  cc
 
       fed_left : (other : List ℕ) (session : Session) → session_of (without_session live mount) other ≡ Some session → IsFed later sent Start other session
       fed_left other session e = by_name mount other gone kept where
@@ -144,10 +144,10 @@ module _ (clients : List Client) (live : List Session) (sent : ℕ → List ℕ)
         kept away =
             let old = f.fed_by other session (sym (left_over other away) ∙ e) in
             by_number him session.number (λ same. never old same) (λ apart. fed_still other session old apart) where
-          never : IsFed clients sent Start other session → him ≡ session.number → IsFed later sent Start other session
-          never old same =
-              let one : bytes_eq mount other ≡ true = (bytes_eq-Decides mount other).1 (his_mount other session old same) in
-              cc
+              never : IsFed clients sent Start other session → him ≡ session.number → IsFed later sent Start other session
+              never old same =
+                  let one : bytes_eq mount other ≡ true = (bytes_eq-Decides mount other).1 (his_mount other session old same) in
+                  cc
 
       pub fed_ends : AreFed later (without_session live mount) sent Start
       fed_ends = record {
@@ -202,12 +202,12 @@ module _ (clients : List Client) (live : List Session) (sent : ℕ → List ℕ)
           let old = f.fed_by other session (sym same ∙ e) in
           by_number him session.number (λ him_too. never old him_too)
           (λ apart. record { by = old.by; whole = old.whole ∙ sym (others session.number apart); starts = λ place has. starts session.number place (old.starts place has) }) where
-        never : IsFed clients sent Start other session → him ≡ session.number → IsFed clients now Later other session
-        never old him_too =
-            let both : Some (Feeds mount) ≡ Some (Feeds other) = sym his ∙ ap (state_of clients) him_too ∙ old.by in
-            let same : mount ≡ other = cc in
-            let one : bytes_eq mount other ≡ true = (bytes_eq-Decides mount other).1 same in
-            cc
+            never : IsFed clients sent Start other session → him ≡ session.number → IsFed clients now Later other session
+            never old him_too =
+                let both : Some (Feeds mount) ≡ Some (Feeds other) = sym his ∙ ap (state_of clients) him_too ∙ old.by in
+                let same : mount ≡ other = cc in
+                let one : bytes_eq mount other ≡ true = (bytes_eq-Decides mount other).1 same in
+                cc
 
     feeds_now : (id : ℕ) (other : List ℕ) → state_of clients id ≡ Some (Feeds other) → (session : Session) × (session_of (fed live mount block moment) other ≡ Some session) × (session.number ≡ id)
     unfolding longer

@@ -1,8 +1,7 @@
-use Rattle.std.proofs.Common.{◌≡◌, Bool, true, false, not, ℕ, ◌+◌, ◌≤◌, ◌==◌, Option, Some, None, List, [], ◌∷◌, ◌++◌, ◌⊎◌, inl, inr, length, take, drop, map, refl, ap, sym, subst, ◌∙◌, arith}
+use Rattle.std.proofs.Common.{◌≡◌, Bool, true, false, not, ℕ, ◌+◌, ◌≤◌, ◌==◌, Option, Some, None, List, [], ◌∷◌, ◌++◌, length, take, drop, map, refl, ap, sym, subst, ◌∙◌}
 use Rattle.std.specs.Prelude.{find, filter, if◌then◌else◌}
 use Rattle.std.specs.Option.{option_map, option_or}
 use Rattle.std.proofs.lemmas.Bool.{eqb-true}
-use Rattle.std.proofs.lemmas.Bool.Decides.{nat_tests}
 use Rattle.std.proofs.lemmas.List.{append-nil}
 use Rattle.std.proofs.lemmas.List.Folds.{find-append}
 use Rattle.radio_policy.specs.declared.rule.Rule.{Rule}
@@ -11,9 +10,8 @@ use Rattle.radio_core.specs.declared.clients.ClientState.{ClientState}
 use Rattle.radio_core.specs.declared.clients.ClientState.TheVariants.{Listens}
 use Rattle.radio_core.specs.declared.seats.Finished.{Finished as Row}
 use Rattle.radio_core.specs.declared.seats.Seat.{Seat}
-use Rattle.radio_core.specs.Lists.{Has, update_first, without_first}
 use Rattle.radio_core.specs.Table.{Table, has_id, is_at, seat_of, rule_of, finished_in, finished_at, with_seat, moved_to, without_id}
-use Rattle.radio_core.proofs.FindLemmas.{find_here, find_later, find_without, find_apart, find_same, find_kept, found_passes, Has_found}
+use Rattle.radio_core.proofs.FindLemmas.{find_here, find_later, find_without, find_apart, find_same, find_kept, found_passes}
 use Rattle.radio_core.proofs.KeyLemmas.{by_number}
 use Rattle.radio_core.proofs.SeatLemmas.{found_beside, found_inserted}
 use Rattle.radio_core.proofs.StateLemmas.{state_of, Changed}

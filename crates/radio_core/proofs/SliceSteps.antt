@@ -1,4 +1,4 @@
-use Rattle.std.proofs.Common.{◌≡◌, Bool, true, false, ℕ, ◌+◌, ◌<◌, ◌≤◌, ◌==◌, Option, Some, None, List, [], ◌∷◌, ◌++◌, ◌⊎◌, inl, inr, length, take, drop, refl, ap, sym, subst, ◌∙◌, arith}
+use Rattle.std.proofs.Common.{◌≡◌, Bool, true, false, ℕ, ◌+◌, ◌<◌, ◌≤◌, ◌==◌, Option, Some, None, List, [], ◌∷◌, ◌++◌, inl, inr, length, take, drop, refl, ap, sym, subst, ◌∙◌, arith}
 use Rattle.std.specs.Prelude.{is_some, if◌then◌else◌}
 use Rattle.std.proofs.lemmas.Bool.Decides.{nat_tests}
 use Rattle.std.proofs.lemmas.List.{append-nil}
@@ -17,9 +17,8 @@ use Rattle.radio_core.specs.declared.shown.Shown.{Shown}
 use Rattle.radio_core.specs.declared.standing.Standing.TheVariants.{Undecided, Feeds, Sits}
 use Rattle.radio_core.specs.Lists.{Each}
 use Rattle.radio_core.specs.Clients.{in_state, without_client, newcomer}
-use Rattle.radio_core.specs.Live.{session_of, opened}
-use Rattle.radio_core.specs.Stream.{WholeStream, burst_start, data_at}
-use Rattle.radio_core.specs.Table.{has_id, seat_of, rule_of, finished_at}
+use Rattle.radio_core.specs.Live.{session_of}
+use Rattle.radio_core.specs.Table.{has_id, seat_of, finished_at}
 use Rattle.radio_core.specs.World.{World, standing_of}
 use Rattle.radio_core.specs.Facts.{asker_of, arrive_facts, source_facts, push_facts, listen_facts}
 use Rattle.radio_core.specs.Cases.{Outcome, answered}

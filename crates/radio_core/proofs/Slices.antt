@@ -5,7 +5,7 @@ use Rattle.radio_core.specs.declared.settings.Settings.{Settings}
 use Rattle.radio_core.specs.World.{World, opening}
 use Rattle.radio_core.specs.Run.{world_after, world_after_all, run_after}
 use Rattle.radio_core.specs.Stretches.{handed_at, handed, between}
-use Rattle.radio_core.specs.Slices.{delivered_at, delivered, IsOneSlice, SlicesAreWhole}
+use Rattle.radio_core.specs.Slices.{delivered_at, delivered, SlicesAreWhole}
 use Rattle.radio_core.proofs.SoundLemmas.{sound_run}
 use Rattle.radio_core.proofs.StandingLemmas.{numbers_hold}
 use Rattle.radio_core.proofs.SliceSteps.{AreStarts, Kept, kept_step}

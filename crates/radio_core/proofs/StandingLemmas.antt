@@ -35,7 +35,7 @@ use Rattle.radio_core.specs.Step.{outcome}
 use Rattle.radio_core.specs.Run.{reply_to, world_after, world_after_all, run_after}
 use Rattle.radio_core.specs.Finishes.{client_in}
 use Rattle.radio_core.proofs.CaseLemmas.{verdict_cases, undecided_cases, feeding_cases, sitting_cases, leaving_cases}
-use Rattle.radio_core.proofs.FindLemmas.{find_before, find_here, find_without, find_apart, Each_each, Each_without, Each_updated}
+use Rattle.radio_core.proofs.FindLemmas.{find_before, find_here, find_without, find_apart, Each_without, Each_updated}
 
 -- the event is of another client (an arrival is of none)
 abbrev pub IsOfAnother : Event → ℕ → Type 0
@@ -118,26 +118,33 @@ kept_of_standing w id s known e = by_found (client_of w.clients id) refl where
     unknown f = rw f refl
   by_found (Some client) here = (client, here, sym (standing_is w id client here) ∙ e)
 
-listener_undecided : (found : Option Rule) (peer : Peer) → standing_of_listener found ≡ Undecided peer → ⊥
-listener_undecided None peer e = cc
-listener_undecided (Some rule) peer e = cc
+-- what a standing says of the state of who is there, and the other way round
 
-listener_feeds : (found : Option Rule) (mount : List ℕ) → standing_of_listener found ≡ Feeds mount → ⊥
-listener_feeds None mount e = cc
-listener_feeds (Some rule) mount e = cc
+by_rule_undecided : (found : Option Rule) (peer : Peer) → standing_of_listener found ≡ Undecided peer → ⊥
+by_rule_undecided None peer e = cc
+by_rule_undecided (Some rule) peer e = cc
 
--- who has asked for nothing yet, or feeds, does so whatever stands in the table
-undecided_anywhere : (table later : Table) (client : Client) (peer : Peer) (state : ClientState) → client.state ≡ state → standing_of_client table client ≡ Undecided peer → standing_of_client later client ≡ Undecided peer
-undecided_anywhere table later client peer IsUndecided e = rw e (λ known. known)
-undecided_anywhere table later client peer (IsFeeding mount) e = rw e (λ known. cc)
-undecided_anywhere table later client peer Listens e = rw e (λ known. absurd (listener_undecided (rule_of table client.id) peer known))
-undecided_anywhere table later client peer IsAnswered e = rw e (λ known. cc)
+by_rule_feeding : (found : Option Rule) (mount : List ℕ) → standing_of_listener found ≡ Feeds mount → ⊥
+by_rule_feeding None mount e = cc
+by_rule_feeding (Some rule) mount e = cc
 
-feeding_anywhere : (table later : Table) (client : Client) (mount : List ℕ) (state : ClientState) → client.state ≡ state → standing_of_client table client ≡ Feeds mount → standing_of_client later client ≡ Feeds mount
-feeding_anywhere table later client mount IsUndecided e = rw e (λ known. cc)
-feeding_anywhere table later client mount (IsFeeding other) e = rw e (λ known. known)
-feeding_anywhere table later client mount Listens e = rw e (λ known. absurd (listener_feeds (rule_of table client.id) mount known))
-feeding_anywhere table later client mount IsAnswered e = rw e (λ known. cc)
+pub state_undecided : (table : Table) (client : Client) (peer : Peer) (state : ClientState) → client.state ≡ state → standing_of_client table client ≡ Undecided peer → client.state ≡ IsUndecided
+state_undecided table client peer IsUndecided e = λ known. e
+state_undecided table client peer (IsFeeding mount) e = rw e (λ known. cc)
+state_undecided table client peer Listens e = rw e (λ known. absurd (by_rule_undecided (rule_of table client.id) peer known))
+state_undecided table client peer IsAnswered e = rw e (λ known. cc)
+
+pub state_feeding : (table : Table) (client : Client) (mount : List ℕ) (state : ClientState) → client.state ≡ state → standing_of_client table client ≡ Feeds mount → client.state ≡ IsFeeding mount
+state_feeding table client mount IsUndecided e = rw e (λ known. cc)
+state_feeding table client mount (IsFeeding other) e = rw e (λ known. cc)
+state_feeding table client mount Listens e = rw e (λ known. absurd (by_rule_feeding (rule_of table client.id) mount known))
+state_feeding table client mount IsAnswered e = rw e (λ known. cc)
+
+stands_undecided : (table : Table) (client : Client) → client.state ≡ IsUndecided → standing_of_client table client ≡ Undecided client.peer
+stands_undecided table client e = rw e refl
+
+pub stands_feeding : (table : Table) (client : Client) (mount : List ℕ) → client.state ≡ IsFeeding mount → standing_of_client table client ≡ Feeds mount
+stands_feeding table client mount e = rw e refl
 
 -- one who has asked for nothing yet, or who feeds a mount, still does after an event of another client
 
@@ -145,13 +152,15 @@ pub undecided_kept : (w : World) (event : Event) (id : ℕ) (peer : Peer) → st
 undecided_kept w event id peer e of =
     let w' = world_after w event in
     let found = kept_of_standing w id (Undecided peer) (λ u. cc) e in
-    standing_is w' id found.0 (client_kept w event id found.0 found.1 of) ∙ undecided_anywhere w.table w'.table found.0 peer found.0.state refl found.2
+    let state : found.0.state ≡ IsUndecided = state_undecided w.table found.0 peer found.0.state refl found.2 in
+    standing_is w' id found.0 (client_kept w event id found.0 found.1 of) ∙ stands_undecided w'.table found.0 state ∙ sym (stands_undecided w.table found.0 state) ∙ found.2
 
 pub feeding_kept : (w : World) (event : Event) (id : ℕ) (mount : List ℕ) → standing_of w id ≡ Feeds mount → IsOfAnother event id → standing_of (world_after w event) id ≡ Feeds mount
 feeding_kept w event id mount e of =
     let w' = world_after w event in
     let found = kept_of_standing w id (Feeds mount) (λ u. cc) e in
-    standing_is w' id found.0 (client_kept w event id found.0 found.1 of) ∙ feeding_anywhere w.table w'.table found.0 mount found.0.state refl found.2
+    let state : found.0.state ≡ IsFeeding mount = state_feeding w.table found.0 mount found.0.state refl found.2 in
+    standing_is w' id found.0 (client_kept w event id found.0 found.1 of) ∙ stands_feeding w'.table found.0 mount state
 
 -- numbers
 

@@ -1,4 +1,4 @@
-use Rattle.std.proofs.Common.{◌≡◌, false, ℕ, ◌+◌, ◌<◌, ◌≤◌, ◌==◌, Option, Some, None, List, [], ◌∷◌, ◌++◌, refl, ap, sym, subst, ◌∙◌, arith}
+use Rattle.std.proofs.Common.{◌≡◌, false, ℕ, ◌+◌, ◌<◌, ◌≤◌, ◌==◌, Option, Some, None, List, [], ◌∷◌, ◌++◌, refl, ap, sym, ◌∙◌, arith}
 use Rattle.std.specs.Option.{option_map}
 use Rattle.std.proofs.lemmas.Bool.{eqb-true}
 use Rattle.std.proofs.lemmas.Bool.Decides.{nat_tests}
@@ -14,7 +14,7 @@ use Rattle.radio_core.specs.Table.{Table, rule_of}
 use Rattle.radio_core.specs.World.{World, standing_of, standing_of_client, standing_of_listener}
 use Rattle.radio_core.proofs.FindLemmas.{find_same, found_passes, Each_each}
 use Rattle.radio_core.proofs.KeyLemmas.{Apart, Apart_last, Apart_updated, Apart_without, none_left, passed_last, found_last}
-use Rattle.radio_core.proofs.StandingLemmas.{beside_in_state, beside_without, kept_of_standing, standing_is, no_client_above}
+use Rattle.radio_core.proofs.StandingLemmas.{beside_in_state, beside_without, kept_of_standing, standing_is, state_undecided, state_feeding, stands_feeding, no_client_above}
 
 -- what the client of this number does, if he is there
 abbrev pub state_of : List Client → ℕ → Option ClientState
@@ -78,28 +78,10 @@ module _ (clients : List Client) (last moment : ℕ) (peer : Peer) (numbered : E
 
 -- what a standing says of the state
 
-state_undecided : (table : Table) (client : Client) (peer : Peer) (state : ClientState) → client.state ≡ state → standing_of_client table client ≡ IsUndecided peer → client.state ≡ Undecided
-state_undecided table client peer Undecided e = λ known. e
-state_undecided table client peer (Feeds mount) e = rw e (λ known. cc)
-state_undecided table client peer Listens e = rw e (λ known. absurd (by_rule (rule_of table client.id) known)) where
-  by_rule : (found : Option Rule) → standing_of_listener found ≡ IsUndecided peer → ⊥
-  by_rule None known = cc
-  by_rule (Some rule) known = cc
-state_undecided table client peer Answered e = rw e (λ known. cc)
-
 pub undecided_state : (w : World) (id : ℕ) (peer : Peer) → standing_of w id ≡ IsUndecided peer → state_of w.clients id ≡ Some Undecided
 undecided_state w id peer e =
     let found = kept_of_standing w id (IsUndecided peer) (λ u. cc) e in
     ap (option_map (λ (client : Client). client.state)) found.1 ∙ ap (λ (s : ClientState). Some s) (state_undecided w.table found.0 peer found.0.state refl found.2)
-
-state_feeding : (table : Table) (client : Client) (mount : List ℕ) (state : ClientState) → client.state ≡ state → standing_of_client table client ≡ IsFeeding mount → client.state ≡ Feeds mount
-state_feeding table client mount Undecided e = rw e (λ known. cc)
-state_feeding table client mount (Feeds other) e = rw e (λ known. cc)
-state_feeding table client mount Listens e = rw e (λ known. absurd (by_rule (rule_of table client.id) known)) where
-  by_rule : (found : Option Rule) → standing_of_listener found ≡ IsFeeding mount → ⊥
-  by_rule None known = cc
-  by_rule (Some rule) known = cc
-state_feeding table client mount Answered e = rw e (λ known. cc)
 
 pub feeding_state : (w : World) (id : ℕ) (mount : List ℕ) → standing_of w id ≡ IsFeeding mount → state_of w.clients id ≡ Some (Feeds mount)
 feeding_state w id mount e =
@@ -107,15 +89,12 @@ feeding_state w id mount e =
     ap (option_map (λ (client : Client). client.state)) found.1 ∙ ap (λ (s : ClientState). Some s) (state_feeding w.table found.0 mount found.0.state refl found.2)
 
 -- and who feeds stands so
-standing_of_feeding : (table : Table) (client : Client) (mount : List ℕ) → client.state ≡ Feeds mount → standing_of_client table client ≡ IsFeeding mount
-standing_of_feeding table client mount e = rw e refl
-
 pub standing_feeding : (w : World) (id : ℕ) (mount : List ℕ) → state_of w.clients id ≡ Some (Feeds mount) → standing_of w id ≡ IsFeeding mount
 standing_feeding w id mount e =
     let found = state_found w.clients id (Feeds mount) (client_of w.clients id) refl e in
     let his : Some found.0.state ≡ Some (Feeds mount) = sym (ap (option_map (λ (client : Client). client.state)) found.1) ∙ e in
     let feeds : found.0.state ≡ Feeds mount = cc in
-    standing_is w id found.0 found.1 ∙ standing_of_feeding w.table found.0 mount feeds
+    standing_is w id found.0 found.1 ∙ stands_feeding w.table found.0 mount feeds
 
 rule_sitting : (found : Option Rule) → standing_of_listener found ≡ Sits → found ≡ None
 rule_sitting None e = refl

@@ -1,5 +1,5 @@
-use Rattle.std.proofs.Common.{◌≡◌, Bool, true, false, not, ℕ, zero, suc, ◌<◌, ◌⊎◌, inl, inr, ◌+◌, ◌-◌, ◌≤◌, ◌==◌, Option, Some, None, List, [], ◌∷◌, ◌++◌, length, take, drop, refl, ap, sym, subst, ◌∙◌, arith, append_assoc}
-use Rattle.std.specs.Prelude.{find, nat_lt, if◌then◌else◌}
+use Rattle.std.proofs.Common.{◌≡◌, Bool, true, false, not, ℕ, ◌<◌, ◌⊎◌, inl, inr, ◌+◌, ◌-◌, ◌≤◌, ◌==◌, Option, Some, None, List, [], ◌∷◌, ◌++◌, length, take, drop, refl, ap, sym, subst, ◌∙◌, arith, append_assoc}
+use Rattle.std.specs.Prelude.{find}
 use Rattle.std.specs.Str.{bytes_eq}
 use Rattle.std.proofs.lemmas.List.{append-nil, drop-append-le, take-append-le, length-take, drop-drop}
 use Rattle.std.proofs.Math.Seq.{take-add}
@@ -16,7 +16,7 @@ use Rattle.radio_core.specs.declared.standing.Standing.TheVariants.{Undecided, S
 use Rattle.radio_core.specs.Lists.{update_first, without_first}
 use Rattle.radio_core.specs.Live.{is_of, session_of, opened}
 use Rattle.radio_core.specs.Stream.{with_block, data_at}
-use Rattle.radio_core.specs.Table.{Table, inserted, is_at, has_id, seat_of}
+use Rattle.radio_core.specs.Table.{Table, is_at, has_id, seat_of}
 use Rattle.radio_core.specs.World.{World, standing_of}
 use Rattle.radio_core.specs.Facts.{asker_of, arrive_facts, source_facts, push_facts, listen_facts}
 use Rattle.radio_core.specs.Cases.{Outcome, answered, if_sitting}
@@ -31,8 +31,9 @@ use Rattle.radio_core.specs.Step.{outcome}
 use Rattle.radio_core.specs.Run.{world_after, world_after_all}
 use Rattle.radio_core.specs.Stretches.{data_in, handed_at, handed, IsNoLeave, SitsAt, KeepsSeat, between, IsOneStretch, StretchesAreWhole}
 use Rattle.radio_core.proofs.CaseLemmas.{verdict_cases, undecided_cases, feeding_cases, sitting_cases, leaving_cases}
-use Rattle.radio_core.proofs.FindLemmas.{find_before, find_later, find_without, find_apart, find_changed, find_same, find_kept, filter_passes_found, found_passes}
+use Rattle.radio_core.proofs.FindLemmas.{find_before, find_without, find_apart, find_changed, find_same, find_kept, filter_passes_found, found_passes}
 use Rattle.radio_core.proofs.SeatLemmas.{found_beside}
+use Rattle.radio_core.proofs.SliceLemmas.{taken_length}
 use Rattle.radio_core.proofs.SoundLemmas.{one_name, is_false}
 
 -- a session later on: it is the same one, and its data has grown at its end
@@ -147,11 +148,6 @@ module _ (w : World) (id : ℕ) (seat : Seat) (session : Session) (sits : standi
     moved = let no_bytes : length (handed_at w event id) ≡ 0 = ap length none in omega arith;
     part = none ∙ sym (ap (λ (h : List ℕ). take (length h) (drop seat.place session.stream.bytes)) none);
   }
-
-  taken_length : (n : ℕ) (xs : List ℕ) → take n xs ≡ take (length (take n xs)) xs
-  taken_length zero xs = refl
-  taken_length (suc n) [] = refl
-  taken_length (suc n) (x ∷ xs) = ap (λ ys. x ∷ ys) (taken_length n xs)
 
   next_own : (him room : ℕ) → (him == id) ≡ true → Next (Draw him room)
   unfolding outcome
