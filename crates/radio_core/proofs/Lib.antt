@@ -17,3 +17,5 @@ pub mod SliceLemmas
 pub mod HeardLemmas
 pub mod SliceSteps
 pub mod Slices
+pub mod HistoryLemmas
+pub mod ReplyLemmas

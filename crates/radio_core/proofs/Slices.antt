@@ -12,17 +12,17 @@ use Rattle.radio_core.proofs.SliceSteps.{AreStarts, Kept, kept_step}
 
 -- of events and those after them
 
-after_both : (w : World) (first rest : List Event) → world_after_all w (first ++ rest) ≡ world_after_all (world_after_all w first) rest
+pub after_both : (w : World) (first rest : List Event) → world_after_all w (first ++ rest) ≡ world_after_all (world_after_all w first) rest
 after_both w [] rest = refl
 after_both w (event ∷ first) rest = after_both (world_after w event) first rest
 
-handed_both : (w : World) (first rest : List Event) (id : ℕ) → handed w (first ++ rest) id ≡ handed w first id ++ handed (world_after_all w first) rest id
+pub handed_both : (w : World) (first rest : List Event) (id : ℕ) → handed w (first ++ rest) id ≡ handed w first id ++ handed (world_after_all w first) rest id
 handed_both w [] rest id = refl
 handed_both w (event ∷ first) rest id =
     ap (λ bytes. handed_at w event id ++ bytes) (handed_both (world_after w event) first rest id)
     ∙ sym (append_assoc (handed_at w event id) (handed (world_after w event) first id) (handed (world_after_all (world_after w event) first) rest id))
 
-delivered_both : (w : World) (first rest : List Event) (id : ℕ) → delivered w (first ++ rest) id ≡ delivered w first id ++ delivered (world_after_all w first) rest id
+pub delivered_both : (w : World) (first rest : List Event) (id : ℕ) → delivered w (first ++ rest) id ≡ delivered w first id ++ delivered (world_after_all w first) rest id
 delivered_both w [] rest id = refl
 delivered_both w (event ∷ first) rest id =
     ap (λ bytes. delivered_at w event id ++ bytes) (delivered_both (world_after w event) first rest id)

@@ -41,6 +41,13 @@ use Rattle.radio_core.proofs.FindLemmas.{find_before, find_here, find_without, f
 abbrev pub IsOfAnother : Event → ℕ → Type 0
 IsOfAnother event id = client_in event ≡ Some id → ⊥
 
+-- the client has asked for nothing yet, or feeds the mount: for proofs above this crate, which cannot name how a client stands
+abbrev pub HasNotAsked : World → ℕ → Peer → Type 0
+HasNotAsked w id peer = standing_of w id ≡ Undecided peer
+
+abbrev pub FeedsAt : World → ℕ → List ℕ → Type 0
+FeedsAt w id mount = standing_of w id ≡ Feeds mount
+
 -- two numbers that are not one
 pub apart_numbers : (him id : ℕ) → (Some him ≡ Some id → ⊥) → (him == id) ≡ false
 apart_numbers him id other = by_test (him == id) refl where

@@ -13,3 +13,11 @@ mod ScriptStateLemmas
 mod SimulationLemmas
 mod ServerSimulation
 mod OneTranscript
+mod GivenLemmas
+mod BroughtLemmas
+mod Phases
+mod PhaseSteps
+mod PhaseHearing
+mod PhaseDeliveries
+mod PhaseOpenings
+mod PhaseRuns

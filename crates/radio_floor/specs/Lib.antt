@@ -25,3 +25,6 @@ pub mod ScriptServer
 pub mod Performing
 pub mod Transcript
 pub mod Cuts
+pub mod Given
+pub mod Brought
+pub mod Slices

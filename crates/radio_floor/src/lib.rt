@@ -36,7 +36,7 @@ mod whole;
 mod writing;
 
 pub use byte_string::ByteString;
-pub use connection_laws::{cuts_do_not_matter, the_transcript_is_one};
+pub use connection_laws::{cuts_do_not_matter, listeners_hear_slices, the_transcript_is_one};
 pub use delivery::{Delivery, read_delivery};
 pub use devices::{Counted, CountedRead, CountedWrite};
 pub use escapes::{push_escaped, unescape};

@@ -5,4 +5,5 @@ mod echo;
 mod lines;
 mod play;
 mod run;
+mod slices;
 mod station;

@@ -44,7 +44,7 @@ fn settings(alloc: Global, burst_size: u32) -> Result<Settings, OutOfMemory> {
 }
 
 // What a script comes to over devices that do not fail: the result, and what was written.
-fn played(
+pub(super) fn played(
     alloc: Global,
     burst: u32,
     script: &[u8],
