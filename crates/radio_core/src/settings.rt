@@ -1,5 +1,6 @@
-ghost use Rattle.std.specs.Prelude.{◌≡◌, ◌≤◌, IfOk, IsErr, None};
+ghost use Rattle.std.specs.Prelude.{◌≡◌, ◌≢◌, ◌≤◌, IfOk, IsErr, None, Err};
 ghost use Rattle.toml.specs.Parse.{parse_document};
+ghost use Rattle.radio_core.specs.declared.settings.SettingsFault.TheVariants.{OutOfMemory as NoMemory};
 
 use crate::{OutOfMemory, Text};
 use std::alloc::Global;
@@ -81,6 +82,8 @@ impl fmt::Display for SettingsFault {
 impl Error for SettingsFault {}
 
 impl From<OutOfMemory> for SettingsFault {
+    ghost from_gives = { λ _ fault. fault ≡ NoMemory };
+
     fn from(_refused: OutOfMemory) -> SettingsFault {
         SettingsFault::OutOfMemory
     }
@@ -90,8 +93,9 @@ impl Settings {
     /// The settings of a text in TOML, or its first fault: the text is not TOML, then each key in
     /// the order of `docs/FORMATS.md`. Other keys are passed over.
     pub fn read(alloc: Global, text: &str) -> Result<Settings, SettingsFault>
-        // a text that is not TOML has no settings
+        // a text that is not TOML has no settings, and no other text is called so
         ensures not_toml { parse_document text.now ≡ None → IsErr result }
+        ensures is_toml { parse_document text.now ≢ None → result ≢ Err SettingsFault.NotToml }
         ensures queue_size { IfOk result (λ settings. 1 ≤ settings.queue_size) }
         ensures queue_size_max { IfOk result (λ settings. settings.queue_size ≤ MAX_BYTES) }
         ensures burst_size_max { IfOk result (λ settings. settings.burst_size ≤ MAX_BYTES) }
@@ -116,7 +120,9 @@ impl Settings {
 }
 
 /// The text at a key that must be there.
-fn required_text(alloc: Global, table: &Table, key: Key) -> Result<Text, SettingsFault> {
+fn required_text(alloc: Global, table: &Table, key: Key) -> Result<Text, SettingsFault>
+    ensures is_toml { result ≢ Err SettingsFault.NotToml }
+{
     let Some(value) = table.get(key.word()) else {
         return Err(SettingsFault::Missing { key });
     };
@@ -127,7 +133,9 @@ fn required_text(alloc: Global, table: &Table, key: Key) -> Result<Text, Setting
 }
 
 /// The table of a name, if there is one.
-fn optional_table(table: &Table, key: Key) -> Result<Option<&Table>, SettingsFault> {
+fn optional_table(table: &Table, key: Key) -> Result<Option<&Table>, SettingsFault>
+    ensures is_toml { result ≢ Err SettingsFault.NotToml }
+{
     let Some(value) = table.get(key.word()) else {
         return Ok(None);
     };
@@ -143,6 +151,7 @@ fn number_or(table: Option<&Table>, key: Key, low: u32, default: u32) -> Result<
     requires high { default ≤ MAX_BYTES }
     ensures low { IfOk result (λ n. low ≤ n) }
     ensures high { IfOk result (λ n. n ≤ MAX_BYTES) }
+    ensures is_toml { result ≢ Err SettingsFault.NotToml }
 {
     let Some(value) = table.and_then(|table| table.get(key.word())) else {
         return Ok(default);
