@@ -24,11 +24,12 @@ use Rattle.radio_floor.specs.Exchanges.{Exchange, exchanged}
 use Rattle.radio_floor.specs.Hearing.{Heard, IsHeard}
 use Rattle.radio_floor.specs.Runs.{Runs}
 use Rattle.radio_floor.specs.Saying.{said}
+use Rattle.radio_floor.specs.Script.{lines_of, deliveries_from}
 use Rattle.radio_floor.specs.ScriptState.{ScriptState, Performed, opening_script, connection_of, on_connection, exchanges, closes, opens, for_new_label, taken_in, told_lines, conversation_unless, with_connection}
 use Rattle.radio_floor.specs.Transcript.{conduct}
 use Rattle.radio_floor.specs.Given.{TranscriptLine, written, given}
 use Rattle.radio_floor.specs.Brought.{brought_in, brought}
-use Rattle.radio_floor.specs.Slices.{IsGiven, ListenersHearSlices}
+use Rattle.radio_floor.specs.Slices.{IsGiven, ListenersHearSlices, ScriptsHearSlices}
 use Rattle.radio_core.proofs.HistoryLemmas.{delivered_in}
 use Rattle.radio_floor.proofs.GivenLemmas.{lines_told, written-told, written-append}
 use Rattle.radio_floor.proofs.BroughtLemmas.{brought-append, given-before}
@@ -243,7 +244,11 @@ module _ (settled : IsSettled ShowsRequest) (fits : HeadsLieWithin ShowsRequest)
     fresh = λ id above. (refl, refl);
   }
 
-pub listeners_hear_slices : IsSettled ShowsRequest → HeadsLieWithin ShowsRequest → ((settings : Settings) (events : List Event) → SlicesAreWhole settings events) → ListenersHearSlices
-listeners_hear_slices settled fits slices settings deliveries text stop transcript =
+pub listeners_hear : IsSettled ShowsRequest → HeadsLieWithin ShowsRequest → ((settings : Settings) (events : List Event) → SlicesAreWhole settings events) → ListenersHearSlices
+listeners_hear settled fits slices settings deliveries text stop transcript =
     let gives = runs_give settled fits slices settings deliveries [] [] [] (opening_script settings) 1 text stop transcript.0 (nothing_yet settled fits slices settings) transcript.1 in
     record { lines = gives.told; is_written = gives.is_written; each = gives.each }
+
+-- a script's transcript is that of its deliveries
+pub scripts_hear : ListenersHearSlices → ScriptsHearSlices
+scripts_hear hear settings script text fault last transcript = hear settings (deliveries_from 1 (lines_of script)) text transcript.stop (last, transcript.run)

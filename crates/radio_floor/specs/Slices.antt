@@ -6,8 +6,12 @@ use Rattle.radio_core.specs.declared.shown.Shown.{Shown}
 use Rattle.radio_core.specs.Stretches.{between}
 use Rattle.radio_heads.specs.Answer.{listener_head, source_text}
 use Rattle.radio_floor.specs.declared.delivery.Delivery.{Delivery}
+use Rattle.radio_floor.specs.declared.faults.PlayFault.{PlayFault}
 use Rattle.radio_floor.specs.Saying.{denial}
-use Rattle.radio_floor.specs.Transcript.{IsTranscriptOf}
+use Rattle.radio_floor.specs.Script.{lines_of, deliveries_from}
+use Rattle.radio_floor.specs.ScriptState.{ScriptState, opening_script}
+use Rattle.radio_floor.specs.Transcript.{conduct, IsTranscriptOf}
+use Rattle.radio_floor.specs.Transcripts.{IsTranscript}
 use Rattle.radio_floor.specs.Given.{TranscriptLine, written, given}
 use Rattle.radio_floor.specs.Brought.{Asks, behind}
 
@@ -47,6 +51,10 @@ pub record GivesSlices (deliveries : List Delivery) (text : List ℕ) : Type 0 w
   pub is_written : text ≡ written lines
   pub each : (label : ℕ) → IsGiven deliveries label (given lines label)
 
--- whatever the script, each listener hears one slice of what one source's lines brought
+-- whatever is delivered, each listener hears one slice of what one source's pieces brought
 abbrev pub ListenersHearSlices : Type 0
 ListenersHearSlices = (settings : Settings) (deliveries : List Delivery) (text : List ℕ) (stop : Option ℕ) → IsTranscriptOf settings deliveries text stop → GivesSlices deliveries text
+
+-- and so whatever a script says: its text is the bytes that are read, and the transcript those that are written
+abbrev pub ScriptsHearSlices : Type 0
+ScriptsHearSlices = (settings : Settings) (script text : List ℕ) (fault : Option PlayFault) (last : ScriptState) → IsTranscript conduct (opening_script settings) 1 (lines_of script) text fault last → GivesSlices (deliveries_from 1 (lines_of script)) text

@@ -2,7 +2,7 @@
 
 ghost use Rattle.radio_floor.specs.Cuts.{CutsDoNotMatter};
 ghost use Rattle.radio_floor.specs.Laws.{GoesOnAsItBegan, HasOneTranscript, IsDetermined};
-ghost use Rattle.radio_floor.specs.Slices.{ListenersHearSlices};
+ghost use Rattle.radio_floor.specs.Slices.{ListenersHearSlices, ScriptsHearSlices};
 ghost use Rattle.radio_floor.specs.Transcript.{conduct};
 
 use radio_core::slices_are_whole;
@@ -28,12 +28,13 @@ pub fn the_transcript_is_one()
     readings_agree();
 }
 
-/// What each connection is given, over every list of deliveries: nothing, or one denial, or the
-/// answer to a source, or a listener's head and behind it nothing or one slice, in order, without
-/// gap or repeat, of what the `in` lines of one source brought behind its head. A listener is one
-/// whose own lines brought a GET, and a source one whose lines brought a SOURCE.
+/// What each connection is given, over every list of deliveries and every script: nothing, or one
+/// denial, or the answer to a source, or a listener's head and behind it nothing or one slice, in
+/// order, without gap or repeat, of what the `in` lines of one source brought behind its head. A
+/// listener is one whose own lines brought a GET, and a source one whose lines brought a SOURCE.
 pub fn listeners_hear_slices()
-    ensures { ListenersHearSlices }
+    ensures deliveries { ListenersHearSlices }
+    ensures scripts { ScriptsHearSlices }
 {
     settled();
     heads_lie_within();
