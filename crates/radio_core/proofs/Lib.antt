@@ -19,3 +19,4 @@ pub mod SliceSteps
 pub mod Slices
 pub mod HistoryLemmas
 pub mod ReplyLemmas
+pub mod SettingsLemmas

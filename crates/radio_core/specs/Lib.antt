@@ -26,3 +26,4 @@ pub mod Finishes
 pub mod Admission
 pub mod Stretches
 pub mod Slices
+pub mod Settings
