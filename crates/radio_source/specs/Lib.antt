@@ -1,0 +1,8 @@
+pub mod ChunkLine
+pub mod Place
+pub mod Position
+pub mod Blocks
+pub mod Gathering
+pub mod Feeding
+pub mod Told
+pub mod Chunked
