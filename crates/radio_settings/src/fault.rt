@@ -1,0 +1,65 @@
+//! What can be wrong with the text of some settings.
+ghost use Rattle.std.specs.Prelude.{◌≡◌, Some};
+ghost use Rattle.radio_settings.specs.Words.{fault_text};
+ghost use Rattle.radio_settings.specs.declared.fault.SettingsFault.TheVariants.{OutOfMemory as NoMemory};
+
+use crate::{Key, MountName, OutOfMemory};
+use std::alloc::AllocFailed;
+use std::error::Error;
+use std::fmt;
+
+/// Why a text has no settings. The first fault counts, in the order of the table in `docs/FORMATS.md`.
+///
+/// `Display` writes it in words: `not toml`, `missing KEY`, `wrong kind KEY`, `out of range KEY`, `mount twice NAME`,
+/// `bad name KEY`, `out of memory`.
+#[derive(Clone, Copy, Debug, PartialEq, Eq)]
+pub enum SettingsFault {
+    /// The text is not TOML.
+    NotToml,
+    /// A key that must be there is absent.
+    Missing { key: Key },
+    /// A key has a value of another kind, or the name of a table is none.
+    WrongKind { key: Key },
+    /// A number lies outside its range, or `on-demand` is true.
+    OutOfRange { key: Key },
+    /// Two mounts have this name, or two relays feed it.
+    MountTwice { name: MountName },
+    /// A text is not the name of a mount.
+    BadName { key: Key },
+    /// There was no memory. It says nothing of the text.
+    OutOfMemory,
+}
+
+impl fmt::Display for SettingsFault {
+    ghost output = { λ fault. Some (fault_text fault) };
+
+    fn fmt<W: fmt::Write>(&self, f: &mut fmt::Formatter<W>) -> fmt::Result {
+        match self {
+            SettingsFault::NotToml => f.write_str("not toml"),
+            SettingsFault::Missing { key } => write!(f, "missing {}", key.word()),
+            SettingsFault::WrongKind { key } => write!(f, "wrong kind {}", key.word()),
+            SettingsFault::OutOfRange { key } => write!(f, "out of range {}", key.word()),
+            SettingsFault::MountTwice { name } => write!(f, "mount twice {name}"),
+            SettingsFault::BadName { key } => write!(f, "bad name {}", key.word()),
+            SettingsFault::OutOfMemory => f.write_str("out of memory"),
+        }
+    }
+}
+
+impl Error for SettingsFault {}
+
+impl From<OutOfMemory> for SettingsFault {
+    ghost from_gives = { λ _ fault. fault ≡ NoMemory };
+
+    fn from(_refused: OutOfMemory) -> SettingsFault {
+        SettingsFault::OutOfMemory
+    }
+}
+
+impl<T: Drop> From<AllocFailed<T>> for SettingsFault {
+    ghost from_gives = { λ _ fault. fault ≡ NoMemory };
+
+    fn from(_refused: AllocFailed<T>) -> SettingsFault {
+        SettingsFault::OutOfMemory
+    }
+}

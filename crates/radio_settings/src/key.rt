@@ -1,0 +1,106 @@
+//! The keys of the settings.
+ghost use Rattle.std.specs.Prelude.{◌≡◌};
+ghost use Rattle.radio_settings.specs.Keys.{word};
+
+/// A key of the settings, or the name of a table. A key that stands in two tables is one.
+#[derive(Clone, Copy, Debug, PartialEq, Eq)]
+pub enum Key {
+    SourcePassword,
+    AdminUser,
+    AdminPassword,
+    RelayUser,
+    RelayPassword,
+    DenyIp,
+    AllowIp,
+    Listen,
+    Address,
+    Port,
+    Workers,
+    Limits,
+    Clients,
+    Sources,
+    QueueSize,
+    BurstSize,
+    SourceTimeout,
+    HeaderTimeout,
+    /// The list of mounts, and what a relay pulls.
+    Mount,
+    MountName,
+    Username,
+    Password,
+    MaxListeners,
+    MaxListenerDuration,
+    FallbackMount,
+    FallbackOverride,
+    FallbackWhenFull,
+    Hidden,
+    Mp3MetadataInterval,
+    StreamName,
+    Genre,
+    Htpasswd,
+    AllowDuplicateUsers,
+    Relay,
+    Server,
+    LocalMount,
+    OnDemand,
+    Slave,
+    MasterServer,
+    MasterPort,
+    MasterUsername,
+    MasterPassword,
+    MasterUpdateInterval,
+}
+
+impl Key {
+    /// The word for it in the settings.
+    #[tactic(auto, unfolding(crate::specs::Keys::word))]
+    pub fn word(self) -> &'static str
+        ensures { result.now ≡ word self }
+    {
+        match self {
+            Key::SourcePassword => "source-password",
+            Key::AdminUser => "admin-user",
+            Key::AdminPassword => "admin-password",
+            Key::RelayUser => "relay-user",
+            Key::RelayPassword => "relay-password",
+            Key::DenyIp => "deny-ip",
+            Key::AllowIp => "allow-ip",
+            Key::Listen => "listen",
+            Key::Address => "address",
+            Key::Port => "port",
+            Key::Workers => "workers",
+            Key::Limits => "limits",
+            Key::Clients => "clients",
+            Key::Sources => "sources",
+            Key::QueueSize => "queue-size",
+            Key::BurstSize => "burst-size",
+            Key::SourceTimeout => "source-timeout",
+            Key::HeaderTimeout => "header-timeout",
+            Key::Mount => "mount",
+            Key::MountName => "mount-name",
+            Key::Username => "username",
+            Key::Password => "password",
+            Key::MaxListeners => "max-listeners",
+            Key::MaxListenerDuration => "max-listener-duration",
+            Key::FallbackMount => "fallback-mount",
+            Key::FallbackOverride => "fallback-override",
+            Key::FallbackWhenFull => "fallback-when-full",
+            Key::Hidden => "hidden",
+            Key::Mp3MetadataInterval => "mp3-metadata-interval",
+            Key::StreamName => "stream-name",
+            Key::Genre => "genre",
+            Key::Htpasswd => "htpasswd",
+            Key::AllowDuplicateUsers => "allow_duplicate_users",
+            Key::Relay => "relay",
+            Key::Server => "server",
+            Key::LocalMount => "local-mount",
+            Key::OnDemand => "on-demand",
+            Key::Slave => "slave",
+            Key::MasterServer => "master-server",
+            Key::MasterPort => "master-port",
+            Key::MasterUsername => "master-username",
+            Key::MasterPassword => "master-password",
+            Key::MasterUpdateInterval => "master-update-interval",
+        }
+    }
+}

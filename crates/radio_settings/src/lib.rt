@@ -1,0 +1,40 @@
+//! The settings of a station, read from TOML.
+//!
+//! - [`Settings::read`] gives the settings of a text, or its first fault in the order of the table in
+//!   `docs/FORMATS.md`: a [`SettingsFault`] that names a [`Key`].
+//! - [`MountName`] is the name of a mount, and [`Within`] a number with its range.
+//! - [`Text`] is a text as it stands in the settings; [`Field`] and [`Shown`] are what heads show, cleaned.
+//! - [`laws`] says what holds of every text.
+//!
+//! Each table of the text has a file under `reading`, and one under `specs` with its keys, ranges and defaults.
+#![tactic(auto)]
+
+mod fault;
+mod field;
+mod key;
+pub mod laws;
+mod mount_name;
+mod mounts;
+mod options;
+mod reading;
+mod repeats;
+mod settings;
+#[cfg(test)]
+mod tests;
+mod text;
+mod within;
+
+pub use fault::SettingsFault;
+pub use field::{Field, Shown};
+pub use key::Key;
+pub use mount_name::{LONGEST_MOUNT_NAME, MountName};
+pub use mounts::{MountSettings, RelaySettings};
+pub use settings::{
+    AccessSettings, Bytes, LimitSettings, ListenSettings, MountOptions, MountSetting, Port,
+    RelayLogin, RelaySetting, SecondsOfDay, Settings, SlaveSetting, SomeBytes,
+};
+pub use text::Text;
+pub use within::Within;
+
+/// The error of each call that takes memory: there was none.
+pub type OutOfMemory = std::alloc::AllocError;

@@ -1,0 +1,22 @@
+//! The table `[listen]`.
+ghost use Rattle.toml.specs.View.{table_view};
+ghost use Rattle.radio_settings.specs.Listen.{listen_fault, listen_of};
+ghost use Rattle.radio_settings.specs.Reading.{Reads};
+
+use super::values::{number_or, text_or};
+use crate::{Key, ListenSettings, SettingsFault};
+use std::alloc::Global;
+use toml::Table;
+
+/// Where the server listens.
+#[tactic(auto, unfolding(crate::specs::Listen::listen_fault, crate::specs::Listen::listen_of))]
+pub fn listen(alloc: Global, table: &Table) -> Result<ListenSettings, SettingsFault>
+    ensures { let t = table_view table.now in
+        Reads (listen_fault t) (listen_of t) result }
+{
+    Ok(ListenSettings {
+        address: text_or(alloc, table, Key::Address, "127.0.0.1")?,
+        port: number_or(table, Key::Port, 8000)?,
+        workers: number_or(table, Key::Workers, 4)?,
+    })
+}

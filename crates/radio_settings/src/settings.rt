@@ -1,0 +1,164 @@
+//! The settings, table by table. Keys are named and meant as in the Icecast 2.4 documentation, where it has them.
+
+use crate::{Field, MountName, MountSettings, RelaySettings, Text, Within};
+
+/// A number of bytes, from 1 to 2^30.
+pub type SomeBytes = Within<1, 1_073_741_824>;
+
+/// A number of bytes, from 0 to 2^30.
+pub type Bytes = Within<0, 1_073_741_824>;
+
+/// A number of seconds, from 1 to those of a day.
+pub type SecondsOfDay = Within<1, 86400>;
+
+/// A TCP port to connect to.
+pub type Port = Within<1, 65535>;
+
+/// What a station sets. [`Settings::read`] makes them.
+#[derive(Drop)]
+pub struct Settings {
+    /// The keys above all tables: who may do what.
+    pub access: AccessSettings,
+    /// The table `[listen]`.
+    pub listen: ListenSettings,
+    /// The table `[limits]`.
+    pub limits: LimitSettings,
+    /// The tables `[[mount]]`.
+    pub mounts: MountSettings,
+    /// What holds for a mount that has no table.
+    pub other_mounts: MountOptions,
+    /// The tables `[[relay]]`.
+    pub relays: RelaySettings,
+    /// The table `[slave]`.
+    pub slave: Option<SlaveSetting>,
+}
+
+/// Passwords, users and address lists of the whole station.
+#[derive(Drop)]
+pub struct AccessSettings {
+    /// What a source client sends, where its mount sets no password of its own.
+    pub source_password: Text,
+    /// Who the admin is.
+    pub admin_user: Text,
+    /// What the admin sends.
+    pub admin_password: Text,
+    /// Who asks for the list of streams.
+    pub relay_user: Text,
+    /// What they send; with none, everybody is turned away but the admin.
+    pub relay_password: Option<Text>,
+    /// The path of a list of addresses that are denied.
+    pub deny_ip: Option<Text>,
+    /// The path of a list of addresses, all others of which are denied.
+    pub allow_ip: Option<Text>,
+}
+
+/// Where the server listens.
+#[derive(Drop)]
+pub struct ListenSettings {
+    /// The address to bind.
+    pub address: Text,
+    /// The TCP port to bind; 0 for any that is free.
+    pub port: Within<0, 65535>,
+    /// How many threads serve.
+    pub workers: Within<1, 64>,
+}
+
+/// The limits of the whole station.
+#[derive(Clone, Copy)]
+pub struct LimitSettings {
+    /// How many clients may be there at once.
+    pub clients: Within<1, 1_000_000>,
+    /// How many sessions of sources and relays may be live at once.
+    pub sources: Within<1, 100_000>,
+    /// How many bytes of a stream a listener may lie behind its end.
+    pub queue_size: SomeBytes,
+    /// How many bytes a new listener is sent at once, where the mount does not say.
+    pub burst_size: Bytes,
+    /// After how many seconds without data a source is ended.
+    pub source_timeout: SecondsOfDay,
+    /// After how many seconds without a request a client is ended.
+    pub header_timeout: SecondsOfDay,
+}
+
+/// A table `[[mount]]`.
+#[derive(Drop)]
+pub struct MountSetting {
+    /// The mount's name.
+    pub name: MountName,
+    /// What it sets, and the defaults of what it does not.
+    pub options: MountOptions,
+}
+
+/// What a mount may set, with every default in its place.
+#[derive(Drop)]
+pub struct MountOptions {
+    /// Who its source is.
+    pub username: Text,
+    /// What its source sends.
+    pub password: Text,
+    /// How many listeners it may have at once; `None` for no limit.
+    pub max_listeners: Option<Within<0, 1_000_000>>,
+    /// After how many seconds a listener is ended; `None` for no limit.
+    pub max_listener_duration: Option<Within<1, 31_536_000>>,
+    /// Where its listeners go when its session ends.
+    pub fallback_mount: Option<MountName>,
+    /// Whether they come back when a session begins again.
+    pub fallback_override: bool,
+    /// Whether a listener goes to the fallback where the mount is full.
+    pub fallback_when_full: bool,
+    /// Whether the mount stands in no public listing.
+    pub hidden: bool,
+    /// How many bytes a new listener is sent at once.
+    pub burst_size: Bytes,
+    /// After how many bytes of data a metadata block stands.
+    pub mp3_metadata_interval: Within<1, 1_000_000>,
+    /// The stream's name; `None` for the source's.
+    pub stream_name: Option<Field>,
+    /// The genre; `None` for the source's.
+    pub genre: Option<Field>,
+    /// The path of its user list; `None` for an open mount.
+    pub htpasswd: Option<Text>,
+    /// Whether a user may listen twice at once.
+    pub allow_duplicate_users: bool,
+}
+
+/// A table `[[relay]]`: a mount of another server that is pulled in.
+#[derive(Drop)]
+pub struct RelaySetting {
+    /// The master's name or address.
+    pub server: Field,
+    /// The master's port.
+    pub port: Port,
+    /// The mount to pull.
+    pub mount: MountName,
+    /// The mount that it feeds here.
+    pub local_mount: MountName,
+    /// What is sent to the master; `None` for nothing.
+    pub login: Option<RelayLogin>,
+    /// Whether it is pulled only while somebody listens. Never, as yet.
+    pub on_demand: bool,
+}
+
+/// Who a relay is to its master.
+#[derive(Drop)]
+pub struct RelayLogin {
+    /// The user.
+    pub username: Text,
+    /// The password.
+    pub password: Text,
+}
+
+/// The table `[slave]`: a master whose mounts are all pulled in.
+#[derive(Drop)]
+pub struct SlaveSetting {
+    /// The master's name or address.
+    pub master_server: Field,
+    /// The master's port.
+    pub master_port: Port,
+    /// Who this server is to the master.
+    pub master_username: Text,
+    /// What is sent to the master.
+    pub master_password: Text,
+    /// After how many seconds the list of streams is asked for again.
+    pub master_update_interval: SecondsOfDay,
+}

@@ -1,0 +1,84 @@
+//! Names of mounts.
+
+use super::*;
+use crate::{LONGEST_MOUNT_NAME, OutOfMemory};
+use std::cmp::Ordering;
+
+/// Whether the path names a mount; and that the name keeps its bytes.
+fn is_name(path: &[u8]) -> bool {
+    match MountName::read(path) {
+        Some(name) => name.as_bytes() == path,
+        None => false,
+    }
+}
+
+#[test]
+fn paths_that_name_mounts(rt: HostRuntime) {
+    let names: [&[u8]; 11] = [
+        b"/",
+        b"//",
+        b"/a",
+        b"/a b/c.mp3",
+        b"/admin",
+        b"/administrator",
+        b"/a/admin/",
+        b"/status.jsonx",
+        b"/status",
+        b"/ ~",
+        b"/Fl\xc3\xb6te",
+    ];
+    for path in names {
+        assert!(rt; is_name(path), "{path:?}");
+    }
+}
+
+#[test]
+fn paths_that_name_none(rt: HostRuntime) {
+    let others: [&[u8]; 11] = [
+        b"",
+        b"a",
+        b"a/",
+        b"/admin/",
+        b"/admin/x",
+        b"/status.json",
+        b"/a\x1f",
+        b"/a\x7f",
+        b"/\x00",
+        b"/a\xff",
+        b"/a\xc3",
+    ];
+    for path in others {
+        assert!(rt; !is_name(path), "{path:?}");
+    }
+}
+
+/// A slash and so many letters.
+fn long_path(alloc: Global, letters: usize) -> Result<Vec<u8>, OutOfMemory> {
+    let mut path = vec![in alloc; b'/']?;
+    for _ in 0..letters {
+        path.push(b'a')?;
+    }
+    Ok(path)
+}
+
+#[test]
+fn longest_name(rt: HostRuntime) -> Result<(), Fail> {
+    let longest = long_path(rt.alloc(), LONGEST_MOUNT_NAME - 1)?;
+    assert!(rt; is_name(longest.as_slice()));
+    let longer = long_path(rt.alloc(), LONGEST_MOUNT_NAME)?;
+    assert!(rt; !is_name(longer.as_slice()));
+    Ok(())
+}
+
+#[test]
+fn names_are_compared_by_their_bytes(rt: HostRuntime) -> Result<(), Fail> {
+    for (name, other, order) in [
+        ("/a", "/a", Ordering::Equal),
+        ("/a", "/ab", Ordering::Less),
+        ("/ab", "/b", Ordering::Less),
+        ("/b", "/", Ordering::Greater),
+    ] {
+        assert_eq!(rt; named(name)?.cmp(&named(other)?), order, "{name} {other}");
+    }
+    Ok(())
+}
