@@ -1,8 +1,8 @@
 -- Lists of rows and of names, cut where the first fault or the first repeat stands.
-use Rattle.std.proofs.Common.{◌≡◌, ◌≢◌, ℕ, Bool, true, false, cond, List, [], ◌∷◌, ◌++◌, Option, None, Some, Result, Ok, Err, refl, ap, sym, ◌∙◌, append_assoc, arith, inl, inr, ◌⊎◌, codes}
+use Rattle.std.proofs.Common.{◌≡◌, ℕ, true, false, cond, List, [], ◌∷◌, ◌++◌, Option, None, Some, Result, Ok, Err, refl, ap, sym, ◌∙◌, append_assoc, inl, inr}
 use Rattle.std.proofs.lemmas.Bool.{false≢true}
 use Rattle.std.proofs.lemmas.List.{append-nil}
-use Rattle.std.specs.Option.{option_or, option_map_or}
+use Rattle.std.specs.Option.{option_map_or}
 use Rattle.toml.specs.Data.{Members}
 use Rattle.toml.specs.Parse.{parse_document}
 use Rattle.radio_settings.specs.declared.fault.SettingsFault.{SettingsFault}
@@ -11,7 +11,7 @@ use Rattle.radio_settings.specs.declared.settings.Settings.{Settings}
 use Rattle.radio_settings.specs.Rows.{first_fault}
 use Rattle.radio_settings.specs.Repeats.{first_repeat, first_repeat_after, is_among}
 use Rattle.radio_settings.specs.Document.{document_faults, document_reading, settings_or_fault, settings_of, reading_of}
-use Rattle.radio_settings.specs.Laws.{AreAllWell, IsFirstFault, IsDocumentFault, IsFaultOf, AreSettingsOf, IsFirstRepeat}
+use Rattle.radio_settings.specs.Laws.{AreAllWell, IsFirstFault, IsFaultOf, AreSettingsOf, IsFirstRepeat}
 
 abbrev pub Faults : Type 0
 Faults = List (Option SettingsFault)

@@ -18,7 +18,7 @@ use Rattle.radio_settings.specs.Listen.{listen_rows, listen_fault, listen_of}
 use Rattle.radio_settings.specs.Limits.{limit_rows, limits_fault, limits_of}
 use Rattle.radio_settings.specs.Mounts.{mount_rows, options_of, mounts_of}
 use Rattle.radio_settings.specs.Relays.{relay_rows, relays_of}
-use Rattle.radio_settings.specs.Slave.{slave_rows, slave_fault, slave_of}
+use Rattle.radio_settings.specs.Slave.{slave_rows, slave_of}
 
 abbrev pub access_faults : Members → List (Option SettingsFault)
 access_faults document = faults_in access_rows document

@@ -1,6 +1,5 @@
 -- The tables `[[mount]]`.
 use Rattle.std.specs.Prelude.{Option, false, true, List, [], ◌∷◌, codes, map}
-use Rattle.std.specs.List.{flat_map}
 use Rattle.toml.specs.Data.{Members}
 use Rattle.radio_settings.specs.declared.fault.SettingsFault.{SettingsFault}
 use Rattle.radio_settings.specs.declared.key.Key.TheVariants.{Mount, MountName, Username, Password, MaxListeners, MaxListenerDuration, FallbackMount, FallbackOverride, FallbackWhenFull, Hidden, BurstSize, Mp3MetadataInterval, StreamName, Genre, Htpasswd, AllowDuplicateUsers}

@@ -1,5 +1,5 @@
 -- Rows of the table of settings, and the faults that they find.
-use Rattle.std.specs.Prelude.{ℕ, ℤ, Bool, true, false, not, ◌&&◌, nat_le, if◌then◌else◌, List, [], ◌∷◌, Option, None, Some, is_some, map}
+use Rattle.std.specs.Prelude.{ℕ, Bool, true, false, not, ◌&&◌, nat_le, if◌then◌else◌, List, [], ◌∷◌, Option, None, Some, is_some, map}
 use Rattle.std.specs.Option.{option_or}
 use Rattle.toml.specs.Data.{Data, Members, as_str, as_integer, as_bool, as_table}
 use Rattle.radio_settings.specs.declared.key.Key.{Key}

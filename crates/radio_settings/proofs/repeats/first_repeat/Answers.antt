@@ -1,7 +1,7 @@
-use Rattle.std.proofs.Common.{◌≡◌, ap, sym, ◌∙◌, Bool, true, false, not, refl, take, get_or, [], arith}
+use Rattle.std.proofs.Common.{◌≡◌, ap, sym, ◌∙◌, false, take, arith}
 use Rattle.std.specs.List.{list_any}
 use Rattle.std.specs.BTreeMap.{is_at}
-use Rattle.radio_settings.proofs.RepeatLemmas.{none_passed, passed_more, has_more, found_here, order}
+use Rattle.radio_settings.proofs.RepeatLemmas.{none_passed, passed_more, has_more, order}
 use Rattle.radio_settings.specs.Repeats.{is_among}
 use Rattle.radio_settings.proofs.repeats.first_repeat.Goals as goal
 
