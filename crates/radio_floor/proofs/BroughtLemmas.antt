@@ -7,7 +7,7 @@ use Rattle.radio_heads.specs.declared.outcome.Progress.TheVariants.{Whole}
 use Rattle.radio_heads.specs.Head.{ShowsRequest}
 use Rattle.radio_heads.specs.Reading.{IsReading}
 use Rattle.radio_heads.specs.Laws.{IsSettled, HeadsLieWithin}
-use Rattle.radio_floor.specs.declared.delivery.Delivery.{Delivery}
+use Rattle.radio_script.specs.declared.delivery.Delivery.{Delivery}
 use Rattle.radio_floor.specs.Brought.{brought_in, brought, Asks, behind}
 use Rattle.radio_floor.specs.Slices.{IsOneSlice, IsGiven}
 

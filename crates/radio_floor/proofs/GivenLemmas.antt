@@ -4,8 +4,8 @@ use Rattle.std.specs.Prelude.{if◌then◌else◌}
 use Rattle.radio_floor.specs.declared.connection.Ending.{Ending}
 use Rattle.radio_floor.specs.Conversation.{ending_word}
 use Rattle.radio_floor.specs.ScriptState.{told_lines, word_of_ending}
-use Rattle.radio_floor.specs.TranscriptLines.{out_line, shut_line, out_lines, shut_lines, answer_lines}
-use Rattle.radio_floor.specs.Given.{TranscriptLine, out, shut, line_text, written, given_in, given}
+use Rattle.radio_script.specs.TranscriptLines.{out_line, shut_line, out_lines, shut_lines, answer_lines}
+use Rattle.radio_script.specs.Given.{TranscriptLine, out, shut, line_text, written, given_in, given}
 
 -- an `out` line where bytes were given
 abbrev outs : ℕ → List ℕ → List TranscriptLine

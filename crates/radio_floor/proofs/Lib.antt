@@ -1,16 +1,6 @@
-mod NumberLemmas
-mod EscapeLemmas
-mod FeedLemmas
-mod SpellingLemmas
-mod TranscriptLemmas
-mod LinePlays
-mod ScriptPlays
-mod RunLemmas
-mod LawLemmas
 mod BlockLemmas
 mod CutLemmas
 mod ScriptStateLemmas
-mod SimulationLemmas
 mod ServerSimulation
 mod OneTranscript
 mod GivenLemmas

@@ -5,13 +5,13 @@ use Rattle.radio_heads.specs.Head.{ShowsRequest}
 use Rattle.radio_heads.specs.Laws.{ReadingsAgree}
 use Rattle.radio_floor.specs.declared.connection.Hears.{Hears}
 use Rattle.radio_floor.specs.declared.connection.Hears.TheVariants.{Head, Body, Nothing}
-use Rattle.radio_floor.specs.declared.delivery.Delivery.{Delivery}
-use Rattle.radio_floor.specs.declared.delivery.Delivery.TheVariants.{Open, In, Room, End}
+use Rattle.radio_script.specs.declared.delivery.Delivery.{Delivery}
+use Rattle.radio_script.specs.declared.delivery.Delivery.TheVariants.{Open, In, Room, End}
 use Rattle.radio_floor.specs.Conversation.{Conversation}
 use Rattle.radio_floor.specs.Hearing.{Heard, HearsAs, IsHeard, head_heard}
 use Rattle.radio_floor.specs.ScriptState.{ScriptState, Performed, IsPerformed, on_connection, connection_of, exchanges, closes}
 use Rattle.radio_floor.specs.Transcript.{conduct}
-use Rattle.radio_floor.specs.Laws.{IsDetermined}
+use Rattle.radio_script.specs.Laws.{IsDetermined}
 use Rattle.radio_floor.proofs.CutLemmas.{faults-alike}
 
 -- where a connection does one thing, so does its label

@@ -15,12 +15,12 @@ use Rattle.radio_core.proofs.SliceLemmas.{between_before}
 use Rattle.radio_heads.specs.Head.{ShowsRequest}
 use Rattle.radio_heads.specs.Laws.{IsSettled, HeadsLieWithin}
 use Rattle.radio_floor.specs.declared.connection.Ending.{Ending}
-use Rattle.radio_floor.specs.declared.delivery.Delivery.{Delivery}
+use Rattle.radio_script.specs.declared.delivery.Delivery.{Delivery}
 use Rattle.radio_floor.specs.declared.script_server.Labelled.{Labelled}
 use Rattle.radio_floor.specs.Conversation.{Conversation}
 use Rattle.radio_floor.specs.Exchanges.{Exchange}
 use Rattle.radio_floor.specs.ScriptState.{ScriptState, has_label, connection_of, with_connection, conversation_unless}
-use Rattle.radio_floor.specs.Given.{TranscriptLine, given}
+use Rattle.radio_script.specs.Given.{TranscriptLine, given}
 use Rattle.radio_floor.specs.Brought.{brought_in, brought, behind}
 use Rattle.radio_floor.specs.Slices.{IsOneSlice, IsGiven}
 use Rattle.radio_core.proofs.HistoryLemmas.{handed_in, delivered_in, AreOfOthers, his_are_others, handed-others, delivered-others, last-more}

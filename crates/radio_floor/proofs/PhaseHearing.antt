@@ -24,8 +24,8 @@ use Rattle.radio_floor.specs.declared.connection.Hears.{Hears}
 use Rattle.radio_floor.specs.declared.connection.Hears.TheVariants.{Head, Body, Nothing}
 use Rattle.radio_floor.specs.declared.connection.Says.{Says}
 use Rattle.radio_floor.specs.declared.connection.Says.TheVariants.{Asking, Admitted}
-use Rattle.radio_floor.specs.declared.delivery.Delivery.{Delivery}
-use Rattle.radio_floor.specs.declared.delivery.Delivery.TheVariants.{In}
+use Rattle.radio_script.specs.declared.delivery.Delivery.{Delivery}
+use Rattle.radio_script.specs.declared.delivery.Delivery.TheVariants.{In}
 use Rattle.radio_floor.specs.Blocks.{cut_into, blocks_of, pushes}
 use Rattle.radio_floor.specs.Conversation.{Conversation}
 use Rattle.radio_floor.specs.Exchanges.{exchanged}

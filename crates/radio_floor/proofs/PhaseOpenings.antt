@@ -17,13 +17,13 @@ use Rattle.radio_heads.specs.Head.{ShowsRequest}
 use Rattle.radio_heads.specs.Laws.{IsSettled, HeadsLieWithin}
 use Rattle.radio_floor.specs.declared.connection.Ending.{Ending}
 use Rattle.radio_floor.specs.declared.connection.Ending.TheVariants.{By}
-use Rattle.radio_floor.specs.declared.delivery.Delivery.{Delivery}
-use Rattle.radio_floor.specs.declared.delivery.Delivery.TheVariants.{Open}
+use Rattle.radio_script.specs.declared.delivery.Delivery.{Delivery}
+use Rattle.radio_script.specs.declared.delivery.Delivery.TheVariants.{Open}
 use Rattle.radio_floor.specs.declared.script_server.Labelled.{Labelled}
 use Rattle.radio_floor.specs.Conversation.{Conversation, fresh}
 use Rattle.radio_floor.specs.Saying.{denial}
 use Rattle.radio_floor.specs.ScriptState.{ScriptState, has_label, connection_of}
-use Rattle.radio_floor.specs.Given.{TranscriptLine, given}
+use Rattle.radio_script.specs.Given.{TranscriptLine, given}
 use Rattle.radio_floor.specs.Brought.{brought}
 use Rattle.radio_core.proofs.HistoryLemmas.{handed_in, delivered_in, AreOfOthers, run-more, handed-others, delivered-others, last-more}
 use Rattle.radio_floor.proofs.GivenLemmas.{lines_told, given-his, given-others}

@@ -17,17 +17,17 @@ use Rattle.radio_heads.specs.Head.{ShowsRequest}
 use Rattle.radio_heads.specs.Laws.{IsSettled, HeadsLieWithin}
 use Rattle.radio_floor.specs.declared.connection.Ending.TheVariants.{Done}
 use Rattle.radio_floor.specs.declared.connection.Says.TheVariants.{Asking}
-use Rattle.radio_floor.specs.declared.delivery.Delivery.{Delivery}
-use Rattle.radio_floor.specs.declared.delivery.Delivery.TheVariants.{Open, In, Room, End}
+use Rattle.radio_script.specs.declared.delivery.Delivery.{Delivery}
+use Rattle.radio_script.specs.declared.delivery.Delivery.TheVariants.{Open, In, Room, End}
 use Rattle.radio_floor.specs.Conversation.{Conversation}
 use Rattle.radio_floor.specs.Exchanges.{Exchange, exchanged}
 use Rattle.radio_floor.specs.Hearing.{Heard, IsHeard}
-use Rattle.radio_floor.specs.Runs.{Runs}
+use Rattle.radio_script.specs.Runs.{Runs}
 use Rattle.radio_floor.specs.Saying.{said}
-use Rattle.radio_floor.specs.Script.{lines_of, deliveries_from}
+use Rattle.radio_script.specs.Script.{lines_of, deliveries_from}
 use Rattle.radio_floor.specs.ScriptState.{ScriptState, Performed, opening_script, connection_of, on_connection, exchanges, closes, opens, for_new_label, taken_in, told_lines, conversation_unless, with_connection}
 use Rattle.radio_floor.specs.Transcript.{conduct}
-use Rattle.radio_floor.specs.Given.{TranscriptLine, written, given}
+use Rattle.radio_script.specs.Given.{TranscriptLine, written, given}
 use Rattle.radio_floor.specs.Brought.{brought_in, brought}
 use Rattle.radio_floor.specs.Slices.{IsGiven, ListenersHearSlices, ScriptsHearSlices}
 use Rattle.radio_core.proofs.HistoryLemmas.{delivered_in}

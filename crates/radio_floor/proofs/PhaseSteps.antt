@@ -24,7 +24,7 @@ use Rattle.radio_floor.specs.declared.connection.Hears.{Hears}
 use Rattle.radio_floor.specs.declared.connection.Hears.TheVariants.{Head, Body, Nothing}
 use Rattle.radio_floor.specs.declared.connection.Says.{Says}
 use Rattle.radio_floor.specs.declared.connection.Says.TheVariants.{Asking, Admitted, Refusing}
-use Rattle.radio_floor.specs.declared.delivery.Delivery.{Delivery}
+use Rattle.radio_script.specs.declared.delivery.Delivery.{Delivery}
 use Rattle.radio_floor.specs.Exchanges.{Exchange, prefixed, exchanged, exchanged_then}
 use Rattle.radio_floor.specs.Saying.{said, denial}
 use Rattle.radio_floor.specs.Brought.{Asks, behind}

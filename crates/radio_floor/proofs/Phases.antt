@@ -13,7 +13,7 @@ use Rattle.radio_floor.specs.declared.connection.Hears.{Hears}
 use Rattle.radio_floor.specs.declared.connection.Hears.TheVariants.{Head, Body, Nothing}
 use Rattle.radio_floor.specs.declared.connection.Says.{Says}
 use Rattle.radio_floor.specs.declared.connection.Says.TheVariants.{Asking, Admitted}
-use Rattle.radio_floor.specs.declared.delivery.Delivery.{Delivery}
+use Rattle.radio_script.specs.declared.delivery.Delivery.{Delivery}
 use Rattle.radio_floor.specs.Brought.{brought, Asks, behind}
 use Rattle.radio_floor.specs.Slices.{IsDenied, IsSource}
 use Rattle.radio_core.proofs.StandingLemmas.{HasNotAsked, FeedsAt}

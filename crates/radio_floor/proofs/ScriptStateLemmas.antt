@@ -4,10 +4,10 @@ use Rattle.std.specs.Option.{option_map}
 use Rattle.radio_core.specs.World.{World}
 use Rattle.radio_core.specs.declared.event.Event.{Event}
 use Rattle.radio_core.proofs.ListLemmas.{update_first-twice}
-use Rattle.radio_floor.specs.declared.delivery.Delivery.{Delivery}
+use Rattle.radio_script.specs.declared.delivery.Delivery.{Delivery}
 use Rattle.radio_floor.specs.declared.script_server.Labelled.{Labelled}
-use Rattle.radio_floor.specs.declared.faults.PerformFault.{PerformFault}
-use Rattle.radio_floor.specs.declared.faults.PerformFault.TheVariants.{Label}
+use Rattle.radio_script.specs.declared.faults.PerformFault.{PerformFault}
+use Rattle.radio_script.specs.declared.faults.PerformFault.TheVariants.{Label}
 use Rattle.radio_floor.specs.Conversation.{Conversation}
 use Rattle.radio_floor.specs.Exchanges.{exchanged}
 use Rattle.radio_floor.specs.ScriptState.{ScriptState, Performed, has_label, connection_of, with_connection, on_connection, for_label, for_new_label, exchanges, closes, conversation_unless, told_lines}

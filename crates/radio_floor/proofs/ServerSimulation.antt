@@ -3,16 +3,16 @@ use Rattle.std.proofs.Common.{◌≡◌, ℕ, List, [], Option, None, Some, Resu
 use Rattle.radio_core.specs.World.{World, opening}
 use Rattle.radio_core.specs.Step.{Represents}
 use Rattle.radio_core.specs.declared.settings.Settings.{Settings}
-use Rattle.radio_floor.specs.declared.delivery.Delivery.{Delivery}
+use Rattle.radio_script.specs.declared.delivery.Delivery.{Delivery}
 use Rattle.radio_floor.specs.declared.script_server.ScriptServer.{ScriptServer}
-use Rattle.radio_floor.specs.declared.faults.PlayFault.{PlayFault}
+use Rattle.radio_script.specs.declared.faults.PlayFault.{PlayFault}
 use Rattle.radio_floor.specs.ScriptState.{ScriptState, opening_script}
 use Rattle.radio_floor.specs.ScriptServer.{script_state_of}
 use Rattle.radio_floor.specs.Performing.{Performs}
-use Rattle.radio_floor.specs.Plays.{Plays, IfKnown, Writes}
-use Rattle.radio_floor.specs.Runs.{Conduct, Runs}
+use Rattle.radio_script.specs.Plays.{Plays, IfKnown, Writes}
+use Rattle.radio_script.specs.Runs.{Conduct, Runs}
 use Rattle.radio_floor.specs.Transcript.{conduct, IsTranscriptOf, PlaysScript}
-use Rattle.radio_floor.proofs.SimulationLemmas.{runs, plays}
+use Rattle.radio_script.proofs.SimulationLemmas.{runs, plays}
 
 -- what the server does
 abbrev pub server_conduct : Conduct ScriptServer

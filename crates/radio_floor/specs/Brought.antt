@@ -4,8 +4,8 @@ use Rattle.std.specs.List.{flat_map}
 use Rattle.radio_heads.specs.declared.outcome.Progress.TheVariants.{Whole}
 use Rattle.radio_heads.specs.Head.{RequestParts, ShowsRequest}
 use Rattle.radio_heads.specs.Reading.{IsReading}
-use Rattle.radio_floor.specs.declared.delivery.Delivery.{Delivery}
-use Rattle.radio_floor.specs.declared.delivery.Delivery.TheVariants.{In}
+use Rattle.radio_script.specs.declared.delivery.Delivery.{Delivery}
+use Rattle.radio_script.specs.declared.delivery.Delivery.TheVariants.{In}
 
 abbrev pub brought_in : Delivery → ℕ → List ℕ
 brought_in (In his bytes) label = (if his == label then bytes else [])

@@ -1,20 +1,3 @@
-pub mod Steps
-pub mod Parts
-pub mod Peer
-pub mod Numbers
-pub mod Escapes
-pub mod Delivery
-pub mod TranscriptLines
-pub mod Devices
-pub mod Reading
-pub mod Script
-pub mod Runs
-pub mod Transcripts
-pub mod Plays
-pub mod Answers
-pub mod Laws
-pub mod Tally
-pub mod Spelling
 pub mod Conversation
 pub mod Blocks
 pub mod Hearing
@@ -25,6 +8,5 @@ pub mod ScriptServer
 pub mod Performing
 pub mod Transcript
 pub mod Cuts
-pub mod Given
 pub mod Brought
 pub mod Slices

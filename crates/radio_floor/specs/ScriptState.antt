@@ -13,10 +13,10 @@ use Rattle.radio_core.specs.Step.{outcome}
 use Rattle.radio_floor.specs.declared.connection.Says.TheVariants.{Asking}
 use Rattle.radio_floor.specs.declared.connection.Ending.{Ending}
 use Rattle.radio_floor.specs.declared.connection.Ending.TheVariants.{Done}
-use Rattle.radio_floor.specs.declared.delivery.Delivery.{Delivery}
-use Rattle.radio_floor.specs.declared.delivery.Delivery.TheVariants.{Open, In, Room, End}
+use Rattle.radio_script.specs.declared.delivery.Delivery.{Delivery}
+use Rattle.radio_script.specs.declared.delivery.Delivery.TheVariants.{Open, In, Room, End}
 use Rattle.radio_floor.specs.declared.script_server.Labelled.{Labelled}
-use Rattle.radio_floor.specs.TranscriptLines.{answer_lines}
+use Rattle.radio_script.specs.TranscriptLines.{answer_lines}
 use Rattle.radio_floor.specs.Conversation.{Conversation, fresh, ending_word}
 use Rattle.radio_floor.specs.Hearing.{Heard, IsHeard}
 use Rattle.radio_floor.specs.Saying.{said}

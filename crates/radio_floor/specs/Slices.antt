@@ -5,14 +5,14 @@ use Rattle.radio_core.specs.declared.settings.Settings.{Settings}
 use Rattle.radio_core.specs.declared.shown.Shown.{Shown}
 use Rattle.radio_core.specs.Stretches.{between}
 use Rattle.radio_heads.specs.Answer.{listener_head, source_text}
-use Rattle.radio_floor.specs.declared.delivery.Delivery.{Delivery}
-use Rattle.radio_floor.specs.declared.faults.PlayFault.{PlayFault}
+use Rattle.radio_script.specs.declared.delivery.Delivery.{Delivery}
+use Rattle.radio_script.specs.declared.faults.PlayFault.{PlayFault}
 use Rattle.radio_floor.specs.Saying.{denial}
-use Rattle.radio_floor.specs.Script.{lines_of, deliveries_from}
+use Rattle.radio_script.specs.Script.{lines_of, deliveries_from}
 use Rattle.radio_floor.specs.ScriptState.{ScriptState, opening_script}
 use Rattle.radio_floor.specs.Transcript.{conduct, IsTranscriptOf}
-use Rattle.radio_floor.specs.Transcripts.{IsTranscript}
-use Rattle.radio_floor.specs.Given.{TranscriptLine, written, given}
+use Rattle.radio_script.specs.Transcripts.{IsTranscript}
+use Rattle.radio_script.specs.Given.{TranscriptLine, written, given}
 use Rattle.radio_floor.specs.Brought.{Asks, behind}
 
 -- the bytes are one slice of what one source brought behind its head

@@ -1,11 +1,11 @@
 -- The transcript of deliveries and of scripts, of a server of some settings to which nothing has happened yet.
 use Rattle.std.specs.Prelude.{ℕ, List, Option, Result}
 use Rattle.radio_core.specs.declared.settings.Settings.{Settings}
-use Rattle.radio_floor.specs.declared.delivery.Delivery.{Delivery}
-use Rattle.radio_floor.specs.declared.faults.PlayFault.{PlayFault}
+use Rattle.radio_script.specs.declared.delivery.Delivery.{Delivery}
+use Rattle.radio_script.specs.declared.faults.PlayFault.{PlayFault}
 use Rattle.radio_floor.specs.ScriptState.{ScriptState, opening_script, IsPerformed}
-use Rattle.radio_floor.specs.Runs.{Conduct, Runs}
-use Rattle.radio_floor.specs.Plays.{Plays}
+use Rattle.radio_script.specs.Runs.{Conduct, Runs}
+use Rattle.radio_script.specs.Plays.{Plays}
 
 -- from this state the delivery comes to these lines, or is at fault, and to that state
 abbrev pub conduct : Conduct ScriptState

@@ -1,33 +1,42 @@
-//! Laws of the definitions: functions that do nothing, each with a law for its contract.
+//! Laws on connections and on the transcript, which run no code.
 
-ghost use Rattle.std.specs.Prelude.{◌≡◌, ◌<◌, ◌↔◌, List, ℕ, Some};
-ghost use Rattle.std.specs.List.{AllByRecursion};
-ghost use Rattle.radio_floor.specs.Escapes.{escaped, unescaped};
-ghost use Rattle.radio_floor.specs.Spelling.{SpellsAll};
-ghost use Rattle.radio_floor.specs.Laws.{GoesOnAsItBegan, HasOneTranscript, IsDetermined};
+ghost use Rattle.radio_floor.specs.Cuts.{CutsDoNotMatter};
+ghost use Rattle.radio_script.specs.Laws.{GoesOnAsItBegan, HasOneTranscript, IsDetermined};
+ghost use Rattle.radio_floor.specs.Slices.{ListenersHearSlices, ScriptsHearSlices};
+ghost use Rattle.radio_floor.specs.Transcript.{conduct};
 
-use crate::performer::Performer;
+use radio_core::slices_are_whole;
+use radio_heads::{heads_lie_within, readings_agree, settled};
 
-/// What a transcript writes of some bytes is read back as these bytes.
-#[tactic(auto, using(crate::proofs::EscapeLemmas::unescaped_escaped))]
-pub fn escapes_read_back()
-    ensures { (bytes : List ℕ) → AllByRecursion (λ b. b < 256) bytes
-        → unescaped (escaped bytes) ≡ Some bytes }
-{}
+/// What comes on a connection in two pieces is heard as if it had come in one: the same head, the
+/// same data and the same events, but for where blocks are cut, and what follows is heard alike.
+pub fn cuts_do_not_matter()
+    ensures { CutsDoNotMatter }
+{
+    readings_agree();
+    settled();
+    heads_lie_within();
+}
 
-/// The bytes that a text stands for are those that it writes, by the grammar of texts.
-#[tactic(auto, using(crate::proofs::SpellingLemmas::spelled))]
-pub fn texts_are_spelled()
-    ensures { (text bytes : List ℕ) → (unescaped text ≡ Some bytes) ↔ SpellsAll text bytes }
-{}
+/// The server does one thing at each delivery. So a script has one transcript, and what the whole
+/// lines at its front come to is a front of it, whatever lines are behind them.
+pub fn the_transcript_is_one()
+    ensures determined { IsDetermined conduct }
+    ensures one { HasOneTranscript conduct }
+    ensures goes_on { GoesOnAsItBegan conduct }
+{
+    readings_agree();
+}
 
-/// Where each delivery comes to one thing, a script has one transcript.
-pub fn scripts_have_one_transcript<P: Performer>()
-    ensures { IsDetermined P.performs → HasOneTranscript P.performs }
-{}
-
-/// Where each delivery comes to one thing, what the whole lines at a script's front come to is a
-/// front of its transcript: more lines behind them change nothing.
-pub fn transcripts_go_on_as_they_began<P: Performer>()
-    ensures { IsDetermined P.performs → GoesOnAsItBegan P.performs }
-{}
+/// What each connection is given, over every list of deliveries and every script: nothing, or one
+/// denial, or the answer to a source, or a listener's head and behind it nothing or one slice, in
+/// order, without gap or repeat, of what the `in` lines of one source brought behind its head. A
+/// listener is one whose own lines brought a GET, and a source one whose lines brought a SOURCE.
+pub fn listeners_hear_slices()
+    ensures deliveries { ListenersHearSlices }
+    ensures scripts { ScriptsHearSlices }
+{
+    settled();
+    heads_lie_within();
+    slices_are_whole();
+}

@@ -8,15 +8,13 @@ ghost use Rattle.radio_floor.specs.Hearing.{Heard, IsHeard};
 ghost use Rattle.radio_floor.specs.ScriptState.{exchanges, closes};
 ghost use Rattle.radio_floor.specs.ScriptServer.{script_state_of, DoesAs};
 ghost use Rattle.radio_floor.specs.Performing.{PerformsAs};
-ghost use Rattle.radio_floor.specs.declared.delivery.Delivery.TheVariants.{Open, In, Room, End};
+ghost use Rattle.radio_script.specs.declared.delivery.Delivery.TheVariants.{Open, In, Room, End};
 
 use crate::OutOfMemory;
 use crate::connection::{Connection, Ending};
-use crate::delivery::Delivery;
-use crate::faults::PerformFault;
-use crate::performer::Performer;
 use crate::script_server::{ScriptServer, has_label, leave, push_told, swap_connection};
 use radio_core::{Event, Peer};
+use radio_script::{Delivery, PerformFault, Performer};
 use std::alloc::Global;
 
 impl ScriptServer {

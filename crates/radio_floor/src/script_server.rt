@@ -12,8 +12,8 @@ ghost use Rattle.radio_floor.specs.Exchanges.{exchanged, is_leave};
 
 use crate::OutOfMemory;
 use crate::connection::{Connection, Ending};
-use crate::transcript_lines::push_answer;
 use radio_core::{Core, Event, Lists, Peer, Reply, Settings};
+use radio_script::push_answer;
 use std::alloc::Global;
 use std::mem;
 

@@ -1,9 +1,4 @@
-//! Tests over tables of texts and over devices that fail.
+//! Tests of whole scripts.
 
-mod devices;
-mod echo;
-mod lines;
-mod play;
-mod run;
 mod slices;
 mod station;

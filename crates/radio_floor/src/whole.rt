@@ -1,17 +1,13 @@
 //! The server behind a list of deliveries, and behind a script.
 
 ghost use Rattle.std.specs.Prelude.{◌≡◌, ◌≢◌, ◌+◌, ◌≤◌, ℕ, List, true, None, Some, Err, IfOk};
-ghost use Rattle.radio_floor.specs.Plays.{IfKnown, Writes};
-ghost use Rattle.radio_floor.specs.Reading.{reader_failures, writer_failures};
+ghost use Rattle.radio_script.specs.Plays.{IfKnown, Writes};
+ghost use Rattle.radio_script.specs.Reading.{reader_failures, writer_failures};
 ghost use Rattle.radio_floor.specs.Transcript.{IsTranscriptOf, PlaysScript};
 
-use crate::delivery::Delivery;
-use crate::devices::{CountedRead, CountedWrite};
-use crate::faults::{PlayFault, RunFault};
-use crate::playing::play_with;
-use crate::running::run_with;
 use crate::script_server::ScriptServer;
 use radio_core::{Lists, Settings};
+use radio_script::{CountedRead, CountedWrite, Delivery, PlayFault, RunFault, play_with, run_with};
 use std::alloc::Global;
 
 /// The lines `out` and `shut` that deliveries come to.

@@ -1,7 +1,8 @@
 //! What each listener hears, read from a script and from its transcript by a plain program.
 
 use super::station::played;
-use crate::{Delivery, OutOfMemory, read_delivery, unescape};
+use crate::{Delivery, OutOfMemory};
+use radio_script::{read_delivery, unescape};
 use std::alloc::Global;
 
 // Two sources of one mount, one after the other, in pieces that cut heads and data; listeners who

@@ -1,9 +1,11 @@
 //! Scripts over the server itself.
 
-use super::devices::Frail;
-use crate::{Delivery, OutOfMemory, PlayFault, RunFault, Tally, play, read_delivery, run};
+use crate::{Delivery, OutOfMemory, PlayFault, RunFault, Tally, play, run};
 use radio_core::{Lists, Settings, Text};
+use radio_script::read_delivery;
 use std::alloc::Global;
+use std::io;
+use std::io::{Error, ErrorKind, Read};
 
 const EIGHT_BYTES: &[u8] = b"open 1 10.0.0.1\n\
     in 1 SOURCE /a HTTP/1.0\\r\\n\\r\\n\n\
@@ -107,16 +109,22 @@ fn runs_eight_bytes(rt: HostRuntime) -> Result<(), OutOfMemory> {
     Ok(())
 }
 
-// At each call of the reader in its turn, and of the writer: a front of the transcript was written.
+// A reader that fails at each call.
+#[derive(Drop)]
+struct Broken;
+
+impl Read for Broken {
+    fn read(&mut self, _buffer: &mut [u8]) -> io::Result<usize> {
+        Err(Error::from(ErrorKind::Interrupted))
+    }
+}
+
+// A reader that breaks behind each front of the script: a front of the transcript was written.
 #[test]
-fn ends_with_a_failing_device(rt: HostRuntime) -> Result<(), OutOfMemory> {
+fn ends_with_a_failing_reader(rt: HostRuntime) -> Result<(), OutOfMemory> {
     let alloc = rt.alloc();
     for sound in 0..EIGHT_BYTES.len() {
-        let mut reader = Tally::new(Frail {
-            device: EIGHT_BYTES,
-            sound,
-            most: 1,
-        });
+        let mut reader = Tally::new(EIGHT_BYTES[..sound].chain(Broken));
         let mut written = Vec::new(alloc);
         let mut writer = Tally::new(&mut written);
         let result = play(
@@ -133,14 +141,17 @@ fn ends_with_a_failing_device(rt: HostRuntime) -> Result<(), OutOfMemory> {
             "at {sound}"
         );
     }
-    for sound in 0..EIGHT_BYTES_TRANSCRIPT.len() {
+    Ok(())
+}
+
+// A writer that takes no more than a front of the transcript: it has that front.
+#[test]
+fn ends_with_a_full_writer(rt: HostRuntime) -> Result<(), OutOfMemory> {
+    let alloc = rt.alloc();
+    for room in 0..EIGHT_BYTES_TRANSCRIPT.len() {
         let mut reader = Tally::new(EIGHT_BYTES);
-        let mut written = Vec::new(alloc);
-        let mut writer = Tally::new(Frail {
-            device: &mut written,
-            sound,
-            most: 1,
-        });
+        let mut written = vec![in alloc; 0; room]?;
+        let mut writer = Tally::new(written.as_mut_slice());
         let result = play(
             alloc,
             settings(alloc, 8)?,
@@ -149,11 +160,10 @@ fn ends_with_a_failing_device(rt: HostRuntime) -> Result<(), OutOfMemory> {
             &mut writer,
         );
         drop(writer);
-        assert_eq!(rt; result, Err(PlayFault::Write), "at {sound}");
-        assert_eq!(rt; written.len(), sound);
+        assert_eq!(rt; result, Err(PlayFault::Write), "at {room}");
         assert!(rt;
             EIGHT_BYTES_TRANSCRIPT.starts_with(written.as_slice()),
-            "at {sound}"
+            "at {room}"
         );
     }
     Ok(())

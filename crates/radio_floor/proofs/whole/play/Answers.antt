@@ -1,4 +1,4 @@
-use Rattle.radio_floor.specs.Plays.{Plays, Writes}
+use Rattle.radio_script.specs.Plays.{Plays, Writes}
 use Rattle.radio_floor.specs.Transcript.{PlaysScript}
 use Rattle.radio_floor.proofs.ServerSimulation.{server_conduct, server_plays, known-weaker, writes-weaker}
 use Rattle.radio_floor.proofs.whole.play.Goals as goal

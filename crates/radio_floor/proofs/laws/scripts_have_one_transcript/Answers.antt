@@ -1,5 +1,0 @@
-use Rattle.radio_floor.proofs.LawLemmas.{one_transcript}
-use Rattle.radio_floor.proofs.laws.scripts_have_one_transcript.Goals as goal
-
-pub returns : goal.returns
-returns g c = one_transcript g.P.Performer.performs

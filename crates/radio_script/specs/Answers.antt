@@ -1,0 +1,73 @@
+-- What the answering of one line does.
+use Rattle.std.specs.Prelude.{ℕ, ◌≡◌, ◌≤◌, ◌⊎◌, Bool, true, false, List, [], ◌∷◌, ◌++◌, length, None, Some, Result, Ok, Err, ⊤}
+use Rattle.std.specs.Io.{StartsWith}
+use Rattle.radio_script.specs.declared.delivery.Delivery.{Delivery}
+use Rattle.radio_script.specs.declared.faults.PlayFault.{PlayFault}
+use Rattle.radio_script.specs.declared.faults.PlayFault.TheVariants.{Write, Line, OutOfMemory}
+use Rattle.radio_script.specs.Reading.{has_feed}
+use Rattle.radio_script.specs.Script.{meaning_of}
+use Rattle.radio_script.specs.Runs.{Conduct}
+use Rattle.radio_script.specs.Plays.{Plays}
+
+-- The line of this number is answered by the performer old.
+module _ {P : Type 0} (performs : Conduct P) (old : P) (number : ℕ) where
+  -- The line is a delivery, which comes to this text.
+  pub record IsAnswered (line text : List ℕ) (new : P) : Type 0 where
+    pub delivery : Delivery
+    pub means : meaning_of number line ≡ Ok delivery
+    pub performed : performs old delivery (Some text) new
+
+  -- The line is a delivery whose label is at fault.
+  pub record IsStopped (line : List ℕ) (fault : PlayFault) (new : P) : Type 0 where
+    pub delivery : Delivery
+    pub means : meaning_of number line ≡ Ok delivery
+    pub refused : performs old delivery None new
+    pub here : fault ≡ Line number
+
+  -- The line is no delivery.
+  pub record IsMeaningless (line : List ℕ) (fault : PlayFault) (new : P) : Type 0 where
+    pub means : meaning_of number line ≡ Err fault
+    pub unchanged : new ≡ old
+
+  -- The line has this fault.
+  abbrev pub IsAtFault : List ℕ → PlayFault → P → Type 0
+  IsAtFault line fault new = IsMeaningless line fault new ⊎ IsStopped line fault new
+
+  -- The line was performed, with this text for its transcript, or it was not.
+  abbrev pub IsPerformed : List ℕ → Result (Unit {0}) PlayFault → List ℕ → P → Type 0
+  IsPerformed line (Ok done) text new = IsAnswered line text new
+  IsPerformed line (Err (Line here)) text new = IsAtFault line (Line here) new
+  IsPerformed line (Err OutOfMemory) text new = ⊤
+  IsPerformed line (Err fault) text new = ⊥
+
+  -- The text was written as far as it could be, in at most one turn for each byte of it.
+  pub record IsWrittenInPart (line written : List ℕ) (turns : ℕ) (new : P) : Type 0 where
+    pub text : List ℕ
+    pub answer : IsAnswered line text new
+    pub front : StartsWith text written
+    pub in_turns : turns ≤ length text
+
+  -- The line was answered, or it was not.
+  abbrev pub AnswersLine : List ℕ → Result (Unit {0}) PlayFault → List ℕ → ℕ → P → Type 0
+  AnswersLine line (Ok done) written turns new = IsAnswered line written new × (turns ≤ length written)
+  AnswersLine line (Err (Line here)) written turns new =
+      IsAtFault line (Line here) new × (written ≡ []) × (turns ≡ 0)
+  AnswersLine line (Err Write) written turns new = IsWrittenInPart line written turns new
+  AnswersLine line (Err OutOfMemory) written turns new = (written ≡ []) × (turns ≡ 0)
+  AnswersLine line (Err fault) written turns new = ⊥
+
+  -- A whole line was read and answered.
+  pub record IsLinePlayed (script left written : List ℕ) (turns : ℕ) (new : P) : Type 0 where
+    pub line : List ℕ
+    pub parts : script ≡ line ++ 10 ∷ left
+    pub one_line : has_feed line ≡ false
+    pub answer : IsAnswered line written new
+    pub in_turns : turns ≤ length written
+
+  -- The next line was played and there may be more, or the script was played to its end.
+  abbrev pub PlaysLine : List ℕ → List ℕ → Result Bool PlayFault → List ℕ → ℕ → P → Type 0
+  PlaysLine script left (Ok true) written turns new = IsLinePlayed script left written turns new
+  PlaysLine script left (Ok false) written turns new =
+      Plays performs old number script left (Ok tt) written turns new
+  PlaysLine script left (Err fault) written turns new =
+      Plays performs old number script left (Err fault) written turns new

@@ -1,0 +1,56 @@
+-- The lines of a script, each a delivery: a word and its fields, parted by one space.
+use Rattle.std.specs.Prelude.{ℕ, nat_lt, List, Option, Some, None, if◌then◌else◌}
+use Rattle.std.specs.Str.{bytes_eq}
+use Rattle.std.specs.Prelude.{codes}
+use Rattle.radio_script.specs.declared.delivery.Delivery.{Delivery}
+use Rattle.radio_script.specs.declared.delivery.Delivery.TheVariants.{Open, In, Room, End}
+use Rattle.radio_script.specs.Steps.{◌>>=◌}
+use Rattle.radio_script.specs.Parts.{parted}
+use Rattle.radio_script.specs.Numbers.{number_of}
+use Rattle.radio_script.specs.Peer.{peer_of}
+use Rattle.radio_script.specs.Escapes.{unescaped}
+
+-- a label: a number from 1 on
+unfoldable pub label_of : List ℕ → Option ℕ
+label_of text = do
+  label ← number_of text
+  if nat_lt 0 label then Some label else None
+
+-- `open C PEER`
+unfoldable pub open_of : List ℕ → Option Delivery
+open_of fields = do
+  field ← parted 32 fields
+  label ← label_of field.0
+  peer ← peer_of field.1
+  Some (Open label peer)
+
+-- `in C TEXT`
+unfoldable pub in_of : List ℕ → Option Delivery
+in_of fields = do
+  field ← parted 32 fields
+  label ← label_of field.0
+  bytes ← unescaped field.1
+  Some (In label bytes)
+
+-- `room C N`
+unfoldable pub room_of : List ℕ → Option Delivery
+room_of fields = do
+  field ← parted 32 fields
+  label ← label_of field.0
+  room ← number_of field.1
+  Some (Room label room)
+
+-- `end C`
+unfoldable pub end_of : List ℕ → Option Delivery
+end_of fields = do
+  label ← label_of fields
+  Some (End label)
+
+-- the delivery that a line stands for, if it is one
+unfoldable pub delivery_of : List ℕ → Option Delivery
+delivery_of line = do
+  parts ← parted 32 line
+  if bytes_eq parts.0 (codes "open") then open_of parts.1 else
+      (if bytes_eq parts.0 (codes "in") then in_of parts.1 else
+      (if bytes_eq parts.0 (codes "room") then room_of parts.1 else
+      (if bytes_eq parts.0 (codes "end") then end_of parts.1 else None)))

@@ -1,0 +1,92 @@
+-- What the playing of a script does to its reader and its writer.
+use Rattle.std.specs.Prelude.{ℕ, ◌+◌, ◌≡◌, ◌≤◌, ◌==◌, false, List, [], ◌∷◌, ◌++◌, length, Option, None, Some, Result, Ok, Err, ⊤}
+use Rattle.std.specs.Bool.{OnTrue}
+use Rattle.std.specs.Io.{StartsWith}
+use Rattle.std.specs.Io.KnownBytes.{Appends}
+use Rattle.radio_script.specs.declared.faults.PlayFault.{PlayFault}
+use Rattle.radio_script.specs.declared.faults.PlayFault.TheVariants.{Read, Write, Line, TooMuch, OutOfMemory}
+use Rattle.radio_script.specs.Reading.{has_feed}
+use Rattle.radio_script.specs.Script.{lines_of}
+use Rattle.radio_script.specs.Runs.{Conduct}
+use Rattle.radio_script.specs.Transcripts.{IsTranscript}
+
+-- P holds of the bytes that a reader had and those that it has left, where they are known.
+abbrev pub IfKnown : Option (List ℕ) → Option (List ℕ) → (List ℕ → List ℕ → Type 0) → Type 0
+IfKnown None left P = ⊤
+IfKnown (Some script) None P = ⊥
+IfKnown (Some script) (Some left) P = P script left
+
+-- A writer took some bytes in at most so many turns, and P holds of both.
+pub record Writes (before after : Option (List ℕ)) (calls_before calls_after : ℕ)
+    (P : List ℕ → ℕ → Type 0) : Type 0 where
+  pub written : List ℕ
+  pub turns : ℕ
+  pub appends : Appends before after written
+  pub called : calls_after ≤ calls_before + turns
+  pub holds : P written turns
+
+-- each line has its line feed
+abbrev pub IsLines : List ℕ → Type 0
+IsLines [] = ⊤
+IsLines (b ∷ []) = b ≡ 10
+IsLines (b ∷ c ∷ bytes) = IsLines (c ∷ bytes)
+
+-- a line feed stands at the end alone, if there is one
+abbrev pub IsOneLine : List ℕ → Type 0
+IsOneLine [] = ⊤
+IsOneLine (b ∷ bytes) = OnTrue (b == 10) (bytes ≡ []) × IsOneLine bytes
+
+-- A script is played from the performer old on. Its first line has this number.
+module _ {P : Type 0} (performs : Conduct P) (old : P) (number : ℕ) where
+  -- What was written is the transcript of the script, up to its first fault, in at most one turn
+  -- for each byte.
+  pub record IsPlayed (script : List ℕ) (fault : Option PlayFault) (written : List ℕ) (turns : ℕ) (new : P) : Type 0 where
+    pub transcript : IsTranscript performs old number (lines_of script) written fault new
+    pub in_turns : turns ≤ length written
+
+  -- What was written is the transcript of the whole lines before the rest of the script.
+  pub record IsPlayedBefore (script rest written : List ℕ) (turns : ℕ) (new : P) : Type 0 where
+    pub lines : List ℕ
+    pub parts : script ≡ lines ++ rest
+    pub whole : IsLines lines
+    pub played : IsPlayed lines None written turns new
+
+  -- All that the whole lines come to was written, and a front of what the line behind them comes
+  -- to, in at most one turn for each byte. Nothing behind that line was read.
+  pub record IsCutOff (script left written : List ℕ) (turns : ℕ) (new : P) : Type 0 where
+    pub lines : List ℕ
+    pub line : List ℕ
+    pub parts : script ≡ lines ++ line ++ left
+    pub whole : IsLines lines
+    pub one_line : IsOneLine line
+    pub between : P
+    pub before : List ℕ
+    pub text : List ℕ
+    pub front : List ℕ
+    pub answered : IsTranscript performs old number (lines_of lines) before None between
+    pub transcript : IsTranscript performs old number (lines_of (lines ++ line)) (before ++ text) None new
+    pub cut : StartsWith text front
+    pub is_written : written ≡ before ++ front
+    pub in_turns : turns ≤ length (before ++ text)
+
+  -- The playing leaves some of the script unread, and ends so.
+  abbrev pub Plays : List ℕ → List ℕ → Result (Unit {0}) PlayFault → List ℕ → ℕ → P → Type 0
+  -- All was read, and the whole transcript was written.
+  Plays script left (Ok done) written turns new = (left ≡ []) × IsPlayed script None written turns new
+  -- The script has this fault, and the transcript of the lines before was written.
+  Plays script left (Err (Line here)) written turns new = IsPlayed script (Some (Line here)) written turns new
+  Plays script left (Err TooMuch) written turns new = IsPlayed script (Some TooMuch) written turns new
+  -- Less than a line was read when the reader failed: the lines before were answered already.
+  Plays script left (Err Read) written turns new =
+      (part : List ℕ) × (has_feed part ≡ false) × IsPlayedBefore script (part ++ left) written turns new
+  Plays script left (Err Write) written turns new = IsCutOff script left written turns new
+  -- At most the line behind the lines before was read. What became of the performer is left open.
+  Plays script left (Err OutOfMemory) written turns new =
+      (part : List ℕ) × (last : P) × IsOneLine part × IsPlayedBefore script (part ++ left) written turns last
+
+-- A reader is looked at once more: it is at its end, or it has a byte too many, or it fails.
+abbrev pub EndsThere : Option (List ℕ) → Option (List ℕ) → Result (Unit {0}) PlayFault → Type 0
+EndsThere old new (Ok done) = IfKnown old new (λ script left. (script ≡ []) × (left ≡ []))
+EndsThere old new (Err TooMuch) = IfKnown old new (λ script left. (b : ℕ) × (script ≡ b ∷ left))
+EndsThere old new (Err Read) = IfKnown old new (λ script left. script ≡ left)
+EndsThere old new (Err fault) = ⊥

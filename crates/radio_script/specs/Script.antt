@@ -1,0 +1,46 @@
+-- Scripts: their lines, and what the lines mean.
+use Rattle.std.specs.Prelude.{ℕ, ◌+◌, ◌==◌, nat_lt, ◌||◌, List, [], ◌∷◌, length, Option, None, Some, Result, Ok, Err, if◌then◌else◌}
+use Rattle.std.specs.Option.{ok_or}
+use Rattle.radio_script.specs.declared.limits.TheConstants.{MAX_LINE, MAX_LINES}
+use Rattle.radio_script.specs.declared.delivery.Delivery.{Delivery}
+use Rattle.radio_script.specs.declared.faults.PlayFault.{PlayFault}
+use Rattle.radio_script.specs.declared.faults.PlayFault.TheVariants.{Line, TooMuch}
+use Rattle.radio_script.specs.Delivery.{delivery_of}
+
+-- the lines, with the byte at the front of the first
+abbrev pub onto_first : ℕ → List (List ℕ) → List (List ℕ)
+onto_first b [] = (b ∷ []) ∷ []
+onto_first b (line ∷ lines) = (b ∷ line) ∷ lines
+
+-- the lines of a script, without their line feeds; the last line may lack its line feed
+abbrev pub lines_of : List ℕ → List (List ℕ)
+lines_of [] = []
+lines_of (b ∷ script) = if b == 10 then [] ∷ lines_of script else onto_first b (lines_of script)
+
+-- what the line of that number means: a delivery, or the line's fault
+unfoldable pub meaning_of : ℕ → List ℕ → Result Delivery PlayFault
+meaning_of number line =
+    if nat_lt MAX_LINES number || nat_lt MAX_LINE (length line)
+    then Err TooMuch
+    else ok_or (delivery_of line) (Line number)
+
+-- a delivery and those that follow, if it is one
+abbrev pub onto_delivery : Result Delivery PlayFault → List Delivery → List Delivery
+onto_delivery (Ok delivery) deliveries = delivery ∷ deliveries
+onto_delivery (Err fault) deliveries = []
+
+-- what the lines deliver, up to the first that is at fault; the first line has this number
+abbrev pub deliveries_from : ℕ → List (List ℕ) → List Delivery
+deliveries_from number [] = []
+deliveries_from number (line ∷ lines) =
+    onto_delivery (meaning_of number line) (deliveries_from (number + 1) lines)
+
+-- the fault, or else that of what follows
+abbrev pub fault_or : Result Delivery PlayFault → Option PlayFault → Option PlayFault
+fault_or (Ok delivery) next = next
+fault_or (Err fault) next = Some fault
+
+-- the fault of the first line that is at fault
+abbrev pub fault_from : ℕ → List (List ℕ) → Option PlayFault
+fault_from number [] = None
+fault_from number (line ∷ lines) = fault_or (meaning_of number line) (fault_from (number + 1) lines)

@@ -1,0 +1,102 @@
+//! What a script delivers, a line each.
+
+ghost use Rattle.std.specs.Prelude.{◌≡◌, IfOk};
+ghost use Rattle.radio_script.specs.Delivery.{delivery_of, end_of, in_of, label_of, open_of, room_of};
+
+use crate::OutOfMemory;
+use crate::byte_string::ByteString;
+use crate::escapes::unescape;
+use crate::numbers::read_number;
+use crate::parts::cut_at;
+use crate::peer::read_peer;
+use radio_core::Peer;
+use std::alloc::Global;
+
+/// What happens to one connection. Connections are named by labels, from 1 on.
+#[derive(Debug, Drop)]
+pub enum Delivery {
+    /// The connection arrives.
+    Open { label: u32, peer: Peer },
+    /// Bytes arrive on it.
+    In { label: u32, bytes: ByteString },
+    /// There is room for so many bytes of data on it.
+    Room { label: u32, room: u32 },
+    /// The peer has closed it.
+    End { label: u32 },
+}
+
+/// The delivery that a line of a script stands for; `None` where it stands for none. The line is
+/// given without its line feed.
+#[tactic(auto, unfolding(crate::specs::Delivery::delivery_of))]
+pub fn read_delivery(alloc: Global, line: &[u8]) -> Result<Option<Delivery>, OutOfMemory>
+    ensures { IfOk result (λ delivery. delivery ≡ delivery_of line.now) }
+{
+    let Some((word, fields)) = cut_at(line, b' ') else {
+        return Ok(None);
+    };
+    if word == b"open".as_slice() {
+        return Ok(read_open(fields));
+    }
+    if word == b"in".as_slice() {
+        return read_in(alloc, fields);
+    }
+    if word == b"room".as_slice() {
+        return Ok(read_room(fields));
+    }
+    if word == b"end".as_slice() {
+        return Ok(read_end(fields));
+    }
+    Ok(None)
+}
+
+#[tactic(auto, unfolding(crate::specs::Delivery::open_of))]
+fn read_open(fields: &[u8]) -> Option<Delivery>
+    ensures { result ≡ open_of fields.now }
+{
+    let (label, peer) = cut_at(fields, b' ')?;
+    let label = read_label(label)?;
+    let peer = read_peer(peer)?;
+    Some(Delivery::Open { label, peer })
+}
+
+#[tactic(auto, unfolding(crate::specs::Delivery::in_of))]
+fn read_in(alloc: Global, fields: &[u8]) -> Result<Option<Delivery>, OutOfMemory>
+    ensures { IfOk result (λ delivery. delivery ≡ in_of fields.now) }
+{
+    let Some((label, text)) = cut_at(fields, b' ') else {
+        return Ok(None);
+    };
+    let Some(label) = read_label(label) else {
+        return Ok(None);
+    };
+    match unescape(alloc, text)? {
+        Some(bytes) => Ok(Some(Delivery::In { label, bytes })),
+        None => Ok(None),
+    }
+}
+
+#[tactic(auto, unfolding(crate::specs::Delivery::room_of))]
+fn read_room(fields: &[u8]) -> Option<Delivery>
+    ensures { result ≡ room_of fields.now }
+{
+    let (label, room) = cut_at(fields, b' ')?;
+    let label = read_label(label)?;
+    let room = read_number(room)?;
+    Some(Delivery::Room { label, room })
+}
+
+#[tactic(auto, unfolding(crate::specs::Delivery::end_of))]
+fn read_end(fields: &[u8]) -> Option<Delivery>
+    ensures { result ≡ end_of fields.now }
+{
+    let label = read_label(fields)?;
+    Some(Delivery::End { label })
+}
+
+#[tactic(auto, unfolding(crate::specs::Delivery::label_of))]
+fn read_label(text: &[u8]) -> Option<u32>
+    ensures { result ≡ label_of text.now }
+{
+    let label = read_number(text)?;
+    if label == 0 { None } else { Some(label) }
+}

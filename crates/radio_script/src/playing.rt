@@ -1,0 +1,187 @@
+//! Playing a script.
+
+ghost use Rattle.std.specs.Prelude.{◌≡◌, ◌≢◌, ◌+◌, ◌≤◌, ℕ, List, true, Ok, Err, length};
+ghost use Rattle.radio_script.specs.Answers.{AnswersLine, IsPerformed, PlaysLine};
+ghost use Rattle.radio_script.specs.Plays.{EndsThere, IfKnown, Plays, Writes};
+ghost use Rattle.radio_script.specs.Reading.{reader_failures, writer_failures};
+ghost use Rattle.radio_script.specs.declared.limits.TheConstants.{MAX_LINE, MAX_LINES};
+
+use crate::delivery::read_delivery;
+use crate::devices::{CountedRead, CountedWrite};
+use crate::faults::{PerformFault, PlayFault};
+use crate::limits::MAX_LINES;
+use crate::performer::Performer;
+use crate::reading::{LineRead, next_byte, read_line};
+use crate::writing::write_whole;
+use std::alloc::Global;
+
+// The line that is played, and what its delivery came to.
+#[derive(Drop)]
+struct Buffers {
+    line: Vec<u8>,
+    text: Vec<u8>,
+}
+
+/// Plays a script: reads it line by line, and writes its transcript. A line is answered before
+/// anything behind it is read.
+///
+/// `Ok` has read to the reader's end. It is refused with `Read` or `Write` where that device
+/// failed, with `Line` or `TooMuch` where the script has that fault, with `OutOfMemory`, and for
+/// nothing else.
+pub fn play_with<P: Performer, R: CountedRead, W: CountedWrite>(
+    alloc: Global,
+    performer: &mut P,
+    reader: &mut R,
+    writer: &mut W,
+) -> Result<(), PlayFault>
+    // What was written is what the script's lines come to, as far as the result says.
+    ensures plays { IfKnown (R.remaining reader.old) (R.remaining reader.new) (λ script left.
+        Writes (W.contents writer.old) (W.contents writer.new)
+        (W.calls writer.old) (W.calls writer.new) (λ written turns.
+        Plays P.performs performer.old 1 script left result written turns performer.new)) }
+
+    // 1,000,000 lines of 65,536 bytes with their line feeds, a byte a call, and one call more.
+    ensures reader_calls { R.calls reader.new ≤ R.calls reader.old + 65537000001 }
+
+    // A fault of a device comes with its first failure, and only with one.
+    ensures reader_failures { R.failures reader.new ≡ reader_failures result (R.failures reader.old) }
+    ensures writer_failures { W.failures writer.new ≡ writer_failures result (W.failures writer.old) }
+
+    // Nothing that was written is kept back.
+    ensures flushed { result ≢ Err PlayFault.Write
+        → W.is_flushed writer.old ≡ true → W.is_flushed writer.new ≡ true }
+{
+    let mut buffers = Buffers {
+        line: Vec::new(alloc),
+        text: Vec::new(alloc),
+    };
+    for number in 1..MAX_LINES + 1 {
+        match play_line(alloc, performer, number, reader, writer, &mut buffers) {
+            Ok(true) => {}
+            Ok(false) => return Ok(()),
+            Err(fault) => return Err(fault),
+        }
+    }
+    expect_end(reader)
+}
+
+// Reads the next line and answers it. `Ok(true)` where the line had its line feed, `Ok(false)` at
+// the reader's end.
+fn play_line<P: Performer, R: CountedRead, W: CountedWrite>(
+    alloc: Global,
+    performer: &mut P,
+    number: u32,
+    reader: &mut R,
+    writer: &mut W,
+    buffers: &mut Buffers,
+) -> Result<bool, PlayFault>
+    requires { number ≤ MAX_LINES }
+    ensures plays { IfKnown (R.remaining reader.old) (R.remaining reader.new) (λ script left.
+        Writes (W.contents writer.old) (W.contents writer.new)
+        (W.calls writer.old) (W.calls writer.new) (λ written turns.
+        PlaysLine P.performs performer.old number script left result written turns performer.new)) }
+    ensures reader_calls { R.calls reader.new ≤ R.calls reader.old + (MAX_LINE + 1) }
+    ensures reader_failures { R.failures reader.new ≡ reader_failures result (R.failures reader.old) }
+    ensures writer_failures { W.failures writer.new ≡ writer_failures result (W.failures writer.old) }
+    ensures flushed { result ≢ Err PlayFault.Write
+        → W.is_flushed writer.old ≡ true → W.is_flushed writer.new ≡ true }
+{
+    match read_line(reader, &mut buffers.line) {
+        Err(fault) => Err(fault),
+        Ok(LineRead::Nothing) => Ok(false),
+        Ok(LineRead::TooLong) => Err(PlayFault::TooMuch),
+        Ok(LineRead::Last) => {
+            match answer_line(
+                alloc,
+                performer,
+                number,
+                &buffers.line,
+                &mut buffers.text,
+                writer,
+            ) {
+                Ok(()) => Ok(false),
+                Err(fault) => Err(fault),
+            }
+        }
+        Ok(LineRead::Whole) => {
+            match answer_line(
+                alloc,
+                performer,
+                number,
+                &buffers.line,
+                &mut buffers.text,
+                writer,
+            ) {
+                Ok(()) => Ok(true),
+                Err(fault) => Err(fault),
+            }
+        }
+    }
+}
+
+// Performs the delivery of a line, and writes what it comes to.
+fn answer_line<P: Performer, W: CountedWrite>(
+    alloc: Global,
+    performer: &mut P,
+    number: u32,
+    line: &[u8],
+    text: &mut Vec<u8>,
+    writer: &mut W,
+) -> Result<(), PlayFault>
+    requires known { number ≤ MAX_LINES }
+    requires short { length line.now ≤ MAX_LINE }
+    ensures answers { Writes (W.contents writer.old) (W.contents writer.new)
+        (W.calls writer.old) (W.calls writer.new) (λ written turns.
+        AnswersLine P.performs performer.old number line.now result written turns performer.new) }
+    ensures failures { W.failures writer.new ≡ writer_failures result (W.failures writer.old) }
+    ensures flushed { result ≢ Err PlayFault.Write
+        → W.is_flushed writer.old ≡ true → W.is_flushed writer.new ≡ true }
+{
+    match perform_line(alloc, performer, number, line, text) {
+        Err(fault) => Err(fault),
+        Ok(()) => match write_whole(writer, text) {
+            Ok(()) => Ok(()),
+            Err(_) => Err(PlayFault::Write),
+        },
+    }
+}
+
+// Performs the delivery of a line, and leaves what it comes to as the text.
+#[tactic(auto, unfolding(crate::specs::Script::meaning_of))]
+fn perform_line<P: Performer>(
+    alloc: Global,
+    performer: &mut P,
+    number: u32,
+    line: &[u8],
+    text: &mut Vec<u8>,
+) -> Result<(), PlayFault>
+    requires known { number ≤ MAX_LINES }
+    requires short { length line.now ≤ MAX_LINE }
+    ensures { IsPerformed P.performs performer.old number line.now
+        result text.new.items performer.new }
+{
+    text.clear();
+    let delivery = match read_delivery(alloc, line) {
+        Err(_) => return Err(PlayFault::OutOfMemory),
+        Ok(None) => return Err(PlayFault::Line { number }),
+        Ok(Some(delivery)) => delivery,
+    };
+    match performer.perform(alloc, &delivery, text) {
+        Ok(()) => Ok(()),
+        Err(PerformFault::Label) => Err(PlayFault::Line { number }),
+        Err(PerformFault::OutOfMemory) => Err(PlayFault::OutOfMemory),
+    }
+}
+
+// Calls the reader once more behind the last line that a script may have: nothing may be left.
+fn expect_end<R: CountedRead>(reader: &mut R) -> Result<(), PlayFault>
+    ensures ends { EndsThere (R.remaining reader.old) (R.remaining reader.new) result }
+    ensures calls { R.calls reader.new ≤ R.calls reader.old + 1 }
+    ensures failures { R.failures reader.new ≡ reader_failures result (R.failures reader.old) }
+{
+    match next_byte(reader) {
+        Err(_) => Err(PlayFault::Read),
+        Ok(None) => Ok(()),
+        Ok(Some(_)) => Err(PlayFault::TooMuch),
+    }
+}

@@ -1,0 +1,33 @@
+//! Running a list of deliveries.
+
+ghost use Rattle.std.specs.Prelude.{◌≡◌, ℕ, List, None, Some, Err, IfOk};
+ghost use Rattle.radio_script.specs.Runs.{Runs};
+
+use crate::delivery::Delivery;
+use crate::faults::{PerformFault, RunFault};
+use crate::performer::Performer;
+use std::alloc::Global;
+
+/// The transcript of the deliveries. It is refused as `Delivery` at the first whose label was not
+/// opened or is opened twice, and with `OutOfMemory`, and for nothing else.
+pub fn run_with<P: Performer>(
+    alloc: Global,
+    performer: &mut P,
+    deliveries: &[Delivery],
+) -> Result<Vec<u8>, RunFault>
+    ensures ok { IfOk result (λ text.
+        Runs P.performs performer.old 1 deliveries.now text.items None performer.new) }
+    ensures delivery { (number : ℕ) → result ≡ Err (RunFault.Delivery number)
+        → (text : List ℕ)
+        × Runs P.performs performer.old 1 deliveries.now text (Some number) performer.new }
+{
+    let mut text = Vec::new(alloc);
+    for (i, delivery) in deliveries.iter().enumerate() {
+        match performer.perform(alloc, delivery, &mut text) {
+            Ok(()) => {}
+            Err(PerformFault::Label) => return Err(RunFault::Delivery { number: i + 1 }),
+            Err(PerformFault::OutOfMemory) => return Err(RunFault::OutOfMemory),
+        }
+    }
+    Ok(text)
+}
