@@ -1,11 +1,18 @@
 -- The lines that a delivery comes to.
-use Rattle.std.proofs.Common.{◌≡◌, Bool, true, false, ℕ, ◌==◌, Option, Some, None, List, [], ◌∷◌, ◌++◌, refl, ap, sym, ◌∙◌, append_assoc, append-nil}
+use Rattle.std.proofs.Common.{◌≡◌, Bool, true, false, ℕ, ◌==◌, ◌<◌, ◌^◌, Option, Some, None, List, [], ◌∷◌, ◌++◌, refl, ap, sym, ◌∙◌, append_assoc, append-nil}
 use Rattle.std.specs.Prelude.{if◌then◌else◌}
+use Rattle.std.specs.List.{AllByRecursion}
+use Rattle.radio_policy.specs.declared.rule.Rule.{Rule}
+use Rattle.radio_policy.specs.declared.rule.Rule.TheVariants.{BadMount, MountInUse, NoMount, NotLive, NumbersSpent, BadHead, BadMethod}
+use Rattle.radio_policy.specs.Words.{word_of}
+use Rattle.radio_script.specs.Reading.{has_feed}
 use Rattle.radio_floor.specs.declared.connection.Ending.{Ending}
+use Rattle.radio_floor.specs.declared.connection.Ending.TheVariants.{Done, By}
 use Rattle.radio_floor.specs.Conversation.{ending_word}
 use Rattle.radio_floor.specs.ScriptState.{told_lines, word_of_ending}
 use Rattle.radio_script.specs.TranscriptLines.{out_line, shut_line, out_lines, shut_lines, answer_lines}
 use Rattle.radio_script.specs.Given.{TranscriptLine, out, shut, line_text, written, given_in, given}
+use Rattle.radio_script.proofs.LineReadings.{IsTold}
 
 -- an `out` line where bytes were given
 abbrev outs : ℕ → List ℕ → List TranscriptLine
@@ -71,3 +78,34 @@ given-others lines label bytes ending other e =
     given-append lines (lines_told label bytes ending) other
     ∙ ap (λ (zs : List ℕ). given lines other ++ zs) (given-told label bytes ending other false e)
     ∙ append-nil (given lines other)
+
+-- no word holds a line feed
+
+rule_told : (rule : Rule) → has_feed (word_of rule) ≡ false
+rule_told BadMount = refl
+rule_told MountInUse = refl
+rule_told NoMount = refl
+rule_told NotLive = refl
+rule_told NumbersSpent = refl
+rule_told BadHead = refl
+rule_told BadMethod = refl
+
+ending_told : (ending : Ending) → has_feed (ending_word ending) ≡ false
+ending_told Done = refl
+ending_told (By rule) = rule_told rule
+
+pub told-append : (xs ys : List TranscriptLine) → AllByRecursion IsTold xs → AllByRecursion IsTold ys → AllByRecursion IsTold (xs ++ ys)
+told-append [] ys h k = k
+told-append (x ∷ xs) ys h k = (h.0, told-append xs ys h.1 k)
+
+told-outs : (label : ℕ) (bytes : List ℕ) → label < 2 ^ 32 → AllByRecursion IsTold (outs label bytes)
+told-outs label [] low = tt
+told-outs label (b ∷ bytes) low = (low, tt)
+
+told-shuts : (label : ℕ) (ending : Option Ending) → label < 2 ^ 32 → AllByRecursion IsTold (shuts label ending)
+told-shuts label None low = tt
+told-shuts label (Some ending) low = ((low, ending_told ending), tt)
+
+-- they are lines as a transcript may have
+pub told-lines : (label : ℕ) (bytes : List ℕ) (ending : Option Ending) → label < 2 ^ 32 → AllByRecursion IsTold (lines_told label bytes ending)
+told-lines label bytes ending low = told-append (outs label bytes) (shuts label ending) (told-outs label bytes low) (told-shuts label ending low)

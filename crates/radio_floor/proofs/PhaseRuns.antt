@@ -1,6 +1,7 @@
 -- From one delivery to a whole script.
-use Rattle.std.proofs.Common.{◌≡◌, Bool, true, false, ℕ, ◌+◌, ◌==◌, ◌⊎◌, inl, inr, Option, Some, List, [], ◌∷◌, ◌++◌, refl, ap, sym, subst, ◌∙◌, append_assoc, append-nil}
+use Rattle.std.proofs.Common.{◌≡◌, Bool, true, false, ℕ, ◌+◌, ◌<◌, ◌^◌, ◌==◌, ◌⊎◌, inl, inr, Option, Some, List, [], ◌∷◌, ◌++◌, refl, ap, sym, subst, ◌∙◌, append_assoc, append-nil}
 use Rattle.std.specs.Prelude.{None}
+use Rattle.std.specs.List.{AllByRecursion}
 use Rattle.std.proofs.lemmas.Bool.{eqb-true}
 use Rattle.radio_policy.specs.declared.rule.Rule.{Rule}
 use Rattle.radio_core.specs.declared.event.Event.{Event}
@@ -29,9 +30,11 @@ use Rattle.radio_floor.specs.ScriptState.{ScriptState, Performed, opening_script
 use Rattle.radio_floor.specs.Transcript.{conduct}
 use Rattle.radio_script.specs.Given.{TranscriptLine, written, given}
 use Rattle.radio_floor.specs.Brought.{brought_in, brought}
-use Rattle.radio_floor.specs.Slices.{IsGiven, ListenersHearSlices, ScriptsHearSlices}
+use Rattle.radio_floor.specs.Slices.{IsGiven, ListenersHearSlices, ScriptsHearSlices, ReadingsGiveSlices}
 use Rattle.radio_core.proofs.HistoryLemmas.{delivered_in}
-use Rattle.radio_floor.proofs.GivenLemmas.{lines_told, written-told, written-append}
+use Rattle.radio_script.proofs.LabelLemmas.{label_in, HasLowLabel, labels_read}
+use Rattle.radio_script.proofs.LineReadings.{IsTold, read_as_told}
+use Rattle.radio_floor.proofs.GivenLemmas.{lines_told, written-told, written-append, told-append, told-lines}
 use Rattle.radio_floor.proofs.BroughtLemmas.{brought-append, given-before}
 use Rattle.radio_floor.proofs.Phases.{InPhase, IsKnown, phase_had, phase_kept, known_kept}
 use Rattle.radio_floor.proofs.PhaseSteps.{Went, draws_on, client_leaves}
@@ -46,15 +49,17 @@ module _ (settled : IsSettled ShowsRequest) (fits : HeadsLieWithin ShowsRequest)
     more : List Event
     told : List TranscriptLine
     is_written : text ≡ written told
+    are_told : HasLowLabel delivery → AllByRecursion IsTold told
     holds : Holds settings (events ++ more) (deliveries ++ delivery ∷ []) (lines ++ told) new
 
   module _ (events : List Event) (deliveries : List Delivery) (lines : List TranscriptLine) (state : ScriptState) (holds : Holds settings events deliveries lines state) where
     -- an exchange on a connection that is there
-    of_exchange : (label : ℕ) (conversation : Conversation) → connection_of state.connections label ≡ Some (Some conversation) → (delivery : Delivery) → ((other : ℕ) → (label == other) ≡ false → brought_in delivery other ≡ []) → (heard : Conversation) → heard.id ≡ conversation.id → (x : Exchange) → Went settings (deliveries ++ delivery ∷ []) label heard.id heard.hears heard.held events (given lines label) x → (text : List ℕ) (new : ScriptState) → text ≡ told_lines label x.bytes x.ending → new ≡ state_as x.world (with_connection state.connections label (conversation_unless (record heard { says = x.says }) x.ending)) → Keeps events deliveries lines delivery text new
-    of_exchange label conversation there delivery to_none heard same x went text new e f = record {
+    of_exchange : (label : ℕ) (conversation : Conversation) → connection_of state.connections label ≡ Some (Some conversation) → (delivery : Delivery) → label_in delivery ≡ label → ((other : ℕ) → (label == other) ≡ false → brought_in delivery other ≡ []) → (heard : Conversation) → heard.id ≡ conversation.id → (x : Exchange) → Went settings (deliveries ++ delivery ∷ []) label heard.id heard.hears heard.held events (given lines label) x → (text : List ℕ) (new : ScriptState) → text ≡ told_lines label x.bytes x.ending → new ≡ state_as x.world (with_connection state.connections label (conversation_unless (record heard { says = x.says }) x.ending)) → Keeps events deliveries lines delivery text new
+    of_exchange label conversation there delivery his to_none heard same x went text new e f = record {
       more = went.more;
       told = lines_told label x.bytes x.ending;
       is_written = e ∙ written-told label x.bytes x.ending;
+      are_told = λ low. told-lines label x.bytes x.ending (subst (λ n. n < 2 ^ 32) his low);
       holds =
           subst (λ (s : ScriptState). Holds settings (events ++ went.more) (deliveries ++ delivery ∷ []) (lines ++ lines_told label x.bytes x.ending) s) (sym f)
           (went_on settled fits settings (slices settings) events deliveries lines state holds label conversation there delivery to_none heard same x went);
@@ -95,6 +100,7 @@ module _ (settled : IsSettled ShowsRequest) (fits : HeadsLieWithin ShowsRequest)
       more = [];
       told = [];
       is_written = e;
+      are_told = λ low. tt;
       holds =
           subst (λ (s : ScriptState). Holds settings (events ++ []) (deliveries ++ delivery ∷ []) (lines ++ []) s) (sym f)
           (subst (λ (es : List Event). Holds settings es (deliveries ++ delivery ∷ []) (lines ++ []) state) (sym (append-nil events))
@@ -113,12 +119,12 @@ module _ (settled : IsSettled ShowsRequest) (fits : HeadsLieWithin ShowsRequest)
     to_others label bytes other e = rw e refl
 
     -- the exchange of a connection's events
-    of_events : (label : ℕ) (conversation : Conversation) → connection_of state.connections label ≡ Some (Some conversation) → (delivery : Delivery) → ((other : ℕ) → (label == other) ≡ false → brought_in delivery other ≡ []) → (heard : Heard) → heard.conversation.id ≡ conversation.id → Went settings (deliveries ++ delivery ∷ []) label heard.conversation.id heard.conversation.hears heard.conversation.held events (given lines label) (exchanged (run_after settings events) heard.conversation.id heard.conversation.says heard.events) → (text : List ℕ) (new : ScriptState) → record { lines = Some text; state = new } ≡ exchanges state label heard.conversation heard.events → Keeps events deliveries lines delivery text new
-    of_events label conversation there delivery to_none heard same went text new done =
+    of_events : (label : ℕ) (conversation : Conversation) → connection_of state.connections label ≡ Some (Some conversation) → (delivery : Delivery) → label_in delivery ≡ label → ((other : ℕ) → (label == other) ≡ false → brought_in delivery other ≡ []) → (heard : Heard) → heard.conversation.id ≡ conversation.id → Went settings (deliveries ++ delivery ∷ []) label heard.conversation.id heard.conversation.hears heard.conversation.held events (given lines label) (exchanged (run_after settings events) heard.conversation.id heard.conversation.says heard.events) → (text : List ℕ) (new : ScriptState) → record { lines = Some text; state = new } ≡ exchanges state label heard.conversation heard.events → Keeps events deliveries lines delivery text new
+    of_events label conversation there delivery his to_none heard same went text new done =
         let c = heard.conversation in
         let x = exchanged state.world c.id c.says heard.events in
         let lines_are : Some text ≡ Some (told_lines label x.bytes x.ending) = ap (λ (p : Performed). p.lines) done in
-        of_exchange label conversation there delivery to_none c same x
+        of_exchange label conversation there delivery his to_none c same x
         (subst (λ (w : World). Went settings (deliveries ++ delivery ∷ []) label c.id c.hears c.held events (given lines label) (exchanged w c.id c.says heard.events)) (sym holds.world) went)
         text new (let is : text ≡ told_lines label x.bytes x.ending = cc in is) (ap (λ (p : Performed). p.state) done)
 
@@ -148,6 +154,7 @@ module _ (settled : IsSettled ShowsRequest) (fits : HeadsLieWithin ShowsRequest)
             more = Arrive peer ∷ [];
             told = lines_told label [] None;
             is_written = text_is ∙ written-told label [] None;
+            are_told = λ low. told-lines label [] None low;
             holds = subst (λ (s : ScriptState). Holds settings (events ++ Arrive peer ∷ []) (deliveries ++ Open label peer ∷ []) (lines ++ lines_told label [] None) s) (sym (ap (λ (p : Performed). p.state) is))
                 (let_in settled fits settings events deliveries lines state holds label peer e arrived.0 arrived.1);
           }
@@ -160,6 +167,7 @@ module _ (settled : IsSettled ShowsRequest) (fits : HeadsLieWithin ShowsRequest)
             more = Arrive peer ∷ [];
             told = lines_told label told.bytes told.ending;
             is_written = text_is ∙ written-told label told.bytes told.ending;
+            are_told = λ low. told-lines label told.bytes told.ending low;
             holds = subst (λ (s : ScriptState). Holds settings (events ++ Arrive peer ∷ []) (deliveries ++ Open label peer ∷ []) (lines ++ lines_told label told.bytes told.ending) s) (sym (ap (λ (p : Performed). p.state) is))
                 (kept_out settled fits settings events deliveries lines state holds label peer e denied.0 denied.1);
           }
@@ -170,7 +178,7 @@ module _ (settled : IsSettled ShowsRequest) (fits : HeadsLieWithin ShowsRequest)
         let phase = in_phase_still label conversation (End label) refl there in
         let x : Exchange = record { world = (outcome state.world (Leave c.id)).world; bytes = []; says = c.says; ending = Some Done } in
         let lines_are : Some text ≡ Some (told_lines label [] (Some Done)) = ap (λ (p : Performed). p.lines) done in
-        of_exchange label conversation there (End label) (λ other e. refl) c refl x
+        of_exchange label conversation there (End label) refl (λ other e. refl) c refl x
         (subst (λ (w : World). Went settings (deliveries ++ End label ∷ []) label c.id c.hears c.held events (given lines label) (record { world = (outcome w (Leave c.id)).world; bytes = []; says = c.says; ending = Some Done })) (sym holds.world)
         (client_leaves settings (deliveries ++ End label ∷ []) label c.id c.hears c.held c.says events (given lines label) phase))
         text new (let is : text ≡ told_lines label [] (Some Done) = cc in is) (ap (λ (p : Performed). p.state) done)
@@ -180,7 +188,7 @@ module _ (settled : IsSettled ShowsRequest) (fits : HeadsLieWithin ShowsRequest)
     keeps (In label bytes) text new done =
         for_each label (In label bytes) (to_others label bytes) On text new
         (λ conversation there (heard : On conversation (record { lines = Some text; state = new })).
-        of_events label conversation there (In label bytes) (to_others label bytes) heard.0 (same_client conversation bytes heard.0 heard.1)
+        of_events label conversation there (In label bytes) refl (to_others label bytes) heard.0 (same_client conversation bytes heard.0 heard.1)
         (hears_on settled fits settings events deliveries label bytes (given lines label) conversation heard.0 heard.1 (in_phase label conversation there))
         text new heard.2)
         (connection_of state.connections label) refl done where
@@ -189,7 +197,7 @@ module _ (settled : IsSettled ShowsRequest) (fits : HeadsLieWithin ShowsRequest)
     keeps (Room label room) text new done =
         for_each label (Room label room) (λ other e. refl) (λ conversation performed. performed ≡ exchanges state label conversation (Draw conversation.id room ∷ [])) text new
         (λ conversation there drawn.
-        of_events label conversation there (Room label room) (λ other e. refl) (record { events = Draw conversation.id room ∷ []; conversation = conversation }) refl
+        of_events label conversation there (Room label room) refl (λ other e. refl) (record { events = Draw conversation.id room ∷ []; conversation = conversation }) refl
         (draws_on settings (deliveries ++ Room label room ∷ []) label conversation.id conversation.hears conversation.held conversation.says events (given lines label) room (in_phase_still label conversation (Room label room) refl there))
         text new drawn)
         (connection_of state.connections label) refl done
@@ -207,28 +215,31 @@ module _ (settled : IsSettled ShowsRequest) (fits : HeadsLieWithin ShowsRequest)
     by_connection (Some (Some c)) at = is_given settings events deliveries (slices settings events) holds.known label c.id (given lines label) (phase_had settings events deliveries label c.id (given lines label) c.hears c.held c.says at.1)
 
   -- a script from any state on
-  record Gives (deliveries : List Delivery) (lines : List TranscriptLine) (text : List ℕ) : Type 0 where
+  record Gives (deliveries after : List Delivery) (lines : List TranscriptLine) (text : List ℕ) : Type 0 where
     told : List TranscriptLine
     is_written : text ≡ written told
+    are_told : AllByRecursion HasLowLabel after → AllByRecursion IsTold told
     each : (label : ℕ) → IsGiven deliveries label (given (lines ++ told) label)
 
-  ends_there : (events : List Event) (before after : List Delivery) (lines : List TranscriptLine) (state : ScriptState) (text : List ℕ) → Holds settings events before lines state → text ≡ [] → Gives (before ++ after) lines text
+  ends_there : (events : List Event) (before after : List Delivery) (lines : List TranscriptLine) (state : ScriptState) (text : List ℕ) → Holds settings events before lines state → text ≡ [] → Gives (before ++ after) after lines text
   ends_there events before after lines state text holds e = record {
     told = [];
     is_written = e;
+    are_told = λ low. tt;
     each = λ label. given-before settled fits before after label (given (lines ++ []) label)
         (subst (λ (ls : List TranscriptLine). IsGiven before label (given ls label)) (sym (append-nil lines)) (given_then events before lines state holds label));
   }
 
-  runs_give : (deliveries : List Delivery) (events : List Event) (before : List Delivery) (lines : List TranscriptLine) (state : ScriptState) (number : ℕ) (text : List ℕ) (stop : Option ℕ) (last : ScriptState) → Holds settings events before lines state → Runs conduct state number deliveries text stop last → Gives (before ++ deliveries) lines text
+  runs_give : (deliveries : List Delivery) (events : List Event) (before : List Delivery) (lines : List TranscriptLine) (state : ScriptState) (number : ℕ) (text : List ℕ) (stop : Option ℕ) (last : ScriptState) → Holds settings events before lines state → Runs conduct state number deliveries text stop last → Gives (before ++ deliveries) deliveries lines text
   runs_give [] events before lines state number text stop last holds run = ends_there events before [] lines state text holds run.0
   runs_give (delivery ∷ deliveries) events before lines state number text stop last holds (inl stops) = ends_there events before (delivery ∷ deliveries) lines state text holds stops.nothing
   runs_give (delivery ∷ deliveries) events before lines state number text stop last holds (inr on) =
       let kept : Keeps events before lines delivery on.first on.between = keeps events before lines state holds delivery on.first on.between on.performed in
-      let rest : Gives ((before ++ delivery ∷ []) ++ deliveries) (lines ++ kept.told) on.rest = runs_give deliveries (events ++ kept.more) (before ++ delivery ∷ []) (lines ++ kept.told) on.between (number + 1) on.rest stop last kept.holds on.others in
+      let rest : Gives ((before ++ delivery ∷ []) ++ deliveries) deliveries (lines ++ kept.told) on.rest = runs_give deliveries (events ++ kept.more) (before ++ delivery ∷ []) (lines ++ kept.told) on.between (number + 1) on.rest stop last kept.holds on.others in
       record {
         told = kept.told ++ rest.told;
         is_written = on.parts ∙ ap (λ (bs : List ℕ). bs ++ on.rest) kept.is_written ∙ ap (λ (bs : List ℕ). written kept.told ++ bs) rest.is_written ∙ sym (written-append kept.told rest.told);
+        are_told = λ low. told-append kept.told rest.told (kept.are_told low.0) (rest.are_told low.1);
         each = λ label.
             subst (λ (ls : List TranscriptLine). IsGiven (before ++ delivery ∷ deliveries) label (given ls label)) (append_assoc lines kept.told rest.told)
             (subst (λ (ds : List Delivery). IsGiven ds label (given ((lines ++ kept.told) ++ rest.told) label)) (append_assoc before (delivery ∷ []) deliveries) (rest.each label));
@@ -252,3 +263,11 @@ listeners_hear settled fits slices settings deliveries text stop transcript =
 -- a script's transcript is that of its deliveries
 pub scripts_hear : ListenersHearSlices → ScriptsHearSlices
 scripts_hear hear settings script text fault last transcript = hear settings (deliveries_from 1 (lines_of script)) text transcript.stop (last, transcript.run)
+
+-- read as lines, it is those that were told
+pub readings_give : IsSettled ShowsRequest → HeadsLieWithin ShowsRequest → ((settings : Settings) (events : List Event) → SlicesAreWhole settings events) → ReadingsGiveSlices
+readings_give settled fits slices settings script text fault last transcript lines are e label =
+    let deliveries = deliveries_from 1 (lines_of script) in
+    let gives = runs_give settled fits slices settings deliveries [] [] [] (opening_script settings) 1 text transcript.stop last (nothing_yet settled fits slices settings) transcript.run in
+    let same = read_as_told gives.told lines (gives.are_told (labels_read 1 (lines_of script))) are (sym gives.is_written ∙ e) in
+    subst (λ (ls : List TranscriptLine). IsGiven deliveries label (given ls label)) same (gives.each label)

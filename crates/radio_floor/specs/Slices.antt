@@ -12,7 +12,7 @@ use Rattle.radio_script.specs.Script.{lines_of, deliveries_from}
 use Rattle.radio_floor.specs.ScriptState.{ScriptState, opening_script}
 use Rattle.radio_floor.specs.Transcript.{conduct, IsTranscriptOf}
 use Rattle.radio_script.specs.Transcripts.{IsTranscript}
-use Rattle.radio_script.specs.Given.{TranscriptLine, written, given}
+use Rattle.radio_script.specs.Given.{TranscriptLine, written, given, AreLines}
 use Rattle.radio_floor.specs.Brought.{Asks, behind}
 
 -- the bytes are one slice of what one source brought behind its head
@@ -58,3 +58,8 @@ ListenersHearSlices = (settings : Settings) (deliveries : List Delivery) (text :
 -- and so whatever a script says: its text is the bytes that are read, and the transcript those that are written
 abbrev pub ScriptsHearSlices : Type 0
 ScriptsHearSlices = (settings : Settings) (script text : List ℕ) (fault : Option PlayFault) (last : ScriptState) → IsTranscript conduct (opening_script settings) 1 (lines_of script) text fault last → GivesSlices (deliveries_from 1 (lines_of script)) text
+
+-- However the transcript of a script is read as lines, they give each connection what they may (there is one way: its lines)
+abbrev pub ReadingsGiveSlices : Type 0
+ReadingsGiveSlices = (settings : Settings) (script text : List ℕ) (fault : Option PlayFault) (last : ScriptState) → IsTranscript conduct (opening_script settings) 1 (lines_of script) text fault last →
+    (lines : List TranscriptLine) → AreLines lines → text ≡ written lines → (label : ℕ) → IsGiven (deliveries_from 1 (lines_of script)) label (given lines label)

@@ -2,7 +2,7 @@
 
 ghost use Rattle.radio_floor.specs.Cuts.{CutsDoNotMatter};
 ghost use Rattle.radio_script.specs.Laws.{GoesOnAsItBegan, HasOneTranscript, IsDetermined};
-ghost use Rattle.radio_floor.specs.Slices.{ListenersHearSlices, ScriptsHearSlices};
+ghost use Rattle.radio_floor.specs.Slices.{ListenersHearSlices, ReadingsGiveSlices, ScriptsHearSlices};
 ghost use Rattle.radio_floor.specs.Transcript.{conduct};
 
 use radio_core::slices_are_whole;
@@ -35,6 +35,8 @@ pub fn the_transcript_is_one()
 pub fn listeners_hear_slices()
     ensures deliveries { ListenersHearSlices }
     ensures scripts { ScriptsHearSlices }
+    // and so however the bytes of the transcript are read as lines
+    ensures readings { ReadingsGiveSlices }
 {
     settled();
     heads_lie_within();

@@ -5,7 +5,7 @@ use Rattle.radio_script.specs.Reading.{has_feed}
 use Rattle.radio_script.specs.Script.{onto_first, lines_of}
 use Rattle.radio_script.specs.Plays.{IsLines, IsOneLine}
 
-or_false : (a b : Bool) → (a || b) ≡ false → (a ≡ false) × (b ≡ false)
+pub or_false : (a b : Bool) → (a || b) ≡ false → (a ≡ false) × (b ≡ false)
 or_false true b e = cc
 or_false false b e = (refl, e)
 

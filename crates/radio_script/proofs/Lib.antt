@@ -3,6 +3,7 @@ mod EscapeLemmas
 mod FeedLemmas
 mod SpellingLemmas
 pub mod LineReadings
+pub mod LabelLemmas
 mod TranscriptLemmas
 mod LinePlays
 mod ScriptPlays

@@ -10,8 +10,10 @@ use Rattle.std.proofs.lemmas.Bool.Decides.{nat_tests}
 use Rattle.std.proofs.lemmas.Fmt.{decimal_injective, decimal_is_IsNumeral}
 use Rattle.radio_script.specs.declared.escapes.Place.TheVariants.{Between}
 use Rattle.radio_script.specs.Escapes.{is_plain, escape_of, escaped, hex_value_of, unescaped_from, unescaped}
+use Rattle.radio_script.specs.Reading.{has_feed}
 use Rattle.radio_script.specs.TranscriptLines.{out_line, shut_line}
 use Rattle.radio_script.specs.Given.{TranscriptLine, out, shut, line_text, written, IsLine, AreLines}
+use Rattle.radio_script.proofs.FeedLemmas.{or_false}
 use Rattle.radio_script.proofs.EscapeLemmas.{read_by_return, unescaped_escaped}
 
 -- The text lacks the byte.
@@ -123,10 +125,16 @@ labelled_same label other text more rest tail small little lacks lacking e =
     let back = cut_same 10 text more rest tail lacks lacking front.1 in
     (decimal_injective label other (omega arith) (omega arith) front.0, back.0, back.1)
 
+word_lacks : (word : List ℕ) → has_feed word ≡ false → Lacks 10 word
+word_lacks [] h = tt
+word_lacks (b ∷ word) h =
+    let parts = or_false (b == 10) (has_feed word) h in
+    (not_feed b parts.0, word_lacks word parts.1)
+
 -- What the reading of a line rests on: its label, and its word.
 abbrev pub IsTold : TranscriptLine → Type 0
 IsTold (out label bytes) = label < 2 ^ 32
-IsTold (shut label word) = (label < 2 ^ 32) × Lacks 10 word
+IsTold (shut label word) = (label < 2 ^ 32) × (has_feed word ≡ false)
 
 out_then : (label : ℕ) (bytes rest : List ℕ) → out_line label bytes ++ rest ≡ 111 ∷ 117 ∷ 116 ∷ 32 ∷ (decimal label ++ (32 ∷ (escaped bytes ++ (10 ∷ rest))))
 unfolding out_line
@@ -152,7 +160,7 @@ line_same (out label bytes) (out other cs) rest tail h k e =
 line_same (shut label word) (shut other name) rest tail h k e =
     let is = sym (shut_then label word rest) ∙ e ∙ shut_then other name tail in
     let behind : decimal label ++ (32 ∷ (word ++ (10 ∷ rest))) ≡ decimal other ++ (32 ∷ (name ++ (10 ∷ tail))) = cc in
-    let same = labelled_same label other word name rest tail h.0 k.0 h.1 k.1 behind in
+    let same = labelled_same label other word name rest tail h.0 k.0 (word_lacks word h.1) (word_lacks name k.1) behind in
     let his = same.0 in
     let told = same.1 in
     (cc, same.2)

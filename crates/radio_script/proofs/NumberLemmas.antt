@@ -1,7 +1,7 @@
 -- Reading a number from its first digit on.
 use Rattle.std.proofs.Common.{◌≡◌, ℕ, ◌+◌, ◌-◌, ◌*◌, ◌^◌, ◌<◌, ◌≤◌, Bool, true, false, ◌&&◌, cond, nat_lt, List, [], ◌∷◌, length, Option, Some, None, refl, arith}
 use Rattle.std.specs.Char.{is_ascii_digit, digit_value}
-use Rattle.std.specs.Str.Parse.{digits_value_after}
+use Rattle.std.specs.Str.Parse.{digits_value, digits_value_after}
 use Rattle.std.proofs.lemmas.Bool.Decides.{nat_tests}
 use Rattle.radio_script.specs.Steps.{◌>>=◌}
 use Rattle.radio_script.specs.Numbers.{all_digits, number_of, with_digit}
@@ -38,6 +38,12 @@ by_test false n m e = cc
 pub with_digit-small : (n c m : ℕ) → with_digit n c ≡ Some m → m < 2 ^ 32
 with_digit-small n c m e =
     let p = by_test (is_ascii_digit c && nat_lt (n * 10 + (c - 48)) (2 ^ 32)) (n * 10 + (c - 48)) m e in
+    grind (arith, nat_tests, p.0, p.1)
+
+pub number_of-small : (text : List ℕ) (n : ℕ) → number_of text ≡ Some n → n < 2 ^ 32
+unfolding number_of
+number_of-small text n e =
+    let p = by_test (nat_lt 0 (length text) && all_digits text && nat_lt (digits_value 10 text) (2 ^ 32)) (digits_value 10 text) n e in
     grind (arith, nat_tests, p.0, p.1)
 
 -- One digit is read, and then those that follow it.

@@ -1,6 +1,7 @@
 -- What a transcript says that each connection was given.
-use Rattle.std.specs.Prelude.{ℕ, ◌==◌, ◌<◌, ◌^◌, ◌≢◌, List, [], if◌then◌else◌}
+use Rattle.std.specs.Prelude.{ℕ, ◌≡◌, ◌==◌, ◌<◌, ◌^◌, false, List, [], if◌then◌else◌}
 use Rattle.std.specs.List.{flat_map, AllByRecursion}
+use Rattle.radio_script.specs.Reading.{has_feed}
 use Rattle.radio_script.specs.TranscriptLines.{out_line, shut_line}
 
 -- a line of a transcript: bytes that the connection of this label was given, or the word with which it was shut
@@ -19,7 +20,7 @@ written lines = flat_map line_text lines
 -- a line as it may stand in a transcript: a label that can be opened, bytes, and a word without a line feed
 abbrev pub IsLine : TranscriptLine → Type 0
 IsLine (out label bytes) = (label < 2 ^ 32) × AllByRecursion (λ b. b < 256) bytes
-IsLine (shut label word) = (label < 2 ^ 32) × AllByRecursion (λ b. b ≢ 10) word
+IsLine (shut label word) = (label < 2 ^ 32) × (has_feed word ≡ false)
 
 abbrev pub AreLines : List TranscriptLine → Type 0
 AreLines lines = AllByRecursion IsLine lines

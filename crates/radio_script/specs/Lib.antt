@@ -6,10 +6,10 @@ pub mod Escapes
 pub mod Spelling
 pub mod Delivery
 pub mod TranscriptLines
-pub mod Given
 pub mod Devices
 pub mod Tally
 pub mod Reading
+pub mod Given
 pub mod Script
 pub mod Runs
 pub mod Transcripts
