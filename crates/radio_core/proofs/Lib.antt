@@ -17,6 +17,7 @@ pub mod SliceLemmas
 pub mod HeardLemmas
 pub mod SliceSteps
 pub mod Slices
+pub mod GoneLemmas
 pub mod HistoryLemmas
 pub mod ReplyLemmas
 pub mod SettingsLemmas

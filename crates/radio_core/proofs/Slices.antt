@@ -8,6 +8,7 @@ use Rattle.radio_core.specs.Stretches.{handed_at, handed, between}
 use Rattle.radio_core.specs.Slices.{delivered_at, delivered, SlicesAreWhole}
 use Rattle.radio_core.proofs.SoundLemmas.{sound_run}
 use Rattle.radio_core.proofs.StandingLemmas.{numbers_hold}
+use Rattle.radio_core.proofs.StateLemmas.{AreApart}
 use Rattle.radio_core.proofs.SliceSteps.{AreStarts, Kept, kept_step}
 
 -- of events and those after them
@@ -79,6 +80,10 @@ module _ (settings : Settings) where
   all_more : (past events : List Event) → Holds past → Holds (past ++ events)
   all_more past [] k = subst (λ (es : List Event). Holds es) (sym (append-nil past)) k
   all_more past (event ∷ events) k = subst (λ (es : List Event). Holds es) (append_assoc past (event ∷ []) events) (all_more (past ++ event ∷ []) events (one_more past event k))
+
+-- after every run no two clients have one number
+pub apart_hold : (settings : Settings) (events : List Event) → AreApart (run_after settings events).clients
+apart_hold settings events = (all_more settings [] events (at_the_opening settings)).alone
 
 -- over every run, all that one is handed is one slice of one source's data
 pub slices_hold : (settings : Settings) (events : List Event) → SlicesAreWhole settings events

@@ -66,10 +66,10 @@ module _ (clients : List Client) (him id : ℕ) (other : (him == id) ≡ false) 
   pub beside_without : client_of (without_client clients him) id ≡ client_of clients id
   beside_without = find_without (has_number id) (has_number him) not_his clients
 
-module _ (w : World) (id : ℕ) (client : Client) (here : client_of w.clients id ≡ Some client) where
-  -- he is kept as he is
+module _ (w : World) (id : ℕ) (him_or_none : Option Client) (here : client_of w.clients id ≡ him_or_none) (joined : (peer : Peer) → client_of (w.clients ++ newcomer (w.last_id + 1) peer w.time ∷ []) id ≡ him_or_none) where
+  -- he is kept as he is, or is as little there as before
   abbrev Keeps : Outcome → Type 0
-  Keeps o = client_of o.world.clients id ≡ Some client
+  Keeps o = client_of o.world.clients id ≡ him_or_none
 
   keeps_sits_down : (him : ℕ) (peer : Peer) (found : Option Session) → (him == id) ≡ false → Keeps (sits_down w him peer found)
   keeps_sits_down him peer None other = here
@@ -83,9 +83,9 @@ module _ (w : World) (id : ℕ) (client : Client) (here : client_of w.clients id
   keeps_hands_out_at room None = here
   keeps_hands_out_at room (Some seat) = keeps_hands_out seat room (session_of w.live seat.mount)
 
-  kept : (event : Event) → IsOfAnother event id → Keeps (outcome w event)
+  pub kept : (event : Event) → IsOfAnother event id → Keeps (outcome w event)
   unfolding outcome
-  kept (Arrive peer) of = verdict_cases (verdict_in (arrive_rows (arrive_facts w))) w (comes_in w peer) Keeps (λ by v. here) (λ v. find_before (has_number id) w.clients (newcomer (w.last_id + 1) peer w.time ∷ []) client here)
+  kept (Arrive peer) of = verdict_cases (verdict_in (arrive_rows (arrive_facts w))) w (comes_in w peer) Keeps (λ by v. here) (λ v. joined peer)
   kept (Source him path shown) of =
       let other = apart_numbers him id of in
       undecided_cases w him Keeps here (λ by e. here) _
@@ -110,7 +110,7 @@ module _ (w : World) (id : ℕ) (client : Client) (here : client_of w.clients id
 
 -- an event of another client changes nothing in what is kept of a client who is there
 pub client_kept : (w : World) (event : Event) (id : ℕ) (client : Client) → client_of w.clients id ≡ Some client → IsOfAnother event id → client_of (world_after w event).clients id ≡ Some client
-client_kept w event id client here of = kept w id client here event of
+client_kept w event id client here of = kept w id (Some client) here (λ peer. find_before (has_number id) w.clients (newcomer (w.last_id + 1) peer w.time ∷ []) client here) event of
 
 -- who is there stands as what is kept of him says
 pub standing_is : (w : World) (id : ℕ) (client : Client) → client_of w.clients id ≡ Some client → standing_of w id ≡ standing_of_client w.table client

@@ -26,4 +26,5 @@ pub mod Finishes
 pub mod Admission
 pub mod Stretches
 pub mod Slices
+pub mod Gone
 pub mod Settings

@@ -1,8 +1,9 @@
 //! The laws of every run: each holds after every list of events from the opening state, over the
 //! definitions that `Core::step` follows.
 
-ghost use Rattle.std.specs.Prelude.{List};
+ghost use Rattle.std.specs.Prelude.{◌≡◌, ◌≤◌, ℕ, List, [], ◌∷◌, ◌++◌, Some};
 ghost use Rattle.radio_core.specs.declared.event.Event.{Event};
+ghost use Rattle.radio_core.specs.declared.event.Event.TheVariants.{Leave};
 ghost use Rattle.radio_core.specs.declared.settings.Settings.{Settings};
 ghost use Rattle.radio_core.specs.Run.{run_after};
 ghost use Rattle.radio_core.specs.Stretches.{StretchesAreWhole};
@@ -10,7 +11,8 @@ ghost use Rattle.radio_core.specs.Slices.{SlicesAreWhole};
 ghost use Rattle.radio_core.specs.Access.{AccessIsKept};
 ghost use Rattle.radio_core.specs.Admission.{BeginsAtABlock};
 ghost use Rattle.radio_core.specs.Denials.{DenialsAreThePolicys};
-ghost use Rattle.radio_core.specs.Finishes.{FinishedAreTold};
+ghost use Rattle.radio_core.specs.Finishes.{client_in, FinishedAreTold};
+ghost use Rattle.radio_core.specs.Gone.{HasLeft, IsOutOfPlace, StaysGone};
 
 /// The law of denials.
 pub fn denials_are_the_policys()
@@ -46,4 +48,14 @@ pub fn stretches_are_whole()
 pub fn slices_are_whole()
     // over every run, whoever he is, all that he was ever handed, joined, is one contiguous slice of all that one source ever delivered, in order, without gap or repeat, and it begins where a block of that source starts, or where its next one will
     ensures slices { (settings : Settings) (events : List Event) → SlicesAreWhole settings events }
+{}
+
+/// The law of those who have left.
+pub fn who_left_is_gone()
+    // whoever was given a number and leaves is no client then
+    ensures left { (settings : Settings) (events : List Event) (id : ℕ) → id ≤ (run_after settings events).last_id → HasLeft (run_after settings (events ++ Leave id ∷ [])) id }
+    // whatever happens in the name of one who has left is out of place, and changes nothing
+    ensures strays { (settings : Settings) (events : List Event) (event : Event) (id : ℕ) → HasLeft (run_after settings events) id → client_in event ≡ Some id → IsOutOfPlace (run_after settings events) event }
+    // and whatever else happens, he does not come back: his number is given to nobody, he is handed nothing more, and nothing more comes from him
+    ensures gone { (settings : Settings) (events more : List Event) (id : ℕ) → HasLeft (run_after settings events) id → StaysGone (run_after settings events) more id }
 {}

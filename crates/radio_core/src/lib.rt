@@ -28,7 +28,7 @@ mod text;
 pub use event::{Event, Reply};
 pub use laws::{
     access_is_kept, denials_are_the_policys, finished_are_told, listeners_begin_at_a_block,
-    slices_are_whole, stretches_are_whole,
+    slices_are_whole, stretches_are_whole, who_left_is_gone,
 };
 pub use mount_name::{MAX_MOUNT_NAME, MountName};
 pub use peer::Peer;

@@ -63,6 +63,11 @@ impl Rule {
 }
 
 impl fmt::Display for Rule {
+    ghost use Rattle.std.specs.Prelude.{Some};
+    ghost use Rattle.radio_policy.specs.Words.{word_of};
+
+    ghost output = { λ rule. Some (word_of rule) };
+
     fn fmt<W: fmt::Write>(&self, f: &mut fmt::Formatter<W>) -> fmt::Result {
         f.write_str(self.word())
     }

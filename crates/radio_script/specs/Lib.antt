@@ -16,3 +16,4 @@ pub mod Transcripts
 pub mod Plays
 pub mod Answers
 pub mod Laws
+pub mod Words

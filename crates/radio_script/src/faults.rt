@@ -1,27 +1,45 @@
 //! Why a script or a list of deliveries was not played to its end.
 
+use std::{error, fmt};
 use thiserror::Error;
 
 /// Why a script was not played to its end.
-#[derive(Clone, Copy, Debug, PartialEq, Eq, Error)]
+///
+/// `Display` writes it in words: `read fault`, `write fault`, `script line N`, `script too long`,
+/// `out of memory`.
+#[derive(Clone, Copy, Debug, PartialEq, Eq)]
 pub enum PlayFault {
     /// The reader failed.
-    #[error("read fault")]
     Read,
     /// The writer failed.
-    #[error("write fault")]
     Write,
     /// A line is no delivery, or opens a label twice or names one that was not opened. Lines are
     /// counted from 1.
-    #[error("script line {number}")]
     Line { number: u32 },
     /// The script has more than 1,000,000 lines, or a line of more than 65,536 bytes.
-    #[error("script too long")]
     TooMuch,
     /// Memory ran out.
-    #[error("out of memory")]
     OutOfMemory,
 }
+
+impl fmt::Display for PlayFault {
+    ghost use Rattle.std.specs.Prelude.{Some};
+    ghost use Rattle.radio_script.specs.Words.{play_fault_text};
+
+    ghost output = { λ fault. Some (play_fault_text fault) };
+
+    fn fmt<W: fmt::Write>(&self, f: &mut fmt::Formatter<W>) -> fmt::Result {
+        match self {
+            PlayFault::Read => f.write_str("read fault"),
+            PlayFault::Write => f.write_str("write fault"),
+            PlayFault::Line { number } => write!(f, "script line {number}"),
+            PlayFault::TooMuch => f.write_str("script too long"),
+            PlayFault::OutOfMemory => f.write_str("out of memory"),
+        }
+    }
+}
+
+impl error::Error for PlayFault {}
 
 /// Why a list of deliveries was not performed to its end.
 #[derive(Clone, Copy, Debug, PartialEq, Eq, Error)]
