@@ -5,7 +5,7 @@ use radio_core::{Lists, Settings, Text};
 use radio_script::read_delivery;
 use std::alloc::Global;
 use std::io;
-use std::io::{Error, ErrorKind, Read};
+use std::io::{Error, ErrorKind, Read, Write};
 
 const EIGHT_BYTES: &[u8] = b"open 1 10.0.0.1\n\
     in 1 SOURCE /a HTTP/1.0\\r\\n\\r\\n\n\
@@ -45,23 +45,27 @@ fn settings(alloc: Global, burst_size: u32) -> Result<Settings, OutOfMemory> {
     })
 }
 
+// What a script comes to over these devices.
+fn played_over<R: Read + Drop, W: Write + Drop>(
+    alloc: Global,
+    burst: u32,
+    reader: R,
+    writer: W,
+) -> Result<Result<(), PlayFault>, OutOfMemory> {
+    let mut reader = Tally::new(reader);
+    let mut writer = Tally::new(writer);
+    let settings = settings(alloc, burst)?;
+    Ok(play(alloc, settings, Lists::default(), &mut reader, &mut writer))
+}
+
 // What a script comes to over devices that do not fail: the result, and what was written.
 pub(super) fn played(
     alloc: Global,
     burst: u32,
     script: &[u8],
 ) -> Result<(Result<(), PlayFault>, Vec<u8>), OutOfMemory> {
-    let mut reader = Tally::new(script);
     let mut written = Vec::new(alloc);
-    let mut writer = Tally::new(&mut written);
-    let result = play(
-        alloc,
-        settings(alloc, burst)?,
-        Lists::default(),
-        &mut reader,
-        &mut writer,
-    );
-    drop(writer);
+    let result = played_over(alloc, burst, script, &mut written)?;
     Ok((result, written))
 }
 
@@ -122,19 +126,10 @@ impl Read for Broken {
 // A reader that breaks behind each front of the script: a front of the transcript was written.
 #[test]
 fn ends_with_a_failing_reader(rt: HostRuntime) -> Result<(), OutOfMemory> {
-    let alloc = rt.alloc();
     for sound in 0..EIGHT_BYTES.len() {
-        let mut reader = Tally::new(EIGHT_BYTES[..sound].chain(Broken));
-        let mut written = Vec::new(alloc);
-        let mut writer = Tally::new(&mut written);
-        let result = play(
-            alloc,
-            settings(alloc, 8)?,
-            Lists::default(),
-            &mut reader,
-            &mut writer,
-        );
-        drop(writer);
+        let reader = EIGHT_BYTES[..sound].chain(Broken);
+        let mut written = Vec::new(rt.alloc());
+        let result = played_over(rt.alloc(), 8, reader, &mut written)?;
         assert_eq!(rt; result, Err(PlayFault::Read), "at {sound}");
         assert!(rt;
             EIGHT_BYTES_TRANSCRIPT.starts_with(written.as_slice()),
@@ -144,22 +139,12 @@ fn ends_with_a_failing_reader(rt: HostRuntime) -> Result<(), OutOfMemory> {
     Ok(())
 }
 
-// A writer that takes no more than a front of the transcript: it has that front.
+// A writer that has room for a front of the transcript alone: it has that front.
 #[test]
 fn ends_with_a_full_writer(rt: HostRuntime) -> Result<(), OutOfMemory> {
-    let alloc = rt.alloc();
     for room in 0..EIGHT_BYTES_TRANSCRIPT.len() {
-        let mut reader = Tally::new(EIGHT_BYTES);
-        let mut written = vec![in alloc; 0; room]?;
-        let mut writer = Tally::new(written.as_mut_slice());
-        let result = play(
-            alloc,
-            settings(alloc, 8)?,
-            Lists::default(),
-            &mut reader,
-            &mut writer,
-        );
-        drop(writer);
+        let mut written = vec![in rt.alloc(); 0; room]?;
+        let result = played_over(rt.alloc(), 8, EIGHT_BYTES, written.as_mut_slice())?;
         assert_eq!(rt; result, Err(PlayFault::Write), "at {room}");
         assert!(rt;
             EIGHT_BYTES_TRANSCRIPT.starts_with(written.as_slice()),
