@@ -4,9 +4,8 @@
 //! a million of each, and writes how long one takes, in nanoseconds, and the ratio of the two lists.
 #![tactic(auto)]
 
-ghost use Rattle.std.specs.Prelude.{◌≤◌};
-
 use anyhow::{Context, Result};
+use bench_times::{micros, percent_of};
 use radio_creds::{OutOfMemory, Pair, Users, basic};
 use std::alloc::Global;
 use std::env;
@@ -95,19 +94,13 @@ fn count_accepted(users: &Users, pair: &Pair, times: usize, rounds: u32) -> u64 
     count
 }
 
+/// Writes how long one of a million look-ups took; a thousandth of all their microseconds is its nanoseconds.
 fn write_ratio(rt: &impl Print, what: &str, few: Duration, many: Duration) -> Result<()> {
-    let percent = micros(many).saturating_mul(100) / micros(few);
+    let percent = percent_of(few, many);
     println!(rt;
         "  {what}: {} ns with 10 users, {} ns with 10000, {percent} %",
         micros(few) / 1000,
         micros(many) / 1000
     )?;
     Ok(())
-}
-
-/// A time in microseconds, at least one. Of a million look-ups, a thousandth of it is the nanoseconds of each.
-fn micros(time: Duration) -> u64
-    ensures { 1 ≤ result }
-{
-    u64::try_from(time.as_micros()).unwrap_or(u64::MAX).max(1)
 }

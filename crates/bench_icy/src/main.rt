@@ -7,11 +7,12 @@
 ghost use Rattle.std.specs.Prelude.{◌≤◌};
 
 use anyhow::Result;
+use bench_times::{copied_size, write_speed};
 use radio_icy::{Item, OutOfMemory, Unweaver, Weaver};
 use std::alloc::Global;
 use std::env;
 use std::rt::{Clock, Env};
-use std::time::{Duration, Instant};
+use std::time::Instant;
 
 const SMALL: usize = 64 * 1024;
 
@@ -46,7 +47,7 @@ fn measure(
     let stream = woven(rt.alloc(), interval, sound)?;
     let weaving = start.elapsed(rt)?;
     let start = Instant::now(rt)?;
-    let piece_sizes = copied_size(rt.alloc(), sound)?;
+    let piece_sizes = copied_size(rt.alloc(), sound, PIECE)?;
     let copying_pieces = start.elapsed(rt)?;
     let start = Instant::now(rt)?;
     let unwoven = sound_size(rt.alloc(), interval, stream.as_slice())?;
@@ -71,26 +72,6 @@ fn measure(
     Ok(())
 }
 
-fn write_speed(
-    rt: &impl Print,
-    what: &str,
-    size: usize,
-    time: Duration,
-    copying: Duration,
-) -> Result<()> {
-    let speed = size as u64 / micros(time);
-    let percent = micros(copying).saturating_mul(100) / micros(time);
-    println!(rt; "  {what}: {speed} MB/s, {percent} % of the copy's speed")?;
-    Ok(())
-}
-
-/// A time in microseconds, at least one.
-fn micros(time: Duration) -> u64
-    ensures { 1 ≤ result }
-{
-    u64::try_from(time.as_micros()).unwrap_or(u64::MAX).max(1)
-}
-
 /// The bytes, copied draw by draw.
 fn copied(alloc: Global, sound: &[u8]) -> Result<Vec<u8>, OutOfMemory> {
     let mut out = Vec::new(alloc);
@@ -98,15 +79,6 @@ fn copied(alloc: Global, sound: &[u8]) -> Result<Vec<u8>, OutOfMemory> {
         out.extend_from_slice(draw)?;
     }
     Ok(out)
-}
-
-/// How many bytes there are, each piece of them copied for itself.
-fn copied_size(alloc: Global, sound: &[u8]) -> Result<usize, OutOfMemory> {
-    let mut size = 0usize;
-    for piece in sound.chunks(PIECE) {
-        size = size.saturating_add(Vec::from_slice(alloc, piece)?.len());
-    }
-    Ok(size)
 }
 
 /// The stream of the sound, woven draw by draw.

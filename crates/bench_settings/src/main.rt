@@ -5,9 +5,8 @@
 //! of a settings file, of which it writes how many mounts and relays it has, or its fault.
 #![tactic(auto)]
 
-ghost use Rattle.std.specs.Prelude.{◌≤◌};
-
 use anyhow::Result;
+use bench_times::{micros, percent_of};
 use radio_settings::{OutOfMemory, Settings};
 use std::alloc::Global;
 use std::rt::Clock;
@@ -78,19 +77,13 @@ fn read_rounds(alloc: Global, text: &str, rounds: u32) -> Result<u64> {
     Ok(mounts)
 }
 
+/// Writes how long one of 200,000 mounts took; a two hundredth of all their microseconds is its nanoseconds.
 fn write_ratio(rt: &impl Print, few: Duration, many: Duration) -> Result<()> {
-    let percent = micros(many).saturating_mul(100) / micros(few);
+    let percent = percent_of(few, many);
     println!(rt;
         "  {} ns a mount among 10, {} ns among 10000, {percent} %",
         micros(few) / 200,
         micros(many) / 200
     )?;
     Ok(())
-}
-
-/// A time in microseconds, at least one. Of 200,000 mounts, a two hundredth of it is the nanoseconds of each.
-fn micros(time: Duration) -> u64
-    ensures { 1 ≤ result }
-{
-    u64::try_from(time.as_micros()).unwrap_or(u64::MAX).max(1)
 }

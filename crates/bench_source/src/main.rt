@@ -8,11 +8,12 @@
 ghost use Rattle.std.specs.Prelude.{◌≤◌};
 
 use anyhow::Result;
+use bench_times::{copied_size, write_speed};
 use radio_source::{Body, OutOfMemory};
 use std::alloc::Global;
 use std::env;
 use std::rt::{Clock, Env};
-use std::time::{Duration, Instant};
+use std::time::Instant;
 
 const SMALL: usize = 64 * 1024;
 
@@ -61,7 +62,7 @@ fn measure(
     is_full: bool,
 ) -> Result<()> {
     let start = Instant::now(rt)?;
-    let copied = copied_size(rt.alloc(), bytes)?;
+    let copied = copied_size(rt.alloc(), bytes, PIECE)?;
     let copying = start.elapsed(rt)?;
     let start = Instant::now(rt)?;
     let fed = fed_size(body, bytes)?;
@@ -72,35 +73,6 @@ fn measure(
         write_speed(rt, "feed", copied, feeding, copying)?;
     }
     Ok(())
-}
-
-fn write_speed(
-    rt: &impl Print,
-    what: &str,
-    size: usize,
-    time: Duration,
-    copying: Duration,
-) -> Result<()> {
-    let speed = size as u64 / micros(time);
-    let percent = micros(copying).saturating_mul(100) / micros(time);
-    println!(rt; "  {what}: {speed} MB/s, {percent} % of the copy's speed")?;
-    Ok(())
-}
-
-/// A time in microseconds, at least one.
-fn micros(time: Duration) -> u64
-    ensures { 1 ≤ result }
-{
-    u64::try_from(time.as_micros()).unwrap_or(u64::MAX).max(1)
-}
-
-/// How many bytes there are, each piece of them copied for itself.
-fn copied_size(alloc: Global, bytes: &[u8]) -> Result<usize, OutOfMemory> {
-    let mut size = 0usize;
-    for piece in bytes.chunks(PIECE) {
-        size = size.saturating_add(Vec::from_slice(alloc, piece)?.len());
-    }
-    Ok(size)
 }
 
 /// How many bytes of data a body has that is fed in pieces.
