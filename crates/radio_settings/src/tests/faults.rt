@@ -2,182 +2,189 @@
 
 use super::*;
 
-#[test]
-fn texts_that_are_not_toml(rt: HostRuntime) {
-    for text in [
-        "source-password",
-        "source-password = a",
+const NOT_TOML: [(&str, &str); 5] = [
+    ("source-password", "not toml"),
+    ("source-password = a", "not toml"),
+    (
         "source-password = \"a\"\radmin-password = \"b\"",
+        "not toml",
+    ),
+    (
         "source-password = \"a\"\nsource-password = \"b\"\nadmin-password = \"c\"",
+        "not toml",
+    ),
+    (
         "source-password = \"a\"\nadmin-password = \"b\"\n[limits]\nclients = 9223372036854775808",
-    ] {
-        assert_eq!(rt;
-            fault_of(rt.alloc(), text),
-            Some(SettingsFault::NotToml),
-            "{text}"
-        );
-    }
-}
+        "not toml",
+    ),
+];
 
 #[test]
-fn top_keys(rt: HostRuntime) {
-    for (text, want) in [
-        ("", missing(Key::SourcePassword)),
-        ("source-password = 1", wrong_kind(Key::SourcePassword)),
-        ("source-password = \"a\"", missing(Key::AdminPassword)),
-        (
-            "source-password = \"a\"\nadmin-user = 1",
-            wrong_kind(Key::AdminUser),
-        ),
-        ("[listen]\nport = 70000", missing(Key::SourcePassword)),
-        ("source-password = \"\"\nadmin-password = \"\"", None),
-    ] {
-        assert_eq!(rt; fault_of(rt.alloc(), text), want, "{text}");
-    }
+fn texts_that_are_not_toml(rt: HostRuntime) -> Result<(), Fail> {
+    have_faults(&rt, rt.alloc(), "", NOT_TOML.as_slice())
 }
+
+const TOP_KEYS: [(&str, &str); 6] = [
+    ("", "missing source-password"),
+    ("source-password = 1", "wrong kind source-password"),
+    ("source-password = \"a\"", "missing admin-password"),
+    (
+        "source-password = \"a\"\nadmin-user = 1",
+        "wrong kind admin-user",
+    ),
+    ("[listen]\nport = 70000", "missing source-password"),
+    ("source-password = \"\"\nadmin-password = \"\"", "none"),
+];
+
+#[test]
+fn top_keys(rt: HostRuntime) -> Result<(), Fail> {
+    have_faults(&rt, rt.alloc(), "", TOP_KEYS.as_slice())
+}
+
+const TABLES: [(&str, &str); 12] = [
+    ("", "none"),
+    ("other = 1\n[else]\nport = 70000", "none"),
+    ("listen = 2", "wrong kind listen"),
+    ("[[listen]]\nport = 1", "wrong kind listen"),
+    (
+        "relay-password = 1\nlisten = 2",
+        "wrong kind relay-password",
+    ),
+    ("[listen]\nport = 70000", "out of range port"),
+    ("limits = 2\n[listen]\nport = 70000", "out of range port"),
+    ("mount = 1\n[limits]\nclients = 0", "out of range clients"),
+    ("relay = 1\n[[mount]]\n", "missing mount-name"),
+    ("slave = 1\n[[relay]]\n", "missing server"),
+    ("[slave]\n", "missing master-server"),
+    (
+        "[slave]\nmaster-server = \"a\"\n",
+        "missing master-password",
+    ),
+];
 
 #[test]
 fn tables_in_their_order(rt: HostRuntime) -> Result<(), Fail> {
-    for (text, want) in [
-        ("", None),
-        ("other = 1\n[else]\nport = 70000", None),
-        ("listen = 2", wrong_kind(Key::Listen)),
-        ("[[listen]]\nport = 1", wrong_kind(Key::Listen)),
-        (
-            "relay-password = 1\nlisten = 2",
-            wrong_kind(Key::RelayPassword),
-        ),
-        ("[listen]\nport = 70000", out_of_range(Key::Port)),
-        (
-            "limits = 2\n[listen]\nport = 70000",
-            out_of_range(Key::Port),
-        ),
-        (
-            "mount = 1\n[limits]\nclients = 0",
-            out_of_range(Key::Clients),
-        ),
-        ("relay = 1\n[[mount]]\n", missing(Key::MountName)),
-        ("slave = 1\n[[relay]]\n", missing(Key::Server)),
-        ("[slave]\n", missing(Key::MasterServer)),
-        (
-            "[slave]\nmaster-server = \"a\"\n",
-            missing(Key::MasterPassword),
-        ),
-    ] {
-        assert_eq!(rt; station_fault(rt.alloc(), text)?, want, "{text}");
-    }
-    Ok(())
+    have_faults(&rt, rt.alloc(), PASSWORDS, TABLES.as_slice())
 }
+
+const MOUNTS: [(&str, &str); 12] = [
+    ("mount = []", "none"),
+    ("mount = [1]", "wrong kind mount"),
+    ("[mount]\nmount-name = \"/a\"", "wrong kind mount"),
+    ("mount = [{}, 1]", "wrong kind mount"),
+    ("mount = [{mount-name = \"/a\"}]", "none"),
+    ("[[mount]]\nmount-name = \"a\"", "bad name mount-name"),
+    ("[[mount]]\nmount-name = 1", "wrong kind mount-name"),
+    (
+        "[[mount]]\nmount-name = \"/admin/a\"",
+        "bad name mount-name",
+    ),
+    (
+        "[[mount]]\nmount-name = \"/a\"\n[[mount]]\nhidden = 1",
+        "missing mount-name",
+    ),
+    (
+        "[[mount]]\nmount-name = \"/a\"\nhidden = 1\n[[mount]]",
+        "wrong kind hidden",
+    ),
+    (
+        "[[mount]]\nmount-name = \"/a\"\nfallback-mount = \"\"",
+        "bad name fallback-mount",
+    ),
+    (
+        "[[mount]]\nmount-name = \"/a\"\n[[mount]]\nmount-name = \"/a\"",
+        "mount twice /a",
+    ),
+];
 
 #[test]
 fn lists_of_mounts(rt: HostRuntime) -> Result<(), Fail> {
-    for (text, want) in [
-        ("mount = []", None),
-        ("mount = [1]", wrong_kind(Key::Mount)),
-        ("[mount]\nmount-name = \"/a\"", wrong_kind(Key::Mount)),
-        ("mount = [{}, 1]", wrong_kind(Key::Mount)),
-        ("mount = [{mount-name = \"/a\"}]", None),
-        ("[[mount]]\nmount-name = \"a\"", bad_name(Key::MountName)),
-        ("[[mount]]\nmount-name = 1", wrong_kind(Key::MountName)),
-        (
-            "[[mount]]\nmount-name = \"/admin/a\"",
-            bad_name(Key::MountName),
-        ),
-        (
-            "[[mount]]\nmount-name = \"/a\"\n[[mount]]\nhidden = 1",
-            missing(Key::MountName),
-        ),
-        (
-            "[[mount]]\nmount-name = \"/a\"\nhidden = 1\n[[mount]]",
-            wrong_kind(Key::Hidden),
-        ),
-        (
-            "[[mount]]\nmount-name = \"/a\"\nfallback-mount = \"\"",
-            bad_name(Key::FallbackMount),
-        ),
-        (
-            "[[mount]]\nmount-name = \"/a\"\n[[mount]]\nmount-name = \"/a\"",
-            mount_twice("/a")?,
-        ),
-    ] {
-        assert_eq!(rt; station_fault(rt.alloc(), text)?, want, "{text}");
-    }
-    Ok(())
+    have_faults(&rt, rt.alloc(), PASSWORDS, MOUNTS.as_slice())
 }
+
+/// The texts behind a relay that pulls `/a` from the master `s`.
+const RELAYS: [(&str, &str); 10] = [
+    ("", "none"),
+    ("username = \"u\"", "missing password"),
+    ("password = \"p\"", "missing username"),
+    ("password = 1", "missing username"),
+    ("username = 1", "wrong kind username"),
+    ("username = \"u\"\npassword = \"p\"", "none"),
+    ("on-demand = false", "none"),
+    ("on-demand = true", "out of range on-demand"),
+    ("on-demand = 1", "wrong kind on-demand"),
+    ("local-mount = \"a\"", "bad name local-mount"),
+];
 
 #[test]
 fn lists_of_relays(rt: HostRuntime) -> Result<(), Fail> {
-    for (rest, want) in [
-        ("", None),
-        ("username = \"u\"", missing(Key::Password)),
-        ("password = \"p\"", missing(Key::Username)),
-        ("password = 1", missing(Key::Username)),
-        ("username = 1", wrong_kind(Key::Username)),
-        ("username = \"u\"\npassword = \"p\"", None),
-        ("on-demand = false", None),
-        ("on-demand = true", out_of_range(Key::OnDemand)),
-        ("on-demand = 1", wrong_kind(Key::OnDemand)),
-        ("local-mount = \"a\"", bad_name(Key::LocalMount)),
-    ] {
-        let text = format!(in rt.alloc(); "[[relay]]\nserver = \"s\"\nmount = \"/a\"\n{rest}")?;
-        assert_eq!(rt; station_fault(rt.alloc(), text.as_str())?, want, "{rest}");
-    }
-    Ok(())
+    let relay = format!(in rt.alloc(); "{PASSWORDS}[[relay]]\nserver = \"s\"\nmount = \"/a\"\n")?;
+    have_faults(&rt, rt.alloc(), relay.as_str(), RELAYS.as_slice())
 }
 
-/// The fault of mounts and relays of these names, in this order.
-fn fault_of_names(
+/// The tables of mounts with these names, in this order.
+fn mounts_named(alloc: Global, names: &[&str]) -> Result<String, OutOfMemory> {
+    let mut text = String::new(alloc);
+    for name in names {
+        write!(text, "[[mount]]\nmount-name = \"{name}\"\n")?;
+    }
+    Ok(text)
+}
+
+/// The tables of relays that feed these mounts, in this order.
+fn relays_named(alloc: Global, names: &[&str]) -> Result<String, OutOfMemory> {
+    let mut text = String::new(alloc);
+    for name in names {
+        write!(
+            text,
+            "[[relay]]\nserver = \"s\"\nmount = \"/m\"\nlocal-mount = \"{name}\"\n"
+        )?;
+    }
+    Ok(text)
+}
+
+/// Mounts and relays of these names have this fault.
+fn names_have_fault(
+    rt: &impl Abort,
     alloc: Global,
     mounts: &[&str],
     relays: &[&str],
-) -> Result<Option<SettingsFault>, Fail> {
-    let mut text = String::new(alloc);
-    for name in mounts {
-        let table = format!(in alloc; "[[mount]]\nmount-name = \"{name}\"\n")?;
-        text.push_str(table.as_str())?;
-    }
-    for name in relays {
-        let table = format!(in alloc;
-            "[[relay]]\nserver = \"s\"\nmount = \"/m\"\nlocal-mount = \"{name}\"\n"
-        )?;
-        text.push_str(table.as_str())?;
-    }
-    station_fault(alloc, text.as_str())
+    want: &str,
+) -> Result<(), Fail> {
+    let mounts = mounts_named(alloc, mounts)?;
+    let relays = relays_named(alloc, relays)?;
+    let text = format!(in alloc; "{mounts}{relays}")?;
+    has_fault(rt, alloc, PASSWORDS, text.as_str(), want)
 }
+
+/// Names of mounts, names of relays, and the fault.
+const NAMES: [(&[&str], &[&str], &str); 4] = [
+    (&["/a", "/b", "/b", "/a"], &[], "mount twice /b"),
+    (&["/b", "/a", "/a"], &["/c", "/c"], "mount twice /a"),
+    (&["/c"], &["/a", "/c", "/c"], "mount twice /c"),
+    (&["/a", "/b"], &["/a", "/b"], "none"),
+];
 
 #[test]
 fn names_that_stand_twice(rt: HostRuntime) -> Result<(), Fail> {
-    let rows: [(&[&str], &[&str], &str); 3] = [
-        (&["/a", "/b", "/b", "/a"], &[], "/b"),
-        (&["/b", "/a", "/a"], &["/c", "/c"], "/a"),
-        (&["/c"], &["/a", "/c", "/c"], "/c"),
-    ];
-    for (mounts, relays, name) in rows {
-        assert_eq!(rt;
-            fault_of_names(rt.alloc(), mounts, relays)?,
-            mount_twice(name)?
-        );
+    for (mounts, relays, want) in NAMES {
+        names_have_fault(&rt, rt.alloc(), mounts, relays, want)?;
     }
-    assert_eq!(rt;
-        fault_of_names(rt.alloc(), &["/a", "/b"], &["/a", "/b"])?,
-        None
-    );
     Ok(())
 }
 
 /// Two relays that pull one mount and name no local one feed the same mount; and that comes after all keys.
+const SAME_RELAYS: [(&str, &str); 2] = [
+    ("", "mount twice /a"),
+    (
+        "[slave]\nmaster-server = \"m\"\n",
+        "missing master-password",
+    ),
+];
+
 #[test]
 fn local_mount_is_the_masters(rt: HostRuntime) -> Result<(), Fail> {
-    for (rest, want) in [
-        ("", mount_twice("/a")?),
-        (
-            "[slave]\nmaster-server = \"m\"\n",
-            missing(Key::MasterPassword),
-        ),
-    ] {
-        let relay = "[[relay]]\nserver = \"s\"\nmount = \"/a\"\n";
-        let text = format!(in rt.alloc(); "{relay}{relay}{rest}")?;
-        assert_eq!(rt; station_fault(rt.alloc(), text.as_str())?, want, "{rest}");
-    }
-    Ok(())
+    let relay = "[[relay]]\nserver = \"s\"\nmount = \"/a\"\n";
+    let relays = format!(in rt.alloc(); "{PASSWORDS}{relay}{relay}")?;
+    have_faults(&rt, rt.alloc(), relays.as_str(), SAME_RELAYS.as_slice())
 }

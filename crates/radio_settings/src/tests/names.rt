@@ -1,7 +1,7 @@
 //! Names of mounts.
 
 use super::*;
-use crate::{LONGEST_MOUNT_NAME, OutOfMemory};
+use crate::LONGEST_MOUNT_NAME;
 use std::cmp::Ordering;
 
 /// Whether the path names a mount; and that the name keeps its bytes.

@@ -3,24 +3,26 @@
 use super::*;
 
 /// A table, what stands in it before the key, and a key with its range.
-const RANGES: [(&str, &str, Key, i64, i64); 17] = [
-    ("[listen]", "", Key::Port, 0, 65535),
-    ("[listen]", "", Key::Workers, 1, 64),
-    ("[limits]", "", Key::Clients, 1, 1_000_000),
-    ("[limits]", "", Key::Sources, 1, 100_000),
-    ("[limits]", "", Key::QueueSize, 1, 1_073_741_824),
-    ("[limits]", "", Key::BurstSize, 0, 1_073_741_824),
-    ("[limits]", "", Key::SourceTimeout, 1, 86400),
-    ("[limits]", "", Key::HeaderTimeout, 1, 86400),
-    ("[[mount]]", MOUNT, Key::MaxListeners, 0, 1_000_000),
-    ("[[mount]]", MOUNT, Key::MaxListenerDuration, 1, 31_536_000),
-    ("[[mount]]", MOUNT, Key::BurstSize, 0, 1_073_741_824),
-    ("[[mount]]", MOUNT, Key::Mp3MetadataInterval, 1, 1_000_000),
-    ("[[relay]]", RELAY, Key::Port, 1, 65535),
-    ("[slave]", SLAVE, Key::MasterPort, 1, 65535),
-    ("[slave]", SLAVE, Key::MasterUpdateInterval, 1, 86400),
-    ("[limits]", "burst-size = 0", Key::Clients, 1, 1_000_000),
-    ("[listen]", "address = \"::\"", Key::Port, 0, 65535),
+type Range = (&'static str, &'static str, &'static str, i64, i64);
+
+const RANGES: [Range; 17] = [
+    ("[listen]", "", "port", 0, 65535),
+    ("[listen]", "", "workers", 1, 64),
+    ("[limits]", "", "clients", 1, 1_000_000),
+    ("[limits]", "", "sources", 1, 100_000),
+    ("[limits]", "", "queue-size", 1, 1_073_741_824),
+    ("[limits]", "", "burst-size", 0, 1_073_741_824),
+    ("[limits]", "", "source-timeout", 1, 86400),
+    ("[limits]", "", "header-timeout", 1, 86400),
+    ("[[mount]]", MOUNT, "max-listeners", 0, 1_000_000),
+    ("[[mount]]", MOUNT, "max-listener-duration", 1, 31_536_000),
+    ("[[mount]]", MOUNT, "burst-size", 0, 1_073_741_824),
+    ("[[mount]]", MOUNT, "mp3-metadata-interval", 1, 1_000_000),
+    ("[[relay]]", RELAY, "port", 1, 65535),
+    ("[slave]", SLAVE, "master-port", 1, 65535),
+    ("[slave]", SLAVE, "master-update-interval", 1, 86400),
+    ("[limits]", "burst-size = 0", "clients", 1, 1_000_000),
+    ("[listen]", "address = \"::\"", "port", 0, 65535),
 ];
 
 const MOUNT: &str = "mount-name = \"/a\"";
@@ -29,41 +31,59 @@ const RELAY: &str = "server = \"s\"\nmount = \"/a\"";
 
 const SLAVE: &str = "master-server = \"s\"\nmaster-password = \"p\"";
 
+/// A value of the range's key has this fault.
+fn value_has_fault(
+    rt: &impl Abort,
+    alloc: Global,
+    range: &Range,
+    value: &str,
+    want: &str,
+) -> Result<(), Fail> {
+    let (table, before, key, _, _) = range;
+    let text = format!(in alloc; "{table}\n{before}\n{key} = {value}\n")?;
+    has_fault(rt, alloc, PASSWORDS, text.as_str(), want)
+}
+
+/// The two ends of the range are let through, and nothing beyond them.
+fn check_ends(rt: &impl Abort, alloc: Global, range: &Range) -> Result<(), Fail> {
+    let (_, _, key, low, high) = range;
+    let out_of_range = format!(in alloc; "out of range {key}")?;
+    for (number, want) in [
+        (*low, "none"),
+        (*high, "none"),
+        (low.saturating_sub(1), out_of_range.as_str()),
+        (high.saturating_add(1), out_of_range.as_str()),
+        (i64::MIN, out_of_range.as_str()),
+        (i64::MAX, out_of_range.as_str()),
+    ] {
+        let value = number.to_string(alloc)?;
+        value_has_fault(rt, alloc, range, value.as_str(), want)?;
+    }
+    Ok(())
+}
+
 #[test]
 fn ends_of_ranges(rt: HostRuntime) -> Result<(), Fail> {
-    for (table, before, key, low, high) in RANGES {
-        for (number, want) in [
-            (low, None),
-            (high, None),
-            (low.saturating_sub(1), out_of_range(key)),
-            (high.saturating_add(1), out_of_range(key)),
-            (i64::MIN, out_of_range(key)),
-            (i64::MAX, out_of_range(key)),
-        ] {
-            let word = key.word();
-            let text = format!(in rt.alloc(); "{table}\n{before}\n{word} = {number}\n")?;
-            assert_eq!(rt;
-                station_fault(rt.alloc(), text.as_str())?,
-                want,
-                "{word} {number}"
-            );
-        }
+    for range in &RANGES {
+        check_ends(&rt, rt.alloc(), range)?;
+    }
+    Ok(())
+}
+
+/// No value of another kind is let through.
+fn check_kinds(rt: &impl Abort, alloc: Global, range: &Range) -> Result<(), Fail> {
+    let (_, _, key, _, _) = range;
+    let wrong_kind = format!(in alloc; "wrong kind {key}")?;
+    for value in ["1.0", "\"1\"", "true", "[1]", "{}", "1979-05-27"] {
+        value_has_fault(rt, alloc, range, value, wrong_kind.as_str())?;
     }
     Ok(())
 }
 
 #[test]
 fn numbers_of_another_kind(rt: HostRuntime) -> Result<(), Fail> {
-    for (table, before, key, _, _) in RANGES {
-        for value in ["1.0", "\"1\"", "true", "[1]", "{}", "1979-05-27"] {
-            let word = key.word();
-            let text = format!(in rt.alloc(); "{table}\n{before}\n{word} = {value}\n")?;
-            assert_eq!(rt;
-                station_fault(rt.alloc(), text.as_str())?,
-                wrong_kind(key),
-                "{word} {value}"
-            );
-        }
+    for range in &RANGES {
+        check_kinds(&rt, rt.alloc(), range)?;
     }
     Ok(())
 }
