@@ -1,6 +1,7 @@
 //! Each range's two ends, and one beyond each.
 
 use super::*;
+use std::fmt;
 
 /// A table, what stands in it before the key, and a key with its range.
 type Range = (&'static str, &'static str, &'static str, i64, i64);
@@ -31,53 +32,56 @@ const RELAY: &str = "server = \"s\"\nmount = \"/a\"";
 
 const SLAVE: &str = "master-server = \"s\"\nmaster-password = \"p\"";
 
-/// A value of the range's key has this fault.
-fn value_has_fault(
+/// Each of these values of the range's key has this fault.
+fn values_have_fault<T: fmt::Display>(
     rt: &impl Abort,
     alloc: Global,
     range: &Range,
-    value: &str,
+    values: &[T],
     want: &str,
 ) -> Result<(), Fail> {
     let (table, before, key, _, _) = range;
-    let text = format!(in alloc; "{table}\n{before}\n{key} = {value}\n")?;
-    has_fault(rt, alloc, PASSWORDS, text.as_str(), want)
-}
-
-/// The two ends of the range are let through, and nothing beyond them.
-fn check_ends(rt: &impl Abort, alloc: Global, range: &Range) -> Result<(), Fail> {
-    let (_, _, key, low, high) = range;
-    let out_of_range = format!(in alloc; "out of range {key}")?;
-    for (number, want) in [
-        (*low, "none"),
-        (*high, "none"),
-        (low.saturating_sub(1), out_of_range.as_str()),
-        (high.saturating_add(1), out_of_range.as_str()),
-        (i64::MIN, out_of_range.as_str()),
-        (i64::MAX, out_of_range.as_str()),
-    ] {
-        let value = number.to_string(alloc)?;
-        value_has_fault(rt, alloc, range, value.as_str(), want)?;
+    for value in values {
+        let text = format!(in alloc; "{table}\n{before}\n{key} = {value}\n")?;
+        has_fault(rt, alloc, PASSWORDS, text.as_str(), want)?;
     }
     Ok(())
+}
+
+/// The range's two ends are let through.
+fn check_ends(rt: &impl Abort, alloc: Global, range: &Range) -> Result<(), Fail> {
+    let (_, _, _, low, high) = range;
+    values_have_fault(rt, alloc, range, &[*low, *high], "none")
+}
+
+/// No number beyond them is.
+fn check_beyond(rt: &impl Abort, alloc: Global, range: &Range) -> Result<(), Fail> {
+    let (_, _, key, low, high) = range;
+    let beyond = [
+        low.saturating_sub(1),
+        high.saturating_add(1),
+        i64::MIN,
+        i64::MAX,
+    ];
+    let fault = format!(in alloc; "out of range {key}")?;
+    values_have_fault(rt, alloc, range, &beyond, fault.as_str())
 }
 
 #[test]
 fn ends_of_ranges(rt: HostRuntime) -> Result<(), Fail> {
     for range in &RANGES {
         check_ends(&rt, rt.alloc(), range)?;
+        check_beyond(&rt, rt.alloc(), range)?;
     }
     Ok(())
 }
 
-/// No value of another kind is let through.
+const OTHER_KINDS: [&str; 6] = ["1.0", "\"1\"", "true", "[1]", "{}", "1979-05-27"];
+
 fn check_kinds(rt: &impl Abort, alloc: Global, range: &Range) -> Result<(), Fail> {
     let (_, _, key, _, _) = range;
-    let wrong_kind = format!(in alloc; "wrong kind {key}")?;
-    for value in ["1.0", "\"1\"", "true", "[1]", "{}", "1979-05-27"] {
-        value_has_fault(rt, alloc, range, value, wrong_kind.as_str())?;
-    }
-    Ok(())
+    let fault = format!(in alloc; "wrong kind {key}")?;
+    values_have_fault(rt, alloc, range, &OTHER_KINDS, fault.as_str())
 }
 
 #[test]
