@@ -167,7 +167,7 @@ const NAMES: [(&[&str], &[&str], &str); 4] = [
 
 #[test]
 fn names_that_stand_twice(rt: HostRuntime) -> Result<(), Fail> {
-    for (mounts, relays, want) in NAMES {
+    for (mounts, relays, want) in &NAMES {
         names_have_fault(&rt, rt.alloc(), mounts, relays, want)?;
     }
     Ok(())
