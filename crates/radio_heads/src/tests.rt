@@ -6,7 +6,8 @@ mod faults;
 mod requests;
 mod responses;
 
-use crate::{Head, HeadFault, Progress, ResponseHead, read_request, read_response};
+use crate::{HeadFault, Progress, read_request, read_response};
+use std::process::Abort;
 
 /// What a reading gave, without the head itself.
 #[derive(Clone, Copy, Debug, PartialEq, Eq)]
@@ -22,11 +23,7 @@ const MANY: Seen = Seen::Fault(HeadFault::TooManyHeaders);
 
 const LONG: Seen = Seen::Fault(HeadFault::HeadTooLong);
 
-fn seen_in_request(bytes: &[u8]) -> Seen {
-    seen_of_request(read_request(bytes))
-}
-
-fn seen_of_request(reading: Result<Progress<Head>, HeadFault>) -> Seen {
+fn seen_of<T: Drop>(reading: Result<Progress<T>, HeadFault>) -> Seen {
     match reading {
         Ok(Progress::More) => Seen::More,
         Ok(Progress::Whole(_, length)) => Seen::Whole(length),
@@ -34,14 +31,17 @@ fn seen_of_request(reading: Result<Progress<Head>, HeadFault>) -> Seen {
     }
 }
 
-fn seen_in_response(bytes: &[u8]) -> Seen {
-    seen_of_response(read_response(bytes))
+fn seen_in_request(bytes: &[u8]) -> Seen {
+    seen_of(read_request(bytes))
 }
 
-fn seen_of_response(reading: Result<Progress<ResponseHead>, HeadFault>) -> Seen {
-    match reading {
-        Ok(Progress::More) => Seen::More,
-        Ok(Progress::Whole(_, length)) => Seen::Whole(length),
-        Err(fault) => Seen::Fault(fault),
+fn seen_in_response(bytes: &[u8]) -> Seen {
+    seen_of(read_response(bytes))
+}
+
+/// In each of these requests is seen what stands beside it.
+fn check_requests(rt: &impl Abort, requests: &[(&[u8], Seen)]) {
+    for (bytes, want) in requests {
+        assert_eq!(rt; seen_in_request(bytes), *want, "{bytes:?}");
     }
 }
