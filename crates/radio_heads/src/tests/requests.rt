@@ -27,47 +27,48 @@ const VALUES: [(&str, Option<&[u8]>); 5] = [
     ("", None),
 ];
 
-#[test]
-fn values_of_a_source(rt: HostRuntime) {
+fn value_in_source(name: &str) -> Option<&'static [u8]> {
     match read_request(SOURCE) {
-        Ok(Progress::Whole(head, _)) => {
-            for (name, want) in VALUES {
-                assert_eq!(rt; head.value(name), want, "{name}");
-            }
-        }
-        _ => assert!(rt; false),
+        Ok(Progress::Whole(head, _)) => head.value(name),
+        _ => None,
     }
 }
 
-/// The parts of a request line: its method, path and query.
-type Parts = (&'static [u8], &'static [u8], Option<&'static [u8]>);
+#[test]
+fn values_of_a_source(rt: HostRuntime) {
+    for (name, want) in &VALUES {
+        assert_eq!(rt; value_in_source(name), *want, "{name}");
+    }
+}
 
-/// A target is cut at its first question mark.
-const REQUESTS: [(&[u8], Parts); 4] = [
-    (SOURCE, (b"SOURCE", b"/live.mp3", None)),
+/// A request's length, method, path and query.
+type Parts<'b> = (usize, &'b [u8], &'b [u8], Option<&'b [u8]>);
+
+/// Requests and their parts: a target is cut at its first question mark.
+const REQUESTS: [(&[u8], Parts<'static>); 4] = [
+    (SOURCE, (SOURCE.len(), b"SOURCE", b"/live.mp3", None)),
     (
         b"GET /a?b?c= HTTP/1.1\r\n\r\n",
-        (b"GET", b"/a", Some(b"b?c=")),
+        (24, b"GET", b"/a", Some(b"b?c=")),
     ),
-    (b"GET /a? HTTP/1.1\r\n\r\n", (b"GET", b"/a", Some(b""))),
-    (b"OPTIONS * HTTP/1.1\r\n\r\n", (b"OPTIONS", b"*", None)),
+    (b"GET /a? HTTP/1.1\r\n\r\n", (20, b"GET", b"/a", Some(b""))),
+    (b"OPTIONS * HTTP/1.1\r\n\r\n", (22, b"OPTIONS", b"*", None)),
 ];
 
-fn check_parts(rt: &impl Abort, bytes: &[u8], want: Parts) {
+/// The parts of the request that these bytes are; `None` where they are none.
+fn parts_of(bytes: &[u8]) -> Option<Parts<'_>> {
     match read_request(bytes) {
         Ok(Progress::Whole(head, length)) => {
-            let parts = (head.method(), head.path(), head.query());
-            assert_eq!(rt; parts, want);
-            assert_eq!(rt; length, bytes.len());
+            Some((length, head.method(), head.path(), head.query()))
         }
-        _ => assert!(rt; false, "{bytes:?}"),
+        _ => None,
     }
 }
 
 #[test]
 fn parts_of_requests(rt: HostRuntime) {
-    for (bytes, want) in REQUESTS {
-        check_parts(&rt, bytes, want);
+    for (bytes, want) in &REQUESTS {
+        assert_eq!(rt; parts_of(bytes), Some(*want), "{bytes:?}");
     }
 }
 
@@ -139,12 +140,15 @@ fn longest_heads(rt: HostRuntime) -> Result<(), OutOfMemory> {
     Ok(())
 }
 
+fn seen_with_headers(alloc: Global, count: usize) -> Result<Seen, OutOfMemory> {
+    let bytes = request_of_headers(alloc, count)?;
+    Ok(seen_in_request(&bytes))
+}
+
 #[test]
 fn most_headers(rt: HostRuntime) -> Result<(), OutOfMemory> {
-    for (count, want) in [(64, Seen::Whole(402)), (65, MANY)] {
-        let bytes = request_of_headers(rt.alloc(), count)?;
-        assert_eq!(rt; seen_in_request(&bytes), want);
-    }
+    assert_eq!(rt; seen_with_headers(rt.alloc(), 64)?, Seen::Whole(402));
+    assert_eq!(rt; seen_with_headers(rt.alloc(), 65)?, MANY);
     Ok(())
 }
 

@@ -1,35 +1,33 @@
 //! Heads of responses as masters send them, and their parts.
 use super::{BAD, Seen, seen_in_response};
 use crate::{Progress, Version, read_response};
-use std::process::Abort;
 
-/// The parts of a response: its version, its status and its content type.
-type Parts = (Version, u16, Option<&'static [u8]>);
+/// A response's length, version, status and content type.
+type Parts<'b> = (usize, Version, u16, Option<&'b [u8]>);
 
-const RESPONSES: [(&[u8], usize, Parts); 2] = [
+const RESPONSES: [(&[u8], Parts<'static>); 2] = [
     (
         b"HTTP/1.1 404 File Not Found\r\nContent-Type:  text/html\t\r\n\r\n",
-        58,
-        (Version::Http11, 404, Some(b"text/html")),
+        (58, Version::Http11, 404, Some(b"text/html")),
     ),
-    (b"HTTP/1.0 007\r\n\r\n", 16, (Version::Http10, 7, None)),
+    (b"HTTP/1.0 007\r\n\r\n", (16, Version::Http10, 7, None)),
 ];
 
-fn check_parts(rt: &impl Abort, bytes: &[u8], length: usize, want: Parts) {
+/// The parts of the response that these bytes are; `None` where they are none.
+fn parts_of(bytes: &[u8]) -> Option<Parts<'_>> {
     match read_response(bytes) {
-        Ok(Progress::Whole(head, read)) => {
-            let parts = (head.version(), head.status(), head.value("content-type"));
-            assert_eq!(rt; parts, want);
-            assert_eq!(rt; read, length);
+        Ok(Progress::Whole(head, length)) => {
+            let content_type = head.value("content-type");
+            Some((length, head.version(), head.status(), content_type))
         }
-        _ => assert!(rt; false, "{bytes:?}"),
+        _ => None,
     }
 }
 
 #[test]
-fn parts_of_a_response(rt: HostRuntime) {
-    for (bytes, length, want) in RESPONSES {
-        check_parts(&rt, bytes, length, want);
+fn parts_of_responses(rt: HostRuntime) {
+    for (bytes, want) in &RESPONSES {
+        assert_eq!(rt; parts_of(bytes), Some(*want), "{bytes:?}");
     }
 }
 
@@ -52,7 +50,7 @@ const STATUS_LINES: [(&[u8], Seen); 14] = [
 
 #[test]
 fn status_lines(rt: HostRuntime) {
-    for (bytes, want) in STATUS_LINES {
-        assert_eq!(rt; seen_in_response(bytes), want, "{bytes:?}");
+    for (bytes, want) in &STATUS_LINES {
+        assert_eq!(rt; seen_in_response(bytes), *want, "{bytes:?}");
     }
 }
