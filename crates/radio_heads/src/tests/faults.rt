@@ -119,9 +119,9 @@ const MESSAGES: [(HeadFault, &str); 3] = [
 
 #[test]
 fn messages(rt: HostRuntime) -> Result<(), OutOfMemory> {
-    for (fault, want) in MESSAGES {
+    for (fault, want) in &MESSAGES {
         let told = fault.to_string(rt.alloc())?;
-        assert_eq!(rt; told.as_str(), want);
+        assert_eq!(rt; told.as_str(), *want);
     }
     Ok(())
 }

@@ -140,15 +140,12 @@ fn longest_heads(rt: HostRuntime) -> Result<(), OutOfMemory> {
     Ok(())
 }
 
-fn seen_with_headers(alloc: Global, count: usize) -> Result<Seen, OutOfMemory> {
-    let bytes = request_of_headers(alloc, count)?;
-    Ok(seen_in_request(&bytes))
-}
-
 #[test]
 fn most_headers(rt: HostRuntime) -> Result<(), OutOfMemory> {
-    assert_eq!(rt; seen_with_headers(rt.alloc(), 64)?, Seen::Whole(402));
-    assert_eq!(rt; seen_with_headers(rt.alloc(), 65)?, MANY);
+    for (count, want) in [(64, Seen::Whole(402)), (65, MANY)] {
+        let bytes = request_of_headers(rt.alloc(), count)?;
+        assert_eq!(rt; seen_in_request(&bytes), want);
+    }
     Ok(())
 }
 
