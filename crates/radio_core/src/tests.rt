@@ -19,6 +19,10 @@ const PEER: Peer = Peer::V4(0x0a00_0001);
 
 const STATION: &str = "source-password = \"hackme\"\nadmin-password = \"letmein\"\n";
 
+/// The same, up to the limits that it sets.
+const STATION_LIMITS: &str =
+    "source-password = \"hackme\"\nadmin-password = \"letmein\"\n[limits]\n";
+
 /// An event of a table, by its client's number, and the mount, the data or the room.
 #[derive(Clone, Copy, Debug)]
 enum Call {
@@ -85,9 +89,22 @@ fn push_event(alloc: Global, id: u64, data: &str) -> Result<Event, OutOfMemory> 
 
 /// A core with this burst-size.
 fn core_with_burst(alloc: Global, burst: u32) -> Result<Core, SettingsFault> {
-    let text = format!(in alloc; "{STATION}[limits]\nburst-size = {burst}\n")?;
+    let text = format!(in alloc; "{STATION_LIMITS}burst-size = {burst}\n")?;
     let settings = Settings::read(alloc, text.as_str())?;
     Ok(Core::new(alloc, settings, Lists {}))
+}
+
+/// A core with this burst-size replies as one table says, and then as the next.
+fn replies_in_turn(
+    rt: &impl Abort,
+    alloc: Global,
+    burst: u32,
+    first: &[(Call, &str)],
+    next: &[(Call, &str)],
+) -> Result<(), Fail> {
+    let mut core = core_with_burst(alloc, burst)?;
+    replies(rt, alloc, &mut core, first)?;
+    replies(rt, alloc, &mut core, next)
 }
 
 /// Each call of the table is replied to as the table says.
@@ -98,10 +115,14 @@ fn replies(
     table: &[(Call, &str)],
 ) -> Result<(), Fail> {
     for (call, want) in table {
-        let told = told_after(alloc, core, call)?;
-        assert_eq!(rt; told.as_str(), *want, "at {call:?}");
+        let words = told_after(alloc, core, call)?;
+        check_words(rt, call, words.as_str(), want);
     }
     Ok(())
+}
+
+fn check_words(rt: &impl Abort, call: &Call, words: &str, want: &str) {
+    assert_eq!(rt; words, want, "at {call:?}");
 }
 
 fn told_after(alloc: Global, core: &mut Core, call: &Call) -> Result<String, OutOfMemory> {

@@ -3,7 +3,7 @@
 use super::*;
 
 /// A source is 1, a listener is 2, and 3 has asked for nothing.
-const THREE_CLIENTS: [(Call, &str); 6] = [
+const THREE_CLIENTS: &[(Call, &str)] = &[
     (Call::Arrive, "arrived 1"),
     (Call::Arrive, "arrived 2"),
     (Call::Arrive, "arrived 3"),
@@ -14,13 +14,11 @@ const THREE_CLIENTS: [(Call, &str); 6] = [
 
 /// What follows upon them.
 fn three_clients(rt: &impl Abort, alloc: Global, table: &[(Call, &str)]) -> Result<(), Fail> {
-    let mut core = core_with_burst(alloc, 8)?;
-    replies(rt, alloc, &mut core, THREE_CLIENTS.as_slice())?;
-    replies(rt, alloc, &mut core, table)
+    replies_in_turn(rt, alloc, 8, THREE_CLIENTS, table)
 }
 
 /// What does not fit a client is stray, and changes nothing.
-const STRAY_EVENTS: [(Call, &str); 11] = [
+const STRAY_EVENTS: &[(Call, &str)] = &[
     (Call::Source(1, "/b"), "stray"),
     (Call::Listen(1, "/a"), "stray"),
     (Call::Draw(1, 9), "stray"),
@@ -36,11 +34,11 @@ const STRAY_EVENTS: [(Call, &str); 11] = [
 
 #[test]
 fn stray_events(rt: HostRuntime) -> Result<(), Fail> {
-    three_clients(&rt, rt.alloc(), STRAY_EVENTS.as_slice())
+    three_clients(&rt, rt.alloc(), STRAY_EVENTS)
 }
 
 /// A listener is handed the stream piece by piece, as he has room and as it grows.
-const PIECE_BY_PIECE: [(Call, &str); 6] = [
+const PIECE_BY_PIECE: &[(Call, &str)] = &[
     (Call::Draw(2, 3), "drawn abc"),
     (Call::Push(1, "efgh"), "noted"),
     (Call::Draw(2, 0), "drawn "),
@@ -51,11 +49,11 @@ const PIECE_BY_PIECE: [(Call, &str); 6] = [
 
 #[test]
 fn draws_piece_by_piece(rt: HostRuntime) -> Result<(), Fail> {
-    three_clients(&rt, rt.alloc(), PIECE_BY_PIECE.as_slice())
+    three_clients(&rt, rt.alloc(), PIECE_BY_PIECE)
 }
 
 /// The end of a session finishes its listeners, and theirs alone, until they leave.
-const SOURCE_ENDS: [(Call, &str); 11] = [
+const SOURCE_ENDS: &[(Call, &str)] = &[
     (Call::Source(3, "/b"), "feeding"),
     (Call::Arrive, "arrived 4"),
     (Call::Listen(4, "/b"), "seated audio/ogg,Night,"),
@@ -71,11 +69,11 @@ const SOURCE_ENDS: [(Call, &str); 11] = [
 
 #[test]
 fn source_that_ends(rt: HostRuntime) -> Result<(), Fail> {
-    three_clients(&rt, rt.alloc(), SOURCE_ENDS.as_slice())
+    three_clients(&rt, rt.alloc(), SOURCE_ENDS)
 }
 
 /// A source that leaves ends its session too; a listener of the next one hears that one alone.
-const SOURCE_LEAVES: [(Call, &str); 7] = [
+const SOURCE_LEAVES: &[(Call, &str)] = &[
     (Call::Leave(1), "noted"),
     (Call::Source(3, "/a"), "feeding"),
     (Call::Push(3, "new"), "noted"),
@@ -87,11 +85,11 @@ const SOURCE_LEAVES: [(Call, &str); 7] = [
 
 #[test]
 fn source_that_leaves(rt: HostRuntime) -> Result<(), Fail> {
-    three_clients(&rt, rt.alloc(), SOURCE_LEAVES.as_slice())
+    three_clients(&rt, rt.alloc(), SOURCE_LEAVES)
 }
 
 /// Each rule of the policy that can be met in a test; one who is denied has had his answer.
-const DENIALS: [(Call, &str); 12] = [
+const DENIALS: &[(Call, &str)] = &[
     (Call::Source(3, "/a"), "deny mount-in-use"),
     (Call::Source(3, "/b"), "stray"),
     (Call::Arrive, "arrived 4"),
@@ -108,7 +106,7 @@ const DENIALS: [(Call, &str); 12] = [
 
 #[test]
 fn denials(rt: HostRuntime) -> Result<(), Fail> {
-    three_clients(&rt, rt.alloc(), DENIALS.as_slice())
+    three_clients(&rt, rt.alloc(), DENIALS)
 }
 
 /// Numbers are not given again.
@@ -117,6 +115,6 @@ fn numbers_rise(rt: HostRuntime) -> Result<(), Fail> {
     three_clients(
         &rt,
         rt.alloc(),
-        [(Call::Leave(3), "noted"), (Call::Arrive, "arrived 4")].as_slice(),
+        &[(Call::Leave(3), "noted"), (Call::Arrive, "arrived 4")],
     )
 }

@@ -5,7 +5,7 @@
 use super::*;
 
 /// Each event that allocates, and the two that take no memory.
-const TABLE: [(Call, &str); 9] = [
+const TABLE: &[(Call, &str)] = &[
     (Call::Arrive, "arrived 1"),
     (Call::Arrive, "arrived 2"),
     (Call::Source(1, "/a"), "feeding"),
@@ -17,15 +17,19 @@ const TABLE: [(Call, &str); 9] = [
     (Call::Leave(2), "noted"),
 ];
 
-/// The same, where memory may be refused once on the way.
+/// The reply in words, where memory may be refused once on the way.
 fn told_at_last(alloc: Global, core: &mut Core, call: &Call) -> Result<String, OutOfMemory> {
-    let reply = match step_after(alloc, core, call) {
-        Ok(reply) => reply,
-        Err(_) => step_after(alloc, core, call)?,
-    };
+    let reply = step_at_last(alloc, core, call)?;
     match told(alloc, &reply) {
         Ok(words) => Ok(words),
         Err(_) => told(alloc, &reply),
+    }
+}
+
+fn step_at_last(alloc: Global, core: &mut Core, call: &Call) -> Result<Reply, OutOfMemory> {
+    match step_after(alloc, core, call) {
+        Ok(reply) => Ok(reply),
+        Err(_) => step_after(alloc, core, call),
     }
 }
 
@@ -43,16 +47,20 @@ fn replies_at_last(
 ) -> Result<(), Fail> {
     for (call, want) in table {
         let words = told_at_last(alloc, core, call)?;
-        assert_eq!(rt; words.as_str(), *want, "at {call:?}");
+        check_words(rt, call, words.as_str(), want);
     }
     Ok(())
 }
 
+fn core_at_last(alloc: Global) -> Result<Core, SettingsFault> {
+    match core_with_burst(alloc, 8) {
+        Ok(core) => Ok(core),
+        Err(_) => core_with_burst(alloc, 8),
+    }
+}
+
 #[test]
 fn refusals_change_nothing(rt: HostRuntime) -> Result<(), Fail> {
-    let mut core = match core_with_burst(rt.alloc(), 8) {
-        Ok(core) => core,
-        Err(_) => core_with_burst(rt.alloc(), 8)?,
-    };
-    replies_at_last(&rt, rt.alloc(), &mut core, TABLE.as_slice())
+    let mut core = core_at_last(rt.alloc())?;
+    replies_at_last(&rt, rt.alloc(), &mut core, TABLE)
 }

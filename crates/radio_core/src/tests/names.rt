@@ -59,22 +59,28 @@ fn long_path(alloc: Global, letters: usize) -> Result<Vec<u8>, OutOfMemory> {
     Ok(path)
 }
 
-#[test]
-fn longest_name(rt: HostRuntime) -> Result<(), Fail> {
-    assert_eq!(rt; MAX_MOUNT_NAME, 255);
-    let longest = long_path(rt.alloc(), 254)?;
-    assert!(rt; is_name(longest.as_slice()));
-    let longer = long_path(rt.alloc(), 255)?;
-    assert!(rt; !is_name(longer.as_slice()));
-    Ok(())
+/// Whether a slash and so many letters are a mount's name.
+fn is_long_name(alloc: Global, letters: usize) -> Result<bool, OutOfMemory> {
+    let path = long_path(alloc, letters)?;
+    Ok(is_name(path.as_slice()))
 }
 
 #[test]
-fn names_are_compared_by_their_bytes(rt: HostRuntime) -> Result<(), Fail> {
-    let name = MountName::read(b"/a").ok_or("no name")?;
-    let same = MountName::read(b"/a").ok_or("no name")?;
-    let longer = MountName::read(b"/ab").ok_or("no name")?;
-    assert!(rt; name.is(&same));
-    assert!(rt; !name.is(&longer));
+fn longest_name(rt: HostRuntime) -> Result<(), Fail> {
+    assert_eq!(rt; MAX_MOUNT_NAME, 255);
+    assert!(rt; is_long_name(rt.alloc(), 254)?);
+    assert!(rt; !is_long_name(rt.alloc(), 255)?);
     Ok(())
+}
+
+/// Whether two paths name the same mount; `None` where one of them names none.
+fn is_same_name(path: &[u8], other: &[u8]) -> Option<bool> {
+    let name = MountName::read(path)?;
+    Some(name.is(&MountName::read(other)?))
+}
+
+#[test]
+fn names_are_compared_by_their_bytes(rt: HostRuntime) {
+    assert_eq!(rt; is_same_name(b"/a", b"/a"), Some(true));
+    assert_eq!(rt; is_same_name(b"/a", b"/ab"), Some(false));
 }

@@ -2,11 +2,15 @@
 
 use super::*;
 
-/// A listener whose burst holds the whole stream is handed all of it.
-const EIGHT_BYTES: [(Call, &str); 9] = [
+/// A block of eight bytes.
+const EIGHT_BYTES: &[(Call, &str)] = &[
     (Call::Arrive, "arrived 1"),
     (Call::PlainSource(1, "/a"), "feeding"),
     (Call::Push(1, "abcdefgh"), "noted"),
+];
+
+/// A listener whose burst holds the whole stream is handed all of it.
+const WHOLE_STREAM: &[(Call, &str)] = &[
     (Call::Arrive, "arrived 2"),
     (Call::Listen(2, "/a"), "seated audio/mpeg,,"),
     (Call::Draw(2, 100), "drawn abcdefgh"),
@@ -17,12 +21,11 @@ const EIGHT_BYTES: [(Call, &str); 9] = [
 
 #[test]
 fn eight_bytes(rt: HostRuntime) -> Result<(), Fail> {
-    let mut core = core_with_burst(rt.alloc(), 8)?;
-    replies(&rt, rt.alloc(), &mut core, EIGHT_BYTES.as_slice())
+    replies_in_turn(&rt, rt.alloc(), 8, EIGHT_BYTES, WHOLE_STREAM)
 }
 
 /// Two blocks, and a listener who comes then.
-const TWO_BLOCKS: [(Call, &str); 6] = [
+const TWO_BLOCKS: &[(Call, &str)] = &[
     (Call::Arrive, "arrived 1"),
     (Call::PlainSource(1, "/a"), "feeding"),
     (Call::Push(1, "abcd"), "noted"),
@@ -31,6 +34,13 @@ const TWO_BLOCKS: [(Call, &str); 6] = [
     (Call::Listen(2, "/a"), "seated audio/mpeg,,"),
 ];
 
+/// What he draws, in words.
+fn drawn_after_two_blocks(rt: &impl Abort, alloc: Global, burst: u32) -> Result<String, Fail> {
+    let mut core = core_with_burst(alloc, burst)?;
+    replies(rt, alloc, &mut core, TWO_BLOCKS)?;
+    Ok(told_after(alloc, &mut core, &Call::Draw(2, 100))?)
+}
+
 /// What he draws is this.
 fn draws_after_two_blocks(
     rt: &impl Abort,
@@ -38,10 +48,8 @@ fn draws_after_two_blocks(
     burst: u32,
     want: &str,
 ) -> Result<(), Fail> {
-    let mut core = core_with_burst(alloc, burst)?;
-    replies(rt, alloc, &mut core, TWO_BLOCKS.as_slice())?;
-    let told = told_after(alloc, &mut core, &Call::Draw(2, 100))?;
-    assert_eq!(rt; told.as_str(), want, "burst {burst}");
+    let words = drawn_after_two_blocks(rt, alloc, burst)?;
+    assert_eq!(rt; words.as_str(), want, "burst {burst}");
     Ok(())
 }
 
@@ -57,16 +65,18 @@ fn burst_between_blocks(rt: HostRuntime) -> Result<(), Fail> {
 }
 
 /// Bursts of the sizes around a block start: two blocks, one block, and none.
+const BURSTS: &[(u32, &str)] = &[
+    (9, "drawn abcdefgh"),
+    (8, "drawn abcdefgh"),
+    (7, "drawn efgh"),
+    (3, "drawn "),
+    (0, "drawn "),
+];
+
 #[test]
 fn burst_sizes(rt: HostRuntime) -> Result<(), Fail> {
-    for (burst, want) in [
-        (9, "drawn abcdefgh"),
-        (8, "drawn abcdefgh"),
-        (7, "drawn efgh"),
-        (3, "drawn "),
-        (0, "drawn "),
-    ] {
-        draws_after_two_blocks(&rt, rt.alloc(), burst, want)?;
+    for (burst, want) in BURSTS {
+        draws_after_two_blocks(&rt, rt.alloc(), *burst, want)?;
     }
     Ok(())
 }

@@ -3,187 +3,141 @@
 use super::*;
 use crate::{Key, MAX_BYTES};
 
-/// The two sizes that a text sets, or its fault.
-fn sizes(alloc: Global, text: &str) -> Result<(u32, u32), SettingsFault> {
-    let settings = Settings::read(alloc, text)?;
-    Ok((settings.queue_size, settings.burst_size))
+/// What a text sets, or its fault, in words.
+fn read_in_words(alloc: Global, text: &str) -> Result<String, OutOfMemory> {
+    match Settings::read(alloc, text) {
+        Ok(settings) => settings_in_words(alloc, &settings),
+        Err(fault) => fault.to_string(alloc),
+    }
 }
 
-/// The same, of a text that holds the passwords and these limits.
-fn sizes_of_limits(alloc: Global, limits: &str) -> Result<(u32, u32), SettingsFault> {
-    let text = format!(in alloc; "{STATION}[limits]\n{limits}\n")?;
-    sizes(alloc, text.as_str())
+/// The two passwords, the size of the queue and that of the burst.
+fn settings_in_words(alloc: Global, settings: &Settings) -> Result<String, OutOfMemory> {
+    let source_password = text(settings.source_password.as_bytes());
+    let admin_password = text(settings.admin_password.as_bytes());
+    let queue_size = settings.queue_size;
+    let burst_size = settings.burst_size;
+    format!(in alloc; "{source_password} {admin_password} {queue_size} {burst_size}")
 }
 
-#[test]
-fn passwords_and_defaults(rt: HostRuntime) -> Result<(), Fail> {
-    let settings = Settings::read(rt.alloc(), STATION)?;
-    assert_eq!(rt; settings.source_password.as_bytes(), b"hackme".as_slice());
-    assert_eq!(rt; settings.admin_password.as_bytes(), b"letmein".as_slice());
-    assert_eq!(rt; settings.queue_size, 524_288);
-    assert_eq!(rt; settings.burst_size, 65_536);
+/// A text behind some lines is read as these words.
+fn is_read(
+    rt: &impl Abort,
+    alloc: Global,
+    before: &str,
+    rest: &str,
+    want: &str,
+) -> Result<(), Fail> {
+    let text = format!(in alloc; "{before}{rest}")?;
+    let words = read_in_words(alloc, text.as_str())?;
+    assert_eq!(rt; words.as_str(), want, "{rest:?}");
     Ok(())
 }
 
-#[test]
-fn limits_that_are_set(rt: HostRuntime) -> Result<(), Fail> {
-    for (limits, want) in [
-        ("", (524_288, 65_536)),
-        ("queue-size = 1", (1, 65_536)),
-        ("burst-size = 0", (524_288, 0)),
-        (
-            "queue-size = 1073741824\nburst-size = 1073741824",
-            (MAX_BYTES, MAX_BYTES),
-        ),
-        ("clients = 7", (524_288, 65_536)),
-    ] {
-        assert_eq!(rt; sizes_of_limits(rt.alloc(), limits)?, want, "{limits}");
+/// Each text of a table, behind the same lines, is read as the words beside it.
+fn are_read(
+    rt: &impl Abort,
+    alloc: Global,
+    before: &str,
+    table: &[(&str, &str)],
+) -> Result<(), Fail> {
+    for (rest, want) in table {
+        is_read(rt, alloc, before, rest, want)?;
     }
+    Ok(())
+}
+
+const TEXTS: &[(&str, &str)] = &[
+    (STATION, "hackme letmein 524288 65536"),
+    ("source-password", "not toml"),
+    ("", "missing source-password"),
+    ("admin-password = \"b\"", "missing source-password"),
+    ("source-password = \"a\"", "missing admin-password"),
+    ("source-password = 1", "wrong kind source-password"),
+    (
+        "source-password = \"a\"\nadmin-password = []",
+        "wrong kind admin-password",
+    ),
+    (
+        "limits = 1\nsource-password = \"a\"\nadmin-password = \"b\"",
+        "wrong kind limits",
+    ),
+];
+
+#[test]
+fn texts(rt: HostRuntime) -> Result<(), Fail> {
+    are_read(&rt, rt.alloc(), "", TEXTS)
+}
+
+/// What stands in the table `[limits]`.
+const LIMITS: &[(&str, &str)] = &[
+    ("\n", "hackme letmein 524288 65536"),
+    ("queue-size = 1\n", "hackme letmein 1 65536"),
+    ("burst-size = 0\n", "hackme letmein 524288 0"),
+    (
+        "queue-size = 1073741824\nburst-size = 1073741824\n",
+        "hackme letmein 1073741824 1073741824",
+    ),
+    ("clients = 7\n", "hackme letmein 524288 65536"),
+    ("queue-size = 0\n", "out of range queue-size"),
+    ("queue-size = 1073741825\n", "out of range queue-size"),
+    ("queue-size = -1\n", "out of range queue-size"),
+    ("queue-size = 4294967297\n", "out of range queue-size"),
+    ("queue-size = \"1\"\n", "wrong kind queue-size"),
+    ("burst-size = -1\n", "out of range burst-size"),
+    ("burst-size = 1073741825\n", "out of range burst-size"),
+    ("burst-size = true\n", "wrong kind burst-size"),
+    (
+        "burst-size = true\nqueue-size = 0\n",
+        "out of range queue-size",
+    ),
+];
+
+#[test]
+fn limits(rt: HostRuntime) -> Result<(), Fail> {
     assert_eq!(rt; MAX_BYTES, 1_073_741_824);
-    Ok(())
-}
-
-#[test]
-fn limits_with_a_fault(rt: HostRuntime) {
-    for (limits, want) in [
-        (
-            "queue-size = 0",
-            SettingsFault::OutOfRange {
-                key: Key::QueueSize,
-            },
-        ),
-        (
-            "queue-size = 1073741825",
-            SettingsFault::OutOfRange {
-                key: Key::QueueSize,
-            },
-        ),
-        (
-            "queue-size = -1",
-            SettingsFault::OutOfRange {
-                key: Key::QueueSize,
-            },
-        ),
-        (
-            "queue-size = 4294967297",
-            SettingsFault::OutOfRange {
-                key: Key::QueueSize,
-            },
-        ),
-        (
-            "queue-size = \"1\"",
-            SettingsFault::WrongKind {
-                key: Key::QueueSize,
-            },
-        ),
-        (
-            "burst-size = -1",
-            SettingsFault::OutOfRange {
-                key: Key::BurstSize,
-            },
-        ),
-        (
-            "burst-size = 1073741825",
-            SettingsFault::OutOfRange {
-                key: Key::BurstSize,
-            },
-        ),
-        (
-            "burst-size = true",
-            SettingsFault::WrongKind {
-                key: Key::BurstSize,
-            },
-        ),
-        (
-            "burst-size = true\nqueue-size = 0",
-            SettingsFault::OutOfRange {
-                key: Key::QueueSize,
-            },
-        ),
-    ] {
-        assert_eq!(rt; sizes_of_limits(rt.alloc(), limits), Err(want), "{limits}");
-    }
-}
-
-#[test]
-fn texts_with_a_fault(rt: HostRuntime) {
-    for (text, want) in [
-        ("source-password", SettingsFault::NotToml),
-        (
-            "",
-            SettingsFault::Missing {
-                key: Key::SourcePassword,
-            },
-        ),
-        (
-            "admin-password = \"b\"",
-            SettingsFault::Missing {
-                key: Key::SourcePassword,
-            },
-        ),
-        (
-            "source-password = \"a\"",
-            SettingsFault::Missing {
-                key: Key::AdminPassword,
-            },
-        ),
-        (
-            "source-password = 1",
-            SettingsFault::WrongKind {
-                key: Key::SourcePassword,
-            },
-        ),
-        (
-            "source-password = \"a\"\nadmin-password = []",
-            SettingsFault::WrongKind {
-                key: Key::AdminPassword,
-            },
-        ),
-        (
-            "limits = 1\nsource-password = \"a\"\nadmin-password = \"b\"",
-            SettingsFault::WrongKind { key: Key::Limits },
-        ),
-    ] {
-        assert_eq!(rt; sizes(rt.alloc(), text), Err(want), "{text}");
-    }
+    are_read(&rt, rt.alloc(), STATION_LIMITS, LIMITS)
 }
 
 /// Each fault in words.
+const FAULTS: &[(SettingsFault, &str)] = &[
+    (SettingsFault::NotToml, "not toml"),
+    (
+        SettingsFault::Missing {
+            key: Key::SourcePassword,
+        },
+        "missing source-password",
+    ),
+    (
+        SettingsFault::Missing {
+            key: Key::AdminPassword,
+        },
+        "missing admin-password",
+    ),
+    (
+        SettingsFault::WrongKind { key: Key::Limits },
+        "wrong kind limits",
+    ),
+    (
+        SettingsFault::OutOfRange {
+            key: Key::QueueSize,
+        },
+        "out of range queue-size",
+    ),
+    (
+        SettingsFault::OutOfRange {
+            key: Key::BurstSize,
+        },
+        "out of range burst-size",
+    ),
+    (SettingsFault::OutOfMemory, "out of memory"),
+];
+
 #[test]
 fn faults_in_words(rt: HostRuntime) -> Result<(), Fail> {
-    for (fault, want) in [
-        (SettingsFault::NotToml, "not toml"),
-        (
-            SettingsFault::Missing {
-                key: Key::SourcePassword,
-            },
-            "missing source-password",
-        ),
-        (
-            SettingsFault::Missing {
-                key: Key::AdminPassword,
-            },
-            "missing admin-password",
-        ),
-        (
-            SettingsFault::WrongKind { key: Key::Limits },
-            "wrong kind limits",
-        ),
-        (
-            SettingsFault::OutOfRange {
-                key: Key::QueueSize,
-            },
-            "out of range queue-size",
-        ),
-        (
-            SettingsFault::OutOfRange {
-                key: Key::BurstSize,
-            },
-            "out of range burst-size",
-        ),
-        (SettingsFault::OutOfMemory, "out of memory"),
-    ] {
-        assert_eq!(rt; format!(in rt.alloc(); "{fault}")?.as_str(), want);
+    for (fault, want) in FAULTS {
+        let words = fault.to_string(rt.alloc())?;
+        assert_eq!(rt; words.as_str(), *want);
     }
     Ok(())
 }
