@@ -17,11 +17,8 @@ use std::test::Fail;
 /// The address from which all connections of these tests come.
 const PEER: Peer = Peer::V4(0x0a00_0001);
 
-const STATION: &str = "source-password = \"hackme\"\nadmin-password = \"letmein\"\n";
-
-/// The same, up to the limits that it sets.
-const STATION_LIMITS: &str =
-    "source-password = \"hackme\"\nadmin-password = \"letmein\"\n[limits]\n";
+/// The settings of a station, up to the limits that it sets.
+const STATION: &str = "source-password = \"hackme\"\nadmin-password = \"letmein\"\n[limits]\n";
 
 /// An event of a table, by its client's number, and the mount, the data or the room.
 #[derive(Clone, Copy, Debug)]
@@ -89,7 +86,7 @@ fn push_event(alloc: Global, id: u64, data: &str) -> Result<Event, OutOfMemory> 
 
 /// A core with this burst-size.
 fn core_with_burst(alloc: Global, burst: u32) -> Result<Core, SettingsFault> {
-    let text = format!(in alloc; "{STATION_LIMITS}burst-size = {burst}\n")?;
+    let text = format!(in alloc; "{STATION}burst-size = {burst}\n")?;
     let settings = Settings::read(alloc, text.as_str())?;
     Ok(Core::new(alloc, settings, Lists {}))
 }

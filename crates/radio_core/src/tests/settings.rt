@@ -30,7 +30,7 @@ fn is_read(
 ) -> Result<(), Fail> {
     let text = format!(in alloc; "{before}{rest}")?;
     let words = read_in_words(alloc, text.as_str())?;
-    assert_eq!(rt; words.as_str(), want, "{rest:?}");
+    assert_eq!(rt; words.as_str(), want, "{rest}");
     Ok(())
 }
 
@@ -48,7 +48,10 @@ fn are_read(
 }
 
 const TEXTS: &[(&str, &str)] = &[
-    (STATION, "hackme letmein 524288 65536"),
+    (
+        "source-password = \"hackme\"\nadmin-password = \"letmein\"\n",
+        "hackme letmein 524288 65536",
+    ),
     ("source-password", "not toml"),
     ("", "missing source-password"),
     ("admin-password = \"b\"", "missing source-password"),
@@ -96,7 +99,7 @@ const LIMITS: &[(&str, &str)] = &[
 #[test]
 fn limits(rt: HostRuntime) -> Result<(), Fail> {
     assert_eq!(rt; MAX_BYTES, 1_073_741_824);
-    are_read(&rt, rt.alloc(), STATION_LIMITS, LIMITS)
+    are_read(&rt, rt.alloc(), STATION, LIMITS)
 }
 
 /// Each fault in words.
