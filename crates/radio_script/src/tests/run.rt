@@ -3,6 +3,7 @@
 use super::echo::Echo;
 use crate::{Delivery, OutOfMemory, RunFault, read_delivery, run_with};
 use std::alloc::Global;
+use std::process::Abort;
 
 // The deliveries of these lines.
 fn deliveries(alloc: Global, lines: &[&[u8]]) -> Result<Vec<Delivery>, OutOfMemory> {
@@ -15,36 +16,38 @@ fn deliveries(alloc: Global, lines: &[&[u8]]) -> Result<Vec<Delivery>, OutOfMemo
     Ok(deliveries)
 }
 
-#[test]
-fn runs_deliveries(rt: HostRuntime) -> Result<(), OutOfMemory> {
-    let alloc = rt.alloc();
-    let lines: [&[u8]; 4] = [b"open 1 127.0.0.1", b"in 1 \\xff", b"in 1 ", b"end 1"];
-    let all = deliveries(alloc, &lines)?;
-    assert_eq!(rt; all.len(), 4);
-    match run_with(alloc, &mut Echo::new(alloc), &all) {
-        Ok(text) => assert_eq!(rt; text.as_slice(), b"out 1 \\xff\nshut 1 done\n".as_slice()),
-        Err(fault) => panic!(rt; "{fault}"),
-    }
-    match run_with(alloc, &mut Echo::new(alloc), &[]) {
-        Ok(text) => assert!(rt; text.is_empty()),
-        Err(fault) => panic!(rt; "{fault}"),
-    }
+// Each line is a delivery, and a run of them all comes to this.
+fn check_run(
+    rt: &impl Abort,
+    alloc: Global,
+    lines: &[&[u8]],
+    want: Result<&[u8], &RunFault>,
+) -> Result<(), OutOfMemory> {
+    let all = deliveries(alloc, lines)?;
+    assert_eq!(rt; all.len(), lines.len());
+    let text = run_with(alloc, &mut Echo::new(alloc), &all);
+    assert_eq!(rt; text.as_deref(), want, "{lines:?}");
     Ok(())
 }
 
 #[test]
+fn runs_deliveries(rt: HostRuntime) -> Result<(), OutOfMemory> {
+    let lines: [&[u8]; 4] = [b"open 1 127.0.0.1", b"in 1 \\xff", b"in 1 ", b"end 1"];
+    check_run(&rt, rt.alloc(), &lines, Ok(b"out 1 \\xff\nshut 1 done\n"))?;
+    check_run(&rt, rt.alloc(), &[], Ok(b""))
+}
+
+// Lists of deliveries, and the number of the one whose label is at fault.
+const FAULTY_LISTS: [(&[&[u8]], usize); 3] = [
+    (&[b"end 1"], 1),
+    (&[b"open 1 127.0.0.1", b"open 1 127.0.0.1", b"end 1"], 2),
+    (&[b"open 1 127.0.0.1", b"in 1 a", b"in 2 b"], 3),
+];
+
+#[test]
 fn stops_at_the_label_at_fault(rt: HostRuntime) -> Result<(), OutOfMemory> {
-    let alloc = rt.alloc();
-    let lists: [(&[&[u8]], usize); 3] = [
-        (&[b"end 1"], 1),
-        (&[b"open 1 127.0.0.1", b"open 1 127.0.0.1", b"end 1"], 2),
-        (&[b"open 1 127.0.0.1", b"in 1 a", b"in 2 b"], 3),
-    ];
-    for (lines, want) in lists {
-        match run_with(alloc, &mut Echo::new(alloc), &deliveries(alloc, lines)?) {
-            Ok(_) => panic!(rt; "{want}"),
-            Err(fault) => assert_eq!(rt; fault, RunFault::Delivery { number: want }),
-        }
+    for (lines, number) in FAULTY_LISTS {
+        check_run(&rt, rt.alloc(), lines, Err(&RunFault::Delivery { number }))?;
     }
     Ok(())
 }
