@@ -5,6 +5,8 @@ pub mod Field
 pub mod Shown
 pub mod Lookup
 pub mod Rows
+pub mod Logins
+pub mod Masters
 pub mod Access
 pub mod Listen
 pub mod Limits
@@ -13,6 +15,7 @@ pub mod Relays
 pub mod Slave
 pub mod Repeats
 pub mod Document
+pub mod Parts
 pub mod Options
 pub mod Reading
 pub mod Laws
