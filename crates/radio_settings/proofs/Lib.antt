@@ -1,5 +1,6 @@
 mod NameLemmas
 mod RepeatLemmas
+mod PlaceLemmas
 mod TableLemmas
 mod FaultLemmas
 mod PartLemmas

@@ -14,6 +14,7 @@ pub mod Mounts
 pub mod Relays
 pub mod Slave
 pub mod Repeats
+pub mod Places
 pub mod Document
 pub mod Parts
 pub mod Options

@@ -16,8 +16,8 @@ pub mod laws;
 mod mount_name;
 mod mounts;
 mod options;
+mod places;
 mod reading;
-mod repeats;
 mod settings;
 #[cfg(test)]
 mod tests;

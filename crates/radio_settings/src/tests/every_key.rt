@@ -73,51 +73,51 @@ master-password = \"spw\"
 /// What a text sets, with `-` for what is absent and 0 for no limit: of the mount `/a`, of the mount `/b`, which has no
 /// table, and of the relay that feeds `/e`.
 struct Station {
-    access: [&'static str; 7],
+    access: &'static [&'static str],
     address: &'static str,
-    listen: [u32; 2],
-    limits: [u32; 6],
-    mount: [&'static str; 6],
-    mount_numbers: [u32; 4],
-    mount_flags: [bool; 4],
-    other_mount: [&'static str; 6],
-    other_numbers: [u32; 4],
-    relay: [&'static str; 5],
-    slave: [&'static str; 3],
+    listen: &'static [u32],
+    limits: &'static [u32],
+    mount: &'static [&'static str],
+    mount_numbers: &'static [u32],
+    mount_flags: &'static [bool],
+    other_mount: &'static [&'static str],
+    other_numbers: &'static [u32],
+    relay: &'static [&'static str],
+    slave: &'static [&'static str],
     relay_port: u32,
-    slave_numbers: [u32; 2],
+    slave_numbers: &'static [u32],
 }
 
 const EVERY_KEY_SET: Station = Station {
-    access: ["sp", "au", "ap", "ru", "rp", "d", "a"],
+    access: &["sp", "au", "ap", "ru", "rp", "d", "a"],
     address: "::",
-    listen: [1, 2],
-    limits: [3, 4, 5, 6, 7, 8],
-    mount: ["mu", "mp", "/b", "Night", "Talk", "h"],
-    mount_numbers: [9, 10, 11, 12],
-    mount_flags: [true, true, true, false],
-    other_mount: ["source", "sp", "-", "-", "-", "-"],
-    other_numbers: [0, 0, 6, 16000],
-    relay: ["s", "/c", "/e", "u", "p"],
-    slave: ["m", "su", "spw"],
+    listen: &[1, 2],
+    limits: &[3, 4, 5, 6, 7, 8],
+    mount: &["mu", "mp", "/b", "Night", "Talk", "h"],
+    mount_numbers: &[9, 10, 11, 12],
+    mount_flags: &[true, true, true, false],
+    other_mount: &["source", "sp", "-", "-", "-", "-"],
+    other_numbers: &[0, 0, 6, 16000],
+    relay: &["s", "/c", "/e", "u", "p"],
+    slave: &["m", "su", "spw"],
     relay_port: 13,
-    slave_numbers: [14, 15],
+    slave_numbers: &[14, 15],
 };
 
 const DEFAULTS: Station = Station {
-    access: ["sp", "admin", "ap", "relay", "-", "-", "-"],
+    access: &["sp", "admin", "ap", "relay", "-", "-", "-"],
     address: "127.0.0.1",
-    listen: [8000, 4],
-    limits: [100, 2, 524_288, 65_536, 10, 15],
-    mount: ["source", "sp", "-", "-", "-", "-"],
-    mount_numbers: [0, 0, 65_536, 16000],
-    mount_flags: [false, false, false, true],
-    other_mount: ["source", "sp", "-", "-", "-", "-"],
-    other_numbers: [0, 0, 65_536, 16000],
-    relay: ["s", "/e", "/e", "-", "-"],
-    slave: ["m", "relay", "spw"],
+    listen: &[8000, 4],
+    limits: &[100, 2, 524_288, 65_536, 10, 15],
+    mount: &["source", "sp", "-", "-", "-", "-"],
+    mount_numbers: &[0, 0, 65_536, 16000],
+    mount_flags: &[false, false, false, true],
+    other_mount: &["source", "sp", "-", "-", "-", "-"],
+    other_numbers: &[0, 0, 65_536, 16000],
+    relay: &["s", "/e", "/e", "-", "-"],
+    slave: &["m", "relay", "spw"],
     relay_port: 8000,
-    slave_numbers: [8000, 120],
+    slave_numbers: &[8000, 120],
 };
 
 fn access_texts(access: &AccessSettings) -> [&str; 7] {
@@ -216,10 +216,10 @@ fn name_or_dash(name: &Option<MountName>) -> &str {
 
 /// Whether the keys above all tables, `[listen]` and `[limits]` are as wanted.
 fn has_basics(settings: &Settings, want: &Station) -> bool {
-    access_texts(&settings.access) == want.access
+    access_texts(&settings.access).as_slice() == want.access
         && settings.listen.address.as_str() == want.address
-        && [settings.listen.port.get(), settings.listen.workers.get()] == want.listen
-        && limit_numbers(&settings.limits) == want.limits
+        && [settings.listen.port.get(), settings.listen.workers.get()].as_slice() == want.listen
+        && limit_numbers(&settings.limits).as_slice() == want.limits
 }
 
 fn has_mount(settings: &Settings, want: &Station) -> bool {
@@ -227,9 +227,9 @@ fn has_mount(settings: &Settings, want: &Station) -> bool {
         return false;
     };
     let options = settings.options(&name);
-    mount_texts(options) == want.mount
-        && mount_numbers(options) == want.mount_numbers
-        && mount_flags(options) == want.mount_flags
+    mount_texts(options).as_slice() == want.mount
+        && mount_numbers(options).as_slice() == want.mount_numbers
+        && mount_flags(options).as_slice() == want.mount_flags
 }
 
 fn has_other_mount(settings: &Settings, want: &Station) -> bool {
@@ -237,8 +237,8 @@ fn has_other_mount(settings: &Settings, want: &Station) -> bool {
         return false;
     };
     let options = settings.options(&name);
-    mount_texts(options) == want.other_mount
-        && mount_numbers(options) == want.other_numbers
+    mount_texts(options).as_slice() == want.other_mount
+        && mount_numbers(options).as_slice() == want.other_numbers
         && mount_flags(options) == [false, false, false, true]
 }
 
@@ -249,7 +249,7 @@ fn has_relay(settings: &Settings, want: &Station) -> bool {
     let Some(relay) = settings.relays.get(&name) else {
         return false;
     };
-    relay_texts(relay) == want.relay
+    relay_texts(relay).as_slice() == want.relay
         && !relay.on_demand
         && relay.master.port.get() == want.relay_port
 }
@@ -258,8 +258,9 @@ fn has_slave(settings: &Settings, want: &Station) -> bool {
     let Some(slave) = &settings.slave else {
         return false;
     };
-    slave_texts(slave) == want.slave
-        && [slave.master.port.get(), slave.master_update_interval.get()] == want.slave_numbers
+    slave_texts(slave).as_slice() == want.slave
+        && [slave.master.port.get(), slave.master_update_interval.get()].as_slice()
+            == want.slave_numbers
 }
 
 fn slave_texts(slave: &SlaveSetting) -> [&str; 3] {
@@ -270,6 +271,7 @@ fn slave_texts(slave: &SlaveSetting) -> [&str; 3] {
     ]
 }
 
+/// Whether the settings are those of a station.
 fn is_station(settings: &Settings, want: &Station) -> bool {
     has_basics(settings, want)
         && has_mount(settings, want)
@@ -278,20 +280,20 @@ fn is_station(settings: &Settings, want: &Station) -> bool {
         && has_slave(settings, want)
 }
 
-/// Whether the text sets this station.
-fn sets(alloc: Global, text: &str, want: &Station) -> Result<bool, SettingsFault> {
-    let settings = Settings::read(alloc, text)?;
-    Ok(is_station(&settings, want))
+/// Whether a text sets this station.
+fn sets(alloc: Global, text: &str, want: &Station) -> bool {
+    match Settings::read(alloc, text) {
+        Ok(settings) => is_station(&settings, want),
+        Err(_) => false,
+    }
 }
 
-#[test]
-fn every_key(rt: HostRuntime) -> Result<(), Fail> {
-    assert!(rt; sets(rt.alloc(), EVERY_KEY, &EVERY_KEY_SET)?);
-    Ok(())
-}
+/// Texts, and what they set.
+const STATIONS: [(&str, Station); 2] = [(EVERY_KEY, EVERY_KEY_SET), (NEEDED_KEYS, DEFAULTS)];
 
 #[test]
-fn every_default(rt: HostRuntime) -> Result<(), Fail> {
-    assert!(rt; sets(rt.alloc(), NEEDED_KEYS, &DEFAULTS)?);
-    Ok(())
+fn every_key_and_its_default(rt: HostRuntime) {
+    for (text, want) in &STATIONS {
+        assert!(rt; sets(rt.alloc(), text, want), "{text}");
+    }
 }

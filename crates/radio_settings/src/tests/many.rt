@@ -33,15 +33,17 @@ fn has_relays(settings: &Settings, size: usize) -> bool {
             .all(|(number, relay)| relay.master.port.get() == number)
 }
 
-/// Whether the text sets so many mounts and relays.
-fn sets_all(alloc: Global, text: &str, size: usize) -> Result<bool, SettingsFault> {
-    let settings = Settings::read(alloc, text)?;
-    Ok(has_mounts(&settings, size) && has_relays(&settings, size))
+/// Whether a text sets so many mounts and relays.
+fn sets(alloc: Global, text: &str, size: usize) -> bool {
+    match Settings::read(alloc, text) {
+        Ok(settings) => has_mounts(&settings, size) && has_relays(&settings, size),
+        Err(_) => false,
+    }
 }
 
 #[test]
-fn a_thousand_mounts_and_relays(rt: HostRuntime) -> Result<(), Fail> {
+fn a_thousand_mounts_and_relays(rt: HostRuntime) -> Result<(), OutOfMemory> {
     let text = station(rt.alloc(), 1000)?;
-    assert!(rt; sets_all(rt.alloc(), text.as_str(), 1000)?);
+    assert!(rt; sets(rt.alloc(), text.as_str(), 1000));
     Ok(())
 }
