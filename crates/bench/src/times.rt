@@ -1,6 +1,4 @@
 //! What all benchmarks share: times as numbers, and the speed of something beside that of a plain copy.
-#![tactic(auto)]
-
 ghost use Rattle.std.specs.Prelude.{◌≤◌};
 
 use anyhow::Result;

@@ -1,18 +1,13 @@
-//! Measures source bodies beside a plain copy of the same bytes.
-//!
-//! With no argument it feeds 64 KiB of data in each kind of body and writes sizes alone, which never change. With the
-//! argument `full` it feeds 64 MiB, and writes the speed of each, in millions of bytes fed a second and in percent of
-//! the speed at which the same bytes are copied, piece by piece.
-#![tactic(auto)]
-
+//! Source bodies beside a plain copy of the same bytes: 64 KiB of data in each kind of body. In full it is 64 MiB, and
+//! the speed of each is written, in millions of bytes fed a second and in percent of the speed at which the same bytes
+//! are copied, piece by piece.
 ghost use Rattle.std.specs.Prelude.{◌≤◌};
 
+use crate::times::{copied_size, write_speed};
 use anyhow::Result;
-use bench_times::{copied_size, write_speed};
 use radio_source::{Body, OutOfMemory};
 use std::alloc::Global;
-use std::env;
-use std::rt::{Clock, Env};
+use std::rt::Clock;
 use std::time::Instant;
 
 const SMALL: usize = 64 * 1024;
@@ -21,40 +16,45 @@ const FULL: usize = 64 * 1024 * 1024;
 
 const PIECE: usize = 4096;
 
-fn main(rt: HostRuntime) -> Result<()> {
-    let is_full = env::args(&rt)?.skip(1).any(|word| word.as_str() == "full");
+/// Measures each kind of body.
+pub fn measure(rt: &(impl Clock + Print + AllocGlobal), is_full: bool) -> Result<()> {
     let data = vec![in rt.alloc(); 0x55; if is_full { FULL } else { SMALL }]?;
-    let size = data.len() as u64;
-    measure(
-        &rt,
-        "plain",
-        Body::plain(rt.alloc()),
-        data.as_slice(),
-        is_full,
-    )?;
-    measure(
-        &rt,
-        "sized",
-        Body::sized(rt.alloc(), size),
-        data.as_slice(),
-        is_full,
-    )?;
+    feed_unframed(rt, data.as_slice(), is_full)?;
     for chunk_size in [1, 1400, 65536] {
-        let bytes = chunked(rt.alloc(), chunk_size, data.as_slice())?;
-        let name = format!(in rt.alloc(); "chunks of {chunk_size}")?;
-        measure(
-            &rt,
-            name.as_str(),
-            Body::chunked(rt.alloc()),
-            bytes.as_slice(),
-            is_full,
-        )?;
+        feed_chunks(rt, chunk_size, data.as_slice(), is_full)?;
     }
     Ok(())
 }
 
+/// A body that ends with the connection, and one of a known size.
+fn feed_unframed(
+    rt: &(impl Clock + Print + AllocGlobal),
+    data: &[u8],
+    is_full: bool,
+) -> Result<()> {
+    let alloc = rt.alloc();
+    feed(rt, "plain", Body::plain(alloc), data, is_full)?;
+    let sized = Body::sized(alloc, data.len() as u64);
+    feed(rt, "sized", sized, data, is_full)
+}
+
+/// A body in chunks of one size.
+fn feed_chunks(
+    rt: &(impl Clock + Print + AllocGlobal),
+    chunk_size: usize,
+    data: &[u8],
+    is_full: bool,
+) -> Result<()>
+    requires { 1 ≤ chunk_size }
+{
+    let bytes = chunked(rt.alloc(), chunk_size, data)?;
+    let name = format!(in rt.alloc(); "chunks of {chunk_size}")?;
+    let body = Body::chunked(rt.alloc());
+    feed(rt, name.as_str(), body, bytes.as_slice(), is_full)
+}
+
 /// Copies and feeds the bytes of a body in pieces, and writes a line about it.
-fn measure(
+fn feed(
     rt: &(impl Clock + Print + AllocGlobal),
     name: &str,
     body: Body,

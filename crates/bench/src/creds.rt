@@ -1,14 +1,10 @@
-//! Measures look-ups in a user list of 10 users beside those in one of 10,000.
-//!
-//! With no argument it makes few look-ups and writes counts alone, which never change. With the argument `full` it makes
-//! a million of each, and writes how long one takes, in nanoseconds, and the ratio of the two lists.
-#![tactic(auto)]
+//! Look-ups in a user list of 10 users beside those in one of 10,000. In full a million of each are made, and it is
+//! written how long one takes, in nanoseconds, and the ratio of the two lists.
 
+use crate::times::{micros, percent_of};
 use anyhow::{Context, Result};
-use bench_times::{micros, percent_of};
 use radio_creds::{OutOfMemory, Pair, Users, basic};
 use std::alloc::Global;
-use std::env;
 use std::rt::Clock;
 use std::time::{Duration, Instant};
 
@@ -16,26 +12,26 @@ use std::time::{Duration, Instant};
 const VALUE: &[u8] = b"Basic dXNlcjc6YQ==";
 
 /// What the look-ups in one list took.
-#[derive(Drop)]
+#[derive(Clone, Copy)]
 struct Times {
     has: Duration,
     accepts: Duration,
 }
 
-fn main(rt: HostRuntime) -> Result<()> {
-    let is_full = env::args(&rt)?.skip(1).any(|word| word.as_str() == "full");
+/// Measures both lists.
+pub fn measure(rt: &(impl Clock + Print + AllocGlobal), is_full: bool) -> Result<()> {
     let scale = if is_full { 100 } else { 1 };
-    let few = measure(&rt, 10, 1000 * scale)?;
-    let many = measure(&rt, 10000, scale)?;
+    let few = look_up(rt, 10, 1000 * scale)?;
+    let many = look_up(rt, 10000, scale)?;
     if is_full {
-        write_ratio(&rt, "has", few.has, many.has)?;
-        write_ratio(&rt, "accepts", few.accepts, many.accepts)?;
+        write_ratio(rt, "has", few.has, many.has)?;
+        write_ratio(rt, "accepts", few.accepts, many.accepts)?;
     }
     Ok(())
 }
 
 /// Looks each user of a list up, and asks as often for one pair, over so many rounds.
-fn measure(rt: &(impl Clock + Print + AllocGlobal), size: u32, rounds: u32) -> Result<Times> {
+fn look_up(rt: &(impl Clock + Print + AllocGlobal), size: u32, rounds: u32) -> Result<Times> {
     let names = names(rt.alloc(), size)?;
     let users = list(rt.alloc(), names.as_slice())?;
     let pair = basic(rt.alloc(), VALUE)?.context("the value has no pair")?;
