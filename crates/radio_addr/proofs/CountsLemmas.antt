@@ -10,9 +10,8 @@ use Rattle.std.proofs.lemmas.Nat.{pow-add}
 use Rattle.std.proofs.lemmas.List.{length-replicate}
 use Rattle.std.proofs.Common.{add-zero}
 use Rattle.radio_addr.specs.Numbers.{group_of}
-use Rattle.radio_addr.specs.Cuts.{cut, fields_at}
+use Rattle.radio_texts.specs.Cuts.{fields_at}
 use Rattle.radio_addr.specs.Addresses.{number_of_groups, groups_in, last_groups, whole_address, shortened_address}
-use Rattle.radio_addr.proofs.CutsLemmas.{fields_at-cut, fields_by, some_field}
 use Rattle.radio_addr.specs.Counts.{count_with, count_all, count_between}
 
 -- room for one group more
@@ -120,12 +119,11 @@ pub groups_in-cons : (q : Bool) (field : List ℕ) (fields : List (List ℕ)) �
 groups_in-cons q field [] some = absurd (omega arith)
 groups_in-cons q field (next ∷ fields) some = refl
 
-groups_at_cut : (q : Bool) (rest field later : List ℕ) → Some (field, later) ≡ cut 58 rest → groups_in q (fields_at 58 rest) ≡ option_and_then (λ group. option_map (λ groups. group ∷ groups) (groups_in q (fields_at 58 later))) (group_of field)
-groups_at_cut q rest field later at =
-    ap (groups_in q) (fields_at-cut 58 rest ∙ ap (fields_by 58 rest) (sym at)) ∙ groups_in-cons q field (fields_at 58 later) (some_field 58 later)
+groups_at_cut : (q : Bool) (rest field later : List ℕ) → fields_at 58 rest ≡ field ∷ fields_at 58 later → 0 < length (fields_at 58 later) → groups_in q (fields_at 58 rest) ≡ option_and_then (λ group. option_map (λ groups. group ∷ groups) (groups_in q (fields_at 58 later))) (group_of field)
+groups_at_cut q rest field later at some = ap (groups_in q) at ∙ groups_in-cons q field (fields_at 58 later) some
 
-pub groups_at_end : (q : Bool) (rest : List ℕ) → None ≡ cut 58 rest → groups_in q (fields_at 58 rest) ≡ last_groups q rest
-groups_at_end q rest at = ap (groups_in q) (fields_at-cut 58 rest ∙ ap (fields_by 58 rest) (sym at))
+pub groups_at_end : (q : Bool) (rest : List ℕ) → fields_at 58 rest ≡ rest ∷ [] → groups_in q (fields_at 58 rest) ≡ last_groups q rest
+groups_at_end q rest at = ap (groups_in q) at
 
 counted_more : (c d : ℕ × ℕ) (group : ℕ) (o : Option (List ℕ)) → Some d ≡ count_with c group → option_and_then (count_all c) (option_map (λ groups. group ∷ groups) o) ≡ option_and_then (count_all d) o
 counted_more c d group None more = refl
@@ -136,15 +134,15 @@ counted_full c group None full = refl
 counted_full c group (Some groups) full = rw (← full) refl
 
 -- one field more of a text of groups: it is a group, it is none, or it is one too many
-pub field_more : (q : Bool) (rest field later : List ℕ) (c d : ℕ × ℕ) (group : ℕ) (all : Option (ℕ × ℕ)) → Some (field, later) ≡ cut 58 rest → Some group ≡ group_of field → Some d ≡ count_with c group → option_and_then (count_all c) (groups_in q (fields_at 58 rest)) ≡ all → option_and_then (count_all d) (groups_in q (fields_at 58 later)) ≡ all
-field_more q rest field later c d group all at is more so_far =
-    sym (ap (option_and_then (count_all c)) (groups_at_cut q rest field later at ∙ rw (← is) refl) ∙ counted_more c d group (groups_in q (fields_at 58 later)) more) ∙ so_far
+pub field_more : (q : Bool) (rest field later : List ℕ) (c d : ℕ × ℕ) (group : ℕ) (all : Option (ℕ × ℕ)) → fields_at 58 rest ≡ field ∷ fields_at 58 later → 0 < length (fields_at 58 later) → Some group ≡ group_of field → Some d ≡ count_with c group → option_and_then (count_all c) (groups_in q (fields_at 58 rest)) ≡ all → option_and_then (count_all d) (groups_in q (fields_at 58 later)) ≡ all
+field_more q rest field later c d group all at some is more so_far =
+    sym (ap (option_and_then (count_all c)) (groups_at_cut q rest field later at some ∙ rw (← is) refl) ∙ counted_more c d group (groups_in q (fields_at 58 later)) more) ∙ so_far
 
-pub field_none : (q : Bool) (rest field later : List ℕ) (c : ℕ × ℕ) (all : Option (ℕ × ℕ)) → Some (field, later) ≡ cut 58 rest → None ≡ group_of field → option_and_then (count_all c) (groups_in q (fields_at 58 rest)) ≡ all → None ≡ all
-field_none q rest field later c all at is so_far =
+pub field_none : (q : Bool) (rest field later : List ℕ) (c : ℕ × ℕ) (all : Option (ℕ × ℕ)) → fields_at 58 rest ≡ field ∷ fields_at 58 later → 0 < length (fields_at 58 later) → None ≡ group_of field → option_and_then (count_all c) (groups_in q (fields_at 58 rest)) ≡ all → None ≡ all
+field_none q rest field later c all at some is so_far =
     let none : option_and_then (λ group. option_map (λ groups. group ∷ groups) (groups_in q (fields_at 58 later))) (group_of field) ≡ None = rw (← is) refl in
-    sym (ap (option_and_then (count_all c)) (groups_at_cut q rest field later at ∙ none)) ∙ so_far
+    sym (ap (option_and_then (count_all c)) (groups_at_cut q rest field later at some ∙ none)) ∙ so_far
 
-pub field_full : (q : Bool) (rest field later : List ℕ) (c : ℕ × ℕ) (group : ℕ) (all : Option (ℕ × ℕ)) → Some (field, later) ≡ cut 58 rest → Some group ≡ group_of field → None ≡ count_with c group → option_and_then (count_all c) (groups_in q (fields_at 58 rest)) ≡ all → None ≡ all
-field_full q rest field later c group all at is full so_far =
-    sym (ap (option_and_then (count_all c)) (groups_at_cut q rest field later at ∙ rw (← is) refl) ∙ counted_full c group (groups_in q (fields_at 58 later)) full) ∙ so_far
+pub field_full : (q : Bool) (rest field later : List ℕ) (c : ℕ × ℕ) (group : ℕ) (all : Option (ℕ × ℕ)) → fields_at 58 rest ≡ field ∷ fields_at 58 later → 0 < length (fields_at 58 later) → Some group ≡ group_of field → None ≡ count_with c group → option_and_then (count_all c) (groups_in q (fields_at 58 rest)) ≡ all → None ≡ all
+field_full q rest field later c group all at some is full so_far =
+    sym (ap (option_and_then (count_all c)) (groups_at_cut q rest field later at some ∙ rw (← is) refl) ∙ counted_full c group (groups_in q (fields_at 58 later)) full) ∙ so_far

@@ -9,15 +9,30 @@ use Rattle.std.proofs.lemmas.Grind.{pow_more}
 use Rattle.std.proofs.lemmas.List.{append-nil, length-append}
 use Rattle.std.proofs.Math.Nat.{div-div-eq-div-mul}
 use Rattle.std.proofs.lemmas.Fmt.{digits_is_IsNumeral, decimal_digit, first_decimal}
-use Rattle.radio_addr.specs.Numbers.{number_of, is_numeral, octet_of, group_of}
-use Rattle.radio_addr.specs.Cuts.{cut, cut_at_two, onto_front, fields_at}
-use Rattle.radio_addr.proofs.NumbersLemmas.{all_digits}
+use Rattle.std.specs.List.{list_all, starts_with}
+use Rattle.radio_texts.specs.Numbers.{number_of, is_numeral}
+use Rattle.radio_addr.specs.Numbers.{octet_of, group_of}
+use Rattle.radio_texts.specs.Cuts.{cut, cut_at_two, onto_front, fields_at, fields_by}
 use Rattle.radio_addr.specs.Addresses.{quad_of, quad_number, v6_of, address_of, peer_of, groups_in, groups_of, last_groups, number_of_groups}
 use Rattle.radio_addr.specs.Writing.{written, group_at, hexadecimal, IsPeer}
 use Rattle.radio_addr.specs.declared.address.Address.{Address}
 use Rattle.radio_addr.specs.declared.address.Address.TheVariants.{V4, V6}
-use Rattle.radio_addr.proofs.CutsLemmas.{fields_at-cut, fields_by, begins_twice, some_field}
 use Rattle.radio_addr.proofs.CountsLemmas.{groups_in-cons}
+
+-- whether all bytes are digits
+abbrev pub all_digits : ℕ → List ℕ → Bool
+all_digits base text = list_all (λ b. is_digit b base) text
+
+-- whether a text begins with two bytes c
+abbrev pub begins_twice : ℕ → List ℕ → Bool
+begins_twice c text = starts_with eqb text (c ∷ c ∷ [])
+
+-- the fields between colons by one cut, and that there is one
+abbrev pub ByCuts : Type 0
+ByCuts = (at : ℕ) (text : List ℕ) → fields_at at text ≡ fields_by at text (cut at text)
+
+abbrev pub SomeField : Type 0
+SomeField = (at : ℕ) (text : List ℕ) → 0 < length (fields_at at text)
 
 -- digits pass the test of digits
 all_digits-from : (base : ℕ) (ds : List ℕ) → AllDigits base ds → all_digits base ds ≡ true
@@ -181,16 +196,16 @@ last_groups-hexadecimal : (q : Bool) (g : ℕ) → g < 65536 → last_groups q (
 unfolding last_groups
 last_groups-hexadecimal q g small = rw (group_of-hexadecimal g small) refl
 
-groups_in-joined : (q : Bool) (g : ℕ) (groups : List ℕ) → AreGroups (g ∷ groups) → groups_in q (fields_at 58 (joined (g ∷ groups))) ≡ Some (g ∷ groups)
-groups_in-joined q g [] all =
-    ap (groups_in q) (fields_at-cut 58 (hexadecimal g) ∙ ap (fields_by 58 (hexadecimal g)) (cut_digits 16 58 (hexadecimal g) (omega arith) (hexadecimal-is g all.0).0.1))
+groups_in-joined : ByCuts → SomeField → (q : Bool) (g : ℕ) (groups : List ℕ) → AreGroups (g ∷ groups) → groups_in q (fields_at 58 (joined (g ∷ groups))) ≡ Some (g ∷ groups)
+groups_in-joined by some q g [] all =
+    ap (groups_in q) (by 58 (hexadecimal g) ∙ ap (fields_by 58 (hexadecimal g)) (cut_digits 16 58 (hexadecimal g) (omega arith) (hexadecimal-is g all.0).0.1))
     ∙ last_groups-hexadecimal q g all.0
-groups_in-joined q g (h ∷ groups) all =
+groups_in-joined by some q g (h ∷ groups) all =
     let rest = joined (h ∷ groups) in
     let text = hexadecimal g ++ (58 ∷ rest) in
-    ap (groups_in q) (fields_at-cut 58 text ∙ ap (fields_by 58 text) (cut_after_digits 16 58 (hexadecimal g) rest (omega arith) (hexadecimal-is g all.0).0.1))
-    ∙ (groups_in-cons q (hexadecimal g) (fields_at 58 rest) (some_field 58 rest)
-    ∙ rw (group_of-hexadecimal g all.0) (ap (option_map (λ gs. g ∷ gs)) (groups_in-joined q h groups all.1)))
+    ap (groups_in q) (by 58 text ∙ ap (fields_by 58 text) (cut_after_digits 16 58 (hexadecimal g) rest (omega arith) (hexadecimal-is g all.0).0.1))
+    ∙ (groups_in-cons q (hexadecimal g) (fields_at 58 rest) (some 58 rest)
+    ∙ rw (group_of-hexadecimal g all.0) (ap (option_map (λ gs. g ∷ gs)) (groups_in-joined by some q h groups all.1)))
 
 -- the number of the groups of an address
 shifted_back : (n a : ℕ) → n / (a * 65536) * 65536 + n / a % 65536 ≡ n / a
@@ -225,19 +240,19 @@ quad_of-none : (text : List ℕ) → cut 46 text ≡ None → quad_of text ≡ N
 unfolding quad_of
 quad_of-none text none = rw none refl
 
-v6_of-written : (n : ℕ) → n < 2 ^ 128 → v6_of (joined (eight_groups n)) ≡ Some n
+v6_of-written : ByCuts → SomeField → (n : ℕ) → n < 2 ^ 128 → v6_of (joined (eight_groups n)) ≡ Some n
 unfolding v6_of eight_groups
-v6_of-written n small =
+v6_of-written by fields n small =
     let text = joined (eight_groups n) in
     let some : 0 < length text = omega (arith, length-append (hexadecimal (group_at n 0)) (58 ∷ joined (group_at n 1 ∷ group_at n 2 ∷ group_at n 3 ∷ group_at n 4 ∷ group_at n 5 ∷ group_at n 6 ∷ group_at n 7 ∷ []))) in
-    rw (no_two (eight_groups n) (are_groups n), groups_of-some true text some, groups_in-joined true (group_at n 0) (group_at n 1 ∷ group_at n 2 ∷ group_at n 3 ∷ group_at n 4 ∷ group_at n 5 ∷ group_at n 6 ∷ group_at n 7 ∷ []) (are_groups n))
+    rw (no_two (eight_groups n) (are_groups n), groups_of-some true text some, groups_in-joined by fields true (group_at n 0) (group_at n 1 ∷ group_at n 2 ∷ group_at n 3 ∷ group_at n 4 ∷ group_at n 5 ∷ group_at n 6 ∷ group_at n 7 ∷ []) (are_groups n))
     (ap (λ (m : ℕ). Some m) (number_of-groups_at n small))
 
-peer_of-v6 : (n : ℕ) → n < 2 ^ 128 → (n / 2 ^ 32 ≡ 0xffff → ⊥) → peer_of (written (V6 n)) ≡ Some (V6 n)
+peer_of-v6 : ByCuts → SomeField → (n : ℕ) → n < 2 ^ 128 → (n / 2 ^ 32 ≡ 0xffff → ⊥) → peer_of (written (V6 n)) ≡ Some (V6 n)
 unfolding address_of eight_groups
-peer_of-v6 n small plain =
-    rw (quad_of-none (joined (eight_groups n)) (no_dot (eight_groups n) (are_groups n)), v6_of-written n small, ne_eqb (n / 2 ^ 32) 0xffff plain) refl
+peer_of-v6 by some n small plain =
+    rw (quad_of-none (joined (eight_groups n)) (no_dot (eight_groups n) (are_groups n)), v6_of-written by some n small, ne_eqb (n / 2 ^ 32) 0xffff plain) refl
 
-pub peer_of-written : (p : Address) → IsPeer p → peer_of (written p) ≡ Some p
-peer_of-written (V4 n) fits = peer_of-v4 n fits
-peer_of-written (V6 n) fits = peer_of-v6 n fits.0 fits.1
+pub peer_of-written : ByCuts → SomeField → (p : Address) → IsPeer p → peer_of (written p) ≡ Some p
+peer_of-written by some (V4 n) fits = peer_of-v4 n fits
+peer_of-written by some (V6 n) fits = peer_of-v6 by some n fits.0 fits.1

@@ -2,7 +2,7 @@
 use Rattle.std.specs.Prelude.{ℕ, Bool, true, false, ◌+◌, ◌-◌, ◌*◌, ◌/◌, ◌%◌, ◌^◌, ◌==◌, nat_lt, List, [], ◌∷◌, ◌++◌, length, replicate, fold, Option, None, Some, if◌then◌else◌}
 use Rattle.std.specs.Option.{option_map, option_and_then, option_or}
 use Rattle.radio_addr.specs.Numbers.{octet_of, group_of}
-use Rattle.radio_addr.specs.Cuts.{cut, fields_at, cut_at_two}
+use Rattle.radio_texts.specs.Cuts.{cut, fields_at, cut_at_two}
 use Rattle.radio_addr.specs.declared.address.Address.{Address}
 use Rattle.radio_addr.specs.declared.address.Address.TheVariants.{V4, V6}
 

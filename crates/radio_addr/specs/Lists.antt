@@ -3,8 +3,9 @@ use Rattle.std.specs.Prelude.{◌≡◌, ℕ, Bool, false, ◌+◌, ◌-◌, ◌
 use Rattle.std.specs.Fmt.{decimal}
 use Rattle.std.specs.Option.{option_map, option_and_then}
 use Rattle.std.specs.List.{prefix_len, suffix_len, list_any}
-use Rattle.radio_addr.specs.Numbers.{number_of}
-use Rattle.radio_addr.specs.Cuts.{cut, fields_at}
+use Rattle.radio_texts.specs.Cuts.{cut, fields_at}
+use Rattle.radio_texts.specs.Lines.{without_return}
+use Rattle.radio_texts.specs.Numbers.{number_of}
 use Rattle.radio_addr.specs.Addresses.{address_of}
 use Rattle.radio_addr.specs.declared.address.Address.{Address}
 use Rattle.radio_addr.specs.declared.address.Address.TheVariants.{V4, V6}
@@ -17,10 +18,6 @@ use Rattle.radio_addr.specs.declared.lines.Line.TheVariants.{Passed, Listed, Bad
 -- a space or a tab
 abbrev pub is_blank : ℕ → Bool
 is_blank b = b == 32 || b == 9
-
--- a line without one carriage return at its end
-unfoldable pub without_return : List ℕ → List ℕ
-without_return line = if slice_index line (length line - 1) == 13 then take (length line - 1) line else line
 
 -- a text without the blanks at its ends
 unfoldable pub without_blanks : List ℕ → List ℕ

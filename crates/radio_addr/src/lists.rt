@@ -1,12 +1,11 @@
 //! Lists of addresses.
-ghost use Rattle.std.specs.Prelude.{◌≡◌, ◌+◌, ◌/◌, ◌-◌, ◌^◌, ◌<◌, ◌≤◌, ℕ, length, Ok, OnOk, IfOk, IfErr, true};
-ghost use Rattle.radio_addr.specs.Lists.{is_in, range_from, AddsLine, FaultsLine};
-ghost use Rattle.radio_addr.specs.declared.address.Address.TheVariants.{V4, V6};
+ghost use Rattle.std.specs.Prelude.{◌≡◌, ◌+◌, ◌/◌, ◌-◌, ◌^◌, ◌<◌, ◌≤◌, length, Ok, OnOk, IfOk, IfErr};
+ghost use Rattle.radio_addr.specs.Lists.{is_in, AddsLine, FaultsLine};
 
 use crate::address::Address;
-use crate::cuts::cut;
 use crate::lines::{AddressRange, Line, read_line};
 use crate::peer::Peer;
+use radio_texts::cut;
 use std::alloc::Global;
 use std::error::Error;
 use std::fmt;
@@ -83,15 +82,6 @@ impl AddressList {
         self.ranges.iter().any(|range| is_in(range, peer))
     }
 }
-
-/// A law: a line with `/0` lists its whole family.
-///
-/// The function does nothing; a caller that needs the law in a proof calls it, and cites its clauses.
-pub fn whole_families()
-    ensures v4 { (a n : ℕ) → a < 2 ^ 32 → n < 2 ^ 32 → is_in (range_from (V4 a) 0) (V4 n) ≡ true }
-    ensures v6 { (a n : ℕ)
-        → a < 2 ^ 128 → n < 2 ^ 128 → is_in (range_from (V6 a) 0) (V6 n) ≡ true }
-{}
 
 /// Adds what a line lists; so many lines stand before it.
 fn add_line(ranges: &mut Vec<AddressRange>, line: &[u8], passed: usize) -> Result<(), ListFault>

@@ -5,6 +5,7 @@ ghost use Rattle.radio_addr.specs.Writing.{written, IsPeer};
 ghost use Rattle.radio_addr.specs.declared.address.Address.{Address as AddressOf};
 
 use crate::address::{Address, read_address};
+use radio_texts::laws::fields;
 use std::fmt;
 use std::marker::Model;
 
@@ -118,4 +119,6 @@ fn group(n: u128, place: u32) -> u32
 /// The function does nothing; a caller that needs the law in a proof calls it, and cites its clause.
 pub fn written_peers()
     ensures { (p : AddressOf) → IsPeer p → peer_of (written p) ≡ Some p }
-{}
+{
+    fields();
+}
