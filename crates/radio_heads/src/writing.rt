@@ -27,13 +27,31 @@ fn write_welcome(alloc: Global, welcome: &Welcome) -> Result<Vec<u8>, OutOfMemor
 {
     let mut text = Vec::new(alloc);
     push_status(alloc, &mut text, "HTTP/1.0", StatusCode::OK)?;
-    push_header(&mut text, "Content-Type", welcome.content_type)?;
-    push_shown(&mut text, "icy-name", welcome.name)?;
-    push_shown(&mut text, "icy-genre", welcome.genre)?;
+    push_stream(&mut text, welcome)?;
     push_interval(alloc, &mut text, welcome.interval)?;
-    push_header(&mut text, "Connection", b"close")?;
-    push_line(&mut text, b"")?;
+    push_end(&mut text)?;
     Ok(text)
+}
+
+/// The headers that tell of the stream.
+fn push_stream(text: &mut Vec<u8>, welcome: &Welcome) -> Result<(), OutOfMemory>
+    ensures { OnOk result (text.new.items ≡ text.old.items
+        ++ header_line (codes "Content-Type") welcome.now.content_type.now
+        ++ shown_line (codes "icy-name") welcome.now.name.now
+        ++ shown_line (codes "icy-genre") welcome.now.genre.now) }
+{
+    push_header(text, "Content-Type", welcome.content_type)?;
+    push_shown(text, "icy-name", welcome.name)?;
+    push_shown(text, "icy-genre", welcome.genre)
+}
+
+/// The last header, and the empty line.
+fn push_end(text: &mut Vec<u8>) -> Result<(), OutOfMemory>
+    ensures { OnOk result (text.new.items
+        ≡ text.old.items ++ header_line (codes "Connection") (codes "close") ++ line []) }
+{
+    push_header(text, "Connection", b"close")?;
+    push_line(text, b"")
 }
 
 fn write_bare(alloc: Global, version: &str, status: StatusCode) -> Result<Vec<u8>, OutOfMemory>
@@ -83,8 +101,7 @@ fn write_sized_head(
     push_header(&mut text, "Content-Type", kind.content_type())?;
     push_number(alloc, &mut text, "Content-Length", size)?;
     push_challenge(&mut text, status)?;
-    push_header(&mut text, "Connection", b"close")?;
-    push_line(&mut text, b"")?;
+    push_end(&mut text)?;
     Ok(text)
 }
 
