@@ -1,16 +1,17 @@
-//! The data of one feed, cut into blocks while they come.
+//! Data that come in parts, cut into blocks while they come.
 ghost use Rattle.std.specs.Prelude.{◌≡◌, ℕ, ◌+◌, ◌<◌, [], ◌∷◌, ◌++◌, length, IsTrue, ◌↔◌, IfOk, OnOk};
 ghost use Rattle.radio_blocks.specs.Block.{IsBlock};
-ghost use Rattle.radio_source.specs.Blocks.{blocks_of};
+ghost use Rattle.radio_blocks.specs.Cutting.{blocks_of};
 
 use crate::OutOfMemory;
-use bytes::Bytes;
-use radio_blocks::{Block, MAX_BLOCK};
+use crate::block::{Block, MAX_BLOCK};
 use std::alloc::Global;
 use std::marker::Model;
 use std::mem;
 
-/// Data in order: whole blocks of 4096 bytes, and the bytes after them.
+/// Data in order, as those of one feed of a source: whole blocks of 4096 bytes, and the bytes after them.
+///
+/// In contracts it is the bytes so far.
 #[derive(Drop)]
 pub struct Gathering {
     alloc: Global,
@@ -23,14 +24,13 @@ pub struct Gathering {
 impl Model for Gathering {
     ghost use Rattle.std.specs.Prelude.{ℕ, List, ◌++◌, ◌<◌, length};
     ghost use Rattle.std.specs.List.{concat};
-    ghost use Rattle.radio_blocks.specs.declared.block.TheConstants.{MAX_BLOCK};
-    ghost use Rattle.radio_source.specs.Gathering.{AreFull};
+    ghost use Rattle.radio_blocks.specs.Gathering.{AreFull};
 
     ghost Value = { List ℕ };
 
     ghost view = { λ g. concat g.blocks.items ++ g.last.items };
 
-    ghost invariant = { λ g. AreFull g.blocks.items × (length g.last.items < MAX_BLOCK) };
+    ghost invariant = { λ g. AreFull g.blocks.items × (length g.last.items < 4096) };
 }
 
 impl Gathering {
@@ -46,7 +46,7 @@ impl Gathering {
         }
     }
 
-    /// Adds data.
+    /// Adds data. `Err` where memory was refused; a part may have been added then, so the gathering is of no use.
     pub fn add(&mut self, bytes: &[u8]) -> Result<(), OutOfMemory>
         ensures { OnOk result (self.new ≡ self.old ++ bytes.now) }
     {
@@ -57,7 +57,7 @@ impl Gathering {
         Ok(())
     }
 
-    // Adds what fits the block that has begun, and returns the bytes behind.
+    /// Adds what fits the block that has begun, and returns the bytes behind.
     fn add_some<'b>(&mut self, bytes: &'b [u8]) -> Result<&'b [u8], OutOfMemory>
         requires { 0 < length bytes.now }
         ensures shorter { IfOk result (λ rest. length rest.now < length bytes.now) }
@@ -70,12 +70,12 @@ impl Gathering {
             return Ok(rest);
         }
         let whole = mem::replace(&mut self.last, Vec::new(self.alloc));
-        self.blocks.push(block_of(whole)?)?;
+        self.blocks.push(Block::of_vec(self.alloc, whole)?)?;
         self.expected = self.expected.saturating_sub(MAX_BLOCK);
         Ok(rest)
     }
 
-    // Makes room for a block, once for all its bytes.
+    /// Makes room for a block, once for all its bytes.
     fn make_room(&mut self) -> Result<(), OutOfMemory>
         ensures { self.new ≡ self.old }
     {
@@ -85,28 +85,22 @@ impl Gathering {
         Ok(())
     }
 
-    /// The data in blocks: all of 4096 bytes but the last.
+    /// The data in blocks: all of 4096 bytes but the last. `Err` where memory was refused.
     pub fn into_blocks(self) -> Result<Vec<Block>, OutOfMemory>
         ensures { IfOk result (λ blocks. blocks.items ≡ blocks_of self) }
     {
-        let Gathering { blocks, last, .. } = self;
+        let Gathering {
+            alloc,
+            blocks,
+            last,
+            ..
+        } = self;
         let mut blocks = blocks;
         if last.is_empty() {
             return Ok(blocks);
         }
         blocks.reserve(1)?;
-        blocks.push(block_of(last)?)?;
+        blocks.push(Block::of_vec(alloc, last)?)?;
         Ok(blocks)
-    }
-}
-
-// The block of these bytes, which are not copied.
-fn block_of(bytes: Vec<u8>) -> Result<Block, OutOfMemory>
-    requires { IsBlock bytes.items }
-    ensures { IfOk result (λ block. block ≡ bytes.items) }
-{
-    match Block::new(Bytes::from_vec(bytes)?) {
-        Some(block) => Ok(block),
-        None => unreachable!(),
     }
 }

@@ -9,7 +9,7 @@ mod settings;
 
 use crate::{Core, Event, Lists, OutOfMemory, Peer, Reply, Settings, SettingsFault, Shown, Text};
 use bytes::Bytes;
-use radio_blocks::Block;
+use radio_blocks::{Block, Pieces};
 use std::alloc::Global;
 use std::process::Abort;
 use std::test::Fail;
@@ -134,12 +134,19 @@ fn told(alloc: Global, reply: &Reply) -> Result<String, OutOfMemory> {
         Reply::Arrived(id) => format!(in alloc; "arrived {id}"),
         Reply::Feeding => "feeding".to_string(alloc),
         Reply::Seated { shown } => told_shown(alloc, shown),
-        Reply::Drawn { pieces } => format!(in alloc; "drawn {}", text(pieces.as_bytes())),
+        Reply::Drawn { pieces } => told_drawn(alloc, pieces),
         Reply::Noted => "noted".to_string(alloc),
         Reply::Deny(rule) => format!(in alloc; "deny {rule}"),
         Reply::Finished(rule) => format!(in alloc; "finished {rule}"),
         Reply::Stray => "stray".to_string(alloc),
     }
+}
+
+/// A draw in words: its bytes.
+fn told_drawn(alloc: Global, pieces: &Pieces) -> Result<String, OutOfMemory> {
+    let mut bytes = Vec::new(alloc);
+    pieces.write_to(&mut bytes)?;
+    format!(in alloc; "drawn {}", text(bytes.as_slice()))
 }
 
 fn told_shown(alloc: Global, shown: &Shown) -> Result<String, OutOfMemory> {

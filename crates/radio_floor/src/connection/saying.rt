@@ -33,7 +33,7 @@ impl Connection {
                 Ok(None)
             }
             Reply::Drawn { pieces } => {
-                out.extend_from_slice(pieces.as_bytes())?;
+                pieces.write_to(out)?;
                 Ok(None)
             }
             Reply::Noted => self.note(out),

@@ -1,5 +1,5 @@
 use Rattle.std.proofs.Common.{◌≡◌, ◌++◌, length}
-use Rattle.radio_source.proofs.gathering.Gathering.add.Given as goal
+use Rattle.radio_blocks.proofs.gathering.Gathering.add.Given as goal
 
 -- what was added and what is still to be added make what is asked for
 abbrev pub invariant-rest : goal.invariant-rest
