@@ -23,24 +23,29 @@ CutsFirst = (at : ℕ) (text front back : List ℕ)
 abbrev pub CutsNone : Type 0
 CutsNone = (at : ℕ) (text : List ℕ) → (cut at text ≡ None → Contains text at → ⊥) × ((Contains text at → ⊥) → cut at text ≡ None)
 
-whole : (text : List ℕ) (range : AddressRange) (o : Option Address) → (Contains text slash → ⊥) → address_of text ≡ o → option_map whole_range o ≡ Some range → ListsRange text range
+whole : (text : List ℕ) (range : AddressRange) (o : Option Address) → (Contains text slash → ⊥) → address_of text ≡ o
+    → option_map whole_range o ≡ Some range → ListsRange text range
 whole text range None none is e = cc
 whole text range (Some address) none is e =
     let same : whole_range address ≡ range = cc in
     subst (ListsRange text) same (Whole address none is)
 
-bits_of : (text front digits : List ℕ) (range : AddressRange) (address : Address) (o : Option ℕ) → text ≡ front ++ slash ∷ digits → (Contains front slash → ⊥) → address_of front ≡ Some address → number_of 10 (width_of address) digits ≡ o → option_map (λ n. range_from address n) o ≡ Some range → ListsRange text range
+bits_of : (text front digits : List ℕ) (range : AddressRange) (address : Address) (o : Option ℕ) → text ≡ front ++ slash ∷ digits
+    → (Contains front slash → ⊥) → address_of front ≡ Some address → number_of 10 (width_of address) digits ≡ o
+    → option_map (λ n. range_from address n) o ≡ Some range → ListsRange text range
 bits_of text front digits range address None at none is bits e = cc
 bits_of text front digits range address (Some n) at none is bits e =
     let same : range_from address n ≡ range = cc in
     subst (ListsRange text) same (Part front digits address n at none is bits)
 
-part : (text front digits : List ℕ) (range : AddressRange) (o : Option Address) → text ≡ front ++ slash ∷ digits → (Contains front slash → ⊥) → address_of front ≡ o → option_and_then (λ address. part_range address digits) o ≡ Some range → ListsRange text range
+part : (text front digits : List ℕ) (range : AddressRange) (o : Option Address) → text ≡ front ++ slash ∷ digits → (Contains front slash → ⊥)
+    → address_of front ≡ o → option_and_then (λ address. part_range address digits) o ≡ Some range → ListsRange text range
 part text front digits range None at none is e = cc
 part text front digits range (Some address) at none is e =
     bits_of text front digits range address (number_of 10 (width_of address) digits) at none is refl e
 
-either : CutsFirst → CutsNone → (text : List ℕ) (range : AddressRange) (o : Option (List ℕ × List ℕ)) → cut slash text ≡ o → range_in text o ≡ Some range → ListsRange text range
+either : CutsFirst → CutsNone → (text : List ℕ) (range : AddressRange) (o : Option (List ℕ × List ℕ)) → cut slash text ≡ o
+    → range_in text o ≡ Some range → ListsRange text range
 either first none text range None is e = whole text range (address_of text) ((none slash text).0 is) refl e
 either first none text range (Some parts) is e =
     let found = (first slash text parts.0 parts.1).0 is in
@@ -100,7 +105,8 @@ later_bad k n line lines good f = record {
   counted = omega (arith, f.counted);
 }
 
-says_more : (k : ℕ) (line : List ℕ) (lines : List (List ℕ)) (l : Line) (later : Result (List AddressRange) ℕ) → line_of line ≡ l → Says (k + 1) lines later → Says k (line ∷ lines) (with_line k l later)
+says_more : (k : ℕ) (line : List ℕ) (lines : List (List ℕ)) (l : Line) (later : Result (List AddressRange) ℕ) → line_of line ≡ l
+    → Says (k + 1) lines later → Says k (line ∷ lines) (with_line k l later)
 says_more k line lines Passed (Ok ranges) is says = record { none_bad = rw is says.none_bad; listed = rw is says.listed }
 says_more k line lines Passed (Err n) is says = later_bad k n line lines (rw is refl) says
 says_more k line lines (Listed range) (Ok ranges) is says = record { none_bad = rw is says.none_bad; listed = rw is (ap (λ rs. range ∷ rs) says.listed) }
@@ -118,16 +124,19 @@ bad_is line Passed is bad = let no : is_bad line ≡ false = rw is refl in cc
 bad_is line (Listed range) is bad = let no : is_bad line ≡ false = rw is refl in cc
 bad_is line Bad is bad = refl
 
-good_any : (line : List ℕ) (lines : List (List ℕ)) (b : Bool) → is_bad line ≡ b → list_any is_bad (line ∷ lines) ≡ false → (b ≡ false) × (list_any is_bad lines ≡ false)
+good_any : (line : List ℕ) (lines : List (List ℕ)) (b : Bool) → is_bad line ≡ b → list_any is_bad (line ∷ lines) ≡ false
+    → (b ≡ false) × (list_any is_bad lines ≡ false)
 good_any line lines true is none = let no : list_any is_bad (line ∷ lines) ≡ true = rw is refl in cc
 good_any line lines false is none = (refl, rw is at none)
 
-told : (k : ℕ) (line : List ℕ) (lines after : List (List ℕ)) (l : Line) (n : ℕ) → line_of line ≡ l → is_bad line ≡ false → lines_after (k + 1) lines ≡ Err n → with_line k l (lines_after (k + 1) lines) ≡ Err n
+told : (k : ℕ) (line : List ℕ) (lines after : List (List ℕ)) (l : Line) (n : ℕ) → line_of line ≡ l → is_bad line ≡ false
+    → lines_after (k + 1) lines ≡ Err n → with_line k l (lines_after (k + 1) lines) ≡ Err n
 told k line lines after Passed n is good e = e
 told k line lines after (Listed range) n is good e = rw e refl
 told k line lines after Bad n is good e = let no : is_bad line ≡ true = rw is refl in cc
 
-bad_told : (k : ℕ) (before : List (List ℕ)) (line : List ℕ) (after : List (List ℕ)) (n : ℕ) → list_any is_bad before ≡ false → is_bad line ≡ true → n ≡ k + length before + 1 → lines_after k (before ++ line ∷ after) ≡ Err n
+bad_told : (k : ℕ) (before : List (List ℕ)) (line : List ℕ) (after : List (List ℕ)) (n : ℕ) → list_any is_bad before ≡ false → is_bad line ≡ true
+    → n ≡ k + length before + 1 → lines_after k (before ++ line ∷ after) ≡ Err n
 bad_told k [] line after n none bad counted =
     let is : line_of line ≡ Bad = bad_is line (line_of line) refl bad in
     let same : k + 1 ≡ n = omega arith in
@@ -137,7 +146,8 @@ bad_told k (first ∷ before) line after n none bad counted =
     told k first (before ++ line ∷ after) after (line_of first) n refl good.0
     (bad_told (k + 1) before line after n good.1 bad (omega arith))
 
-listed_told : (k : ℕ) (line : List ℕ) (lines : List (List ℕ)) (l : Line) → line_of line ≡ l → is_bad line ≡ false → lines_after (k + 1) lines ≡ Ok (filter_map range_on lines) → with_line k l (lines_after (k + 1) lines) ≡ Ok (filter_map range_on (line ∷ lines))
+listed_told : (k : ℕ) (line : List ℕ) (lines : List (List ℕ)) (l : Line) → line_of line ≡ l → is_bad line ≡ false
+    → lines_after (k + 1) lines ≡ Ok (filter_map range_on lines) → with_line k l (lines_after (k + 1) lines) ≡ Ok (filter_map range_on (line ∷ lines))
 listed_told k line lines Passed is good e = rw (is, e) refl
 listed_told k line lines (Listed range) is good e = rw (is, e) refl
 listed_told k line lines Bad is good e = let no : is_bad line ≡ true = rw is refl in cc

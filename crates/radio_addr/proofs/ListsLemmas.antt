@@ -22,26 +22,33 @@ bad_line line bad = ⊎_elim
     cc)
     (cases_lt 0 (length line))
 
-pub lines_at_cut : (n : ℕ) (rest line later : List ℕ) → fields_at 10 rest ≡ line ∷ fields_at 10 later → lines_after n (fields_at 10 rest) ≡ with_line n (line_of line) (lines_after (n + 1) (fields_at 10 later))
+pub lines_at_cut : (n : ℕ) (rest line later : List ℕ) → fields_at 10 rest ≡ line ∷ fields_at 10 later
+    → lines_after n (fields_at 10 rest) ≡ with_line n (line_of line) (lines_after (n + 1) (fields_at 10 later))
 lines_at_cut n rest line later at = ap (lines_after n) at
 
 pub lines_at_end : (n : ℕ) (rest : List ℕ) → fields_at 10 rest ≡ rest ∷ [] → lines_after n (fields_at 10 rest) ≡ with_line n (line_of rest) (Ok [])
 lines_at_end n rest at = ap (lines_after n) at
 
 -- one line more, and the last one
-pub line_more : (n : ℕ) (rest line later : List ℕ) (old new : List AddressRange) (all : Result (List AddressRange) ℕ) → fields_at 10 rest ≡ line ∷ fields_at 10 later → AddsLine old n line new → after_ranges old (lines_after n (fields_at 10 rest)) ≡ all → after_ranges new (lines_after (n + 1) (fields_at 10 later)) ≡ all
+pub line_more : (n : ℕ) (rest line later : List ℕ) (old new : List AddressRange) (all : Result (List AddressRange) ℕ)
+    → fields_at 10 rest ≡ line ∷ fields_at 10 later → AddsLine old n line new → after_ranges old (lines_after n (fields_at 10 rest)) ≡ all
+    → after_ranges new (lines_after (n + 1) (fields_at 10 later)) ≡ all
 line_more n rest line later old new all at adds so_far =
     adds (lines_after (n + 1) (fields_at 10 later)) ∙ (ap (after_ranges old) (sym (lines_at_cut n rest line later at)) ∙ so_far)
 
-pub line_last : (n : ℕ) (rest : List ℕ) (old new : List AddressRange) (all : Result (List AddressRange) ℕ) → fields_at 10 rest ≡ rest ∷ [] → AddsLine old n rest new → after_ranges old (lines_after n (fields_at 10 rest)) ≡ all → all ≡ Ok new
+pub line_last : (n : ℕ) (rest : List ℕ) (old new : List AddressRange) (all : Result (List AddressRange) ℕ) → fields_at 10 rest ≡ rest ∷ []
+    → AddsLine old n rest new → after_ranges old (lines_after n (fields_at 10 rest)) ≡ all → all ≡ Ok new
 line_last n rest old new all at adds so_far =
     sym so_far ∙ (ap (after_ranges old) (lines_at_end n rest at) ∙ (sym (adds (Ok [])) ∙ ap (λ (t : List AddressRange). Ok t) (append-nil new)))
 
 -- a fault of a line is the list's
-pub fault_more : (n : ℕ) (rest line later : List ℕ) (old : List AddressRange) (all : Result (List AddressRange) ℕ) (fault : ListFault) → fields_at 10 rest ≡ line ∷ fields_at 10 later → FaultsLine n line fault → after_ranges old (lines_after n (fields_at 10 rest)) ≡ all → Explains all fault
+pub fault_more : (n : ℕ) (rest line later : List ℕ) (old : List AddressRange) (all : Result (List AddressRange) ℕ) (fault : ListFault)
+    → fields_at 10 rest ≡ line ∷ fields_at 10 later → FaultsLine n line fault → after_ranges old (lines_after n (fields_at 10 rest)) ≡ all → Explains all fault
 fault_more n rest line later old all fault at faults so_far =
-    subst (λ (r : Result (List AddressRange) ℕ). Explains r fault) (ap (after_ranges old) (sym (lines_at_cut n rest line later at)) ∙ so_far) (faults old (lines_after (n + 1) (fields_at 10 later)))
+    subst (λ (r : Result (List AddressRange) ℕ). Explains r fault) (ap (after_ranges old) (sym (lines_at_cut n rest line later at)) ∙ so_far)
+    (faults old (lines_after (n + 1) (fields_at 10 later)))
 
-pub fault_last : (n : ℕ) (rest : List ℕ) (old : List AddressRange) (all : Result (List AddressRange) ℕ) (fault : ListFault) → fields_at 10 rest ≡ rest ∷ [] → FaultsLine n rest fault → after_ranges old (lines_after n (fields_at 10 rest)) ≡ all → Explains all fault
+pub fault_last : (n : ℕ) (rest : List ℕ) (old : List AddressRange) (all : Result (List AddressRange) ℕ) (fault : ListFault)
+    → fields_at 10 rest ≡ rest ∷ [] → FaultsLine n rest fault → after_ranges old (lines_after n (fields_at 10 rest)) ≡ all → Explains all fault
 fault_last n rest old all fault at faults so_far =
     subst (λ (r : Result (List AddressRange) ℕ). Explains r fault) (ap (after_ranges old) (sym (lines_at_end n rest at)) ∙ so_far) (faults old (Ok []))

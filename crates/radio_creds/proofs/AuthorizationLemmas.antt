@@ -29,9 +29,11 @@ and_false false = refl
 
 no_space_among : (symbols : List ℕ) → list_any (λ b. eqb b space) symbols ≡ false → (i : ℕ) → eqb (get_or symbols i 0) space ≡ false
 no_space_among [] h i = refl
-no_space_among (b ∷ symbols) h zero = elim (eqb b space) as (λ t. (t || list_any (λ b. eqb b space) symbols) ≡ false → t ≡ false) [ true ↦ λ e. e | false ↦ λ _. refl ] h
+no_space_among (b ∷ symbols) h zero = elim (eqb b space) as (λ t. (t || list_any (λ b. eqb b space) symbols) ≡ false
+    → t ≡ false) [ true ↦ λ e. e | false ↦ λ _. refl ] h
 no_space_among (b ∷ symbols) h (suc i) =
-    no_space_among symbols (elim (eqb b space) as (λ t. (t || list_any (λ b. eqb b space) symbols) ≡ false → list_any (λ b. eqb b space) symbols ≡ false) [ true ↦ λ e. absurd (false≢true (sym e)) | false ↦ λ e. e ] h) i
+    no_space_among symbols (elim (eqb b space) as (λ t. (t || list_any (λ b. eqb b space) symbols) ≡ false
+    → list_any (λ b. eqb b space) symbols ≡ false) [ true ↦ λ e. absurd (false≢true (sym e)) | false ↦ λ e. e ] h) i
 
 no_space : (i : ℕ) → eqb (get_or (engine_symbols standard) i 0) space ≡ false
 no_space = no_space_among (engine_symbols standard) refl
@@ -143,7 +145,8 @@ basic_pair-of_value first value pair is =
     let five : length is.scheme ≡ 5 = sym (length-map is.scheme to_ascii_lowercase) ∙ ap length is.is_basic in
     let front : take 5 value ≡ is.scheme = ap (take 5) is.is_value ∙ ap (λ n. take n (is.scheme ++ rest)) (sym five) ∙ take-append_seam is.scheme rest in
     let tail : drop 5 value ≡ rest = ap (drop 5) is.is_value ∙ ap (λ n. drop n (is.scheme ++ rest)) (sym five) ∙ drop-append_seam is.scheme rest in
-    let one : get_or value 5 0 ≡ space = ap (λ v. get_or v 5 0) is.is_value ∙ ap (λ n. get_or (is.scheme ++ rest) n 0) (sym five) ∙ get_or-append_seam is.scheme space (replicate is.more_spaces space ++ text) 0 in
+    let one : get_or value 5 0 ≡ space = ap (λ v. get_or v 5 0) is.is_value ∙ ap (λ n. get_or (is.scheme ++ rest) n 0) (sym five)
+    ∙ get_or-append_seam is.scheme space (replicate is.more_spaces space ++ text) 0 in
     let found : basic_text value ≡ Some text
     = basic_text-scheme value (ap (map to_ascii_lowercase) front ∙ is.is_basic) one
     ∙ ap Some (ap without_spaces tail ∙ without_spaces-replicate (suc is.more_spaces) text ∙ without_spaces-credentials pair.user pair.password) in

@@ -43,7 +43,8 @@ of_text-some first text n h =
           let whole : text ≡ parts.0 ++ colon ∷ parts.1 = ((first colon text parts.0 parts.1).0 is).0 in
           let size : n ≡ length parts.0 = cc in (
             rw (whole, size) (omega (arith, length-append parts.0 (colon ∷ parts.1))),
-            rw (whole, size) (ap (λ user. Some (of_parts (user, drop (length parts.0 + 1) (parts.0 ++ colon ∷ parts.1)))) (take-append_seam parts.0 (colon ∷ parts.1))
+            rw (whole, size) (ap (λ user. Some (of_parts (user, drop (length parts.0 + 1) (parts.0 ++ colon ∷ parts.1))))
+                (take-append_seam parts.0 (colon ∷ parts.1))
                 ∙ ap (λ password. Some (of_parts (parts.0, password))) (drop-append-add parts.0 (colon ∷ parts.1) 1)),
           )
     ] refl h

@@ -27,10 +27,12 @@ found_here : (user : List ℕ) (e : List ℕ × List ℕ) (es : List (List ℕ �
     → find (slice_cmp nat_cmp) user (e ∷ es) ≡ cond (bytes_eq user e.0) (Some e.1) (find (slice_cmp nat_cmp) user es)
 found_here user e es = ap (λ b. cond b (Some e.1) (find (slice_cmp nat_cmp) user es)) (is_eq-slice_cmp user e.0)
 
-is_first-found : (user digest : List ℕ) (entries : List (List ℕ × List ℕ)) → find (slice_cmp nat_cmp) user entries ≡ Some digest → IsFirstOf entries user digest
+is_first-found : (user digest : List ℕ) (entries : List (List ℕ × List ℕ)) → find (slice_cmp nat_cmp) user entries ≡ Some digest
+    → IsFirstOf entries user digest
 is_first-found user digest [] h = absurd (false≢true (ap is_some h))
 is_first-found user digest (e ∷ es) h =
-    elim (bytes_eq user e.0) as (λ b. bytes_eq user e.0 ≡ b → cond b (Some e.1) (find (slice_cmp nat_cmp) user es) ≡ Some digest → IsFirstOf (e ∷ es) user digest) [
+    elim (bytes_eq user e.0) as (λ b. bytes_eq user e.0 ≡ b → cond b (Some e.1) (find (slice_cmp nat_cmp) user es) ≡ Some digest
+    → IsFirstOf (e ∷ es) user digest) [
       | true ↦ λ same is. record {
         before = [];
         after = es;
@@ -50,7 +52,8 @@ found-after : (user digest : List ℕ) (before after : List (List ℕ × List �
 found-after user digest [] after none =
     found_here user (user, digest) after ∙ ap (λ b. cond b (Some digest) (find (slice_cmp nat_cmp) user after)) ((bytes_eq-Decides user user).1 refl)
 found-after user digest (e ∷ before) after none =
-    elim (bytes_eq user e.0) as (λ b. bytes_eq user e.0 ≡ b → (b || has_line_of user before) ≡ false → find (slice_cmp nat_cmp) user (e ∷ (before ++ (user, digest) ∷ after)) ≡ Some digest) [
+    elim (bytes_eq user e.0) as (λ b. bytes_eq user e.0 ≡ b → (b || has_line_of user before) ≡ false
+    → find (slice_cmp nat_cmp) user (e ∷ (before ++ (user, digest) ∷ after)) ≡ Some digest) [
       | true ↦ λ same is. absurd (false≢true (sym is))
       | false ↦ λ other is. found_here user e (before ++ (user, digest) ∷ after)
           ∙ ap (λ b. cond b (Some e.1) (find (slice_cmp nat_cmp) user (before ++ (user, digest) ∷ after))) other
@@ -61,7 +64,8 @@ pub users_of-first : (text user digest : List ℕ)
     → (finite.get (users_of text) user ≡ Some digest → IsFirstOf (user_lines text) user digest)
     × (IsFirstOf (user_lines text) user digest → finite.get (users_of text) user ≡ Some digest)
 users_of-first text user digest =
-    let look_up : finite.get (users_of text) user ≡ find (slice_cmp nat_cmp) user (user_lines text) = get-from_entries nat_list_cmp_total (user_lines text) user in (
+    let look_up : finite.get (users_of text) user ≡ find (slice_cmp nat_cmp) user (user_lines text) = get-from_entries nat_list_cmp_total
+    (user_lines text) user in (
       λ h. is_first-found user digest (user_lines text) (sym look_up ∙ h),
       λ is. look_up ∙ ap (find (slice_cmp nat_cmp) user) is.are_lines ∙ found-after user digest is.before is.after is.none_before,
     )
@@ -70,7 +74,8 @@ is_some-found : (user : List ℕ) (entries : List (List ℕ × List ℕ)) → is
 is_some-found user [] = refl
 is_some-found user (e ∷ es) =
     ap is_some (found_here user e es)
-    ∙ elim (bytes_eq user e.0) as (λ b. is_some (cond b (Some e.1) (find (slice_cmp nat_cmp) user es)) ≡ (b || has_line_of user es)) [ true ↦ refl | false ↦ is_some-found user es ]
+    ∙ elim (bytes_eq user e.0) as (λ b. is_some (cond b (Some e.1) (find (slice_cmp nat_cmp) user es)) ≡
+    (b || has_line_of user es)) [ true ↦ refl | false ↦ is_some-found user es ]
 
 pub users_of-has : (text user : List ℕ) → has_user (users_of text) user ≡ has_line_of user (user_lines text)
 users_of-has text user = ap is_some (get-from_entries nat_list_cmp_total (user_lines text) user) ∙ is_some-found user (user_lines text)
@@ -89,7 +94,8 @@ listed_as user digest = (user, digest)
 abbrev listed_from : List ℕ × List ℕ → Option (List ℕ × List ℕ)
 listed_from parts = option_map (listed_as parts.0) (digest_written parts.1)
 
-digest_at : (line front digits user digest : List ℕ) → (line ≡ front ++ colon ∷ digits) × (Contains front colon → ⊥) → listed_from (front, digits) ≡ Some (user, digest) → (get_or line 0 0 ≡ hash → ⊥) → IsUserLine line user digest
+digest_at : (line front digits user digest : List ℕ) → (line ≡ front ++ colon ∷ digits) × (Contains front colon → ⊥)
+    → listed_from (front, digits) ≡ Some (user, digest) → (get_or line 0 0 ≡ hash → ⊥) → IsUserLine line user digest
 digest_at line front digits user digest at h apart =
     elim (digest_written digits) as (λ o. digest_written digits ≡ o
     → option_map (listed_as front) o ≡ Some (listed_as user digest) → IsUserLine line user digest) [

@@ -6,7 +6,11 @@ use std::test::Fail;
 /// Values, each with its user and its password.
 const PAIRS: &[(&[u8], &[u8], &[u8])] = &[
     // RFC 7617, sections 2 and 2.1
-    (b"Basic QWxhZGRpbjpvcGVuIHNlc2FtZQ==", b"Aladdin", b"open sesame"),
+    (
+        b"Basic QWxhZGRpbjpvcGVuIHNlc2FtZQ==",
+        b"Aladdin",
+        b"open sesame",
+    ),
     (b"Basic dGVzdDoxMjPCow==", b"test", b"123\xc2\xa3"),
     (b"bAsIC YTpi", b"a", b"b"),
     (b"Basic    YTpi", b"a", b"b"),
@@ -58,7 +62,11 @@ const ACCEPTED: &[(&[u8], &[u8], bool)] = &[
     (DIGESTS, b"3:abc", true),
     (DIGESTS, b"4:message digest", true),
     (DIGESTS, b"5:abcdefghijklmnopqrstuvwxyz", true),
-    (DIGESTS, b"6:ABCDEFGHIJKLMNOPQRSTUVWXYZabcdefghijklmnopqrstuvwxyz0123456789", true),
+    (
+        DIGESTS,
+        b"6:ABCDEFGHIJKLMNOPQRSTUVWXYZabcdefghijklmnopqrstuvwxyz0123456789",
+        true,
+    ),
     (
         DIGESTS,
         b"7:12345678901234567890123456789012345678901234567890123456789012345678901234567890",

@@ -69,7 +69,10 @@ impl Users {
         ensures { IsTrue result ↔ Accepts self.now pair.now }
     {
         match self.digest_of(pair.user()) {
-            Some(digest) => is_same_secret(digest.as_slice(), Md5::digest(pair.password()).as_slice()),
+            Some(digest) => {
+                let sent = Md5::digest(pair.password());
+                is_same_secret(digest.as_slice(), sent.as_slice())
+            }
             None => false,
         }
     }
