@@ -76,7 +76,7 @@ pub fn unfinished_chunks_bring_their_data()
     ensures place { (chunks : List Chunk) (line : ChunkLine) (front : List ℕ)
         → All IsChunk chunks → IsShortLine line → 0 < chunk_size line → length front ≤ chunk_size line
         → after chunked_start (print_chunks chunks ++ (print_chunk_line line ++ front))
-            ≡ InChunk (chunk_size line - length front) }
+        ≡ InChunk (chunk_size line - length front) }
 {}
 
 /// A whole body of the grammar, with its trailers, is complete; its data are those of its chunks. Bytes behind it are

@@ -34,7 +34,10 @@ const CHUNKED: &[(&[u8], Tale)] = &[
     (b"A\r\n0123456789\r\n0\r\n\r\n", Whole(b"0123456789")),
     (b"1\r\n\r\r\n1\r\n\n\r\n0\r\n\r\n", Whole(b"\r\n")),
     (b"0000000000000003\r\nabc\r\n0\r\n\r\n", Whole(b"abc")),
-    (b"1\r\na\r\n0\r\nName: value\r\nOther: \r\n\r\n", Whole(b"a")),
+    (
+        b"1\r\na\r\n0\r\nName: value\r\nOther: \r\n\r\n",
+        Whole(b"a"),
+    ),
     (b"1\r\na\r\n0\r\nName: value\nOther\n\n", Whole(b"a")),
     (b"1\r\na\r\n0\r\n\rx\n\r\r\n\r\n", Whole(b"a")),
     (
@@ -332,7 +335,10 @@ fn chunked_bodies(rt: HostRuntime) {
 #[test]
 fn longest_lines(rt: HostRuntime) {
     for (front, count, rest, tale) in FILLED {
-        assert!(rt; filled_tells(rt.alloc(), front, *count, rest, *tale), "{count}");
+        assert!(rt;
+            filled_tells(rt.alloc(), front, *count, rest, *tale),
+            "{count}"
+        );
     }
 }
 
