@@ -13,7 +13,7 @@ use Rattle.radio_heads.specs.declared.answer.TextKind.{TextKind}
 use Rattle.radio_heads.specs.declared.answer.TextKind.TheVariants.{Plain, Json}
 use Rattle.radio_heads.specs.declared.answer.Welcome.{Welcome}
 use Rattle.radio_heads.specs.Answer.{line, header_line, shown_line, interval_line, challenge_line, status_line, content_type, listener_text, sized_head, denial_body}
-use Rattle.radio_heads.specs.Laws.{IsFieldText, IsCleanWelcome, IsShortWelcome, shown_header, interval_header, challenge_header, listener_headers, listener_parts, sized_parts, IsReadBack, ListenerIsReadBack, ShortListenerIsReadBack, DenialIsReadBack, TextIsReadBack}
+use Rattle.radio_heads.specs.Laws.{IsFieldText, IsCleanWelcome, shown_header, interval_header, challenge_header, listener_headers, listener_parts, sized_parts, IsReadBack, ListenerIsReadBack, ShortListenerIsReadBack, DenialIsReadBack, TextIsReadBack}
 use Rattle.radio_heads.specs.Reading.{IsHead}
 use Rattle.radio_heads.specs.Response.{ShowsResponse}
 use Rattle.radio_heads.proofs.ReadBackLemmas.{Header, header_text, head_text, IsHeaderValue, IsCleanHeader, IsSoundHeader, sound_from, IsStatus, written_status, head_is_read, head_is_written, status_200, status_400, status_401, status_403, status_404}
@@ -242,7 +242,8 @@ unfolding is_token_byte
 listener_is_sound w clean =
     let close = (codes "Connection", codes "close") ∷ [] in
     All-append IsSoundHeader
-    ((codes "Content-Type", w.content_type.now) ∷ [] ++ shown_header (codes "icy-name") w.name.now ++ shown_header (codes "icy-genre") w.genre.now ++ interval_header w.interval)
+    ((codes "Content-Type", w.content_type.now) ∷ [] ++ shown_header (codes "icy-name") w.name.now ++ shown_header
+    (codes "icy-genre") w.genre.now ++ interval_header w.interval)
     close
     (four_sound ((codes "Content-Type", w.content_type.now) ∷ []) (shown_header (codes "icy-name") w.name.now)
     (shown_header (codes "icy-genre") w.genre.now) (interval_header w.interval)

@@ -206,5 +206,6 @@ pub head_is_read : (n : ℕ) (digits phrase : List ℕ) (headers : List Header) 
     → IsHead ShowsResponse (head_text n headers ++ more) (record { version = Http10; status = n; headers = headers })
     (length (head_text n headers))
 head_is_read n digits phrase headers more status clean few short =
-    subst (λ (hs : List Header). IsHead ShowsResponse (head_text n headers ++ more) (record { version = Http10; status = n; headers = hs }) (length (head_text n headers)))
+    subst (λ (hs : List Header). IsHead ShowsResponse (head_text n headers ++ more) (record { version = Http10; status = n; headers = hs })
+    (length (head_text n headers)))
     (read_back_clean headers clean) (head_is_written n digits phrase headers more status (sound_from headers clean) few short)

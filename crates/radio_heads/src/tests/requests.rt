@@ -115,7 +115,10 @@ fn seen_in_length(alloc: Global, length: usize, come: usize) -> Option<Seen> {
 #[test]
 fn longest_heads(rt: HostRuntime) {
     for (length, come, want) in LENGTHS {
-        assert!(rt; seen_in_length(rt.alloc(), *length, *come) == Some(*want), "{come}");
+        assert!(rt;
+            seen_in_length(rt.alloc(), *length, *come) == Some(*want),
+            "{come}"
+        );
     }
 }
 
