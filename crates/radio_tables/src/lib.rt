@@ -3,14 +3,19 @@
 //!
 //! - [`Row`]: what has a key; [`Change`], [`TryChange`]: what is done to a row in its place.
 //! - [`Table`]: the rows. Contracts see the list of its rows, and nothing of its inside.
-//! - Laws, which run no code: `laws`; lemmas on lists, for proofs: `specs/Laws.antt`.
+//! - Laws, which run no code: `laws`; lemmas on lists, for proofs: `specs/FindLaws.antt`, `specs/EachLaws.antt` and
+//!   `specs/KeyLaws.antt`.
 #![tactic(auto)]
 
 mod change;
+mod laws;
 mod row;
 mod table;
+#[cfg(test)]
+mod tests;
 
 pub use change::{Change, TryChange};
+pub use laws::a_placed_row_is_found;
 pub use row::Row;
 pub use table::Table;
 
