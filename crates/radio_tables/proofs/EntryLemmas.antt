@@ -31,8 +31,8 @@ module _ {K X : Type 0} (cmp : K → K → Ordering) (total : IsTotalOrder cmp) 
 
   -- the row that was found, changed
   changed_at : (k : K) (f : X → X) (v : X) (e : K × X) (es : List (K × X)) (b : Bool) → is_at (cmp k) e.0 ≡ b → has_key k e.1 ≡ is_at (cmp k) e.0
-    → (lookup (is_at (cmp k)) es ≡ Some v → values_of (set_value (is_at (cmp k)) es (f v)) ≡ update_first (has_key k) f (values_of es))
-    → lookup (is_at (cmp k)) (e ∷ es) ≡ Some v → values_of (set_value (is_at (cmp k)) (e ∷ es) (f v)) ≡ update_first (has_key k) f (values_of (e ∷ es))
+      → (lookup (is_at (cmp k)) es ≡ Some v → values_of (set_value (is_at (cmp k)) es (f v)) ≡ update_first (has_key k) f (values_of es))
+      → lookup (is_at (cmp k)) (e ∷ es) ≡ Some v → values_of (set_value (is_at (cmp k)) (e ∷ es) (f v)) ≡ update_first (has_key k) f (values_of (e ∷ es))
   changed_at k f v e es true t one later h =
       let here : lookup (is_at (cmp k)) (e ∷ es) ≡ Some e.1 = rw t refl in
       let same : e.1 ≡ v = cc in
@@ -47,8 +47,8 @@ module _ {K X : Type 0} (cmp : K → K → Ordering) (total : IsTotalOrder cmp) 
 
   -- where nothing is found nothing changes
   unchanged_at : (k : K) (f : X → X) (e : K × X) (es : List (K × X)) (b : Bool) → is_at (cmp k) e.0 ≡ b → has_key k e.1 ≡ is_at (cmp k) e.0
-    → (lookup (is_at (cmp k)) es ≡ None → values_of es ≡ update_first (has_key k) f (values_of es))
-    → lookup (is_at (cmp k)) (e ∷ es) ≡ None → values_of (e ∷ es) ≡ update_first (has_key k) f (values_of (e ∷ es))
+      → (lookup (is_at (cmp k)) es ≡ None → values_of es ≡ update_first (has_key k) f (values_of es))
+      → lookup (is_at (cmp k)) (e ∷ es) ≡ None → values_of (e ∷ es) ≡ update_first (has_key k) f (values_of (e ∷ es))
   unchanged_at k f e es true t one later h = let here : lookup (is_at (cmp k)) (e ∷ es) ≡ Some e.1 = rw t refl in cc
   unchanged_at k f e es false t one later h =
       let past : lookup (is_at (cmp k)) (e ∷ es) ≡ lookup (is_at (cmp k)) es = rw t refl in
@@ -59,8 +59,8 @@ module _ {K X : Type 0} (cmp : K → K → Ordering) (total : IsTotalOrder cmp) 
   values-unchanged k f (e ∷ es) own h = unchanged_at k f e es (is_at (cmp k) e.0) refl (one_test k e own.0) (values-unchanged k f es own.1) h
 
   own_changed_at : (k : K) (f : X → X) (v : X) → key (f v) ≡ key v → (e : K × X) (es : List (K × X)) (b : Bool) → is_at (cmp k) e.0 ≡ b → cmp (key e.1) e.0 ≡ Equal → Own es
-    → (lookup (is_at (cmp k)) es ≡ Some v → Own (set_value (is_at (cmp k)) es (f v)))
-    → lookup (is_at (cmp k)) (e ∷ es) ≡ Some v → Own (set_value (is_at (cmp k)) (e ∷ es) (f v))
+      → (lookup (is_at (cmp k)) es ≡ Some v → Own (set_value (is_at (cmp k)) es (f v)))
+      → lookup (is_at (cmp k)) (e ∷ es) ≡ Some v → Own (set_value (is_at (cmp k)) (e ∷ es) (f v))
   own_changed_at k f v stays e es true t here others later h =
       let found : lookup (is_at (cmp k)) (e ∷ es) ≡ Some e.1 = rw t refl in
       let same : e.1 ≡ v = cc in
@@ -84,8 +84,8 @@ module _ {K X : Type 0} (cmp : K → K → Ordering) (total : IsTotalOrder cmp) 
 
   -- a row more
   placed_at : (row : X) (e : K × X) (es : List (K × X)) (o : Ordering) → cmp (key row) (key e.1) ≡ o → cmp (key row) e.0 ≡ o
-    → values_of (insert_entry cmp es (key row) row) ≡ placed (λ a b. cmp (key a) (key b)) row (values_of es)
-    → values_of (insert_entry cmp (e ∷ es) (key row) row) ≡ placed (λ a b. cmp (key a) (key b)) row (values_of (e ∷ es))
+      → values_of (insert_entry cmp es (key row) row) ≡ placed (λ a b. cmp (key a) (key b)) row (values_of es)
+      → values_of (insert_entry cmp (e ∷ es) (key row) row) ≡ placed (λ a b. cmp (key a) (key b)) row (values_of (e ∷ es))
   placed_at row e es Less t u later = rw (t, u) refl
   placed_at row e es Equal t u later = rw (t, u) refl
   placed_at row e es Greater t u later = rw (t, u) (ap (λ xs. e.1 ∷ xs) later)
@@ -116,8 +116,8 @@ module _ {K X : Type 0} (cmp : K → K → Ordering) (total : IsTotalOrder cmp) 
       rw test (ap (λ xs. e.1 ∷ xs) (none_above k n es same above.1 own.1))
 
   removed_at : (k : K) (e : K × X) (es : List (K × X)) (o : Ordering) → cmp k e.0 ≡ o → has_key k e.1 ≡ is_at (cmp k) e.0 → AllByRecursion (λ m. cmp e.0 m ≡ Less) (keys_of es) → Own es
-    → values_of (remove_entry (is_at (cmp k)) es) ≡ filter (λ x. not (has_key k x)) (values_of es)
-    → values_of (remove_entry (is_at (cmp k)) (e ∷ es)) ≡ filter (λ x. not (has_key k x)) (values_of (e ∷ es))
+      → values_of (remove_entry (is_at (cmp k)) es) ≡ filter (λ x. not (has_key k x)) (values_of es)
+      → values_of (remove_entry (is_at (cmp k)) (e ∷ es)) ≡ filter (λ x. not (has_key k x)) (values_of (e ∷ es))
   removed_at k e es Less t one above own later = rw (one, t) (ap (λ xs. e.1 ∷ xs) later)
   removed_at k e es Equal t one above own later = rw (one, t) (sym (none_above k e.0 es t above own))
   removed_at k e es Greater t one above own later = rw (one, t) (ap (λ xs. e.1 ∷ xs) later)

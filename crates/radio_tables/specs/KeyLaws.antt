@@ -71,12 +71,12 @@ module _ {K X : Type 0} (cmp : K → K → Ordering) (total : IsTotalOrder cmp) 
       has_key_is k new ∙ ap is_eq (total.congr k (key x) (key new) same ∙ total.antisymm (key x) (key new) ∙ ap ordering_reverse above)
 
   behind : (x : X) (xs : List X) (b : Bool) → has_key k x ≡ b → (has_key k x ≡ true → has_key k new ≡ false) → FindsPlaced xs
-    → find (has_key k) (x ∷ placed by_key new xs) ≡ (if has_key k new then Some new else find (has_key k) (x ∷ xs))
+      → find (has_key k) (x ∷ placed by_key new xs) ≡ (if has_key k new then Some new else find (has_key k) (x ∷ xs))
   behind x xs true e apart later = find_here (has_key k) x (placed by_key new xs) e ∙ sym (rw (apart e) (find_here (has_key k) x xs e))
   behind x xs false e apart later = find_later (has_key k) x (placed by_key new xs) e ∙ later ∙ ap (λ found. if has_key k new then Some new else found) (sym (find_later (has_key k) x xs e))
 
   placed_at : (x : X) (xs : List X) (o : Ordering) → cmp (key new) (key x) ≡ o → FindsPlaced xs
-    → find (has_key k) (match_ordering o (new ∷ x ∷ xs) (new ∷ xs) (x ∷ placed by_key new xs)) ≡ (if has_key k new then Some new else find (has_key k) (x ∷ xs))
+      → find (has_key k) (match_ordering o (new ∷ x ∷ xs) (new ∷ xs) (x ∷ placed by_key new xs)) ≡ (if has_key k new then Some new else find (has_key k) (x ∷ xs))
   placed_at x xs Less o later = refl
   placed_at x xs Equal o later = in_place_of x xs (has_key k new) refl (same_keys x o)
   placed_at x xs Greater o later = behind x xs (has_key k x) refl (not_new x o) later

@@ -36,14 +36,14 @@ returns-clause-ok g c =
     let test = is_at (g.R.Key.Ord.cmp c.args.key) in
     let es = c.self.inside.rows.entries in
     on_ok_weaker c.try_apply.result (λ e.
-      ap values_of ((c.get_mut.follows.holds c.try_apply.new.row).0 ∙ ap (set_value test es) e)
-      ∙ values-changed g.R.Key.Ord.cmp g.met.R.Key.Ord.total g.R.Row.key g.R.Row.has_key g.met.R.Row.has_key_is c.args.key (g.C.TryChange.gives c.args.change.now) c.in-Some.row.now es c.self.invariant.own (sym c.in-Some.ensures.value)
-      ∙ ap (update_first (g.R.Row.has_key c.args.key) (g.C.TryChange.gives c.args.change.now)) c.self.view_is) c.try_apply.ensures.ok
+    ap values_of ((c.get_mut.follows.holds c.try_apply.new.row).0 ∙ ap (set_value test es) e)
+    ∙ values-changed g.R.Key.Ord.cmp g.met.R.Key.Ord.total g.R.Row.key g.R.Row.has_key g.met.R.Row.has_key_is c.args.key (g.C.TryChange.gives c.args.change.now) c.in-Some.row.now es c.self.invariant.own (sym c.in-Some.ensures.value)
+    ∙ ap (update_first (g.R.Row.has_key c.args.key) (g.C.TryChange.gives c.args.change.now)) c.self.view_is) c.try_apply.ensures.ok
 
 pub returns-clause-err : goal.returns-clause-err
 returns-clause-err g c =
     let test = is_at (g.R.Key.Ord.cmp c.args.key) in
     let es = c.self.inside.rows.entries in
     on_err_weaker c.try_apply.result (λ e.
-      ap values_of ((c.get_mut.follows.holds c.try_apply.new.row).0 ∙ ap (set_value test es) e ∙ set_value_same test es c.in-Some.row.now (sym c.in-Some.ensures.value))
-      ∙ c.self.view_is) c.try_apply.ensures.err
+    ap values_of ((c.get_mut.follows.holds c.try_apply.new.row).0 ∙ ap (set_value test es) e ∙ set_value_same test es c.in-Some.row.now (sym c.in-Some.ensures.value))
+    ∙ c.self.view_is) c.try_apply.ensures.err
