@@ -14,8 +14,8 @@ use Rattle.radio_addr.specs.Cuts.{cut, cut_at_two, onto_front, fields_at}
 use Rattle.radio_addr.proofs.NumbersLemmas.{all_digits}
 use Rattle.radio_addr.specs.Addresses.{quad_of, quad_number, v6_of, address_of, peer_of, groups_in, groups_of, last_groups, number_of_groups}
 use Rattle.radio_addr.specs.Writing.{written, group_at, hexadecimal, IsPeer}
-use Rattle.radio_addr.specs.declared.peer.Peer.{Peer}
-use Rattle.radio_addr.specs.declared.peer.Peer.TheVariants.{V4, V6}
+use Rattle.radio_addr.specs.declared.address.Address.{Address}
+use Rattle.radio_addr.specs.declared.address.Address.TheVariants.{V4, V6}
 use Rattle.radio_addr.proofs.CutsLemmas.{fields_at-cut, fields_by, begins_twice, some_field}
 use Rattle.radio_addr.proofs.CountsLemmas.{groups_in-cons}
 
@@ -238,6 +238,6 @@ unfolding address_of eight_groups
 peer_of-v6 n small plain =
     rw (quad_of-none (joined (eight_groups n)) (no_dot (eight_groups n) (are_groups n)), v6_of-written n small, ne_eqb (n / 2 ^ 32) 0xffff plain) refl
 
-pub peer_of-written : (p : Peer) → IsPeer p → peer_of (written p) ≡ Some p
+pub peer_of-written : (p : Address) → IsPeer p → peer_of (written p) ≡ Some p
 peer_of-written (V4 n) fits = peer_of-v4 n fits
 peer_of-written (V6 n) fits = peer_of-v6 n fits.0 fits.1

@@ -5,6 +5,7 @@
 //! - [`AddressList`] is a list of addresses, one a line, that a server denies or allows.
 #![tactic(auto)]
 
+mod address;
 mod cuts;
 mod groups;
 mod lines;
@@ -15,6 +16,7 @@ mod quad;
 #[cfg(test)]
 mod tests;
 
+pub use address::Address;
 pub use lines::AddressRange;
 pub use lists::{AddressList, ListFault, whole_families};
 pub use peer::{Peer, read_peer, written_peers};

@@ -3,15 +3,15 @@ ghost use Rattle.std.specs.Prelude.{◌≡◌, ◌≤◌, ◌+◌, length};
 ghost use Rattle.std.specs.List.{prefix_len, suffix_len};
 ghost use Rattle.radio_addr.specs.Lists.{is_blank, without_return, without_blanks, width_of, range_of, line_of};
 
+use crate::address::{Address, read_address};
 use crate::cuts::cut;
 use crate::numbers::read_number;
-use crate::peer::{Peer, read_address};
 
 /// The addresses that agree with `address` in its first `bits` bits.
 #[derive(Debug, Clone, Copy, PartialEq, Eq)]
 pub struct AddressRange {
     /// The address that others are compared with.
-    pub address: Peer,
+    pub address: Address,
     /// How many bits count, to 32 or 128.
     pub bits: u32,
 }
@@ -61,12 +61,12 @@ fn read_range(text: &[u8]) -> Option<AddressRange>
 }
 
 /// How many bits an address has.
-fn width(address: Peer) -> u32
+fn width(address: Address) -> u32
     ensures { result ≡ width_of address }
 {
     match address {
-        Peer::V4(_) => 32,
-        Peer::V6(_) => 128,
+        Address::V4(_) => 32,
+        Address::V6(_) => 128,
     }
 }
 

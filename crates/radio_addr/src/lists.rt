@@ -1,8 +1,9 @@
 //! Lists of addresses.
 ghost use Rattle.std.specs.Prelude.{◌≡◌, ◌+◌, ◌/◌, ◌-◌, ◌^◌, ◌<◌, ◌≤◌, ℕ, length, Ok, OnOk, IfOk, IfErr, true};
 ghost use Rattle.radio_addr.specs.Lists.{is_in, range_from, AddsLine, FaultsLine};
-ghost use Rattle.radio_addr.specs.declared.peer.Peer.TheVariants.{V4, V6};
+ghost use Rattle.radio_addr.specs.declared.address.Address.TheVariants.{V4, V6};
 
+use crate::address::Address;
 use crate::cuts::cut;
 use crate::lines::{AddressRange, Line, read_line};
 use crate::peer::Peer;
@@ -112,12 +113,12 @@ fn add_line(ranges: &mut Vec<AddressRange>, line: &[u8], passed: usize) -> Resul
 fn is_in(range: &AddressRange, peer: Peer) -> bool
     ensures { result ≡ is_in range.now peer }
 {
-    match (range.address, peer) {
-        (Peer::V4(address), Peer::V4(n)) => {
+    match (range.address, peer.address()) {
+        (Address::V4(address), Address::V4(n)) => {
             front_bits(u128::from(address), 32, range.bits)
                 == front_bits(u128::from(n), 32, range.bits)
         }
-        (Peer::V6(address), Peer::V6(n)) => {
+        (Address::V6(address), Address::V6(n)) => {
             front_bits(address, 128, range.bits) == front_bits(n, 128, range.bits)
         }
         _ => false,
