@@ -3,7 +3,7 @@ use Rattle.radio_policy.specs.declared.rule.Rule.{Rule}
 use Rattle.radio_policy.specs.declared.judgement.Verdict.{Verdict}
 use Rattle.radio_policy.specs.declared.judgement.Verdict.TheVariants.{Allow, Deny as Denied}
 use Rattle.radio_core.specs.declared.event.Reply.TheVariants.{Deny, Finished, Stray, Noted}
-use Rattle.radio_core.specs.declared.peer.Peer.{Peer}
+use Rattle.radio_addr.specs.declared.peer.Peer.{Peer}
 use Rattle.radio_core.specs.declared.standing.Standing.{Standing}
 use Rattle.radio_core.specs.declared.standing.Standing.TheVariants.{Unknown, Undecided, Feeds, Sits, Answered, Finished as HasFinished}
 use Rattle.radio_core.specs.World.{World, standing_of}

@@ -8,7 +8,7 @@ use Rattle.radio_core.specs.declared.event.Event.{Event}
 use Rattle.radio_core.specs.declared.event.Event.TheVariants.{Arrive, Source, Push, SourceEnd, Listen, Draw, Leave}
 use Rattle.radio_core.specs.declared.event.Reply.TheVariants.{Deny}
 use Rattle.radio_core.specs.declared.live.Session.{Session}
-use Rattle.radio_core.specs.declared.peer.Peer.{Peer}
+use Rattle.radio_addr.specs.declared.peer.Peer.{Peer}
 use Rattle.radio_core.specs.declared.seats.Seat.{Seat}
 use Rattle.radio_core.specs.World.{World, standing_of}
 use Rattle.radio_core.specs.Facts.{asker_of, arrive_facts, source_facts, push_facts, listen_facts}

@@ -6,7 +6,7 @@ use Rattle.radio_policy.specs.declared.rule.Rule.{Rule}
 use Rattle.radio_core.specs.declared.clients.Client.{Client}
 use Rattle.radio_core.specs.declared.clients.ClientState.{ClientState}
 use Rattle.radio_core.specs.declared.clients.ClientState.TheVariants.{Undecided, Feeds, Listens, Answered}
-use Rattle.radio_core.specs.declared.peer.Peer.{Peer}
+use Rattle.radio_addr.specs.declared.peer.Peer.{Peer}
 use Rattle.radio_core.specs.declared.standing.Standing.TheVariants.{Undecided as IsUndecided, Feeds as IsFeeding, Sits}
 use Rattle.radio_core.specs.Lists.{Each}
 use Rattle.radio_core.specs.Clients.{client_of, has_number, in_state, without_client, newcomer}

@@ -2,7 +2,7 @@ use Rattle.std.specs.Prelude.{◌+◌, [], ◌∷◌, ◌++◌}
 use Rattle.radio_policy.specs.Table.{arrive_rows}
 use Rattle.radio_policy.specs.Verdicts.{verdict_in}
 use Rattle.radio_core.specs.declared.event.Reply.TheVariants.{Arrived}
-use Rattle.radio_core.specs.declared.peer.Peer.{Peer}
+use Rattle.radio_addr.specs.declared.peer.Peer.{Peer}
 use Rattle.radio_core.specs.Clients.{newcomer}
 use Rattle.radio_core.specs.World.{World}
 use Rattle.radio_core.specs.Facts.{arrive_facts}

@@ -4,7 +4,7 @@ use Rattle.radio_policy.specs.declared.judgement.Verdict.TheVariants.{Allow, Den
 use Rattle.radio_core.specs.declared.clients.ClientState.TheVariants.{Answered}
 use Rattle.radio_core.specs.declared.event.Reply.{Reply}
 use Rattle.radio_core.specs.declared.event.Reply.TheVariants.{Deny, Finished, Stray}
-use Rattle.radio_core.specs.declared.peer.Peer.{Peer}
+use Rattle.radio_addr.specs.declared.peer.Peer.{Peer}
 use Rattle.radio_core.specs.declared.standing.Standing.{Standing}
 use Rattle.radio_core.specs.declared.standing.Standing.TheVariants.{Undecided, Feeds, Sits, Finished as HasFinished}
 use Rattle.radio_core.specs.Clients.{in_state}

@@ -2,7 +2,7 @@ use Rattle.std.specs.Prelude.{ℕ, Bool, ◌==◌, List, Option, find}
 use Rattle.radio_core.specs.declared.clients.Client.{Client}
 use Rattle.radio_core.specs.declared.clients.ClientState.{ClientState}
 use Rattle.radio_core.specs.declared.clients.ClientState.TheVariants.{Undecided}
-use Rattle.radio_core.specs.declared.peer.Peer.{Peer}
+use Rattle.radio_addr.specs.declared.peer.Peer.{Peer}
 use Rattle.radio_core.specs.Lists.{update_first, without_first}
 
 -- a client who has just arrived

@@ -4,7 +4,7 @@ use Rattle.radio_policy.specs.Verdicts.{verdict_in}
 use Rattle.radio_core.specs.declared.clients.ClientState.TheVariants.{Listens}
 use Rattle.radio_core.specs.declared.event.Reply.TheVariants.{Seated, Stray}
 use Rattle.radio_core.specs.declared.live.Session.{Session}
-use Rattle.radio_core.specs.declared.peer.Peer.{Peer}
+use Rattle.radio_addr.specs.declared.peer.Peer.{Peer}
 use Rattle.radio_core.specs.declared.seats.Seat.{Seat}
 use Rattle.radio_core.specs.declared.settings.Settings.{Settings}
 use Rattle.radio_core.specs.Clients.{in_state}

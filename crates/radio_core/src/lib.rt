@@ -14,7 +14,6 @@ mod event;
 mod laws;
 mod live;
 mod mount_name;
-mod peer;
 mod seats;
 mod server;
 mod settings;
@@ -31,7 +30,7 @@ pub use laws::{
     slices_are_whole, stretches_are_whole, who_left_is_gone,
 };
 pub use mount_name::{MAX_MOUNT_NAME, MountName};
-pub use peer::Peer;
+pub use radio_addr::Peer;
 pub use server::Core;
 pub use settings::{Key, Lists, MAX_BYTES, Settings, SettingsFault};
 pub use shown::Shown;

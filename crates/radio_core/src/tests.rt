@@ -14,9 +14,6 @@ use std::alloc::Global;
 use std::process::Abort;
 use std::test::Fail;
 
-/// The address from which all connections of these tests come.
-const PEER: Peer = Peer::V4(0x0a00_0001);
-
 /// The settings of a station, up to the limits that it sets.
 const STATION: &str = "source-password = \"hackme\"\nadmin-password = \"letmein\"\n[limits]\n";
 
@@ -38,7 +35,9 @@ enum Call {
 impl Call {
     fn event(&self, alloc: Global) -> Result<Event, OutOfMemory> {
         match self {
-            Call::Arrive => Ok(Event::Arrive { peer: PEER }),
+            Call::Arrive => Ok(Event::Arrive {
+                peer: Peer::of_v4(0x0a00_0001),
+            }),
             Call::Source(id, path) => source_event(alloc, *id, path, shown_as_told(alloc)?),
             Call::PlainSource(id, path) => source_event(
                 alloc,

@@ -8,7 +8,7 @@ use Rattle.radio_policy.specs.declared.rule.Rule.{Rule}
 use Rattle.radio_core.specs.declared.event.Event.{Event}
 use Rattle.radio_core.specs.declared.event.Event.TheVariants.{Arrive}
 use Rattle.radio_core.specs.declared.event.Reply.TheVariants.{Arrived, Deny}
-use Rattle.radio_core.specs.declared.peer.Peer.{Peer}
+use Rattle.radio_addr.specs.declared.peer.Peer.{Peer}
 use Rattle.radio_core.specs.declared.settings.Settings.{Settings}
 use Rattle.radio_core.specs.Run.{reply_to, world_after, run_after}
 use Rattle.radio_core.specs.World.{World, standing_of}

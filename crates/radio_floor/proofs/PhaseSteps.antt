@@ -8,7 +8,7 @@ use Rattle.radio_core.specs.declared.event.Event.{Event}
 use Rattle.radio_core.specs.declared.event.Event.TheVariants.{Source, Push, Listen, Draw, Leave}
 use Rattle.radio_core.specs.declared.event.Reply.{Reply}
 use Rattle.radio_core.specs.declared.event.Reply.TheVariants.{Feeding, Seated, Drawn, Noted, Deny, Finished, Stray}
-use Rattle.radio_core.specs.declared.peer.Peer.{Peer}
+use Rattle.radio_addr.specs.declared.peer.Peer.{Peer}
 use Rattle.radio_core.specs.declared.settings.Settings.{Settings}
 use Rattle.radio_core.specs.declared.shown.Shown.{Shown}
 use Rattle.radio_core.specs.Cases.{Outcome, says}

@@ -5,7 +5,7 @@ use Rattle.radio_core.specs.declared.event.Event.{Event}
 use Rattle.radio_core.specs.declared.event.Event.TheVariants.{Arrive, Draw, Leave}
 use Rattle.radio_core.specs.declared.event.Reply.{Reply}
 use Rattle.radio_core.specs.declared.event.Reply.TheVariants.{Arrived}
-use Rattle.radio_core.specs.declared.peer.Peer.{Peer}
+use Rattle.radio_addr.specs.declared.peer.Peer.{Peer}
 use Rattle.radio_core.specs.declared.settings.Settings.{Settings}
 use Rattle.radio_core.specs.World.{World, opening}
 use Rattle.radio_core.specs.Lists.{update_first}

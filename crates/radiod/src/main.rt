@@ -12,7 +12,7 @@ use crate::words::settings_path;
 use radio_core::{Lists, Settings};
 use radio_floor::{Tally, play};
 use std::fs;
-use std::io::BufReader;
+use std::io::{BufReader, ErrorKind};
 use std::process::ExitCode;
 
 fn main(rt: HostRuntime) -> ExitCode {
@@ -49,8 +49,10 @@ fn play_script(rt: &HostRuntime) -> Result<(), Fault> {
 
 /// The settings of a file.
 fn read_settings(rt: &HostRuntime, path: String) -> Result<Settings, Fault> {
-    let Ok(bytes) = fs::read(rt, path.as_str()) else {
-        return Err(Fault::CannotRead(path));
+    let bytes = match fs::read(rt, path.as_str()) {
+        Ok(bytes) => bytes,
+        Err(error) if error.kind() == ErrorKind::OutOfMemory => return Err(Fault::OutOfMemory),
+        Err(_) => return Err(Fault::CannotRead(path)),
     };
     let Ok(text) = str::from_utf8(bytes.as_slice()) else {
         return Err(Fault::NotText);
