@@ -65,29 +65,21 @@ impl<D: Write> Write for Frail<D> {
     }
 }
 
-/// A writer that passes on what it has taken when it is flushed, and not before. A flush fails
-/// where there is no room for it.
+/// A writer that passes on what it has taken when it is flushed, and not before.
 #[derive(Drop)]
-pub struct Keeping<'a> {
+pub struct Keeping<D> {
+    pub device: D,
     pub kept: Vec<u8>,
-    pub passed: &'a mut [u8],
-    pub length: usize,
 }
 
-impl Write for Keeping<'_> {
+impl<D: Write> Write for Keeping<D> {
     fn write(&mut self, buffer: &[u8]) -> io::Result<usize> {
         self.kept.write(buffer)
     }
 
     fn flush(&mut self) -> io::Result<()> {
-        for byte in &self.kept {
-            if self.length >= self.passed.len() {
-                return Err(Error::from(ErrorKind::WriteZero));
-            }
-            self.passed[self.length] = *byte;
-            self.length += 1;
-        }
+        self.device.write_all(&self.kept)?;
         self.kept.clear();
-        Ok(())
+        self.device.flush()
     }
 }

@@ -125,25 +125,27 @@ fn ends_where_a_write_takes_nothing(rt: HostRuntime) {
     assert!(rt; TRANSCRIPT.starts_with(space.as_slice()));
 }
 
-// Over a writer that passes on what it is given when it is flushed, into a space of so many bytes.
-fn passes_on(alloc: Global, room: usize, ending: Result<(), PlayFault>, length: usize) -> bool {
-    let mut space = [0u8; 64];
-    let mut writer = Keeping {
-        kept: Vec::new(alloc),
-        passed: &mut space[..room.min(64)],
-        length: 0,
-    };
-    let played = play_over(alloc, SCRIPT, &mut writer);
-    let failures = (0, u64::from(ending.is_err()));
-    let passed = writer.length == length && played.failures == failures;
-    passed && played.ending == ending && TRANSCRIPT.get(..length) == space.get(..length)
+// Over a writer that passes on what it is given when it is flushed, and not before.
+fn play_kept<W: Write + Drop>(alloc: Global, device: W) -> Played {
+    let kept = Vec::new(alloc);
+    play_over(alloc, SCRIPT, Keeping { device, kept })
 }
 
-// All that was written is sent on, and a flush that fails is a failure of the writer.
+// All that was written is sent on.
 #[test]
 fn sends_on_what_the_writer_keeps_back(rt: HostRuntime) {
-    assert!(rt; passes_on(rt.alloc(), 64, Ok(()), TRANSCRIPT.len()));
-    assert!(rt; passes_on(rt.alloc(), 5, Err(PlayFault::Write), 5));
+    let mut written = Vec::new(rt.alloc());
+    let played = play_kept(rt.alloc(), &mut written);
+    assert!(rt; played.ending.is_ok() && written.as_slice() == TRANSCRIPT);
+}
+
+// A flush that fails is a failure of the writer.
+#[test]
+fn ends_where_a_flush_fails(rt: HostRuntime) {
+    let mut space = [0u8; 5];
+    let played = play_kept(rt.alloc(), space.as_mut_slice());
+    assert!(rt; played.ending == Err(PlayFault::Write) && played.failures == (0, 1));
+    assert!(rt; TRANSCRIPT.starts_with(space.as_slice()));
 }
 
 // Scripts with the line at fault, and what answers the lines before it.
