@@ -12,7 +12,7 @@ use crate::byte_string::ByteString;
 use std::alloc::Global;
 
 /// Where the reading of a text stands.
-#[derive(Clone, Copy, Debug)]
+#[derive(Clone, Copy)]
 pub enum Place {
     /// Between the spellings of two bytes.
     Between,

@@ -1,6 +1,7 @@
-use Rattle.std.proofs.Common.{arith, rules}
+use Rattle.std.proofs.Common.{arith, rules, refl, ◌∙◌, get_or}
 use Rattle.std.proofs.lemmas.Grind.{common_steps}
-use Rattle.radio_script.specs.Escapes.{unescaped}
+use Rattle.radio_script.specs.Escapes.{step_at, unescaped}
+use Rattle.radio_script.proofs.EscapeLemmas.{taken}
 use Rattle.radio_script.proofs.escapes.unescape.Goals as goal
 
 pub loop-b-init : goal.loop-b-init
@@ -14,7 +15,10 @@ unfolding unescaped
 returns-in-None c = grind (arith, common_steps)
 
 pub loop-b-preserved : goal.loop-b-preserved
-loop-b-preserved c = grind (arith, common_steps)
+loop-b-preserved c =
+    let here = step_at c.loop-b.place (get_or c.args.text.now c.loop-b.b-index 0) in
+    taken c.loop-b.bytes.items c.take_byte.new.bytes.items c.loop-b.place c.in-Some.next c.args.text.now c.loop-b.b-index c.loop-b-test.true here refl (rw c.in-Some.is at c.in_ok-next.ensures)
+    ∙ c.loop-b.invariant
 
 pub returns-in-Between : goal.returns-in-Between
 unfolding unescaped
