@@ -13,7 +13,8 @@ use Rattle.std.proofs.lemmas.Map.Keys.{sorted_head, sorted_tail}
 use Rattle.radio_tables.specs.Entries.{AreOwn}
 use Rattle.radio_tables.specs.Lists.{update_first, placed, Each}
 
-module _ {K X : Type 0} (cmp : K → K → Ordering) (total : IsTotalOrder cmp) (key : X → K) (has_key : K → X → Bool) (has_key_is : (k : K) (x : X) → has_key k x ≡ is_eq (cmp k (key x))) where
+module _ {K X : Type 0} (cmp : K → K → Ordering) (total : IsTotalOrder cmp) (key : X → K) (has_key : K → X → Bool)
+    (has_key_is : (k : K) (x : X) → has_key k x ≡ is_eq (cmp k (key x))) where
   abbrev pub Own : List (K × X) → Type 0
   Own es = AreOwn cmp key es
 
@@ -41,7 +42,8 @@ module _ {K X : Type 0} (cmp : K → K → Ordering) (total : IsTotalOrder cmp) 
       let past : lookup (is_at (cmp k)) (e ∷ es) ≡ lookup (is_at (cmp k)) es = rw t refl in
       rw (one, t) (ap (λ xs. e.1 ∷ xs) (later (sym past ∙ h)))
 
-  pub values-changed : (k : K) (f : X → X) (v : X) (es : List (K × X)) → Own es → lookup (is_at (cmp k)) es ≡ Some v → values_of (set_value (is_at (cmp k)) es (f v)) ≡ update_first (has_key k) f (values_of es)
+  pub values-changed : (k : K) (f : X → X) (v : X) (es : List (K × X)) → Own es → lookup (is_at (cmp k)) es ≡ Some v
+      → values_of (set_value (is_at (cmp k)) es (f v)) ≡ update_first (has_key k) f (values_of es)
   values-changed k f v [] own h = refl
   values-changed k f v (e ∷ es) own h = changed_at k f v e es (is_at (cmp k) e.0) refl (one_test k e own.0) (values-changed k f v es own.1) h
 
@@ -54,11 +56,13 @@ module _ {K X : Type 0} (cmp : K → K → Ordering) (total : IsTotalOrder cmp) 
       let past : lookup (is_at (cmp k)) (e ∷ es) ≡ lookup (is_at (cmp k)) es = rw t refl in
       rw (one, t) (ap (λ xs. e.1 ∷ xs) (later (sym past ∙ h)))
 
-  pub values-unchanged : (k : K) (f : X → X) (es : List (K × X)) → Own es → lookup (is_at (cmp k)) es ≡ None → values_of es ≡ update_first (has_key k) f (values_of es)
+  pub values-unchanged : (k : K) (f : X → X) (es : List (K × X)) → Own es → lookup (is_at (cmp k)) es ≡ None
+      → values_of es ≡ update_first (has_key k) f (values_of es)
   values-unchanged k f [] own h = refl
   values-unchanged k f (e ∷ es) own h = unchanged_at k f e es (is_at (cmp k) e.0) refl (one_test k e own.0) (values-unchanged k f es own.1) h
 
-  own_changed_at : (k : K) (f : X → X) (v : X) → key (f v) ≡ key v → (e : K × X) (es : List (K × X)) (b : Bool) → is_at (cmp k) e.0 ≡ b → cmp (key e.1) e.0 ≡ Equal → Own es
+  own_changed_at : (k : K) (f : X → X) (v : X) → key (f v) ≡ key v → (e : K × X) (es : List (K × X)) (b : Bool) → is_at (cmp k) e.0 ≡ b
+      → cmp (key e.1) e.0 ≡ Equal → Own es
       → (lookup (is_at (cmp k)) es ≡ Some v → Own (set_value (is_at (cmp k)) es (f v)))
       → lookup (is_at (cmp k)) (e ∷ es) ≡ Some v → Own (set_value (is_at (cmp k)) (e ∷ es) (f v))
   own_changed_at k f v stays e es true t here others later h =
@@ -69,7 +73,8 @@ module _ {K X : Type 0} (cmp : K → K → Ordering) (total : IsTotalOrder cmp) 
       let past : lookup (is_at (cmp k)) (e ∷ es) ≡ lookup (is_at (cmp k)) es = rw t refl in
       rw t (here, later (sym past ∙ h))
 
-  pub own-changed : (k : K) (f : X → X) (v : X) → key (f v) ≡ key v → (es : List (K × X)) → Own es → lookup (is_at (cmp k)) es ≡ Some v → Own (set_value (is_at (cmp k)) es (f v))
+  pub own-changed : (k : K) (f : X → X) (v : X) → key (f v) ≡ key v → (es : List (K × X)) → Own es → lookup (is_at (cmp k)) es ≡ Some v
+      → Own (set_value (is_at (cmp k)) es (f v))
   own-changed k f v stays [] own h = tt
   own-changed k f v stays (e ∷ es) own h = own_changed_at k f v stays e es (is_at (cmp k) e.0) refl own.0 own.1 (own-changed k f v stays es own.1) h
 
@@ -90,7 +95,8 @@ module _ {K X : Type 0} (cmp : K → K → Ordering) (total : IsTotalOrder cmp) 
   placed_at row e es Equal t u later = rw (t, u) refl
   placed_at row e es Greater t u later = rw (t, u) (ap (λ xs. e.1 ∷ xs) later)
 
-  pub values-placed : (row : X) (es : List (K × X)) → Own es → values_of (insert_entry cmp es (key row) row) ≡ placed (λ a b. cmp (key a) (key b)) row (values_of es)
+  pub values-placed : (row : X) (es : List (K × X)) → Own es
+      → values_of (insert_entry cmp es (key row) row) ≡ placed (λ a b. cmp (key a) (key b)) row (values_of es)
   values-placed row [] own = refl
   values-placed row (e ∷ es) own = placed_at row e es (cmp (key row) e.0) (alike (key row) (key e.1) e.0 own.0) refl (values-placed row es own.1)
 
@@ -99,7 +105,8 @@ module _ {K X : Type 0} (cmp : K → K → Ordering) (total : IsTotalOrder cmp) 
   equal_self k Equal e = e
   equal_self k Greater e = let back : Greater ≡ Less = sym e ∙ total.antisymm k k ∙ ap ordering_reverse e in cc
 
-  own_placed_at : (row : X) (e : K × X) (es : List (K × X)) (o : Ordering) → cmp (key row) e.0 ≡ o → cmp (key e.1) e.0 ≡ Equal → Own es → Own (insert_entry cmp es (key row) row) → Own (insert_entry cmp (e ∷ es) (key row) row)
+  own_placed_at : (row : X) (e : K × X) (es : List (K × X)) (o : Ordering) → cmp (key row) e.0 ≡ o → cmp (key e.1) e.0 ≡ Equal → Own es
+      → Own (insert_entry cmp es (key row) row) → Own (insert_entry cmp (e ∷ es) (key row) row)
   own_placed_at row e es Less t here others later = rw t (equal_self (key row) (cmp (key row) (key row)) refl, (here, others))
   own_placed_at row e es Equal t here others later = rw t (t, others)
   own_placed_at row e es Greater t here others later = rw t (here, later)
@@ -109,24 +116,30 @@ module _ {K X : Type 0} (cmp : K → K → Ordering) (total : IsTotalOrder cmp) 
   own-placed row (e ∷ es) own = own_placed_at row e es (cmp (key row) e.0) refl own.0 own.1 (own-placed row es own.1)
 
   -- a row less
-  pub none_above : (k n : K) (es : List (K × X)) → cmp k n ≡ Equal → AllByRecursion (λ m. cmp n m ≡ Less) (keys_of es) → Own es → filter (λ x. not (has_key k x)) (values_of es) ≡ values_of es
+  pub none_above : (k n : K) (es : List (K × X)) → cmp k n ≡ Equal → AllByRecursion (λ m. cmp n m ≡ Less) (keys_of es) → Own es
+      → filter (λ x. not (has_key k x)) (values_of es) ≡ values_of es
   none_above k n [] same above own = refl
   none_above k n (e ∷ es) same above own =
       let test : has_key k e.1 ≡ false = one_test k e own.0 ∙ ap is_eq (total.congr k n e.0 same ∙ above.0) in
       rw test (ap (λ xs. e.1 ∷ xs) (none_above k n es same above.1 own.1))
 
-  removed_at : (k : K) (e : K × X) (es : List (K × X)) (o : Ordering) → cmp k e.0 ≡ o → has_key k e.1 ≡ is_at (cmp k) e.0 → AllByRecursion (λ m. cmp e.0 m ≡ Less) (keys_of es) → Own es
+  removed_at : (k : K) (e : K × X) (es : List (K × X)) (o : Ordering) → cmp k e.0 ≡ o → has_key k e.1 ≡ is_at (cmp k) e.0
+      → AllByRecursion (λ m. cmp e.0 m ≡ Less) (keys_of es) → Own es
       → values_of (remove_entry (is_at (cmp k)) es) ≡ filter (λ x. not (has_key k x)) (values_of es)
       → values_of (remove_entry (is_at (cmp k)) (e ∷ es)) ≡ filter (λ x. not (has_key k x)) (values_of (e ∷ es))
   removed_at k e es Less t one above own later = rw (one, t) (ap (λ xs. e.1 ∷ xs) later)
   removed_at k e es Equal t one above own later = rw (one, t) (sym (none_above k e.0 es t above own))
   removed_at k e es Greater t one above own later = rw (one, t) (ap (λ xs. e.1 ∷ xs) later)
 
-  pub values-removed : (k : K) (es : List (K × X)) → Own es → IsStrictlySortedBy cmp (keys_of es) → values_of (remove_entry (is_at (cmp k)) es) ≡ filter (λ x. not (has_key k x)) (values_of es)
+  pub values-removed : (k : K) (es : List (K × X)) → Own es → IsStrictlySortedBy cmp (keys_of es)
+      → values_of (remove_entry (is_at (cmp k)) es) ≡ filter (λ x. not (has_key k x)) (values_of es)
   values-removed k [] own sorted = refl
-  values-removed k (e ∷ es) own sorted = removed_at k e es (cmp k e.0) refl (one_test k e own.0) (sorted_head cmp e.0 (keys_of es) sorted) own.1 (values-removed k es own.1 (sorted_tail cmp e.0 (keys_of es) sorted))
+  values-removed k (e ∷ es) own sorted =
+      removed_at k e es (cmp k e.0) refl (one_test k e own.0) (sorted_head cmp e.0 (keys_of es) sorted) own.1
+      (values-removed k es own.1 (sorted_tail cmp e.0 (keys_of es) sorted))
 
-  own_removed_at : (k : K) (e : K × X) (es : List (K × X)) (b : Bool) → is_at (cmp k) e.0 ≡ b → cmp (key e.1) e.0 ≡ Equal → Own es → Own (remove_entry (is_at (cmp k)) es) → Own (remove_entry (is_at (cmp k)) (e ∷ es))
+  own_removed_at : (k : K) (e : K × X) (es : List (K × X)) (b : Bool) → is_at (cmp k) e.0 ≡ b → cmp (key e.1) e.0 ≡ Equal → Own es
+      → Own (remove_entry (is_at (cmp k)) es) → Own (remove_entry (is_at (cmp k)) (e ∷ es))
   own_removed_at k e es true t here others later = rw t others
   own_removed_at k e es false t here others later = rw t (here, later)
 
@@ -142,7 +155,8 @@ module _ {K X : Type 0} (cmp : K → K → Ordering) (total : IsTotalOrder cmp) 
       rw greater (ap (λ ys. x ∷ ys) (placed_last row xs above.1))
 
   -- rows under rising keys rise
-  rising_at : (k n : K) (es : List (K × X)) → cmp k n ≡ Equal → AllByRecursion (λ m. cmp n m ≡ Less) (keys_of es) → Own es → AllByRecursion (λ m. cmp k m ≡ Less) (map key (values_of es))
+  rising_at : (k n : K) (es : List (K × X)) → cmp k n ≡ Equal → AllByRecursion (λ m. cmp n m ≡ Less) (keys_of es) → Own es
+      → AllByRecursion (λ m. cmp k m ≡ Less) (map key (values_of es))
   rising_at k n [] same above own = tt
   rising_at k n (e ∷ es) same above own = (alike k (key e.1) e.0 own.0 ∙ total.congr k n e.0 same ∙ above.0, rising_at k n es same above.1 own.1)
 

@@ -21,7 +21,8 @@ module _ {X : Type 0} (P Q : X → Type 0) (p : X → Bool) where
   Each_kept follows (x ∷ xs) all = filter_at x xs (p x) refl (follows x all.0) (Each_kept follows xs all.1)
 
 module _ {X : Type 0} (P : X → Type 0) (p : X → Bool) where
-  update_all_at : (f : X → X) (x : X) (xs : List X) (b : Bool) → P x → P (f x) → Each P xs → Each P (update_first p f xs) → Each P (if b then f x ∷ xs else x ∷ update_first p f xs)
+  update_all_at : (f : X → X) (x : X) (xs : List X) (b : Bool) → P x → P (f x) → Each P xs → Each P (update_first p f xs)
+      → Each P (if b then f x ∷ xs else x ∷ update_first p f xs)
   update_all_at f x xs true here changed all later = (changed, all)
   update_all_at f x xs false here changed all later = (here, later)
 
@@ -39,7 +40,8 @@ Has_append x (y ∷ xs) ys (inr h) = either_behind (Has_append x xs ys h) where
   either_behind (inl k) = inl (inr k)
   either_behind (inr k) = inr k
 
-has_found_at : {X : Type 0} (p : X → Bool) (a x : X) (xs : List X) (b : Bool) → p a ≡ b → (find p xs ≡ Some x → Has x xs) → find p (a ∷ xs) ≡ Some x → Has x (a ∷ xs)
+has_found_at : {X : Type 0} (p : X → Bool) (a x : X) (xs : List X) (b : Bool) → p a ≡ b → (find p xs ≡ Some x → Has x xs) → find p (a ∷ xs) ≡ Some x
+    → Has x (a ∷ xs)
 has_found_at p a x xs true e later h = let here : find p (a ∷ xs) ≡ Some a = find_here p a xs e in let same : x ≡ a = cc in inl same
 has_found_at p a x xs false e later h = inr (later (sym (find_later p a xs e) ∙ h))
 
@@ -52,7 +54,8 @@ module _ {X Y : Type 0} (p : X → Bool) (f : X → Y) (y : Y) where
   abbrev pub IsImageIn : List X → Type 0
   IsImageIn xs = (x : X) × Has x xs × (p x ≡ true) × (y ≡ f x)
 
-  image_at : (a : X) (xs : List X) (b : Bool) → p a ≡ b → (Has y (map f (filter p xs)) → IsImageIn xs) → Has y (map f (if b then a ∷ filter p xs else filter p xs)) → IsImageIn (a ∷ xs)
+  image_at : (a : X) (xs : List X) (b : Bool) → p a ≡ b → (Has y (map f (filter p xs)) → IsImageIn xs)
+      → Has y (map f (if b then a ∷ filter p xs else filter p xs)) → IsImageIn (a ∷ xs)
   image_at a xs true e later (inl same) = (a, inl refl, e, same)
   image_at a xs true e later (inr h) = let found : IsImageIn xs = later h in (found.0, inr found.1, found.2, found.3)
   image_at a xs false e later h = let found : IsImageIn xs = later h in (found.0, inr found.1, found.2, found.3)
@@ -66,7 +69,8 @@ Each_mapped P Q f follows [] all = tt
 Each_mapped P Q f follows (x ∷ xs) all = (follows x all.0, Each_mapped P Q f follows xs all.1)
 
 module _ {X : Type 0} (P : X → Type 0) (compare : X → X → Ordering) (new : X) where
-  placed_all_at : (x : X) (xs : List X) (o : Ordering) → P new → P x → Each P xs → Each P (placed compare new xs) → Each P (match_ordering o (new ∷ x ∷ xs) (new ∷ xs) (x ∷ placed compare new xs))
+  placed_all_at : (x : X) (xs : List X) (o : Ordering) → P new → P x → Each P xs → Each P (placed compare new xs)
+      → Each P (match_ordering o (new ∷ x ∷ xs) (new ∷ xs) (x ∷ placed compare new xs))
   placed_all_at x xs Less one here all later = (one, (here, all))
   placed_all_at x xs Equal one here all later = (one, all)
   placed_all_at x xs Greater one here all later = (here, later)

@@ -37,7 +37,8 @@ module _ {X : Type 0} (p : X → Bool) where
 
 module _ {X : Type 0} (p : X → Bool) where
   -- where nothing is found, no element passes
-  passes_none_at : (x : X) (xs : List X) (b : Bool) → p x ≡ b → (find p xs ≡ None → Each (λ y. p y ≡ false) xs) → find p (x ∷ xs) ≡ None → Each (λ y. p y ≡ false) (x ∷ xs)
+  passes_none_at : (x : X) (xs : List X) (b : Bool) → p x ≡ b → (find p xs ≡ None → Each (λ y. p y ≡ false) xs) → find p (x ∷ xs) ≡ None
+      → Each (λ y. p y ≡ false) (x ∷ xs)
   passes_none_at x xs true e later h = let here : find p (x ∷ xs) ≡ Some x = find_here p x xs e in cc
   passes_none_at x xs false e later h = (e, later (sym (find_later p x xs e) ∙ h))
 
@@ -76,7 +77,8 @@ module _ {X : Type 0} (p : X → Bool) where
 
 module _ {X : Type 0} (p q : X → Bool) where
   -- the first that passes q changes, and none of those is looked for
-  apart_at : (f : X → X) (a : X) (xs : List X) (b : Bool) → q a ≡ b → (q a ≡ true → (p a ≡ false) × (p (f a) ≡ false)) → find p (update_first q f xs) ≡ find p xs → find p (if b then f a ∷ xs else a ∷ update_first q f xs) ≡ find p (a ∷ xs)
+  apart_at : (f : X → X) (a : X) (xs : List X) (b : Bool) → q a ≡ b → (q a ≡ true → (p a ≡ false) × (p (f a) ≡ false))
+      → find p (update_first q f xs) ≡ find p xs → find p (if b then f a ∷ xs else a ∷ update_first q f xs) ≡ find p (a ∷ xs)
   apart_at f a xs true e apart later = find_later p (f a) xs (apart e).1 ∙ sym (find_later p a xs (apart e).0)
   apart_at f a xs false e apart later = ap (λ found. if p a then Some a else found) later
 
@@ -89,7 +91,8 @@ module _ {X : Type 0} (p q : X → Bool) where
     abbrev pub Finds : X → List X → Type 0
     Finds x xs = (y : X) × (find p xs ≡ Some y) × R y x
 
-    changed_at : (a : X) (xs : List X) (x : X) (b c : Bool) → q a ≡ b → p a ≡ c → (find p xs ≡ Some x → Finds x (update_first q f xs)) → find p (a ∷ xs) ≡ Some x → Finds x (if b then f a ∷ xs else a ∷ update_first q f xs)
+    changed_at : (a : X) (xs : List X) (x : X) (b c : Bool) → q a ≡ b → p a ≡ c → (find p xs ≡ Some x → Finds x (update_first q f xs))
+        → find p (a ∷ xs) ≡ Some x → Finds x (if b then f a ∷ xs else a ∷ update_first q f xs)
     changed_at a xs x true true eq ep later h =
         let here : find p (a ∷ xs) ≡ Some a = find_here p a xs ep in
         let same : a ≡ x = cc in
@@ -108,8 +111,11 @@ module _ {X : Type 0} (p q : X → Bool) where
     find_changed (a ∷ xs) x h = changed_at a xs x (q a) (p a) refl refl (find_changed xs x) h
 
   -- what is found in a filtered list passes the filter
-  passes_at : (a : X) (xs : List X) (x : X) (b : Bool) → q a ≡ b → (c : Bool) → p a ≡ c → (find p (filter q xs) ≡ Some x → q x ≡ true) → find p (if b then a ∷ filter q xs else filter q xs) ≡ Some x → q x ≡ true
-  passes_at a xs x true e true ep later h = let here : find p (a ∷ filter q xs) ≡ Some a = find_here p a (filter q xs) ep in let same : a ≡ x = cc in ap q (sym same) ∙ e
+  passes_at : (a : X) (xs : List X) (x : X) (b : Bool) → q a ≡ b → (c : Bool) → p a ≡ c → (find p (filter q xs) ≡ Some x → q x ≡ true)
+      → find p (if b then a ∷ filter q xs else filter q xs) ≡ Some x → q x ≡ true
+  passes_at a xs x true e true ep later h =
+      let here : find p (a ∷ filter q xs) ≡ Some a = find_here p a (filter q xs) ep in let same : a ≡ x = cc in ap q (sym same)
+      ∙ e
   passes_at a xs x true e false ep later h = later (sym (find_later p a (filter q xs) ep) ∙ h)
   passes_at a xs x false e c ep later h = later h
 
@@ -118,7 +124,8 @@ module _ {X : Type 0} (p q : X → Bool) where
   filter_passes_found (a ∷ xs) x h = passes_at a xs x (q a) refl (p a) refl (filter_passes_found xs x) h
 
   -- what passes the filter is found still
-  kept_at : (a : X) (xs : List X) (x : X) (b c : Bool) → q a ≡ b → p a ≡ c → q x ≡ true → (find p xs ≡ Some x → find p (filter q xs) ≡ Some x) → find p (a ∷ xs) ≡ Some x → find p (if b then a ∷ filter q xs else filter q xs) ≡ Some x
+  kept_at : (a : X) (xs : List X) (x : X) (b c : Bool) → q a ≡ b → p a ≡ c → q x ≡ true → (find p xs ≡ Some x → find p (filter q xs) ≡ Some x)
+      → find p (a ∷ xs) ≡ Some x → find p (if b then a ∷ filter q xs else filter q xs) ≡ Some x
   kept_at a xs x true true eq ep stays later h = find_here p a (filter q xs) ep ∙ sym (find_here p a xs ep) ∙ h
   kept_at a xs x true false eq ep stays later h = find_later p a (filter q xs) ep ∙ later (sym (find_later p a xs ep) ∙ h)
   kept_at a xs x false true eq ep stays later h =
@@ -133,29 +140,36 @@ module _ {X : Type 0} (p q : X → Bool) where
   find_kept (a ∷ xs) x stays h = kept_at a xs x (q a) (p a) refl refl stays (find_kept xs x stays) h
 
 -- the first that passes is changed itself
-same_at : {X : Type 0} (p : X → Bool) (f : X → X) (a : X) (xs : List X) (x : X) (b : Bool) → p a ≡ b → p (f a) ≡ p a → (find p xs ≡ Some x → find p (update_first p f xs) ≡ Some (f x)) → find p (a ∷ xs) ≡ Some x → find p (if b then f a ∷ xs else a ∷ update_first p f xs) ≡ Some (f x)
+same_at : {X : Type 0} (p : X → Bool) (f : X → X) (a : X) (xs : List X) (x : X) (b : Bool) → p a ≡ b → p (f a) ≡ p a
+    → (find p xs ≡ Some x → find p (update_first p f xs) ≡ Some (f x)) → find p (a ∷ xs) ≡ Some x
+    → find p (if b then f a ∷ xs else a ∷ update_first p f xs) ≡ Some (f x)
 same_at p f a xs x true e same_test later h =
     let here : find p (a ∷ xs) ≡ Some a = find_here p a xs e in
     let same : a ≡ x = cc in
     find_here p (f a) xs (same_test ∙ e) ∙ ap (λ y. Some (f y)) same
 same_at p f a xs x false e same_test later h = find_later p a (update_first p f xs) e ∙ later (sym (find_later p a xs e) ∙ h)
 
-pub find_same : {X : Type 0} (p : X → Bool) (f : X → X) → ((x : X) → p (f x) ≡ p x) → (xs : List X) (x : X) → find p xs ≡ Some x → find p (update_first p f xs) ≡ Some (f x)
+pub find_same : {X : Type 0} (p : X → Bool) (f : X → X) → ((x : X) → p (f x) ≡ p x) → (xs : List X) (x : X) → find p xs ≡ Some x
+    → find p (update_first p f xs) ≡ Some (f x)
 find_same p f same_test [] x h = cc
 find_same p f same_test (a ∷ xs) x h = same_at p f a xs x (p a) refl (same_test a) (find_same p f same_test xs x) h
 
 -- of two changes of the first that passes, where the first change lets it pass still, the second stands
-twice_at : {X : Type 0} (p : X → Bool) (f g : X → X) → ((x : X) → p x ≡ true → p (f x) ≡ true) → ((x : X) → g (f x) ≡ g x) → (x : X) (xs : List X) (b : Bool) → p x ≡ b → update_first p g (update_first p f xs) ≡ update_first p g xs → update_first p g (if b then f x ∷ xs else x ∷ update_first p f xs) ≡ (if b then g x ∷ xs else x ∷ update_first p g xs)
+twice_at : {X : Type 0} (p : X → Bool) (f g : X → X) → ((x : X) → p x ≡ true → p (f x) ≡ true) → ((x : X) → g (f x) ≡ g x)
+    → (x : X) (xs : List X) (b : Bool) → p x ≡ b → update_first p g (update_first p f xs) ≡ update_first p g xs
+    → update_first p g (if b then f x ∷ xs else x ∷ update_first p f xs) ≡ (if b then g x ∷ xs else x ∷ update_first p g xs)
 twice_at p f g stays same x xs true e h = rw (stays x e) (ap (λ y. y ∷ xs) (same x))
 twice_at p f g stays same x xs false e h = rw e (ap (λ ys. x ∷ ys) h)
 
-pub update_first-twice : {X : Type 0} (p : X → Bool) (f g : X → X) → ((x : X) → p x ≡ true → p (f x) ≡ true) → ((x : X) → g (f x) ≡ g x) → (xs : List X) → update_first p g (update_first p f xs) ≡ update_first p g xs
+pub update_first-twice : {X : Type 0} (p : X → Bool) (f g : X → X) → ((x : X) → p x ≡ true → p (f x) ≡ true) → ((x : X) → g (f x) ≡ g x)
+    → (xs : List X) → update_first p g (update_first p f xs) ≡ update_first p g xs
 update_first-twice p f g stays same [] = refl
 update_first-twice p f g stays same (x ∷ xs) = twice_at p f g stays same x xs (p x) refl (update_first-twice p f g stays same xs)
 
 -- what is taken away is found no more, and all else as before
 module _ {X : Type 0} (p q : X → Bool) where
-  removed_at : (a : X) (xs : List X) (b : Bool) → p a ≡ b → find p (filter (λ x. not (p x)) xs) ≡ None → find p (if not b then a ∷ filter (λ x. not (p x)) xs else filter (λ x. not (p x)) xs) ≡ None
+  removed_at : (a : X) (xs : List X) (b : Bool) → p a ≡ b → find p (filter (λ x. not (p x)) xs) ≡ None
+      → find p (if not b then a ∷ filter (λ x. not (p x)) xs else filter (λ x. not (p x)) xs) ≡ None
   removed_at a xs true e later = later
   removed_at a xs false e later = find_later p a (filter (λ x. not (p x)) xs) e ∙ later
 
@@ -163,7 +177,8 @@ module _ {X : Type 0} (p q : X → Bool) where
   find_removed [] = refl
   find_removed (a ∷ xs) = removed_at a xs (p a) refl (find_removed xs)
 
-  others_at : (a : X) (xs : List X) (b : Bool) → q a ≡ b → (q a ≡ true → p a ≡ false) → find p (filter (λ x. not (q x)) xs) ≡ find p xs → find p (if not b then a ∷ filter (λ x. not (q x)) xs else filter (λ x. not (q x)) xs) ≡ find p (a ∷ xs)
+  others_at : (a : X) (xs : List X) (b : Bool) → q a ≡ b → (q a ≡ true → p a ≡ false) → find p (filter (λ x. not (q x)) xs) ≡ find p xs
+      → find p (if not b then a ∷ filter (λ x. not (q x)) xs else filter (λ x. not (q x)) xs) ≡ find p (a ∷ xs)
   others_at a xs true e apart later = later ∙ sym (find_later p a xs (apart e))
   others_at a xs false e apart later = ap (λ found. if p a then Some a else found) later
 
@@ -173,7 +188,8 @@ module _ {X : Type 0} (p q : X → Bool) where
 
 -- where all elements change, what is found has changed
 module _ {X : Type 0} (p : X → Bool) (f : X → X) (same_test : (x : X) → p (f x) ≡ p x) where
-  mapped_at : (a : X) (xs : List X) (b : Bool) → p a ≡ b → find p (map f xs) ≡ option_map f (find p xs) → find p (map f (a ∷ xs)) ≡ option_map f (find p (a ∷ xs))
+  mapped_at : (a : X) (xs : List X) (b : Bool) → p a ≡ b → find p (map f xs) ≡ option_map f (find p xs)
+      → find p (map f (a ∷ xs)) ≡ option_map f (find p (a ∷ xs))
   mapped_at a xs true e later = find_here p (f a) (map f xs) (same_test a ∙ e) ∙ ap (option_map f) (sym (find_here p a xs e))
   mapped_at a xs false e later = find_later p (f a) (map f xs) (same_test a ∙ e) ∙ later ∙ ap (option_map f) (sym (find_later p a xs e))
 

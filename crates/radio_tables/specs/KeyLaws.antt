@@ -35,14 +35,18 @@ number_is k n = grind (arith, nat_tests)
 pub name_is : (k n : List ℕ) → bytes_eq n k ≡ is_eq (slice_cmp nat_cmp k n)
 name_is k n = bytes_eq_back n k ∙ sym (is_eq-slice_cmp k n) where
   bytes_eq_back : (a b : List ℕ) → bytes_eq a b ≡ bytes_eq b a
-  bytes_eq_back a b = both_ways (bytes_eq a b) (bytes_eq b a) (λ e. (bytes_eq-Decides b a).1 (sym ((bytes_eq-Decides a b).0 e))) (λ e. (bytes_eq-Decides a b).1 (sym ((bytes_eq-Decides b a).0 e)))
+  bytes_eq_back a b =
+      both_ways (bytes_eq a b) (bytes_eq b a)
+      (λ e. (bytes_eq-Decides b a).1 (sym ((bytes_eq-Decides a b).0 e)))
+      (λ e. (bytes_eq-Decides a b).1 (sym ((bytes_eq-Decides b a).0 e)))
 
 -- a lower number comes before
 pub less_number : (a b : ℕ) → a < b → nat_cmp a b ≡ Less
 less_number a b below = grind (arith, nat_tests)
 
 -- where a row was put into its place, it is found by its key, and all others as before
-module _ {K X : Type 0} (cmp : K → K → Ordering) (total : IsTotalOrder cmp) (key : X → K) (has_key : K → X → Bool) (has_key_is : (k : K) (x : X) → has_key k x ≡ is_eq (cmp k (key x))) (k : K) (new : X) where
+module _ {K X : Type 0} (cmp : K → K → Ordering) (total : IsTotalOrder cmp) (key : X → K) (has_key : K → X → Bool)
+    (has_key_is : (k : K) (x : X) → has_key k x ≡ is_eq (cmp k (key x))) (k : K) (new : X) where
   abbrev pub by_key : X → X → Ordering
   by_key a b = cmp (key a) (key b)
 
@@ -52,10 +56,12 @@ module _ {K X : Type 0} (cmp : K → K → Ordering) (total : IsTotalOrder cmp) 
   -- an equal row has the same keys
   same_keys : (x : X) → cmp (key new) (key x) ≡ Equal → has_key k x ≡ has_key k new
   same_keys x e =
-      let alike : cmp k (key x) ≡ cmp k (key new) = total.antisymm k (key x) ∙ ap ordering_reverse (sym (total.congr (key new) (key x) k e)) ∙ sym (total.antisymm k (key new)) in
+      let alike : cmp k (key x) ≡ cmp k (key new) = total.antisymm k (key x) ∙ ap ordering_reverse (sym (total.congr (key new) (key x) k e))
+      ∙ sym (total.antisymm k (key new)) in
       has_key_is k x ∙ ap is_eq alike ∙ sym (has_key_is k new)
 
-  in_place_of : (x : X) (xs : List X) (b : Bool) → has_key k new ≡ b → has_key k x ≡ has_key k new → find (has_key k) (new ∷ xs) ≡ (if has_key k new then Some new else find (has_key k) (x ∷ xs))
+  in_place_of : (x : X) (xs : List X) (b : Bool) → has_key k new ≡ b → has_key k x ≡ has_key k new
+      → find (has_key k) (new ∷ xs) ≡ (if has_key k new then Some new else find (has_key k) (x ∷ xs))
   in_place_of x xs true e same = rw e refl
   in_place_of x xs false e same = find_later (has_key k) new xs e ∙ sym (rw e (find_later (has_key k) x xs (same ∙ e)))
 
@@ -73,10 +79,12 @@ module _ {K X : Type 0} (cmp : K → K → Ordering) (total : IsTotalOrder cmp) 
   behind : (x : X) (xs : List X) (b : Bool) → has_key k x ≡ b → (has_key k x ≡ true → has_key k new ≡ false) → FindsPlaced xs
       → find (has_key k) (x ∷ placed by_key new xs) ≡ (if has_key k new then Some new else find (has_key k) (x ∷ xs))
   behind x xs true e apart later = find_here (has_key k) x (placed by_key new xs) e ∙ sym (rw (apart e) (find_here (has_key k) x xs e))
-  behind x xs false e apart later = find_later (has_key k) x (placed by_key new xs) e ∙ later ∙ ap (λ found. if has_key k new then Some new else found) (sym (find_later (has_key k) x xs e))
+  behind x xs false e apart later =
+      find_later (has_key k) x (placed by_key new xs) e ∙ later ∙ ap (λ found. if has_key k new then Some new else found) (sym (find_later (has_key k) x xs e))
 
   placed_at : (x : X) (xs : List X) (o : Ordering) → cmp (key new) (key x) ≡ o → FindsPlaced xs
-      → find (has_key k) (match_ordering o (new ∷ x ∷ xs) (new ∷ xs) (x ∷ placed by_key new xs)) ≡ (if has_key k new then Some new else find (has_key k) (x ∷ xs))
+      → find (has_key k) (match_ordering o (new ∷ x ∷ xs) (new ∷ xs) (x ∷ placed by_key new xs))
+      ≡ (if has_key k new then Some new else find (has_key k) (x ∷ xs))
   placed_at x xs Less o later = refl
   placed_at x xs Equal o later = in_place_of x xs (has_key k new) refl (same_keys x o)
   placed_at x xs Greater o later = behind x xs (has_key k x) refl (not_new x o) later

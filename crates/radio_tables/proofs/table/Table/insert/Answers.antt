@@ -11,7 +11,9 @@ invariant_of-self-2 g c =
     let es = c.self.inside.rows.entries in
     let written = c.in_ok-insert.ensures.entries ∙ ap (λ k. insert_entry g.R.Key.Ord.cmp es k c.args.row) c.key-key.ensures in
     record {
-      own = subst (AreOwn g.R.Key.Ord.cmp g.R.Row.key) (sym written) (own-placed g.R.Key.Ord.cmp g.met.R.Key.Ord.total g.R.Row.key g.R.Row.has_key g.met.R.Row.has_key_is c.args.row es c.self.invariant.own);
+      own = subst (AreOwn g.R.Key.Ord.cmp g.R.Row.key) (sym written) (own-placed
+          g.R.Key.Ord.cmp g.met.R.Key.Ord.total g.R.Row.key g.R.Row.has_key g.met.R.Row.has_key_is
+          c.args.row es c.self.invariant.own);
       rising = c.in_ok-insert.ensures.ordered;
     }
 
