@@ -1,5 +1,4 @@
-pub mod NumbersLemmas
-pub mod CutsLemmas
 pub mod CountsLemmas
 pub mod ListsLemmas
 pub mod WritingLemmas
+pub mod LawLemmas

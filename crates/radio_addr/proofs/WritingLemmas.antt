@@ -9,15 +9,30 @@ use Rattle.std.proofs.lemmas.Grind.{pow_more}
 use Rattle.std.proofs.lemmas.List.{append-nil, length-append}
 use Rattle.std.proofs.Math.Nat.{div-div-eq-div-mul}
 use Rattle.std.proofs.lemmas.Fmt.{digits_is_IsNumeral, decimal_digit, first_decimal}
-use Rattle.radio_addr.specs.Numbers.{number_of, is_numeral, octet_of, group_of}
-use Rattle.radio_addr.specs.Cuts.{cut, cut_at_two, onto_front, fields_at}
-use Rattle.radio_addr.proofs.NumbersLemmas.{all_digits}
+use Rattle.std.specs.List.{list_all, starts_with}
+use Rattle.radio_texts.specs.Numbers.{number_of, is_numeral}
+use Rattle.radio_addr.specs.Numbers.{octet_of, group_of}
+use Rattle.radio_texts.specs.Cuts.{cut, cut_at_two, onto_front, fields_at, fields_by}
 use Rattle.radio_addr.specs.Addresses.{quad_of, quad_number, v6_of, address_of, peer_of, groups_in, groups_of, last_groups, number_of_groups}
 use Rattle.radio_addr.specs.Writing.{written, group_at, hexadecimal, IsPeer}
-use Rattle.radio_addr.specs.declared.peer.Peer.{Peer}
-use Rattle.radio_addr.specs.declared.peer.Peer.TheVariants.{V4, V6}
-use Rattle.radio_addr.proofs.CutsLemmas.{fields_at-cut, fields_by, begins_twice, some_field}
+use Rattle.radio_addr.specs.declared.address.Address.{Address}
+use Rattle.radio_addr.specs.declared.address.Address.TheVariants.{V4, V6}
 use Rattle.radio_addr.proofs.CountsLemmas.{groups_in-cons}
+
+-- whether all bytes are digits
+abbrev pub all_digits : ℕ → List ℕ → Bool
+all_digits base text = list_all (λ b. is_digit b base) text
+
+-- whether a text begins with two bytes c
+abbrev pub begins_twice : ℕ → List ℕ → Bool
+begins_twice c text = starts_with eqb text (c ∷ c ∷ [])
+
+-- the fields between colons by one cut, and that there is one
+abbrev pub ByCuts : Type 0
+ByCuts = (at : ℕ) (text : List ℕ) → fields_at at text ≡ fields_by at text (cut at text)
+
+abbrev pub SomeField : Type 0
+SomeField = (at : ℕ) (text : List ℕ) → 0 < length (fields_at at text)
 
 -- digits pass the test of digits
 all_digits-from : (base : ℕ) (ds : List ℕ) → AllDigits base ds → all_digits base ds ≡ true
@@ -28,7 +43,8 @@ all_digits-from base (d ∷ ds) all = and_from (is_digit d base) _ (lt-ltb (digi
 number_of-numeral : (base most n : ℕ) (ds : List ℕ) → IsNumeral base ds → digits_value base ds ≡ n → n ≤ most → number_of base most ds ≡ Some n
 unfolding number_of
 number_of-numeral base most n ds numeral value fits =
-    let is : is_numeral base ds ≡ true = and_from (ltb 0 (length ds)) (all_digits base ds) (lt-ltb 0 (length ds) numeral.0) (all_digits-from base ds numeral.1) in
+    let is : is_numeral base ds ≡ true = and_from (ltb 0 (length ds)) (all_digits base ds) (lt-ltb 0 (length ds) numeral.0)
+    (all_digits-from base ds numeral.1) in
     let passes = and_from (is_numeral base ds) (leb (digits_value base ds) most) is (le-leb (digits_value base ds) most (omega arith)) in
     rw passes (ap (λ (m : ℕ). Some m) value)
 
@@ -65,7 +81,11 @@ length-digits_onto (suc (suc k)) n (suc fuel) acc small some room = ⊎_elim
     (λ (more : n / 16 ≡ 0 → ⊥).
     let next : suc (suc k) ≡ suc k + 1 = omega arith in
     let power : 16 ^ suc (suc k) ≡ 16 ^ suc k * 16 = ap (λ (j : ℕ). 16 ^ j) next ∙ pow_more 16 (suc k) in
-    rw (ne_eqb (n / 16) 0 more) (omega (arith, length-digits_onto (suc k) (n / 16) fuel (digit_glyph false (n % 16) ∷ acc) (omega arith) (omega arith) (omega arith))))
+    rw (ne_eqb (n / 16) 0 more) (omega (
+      arith,
+      length-digits_onto (suc k) (n / 16) fuel (digit_glyph false (n % 16) ∷ acc) (omega arith)
+          (omega arith) (omega arith),
+    )))
     (cases_eq (n / 16) 0)
 
 length-hexadecimal : (n : ℕ) → n < 65536 → length (digits 16 false n) ≤ 4
@@ -93,14 +113,16 @@ cut_digits base c (d ∷ ds) other all =
     rw differs (ap (onto_front d) (cut_digits base c ds other all.1))
 
 -- nor at another byte behind them
-cut_past_digits : (base c b : ℕ) (ds rest : List ℕ) → base ≤ digit_value c → (b ≡ c → ⊥) → AllDigits base ds → cut c rest ≡ None → cut c (ds ++ b ∷ rest) ≡ None
+cut_past_digits : (base c b : ℕ) (ds rest : List ℕ) → base ≤ digit_value c → (b ≡ c → ⊥) → AllDigits base ds → cut c rest ≡ None
+    → cut c (ds ++ b ∷ rest) ≡ None
 cut_past_digits base c b [] rest other apart all none = rw (ne_eqb b c apart) (ap (onto_front b) none)
 cut_past_digits base c b (d ∷ ds) rest other apart all none =
     let differs = ne_eqb d c (λ e. let same : digit_value d ≡ digit_value c = ap digit_value e in omega (arith, all.0)) in
     rw differs (ap (onto_front d) (cut_past_digits base c b ds rest other apart all.1 none))
 
 -- a written quad is read back
-quad_of-written : (a b c d : ℕ) → a ≤ 255 → b ≤ 255 → c ≤ 255 → d ≤ 255 → quad_of (decimal a ++ (46 ∷ (decimal b ++ (46 ∷ (decimal c ++ (46 ∷ decimal d)))))) ≡ Some (quad_number a b c d)
+quad_of-written : (a b c d : ℕ) → a ≤ 255 → b ≤ 255 → c ≤ 255 → d ≤ 255
+    → quad_of (decimal a ++ (46 ∷ (decimal b ++ (46 ∷ (decimal c ++ (46 ∷ decimal d)))))) ≡ Some (quad_number a b c d)
 unfolding quad_of
 quad_of-written a b c d small_a small_b small_c small_d =
     let third = decimal c ++ (46 ∷ decimal d) in
@@ -150,24 +172,28 @@ first_digit [] rest some all = absurd (omega arith)
 first_digit (d ∷ ds) rest some all = ne_eqb 58 d (λ e. let same : digit_value 58 ≡ digit_value d = ap digit_value e in omega (arith, all.0))
 
 first_byte : (g : ℕ) (groups : List ℕ) → AreGroups (g ∷ groups) → eqb 58 (get_or (joined (g ∷ groups)) 0 0) ≡ false
-first_byte g [] all = let is = hexadecimal-is g all.0 in ap (λ t. eqb 58 (get_or t 0 0)) (sym (append-nil (hexadecimal g))) ∙ first_digit (hexadecimal g) [] is.0.0 is.0.1
+first_byte g [] all = let is = hexadecimal-is g all.0 in ap (λ t. eqb 58 (get_or t 0 0)) (sym (append-nil (hexadecimal g)))
+    ∙ first_digit (hexadecimal g) [] is.0.0 is.0.1
 first_byte g (h ∷ groups) all = let is = hexadecimal-is g all.0 in first_digit (hexadecimal g) (58 ∷ joined (h ∷ groups)) is.0.0 is.0.1
 
 -- and no two colons stand side by side
 no_two_in_digits : (ds : List ℕ) → AllDigits 16 ds → cut_at_two 58 ds ≡ None
 no_two_in_digits [] all = refl
 no_two_in_digits (d ∷ ds) all =
-    let differs : begins_twice 58 (d ∷ ds) ≡ false = and_left (eqb 58 d) _ (ne_eqb 58 d (λ e. let same : digit_value 58 ≡ digit_value d = ap digit_value e in omega (arith, all.0))) in
+    let differs : begins_twice 58 (d ∷ ds) ≡ false = and_left (eqb 58 d) _
+    (ne_eqb 58 d (λ e. let same : digit_value 58 ≡ digit_value d = ap digit_value e in omega (arith, all.0))) in
     rw differs (ap (onto_front d) (no_two_in_digits ds all.1))
 
 not_twice : (rest : List ℕ) → eqb 58 (get_or rest 0 0) ≡ false → begins_twice 58 (58 ∷ rest) ≡ false
 not_twice [] other = refl
 not_twice (r ∷ rest) other = and_left (eqb 58 r) _ other
 
-no_two_past_digits : (ds rest : List ℕ) → AllDigits 16 ds → eqb 58 (get_or rest 0 0) ≡ false → cut_at_two 58 rest ≡ None → cut_at_two 58 (ds ++ (58 ∷ rest)) ≡ None
+no_two_past_digits : (ds rest : List ℕ) → AllDigits 16 ds → eqb 58 (get_or rest 0 0) ≡ false → cut_at_two 58 rest ≡ None
+    → cut_at_two 58 (ds ++ (58 ∷ rest)) ≡ None
 no_two_past_digits [] rest all other none = rw (not_twice rest other) (ap (onto_front 58) none)
 no_two_past_digits (d ∷ ds) rest all other none =
-    let differs : begins_twice 58 (d ∷ (ds ++ (58 ∷ rest))) ≡ false = and_left (eqb 58 d) _ (ne_eqb 58 d (λ e. let same : digit_value 58 ≡ digit_value d = ap digit_value e in omega (arith, all.0))) in
+    let differs : begins_twice 58 (d ∷ (ds ++ (58 ∷ rest))) ≡ false = and_left (eqb 58 d) _
+    (ne_eqb 58 d (λ e. let same : digit_value 58 ≡ digit_value d = ap digit_value e in omega (arith, all.0))) in
     rw differs (ap (onto_front d) (no_two_past_digits ds rest all.1 other none))
 
 no_two : (groups : List ℕ) → AreGroups groups → cut_at_two 58 (joined groups) ≡ None
@@ -181,22 +207,24 @@ last_groups-hexadecimal : (q : Bool) (g : ℕ) → g < 65536 → last_groups q (
 unfolding last_groups
 last_groups-hexadecimal q g small = rw (group_of-hexadecimal g small) refl
 
-groups_in-joined : (q : Bool) (g : ℕ) (groups : List ℕ) → AreGroups (g ∷ groups) → groups_in q (fields_at 58 (joined (g ∷ groups))) ≡ Some (g ∷ groups)
-groups_in-joined q g [] all =
-    ap (groups_in q) (fields_at-cut 58 (hexadecimal g) ∙ ap (fields_by 58 (hexadecimal g)) (cut_digits 16 58 (hexadecimal g) (omega arith) (hexadecimal-is g all.0).0.1))
+groups_in-joined : ByCuts → SomeField → (q : Bool) (g : ℕ) (groups : List ℕ) → AreGroups (g ∷ groups)
+    → groups_in q (fields_at 58 (joined (g ∷ groups))) ≡ Some (g ∷ groups)
+groups_in-joined by some q g [] all =
+    ap (groups_in q) (by 58 (hexadecimal g) ∙ ap (fields_by 58 (hexadecimal g)) (cut_digits 16 58 (hexadecimal g) (omega arith) (hexadecimal-is g all.0).0.1))
     ∙ last_groups-hexadecimal q g all.0
-groups_in-joined q g (h ∷ groups) all =
+groups_in-joined by some q g (h ∷ groups) all =
     let rest = joined (h ∷ groups) in
     let text = hexadecimal g ++ (58 ∷ rest) in
-    ap (groups_in q) (fields_at-cut 58 text ∙ ap (fields_by 58 text) (cut_after_digits 16 58 (hexadecimal g) rest (omega arith) (hexadecimal-is g all.0).0.1))
-    ∙ (groups_in-cons q (hexadecimal g) (fields_at 58 rest) (some_field 58 rest)
-    ∙ rw (group_of-hexadecimal g all.0) (ap (option_map (λ gs. g ∷ gs)) (groups_in-joined q h groups all.1)))
+    ap (groups_in q) (by 58 text ∙ ap (fields_by 58 text) (cut_after_digits 16 58 (hexadecimal g) rest (omega arith) (hexadecimal-is g all.0).0.1))
+    ∙ (groups_in-cons q (hexadecimal g) (fields_at 58 rest) (some 58 rest)
+    ∙ rw (group_of-hexadecimal g all.0) (ap (option_map (λ gs. g ∷ gs)) (groups_in-joined by some q h groups all.1)))
 
 -- the number of the groups of an address
 shifted_back : (n a : ℕ) → n / (a * 65536) * 65536 + n / a % 65536 ≡ n / a
 shifted_back n a = let twice = div-div-eq-div-mul n a 65536 in omega (arith, twice)
 
-number_of-groups_at : (n : ℕ) → n < 2 ^ 128 → number_of_groups (group_at n 0 ∷ group_at n 1 ∷ group_at n 2 ∷ group_at n 3 ∷ group_at n 4 ∷ group_at n 5 ∷ group_at n 6 ∷ group_at n 7 ∷ []) ≡ n
+number_of-groups_at : (n : ℕ) → n < 2 ^ 128 → number_of_groups
+    (group_at n 0 ∷ group_at n 1 ∷ group_at n 2 ∷ group_at n 3 ∷ group_at n 4 ∷ group_at n 5 ∷ group_at n 6 ∷ group_at n 7 ∷ []) ≡ n
 number_of-groups_at n small =
     let top : 0 + group_at n 0 ≡ n / 2 ^ 112 = omega arith in
     let one : n / 2 ^ 112 * 65536 + group_at n 1 ≡ n / 2 ^ 96 = shifted_back n (2 ^ 96) in
@@ -225,19 +253,28 @@ quad_of-none : (text : List ℕ) → cut 46 text ≡ None → quad_of text ≡ N
 unfolding quad_of
 quad_of-none text none = rw none refl
 
-v6_of-written : (n : ℕ) → n < 2 ^ 128 → v6_of (joined (eight_groups n)) ≡ Some n
+v6_of-written : ByCuts → SomeField → (n : ℕ) → n < 2 ^ 128 → v6_of (joined (eight_groups n)) ≡ Some n
 unfolding v6_of eight_groups
-v6_of-written n small =
+v6_of-written by fields n small =
     let text = joined (eight_groups n) in
-    let some : 0 < length text = omega (arith, length-append (hexadecimal (group_at n 0)) (58 ∷ joined (group_at n 1 ∷ group_at n 2 ∷ group_at n 3 ∷ group_at n 4 ∷ group_at n 5 ∷ group_at n 6 ∷ group_at n 7 ∷ []))) in
-    rw (no_two (eight_groups n) (are_groups n), groups_of-some true text some, groups_in-joined true (group_at n 0) (group_at n 1 ∷ group_at n 2 ∷ group_at n 3 ∷ group_at n 4 ∷ group_at n 5 ∷ group_at n 6 ∷ group_at n 7 ∷ []) (are_groups n))
+    let some : 0 < length text = omega (
+      arith,
+      length-append (hexadecimal (group_at n 0))
+          (58 ∷ joined (group_at n 1 ∷ group_at n 2 ∷ group_at n 3 ∷ group_at n 4 ∷ group_at n 5 ∷ group_at n 6 ∷ group_at n 7 ∷ [])),
+    ) in
+    rw (
+      no_two (eight_groups n) (are_groups n),
+      groups_of-some true text some,
+      groups_in-joined by fields true (group_at n 0)
+          (group_at n 1 ∷ group_at n 2 ∷ group_at n 3 ∷ group_at n 4 ∷ group_at n 5 ∷ group_at n 6 ∷ group_at n 7 ∷ []) (are_groups n),
+    )
     (ap (λ (m : ℕ). Some m) (number_of-groups_at n small))
 
-peer_of-v6 : (n : ℕ) → n < 2 ^ 128 → (n / 2 ^ 32 ≡ 0xffff → ⊥) → peer_of (written (V6 n)) ≡ Some (V6 n)
+peer_of-v6 : ByCuts → SomeField → (n : ℕ) → n < 2 ^ 128 → (n / 2 ^ 32 ≡ 0xffff → ⊥) → peer_of (written (V6 n)) ≡ Some (V6 n)
 unfolding address_of eight_groups
-peer_of-v6 n small plain =
-    rw (quad_of-none (joined (eight_groups n)) (no_dot (eight_groups n) (are_groups n)), v6_of-written n small, ne_eqb (n / 2 ^ 32) 0xffff plain) refl
+peer_of-v6 by some n small plain =
+    rw (quad_of-none (joined (eight_groups n)) (no_dot (eight_groups n) (are_groups n)), v6_of-written by some n small, ne_eqb (n / 2 ^ 32) 0xffff plain) refl
 
-pub peer_of-written : (p : Peer) → IsPeer p → peer_of (written p) ≡ Some p
-peer_of-written (V4 n) fits = peer_of-v4 n fits
-peer_of-written (V6 n) fits = peer_of-v6 n fits.0 fits.1
+pub peer_of-written : ByCuts → SomeField → (p : Address) → IsPeer p → peer_of (written p) ≡ Some p
+peer_of-written by some (V4 n) fits = peer_of-v4 n fits
+peer_of-written by some (V6 n) fits = peer_of-v6 by some n fits.0 fits.1

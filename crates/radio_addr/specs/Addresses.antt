@@ -2,9 +2,9 @@
 use Rattle.std.specs.Prelude.{ℕ, Bool, true, false, ◌+◌, ◌-◌, ◌*◌, ◌/◌, ◌%◌, ◌^◌, ◌==◌, nat_lt, List, [], ◌∷◌, ◌++◌, length, replicate, fold, Option, None, Some, if◌then◌else◌}
 use Rattle.std.specs.Option.{option_map, option_and_then, option_or}
 use Rattle.radio_addr.specs.Numbers.{octet_of, group_of}
-use Rattle.radio_addr.specs.Cuts.{cut, fields_at, cut_at_two}
-use Rattle.radio_addr.specs.declared.peer.Peer.{Peer}
-use Rattle.radio_addr.specs.declared.peer.Peer.TheVariants.{V4, V6}
+use Rattle.radio_texts.specs.Cuts.{cut, fields_at, cut_at_two}
+use Rattle.radio_addr.specs.declared.address.Address.{Address}
+use Rattle.radio_addr.specs.declared.address.Address.TheVariants.{V4, V6}
 
 -- the number of four octets
 abbrev pub quad_number : ℕ → ℕ → ℕ → ℕ → ℕ
@@ -65,14 +65,19 @@ v6_of text = v6_from text (cut_at_two 58 text)
     v6_from text (Some parts) = shortened_of parts
 
 -- an address as it is written
-unfoldable pub address_of : List ℕ → Option Peer
+unfoldable pub address_of : List ℕ → Option Address
 address_of text = option_or (option_map (λ n. V4 n) (quad_of text)) (option_map (λ n. V6 n) (v6_of text))
 
--- an IPv4-mapped IPv6 address (section 2.5.5.2), in `::ffff:0:0/96`, as IPv4
-abbrev pub unmapped : Peer → Peer
+-- an address in `::ffff:0:0/96`: an IPv4 address written as an IPv6 one (section 2.5.5.2)
+abbrev pub is_mapped : Address → Bool
+is_mapped (V4 n) = false
+is_mapped (V6 n) = n / 2 ^ 32 == 0xffff
+
+-- the address of a peer: such an address is the IPv4 address
+abbrev pub unmapped : Address → Address
 unmapped (V4 n) = V4 n
 unmapped (V6 n) = if n / 2 ^ 32 == 0xffff then V4 (n % 2 ^ 32) else V6 n
 
 -- the peer of a text
-abbrev pub peer_of : List ℕ → Option Peer
+abbrev pub peer_of : List ℕ → Option Address
 peer_of text = option_map unmapped (address_of text)

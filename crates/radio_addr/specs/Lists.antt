@@ -3,11 +3,12 @@ use Rattle.std.specs.Prelude.{◌≡◌, ℕ, Bool, false, ◌+◌, ◌-◌, ◌
 use Rattle.std.specs.Fmt.{decimal}
 use Rattle.std.specs.Option.{option_map, option_and_then}
 use Rattle.std.specs.List.{prefix_len, suffix_len, list_any}
-use Rattle.radio_addr.specs.Numbers.{number_of}
-use Rattle.radio_addr.specs.Cuts.{cut, fields_at}
+use Rattle.radio_texts.specs.Cuts.{cut, fields_at}
+use Rattle.radio_texts.specs.Lines.{without_return}
+use Rattle.radio_texts.specs.Numbers.{number_of}
 use Rattle.radio_addr.specs.Addresses.{address_of}
-use Rattle.radio_addr.specs.declared.peer.Peer.{Peer}
-use Rattle.radio_addr.specs.declared.peer.Peer.TheVariants.{V4, V6}
+use Rattle.radio_addr.specs.declared.address.Address.{Address}
+use Rattle.radio_addr.specs.declared.address.Address.TheVariants.{V4, V6}
 use Rattle.radio_addr.specs.declared.lines.AddressRange.{AddressRange}
 use Rattle.radio_addr.specs.declared.lists.ListFault.{ListFault}
 use Rattle.radio_addr.specs.declared.lists.ListFault.TheVariants.{LineFault, OutOfMemory}
@@ -18,29 +19,25 @@ use Rattle.radio_addr.specs.declared.lines.Line.TheVariants.{Passed, Listed, Bad
 abbrev pub is_blank : ℕ → Bool
 is_blank b = b == 32 || b == 9
 
--- a line without one carriage return at its end
-unfoldable pub without_return : List ℕ → List ℕ
-without_return line = if slice_index line (length line - 1) == 13 then take (length line - 1) line else line
-
 -- a text without the blanks at its ends
 unfoldable pub without_blanks : List ℕ → List ℕ
 without_blanks text = let rest = drop (prefix_len is_blank text) text in take (length rest - suffix_len is_blank rest) rest
 
 -- how many bits an address has
-abbrev pub width_of : Peer → ℕ
+abbrev pub width_of : Address → ℕ
 width_of (V4 n) = 32
 width_of (V6 n) = 128
 
 -- an address and how many of its bits count
-abbrev pub range_from : Peer → ℕ → AddressRange
+abbrev pub range_from : Address → ℕ → AddressRange
 range_from address bits = record { address = address; bits = bits }
 
 -- an address alone stands for itself: all its bits count
-abbrev pub whole_range : Peer → AddressRange
+abbrev pub whole_range : Address → AddressRange
 whole_range address = range_from address (width_of address)
 
 -- an address with the number of bits that count
-abbrev pub part_range : Peer → List ℕ → Option AddressRange
+abbrev pub part_range : Address → List ℕ → Option AddressRange
 part_range address text = option_map (λ n. range_from address n) (number_of 10 (width_of address) text)
 
 -- an address, or an address, a slash and a number
@@ -83,17 +80,17 @@ abbrev pub list_of : List ℕ → Result (List AddressRange) ℕ
 list_of bytes = lines_after 0 (fields_at 10 bytes)
 
 -- whether a peer of the same family agrees with the range's address in the bits that count
-abbrev pub is_in : AddressRange → Peer → Bool
+abbrev pub is_in : AddressRange → Address → Bool
 is_in range peer = agrees range.bits range.address peer
   where
-    agrees : ℕ → Peer → Peer → Bool
+    agrees : ℕ → Address → Address → Bool
     agrees bits (V4 a) (V4 n) = a / 2 ^ (32 - bits) == n / 2 ^ (32 - bits)
     agrees bits (V6 a) (V6 n) = a / 2 ^ (128 - bits) == n / 2 ^ (128 - bits)
     agrees bits (V4 a) (V6 n) = false
     agrees bits (V6 a) (V4 n) = false
 
 -- whether some range lists the peer
-abbrev pub is_listed : List AddressRange → Peer → Bool
+abbrev pub is_listed : List AddressRange → Address → Bool
 is_listed ranges peer = list_any (λ range. is_in range peer) ranges
 
 -- what a fault of a list tells

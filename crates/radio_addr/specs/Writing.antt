@@ -1,8 +1,8 @@
 -- How a peer is written.
 use Rattle.std.specs.Prelude.{◌≢◌, ℕ, false, ◌-◌, ◌*◌, ◌/◌, ◌%◌, ◌^◌, ◌<◌, List, ◌∷◌, ◌++◌}
 use Rattle.std.specs.Fmt.{decimal, digits}
-use Rattle.radio_addr.specs.declared.peer.Peer.{Peer}
-use Rattle.radio_addr.specs.declared.peer.Peer.TheVariants.{V4, V6}
+use Rattle.radio_addr.specs.declared.address.Address.{Address}
+use Rattle.radio_addr.specs.declared.address.Address.TheVariants.{V4, V6}
 
 -- the k-th 16-bit group of an IPv6 address, from 0
 abbrev pub group_at : ℕ → ℕ → ℕ
@@ -13,7 +13,7 @@ abbrev pub hexadecimal : ℕ → List ℕ
 hexadecimal group = digits 16 false group
 
 -- a dotted quad, or eight groups with colons between them
-abbrev pub written : Peer → List ℕ
+abbrev pub written : Address → List ℕ
 written (V4 n) =
     decimal (n / 2 ^ 24) ++ (46 ∷ (decimal (n / 2 ^ 16 % 256) ++ (46 ∷ (decimal (n / 2 ^ 8 % 256) ++ (46 ∷ decimal (n % 256))))))
 written (V6 n) =
@@ -22,6 +22,6 @@ written (V6 n) =
     (hexadecimal (group_at n 6) ++ (58 ∷ hexadecimal (group_at n 7))))))))))))))
 
 -- a peer as one is read: its number fits, and it is no IPv4-mapped IPv6 address
-abbrev pub IsPeer : Peer → Type 0
+abbrev pub IsPeer : Address → Type 0
 IsPeer (V4 n) = n < 2 ^ 32
 IsPeer (V6 n) = (n < 2 ^ 128) × (n / 2 ^ 32 ≢ 0xffff)

@@ -4,9 +4,10 @@ ghost use Rattle.std.specs.Option.{option_map, option_and_then};
 ghost use Rattle.radio_addr.specs.Addresses.{groups_of, last_groups, whole_address, shortened_of, v6_of};
 ghost use Rattle.radio_addr.specs.Counts.{count_with, count_all, count_between};
 
-use crate::cuts::{cut, cut_at_two};
 use crate::numbers::read_group;
 use crate::quad::read_quad;
+use radio_texts::laws::fields;
+use radio_texts::{cut, cut_at_two};
 
 const MOST: u32 = 8;
 
@@ -66,12 +67,13 @@ fn read_groups(text: &[u8], with_quad: bool) -> Option<Groups>
     ensures { let groups_read = groups_of with_quad text.now in
         option_map (λ g. (g.count, g.number)) result ≡ option_and_then (count_all (0, 0)) groups_read }
 {
+    fields();
     if text.is_empty() {
         return Some(Groups::none());
     }
     let mut groups = Groups::none();
     let mut rest = text;
-    'fields: while let Some((field, later)) = cut(rest, b':') {
+    'groups: while let Some((field, later)) = cut(rest, b':') {
         let group = read_group(field)?;
         groups = groups.with(group)?;
         rest = later;

@@ -1,17 +1,16 @@
 //! The lines of address lists.
 ghost use Rattle.std.specs.Prelude.{◌≡◌, ◌≤◌, ◌+◌, length};
 ghost use Rattle.std.specs.List.{prefix_len, suffix_len};
-ghost use Rattle.radio_addr.specs.Lists.{is_blank, without_return, without_blanks, width_of, range_of, line_of};
+ghost use Rattle.radio_addr.specs.Lists.{is_blank, without_blanks, width_of, range_of, line_of};
 
-use crate::cuts::cut;
-use crate::numbers::read_number;
-use crate::peer::{Peer, read_address};
+use crate::address::{Address, read_address};
+use radio_texts::{cut, read_number, without_return};
 
 /// The addresses that agree with `address` in its first `bits` bits.
 #[derive(Debug, Clone, Copy, PartialEq, Eq)]
 pub struct AddressRange {
     /// The address that others are compared with.
-    pub address: Peer,
+    pub address: Address,
     /// How many bits count, to 32 or 128.
     pub bits: u32,
 }
@@ -32,7 +31,7 @@ pub enum Line {
 pub fn read_line(line: &[u8]) -> Line
     ensures { result ≡ line_of line.now }
 {
-    let text = trimmed(cut_return(line));
+    let text = trimmed(without_return(line));
     if text.is_empty() || text[0] == b'#' {
         return Line::Passed;
     }
@@ -61,27 +60,13 @@ fn read_range(text: &[u8]) -> Option<AddressRange>
 }
 
 /// How many bits an address has.
-fn width(address: Peer) -> u32
+fn width(address: Address) -> u32
     ensures { result ≡ width_of address }
 {
     match address {
-        Peer::V4(_) => 32,
-        Peer::V6(_) => 128,
+        Address::V4(_) => 32,
+        Address::V6(_) => 128,
     }
-}
-
-#[tactic(auto, unfolding(crate::specs::Lists::without_return))]
-fn cut_return(line: &[u8]) -> &[u8]
-    ensures { result.now ≡ without_return line.now }
-{
-    if line.is_empty() {
-        return line;
-    }
-    let last = line.len() - 1;
-    if line[last] == b'\r' {
-        return &line[..last];
-    }
-    line
 }
 
 #[tactic(auto, unfolding(crate::specs::Lists::without_blanks))]

@@ -1,11 +1,11 @@
 //! Lists of addresses.
-ghost use Rattle.std.specs.Prelude.{◌≡◌, ◌+◌, ◌/◌, ◌-◌, ◌^◌, ◌<◌, ◌≤◌, ℕ, length, Ok, OnOk, IfOk, IfErr, true};
-ghost use Rattle.radio_addr.specs.Lists.{is_in, range_from, AddsLine, FaultsLine};
-ghost use Rattle.radio_addr.specs.declared.peer.Peer.TheVariants.{V4, V6};
+ghost use Rattle.std.specs.Prelude.{◌≡◌, ◌+◌, ◌/◌, ◌-◌, ◌^◌, ◌<◌, ◌≤◌, length, Ok, OnOk, IfOk, IfErr};
+ghost use Rattle.radio_addr.specs.Lists.{is_in, AddsLine, FaultsLine};
 
-use crate::cuts::cut;
+use crate::address::Address;
 use crate::lines::{AddressRange, Line, read_line};
 use crate::peer::Peer;
+use radio_texts::cut;
 use std::alloc::Global;
 use std::error::Error;
 use std::fmt;
@@ -83,15 +83,6 @@ impl AddressList {
     }
 }
 
-/// A law: a line with `/0` lists its whole family.
-///
-/// The function does nothing; a caller that needs the law in a proof calls it, and cites its clauses.
-pub fn whole_families()
-    ensures v4 { (a n : ℕ) → a < 2 ^ 32 → n < 2 ^ 32 → is_in (range_from (V4 a) 0) (V4 n) ≡ true }
-    ensures v6 { (a n : ℕ)
-        → a < 2 ^ 128 → n < 2 ^ 128 → is_in (range_from (V6 a) 0) (V6 n) ≡ true }
-{}
-
 /// Adds what a line lists; so many lines stand before it.
 fn add_line(ranges: &mut Vec<AddressRange>, line: &[u8], passed: usize) -> Result<(), ListFault>
     requires { passed + length line.now < 2 ^ 64 }
@@ -112,12 +103,12 @@ fn add_line(ranges: &mut Vec<AddressRange>, line: &[u8], passed: usize) -> Resul
 fn is_in(range: &AddressRange, peer: Peer) -> bool
     ensures { result ≡ is_in range.now peer }
 {
-    match (range.address, peer) {
-        (Peer::V4(address), Peer::V4(n)) => {
+    match (range.address, peer.address()) {
+        (Address::V4(address), Address::V4(n)) => {
             front_bits(u128::from(address), 32, range.bits)
                 == front_bits(u128::from(n), 32, range.bits)
         }
-        (Peer::V6(address), Peer::V6(n)) => {
+        (Address::V6(address), Address::V6(n)) => {
             front_bits(address, 128, range.bits) == front_bits(n, 128, range.bits)
         }
         _ => false,

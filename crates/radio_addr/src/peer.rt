@@ -1,26 +1,73 @@
-//! Addresses of peers.
+//! Peers: the other ends of connections.
 ghost use Rattle.std.specs.Prelude.{◌≡◌, ◌<◌, ◌/◌, ◌%◌, ◌*◌, ◌^◌, Some};
-ghost use Rattle.radio_addr.specs.Addresses.{address_of, peer_of};
+ghost use Rattle.radio_addr.specs.Addresses.{peer_of, unmapped};
 ghost use Rattle.radio_addr.specs.Writing.{written, IsPeer};
-ghost use Rattle.radio_addr.specs.declared.peer.Peer.{Peer as PeerOf};
+ghost use Rattle.radio_addr.specs.declared.address.Address.{Address as AddressOf};
 
-use crate::groups::read_v6;
-use crate::quad::read_quad;
+use crate::address::{Address, read_address};
+use radio_texts::laws::fields;
 use std::fmt;
+use std::marker::Model;
 
 /// How many IPv4 addresses there are.
 const V4_ADDRESSES: u128 = 0x1_0000_0000;
 
-/// What stands before an IPv4 address that is written as IPv6, in `::ffff:0:0/96`.
+/// What stands before an IPv4 address that is written as IPv6, in `::ffff:0:0/96` (RFC 4291, section 2.5.5.2).
 const MAPPED: u128 = 0xffff;
 
 /// The address of the other end of a connection.
+///
+/// A peer is made by [`read_peer`], [`Peer::of_v4`] and [`Peer::of_v6`] alone, so an IPv4 peer is always known as one:
+/// no peer is an IPv6 address in `::ffff:0:0/96`. In contracts a peer is its [`Address`].
 #[derive(Debug, Clone, Copy, PartialEq, Eq)]
-pub enum Peer {
-    /// An IPv4 address.
-    V4(u32),
-    /// An IPv6 address.
-    V6(u128),
+pub struct Peer {
+    address: Address,
+}
+
+impl Model for Peer {
+    ghost use Rattle.std.specs.Prelude.{◌≡◌, false};
+    ghost use Rattle.radio_addr.specs.declared.address.Address.{Address};
+
+    ghost Value = { Address };
+
+    ghost use Rattle.radio_addr.specs.Addresses.{is_mapped};
+
+    ghost view = { λ p. p.address };
+
+    ghost invariant = { λ p. is_mapped p.address ≡ false };
+
+    ghost inverse = { λ a. record { address = a } };
+}
+
+impl Peer {
+    /// The peer at an IPv4 address.
+    pub fn of_v4(n: u32) -> Peer
+        ensures { result ≡ Address.V4 n }
+    {
+        Peer {
+            address: Address::V4(n),
+        }
+    }
+
+    /// The peer at an IPv6 address, which is an IPv4 peer in `::ffff:0:0/96`.
+    pub fn of_v6(n: u128) -> Peer
+        ensures { result ≡ unmapped (Address.V6 n) }
+    {
+        if n / V4_ADDRESSES == MAPPED {
+            return Peer::of_v4((n % V4_ADDRESSES) as u32);
+        }
+        Peer {
+            address: Address::V6(n),
+        }
+    }
+
+    /// The peer's address.
+    pub fn address(self) -> Address
+        ensures value { result ≡ self }
+        ensures peer { IsPeer result }
+    {
+        self.address
+    }
 }
 
 /// The peer of a text, or `None` exactly where the text is no address (RFC 4291, section 2.2).
@@ -32,21 +79,9 @@ pub fn read_peer(text: &[u8]) -> Option<Peer>
     ensures { result ≡ peer_of text.now }
 {
     match read_address(text)? {
-        Peer::V6(n) if n / V4_ADDRESSES == MAPPED => Some(Peer::V4((n % V4_ADDRESSES) as u32)),
-        address => Some(address),
+        Address::V4(n) => Some(Peer::of_v4(n)),
+        Address::V6(n) => Some(Peer::of_v6(n)),
     }
-}
-
-/// An address as it is written: an IPv6 address stays one.
-#[tactic(auto, unfolding(crate::specs::Addresses::address_of))]
-pub fn read_address(text: &[u8]) -> Option<Peer>
-    ensures { result ≡ address_of text.now }
-{
-    if let Some(n) = read_quad(text) {
-        return Some(Peer::V4(n));
-    }
-    let n = read_v6(text)?;
-    Some(Peer::V6(n))
 }
 
 /// Written as a dotted quad, or as eight groups in lower hexadecimal with no needless zeros, and never shortened.
@@ -57,12 +92,12 @@ impl fmt::Display for Peer {
     ghost output = { λ p. Some (written p) };
 
     fn fmt<W: fmt::Write>(&self, f: &mut fmt::Formatter<W>) -> fmt::Result {
-        match *self {
-            Peer::V4(n) => {
+        match self.address {
+            Address::V4(n) => {
                 let (a, b, c, d) = (n / 0x100_0000, n / 0x1_0000 % 256, n / 256 % 256, n % 256);
                 write!(f, "{a}.{b}.{c}.{d}")
             }
-            Peer::V6(n) => {
+            Address::V6(n) => {
                 let (a, b, c, d) = (group(n, 7), group(n, 6), group(n, 5), group(n, 4));
                 let (e, g, h, i) = (group(n, 3), group(n, 2), group(n, 1), group(n, 0));
                 write!(f, "{a:x}:{b:x}:{c:x}:{d:x}:{e:x}:{g:x}:{h:x}:{i:x}")
@@ -83,5 +118,7 @@ fn group(n: u128, place: u32) -> u32
 ///
 /// The function does nothing; a caller that needs the law in a proof calls it, and cites its clause.
 pub fn written_peers()
-    ensures { (p : PeerOf) → IsPeer p → peer_of (written p) ≡ Some p }
-{}
+    ensures { (p : AddressOf) → IsPeer p → peer_of (written p) ≡ Some p }
+{
+    fields();
+}

@@ -2,8 +2,8 @@
 ghost use Rattle.std.specs.Prelude.{◌≡◌};
 ghost use Rattle.radio_addr.specs.Addresses.{quad_of};
 
-use crate::cuts::cut;
 use crate::numbers::read_octet;
+use radio_texts::cut;
 
 /// Four octets between three dots.
 #[tactic(auto, unfolding(crate::specs::Addresses::quad_of))]

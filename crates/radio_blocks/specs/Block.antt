@@ -1,6 +1,6 @@
+-- What makes a block.
 use Rattle.std.specs.Prelude.{ℕ, ◌≤◌, List, length}
-use Rattle.radio_blocks.specs.declared.block.TheConstants.{MAX_BLOCK}
 
 -- these bytes make a block: at least one, and at most 4096
 abbrev pub IsBlock : List ℕ → Type 0
-IsBlock bytes = (1 ≤ length bytes) × (length bytes ≤ MAX_BLOCK)
+IsBlock bytes = (1 ≤ length bytes) × (length bytes ≤ 4096)

@@ -1,8 +1,10 @@
+//! Blocks of data.
 ghost use Rattle.std.specs.Prelude.{◌≡◌, ℕ, ◌≤◌, ◌↔◌, length, IsSome, IfSome, IfOk, List};
 ghost use Rattle.radio_blocks.specs.Block.{IsBlock};
 
 use crate::OutOfMemory;
 use bytes::Bytes;
+use std::alloc::Global;
 use std::marker::Model;
 
 /// The largest number of bytes in one block.
@@ -37,6 +39,28 @@ impl Block {
         }
     }
 
+    /// The block of these bytes. They are copied only where they fill less than half of their memory, so a block keeps
+    /// at most twice its bytes. `Err` where memory was refused.
+    pub fn of_vec(alloc: Global, bytes: Vec<u8>) -> Result<Block, OutOfMemory>
+        requires { IsBlock bytes.items }
+        ensures { IfOk result (λ block. block ≡ bytes.items) }
+    {
+        let bytes = with_little_room(alloc, bytes)?;
+        Ok(Block {
+            bytes: Bytes::from_vec(bytes)?,
+        })
+    }
+
+    /// The block of these bytes, which are copied. `Err` where memory was refused.
+    pub fn copied(alloc: Global, bytes: &[u8]) -> Result<Block, OutOfMemory>
+        requires { IsBlock bytes.now }
+        ensures { IfOk result (λ block. block ≡ bytes.now) }
+    {
+        Ok(Block {
+            bytes: Bytes::copy_from_slice(alloc, bytes)?,
+        })
+    }
+
     /// Its number of bytes, 1 to 4096.
     pub fn len(&self) -> usize
         ensures value { result ≡ length self.now }
@@ -60,5 +84,35 @@ impl Block {
         Ok(Block {
             bytes: self.bytes.clone()?,
         })
+    }
+}
+
+/// The same bytes, in memory that they fill to a half at least.
+fn with_little_room(alloc: Global, bytes: Vec<u8>) -> Result<Vec<u8>, OutOfMemory>
+    ensures { IfOk result (λ v. v.items ≡ bytes.items) }
+{
+    if bytes.capacity() <= bytes.len().saturating_mul(2) {
+        return Ok(bytes);
+    }
+    Vec::from_slice(alloc, bytes.as_slice())
+}
+
+#[cfg(test)]
+mod tests {
+    use super::*;
+
+    /// The room of bytes in memory for more, as a block keeps it.
+    fn room_of(alloc: Global, bytes: &[u8], room: usize) -> Result<usize, OutOfMemory> {
+        let mut loose = Vec::with_capacity(alloc, room)?;
+        loose.extend_from_slice(bytes)?;
+        Ok(with_little_room(alloc, loose)?.capacity())
+    }
+
+    // no contract of std says how much memory a copy takes at most
+    #[test]
+    fn little_room(rt: HostRuntime) {
+        assert!(rt; room_of(rt.alloc(), b"a", 4096) == Ok(1));
+        assert!(rt; room_of(rt.alloc(), b"abcd", 8) == Ok(8));
+        assert!(rt; room_of(rt.alloc(), b"abcd", 9) == Ok(4));
     }
 }

@@ -1,70 +1,173 @@
-use Rattle.std.proofs.Common.{◌≡◌, ℕ, Option, Some, None, List, refl}
-use Rattle.radio_policy.specs.Table.{arrive_rows, source_rows, push_rows, listen_rows}
-use Rattle.radio_policy.specs.Verdicts.{verdict_in}
+-- the laws of access and of admission
+use Rattle.std.proofs.Common.{◌≡◌, ◌⊎◌, inl, inr, Bool, true, false, ℕ, ◌-◌, ◌<◌, ◌≤◌, ◌==◌, Option, Some, None, List, [], ◌∷◌, refl, ap, sym, subst, ◌∙◌, arith}
+use Rattle.std.specs.Prelude.{find, nat_le, unwrap_or}
+use Rattle.std.proofs.lemmas.Bool.Decides.{nat_tests}
+use Rattle.radio_settings.specs.declared.field.Shown.{Shown}
+use Rattle.radio_tables.specs.Lists.{Each, Has}
+use Rattle.radio_tables.specs.FindLaws.{find_here, find_later}
 use Rattle.radio_core.specs.declared.event.Event.{Event}
-use Rattle.radio_core.specs.declared.event.Event.TheVariants.{Arrive, Source, Push, SourceEnd, Listen, Draw, Leave}
-use Rattle.radio_core.specs.declared.event.Reply.TheVariants.{Drawn}
-use Rattle.radio_core.specs.declared.live.Session.{Session}
-use Rattle.radio_core.specs.declared.peer.Peer.{Peer}
+use Rattle.radio_core.specs.declared.event.ListenRequest.{ListenRequest}
+use Rattle.radio_core.specs.declared.outcome.Outcome.{Outcome}
+use Rattle.radio_core.specs.declared.reply.Reply.TheVariants.{Drawn, Seated}
 use Rattle.radio_core.specs.declared.seats.Seat.{Seat}
-use Rattle.radio_core.specs.declared.standing.Standing.TheVariants.{Sits}
-use Rattle.radio_core.specs.Table.{has_id, seat_of}
-use Rattle.radio_core.specs.World.{World, standing_of}
-use Rattle.radio_core.specs.Facts.{asker_of, arrive_facts, source_facts, push_facts, listen_facts}
-use Rattle.radio_core.specs.Cases.{Outcome, answered}
-use Rattle.radio_core.specs.Live.{session_of}
-use Rattle.radio_core.specs.Arrive.{comes_in}
-use Rattle.radio_core.specs.Source.{begins}
-use Rattle.radio_core.specs.Push.{takes_in}
-use Rattle.radio_core.specs.Listen.{sits_down}
-use Rattle.radio_core.specs.Draw.{hands_out, hands_out_at}
-use Rattle.radio_core.specs.Step.{outcome}
+use Rattle.radio_core.specs.World.{World}
 use Rattle.radio_core.specs.Access.{IsHis, AccessIsKept}
-use Rattle.radio_core.specs.Open.{IsOpenTo}
-use Rattle.radio_core.specs.Sound.{IsSound}
-use Rattle.radio_core.proofs.CaseLemmas.{verdict_cases, undecided_cases, feeding_cases, sitting_cases, leaving_cases}
-use Rattle.radio_core.proofs.FindLemmas.{found_has}
+use Rattle.radio_core.specs.Admission.{IsBlockStart, IsEarliestStart, IsSeated, BeginsAtABlock}
+use Rattle.radio_core.specs.Changes.{changed}
+use Rattle.radio_core.specs.Listen.{first_seat, burst_of}
+use Rattle.radio_core.specs.Seats.{seat_of, seat_in}
+use Rattle.radio_core.specs.Sessions.{Session, session_of}
+use Rattle.radio_core.specs.Sound.{AreRising, IsSound}
+use Rattle.radio_core.specs.Step.{outcome, reply_to, world_after}
+use Rattle.radio_core.specs.Stream.{WholeStream, end_of, burst_start, data_at}
+use Rattle.radio_core.specs.Ways.{Way, Strays, IsTold, IsDenied, IsRefused, ComesIn, Begins, TakesIn, SitsDown, HandsOut, Ends, FallsSilent, Goes}
+use Rattle.radio_core.proofs.Lookups.{found_named, has_sat_down}
+use Rattle.radio_core.proofs.Soundness.{burst_within}
+use Rattle.radio_core.proofs.Ways.{way_of}
 
--- the outcome hands out no data
-abbrev DrawsNothing : List ℕ → Outcome → Type 0
-DrawsNothing bytes o = o.reply ≡ Drawn bytes → ⊥
+module _ (w : World) (s : IsSound w) where
+  his_by : (event : Event) (o : Outcome) → Way w event o → (bytes : List ℕ) (title : Option (List ℕ)) → o.reply ≡ Drawn bytes title → IsHis w event bytes title
+  his_by event o (HandsOut id room seat session sits has live) bytes title d =
+      let old = s.seated id seat has in
+      record {
+        id = id;
+        room = room;
+        asked = refl;
+        seat = seat;
+        session = session;
+        sits = sits;
+        has_the_seat = has;
+        is_live = live;
+        is_data = sym (drawn_bytes d);
+        is_title = sym (drawn_title d);
+        is_open = (old.session, old.is_live, old.his_session);
+      } where
+        drawn_bytes : {a b : List ℕ} {t u : Option (List ℕ)} → Drawn a t ≡ Drawn b u → a ≡ b
+        drawn_bytes e = cc
 
-sits_down-draws_nothing : (w : World) (id : ℕ) (peer : Peer) (found : Option Session) (bytes : List ℕ) → DrawsNothing bytes (sits_down w id peer found)
-sits_down-draws_nothing w id peer None bytes d = cc
-sits_down-draws_nothing w id peer (Some session) bytes d = cc
+        drawn_title : {a b : List ℕ} {t u : Option (List ℕ)} → Drawn a t ≡ Drawn b u → t ≡ u
+        drawn_title e = cc
+  his_by event o (Strays _) bytes title d = cc
+  his_by event o (IsTold _ id by his told) bytes title d = cc
+  his_by event o (IsDenied _ by v not) bytes title d = cc
+  his_by event o (IsRefused _ id by v his undecided) bytes title d = cc
+  his_by event o (ComesIn peer) bytes title d = cc
+  his_by event o (Begins asked undecided none) bytes title d = cc
+  his_by event o (TakesIn id mount block feeding) bytes title d = cc
+  his_by event o (SitsDown asked peer session undecided live) bytes title d = cc
+  his_by event o (Ends id mount feeding) bytes title d = cc
+  his_by event o (FallsSilent id mount feeding) bytes title d = cc
+  his_by event o (Goes id other) bytes title d = cc
 
--- what is handed out at a seat is that listener's to hear
-handed_from : (w : World) (id room : ℕ) (seat : Seat) (bytes : List ℕ) → standing_of w id ≡ Sits → seat_of w.table id ≡ Some seat → IsOpenTo w seat → (found : Option Session) → session_of w.live seat.mount ≡ found → (hands_out w seat room found).reply ≡ Drawn bytes → IsHis w id room bytes
-handed_from w id room seat bytes sits here may_hear None live d = cc
-handed_from w id room seat bytes sits here may_hear (Some session) live d =
-    record { seat = seat; session = session; sits = sits; has_the_seat = here; is_live = live; is_data = cc; is_open = may_hear }
+  pub access_holds : (event : Event) → AccessIsKept w event
+  unfolding reply_to
+  access_holds event = his_by event (outcome w event) (way_of w event)
 
-handed_at : (w : World) (id room : ℕ) (bytes : List ℕ) → IsSound w → standing_of w id ≡ Sits → (found : Option Seat) → seat_of w.table id ≡ found → (hands_out_at w room found).reply ≡ Drawn bytes → IsHis w id room bytes
-handed_at w id room bytes s sits None here d = cc
-handed_at w id room bytes s sits (Some seat) here d =
-    handed_from w id room seat bytes sits here (found_has (λ (x : Seat). has_id x.id id) (IsOpenTo w) w.table.seats seat s.seats_are_open here) (session_of w.live seat.mount) refl d
+-- the first of rising places that is near enough to the end is the least such place
+module _ (last burst : ℕ) where
+  abbrev first : ℕ → Bool
+  first start = nat_le (last - start) burst
 
--- in every sound state, access is kept
-pub access_holds : (w : World) (event : Event) → IsSound w → AccessIsKept w event
-unfolding outcome
-access_holds w (Arrive peer) s = λ bytes. verdict_cases (verdict_in (arrive_rows (arrive_facts w))) w (comes_in w peer) (DrawsNothing bytes) (λ rule e d. cc) (λ e d. cc)
-access_holds w (Source id path shown) s = λ bytes.
-    undecided_cases w id (DrawsNothing bytes) (λ d. cc) (λ rule e d. cc) _
-    (λ peer e. verdict_cases (verdict_in (source_rows (source_facts w path) (asker_of path))) (answered w id) (begins w id path shown) (DrawsNothing bytes) (λ rule v d. cc) (λ v d. cc))
-    (standing_of w id) refl
-access_holds w (Push id block) s = λ bytes.
-    feeding_cases w id (DrawsNothing bytes) (λ d. cc) (λ rule e d. cc) _
-    (λ mount e. verdict_cases (verdict_in (push_rows (push_facts w mount block))) w (takes_in w mount block) (DrawsNothing bytes) (λ rule v d. cc) (λ v d. cc))
-    (standing_of w id) refl
-access_holds w (SourceEnd id) s = λ bytes.
-    feeding_cases w id (DrawsNothing bytes) (λ d. cc) (λ rule e d. cc) _ (λ mount e d. cc) (standing_of w id) refl
-access_holds w (Listen id path) s = λ bytes.
-    undecided_cases w id (DrawsNothing bytes) (λ d. cc) (λ rule e d. cc) _
-    (λ peer e. verdict_cases (verdict_in (listen_rows (listen_facts w path) (asker_of path))) (answered w id) (sits_down w id peer (session_of w.live path)) (DrawsNothing bytes) (λ rule v d. cc) (λ v. sits_down-draws_nothing w id peer (session_of w.live path) bytes))
-    (standing_of w id) refl
-access_holds w (Draw id room) s = λ bytes.
-    sitting_cases w id (λ o. o.reply ≡ Drawn bytes → IsHis w id room bytes) (λ d. cc) (λ rule e d. cc) (hands_out_at w room (seat_of w.table id))
-    (λ sits. handed_at w id room bytes s sits (seat_of w.table id) refl)
-    (standing_of w id) refl
-access_holds w (Leave id) s = λ bytes.
-    leaving_cases w id (DrawsNothing bytes) (λ d. cc) (λ mount e d. cc) (λ d. cc) (standing_of w id) refl
+  record IsFirst (starts : List ℕ) (start : ℕ) : Type 0 where
+    pub there : Has start starts
+    pub near : last - start ≤ burst
+    pub least : (other : ℕ) → Has other starts → last - other ≤ burst → start ≤ other
+
+  from_each : (place : ℕ) (starts : List ℕ) (other : ℕ) → Each (λ next. place ≤ next) starts → Has other starts → place ≤ other
+  from_each place [] other all has = absurd has
+  from_each place (next ∷ starts) other all (inl same) = omega arith
+  from_each place (next ∷ starts) other all (inr has) = from_each place starts other all.1 has
+
+  first_at : (place : ℕ) (starts : List ℕ) (start : ℕ) (b : Bool) → first place ≡ b → AreRising (place ∷ starts) last → (find first starts ≡ Some start → IsFirst starts start) → find first (place ∷ starts) ≡ Some start → IsFirst (place ∷ starts) start
+  first_at place starts start true e rising later h =
+      let here : find first (place ∷ starts) ≡ Some place = find_here first place starts e in
+      let same : place ≡ start = cc in
+      subst (λ (x : ℕ). IsFirst (place ∷ starts) x) same (record {
+        there = inl refl;
+        near = grind (arith, nat_tests);
+        least = λ other has near. either other has;
+      }) where
+        either : (other : ℕ) → Has other (place ∷ starts) → place ≤ other
+        either other (inl same) = omega arith
+        either other (inr has) = from_each place starts other rising.1 has
+  first_at place starts start false e rising later h =
+      let rest = later (sym (find_later first place starts e) ∙ h) in
+      record { there = inr rest.there; near = rest.near; least = λ other has near. either other has near } where
+        far : burst < last - place
+        far = grind (arith, nat_tests)
+
+        rest_least : (other : ℕ) → Has other starts → last - other ≤ burst → start ≤ other
+        rest_least = (later (sym (find_later first place starts e) ∙ h)).least
+
+        either : (other : ℕ) → Has other (place ∷ starts) → last - other ≤ burst → start ≤ other
+        either other (inl same) near = absurd (omega (arith, far))
+        either other (inr has) near = rest_least other has near
+
+  first_found : (starts : List ℕ) (start : ℕ) → AreRising starts last → find first starts ≡ Some start → IsFirst starts start
+  first_found [] start rising h = cc
+  first_found (place ∷ starts) start rising h = first_at place starts start (first place) refl rising (first_found starts start rising.2) h
+
+  none_at : (place : ℕ) (starts : List ℕ) (b : Bool) → first place ≡ b → find first (place ∷ starts) ≡ None → (find first starts ≡ None) × (burst < last - place)
+  none_at place starts true e h = let here : find first (place ∷ starts) ≡ Some place = find_here first place starts e in cc
+  none_at place starts false e h = (sym (find_later first place starts e) ∙ h, grind (arith, nat_tests))
+
+  none_near : (starts : List ℕ) → find first starts ≡ None → (other : ℕ) → Has other starts → last - other ≤ burst → ⊥
+  none_near [] h other has near = has
+  none_near (place ∷ starts) h other (inl same) near = let far = (none_at place starts (first place) refl h).1 in omega arith
+  none_near (place ∷ starts) h other (inr has) near = none_near starts (none_at place starts (first place) refl h).0 other has near
+
+pub earliest_start : (session : Session) (burst : ℕ) → AreRising session.stream.starts (end_of session.stream) → IsEarliestStart session.stream burst (burst_start session.stream burst)
+earliest_start session burst rising = by_found (find (first last burst) session.stream.starts) refl where
+  last : ℕ
+  last = end_of session.stream
+
+  by_found : (found : Option ℕ) → find (first (end_of session.stream) burst) session.stream.starts ≡ found → IsEarliestStart session.stream burst (unwrap_or found (end_of session.stream))
+  by_found None e = record { at_a_block = inr refl; in_the_burst = omega arith; earliest = λ other at near. either other at near } where
+    either : (other : ℕ) → IsBlockStart session.stream other → end_of session.stream - other ≤ burst → end_of session.stream ≤ other
+    either other (inl has) near = absurd (none_near (end_of session.stream) burst session.stream.starts e other has near)
+    either other (inr same) near = omega arith
+  by_found (Some start) e =
+      let found = first_found (end_of session.stream) burst session.stream.starts start rising e in
+      record { at_a_block = inl found.there; in_the_burst = found.near; earliest = λ other at near. either other at near } where
+        low : start ≤ end_of session.stream
+        low = subst (λ (x : ℕ). x ≤ end_of session.stream) (ap (λ (o : Option ℕ). unwrap_or o (end_of session.stream)) e) (burst_within session burst rising)
+
+        either : (other : ℕ) → IsBlockStart session.stream other → end_of session.stream - other ≤ burst → start ≤ other
+        either other (inl has) near = (first_found (end_of session.stream) burst session.stream.starts start rising e).least other has near
+        either other (inr same) near = omega (arith, low)
+
+module _ (w : World) (s : IsSound w) where
+  seated_by : (event : Event) (o : Outcome) → Way w event o → (interval : Option ℕ) (shown : Shown) → o.reply ≡ Seated interval shown → ((id : ℕ) → seat_of (changed w o.change).seats id ≡ seat_of (world_after w event).seats id) → IsSeated w event shown
+  seated_by event o (SitsDown asked peer session undecided live) interval shown d after =
+      let name = found_named w.house.live asked.mount session live in
+      let itself : (asked.id == asked.id) ≡ true = grind (arith, nat_tests) in
+      let seat = first_seat w.house asked peer session in
+      record {
+        asked = asked;
+        listens = refl;
+        session = session;
+        is_live = live;
+        shows = sym (seated_shown d);
+        seat = seat;
+        has_the_seat = sym (after asked.id) ∙ ap seat_in (has_sat_down w.seats asked.id seat itself);
+        at_the_mount = name;
+        in_the_session = refl;
+        starts = subst (λ (m : List ℕ). IsEarliestStart session.stream (burst_of w.house m) (burst_start session.stream (burst_of w.house session.mount))) name (earliest_start session (burst_of w.house session.mount) (s.starts asked.mount session live));
+      } where
+        seated_shown : {a b : Option ℕ} {t u : Shown} → Seated a t ≡ Seated b u → t ≡ u
+        seated_shown e = cc
+  seated_by event o (Strays _) interval shown d after = cc
+  seated_by event o (IsTold _ id by his told) interval shown d after = cc
+  seated_by event o (IsDenied _ by v not) interval shown d after = cc
+  seated_by event o (IsRefused _ id by v his undecided) interval shown d after = cc
+  seated_by event o (ComesIn peer) interval shown d after = cc
+  seated_by event o (Begins asked undecided none) interval shown d after = cc
+  seated_by event o (TakesIn id mount block feeding) interval shown d after = cc
+  seated_by event o (HandsOut id room seat session sits has live) interval shown d after = cc
+  seated_by event o (Ends id mount feeding) interval shown d after = cc
+  seated_by event o (FallsSilent id mount feeding) interval shown d after = cc
+  seated_by event o (Goes id other) interval shown d after = cc
+
+  pub admission_holds : (event : Event) → BeginsAtABlock w event
+  unfolding reply_to world_after
+  admission_holds event interval shown d = seated_by event (outcome w event) (way_of w event) interval shown d (λ id. refl)

@@ -1,76 +1,59 @@
-use Rattle.std.proofs.Common.{◌≡◌, ℕ, List, Option, Some, None, refl}
+-- the law of denials
+use Rattle.std.proofs.Common.{◌≡◌, ◌↔◌, ℕ, Option, Some, None, List, refl, ap, sym, ◌∙◌}
 use Rattle.radio_policy.specs.declared.rule.Rule.{Rule}
 use Rattle.radio_policy.specs.declared.judgement.Verdict.TheVariants.{Deny as Denied}
-use Rattle.radio_policy.specs.Table.{Row, arrive_rows, source_rows, push_rows, listen_rows}
+use Rattle.radio_policy.specs.Table.{Row}
 use Rattle.radio_policy.specs.Verdicts.{verdict_in, Denies}
-use Rattle.radio_policy.proofs.VerdictLemmas.{Denies-verdict}
 use Rattle.radio_core.specs.declared.event.Event.{Event}
-use Rattle.radio_core.specs.declared.event.Event.TheVariants.{Arrive, Source, Push, SourceEnd, Listen, Draw, Leave}
-use Rattle.radio_core.specs.declared.event.Reply.TheVariants.{Deny}
-use Rattle.radio_core.specs.declared.live.Session.{Session}
-use Rattle.radio_core.specs.declared.peer.Peer.{Peer}
-use Rattle.radio_core.specs.declared.seats.Seat.{Seat}
+use Rattle.radio_core.specs.declared.outcome.Change.TheVariants.{Answer}
+use Rattle.radio_core.specs.declared.outcome.Outcome.{Outcome}
+use Rattle.radio_core.specs.declared.reply.Reply.TheVariants.{Deny}
+use Rattle.radio_core.specs.declared.standing.Standing.{Standing}
+use Rattle.radio_core.specs.declared.standing.Standing.TheVariants.{Unknown, Undecided, Feeds, Sits, Answered, Finished}
 use Rattle.radio_core.specs.World.{World, standing_of}
-use Rattle.radio_core.specs.Facts.{asker_of, arrive_facts, source_facts, push_facts, listen_facts}
-use Rattle.radio_core.specs.Cases.{Outcome, says, answered}
-use Rattle.radio_core.specs.Live.{session_of}
-use Rattle.radio_core.specs.Table.{seat_of}
-use Rattle.radio_core.specs.Arrive.{comes_in}
-use Rattle.radio_core.specs.Source.{begins}
-use Rattle.radio_core.specs.Push.{takes_in}
-use Rattle.radio_core.specs.Listen.{sits_down}
-use Rattle.radio_core.specs.Draw.{hands_out, hands_out_at}
-use Rattle.radio_core.specs.Step.{outcome}
-use Rattle.radio_core.specs.Denials.{IsDeniedBy, after_denial, DenialsAreThePolicys}
-use Rattle.radio_core.proofs.CaseLemmas.{verdict_cases, undecided_cases, feeding_cases, sitting_cases, leaving_cases}
+use Rattle.radio_core.specs.Changes.{changed}
+use Rattle.radio_core.specs.Step.{outcome, reply_to, world_after}
+use Rattle.radio_core.specs.Denials.{answered_if, after_denial, DenialsAreThePolicys}
+use Rattle.radio_core.specs.Ways.{Way, Strays, IsTold, IsDenied, IsRefused, ComesIn, Begins, TakesIn, SitsDown, HandsOut, Ends, FallsSilent, Goes, client_in, rows_for, IsUndecided}
+use Rattle.radio_core.proofs.Ways.{way_of}
 
--- a denial of the event by this rule is the policy's, and leaves this state
-abbrev Denial : World → Event → Rule → Outcome → Type 0
-Denial w event rule o = o.reply ≡ Deny rule → IsDeniedBy w event rule × (o.world ≡ after_denial w event)
+module _ (denies : (rows : List Row) (rule : Rule) → (verdict_in rows ≡ Denied rule) ↔ Denies rows rule) (w : World) where
+  abbrev Denial : Event → Outcome → Type 0
+  Denial event o = (rule : Rule) → o.reply ≡ Deny rule → Denies (rows_for w event) rule × (changed w o.change ≡ after_denial w (client_in event))
 
--- rows whose verdict denies by a rule, where the reply names a rule
-named : (rows : List Row) (rule by : Rule) (w : World) → verdict_in rows ≡ Denied by → (says (Deny by) w).reply ≡ Deny rule → Denies rows rule
-named rows rule by w is d = let same : by ≡ rule = cc in Denies-verdict rows rule (rw (← same) is)
+  -- one who is not undecided is as he was
+  not_answered : (id : ℕ) (s : Standing) → standing_of w id ≡ s → (IsUndecided w id → ⊥) → w ≡ answered_if w id s
+  not_answered id (Undecided peer) e not = absurd (not (peer, e))
+  not_answered id Unknown e not = refl
+  not_answered id (Feeds mount) e not = refl
+  not_answered id Sits e not = refl
+  not_answered id Answered e not = refl
+  not_answered id (Finished rule) e not = refl
 
-sits_down-denial : (w : World) (event : Event) (rule : Rule) (id : ℕ) (peer : Peer) (found : Option Session) → Denial w event rule (sits_down w id peer found)
-sits_down-denial w event rule id peer None d = cc
-sits_down-denial w event rule id peer (Some session) d = cc
+  nobody_answered : (client : Option ℕ) → ((id : ℕ) → client ≡ Some id → IsUndecided w id → ⊥) → w ≡ after_denial w client
+  nobody_answered None not = refl
+  nobody_answered (Some id) not = not_answered id (standing_of w id) refl (not id refl)
 
-hands_out-denial : (w : World) (event : Event) (rule : Rule) (seat : Seat) (room : ℕ) (found : Option Session) → Denial w event rule (hands_out w seat room found)
-hands_out-denial w event rule seat room None d = cc
-hands_out-denial w event rule seat room (Some session) d = cc
+  named : (event : Event) (by rule : Rule) → verdict_in (rows_for w event) ≡ Denied by → Deny by ≡ Deny rule → Denies (rows_for w event) rule
+  named event by rule v d = let same : by ≡ rule = cc in (denies (rows_for w event) rule).0 (v ∙ ap (λ (r : Rule). Denied r) same)
 
-hands_out_at-denial : (w : World) (event : Event) (rule : Rule) (room : ℕ) (found : Option Seat) → Denial w event rule (hands_out_at w room found)
-hands_out_at-denial w event rule room None d = cc
-hands_out_at-denial w event rule room (Some seat) d = hands_out-denial w event rule seat room (session_of w.live seat.mount) d
+  is_answered : (id : ℕ) (client : Option ℕ) → client ≡ Some id → (undecided : IsUndecided w id) → changed w (Answer id) ≡ after_denial w client
+  is_answered id client e undecided = rw e (rw undecided.1 refl)
 
--- in every state, a denial is the policy's
-pub denials_hold : (w : World) (event : Event) → DenialsAreThePolicys w event
-unfolding outcome
-denials_hold w (Arrive peer) rule =
-    let rows = arrive_rows (arrive_facts w) in
-    verdict_cases (verdict_in rows) w (comes_in w peer) (Denial w (Arrive peer) rule) (λ by v d. (named rows rule by w v d, refl)) (λ v d. cc)
-denials_hold w (Source id path shown) rule =
-    let rows = source_rows (source_facts w path) (asker_of path) in
-    let P = Denial w (Source id path shown) rule in
-    undecided_cases w id P (λ d. cc) (λ by e d. cc) _
-    (λ peer e. verdict_cases (verdict_in rows) (answered w id) (begins w id path shown) P (λ by v d. (((peer, e), named rows rule by w v d), refl)) (λ v d. cc))
-    (standing_of w id) refl
-denials_hold w (Push id block) rule =
-    let P = Denial w (Push id block) rule in
-    feeding_cases w id P (λ d. cc) (λ by e d. cc) _
-    (λ mount e. let rows = push_rows (push_facts w mount block) in
-    verdict_cases (verdict_in rows) w (takes_in w mount block) P (λ by v d. ((mount, e, named rows rule by w v d), refl)) (λ v d. cc))
-    (standing_of w id) refl
-denials_hold w (SourceEnd id) rule =
-    feeding_cases w id (Denial w (SourceEnd id) rule) (λ d. cc) (λ by e d. cc) _ (λ mount e d. cc) (standing_of w id) refl
-denials_hold w (Listen id path) rule =
-    let rows = listen_rows (listen_facts w path) (asker_of path) in
-    let P = Denial w (Listen id path) rule in
-    undecided_cases w id P (λ d. cc) (λ by e d. cc) _
-    (λ peer e. verdict_cases (verdict_in rows) (answered w id) (sits_down w id peer (session_of w.live path)) P (λ by v d. (((peer, e), named rows rule by w v d), refl)) (λ v. sits_down-denial w (Listen id path) rule id peer (session_of w.live path)))
-    (standing_of w id) refl
-denials_hold w (Draw id room) rule =
-    sitting_cases w id (Denial w (Draw id room) rule) (λ d. cc) (λ by e d. cc) (hands_out_at w room (seat_of w.table id)) (λ sits. hands_out_at-denial w (Draw id room) rule room (seat_of w.table id)) (standing_of w id) refl
-denials_hold w (Leave id) rule =
-    leaving_cases w id (Denial w (Leave id) rule) (λ d. cc) (λ mount e d. cc) (λ d. cc) (standing_of w id) refl
+  denial_by : (event : Event) (o : Outcome) → Way w event o → Denial event o
+  denial_by event o (IsDenied _ by v not) = λ rule d. (named event by rule v d, nobody_answered (client_in event) not)
+  denial_by event o (IsRefused _ id by v his undecided) = λ rule d. (named event by rule v d, is_answered id (client_in event) his undecided)
+  denial_by event o (Strays _) = λ rule d. cc
+  denial_by event o (IsTold _ id by his told) = λ rule d. cc
+  denial_by event o (ComesIn peer) = λ rule d. cc
+  denial_by event o (Begins asked undecided none) = λ rule d. cc
+  denial_by event o (TakesIn id mount block feeding) = λ rule d. cc
+  denial_by event o (SitsDown asked peer session undecided live) = λ rule d. cc
+  denial_by event o (HandsOut id room seat session sits has live) = λ rule d. cc
+  denial_by event o (Ends id mount feeding) = λ rule d. cc
+  denial_by event o (FallsSilent id mount feeding) = λ rule d. cc
+  denial_by event o (Goes id other) = λ rule d. cc
+
+  pub denials_hold : (event : Event) → DenialsAreThePolicys w event
+  unfolding reply_to world_after
+  denials_hold event = denial_by event (outcome w event) (way_of w event)

@@ -1,107 +1,145 @@
-use Rattle.std.proofs.Common.{◌≡◌, true, ℕ, Option, Some, None, List, [], ◌∷◌, ◌++◌, ◌⊎◌, inl, inr, refl, ap, sym, subst, ◌∙◌}
-use Rattle.std.specs.Prelude.{find}
-use Rattle.std.specs.Option.{option_map}
-use Rattle.std.proofs.lemmas.Bool.{eqb-true}
+-- the law of those who are told that they were finished, and what an event does to others
+use Rattle.std.proofs.Common.{◌≡◌, ◌⊎◌, inl, inr, true, false, ℕ, ◌+◌, ◌<◌, ◌==◌, Option, Some, None, is_some, List, [], ◌∷◌, ◌++◌, refl, ap, sym, subst, ◌∙◌, arith}
+use Rattle.std.specs.Prelude.{if◌then◌else◌}
+use Rattle.std.proofs.lemmas.Slice.Eq.{bytes_eq-Decides}
 use Rattle.radio_policy.specs.declared.rule.Rule.{Rule}
 use Rattle.radio_policy.specs.declared.rule.Rule.TheVariants.{NotLive}
-use Rattle.radio_policy.specs.Table.{arrive_rows, source_rows, push_rows, listen_rows}
-use Rattle.radio_policy.specs.Verdicts.{verdict_in}
+use Rattle.radio_addr.specs.declared.peer.Peer.{Peer}
+use Rattle.radio_settings.specs.declared.settings.Settings.{Settings}
+use Rattle.radio_settings.specs.MountName.{is_mount_name}
+use Rattle.radio_tables.specs.KeyLaws.{by_number}
 use Rattle.radio_core.specs.declared.event.Event.{Event}
-use Rattle.radio_core.specs.declared.event.Event.TheVariants.{Arrive, Source, Push, SourceEnd, Listen, Draw, Leave}
-use Rattle.radio_core.specs.declared.event.Reply.TheVariants.{Finished}
-use Rattle.radio_core.specs.declared.clients.Client.{Client}
-use Rattle.radio_core.specs.declared.clients.ClientState.{ClientState}
-use Rattle.radio_core.specs.declared.clients.ClientState.TheVariants.{Undecided as IsUndecided, Feeds as IsFeeding, Listens, Answered as IsAnswered}
-use Rattle.radio_core.specs.declared.live.Session.{Session}
-use Rattle.radio_core.specs.declared.peer.Peer.{Peer}
-use Rattle.radio_core.specs.declared.seats.Finished.{Finished as Row}
-use Rattle.radio_core.specs.declared.seats.Seat.{Seat}
-use Rattle.radio_core.specs.declared.settings.Settings.{Settings}
-use Rattle.radio_core.specs.declared.standing.Standing.TheVariants.{Finished as HasFinished}
-use Rattle.radio_core.specs.Lists.{Has}
-use Rattle.radio_core.specs.Clients.{client_of, has_number}
-use Rattle.radio_core.specs.Live.{session_of}
-use Rattle.radio_core.specs.Table.{Table, is_at, has_id, seat_of, rule_of, finished_in}
-use Rattle.radio_core.specs.World.{World, opening, standing_of, standing_of_client, standing_of_listener}
-use Rattle.radio_core.specs.Facts.{asker_of, arrive_facts, source_facts, push_facts, listen_facts}
-use Rattle.radio_core.specs.Cases.{Outcome, says, answered}
-use Rattle.radio_core.specs.Arrive.{comes_in}
-use Rattle.radio_core.specs.Source.{begins}
-use Rattle.radio_core.specs.Push.{takes_in}
-use Rattle.radio_core.specs.SourceEnd.{falls_silent}
-use Rattle.radio_core.specs.Listen.{sits_down}
-use Rattle.radio_core.specs.Draw.{hands_out, hands_out_at}
-use Rattle.radio_core.specs.Step.{outcome}
-use Rattle.radio_core.specs.Run.{world_after, world_after_all, run_after, reply_to}
-use Rattle.radio_core.specs.Finishes.{finished_by, EndsSession, Finishes, WasFinished, client_in, FinishedAreTold}
-use Rattle.radio_core.proofs.CaseLemmas.{verdict_cases, undecided_cases, feeding_cases, sitting_cases, leaving_cases}
-use Rattle.radio_core.proofs.FindLemmas.{found_passes, Has_append, Has_without, Has_found, Has_image}
+use Rattle.radio_core.specs.declared.outcome.Outcome.{Outcome}
+use Rattle.radio_core.specs.declared.reply.Reply.TheVariants.{Arrived, Finished}
+use Rattle.radio_core.specs.declared.standing.Standing.{Standing}
+use Rattle.radio_core.specs.declared.standing.Standing.TheVariants.{Unknown, Undecided, Feeds, Sits, Answered, Finished as HasFinished}
+use Rattle.radio_core.specs.World.{World, opening, standing_of}
+use Rattle.radio_core.specs.Changes.{silent}
+use Rattle.radio_core.specs.Facts.{is_live}
+use Rattle.radio_core.specs.Finishes.{Finishes, WasFinished, FinishedAreTold}
+use Rattle.radio_core.specs.Others.{StandsOn, OthersStandOn}
+use Rattle.radio_core.specs.Run.{world_after_all, run_after}
+use Rattle.radio_core.specs.Seats.{listener_of, seat_of}
+use Rattle.radio_core.specs.Sessions.{Session, session_of}
+use Rattle.radio_core.specs.Sound.{IsSound}
+use Rattle.radio_core.specs.Step.{outcome, reply_to, world_after}
+use Rattle.radio_core.specs.Ways.{Way, Strays, IsTold, IsDenied, IsRefused, ComesIn, Begins, TakesIn, SitsDown, HandsOut, Ends, FallsSilent, Goes, client_in}
+use Rattle.radio_core.proofs.Effects.{Effect, Same, Joins, Acts, Silences, HasActed, effect_of}
+use Rattle.radio_core.proofs.Standings.{Loses, silenced}
+use Rattle.radio_core.proofs.SoundEnds.{sits_no_more}
+use Rattle.radio_core.proofs.SoundRuns.{sound_after, sound_opening}
+use Rattle.radio_core.proofs.Ways.{way_of}
 
-module _ (w : World) (event : Event) (id : ℕ) (rule : Rule) where
-  -- the event ends the session of a mount at which the listener has a seat
-  abbrev Ends : Type 0
-  Ends = (mount : List ℕ) × (seat : Seat) × EndsSession w event mount × Has seat w.table.seats × (seat.id ≡ id) × (is_at mount seat ≡ true)
+-- a mount without a session is not live, and its walk stops
+not_live : (b : _) (found : Option Session) → found ≡ None → is_some (if b then found else None) ≡ false
+not_live true found e = ap is_some e
+not_live false found e = refl
 
-  -- a row that stands in the table after the event stood there before it, or the event has put it there
-  abbrev Stood : Outcome → Type 0
-  Stood o = Has (finished_by id rule) o.world.table.finished → Has (finished_by id rule) w.table.finished ⊎ Ends
+stopped : (b : _) → b ≡ false → (if b then None else Some NotLive) ≡ Some NotLive
+stopped true e = cc
+stopped false e = refl
 
-  of_silence : (mount : List ℕ) → EndsSession w event mount → Has (finished_by id rule) (falls_silent w mount).table.finished → Has (finished_by id rule) w.table.finished ⊎ Ends
-  of_silence mount ends h = either (Has_append (finished_by id rule) w.table.finished (finished_in w.table.seats mount NotLive) h) where
-    told : Seat → Row
-    told seat = record { id = seat.id; rule = NotLive }
+-- what the end of a session does to whoever sits at its mount: he is finished by it
+module _ (w : World) (s : IsSound w) (event : Event) (mount : List ℕ) (over : session_of (world_after w event).house.live mount ≡ None) (lost : (id : ℕ) → seat_of (silent w mount).seats id ≡ None → seat_of (world_after w event).seats id ≡ None) where
+  pub finished_by_silence : (id : ℕ) → Loses (listener_of w.seats id) (standing_of w id) (standing_of (silent w mount) id) mount → Finishes w event id NotLive
+  finished_by_silence id loses =
+      let seat = loses.seat in
+      let old = s.seated id seat loses.had_a_seat in
+      let same : seat.mount ≡ mount = (bytes_eq-Decides seat.mount mount).0 loses.there in
+      let gone : session_of (world_after w event).house.live seat.mount ≡ None = ap (session_of (world_after w event).house.live) same ∙ over in
+      let dead : is_live (world_after w event).house seat.mount ≡ false = not_live (is_mount_name seat.mount) (session_of (world_after w event).house.live seat.mount) gone in
+      record {
+        seat = seat;
+        had_a_seat = loses.had_a_seat;
+        session = old.session;
+        was_live = old.is_live;
+        is_over = dead;
+        stopped_by = stopped (is_live (world_after w event).house seat.mount) dead;
+        has_none = lost id (sits_no_more w mount id seat loses.had_a_seat loses.there);
+      }
 
-    either : Has (finished_by id rule) w.table.finished ⊎ Has (finished_by id rule) (finished_in w.table.seats mount NotLive) → Has (finished_by id rule) w.table.finished ⊎ Ends
-    either (inl before) = inl before
-    either (inr new) = inr new_row where
-      new_row : Ends
-      new_row =
-          let found = Has_image (is_at mount) (λ (seat : Seat). finished_by seat.id NotLive) (finished_by id rule) w.table.seats new in
-          (mount, found.0, ends, found.1, sym (ap (λ (row : Row). row.id) found.3), found.2)
+-- two clients are one, or apart
+apart_from : (event : Event) (him id : ℕ) → client_in event ≡ Some him → (client_in event ≡ Some id → ⊥) → (him == id) ≡ false
+apart_from event him id his not = by_number him id (λ same. absurd (not (his ∙ ap (λ (n : ℕ). Some n) same))) (λ other. other)
 
-stood_sits_down : (w : World) (event : Event) (him : ℕ) (rule : Rule) (id : ℕ) (peer : Peer) (found : Option Session) → Stood w event him rule (sits_down w id peer found)
-stood_sits_down w event him rule id peer None h = inl h
-stood_sits_down w event him rule id peer (Some session) h = inl h
+not_finished : (now : Standing) (rule : Rule) → HasActed now → now ≡ HasFinished rule → ⊥
+not_finished (HasFinished by) rule acted e = acted
+not_finished (Undecided peer) rule acted e = acted
+not_finished Unknown rule acted e = cc
+not_finished (Feeds mount) rule acted e = cc
+not_finished Sits rule acted e = cc
+not_finished Answered rule acted e = cc
 
-stood_hands_out : (w : World) (event : Event) (him : ℕ) (rule : Rule) (seat : Seat) (room : ℕ) (found : Option Session) → Stood w event him rule (hands_out w seat room found)
-stood_hands_out w event him rule seat room None h = inl h
-stood_hands_out w event him rule seat room (Some session) h = inl h
+not_undecided : (now : Standing) (peer : Peer) → HasActed now → now ≡ Undecided peer → ⊥
+not_undecided (Undecided by) peer acted e = acted
+not_undecided (HasFinished by) peer acted e = acted
+not_undecided Unknown peer acted e = cc
+not_undecided (Feeds mount) peer acted e = cc
+not_undecided Sits peer acted e = cc
+not_undecided Answered peer acted e = cc
 
-stood_hands_out_at : (w : World) (event : Event) (him : ℕ) (rule : Rule) (room : ℕ) (found : Option Seat) → Stood w event him rule (hands_out_at w room found)
-stood_hands_out_at w event him rule room None h = inl h
-stood_hands_out_at w event him rule room (Some seat) h = stood_hands_out w event him rule seat room (session_of w.live seat.mount) h
+module _ (w : World) (s : IsSound w) (event : Event) where
+  abbrev Lost : List ℕ → ℕ → Type 0
+  Lost mount id = Loses (listener_of w.seats id) (standing_of w id) (standing_of (silent w mount) id) mount
 
-stood_step : (w : World) (event : Event) (him : ℕ) (rule : Rule) → Stood w event him rule (outcome w event)
-unfolding outcome
-stood_step w (Arrive peer) him rule = verdict_cases (verdict_in (arrive_rows (arrive_facts w))) w (comes_in w peer) (Stood w (Arrive peer) him rule) (λ by e h. inl h) (λ e h. inl h)
-stood_step w (Source id path shown) him rule =
-    let P = Stood w (Source id path shown) him rule in
-    undecided_cases w id P (λ h. inl h) (λ by e h. inl h) _
-    (λ peer e. verdict_cases (verdict_in (source_rows (source_facts w path) (asker_of path))) (answered w id) (begins w id path shown) P (λ by v h. inl h) (λ v h. inl h))
-    (standing_of w id) refl
-stood_step w (Push id block) him rule =
-    let P = Stood w (Push id block) him rule in
-    feeding_cases w id P (λ h. inl h) (λ by e h. inl h) _
-    (λ mount e. verdict_cases (verdict_in (push_rows (push_facts w mount block))) w (takes_in w mount block) P (λ by v h. inl h) (λ v h. inl h))
-    (standing_of w id) refl
-stood_step w (SourceEnd id) him rule =
-    feeding_cases w id (Stood w (SourceEnd id) him rule) (λ h. inl h) (λ by e h. inl h) _ (λ mount e h. of_silence w (SourceEnd id) him rule mount e h) (standing_of w id) refl
-stood_step w (Listen id path) him rule =
-    let P = Stood w (Listen id path) him rule in
-    undecided_cases w id P (λ h. inl h) (λ by e h. inl h) _
-    (λ peer e. verdict_cases (verdict_in (listen_rows (listen_facts w path) (asker_of path))) (answered w id) (sits_down w id peer (session_of w.live path)) P (λ by v h. inl h) (λ v. stood_sits_down w (Listen id path) him rule id peer (session_of w.live path)))
-    (standing_of w id) refl
-stood_step w (Draw id room) him rule =
-    sitting_cases w id (Stood w (Draw id room) him rule) (λ h. inl h) (λ by e h. inl h) (hands_out_at w room (seat_of w.table id))
-    (λ sits. stood_hands_out_at w (Draw id room) him rule room (seat_of w.table id))
-    (standing_of w id) refl
-stood_step w (Leave id) him rule =
-    leaving_cases w id (Stood w (Leave id) him rule) (λ h. inl h)
-    (λ mount e h. of_silence w (Leave id) him rule mount e (Has_without (λ (row : Row). has_id row.id id) (finished_by him rule) (falls_silent w mount).table.finished h))
-    (λ h. inl (Has_without (λ (row : Row). has_id row.id id) (finished_by him rule) w.table.finished h))
-    (standing_of w id) refl
+  -- the end of a session turns others only where they lose their seats
+  stands_by : (id : ℕ) → (client_in event ≡ Some id → ⊥) → Effect w (world_after w event) event (reply_to w event) → StandsOn w event id
+  stands_by id not (Same same) = inl (same id)
+  stands_by id not (Joins peer arrived t) = by_number (w.house.last_id + 1) id (λ same. inr (inr (arrived ∙ ap (λ (n : ℕ). Arrived n) same))) (λ other. inl (t.others id other))
+  stands_by id not (Acts him now his acted t) = inl (t.others id (apart_from event him id his not))
+  stands_by id not (Silences him mount now his acted t over lost) = by_end (silenced w mount id) (t.others id (apart_from event him id his not)) where
+    by_end : (standing_of (silent w mount) id ≡ standing_of w id) ⊎ Lost mount id → standing_of (world_after w event) id ≡ standing_of (silent w mount) id → StandsOn w event id
+    by_end (inl same) e = inl (e ∙ same)
+    by_end (inr loses) e = inr (inl (NotLive, loses.sat, e ∙ loses.finished, finished_by_silence w s event mount over lost id loses))
 
--- from any state on: a row that stands in the end stood at the start, or one of the events has put it there
+  pub others_hold : OthersStandOn w event
+  others_hold id not = stands_by id not (effect_of w s event)
+
+  -- who stands finished after an event stood so before, or is finished by it
+  finished_by : (id : ℕ) (rule : Rule) → standing_of (world_after w event) id ≡ HasFinished rule → Effect w (world_after w event) event (reply_to w event) → (standing_of w id ≡ HasFinished rule) ⊎ Finishes w event id rule
+  finished_by id rule e (Same same) = inl (sym (same id) ∙ e)
+  finished_by id rule e (Joins peer arrived t) =
+      by_number (w.house.last_id + 1) id
+      (λ same. let now : Undecided peer ≡ HasFinished rule = sym t.his ∙ ap (standing_of (world_after w event)) same ∙ e in cc)
+      (λ other. inl (sym (t.others id other) ∙ e))
+  finished_by id rule e (Acts him now his acted t) =
+      by_number him id
+      (λ same. absurd (not_finished now rule acted (sym t.his ∙ ap (standing_of (world_after w event)) same ∙ e)))
+      (λ other. inl (sym (t.others id other) ∙ e))
+  finished_by id rule e (Silences him mount now his acted t over lost) =
+      by_number him id
+      (λ same. absurd (not_finished now rule acted (sym t.his ∙ ap (standing_of (world_after w event)) same ∙ e)))
+      (λ other. by_end (silenced w mount id) (sym (t.others id other) ∙ e)) where
+        by_end : (standing_of (silent w mount) id ≡ standing_of w id) ⊎ Lost mount id → standing_of (silent w mount) id ≡ HasFinished rule → (standing_of w id ≡ HasFinished rule) ⊎ Finishes w event id rule
+        by_end (inl same) stood = inl (sym same ∙ stood)
+        by_end (inr loses) stood =
+            let both : HasFinished NotLive ≡ HasFinished rule = sym loses.finished ∙ stood in
+            let one : NotLive ≡ rule = cc in
+            inr (subst (λ (r : Rule). Finishes w event id r) one (finished_by_silence w s event mount over lost id loses))
+
+  pub finish_step : (id : ℕ) (rule : Rule) → standing_of (world_after w event) id ≡ HasFinished rule → (standing_of w id ≡ HasFinished rule) ⊎ Finishes w event id rule
+  finish_step id rule e = finished_by id rule e (effect_of w s event)
+
+  -- who has asked for nothing after an event had not before, or has only arrived
+  undecided_by : (id : ℕ) (peer : Peer) → standing_of (world_after w event) id ≡ Undecided peer → Effect w (world_after w event) event (reply_to w event) → (standing_of w id ≡ Undecided peer) ⊎ (w.house.last_id < id)
+  undecided_by id peer e (Same same) = inl (sym (same id) ∙ e)
+  undecided_by id peer e (Joins other arrived t) = by_number (w.house.last_id + 1) id (λ same. inr (omega arith)) (λ apart. inl (sym (t.others id apart) ∙ e))
+  undecided_by id peer e (Acts him now his acted t) =
+      by_number him id
+      (λ same. absurd (not_undecided now peer acted (sym t.his ∙ ap (standing_of (world_after w event)) same ∙ e)))
+      (λ other. inl (sym (t.others id other) ∙ e))
+  undecided_by id peer e (Silences him mount now his acted t over lost) =
+      by_number him id
+      (λ same. absurd (not_undecided now peer acted (sym t.his ∙ ap (standing_of (world_after w event)) same ∙ e)))
+      (λ other. by_end (silenced w mount id) (sym (t.others id other) ∙ e)) where
+        by_end : (standing_of (silent w mount) id ≡ standing_of w id) ⊎ Lost mount id → standing_of (silent w mount) id ≡ Undecided peer → (standing_of w id ≡ Undecided peer) ⊎ (w.house.last_id < id)
+        by_end (inl same) stood = inl (sym same ∙ stood)
+        by_end (inr loses) stood = let finished : standing_of (silent w mount) id ≡ HasFinished NotLive = loses.finished in cc
+
+  pub undecided_before : (id : ℕ) (peer : Peer) → standing_of (world_after w event) id ≡ Undecided peer → (standing_of w id ≡ Undecided peer) ⊎ (w.house.last_id < id)
+  undecided_before id peer e = undecided_by id peer e (effect_of w s event)
+
+-- from any state on: who stands finished in the end stood so at the start, or one of the events has finished him
 record Put (w : World) (events : List Event) (id : ℕ) (rule : Rule) : Type 0 where
   before : List Event
   event : Event
@@ -109,128 +147,42 @@ record Put (w : World) (events : List Event) (id : ℕ) (rule : Rule) : Type 0 w
   in_order : events ≡ before ++ event ∷ after
   finishes : Finishes (world_after_all w before) event id rule
 
-since_here : (w : World) (event : Event) (events : List Event) (id : ℕ) (rule : Rule) → Has (finished_by id rule) (world_after w event).table.finished → Has (finished_by id rule) w.table.finished ⊎ Ends w event id rule → Has (finished_by id rule) w.table.finished ⊎ Put w (event ∷ events) id rule
-since_here w event events id rule h (inl stood) = inl stood
-since_here w event events id rule h (inr ends) = inr (record {
-  before = [];
-  event = event;
-  after = events;
-  in_order = refl;
-  finishes = record { mount = ends.0; seat = ends.1; ends = ends.2; had_a_seat = ends.3; his = ends.4; there = ends.5; stands = h };
-})
+since : (w : World) → IsSound w → (events : List Event) (id : ℕ) (rule : Rule) → standing_of (world_after_all w events) id ≡ HasFinished rule → (standing_of w id ≡ HasFinished rule) ⊎ Put w events id rule
+since w s [] id rule e = inl e
+since w s (event ∷ events) id rule e = later (since (world_after w event) (sound_after w s event) events id rule e) where
+  here : (standing_of w id ≡ HasFinished rule) ⊎ Finishes w event id rule → (standing_of w id ≡ HasFinished rule) ⊎ Put w (event ∷ events) id rule
+  here (inl stood) = inl stood
+  here (inr finishes) = inr (record { before = []; event = event; after = events; in_order = refl; finishes = finishes })
 
-since_later : (w : World) (event : Event) (events : List Event) (id : ℕ) (rule : Rule) → Has (finished_by id rule) (world_after w event).table.finished ⊎ Put (world_after w event) events id rule → Has (finished_by id rule) w.table.finished ⊎ Put w (event ∷ events) id rule
-since_later w event events id rule (inl stood) = since_here w event events id rule stood (stood_step w event id rule stood)
-since_later w event events id rule (inr put) = inr (record {
-  before = event ∷ put.before;
-  event = put.event;
-  after = put.after;
-  in_order = ap (λ es. event ∷ es) put.in_order;
-  finishes = put.finishes;
-})
+  later : (standing_of (world_after w event) id ≡ HasFinished rule) ⊎ Put (world_after w event) events id rule → (standing_of w id ≡ HasFinished rule) ⊎ Put w (event ∷ events) id rule
+  later (inl stood) = here (finish_step w s event id rule stood)
+  later (inr put) = inr (record { before = event ∷ put.before; event = put.event; after = put.after; in_order = ap (λ es. event ∷ es) put.in_order; finishes = put.finishes })
 
-since : (w : World) (events : List Event) (id : ℕ) (rule : Rule) → Has (finished_by id rule) (world_after_all w events).table.finished → Has (finished_by id rule) w.table.finished ⊎ Put w events id rule
-since w [] id rule h = inl h
-since w (event ∷ events) id rule h = since_later w event events id rule (since (world_after w event) events id rule h)
+pub was_finished : (settings : Settings) (events : List Event) (id : ℕ) (rule : Rule) → standing_of (run_after settings events) id ≡ HasFinished rule → WasFinished settings events id rule
+was_finished settings events id rule e = either (since (opening settings) (sound_opening settings) events id rule e) where
+  either : (standing_of (opening settings) id ≡ HasFinished rule) ⊎ Put (opening settings) events id rule → WasFinished settings events id rule
+  either (inl stood) = cc
+  either (inr put) = record { before = put.before; event = put.event; after = put.after; in_order = put.in_order; finishes = put.finishes }
 
-was_finished : (settings : Settings) (events : List Event) (id : ℕ) (rule : Rule) → Has (finished_by id rule) (run_after settings events).table.finished → WasFinished settings events id rule
-was_finished settings events id rule h = from_opening (since (opening settings) events id rule h) where
-  from_opening : ⊥ ⊎ Put (opening settings) events id rule → WasFinished settings events id rule
-  from_opening (inl never) = absurd never
-  from_opening (inr put) = record { before = put.before; event = put.event; after = put.after; in_order = put.in_order; finishes = put.finishes }
+told_by : (w : World) (event : Event) (o : Outcome) → Way w event o → (rule : Rule) → o.reply ≡ Finished rule → (id : ℕ) × (client_in event ≡ Some id) × (standing_of w id ≡ HasFinished rule)
+told_by w event o (IsTold _ him by its known) rule d = let same : by ≡ rule = cc in (him, its, known ∙ ap (λ (r : Rule). HasFinished r) same)
+told_by w event o (Strays _) rule d = cc
+told_by w event o (IsDenied _ by v nobody) rule d = cc
+told_by w event o (IsRefused _ him by v its undecided) rule d = cc
+told_by w event o (ComesIn peer) rule d = cc
+told_by w event o (Begins asked undecided none) rule d = cc
+told_by w event o (TakesIn him mount block feeding) rule d = cc
+told_by w event o (SitsDown asked peer session undecided live) rule d = cc
+told_by w event o (HandsOut him room seat session sits has live) rule d = cc
+told_by w event o (Ends him mount feeding) rule d = cc
+told_by w event o (FallsSilent him mount feeding) rule d = cc
+told_by w event o (Goes him other) rule d = cc
 
--- whoever stands as finished by a rule has a row of it
+pub finished_told : (w : World) (event : Event) (rule : Rule) → reply_to w event ≡ Finished rule → (id : ℕ) × (client_in event ≡ Some id) × (standing_of w id ≡ HasFinished rule)
+unfolding reply_to
+finished_told w event rule d = told_by w event (outcome w event) (way_of w event) rule d
 
-row_of_rule : (table : Table) (id : ℕ) (rule : Rule) (found : Option Row) → find (λ row. has_id row.id id) table.finished ≡ found → option_map (λ row. row.rule) found ≡ Some rule → Has (finished_by id rule) table.finished
-row_of_rule table id rule None e known = cc
-row_of_rule table id rule (Some row) e known =
-    let his = λ (other : Row). has_id other.id id in
-    let same_rule : row.rule ≡ rule = cc in
-    let same_id : row.id ≡ id = eqb-true row.id id (found_passes his table.finished row e) in
-    let same : row ≡ finished_by id rule = ap (λ (i : ℕ). finished_by i row.rule) same_id ∙ ap (λ (r : Rule). finished_by id r) same_rule in
-    subst (λ (r : Row). Has r table.finished) same (Has_found his row table.finished e)
-
-rule_of_listener : (found : Option Rule) (rule : Rule) → standing_of_listener found ≡ HasFinished rule → found ≡ Some rule
-rule_of_listener None rule e = cc
-rule_of_listener (Some by) rule e = cc
-
-rule_of_client : (table : Table) (client : Client) (rule : Rule) (state : ClientState) → client.state ≡ state → standing_of_client table client ≡ HasFinished rule → rule_of table client.id ≡ Some rule
-rule_of_client table client rule IsUndecided e = rw e (λ known. cc)
-rule_of_client table client rule (IsFeeding mount) e = rw e (λ known. cc)
-rule_of_client table client rule Listens e = rw e (λ known. rule_of_listener (rule_of table client.id) rule known)
-rule_of_client table client rule IsAnswered e = rw e (λ known. cc)
-
-row_of_client : (w : World) (id : ℕ) (rule : Rule) (found : Option Client) → client_of w.clients id ≡ found → standing_of w id ≡ HasFinished rule → Has (finished_by id rule) w.table.finished
-row_of_client w id rule None e = rw e (λ known. cc)
-row_of_client w id rule (Some client) e = rw e (λ known.
-    let same : client.id ≡ id = eqb-true client.id id (found_passes (has_number id) w.clients client e) in
-    let told : rule_of w.table client.id ≡ Some rule = rule_of_client w.table client rule client.state refl known in
-    row_of_rule w.table id rule (find (λ row. has_id row.id id) w.table.finished) refl (ap (rule_of w.table) (sym same) ∙ told))
-
--- the outcome tells the client no rule but one that stands in his row
-abbrev Tells : World → ℕ → Rule → Outcome → Type 0
-Tells w id rule o = o.reply ≡ Finished rule → Has (finished_by id rule) w.table.finished
-
-told_row : (w : World) (id : ℕ) (rule by : Rule) → standing_of w id ≡ HasFinished by → Tells w id rule (says (Finished by) w)
-told_row w id rule by e d = let same : by ≡ rule = cc in subst (λ (r : Rule). Has (finished_by id r) w.table.finished) same (row_of_client w id by (client_of w.clients id) refl e)
-
-tells_sits_down : (w : World) (id : ℕ) (rule : Rule) (peer : Peer) (found : Option Session) → Tells w id rule (sits_down w id peer found)
-tells_sits_down w id rule peer None d = cc
-tells_sits_down w id rule peer (Some session) d = cc
-
-tells_hands_out : (w : World) (id : ℕ) (rule : Rule) (seat : Seat) (room : ℕ) (found : Option Session) → Tells w id rule (hands_out w seat room found)
-tells_hands_out w id rule seat room None d = cc
-tells_hands_out w id rule seat room (Some session) d = cc
-
-tells_hands_out_at : (w : World) (id : ℕ) (rule : Rule) (room : ℕ) (found : Option Seat) → Tells w id rule (hands_out_at w room found)
-tells_hands_out_at w id rule room None d = cc
-tells_hands_out_at w id rule room (Some seat) d = tells_hands_out w id rule seat room (session_of w.live seat.mount) d
-
--- whoever is told a rule has a row of it
-told_step : (w : World) (event : Event) (rule : Rule) → reply_to w event ≡ Finished rule → (id : ℕ) × (client_in event ≡ Some id) × Has (finished_by id rule) w.table.finished
-unfolding outcome
-told_step w (Arrive peer) rule = λ d. absurd (verdict_cases (verdict_in (arrive_rows (arrive_facts w))) w (comes_in w peer) (λ o. o.reply ≡ Finished rule → ⊥) (λ by e d. cc) (λ e d. cc) d)
-told_step w (Source id path shown) rule = λ d. (
-  id,
-  refl,
-  undecided_cases w id (Tells w id rule) (λ d. cc) (told_row w id rule) _
-      (λ peer e. verdict_cases (verdict_in (source_rows (source_facts w path) (asker_of path))) (answered w id) (begins w id path shown) (Tells w id rule) (λ by v d. cc) (λ v d. cc))
-      (standing_of w id) refl d,
-)
-told_step w (Push id block) rule = λ d. (
-  id,
-  refl,
-  feeding_cases w id (Tells w id rule) (λ d. cc) (told_row w id rule) _
-      (λ mount e. verdict_cases (verdict_in (push_rows (push_facts w mount block))) w (takes_in w mount block) (Tells w id rule) (λ by v d. cc) (λ v d. cc))
-      (standing_of w id) refl d,
-)
-told_step w (SourceEnd id) rule = λ d. (
-  id,
-  refl,
-  feeding_cases w id (Tells w id rule) (λ d. cc) (told_row w id rule) _ (λ mount e d. cc) (standing_of w id) refl d,
-)
-told_step w (Listen id path) rule = λ d. (
-  id,
-  refl,
-  undecided_cases w id (Tells w id rule) (λ d. cc) (told_row w id rule) _
-      (λ peer e. verdict_cases (verdict_in (listen_rows (listen_facts w path) (asker_of path))) (answered w id) (sits_down w id peer (session_of w.live path)) (Tells w id rule) (λ by v d. cc) (λ v. tells_sits_down w id rule peer (session_of w.live path)))
-      (standing_of w id) refl d,
-)
-told_step w (Draw id room) rule = λ d. (
-  id,
-  refl,
-  sitting_cases w id (Tells w id rule) (λ d. cc) (told_row w id rule) (hands_out_at w room (seat_of w.table id))
-      (λ sits. tells_hands_out_at w id rule room (seat_of w.table id))
-      (standing_of w id) refl d,
-)
-told_step w (Leave id) rule = λ d. (
-  id,
-  refl,
-  leaving_cases w id (Tells w id rule) (λ d. cc) (λ mount e d. cc) (λ d. cc) (standing_of w id) refl d,
-)
-
--- after every run, whoever is told a rule was finished by it
 pub finished_hold : (settings : Settings) (events : List Event) (event : Event) → FinishedAreTold settings events event
 finished_hold settings events event rule d =
-    let told : (id : ℕ) × (client_in event ≡ Some id) × Has (finished_by id rule) (run_after settings events).table.finished = told_step (run_after settings events) event rule d in
+    let told = finished_told (run_after settings events) event rule d in
     (told.0, told.1, was_finished settings events told.0 rule told.2)

@@ -1,145 +1,139 @@
-use Rattle.std.proofs.Common.{◌≡◌, Bool, true, false, ℕ, ◌+◌, ◌≤◌, ◌==◌, Option, Some, None, List, [], ◌∷◌, ◌++◌, refl, ap, sym, subst, ◌∙◌, arith}
-use Rattle.std.proofs.lemmas.Bool.{eq-eqb, eqb-true}
+-- the law of those who have left
+use Rattle.std.proofs.Common.{◌≡◌, ◌⊎◌, inl, inr, true, false, ℕ, ◌+◌, ◌<◌, ◌≤◌, ◌==◌, Bool, Option, Some, None, List, [], ◌∷◌, ◌++◌, refl, ap, sym, subst, ◌∙◌, arith}
+use Rattle.std.specs.Prelude.{if◌then◌else◌}
 use Rattle.std.proofs.lemmas.Bool.Decides.{nat_tests}
-use Rattle.radio_policy.specs.declared.rule.Rule.{Rule}
-use Rattle.radio_core.specs.declared.clients.Client.{Client}
-use Rattle.radio_core.specs.declared.clients.ClientState.{ClientState}
-use Rattle.radio_core.specs.declared.clients.ClientState.TheVariants.{Undecided as IsUndecided, Feeds as IsFeeding, Listens, Answered as IsAnswered}
+use Rattle.radio_settings.specs.declared.settings.Settings.{Settings}
+use Rattle.radio_tables.specs.KeyLaws.{by_number}
 use Rattle.radio_core.specs.declared.event.Event.{Event}
 use Rattle.radio_core.specs.declared.event.Event.TheVariants.{Arrive, Source, Push, SourceEnd, Listen, Draw, Leave}
-use Rattle.radio_core.specs.declared.peer.Peer.{Peer}
-use Rattle.radio_core.specs.declared.settings.Settings.{Settings}
+use Rattle.radio_core.specs.declared.outcome.Change.TheVariants.{Nothing, Go, FallSilent}
+use Rattle.radio_core.specs.declared.outcome.Outcome.{Outcome}
+use Rattle.radio_core.specs.declared.reply.Reply.TheVariants.{Stray}
 use Rattle.radio_core.specs.declared.standing.Standing.{Standing}
 use Rattle.radio_core.specs.declared.standing.Standing.TheVariants.{Unknown, Undecided, Feeds, Sits, Answered, Finished}
-use Rattle.radio_core.specs.Cases.{Outcome}
-use Rattle.radio_core.specs.Clients.{client_of, has_number, newcomer, without_client}
-use Rattle.radio_core.specs.Finishes.{client_in}
+use Rattle.radio_core.specs.World.{World, standing_of}
+use Rattle.radio_core.specs.Changes.{changed, silent}
 use Rattle.radio_core.specs.Gone.{HasLeft, IsOutOfPlace, StaysGone}
-use Rattle.radio_core.specs.Leave.{leaves}
-use Rattle.radio_core.specs.Run.{world_after, run_after}
-use Rattle.radio_core.specs.Slices.{block_in, delivered_at, delivered}
-use Rattle.radio_core.specs.Step.{outcome}
-use Rattle.radio_core.specs.Stretches.{data_in, handed_at, handed}
-use Rattle.radio_core.specs.Table.{Table, rule_of}
-use Rattle.radio_core.specs.World.{World, opening, standing_of, standing_of_client, standing_of_listener}
-use Rattle.radio_core.proofs.KeyLemmas.{by_number, none_left, passed_last}
-use Rattle.radio_core.proofs.Slices.{after_both, apart_hold}
-use Rattle.radio_core.proofs.StandingLemmas.{kept, last_id_grows, standing_is}
-use Rattle.radio_core.proofs.StateLemmas.{AreApart}
+use Rattle.radio_core.specs.Handing.{data_in, block_in, is_number, of_client, handed_at, handed, delivered_at, delivered}
+use Rattle.radio_core.specs.Leave.{leaves_from}
+use Rattle.radio_core.specs.Others.{StandsOn}
+use Rattle.radio_core.specs.Outcomes.{says}
+use Rattle.radio_core.specs.Run.{world_after_all, run_after}
+use Rattle.radio_core.specs.Sound.{IsSound}
+use Rattle.radio_core.specs.Step.{outcome, reply_to, world_after}
+use Rattle.radio_core.specs.Ways.{Way, Strays, IsTold, IsDenied, IsRefused, ComesIn, Begins, TakesIn, SitsDown, HandsOut, Ends, FallsSilent, Goes, client_in}
+use Rattle.radio_core.proofs.FinishLemmas.{others_hold}
+use Rattle.radio_core.proofs.ServiceLemmas.{replies_fit}
+use Rattle.radio_core.proofs.SoundRuns.{sound_after, sound_run}
+use Rattle.radio_core.proofs.Standings.{turns_gone}
+use Rattle.radio_core.proofs.Ways.{way_of}
 
--- who is not there is unknown, and so is nobody else
+-- runs are joined
+after_joined : (w : World) (events more : List Event) → world_after_all w (events ++ more) ≡ world_after_all (world_after_all w events) more
+after_joined w [] more = refl
+after_joined w (event ∷ events) more = after_joined (world_after w event) events more
 
-pub unknown_to : (w : World) (id : ℕ) → client_of w.clients id ≡ None → standing_of w id ≡ Unknown
-unknown_to w id none = rw none refl
+-- who leaves is gone
+left_by : (w : World) (id : ℕ) → id ≤ w.house.last_id → (s : Standing) → standing_of w id ≡ s → HasLeft (changed w (leaves_from id s).change) id
+left_by w id given Unknown e = (given, e)
+left_by w id given (Feeds mount) e = (given, (turns_gone (silent w mount) id).his)
+left_by w id given (Undecided peer) e = (given, (turns_gone w id).his)
+left_by w id given Sits e = (given, (turns_gone w id).his)
+left_by w id given Answered e = (given, (turns_gone w id).his)
+left_by w id given (Finished rule) e = (given, (turns_gone w id).his)
 
-listener_known : (found : Option Rule) → standing_of_listener found ≡ Unknown → ⊥
-listener_known None e = cc
-listener_known (Some rule) e = cc
+left_at_once : (w : World) (id : ℕ) → id ≤ w.house.last_id → HasLeft (world_after w (Leave id)) id
+unfolding world_after outcome
+left_at_once w id given = left_by w id given (standing_of w id) refl
 
-client_known : (table : Table) (client : Client) (state : ClientState) → client.state ≡ state → standing_of_client table client ≡ Unknown → ⊥
-client_known table client IsUndecided e = rw e (λ unknown. cc)
-client_known table client (IsFeeding mount) e = rw e (λ unknown. cc)
-client_known table client Listens e = rw e (λ unknown. listener_known (rule_of table client.id) unknown)
-client_known table client IsAnswered e = rw e (λ unknown. cc)
-
-none_known : (w : World) (id : ℕ) → standing_of w id ≡ Unknown → client_of w.clients id ≡ None
-none_known w id e = by_found (client_of w.clients id) refl where
-  by_found : (found : Option Client) → client_of w.clients id ≡ found → client_of w.clients id ≡ None
-  by_found None here = here
-  by_found (Some client) here = absurd (client_known w.table client client.state refl (sym (standing_is w id client here) ∙ e))
-
--- what happens in his name is out of place
-
-module _ (w : World) (id : ℕ) (unknown : standing_of w id ≡ Unknown) where
-  out_of_place : (event : Event) → client_in event ≡ Some id → IsOutOfPlace w event
-  unfolding outcome
-  out_of_place (Arrive peer) his = cc
-  out_of_place (Source him path shown) his = let same : him ≡ id = cc in let e = ap (standing_of w) same ∙ unknown in rw e refl
-  out_of_place (Push him block) his = let same : him ≡ id = cc in let e = ap (standing_of w) same ∙ unknown in rw e refl
-  out_of_place (SourceEnd him) his = let same : him ≡ id = cc in let e = ap (standing_of w) same ∙ unknown in rw e refl
-  out_of_place (Listen him path) his = let same : him ≡ id = cc in let e = ap (standing_of w) same ∙ unknown in rw e refl
-  out_of_place (Draw him room) his = let same : him ≡ id = cc in let e = ap (standing_of w) same ∙ unknown in rw e refl
-  out_of_place (Leave him) his = let same : him ≡ id = cc in let e = ap (standing_of w) same ∙ unknown in rw e refl
-
-pub strays : (w : World) (event : Event) (id : ℕ) → HasLeft w id → client_in event ≡ Some id → IsOutOfPlace w event
-strays w event id left his = out_of_place w id (unknown_to w id left.1) event his
-
--- he does not come back
-
-by_client : {A : Type 0} (o : Option ℕ) (id : ℕ) → (o ≡ Some id → A) → ((o ≡ Some id → ⊥) → A) → A
-by_client None id his other = other (λ e. cc)
-by_client (Some him) id his other = by_number him id (λ e. his (ap (λ n. Some n) e)) (λ f. other (λ e. apart f e)) where
-  apart : (him == id) ≡ false → Some him ≡ Some id → ⊥
-  apart f e =
-      let same : him ≡ id = cc in
-      let always : (him == id) ≡ true = eq-eqb him id same in
-      let never : true ≡ false = sym always ∙ f in cc
-
-gone_after : (w : World) (event : Event) (id : ℕ) → HasLeft w id → HasLeft (world_after w event) id
-gone_after w event id left = by_client (client_in event) id
-    (λ his. subst (λ (o : Outcome). HasLeft o.world id) (sym (strays w event id left his)) left)
-    (λ other. (let grows = last_id_grows w event in let given = left.0 in omega arith, kept w id None left.1 joined event other)) where
-      not_new : (peer : Peer) → has_number id (newcomer (w.last_id + 1) peer w.time) ≡ false
-      not_new peer = let given : id ≤ w.last_id = left.0 in grind (arith, nat_tests)
-
-      joined : (peer : Peer) → client_of (w.clients ++ newcomer (w.last_id + 1) peer w.time ∷ []) id ≡ None
-      joined peer = passed_last (has_number id) w.clients (newcomer (w.last_id + 1) peer w.time) (not_new peer) ∙ left.1
-
-hands_none : (w : World) (event : Event) (id : ℕ) → HasLeft w id → handed_at w event id ≡ []
-hands_none w (Arrive peer) id left = refl
-hands_none w (Source him path shown) id left = refl
-hands_none w (Push him block) id left = refl
-hands_none w (SourceEnd him) id left = refl
-hands_none w (Listen him path) id left = refl
-hands_none w (Leave him) id left = refl
-hands_none w (Draw him room) id left = by_test (him == id) refl where
-  by_test : (b : Bool) → (him == id) ≡ b → handed_at w (Draw him room) id ≡ []
-  by_test false e = rw e refl
-  by_test true e = rw e (ap (λ (o : Outcome). data_in o.reply) (strays w (Draw him room) id left (ap (λ n. Some n) (eqb-true him id e))))
-
-brings_none : (w : World) (event : Event) (id : ℕ) → HasLeft w id → delivered_at w event id ≡ []
-brings_none w (Arrive peer) id left = refl
-brings_none w (Source him path shown) id left = refl
-brings_none w (SourceEnd him) id left = refl
-brings_none w (Listen him path) id left = refl
-brings_none w (Draw him room) id left = refl
-brings_none w (Leave him) id left = refl
-brings_none w (Push him block) id left = by_test (him == id) refl where
-  by_test : (b : Bool) → (him == id) ≡ b → delivered_at w (Push him block) id ≡ []
-  by_test false e = rw e refl
-  by_test true e = rw e (ap (λ (o : Outcome). block_in o.reply block) (strays w (Push him block) id left (ap (λ n. Some n) (eqb-true him id e))))
-
-pub stays_gone : (w : World) (events : List Event) (id : ℕ) → HasLeft w id → StaysGone w events id
-stays_gone w [] id left = record { is_gone = left; is_handed_nothing = refl; brings_nothing = refl }
-stays_gone w (event ∷ events) id left =
-    let later = stays_gone (world_after w event) events id (gone_after w event id left) in
-    record {
-      is_gone = later.is_gone;
-      is_handed_nothing = ap (λ bytes. bytes ++ handed (world_after w event) events id) (hands_none w event id left) ∙ later.is_handed_nothing;
-      brings_nothing = ap (λ bytes. bytes ++ delivered (world_after w event) events id) (brings_none w event id left) ∙ later.brings_nothing;
-    }
-
--- who leaves is not there any more
-
-module _ (w : World) (id : ℕ) (apart : AreApart w.clients) where
-  none_of_his : client_of (without_client w.clients id) id ≡ None
-  none_of_his = none_left (λ (client : Client). client.id) has_number (λ k x e. eqb-true x.id k e) id w.clients apart
-
-  by_standing : (s : Standing) → standing_of w id ≡ s → client_of (leaves w id).world.clients id ≡ None
-  by_standing Unknown e = let none = none_known w id e in rw e none
-  by_standing (Undecided peer) e = rw e none_of_his
-  by_standing (Feeds mount) e = rw e none_of_his
-  by_standing Sits e = rw e none_of_his
-  by_standing Answered e = rw e none_of_his
-  by_standing (Finished rule) e = rw e none_of_his
-
-  pub leaves_no_client : client_of (world_after w (Leave id)).clients id ≡ None
-  unfolding outcome
-  leaves_no_client = by_standing (standing_of w id) refl
-
-pub has_left : (settings : Settings) (events : List Event) (id : ℕ) → id ≤ (run_after settings events).last_id → HasLeft (run_after settings (events ++ Leave id ∷ [])) id
+pub has_left : (settings : Settings) (events : List Event) (id : ℕ) → id ≤ (run_after settings events).house.last_id → HasLeft (run_after settings (events ++ Leave id ∷ [])) id
 has_left settings events id given =
-    let w = run_after settings events in
-    let grows = last_id_grows w (Leave id) in
-    subst (λ (w' : World). HasLeft w' id) (sym (after_both (opening settings) events (Leave id ∷ [])))
-    (omega arith, leaves_no_client w id (apart_hold settings events))
+    subst (λ (x : World). HasLeft x id) (sym (after_joined _ events (Leave id ∷ []))) (left_at_once (run_after settings events) id given)
+
+-- whatever happens in his name is out of place
+module _ (w : World) (id : ℕ) (unknown : standing_of w id ≡ Unknown) where
+  his_standing : (him : ℕ) → Some him ≡ Some id → standing_of w him ≡ Unknown
+  his_standing him e = let same : him ≡ id = cc in ap (standing_of w) same ∙ unknown
+
+  pub strays : (event : Event) → client_in event ≡ Some id → IsOutOfPlace w event
+  unfolding outcome
+  strays (Arrive peer) e = cc
+  strays (Source asked) e = rw (his_standing asked.id e) refl
+  strays (Push him block) e = rw (his_standing him e) refl
+  strays (SourceEnd him) e = rw (his_standing him e) refl
+  strays (Listen asked) e = rw (his_standing asked.id e) refl
+  strays (Draw him room) e = rw (his_standing him e) refl
+  strays (Leave him) e = rw (his_standing him e) refl
+
+-- numbers are not taken back
+low_by : (w : World) (event : Event) (o : Outcome) → Way w event o → w.house.last_id ≤ (changed w o.change).house.last_id
+low_by w event o (ComesIn peer) = omega arith
+low_by w event o (Strays _) = omega arith
+low_by w event o (IsTold _ him by its known) = omega arith
+low_by w event o (IsDenied _ by v nobody) = omega arith
+low_by w event o (IsRefused _ him by v its undecided) = omega arith
+low_by w event o (Begins asked undecided none) = omega arith
+low_by w event o (TakesIn him mount block feeding) = omega arith
+low_by w event o (SitsDown asked peer session undecided live) = omega arith
+low_by w event o (HandsOut him room seat session sits has live) = omega arith
+low_by w event o (Ends him mount feeding) = omega arith
+low_by w event o (FallsSilent him mount feeding) = omega arith
+low_by w event o (Goes him other) = omega arith
+
+pub last_rises : (w : World) (event : Event) → w.house.last_id ≤ (world_after w event).house.last_id
+unfolding world_after
+last_rises w event = low_by w event (outcome w event) (way_of w event)
+
+-- an event is of this client, or not
+pub by_own : {A : Type 0} (event : Event) (id : ℕ) → (client_in event ≡ Some id → A) → ((client_in event ≡ Some id → ⊥) → is_number id (client_in event) ≡ false → A) → A
+by_own {A} event id own other = by_client (client_in event) refl where
+  by_client : (client : Option ℕ) → client_in event ≡ client → A
+  by_client None e = other (λ h. cc) (ap (is_number id) e)
+  by_client (Some him) e =
+      by_number him id
+      (λ same. own (e ∙ ap (λ (n : ℕ). Some n) same))
+      (λ apart. other (λ h. let both : Some him ≡ Some id = sym e ∙ h in let one : him ≡ id = cc in let itself : (him == id) ≡ true = grind (arith, nat_tests) in cc) (ap (is_number id) e ∙ apart))
+
+pub not_of : (event : Event) (id : ℕ) (bytes : List ℕ) → is_number id (client_in event) ≡ false → of_client event id bytes ≡ []
+not_of event id bytes e = rw e refl
+
+pub nothing_of : (event : Event) (id : ℕ) (bytes : List ℕ) → bytes ≡ [] → of_client event id bytes ≡ []
+nothing_of event id bytes e = either (is_number id (client_in event)) bytes e where
+  either : (b : Bool) (xs : List ℕ) → xs ≡ [] → (if b then xs else []) ≡ []
+  either true xs none = none
+  either false xs none = refl
+
+module _ (w : World) (s : IsSound w) (event : Event) (id : ℕ) (left : HasLeft w id) where
+  still_left : HasLeft (world_after w event) id
+  unfolding world_after
+  still_left =
+      by_own event id
+      (λ own. subst (λ (o : Outcome). HasLeft (changed w o.change) id) (sym (strays w id left.1 event own)) left)
+      (λ other apart. beside (others_hold w s event id other)) where
+        beside : StandsOn w event id → HasLeft (world_after w event) id
+        beside (inl same) = let low = last_rises w event in (omega (arith, low, left.0), same ∙ left.1)
+        beside (inr (inl (rule, sat, finished, finishes))) = let unknown : standing_of w id ≡ Unknown = left.1 in cc
+        beside (inr (inr arrived)) = let above = ((replies_fit w s event).arrived id arrived).2 in absurd (omega (arith, above, left.0))
+
+  nothing_handed : handed_at w event id ≡ []
+  unfolding reply_to
+  nothing_handed =
+      by_own event id
+      (λ own. nothing_of event id (data_in (reply_to w event)) (ap (λ (o : Outcome). data_in o.reply) (strays w id left.1 event own)))
+      (λ other apart. not_of event id (data_in (reply_to w event)) apart)
+
+  nothing_delivered : delivered_at w event id ≡ []
+  nothing_delivered =
+      by_own event id
+      (λ own. nothing_of event id (block_in (outcome w event).change) (ap (λ (o : Outcome). block_in o.change) (strays w id left.1 event own)))
+      (λ other apart. not_of event id (block_in (outcome w event).change) apart)
+
+pub stays_gone : (w : World) → IsSound w → (events : List Event) (id : ℕ) → HasLeft w id → StaysGone w events id
+stays_gone w s [] id left = record { is_gone = left; is_handed_nothing = refl; brings_nothing = refl }
+stays_gone w s (event ∷ events) id left =
+    let rest = stays_gone (world_after w event) (sound_after w s event) events id (still_left w s event id left) in
+    record {
+      is_gone = rest.is_gone;
+      is_handed_nothing = ap (λ xs. xs ++ handed (world_after w event) events id) (nothing_handed w s event id left) ∙ rest.is_handed_nothing;
+      brings_nothing = ap (λ xs. xs ++ delivered (world_after w event) events id) (nothing_delivered w s event id left) ∙ rest.brings_nothing;
+    }

@@ -1,259 +1,289 @@
-use Rattle.std.proofs.Common.{◌≡◌, Bool, true, false, not, ℕ, ◌<◌, ◌⊎◌, inl, inr, ◌+◌, ◌-◌, ◌≤◌, ◌==◌, Option, Some, None, List, [], ◌∷◌, ◌++◌, length, take, drop, refl, ap, sym, subst, ◌∙◌, arith, append_assoc}
-use Rattle.std.specs.Prelude.{find}
-use Rattle.std.specs.Str.{bytes_eq}
-use Rattle.std.proofs.lemmas.List.{append-nil, drop-append-le, take-append-le, length-take, drop-drop}
+-- the law of stretches
+use Rattle.std.proofs.Common.{◌≡◌, ◌⊎◌, inl, inr, true, false, Bool, ℕ, ◌+◌, ◌-◌, ◌<◌, ◌≤◌, ◌==◌, Option, Some, None, List, [], ◌∷◌, ◌++◌, zero, suc, length, take, drop, refl, ap, sym, subst, ◌∙◌, arith, append_assoc, length-append, length-drop}
+use Rattle.std.specs.Prelude.{if◌then◌else◌}
+use Rattle.std.proofs.lemmas.Bool.Decides.{nat_tests}
 use Rattle.std.proofs.Math.Seq.{take-add}
-use Rattle.std.proofs.Common.{length-drop}
-use Rattle.std.proofs.lemmas.Bool.{eqb-true, cases_lt}
-use Rattle.radio_policy.specs.Table.{arrive_rows, source_rows, push_rows, listen_rows}
-use Rattle.radio_policy.specs.Verdicts.{verdict_in}
+use Rattle.std.proofs.lemmas.List.{append-nil, take-append-le, drop-append-le, drop-drop}
+use Rattle.std.proofs.lemmas.Slice.Eq.{bytes_eq-Decides}
+use Rattle.std.specs.Str.{bytes_eq}
+use Rattle.radio_addr.specs.declared.peer.Peer.{Peer}
+use Rattle.radio_settings.specs.declared.settings.Settings.{Settings}
+use Rattle.radio_tables.specs.KeyLaws.{by_number, by_name}
 use Rattle.radio_core.specs.declared.event.Event.{Event}
-use Rattle.radio_core.specs.declared.event.Event.TheVariants.{Arrive, Source, Push, SourceEnd, Listen, Draw, Leave}
-use Rattle.radio_core.specs.declared.live.Session.{Session}
-use Rattle.radio_core.specs.declared.peer.Peer.{Peer}
+use Rattle.radio_core.specs.declared.event.Event.TheVariants.{Push}
+use Rattle.radio_core.specs.declared.outcome.Change.TheVariants.{TakeIn}
+use Rattle.radio_core.specs.declared.outcome.Outcome.{Outcome}
 use Rattle.radio_core.specs.declared.seats.Seat.{Seat}
-use Rattle.radio_core.specs.declared.standing.Standing.TheVariants.{Undecided, Sits}
-use Rattle.radio_core.specs.Lists.{update_first, without_first}
-use Rattle.radio_core.specs.Live.{is_of, session_of, opened}
-use Rattle.radio_core.specs.Stream.{with_block, data_at}
-use Rattle.radio_core.specs.Table.{Table, is_at, has_id, seat_of}
-use Rattle.radio_core.specs.World.{World, standing_of}
-use Rattle.radio_core.specs.Facts.{asker_of, arrive_facts, source_facts, push_facts, listen_facts}
-use Rattle.radio_core.specs.Cases.{Outcome, answered, if_sitting}
-use Rattle.radio_core.specs.Arrive.{comes_in}
-use Rattle.radio_core.specs.Source.{begins}
-use Rattle.radio_core.specs.Push.{takes_in}
-use Rattle.radio_core.specs.SourceEnd.{falls_silent}
-use Rattle.radio_core.specs.Listen.{first_seat, sits_down}
-use Rattle.radio_core.specs.Draw.{hands_out, hands_out_at, draws}
-use Rattle.radio_core.specs.Leave.{is_gone}
-use Rattle.radio_core.specs.Step.{outcome}
-use Rattle.radio_core.specs.Run.{world_after, world_after_all}
-use Rattle.radio_core.specs.Stretches.{data_in, handed_at, handed, IsNoLeave, SitsAt, KeepsSeat, between, IsOneStretch, StretchesAreWhole}
-use Rattle.radio_core.proofs.CaseLemmas.{verdict_cases, undecided_cases, feeding_cases, sitting_cases, leaving_cases}
-use Rattle.radio_core.proofs.FindLemmas.{find_before, find_without, find_apart, find_changed, find_same, find_kept, filter_passes_found, found_passes}
-use Rattle.radio_core.proofs.SeatLemmas.{found_beside}
-use Rattle.radio_core.proofs.SliceLemmas.{taken_length}
-use Rattle.radio_core.proofs.SoundLemmas.{one_name, is_false}
+use Rattle.radio_core.specs.declared.standing.Standing.TheVariants.{Unknown, Undecided, Feeds}
+use Rattle.radio_core.specs.World.{World, opening, standing_of}
+use Rattle.radio_core.specs.Changes.{changed, silent}
+use Rattle.radio_core.specs.Handing.{block_in, is_number, of_client, handed_at, handed, delivered_at, delivered}
+use Rattle.radio_core.specs.Seats.{seat_of}
+use Rattle.radio_core.specs.Sessions.{Session, session_of, opened, longer, without_session}
+use Rattle.radio_core.specs.Sound.{IsSound}
+use Rattle.radio_core.specs.Step.{outcome, world_after}
+use Rattle.radio_core.specs.Stream.{data_at, end_of}
+use Rattle.radio_core.specs.Stretches.{between, Sitting, sitting_in, begun_sittings, sittings, AreStretches, StretchesAreWhole}
+use Rattle.radio_core.specs.Ways.{Way, Strays, IsTold, IsDenied, IsRefused, ComesIn, Begins, TakesIn, SitsDown, HandsOut, Ends, FallsSilent, Goes, client_in, IsUndecided}
+use Rattle.radio_core.proofs.FinishLemmas.{undecided_before}
+use Rattle.radio_core.proofs.GoneLemmas.{not_of, nothing_of, last_rises}
+use Rattle.radio_core.proofs.Lookups.{beside_ended, is_over}
+use Rattle.radio_core.proofs.SeatSteps.{SeatStep, Stays, IsHanded, SitsIn, LosesIt, seat_step}
+use Rattle.radio_core.proofs.SoundSessions.{begun_cases, grown_cases}
+use Rattle.radio_core.proofs.SoundRuns.{sound_after, sound_opening}
+use Rattle.radio_core.proofs.Ways.{way_of}
 
--- a session later on: it is the same one, and its data has grown at its end
-abbrev Grew : Session → Session → Type 0
-Grew later session = (later.number ≡ session.number) × ((more : List ℕ) × (later.stream.bytes ≡ session.stream.bytes ++ more))
+-- slices of data that grows
 
-grew_none : (session : Session) → Grew session session
-grew_none session = (refl, ([], sym (append-nil session.stream.bytes)))
+between_grown : (start stop : ℕ) (xs ys : List ℕ) → start ≤ stop → stop ≤ length xs → between start stop (xs ++ ys) ≡ between start stop xs
+between_grown start stop xs ys low high = ap (take (stop - start)) (drop-append-le start xs ys (omega arith)) ∙ take-append-le (stop - start) (drop start xs) ys (omega (arith, length-drop start xs))
 
-module _ (w : World) (id : ℕ) (seat : Seat) (session : Session) (sits : standing_of w id ≡ Sits) (here : seat_of w.table id ≡ Some seat) (live : session_of w.live seat.mount ≡ Some session) where
-  -- after an event that hands him nothing, he has the same seat, and his session has grown at most
-  abbrev Stays : World → Type 0
-  Stays w' = (seat_of w'.table id ≡ Some seat) × ((later : Session) × (session_of w'.live seat.mount ≡ Some later) × Grew later session)
+-- stretches of what was sent are stretches still when more is sent
+grown_stretches : (sent more : ℕ → List ℕ) (sittings : List Sitting) (bytes : List ℕ) → AreStretches sent sittings bytes → AreStretches (λ n. sent n ++ more n) sittings bytes
+grown_stretches sent more [] bytes e = e
+grown_stretches sent more (sitting ∷ others) bytes (stop, rest, low, high, e, later) = (
+  stop,
+  rest,
+  low,
+  omega (arith, high, length-append (sent sitting.source) (more sitting.source)),
+  e ∙ ap (λ xs. xs ++ rest) (sym (between_grown sitting.start stop (sent sitting.source) (more sitting.source) low high)),
+  grown_stretches sent more others rest later,
+)
 
-  -- as far as he keeps his seat at the mount
-  abbrev Quiet : Outcome → Type 0
-  Quiet o = SitsAt o.world id seat.mount → Stays o.world
+same_stretches : (sent now : ℕ → List ℕ) → ((n : ℕ) → sent n ≡ now n) → (sittings : List Sitting) (bytes : List ℕ) → AreStretches sent sittings bytes → AreStretches now sittings bytes
+same_stretches sent now same [] bytes e = e
+same_stretches sent now same (sitting ∷ others) bytes (stop, rest, low, high, e, later) = (
+  stop,
+  rest,
+  low,
+  subst (λ (xs : List ℕ). stop ≤ length xs) (same sitting.source) high,
+  e ∙ ap (λ xs. between sitting.start stop xs ++ rest) (same sitting.source),
+  same_stretches sent now same others rest later,
+)
 
-  unchanged : Stays w
-  unchanged = (here, (session, live, grew_none session))
+-- one stretch more
+one_more : (sent : ℕ → List ℕ) (before : List Sitting) (old : List ℕ) (last : Sitting) (stop : ℕ) → AreStretches sent before old → last.start ≤ stop → stop ≤ length (sent last.source) → AreStretches sent (before ++ last ∷ []) (old ++ between last.start stop (sent last.source))
+one_more sent [] old last stop e low high = (stop, [], low, high, ap (λ xs. xs ++ between last.start stop (sent last.source)) e ∙ sym (append-nil (between last.start stop (sent last.source))), refl)
+one_more sent (sitting ∷ others) old last stop (end, rest, low', high', e, later) low high = (
+  end,
+  rest ++ between last.start stop (sent last.source),
+  low',
+  high',
+  ap (λ xs. xs ++ between last.start stop (sent last.source)) e ∙ append_assoc (between sitting.start end (sent sitting.source)) rest (between last.start stop (sent last.source)),
+  one_more sent others rest last stop later low high,
+)
 
-  quiet_begins : (him : ℕ) (mount : List ℕ) (new : Session) → Stays (record w { live = w.live ++ new ∷ [] })
-  quiet_begins him mount new = (here, (session, find_before (is_of seat.mount) w.live (new ∷ []) session live, grew_none session))
+-- how a listener has heard so far: what he has heard are stretches, the last of which ends at his place
+data Hears (sent : ℕ → List ℕ) : Option Seat → List Sitting → List ℕ → Type 0 where
+  Idle : (past : List Sitting) (heard : List ℕ) → AreStretches sent past heard → Hears sent None past heard
+  Listening : (seat : Seat) (before : List Sitting) (last : Sitting) (old : List ℕ) → AreStretches sent before old → last.source ≡ seat.session → last.start ≤ seat.place → seat.place ≤ length (sent last.source) → Hears sent (Some seat) (before ++ last ∷ []) (old ++ between last.start seat.place (sent last.source))
 
-  quiet_takes_in : (mount block : List ℕ) → Stays (takes_in w mount block).world
-  quiet_takes_in mount block =
-      let longer = λ (s : Session). record s { stream = with_block s.stream block; last_block = w.time } in
-      (here, find_changed (is_of seat.mount) (is_of mount) longer Grew (λ s. refl) grew_none (λ s. (refl, (block, refl))) w.live session live)
+heard_so_far : (sent : ℕ → List ℕ) (seat : Option Seat) (past : List Sitting) (heard : List ℕ) → Hears sent seat past heard → AreStretches sent past heard
+heard_so_far sent seat past heard (Idle _ _ stretches) = stretches
+heard_so_far sent seat past heard (Listening him before last old stretches source low high) = one_more sent before old last him.place stretches low high
 
-  -- another mount falls silent
-  silent_elsewhere : (mount : List ℕ) → is_at mount seat ≡ false → Stays (falls_silent w mount)
-  silent_elsewhere mount away =
-      let stays : not (is_at mount seat) ≡ true = ap not away in
-      let others = find_without (is_of seat.mount) (is_of mount) (λ (s : Session) e. is_false (is_of seat.mount s) (is_at mount seat) (one_name s.mount mount seat.mount e) stays) w.live in
-      (find_kept (λ (x : Seat). has_id x.id id) (λ (x : Seat). not (is_at mount x)) w.table.seats seat stays here, (session, others ∙ live, grew_none session))
+hears_as : (sent : ℕ → List ℕ) {seat now : Option Seat} {past later : List Sitting} {heard more : List ℕ} → seat ≡ now → past ≡ later → heard ≡ more → Hears sent seat past heard → Hears sent now later more
+hears_as sent {seat} {now} {past} {later} {heard} {more} es ep eh h =
+    subst (λ (o : Option Seat). Hears sent o later more) es (subst (λ (xs : List Sitting). Hears sent seat xs more) ep (subst (λ (xs : List ℕ). Hears sent seat past xs) eh h))
 
-  -- his own mount does not fall silent while he keeps his seat there
-  silent_there : (mount : List ℕ) (kept : Seat) → is_at mount seat ≡ true → seat_of (falls_silent w mount).table id ≡ Some kept → kept.mount ≡ seat.mount → ⊥
-  silent_there mount kept at found there =
-      let away : not (is_at mount kept) ≡ true = filter_passes_found (λ (x : Seat). has_id x.id id) (λ (x : Seat). not (is_at mount x)) w.table.seats kept found in
-      let also : is_at mount kept ≡ true = ap (λ (name : List ℕ). bytes_eq name mount) there ∙ at in
-      let never : not true ≡ true = rw also at away in
-      cc
+-- more was sent
+hears_grown : (sent more : ℕ → List ℕ) (seat : Option Seat) (past : List Sitting) (heard : List ℕ) → Hears sent seat past heard → Hears (λ n. sent n ++ more n) seat past heard
+hears_grown sent more seat past heard (Idle _ _ stretches) = Idle past heard (grown_stretches sent more past heard stretches)
+hears_grown sent more seat past heard (Listening him before last old stretches source low high) =
+    hears_as (λ n. sent n ++ more n) refl refl
+    (ap (λ xs. old ++ xs) (between_grown last.start him.place (sent last.source) (more last.source) low high))
+    (Listening him before last old (grown_stretches sent more before old stretches) source low (omega (arith, high, length-append (sent last.source) (more last.source))))
 
-  silent_by : (mount : List ℕ) (b : Bool) → is_at mount seat ≡ b → (kept : Seat) → seat_of (falls_silent w mount).table id ≡ Some kept → kept.mount ≡ seat.mount → Stays (falls_silent w mount)
-  silent_by mount true at kept found there = absurd (silent_there mount kept at found there)
-  silent_by mount false away kept found there = silent_elsewhere mount away
+-- a slice goes on where it ended
+taken_length : (n : ℕ) (xs : List ℕ) → take n xs ≡ take (length (take n xs)) xs
+taken_length zero xs = refl
+taken_length (suc n) [] = refl
+taken_length (suc n) (x ∷ xs) = ap (λ ys. x ∷ ys) (taken_length n xs)
 
-  -- another client is gone
-  others_seat : (him : ℕ) (table : Table) → (him == id) ≡ false → find (λ (x : Seat). has_id x.id id) (without_first (λ (x : Seat). has_id x.id him) table.seats) ≡ seat_of table id
-  others_seat him table other = find_without (λ (x : Seat). has_id x.id id) (λ (x : Seat). has_id x.id him) (λ x e. ap (λ n. n == id) (eqb-true x.id him e) ∙ other) table.seats
+between_more : (start place room : ℕ) (xs : List ℕ) → start ≤ place → between start place xs ++ take room (drop place xs) ≡ between start (place + length (take room (drop place xs))) xs
+between_more start place room xs forward =
+    let more = take room (drop place xs) in
+    let size = length more in
+    let sum : (place + size) - start ≡ (place - start) + size = omega arith in
+    let back : start + (place - start) ≡ place = omega arith in
+    ap (λ ys. between start place xs ++ ys) (taken_length room (drop place xs))
+    ∙ ap (λ n. between start place xs ++ take size (drop n xs)) (sym back)
+    ∙ ap (λ ys. between start place xs ++ take size ys) (sym (drop-drop (place - start) start xs))
+    ∙ sym (take-add (place - start) size (drop start xs))
+    ∙ ap (λ n. take n (drop start xs)) (sym sum)
 
-  quiet_gone : (him : ℕ) → (him == id) ≡ false → Stays (is_gone w him)
-  quiet_gone him other = (others_seat him w.table other ∙ here, (session, live, grew_none session))
+between_none : (place : ℕ) (xs : List ℕ) → between place place xs ≡ []
+between_none place xs = let none : place - place ≡ 0 = omega arith in ap (λ n. take n (drop place xs)) none
 
-  quiet_silent_gone : (him : ℕ) (mount : List ℕ) → (him == id) ≡ false → SitsAt (is_gone (falls_silent w mount) him) id seat.mount → Stays (is_gone (falls_silent w mount) him)
-  quiet_silent_gone him mount other keeps =
-      let same = others_seat him (falls_silent w mount).table other in
-      let stays : Stays (falls_silent w mount) = silent_by mount (is_at mount seat) refl keeps.seat (sym same ∙ keeps.has_the_seat) keeps.there in
-      (same ∙ stays.0, stays.1)
+-- a seat in the same session begins no sitting
+begun_same : (old seat : Seat) (b : Bool) → (old.session == seat.session) ≡ b → b ≡ true → (if b then [] else sitting_in seat ∷ []) ≡ []
+begun_same old seat true e h = refl
+begun_same old seat false e h = cc
 
-  -- another listener sits down
-  quiet_sits_down : (him : ℕ) (peer : Peer) (found : Option Session) → (him == id) ≡ false → Stays (sits_down w him peer found).world
-  quiet_sits_down him peer None other = unchanged
-  quiet_sits_down him peer (Some heard) other = (found_beside id (first_seat w him peer heard) w.table.seats other ∙ here, (session, live, grew_none session))
+begun_none : (old seat : Seat) → old.session ≡ seat.session → begun_sittings (Some old) (Some seat) ≡ []
+begun_none old seat same = let itself : (old.session == seat.session) ≡ true = grind (arith, nat_tests) in begun_same old seat (old.session == seat.session) refl itself
 
-  -- who sits does not ask to hear a mount
-  not_himself : (him : ℕ) (peer : Peer) (b : Bool) → (him == id) ≡ b → standing_of w him ≡ Undecided peer → (him == id) ≡ false
-  not_himself him peer false e undecided = e
-  not_himself him peer true e undecided =
-      let same : him ≡ id = eqb-true him id e in
-      let both : standing_of w id ≡ Undecided peer = ap (standing_of w) (sym same) ∙ undecided in
-      cc
+-- what an event does to his seat keeps all that he has heard stretches
+module _ (w : World) (sent : ℕ → List ℕ) (whole : (mount : List ℕ) (session : Session) → session_of w.house.live mount ≡ Some session → session.stream.bytes ≡ sent session.number) where
+  unchanged : (seat : Option Seat) (past more : List Sitting) (heard : List ℕ) → more ≡ [] → Hears sent seat past heard → Hears sent seat (past ++ more) (heard ++ [])
+  unchanged seat past more heard none h = hears_as sent refl (sym (ap (λ xs. past ++ xs) none ∙ append-nil past)) (sym (append-nil heard)) h
 
-  -- another listener draws
-  quiet_hands_out : (him room : ℕ) (other_seat : Seat) (found : Option Session) → has_id other_seat.id him ≡ true → (him == id) ≡ false → Stays (hands_out w other_seat room found).world
-  quiet_hands_out him room other_seat None e other = unchanged
-  quiet_hands_out him room other_seat (Some heard) e other =
-      let place = other_seat.place + length (data_at heard.stream other_seat.place room) in
-      let is_other : (x : Seat) → has_id x.id other_seat.id ≡ true → has_id x.id id ≡ false = λ x h. ap (λ n. n == id) (eqb-true x.id other_seat.id h ∙ eqb-true other_seat.id him e) ∙ other in
-      (find_apart (λ (x : Seat). has_id x.id id) (λ (x : Seat). has_id x.id other_seat.id) (λ x. record x { place = place }) (λ x h. (is_other x h, is_other x h)) w.table.seats ∙ here, (session, live, grew_none session))
+  handed_on : (seat : Seat) (session : Session) (room : ℕ) → session_of w.house.live seat.mount ≡ Some session → session.number ≡ seat.session → seat.place + length (data_at session.stream seat.place room) ≤ end_of session.stream → (past : List Sitting) (heard : List ℕ) → Hears sent (Some seat) past heard
+      → Hears sent (Some (record seat { place = seat.place + length (data_at session.stream seat.place room) })) past (heard ++ data_at session.stream seat.place room)
+  handed_on seat session room live number within past heard (Listening _ before last old stretches source low high) =
+      let all = sent last.source in
+      let same : session.stream.bytes ≡ all = whole seat.mount session live ∙ ap sent (number ∙ sym source) in
+      let drawn : data_at session.stream seat.place room ≡ take room (drop seat.place all) = ap (λ xs. take room (drop seat.place xs)) same in
+      let far : ℕ = seat.place + length (data_at session.stream seat.place room) in
+      let end : far ≡ seat.place + length (take room (drop seat.place all)) = ap (λ xs. seat.place + length xs) drawn in
+      let joined : (old ++ between last.start seat.place all) ++ data_at session.stream seat.place room ≡ old ++ between last.start far all =
+      append_assoc old (between last.start seat.place all) (data_at session.stream seat.place room)
+      ∙ ap (λ xs. old ++ (between last.start seat.place all ++ xs)) drawn
+      ∙ ap (λ xs. old ++ xs) (between_more last.start seat.place room all low)
+      ∙ ap (λ n. old ++ between last.start n all) (sym end) in
+      let size : length session.stream.bytes ≡ length all = ap length same in
+      hears_as sent refl refl (sym joined) (Listening (record seat { place = far }) before last old stretches source (omega (arith, low)) (omega (arith, within, size)))
 
-  quiet_hands_out_at : (him room : ℕ) (found : Option Seat) → seat_of w.table him ≡ found → (him == id) ≡ false → Stays (hands_out_at w room found).world
-  quiet_hands_out_at him room None e other = unchanged
-  quiet_hands_out_at him room (Some other_seat) e other = quiet_hands_out him room other_seat (session_of w.live other_seat.mount) (found_passes (λ (x : Seat). has_id x.id him) w.table.seats other_seat e) other
+  sits_in : (seat : Seat) (session : Session) → session_of w.house.live seat.mount ≡ Some session → session.number ≡ seat.session → seat.place ≤ end_of session.stream → (past : List Sitting) (heard : List ℕ) → Hears sent None past heard → Hears sent (Some seat) (past ++ sitting_in seat ∷ []) (heard ++ [])
+  sits_in seat session live number within past heard (Idle _ _ stretches) =
+      let same : session.stream.bytes ≡ sent seat.session = whole seat.mount session live ∙ ap sent number in
+      let size : length session.stream.bytes ≡ length (sent seat.session) = ap length same in
+      hears_as sent refl refl (ap (λ xs. heard ++ xs) (between_none seat.place (sent seat.session)))
+      (Listening seat past (sitting_in seat) heard stretches refl (omega arith) (omega (arith, within, size)))
 
-  -- he draws himself
-  own_draw : (him room : ℕ) → him ≡ id → draws w him room ≡ hands_out w seat room (Some session)
-  own_draw him room same = ap (λ n. draws w n room) same ∙ sitting (hands_out_at w room (seat_of w.table id)) ∙ ap (hands_out_at w room) here ∙ ap (hands_out w seat room) live where
-    sitting : (go : Outcome) → if_sitting w id go ≡ go
-    sitting go = rw sits refl
+  hears_step : (before later : Option Seat) (bytes : List ℕ) → SeatStep w before bytes later → (past : List Sitting) (heard : List ℕ) → Hears sent before past heard → Hears sent later (past ++ begun_sittings before later) (heard ++ bytes)
+  hears_step before later bytes (Stays None) past heard h = unchanged None past [] heard refl h
+  hears_step before later bytes (Stays (Some seat)) past heard h = unchanged (Some seat) past (begun_sittings (Some seat) (Some seat)) heard (begun_none seat seat refl) h
+  hears_step before later bytes (IsHanded seat session room live number within) past heard h =
+      let far : Seat = record seat { place = seat.place + length (data_at session.stream seat.place room) } in
+      hears_as sent refl (sym (ap (λ xs. past ++ xs) (begun_none seat far refl) ∙ append-nil past)) refl (handed_on seat session room live number within past heard h)
+  hears_step before later bytes (SitsIn seat session live number within) past heard h = sits_in seat session live number within past heard h
+  hears_step before later bytes (LosesIt None) past heard h = unchanged None past [] heard refl h
+  hears_step before later bytes (LosesIt (Some seat)) past heard h = unchanged None past [] heard refl (Idle past heard (heard_so_far sent (Some seat) past heard h))
 
-  -- after an event: his next seat is at the same mount, its session is the same one, and what he was handed stands between his places
-  record Next (event : Event) : Type 0 where
-    seat_next : Seat
-    session_next : Session
-    has_next : seat_of (world_after w event).table id ≡ Some seat_next
-    mount_next : seat_next.mount ≡ seat.mount
-    live_next : session_of (world_after w event).live seat.mount ≡ Some session_next
-    grew : Grew session_next session
-    moved : seat_next.place ≡ seat.place + length (handed_at w event id)
-    part : handed_at w event id ≡ take (length (handed_at w event id)) (drop seat.place session.stream.bytes)
+-- what was sent so far is what the sessions have
 
-  of_stays : (event : Event) → handed_at w event id ≡ [] → Stays (world_after w event) → Next event
-  of_stays event none stays = record {
-    seat_next = seat;
-    session_next = stays.1.0;
-    has_next = stays.0;
-    mount_next = refl;
-    live_next = stays.1.1;
-    grew = stays.1.2;
-    moved = let no_bytes : length (handed_at w event id) ≡ 0 = ap length none in omega arith;
-    part = none ∙ sym (ap (λ (h : List ℕ). take (length h) (drop seat.place session.stream.bytes)) none);
-  }
+record Sent (w : World) (sent : ℕ → List ℕ) : Type 0 where
+  pub whole : (mount : List ℕ) (session : Session) → session_of w.house.live mount ≡ Some session → session.stream.bytes ≡ sent session.number
+  pub none_yet : (id : ℕ) (peer : Peer) → standing_of w id ≡ Undecided peer → sent id ≡ []
+  pub none_above : (id : ℕ) → w.house.last_id < id → sent id ≡ []
 
-  next_own : (him room : ℕ) → (him == id) ≡ true → Next (Draw him room)
-  unfolding outcome
-  next_own him room e =
-      let same : him ≡ id = eqb-true him id e in
-      let bytes = data_at session.stream seat.place room in
-      let drawn : handed_at w (Draw him room) id ≡ bytes = rw e (ap (λ (o : Outcome). data_in o.reply) (own_draw him room same)) in
-      let place = seat.place + length bytes in
-      let his : seat.id ≡ id = eqb-true seat.id id (found_passes (λ (x : Seat). has_id x.id id) w.table.seats seat here) in
-      let move = λ (x : Seat). record x { place = place } in
-      let found : find (λ (x : Seat). has_id x.id id) (update_first (λ (x : Seat). has_id x.id seat.id) move w.table.seats) ≡ Some (move seat) =
-      ap (λ (n : ℕ). find (λ (x : Seat). has_id x.id id) (update_first (λ (x : Seat). has_id x.id n) move w.table.seats)) his
-      ∙ find_same (λ (x : Seat). has_id x.id id) move (λ x. refl) w.table.seats seat here in
-      record {
-        seat_next = move seat;
-        session_next = session;
-        has_next = ap (λ (o : Outcome). seat_of o.world.table id) (own_draw him room same) ∙ found;
-        mount_next = refl;
-        live_next = ap (λ (o : Outcome). session_of o.world.live seat.mount) (own_draw him room same) ∙ live;
-        grew = grew_none session;
-        moved = ap (λ (h : List ℕ). seat.place + length h) (sym drawn);
-        part = drawn ∙ taken_length room (drop seat.place session.stream.bytes) ∙ ap (λ (h : List ℕ). take (length h) (drop seat.place session.stream.bytes)) (sym drawn);
-      }
+with_nothing : (xs ys : List ℕ) → ys ≡ [] → xs ≡ xs ++ ys
+with_nothing xs ys e = sym (ap (λ zs. xs ++ zs) e ∙ append-nil xs)
 
-  next_draw : (him room : ℕ) (b : Bool) → (him == id) ≡ b → Next (Draw him room)
-  unfolding outcome
-  next_draw him room true e = next_own him room e
-  next_draw him room false e = of_stays (Draw him room) (rw e refl)
-      (sitting_cases w him (λ o. Stays o.world) unchanged (λ by f. unchanged) (hands_out_at w room (seat_of w.table him)) (λ f. quiet_hands_out_at him room (seat_of w.table him) refl e) (standing_of w him) refl)
+his_own : (b : Bool) (bytes : List ℕ) → b ≡ true → bytes ≡ (if b then bytes else [])
+his_own true bytes e = refl
+his_own false bytes e = cc
 
-  next : (event : Event) → IsNoLeave event id → SitsAt (world_after w event) id seat.mount → Next event
-  unfolding outcome
-  next (Arrive peer) stays keeps = of_stays (Arrive peer) refl (verdict_cases (verdict_in (arrive_rows (arrive_facts w))) w (comes_in w peer) (λ o. Stays o.world) (λ by v. unchanged) (λ v. unchanged))
-  next (Source him path shown) stays keeps = of_stays (Source him path shown) refl
-      (undecided_cases w him (λ o. Stays o.world) unchanged (λ by e. unchanged) _
-      (λ peer e. verdict_cases (verdict_in (source_rows (source_facts w path) (asker_of path))) (answered w him) (begins w him path shown) (λ o. Stays o.world) (λ by v. unchanged) (λ v. quiet_begins him path (opened path him shown w.time)))
-      (standing_of w him) refl)
-  next (Push him block) stays keeps = of_stays (Push him block) refl
-      (feeding_cases w him (λ o. Stays o.world) unchanged (λ by e. unchanged) _
-      (λ mount e. verdict_cases (verdict_in (push_rows (push_facts w mount block))) w (takes_in w mount block) (λ o. Stays o.world) (λ by v. unchanged) (λ v. quiet_takes_in mount block))
-      (standing_of w him) refl)
-  next (SourceEnd him) stays keeps = of_stays (SourceEnd him) refl
-      (feeding_cases w him Quiet (λ k. unchanged) (λ by e k. unchanged) _ (λ mount e k. silent_by mount (is_at mount seat) refl k.seat k.has_the_seat k.there) (standing_of w him) refl keeps)
-  next (Listen him path) stays keeps = of_stays (Listen him path) refl
-      (undecided_cases w him (λ o. Stays o.world) unchanged (λ by e. unchanged) _
-      (λ peer e. verdict_cases (verdict_in (listen_rows (listen_facts w path) (asker_of path))) (answered w him) (sits_down w him peer (session_of w.live path)) (λ o. Stays o.world) (λ by v. unchanged) (λ v. quiet_sits_down him peer (session_of w.live path) (not_himself him peer (him == id) refl e)))
-      (standing_of w him) refl)
-  next (Draw him room) stays keeps = next_draw him room (him == id) refl
-  next (Leave him) stays keeps = of_stays (Leave him) refl
-      (leaving_cases w him Quiet (λ k. unchanged) (λ mount e k. quiet_silent_gone him mount stays k) (λ k. quiet_gone him stays) (standing_of w him) refl keeps)
+module _ (w : World) (s : IsSound w) (sent : ℕ → List ℕ) (h : Sent w sent) where
+  -- only a source brings something
+  brings_nothing : (event : Event) (o : Outcome) → Way w event o → (id : ℕ) → ((mount : List ℕ) → standing_of w id ≡ Feeds mount → ⊥) → of_client event id (block_in o.change) ≡ []
+  brings_nothing event o (TakesIn him mount block feeding) id not =
+      by_number him id (λ same. absurd (not mount (ap (standing_of w) (sym same) ∙ feeding))) (λ other. not_of (Push him block) id block other)
+  brings_nothing event o (Strays _) id not = nothing_of event id [] refl
+  brings_nothing event o (IsTold _ him by its known) id not = nothing_of event id [] refl
+  brings_nothing event o (IsDenied _ by v nobody) id not = nothing_of event id [] refl
+  brings_nothing event o (IsRefused _ him by v its undecided) id not = nothing_of event id [] refl
+  brings_nothing event o (ComesIn peer) id not = refl
+  brings_nothing event o (Begins asked undecided none) id not = nothing_of event id [] refl
+  brings_nothing event o (SitsDown asked peer session undecided live) id not = nothing_of event id [] refl
+  brings_nothing event o (HandsOut him room seat session sits has live) id not = nothing_of event id [] refl
+  brings_nothing event o (Ends him mount feeding) id not = nothing_of event id [] refl
+  brings_nothing event o (FallsSilent him mount feeding) id not = nothing_of event id [] refl
+  brings_nothing event o (Goes him other) id not = nothing_of event id [] refl
 
--- the same bytes stand there when the data has grown
-same_part : (place count : ℕ) (bytes more : List ℕ) → count ≤ length (drop place bytes) → take count (drop place bytes) ≡ take count (drop place (bytes ++ more))
-same_part place count bytes more few = by_place (cases_lt (length bytes) place) where
-  by_place : (length bytes < place) ⊎ (place ≤ length bytes) → take count (drop place bytes) ≡ take count (drop place (bytes ++ more))
-  by_place (inl past) =
-      let none : count ≡ 0 = omega (arith, length-drop place bytes) in
-      ap (λ n. take n (drop place bytes)) none ∙ sym (ap (λ n. take n (drop place (bytes ++ more))) none)
-  by_place (inr inside) = sym (ap (take count) (drop-append-le place bytes more inside) ∙ take-append-le count (drop place bytes) more few)
+  whole_now : Event → Outcome → Type 0
+  whole_now event o = (mount : List ℕ) (session : Session) → session_of (changed w o.change).house.live mount ≡ Some session → session.stream.bytes ≡ sent session.number ++ of_client event session.number (block_in o.change)
 
--- what was handed first, and what stands from there on, are what stands from the start on
-joined : (first rest bytes more : List ℕ) (start middle stop : ℕ) → first ≡ take (length first) (drop start bytes) → middle ≡ start + length first → middle ≤ stop → rest ≡ between middle stop (bytes ++ more) → first ++ rest ≡ between start stop (bytes ++ more)
-joined first rest bytes more start middle stop part moved forward later =
-    let whole = bytes ++ more in
-    let size = length first in
-    let few : size ≤ length (drop start bytes) = omega (arith, ap length part ∙ length-take size (drop start bytes)) in
-    let sum : stop - start ≡ size + (stop - middle) = omega arith in
-    let front : first ≡ take size (drop start whole) = part ∙ same_part start size bytes more few in
-    let back : rest ≡ take (stop - middle) (drop size (drop start whole)) = later ∙ ap (λ n. take (stop - middle) (drop n whole)) moved ∙ sym (ap (take (stop - middle)) (drop-drop size start whole)) in
-    ap (λ xs. xs ++ rest) front ∙ ap (λ xs. take size (drop start whole) ++ xs) back
-    ∙ sym (take-add size (stop - middle) (drop start whole))
-    ∙ sym (ap (λ n. take n (drop start whole)) sum)
+  as_it_was : (event : Event) (mount : List ℕ) (session : Session) → session_of w.house.live mount ≡ Some session → session.stream.bytes ≡ sent session.number ++ of_client event session.number []
+  as_it_was event mount session live = h.whole mount session live ∙ with_nothing (sent session.number) (of_client event session.number []) (nothing_of event session.number [] refl)
 
--- from one event to all
-pub stretches_hold : (w : World) → StretchesAreWhole w
-stretches_hold w [] id seat session sits here live keeps = record {
-  seat_now = seat;
-  session_now = session;
-  has_the_seat = here;
-  is_live = live;
-  same_session = refl;
-  more = [];
-  data_grew = sym (append-nil session.stream.bytes);
-  forward = omega arith;
-  in_order = let none : seat.place - seat.place ≡ 0 = omega arith in sym (ap (λ n. take n (drop seat.place session.stream.bytes)) none);
-}
-stretches_hold w (event ∷ events) id seat session sits here live keeps =
-    let w' = world_after w event in
-    let step : Next w id seat session sits here live event = next w id seat session sits here live event keeps.0 keeps.1 in
-    let rest : IsOneStretch w' events id step.seat_next step.session_next =
-    stretches_hold w' events id step.seat_next step.session_next keeps.1.sits step.has_next (ap (session_of w'.live) step.mount_next ∙ step.live_next)
-    (subst (λ (m : List ℕ). KeepsSeat w' events id m) (sym step.mount_next) keeps.2) in
-    let more = step.grew.1.0 ++ rest.more in
-    let grown : rest.session_now.stream.bytes ≡ session.stream.bytes ++ more =
-    rest.data_grew ∙ ap (λ bs. bs ++ rest.more) step.grew.1.1 ∙ append_assoc session.stream.bytes step.grew.1.0 rest.more in
-    record {
-      seat_now = rest.seat_now;
-      session_now = rest.session_now;
-      has_the_seat = rest.has_the_seat;
-      is_live = ap (session_of (world_after_all w' events).live) (sym step.mount_next) ∙ rest.is_live;
-      same_session = rest.same_session ∙ step.grew.0;
-      more = more;
-      data_grew = grown;
-      forward = let m = step.moved in let f = rest.forward in omega arith;
-      in_order =
-          joined (handed_at w event id) (handed w' events id) session.stream.bytes more seat.place step.seat_next.place rest.seat_now.place
-          step.part step.moved rest.forward (rest.in_order ∙ ap (between step.seat_next.place rest.seat_now.place) grown)
-          ∙ sym (ap (between seat.place rest.seat_now.place) grown);
-    }
+  left_over : (event : Event) (ended mount : List ℕ) (session : Session) → session_of (without_session w.house.live ended) mount ≡ Some session → session.stream.bytes ≡ sent session.number ++ of_client event session.number []
+  left_over event ended mount session e =
+      by_name ended mount
+      (λ same. let none : session_of (without_session w.house.live ended) mount ≡ None = ap (session_of (without_session w.house.live ended)) (sym same) ∙ is_over w.house.live ended in cc)
+      (λ apart. as_it_was event mount session (sym (beside_ended w.house.live ended mount apart) ∙ e))
+
+  grown_whole : (him : ℕ) (mount block : List ℕ) → standing_of w him ≡ Feeds mount → (other : List ℕ) (now : Session) → session_of (changed w (TakeIn mount block)).house.live other ≡ Some now → now.stream.bytes ≡ sent now.number ++ of_client (Push him block) now.number block
+  grown_whole him mount block feeding other now e =
+      grown_cases w s mount block other now e
+      (λ session same found one. subst (λ (x : Session). x.stream.bytes ≡ sent x.number ++ of_client (Push him block) x.number block) one (here session found))
+      (λ apart found.
+      h.whole other now found
+      ∙ with_nothing (sent now.number) (of_client (Push him block) now.number block)
+      (by_number him now.number
+      (λ same. let both : Feeds mount ≡ Feeds other = sym feeding ∙ ap (standing_of w) same ∙ s.fed other now found in let one : mount ≡ other = cc in let there : bytes_eq mount other ≡ true = (bytes_eq-Decides mount other).1 one in cc)
+      (λ away. not_of (Push him block) now.number block away)))
+      (λ none. let ours = s.feeds him mount feeding in let found : session_of w.house.live mount ≡ Some ours.0 = ours.1 in cc) where
+        here : (session : Session) → session_of w.house.live mount ≡ Some session → session.stream.bytes ++ block ≡ sent session.number ++ of_client (Push him block) session.number block
+        here session found =
+            let ours = s.feeds him mount feeding in
+            let both : Some ours.0 ≡ Some session = sym ours.1 ∙ found in
+            let one : ours.0 ≡ session = cc in
+            let number : him ≡ session.number = sym ours.2 ∙ ap (λ (x : Session). x.number) one in
+            let itself : (him == session.number) ≡ true = grind (arith, nat_tests) in
+            ap (λ xs. xs ++ block) (h.whole mount session found) ∙ ap (λ xs. sent session.number ++ xs) (his_own (him == session.number) block itself)
+
+  whole_by : (event : Event) (o : Outcome) → Way w event o → whole_now event o
+  unfolding whole_now
+  whole_by event o (TakesIn him mount block feeding) = grown_whole him mount block feeding
+  whole_by event o (Begins asked undecided none) = λ mount session e.
+      begun_cases w s asked.id asked.mount asked.shown undecided.0 undecided.1 none mount session e
+      (λ same one. subst (λ (x : Session). x.stream.bytes ≡ sent x.number ++ of_client event x.number []) one
+      (sym (h.none_yet asked.id undecided.0 undecided.1) ∙ with_nothing (sent asked.id) (of_client event asked.id []) (nothing_of event asked.id [] refl)))
+      (λ old. as_it_was event mount session old)
+  whole_by event o (Ends him mount feeding) = left_over event mount
+  whole_by event o (FallsSilent him mount feeding) = left_over event mount
+  whole_by event o (Strays _) = as_it_was event
+  whole_by event o (IsTold _ him by its known) = as_it_was event
+  whole_by event o (IsDenied _ by v nobody) = as_it_was event
+  whole_by event o (IsRefused _ him by v its undecided) = as_it_was event
+  whole_by event o (ComesIn peer) = as_it_was event
+  whole_by event o (SitsDown asked peer session undecided live) = as_it_was event
+  whole_by event o (HandsOut him room seat session sits has live) = as_it_was event
+  whole_by event o (Goes him other) = as_it_was event
+
+  sent_step : (event : Event) → Sent (world_after w event) (λ n. sent n ++ delivered_at w event n)
+  unfolding world_after whole_now
+  sent_step event = record {
+    whole = whole_by event (outcome w event) (way_of w event);
+    none_yet = none_yet;
+    none_above = λ id high.
+        let low = last_rises w event in
+        let above : w.house.last_id < id = omega (arith, low, high) in
+        nothing id (h.none_above id above) (λ mount f. let unknown : standing_of w id ≡ Unknown = s.numbered id above in cc);
+  } where
+    nothing : (id : ℕ) → sent id ≡ [] → ((mount : List ℕ) → standing_of w id ≡ Feeds mount → ⊥) → sent id ++ delivered_at w event id ≡ []
+    nothing id none not = ap (λ xs. xs ++ delivered_at w event id) none ∙ brings_nothing event (outcome w event) (way_of w event) id not
+
+    by_before : (id : ℕ) (peer : Peer) → (standing_of w id ≡ Undecided peer) ⊎ (w.house.last_id < id) → sent id ++ delivered_at w event id ≡ []
+    by_before id peer (inl before) = nothing id (h.none_yet id peer before) (λ mount f. cc)
+    by_before id peer (inr above) = nothing id (h.none_above id above) (λ mount f. let unknown : standing_of w id ≡ Unknown = s.numbered id above in cc)
+
+    none_yet : (id : ℕ) (peer : Peer) → standing_of (world_after w event) id ≡ Undecided peer → sent id ++ delivered_at w event id ≡ []
+    none_yet id peer e = by_before id peer (undecided_before w s event id peer e)
+
+-- from any state on: what was heard so far and what the events hand out are stretches of what was sent so far and what they deliver
+all_stretches : (w : World) → IsSound w → (sent : ℕ → List ℕ) → Sent w sent → (id : ℕ) (past : List Sitting) (heard : List ℕ) → Hears sent (seat_of w.seats id) past heard → (events : List Event)
+    → AreStretches (λ n. sent n ++ delivered w events n) (past ++ sittings w events id) (heard ++ handed w events id)
+all_stretches w s sent h id past heard so_far [] =
+    subst (λ (xs : List Sitting). AreStretches (λ n. sent n ++ []) xs (heard ++ [])) (sym (append-nil past))
+    (subst (λ (bytes : List ℕ). AreStretches (λ n. sent n ++ []) past bytes) (sym (append-nil heard))
+    (grown_stretches sent (λ n. []) past heard (heard_so_far sent (seat_of w.seats id) past heard so_far)))
+all_stretches w s sent h id past heard so_far (event ∷ events) =
+    let later = world_after w event in
+    let step = seat_step w s id event in
+    let begun = begun_sittings (seat_of w.seats id) (seat_of later.seats id) in
+    let bytes = handed_at w event id in
+    let heard_now = hears_step w sent h.whole (seat_of w.seats id) (seat_of later.seats id) bytes step past heard so_far in
+    let more = λ (n : ℕ). delivered_at w event n in
+    let now = λ (n : ℕ). sent n ++ more n in
+    let grown = hears_grown sent more (seat_of later.seats id) (past ++ begun) (heard ++ bytes) heard_now in
+    let rest = all_stretches later (sound_after w s event) now (sent_step w s sent h event) id (past ++ begun) (heard ++ bytes) grown events in
+    same_stretches (λ n. now n ++ delivered later events n) (λ n. sent n ++ (more n ++ delivered later events n)) (λ n. append_assoc (sent n) (more n) (delivered later events n)) (past ++ (begun ++ sittings later events id)) (heard ++ (bytes ++ handed later events id))
+    (subst (λ (xs : List Sitting). AreStretches (λ n. now n ++ delivered later events n) xs (heard ++ (bytes ++ handed later events id))) (append_assoc past begun (sittings later events id))
+    (subst (λ (xs : List ℕ). AreStretches (λ n. now n ++ delivered later events n) ((past ++ begun) ++ sittings later events id) xs) (append_assoc heard bytes (handed later events id)) rest))
+
+pub stretches_hold : (settings : Settings) (events : List Event) → StretchesAreWhole settings events
+stretches_hold settings events id =
+    all_stretches (opening settings) (sound_opening settings) (λ n. []) (record { whole = λ mount session e. cc; none_yet = λ n peer e. cc; none_above = λ n h. refl }) id [] [] (Idle [] [] refl) events

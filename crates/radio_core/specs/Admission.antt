@@ -1,32 +1,41 @@
-use Rattle.std.specs.Prelude.{◌≡◌, ◌⊎◌, ℕ, List, Some}
+use Rattle.std.specs.Prelude.{◌≡◌, ◌⊎◌, ℕ, ◌-◌, ◌≤◌, List, Option, Some}
+use Rattle.radio_settings.specs.declared.field.Shown.{Shown}
+use Rattle.radio_tables.specs.Lists.{Has}
 use Rattle.radio_core.specs.declared.event.Event.{Event}
 use Rattle.radio_core.specs.declared.event.Event.TheVariants.{Listen}
-use Rattle.radio_core.specs.declared.event.Reply.TheVariants.{Seated}
-use Rattle.radio_core.specs.declared.live.Session.{Session}
+use Rattle.radio_core.specs.declared.event.ListenRequest.{ListenRequest}
+use Rattle.radio_core.specs.declared.reply.Reply.TheVariants.{Seated}
 use Rattle.radio_core.specs.declared.seats.Seat.{Seat}
-use Rattle.radio_core.specs.declared.shown.Shown.{Shown}
-use Rattle.radio_core.specs.Lists.{Has}
-use Rattle.radio_core.specs.Live.{session_of}
-use Rattle.radio_core.specs.Run.{reply_to, world_after}
+use Rattle.radio_core.specs.Listen.{burst_of}
+use Rattle.radio_core.specs.Seats.{seat_of}
+use Rattle.radio_core.specs.Sessions.{Session, session_of}
+use Rattle.radio_core.specs.Step.{reply_to, world_after}
 use Rattle.radio_core.specs.Stream.{WholeStream, end_of}
-use Rattle.radio_core.specs.Table.{seat_of}
 use Rattle.radio_core.specs.World.{World}
 
 -- a block starts at the place, or it is the end, where the next one will
 abbrev pub IsBlockStart : WholeStream → ℕ → Type 0
 IsBlockStart stream place = Has place stream.starts ⊎ (place ≡ end_of stream)
 
--- the listener has a seat in the session that the mount of this path had when he asked, and his place is where a block starts
-pub record IsSeated (w w' : World) (id : ℕ) (path : List ℕ) : Type 0 where
-  pub seat : Seat
-  pub session : Session
-  pub is_live : session_of w.live path ≡ Some session
-  pub has_the_seat : seat_of w'.table id ≡ Some seat
-  pub at_the_mount : seat.mount ≡ path
-  pub in_the_session : seat.session ≡ session.number
-  pub at_a_block : IsBlockStart session.stream seat.place
+-- the place is the earliest block start from which at most so many bytes are there already
+pub record IsEarliestStart (stream : WholeStream) (burst place : ℕ) : Type 0 where
+  pub at_a_block : IsBlockStart stream place
+  pub in_the_burst : end_of stream - place ≤ burst
+  pub earliest : (other : ℕ) → IsBlockStart stream other → end_of stream - other ≤ burst → place ≤ other
 
--- only who asks to hear a mount is seated, and he begins where a block starts
+-- the listener has a seat in the session that the mount of his path had when he asked, is shown what it shows, and begins at the earliest block start that his burst allows
+pub record IsSeated (w : World) (event : Event) (shown : Shown) : Type 0 where
+  pub asked : ListenRequest
+  pub listens : event ≡ Listen asked
+  pub session : Session
+  pub is_live : session_of w.house.live asked.mount ≡ Some session
+  pub shows : shown ≡ session.shown
+  pub seat : Seat
+  pub has_the_seat : seat_of (world_after w event).seats asked.id ≡ Some seat
+  pub at_the_mount : seat.mount ≡ asked.mount
+  pub in_the_session : seat.session ≡ session.number
+  pub starts : IsEarliestStart session.stream (burst_of w.house asked.mount) seat.place
+
+-- only who asks to hear a mount is seated, and he begins where his burst begins
 abbrev pub BeginsAtABlock : World → Event → Type 0
-BeginsAtABlock w (Listen id path) = (shown : Shown) → reply_to w (Listen id path) ≡ Seated shown → IsSeated w (world_after w (Listen id path)) id path
-BeginsAtABlock w event = (shown : Shown) → reply_to w event ≡ Seated shown → ⊥
+BeginsAtABlock w event = (interval : Option ℕ) (shown : Shown) → reply_to w event ≡ Seated interval shown → IsSeated w event shown

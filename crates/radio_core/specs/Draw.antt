@@ -1,24 +1,26 @@
 use Rattle.std.specs.Prelude.{ℕ, ◌+◌, length, Option, Some, None}
-use Rattle.radio_core.specs.declared.event.Reply.TheVariants.{Drawn, Stray}
-use Rattle.radio_core.specs.declared.live.Session.{Session}
+use Rattle.radio_core.specs.declared.house.House.{House}
+use Rattle.radio_core.specs.declared.reply.Reply.TheVariants.{Drawn, Stray}
+use Rattle.radio_core.specs.declared.outcome.Change.TheVariants.{Nothing, Hear}
+use Rattle.radio_core.specs.declared.outcome.Outcome.{Outcome}
 use Rattle.radio_core.specs.declared.seats.Seat.{Seat}
-use Rattle.radio_core.specs.Live.{session_of}
+use Rattle.radio_core.specs.Sessions.{Session, session_of}
 use Rattle.radio_core.specs.Stream.{data_at}
-use Rattle.radio_core.specs.Table.{seat_of, moved_to}
-use Rattle.radio_core.specs.World.{World}
-use Rattle.radio_core.specs.Cases.{Outcome, says, if_sitting}
+use Rattle.radio_core.specs.Seats.{seat_of}
+use Rattle.radio_core.specs.World.{World, standing_of}
+use Rattle.radio_core.specs.Outcomes.{says, if_sitting}
 
--- the listener is handed what stands at his place, which moves past it
-abbrev pub hands_out : World → Seat → ℕ → Option Session → Outcome
-hands_out w seat room None = says Stray w
-hands_out w seat room (Some session) =
+-- the listener is handed what stands at his place, which moves past it, and is told the title of then
+abbrev pub hands_out : ℕ → Seat → ℕ → Option Session → Outcome
+hands_out id seat room None = says Stray Nothing
+hands_out id seat room (Some session) =
     let bytes = data_at session.stream seat.place room in
-    says (Drawn bytes) (record w { table = moved_to w.table seat.id (seat.place + length bytes) })
+    says (Drawn bytes session.title) (Hear id (seat.place + length bytes))
 
-abbrev pub hands_out_at : World → ℕ → Option Seat → Outcome
-hands_out_at w room None = says Stray w
-hands_out_at w room (Some seat) = hands_out w seat room (session_of w.live seat.mount)
+abbrev pub hands_out_at : House → ℕ → ℕ → Option Seat → Outcome
+hands_out_at house id room None = says Stray Nothing
+hands_out_at house id room (Some seat) = hands_out id seat room (session_of house.live seat.mount)
 
 -- a listener has room for so many bytes
 abbrev pub draws : World → ℕ → ℕ → Outcome
-draws w id room = if_sitting w id (hands_out_at w room (seat_of w.table id))
+draws w id room = if_sitting (standing_of w id) (hands_out_at w.house id room (seat_of w.seats id))

@@ -1,21 +1,21 @@
-use Rattle.std.specs.Prelude.{◌≡◌, ℕ, ◌≤◌, None, List, []}
+use Rattle.std.specs.Prelude.{◌≡◌, ℕ, ◌≤◌, List, []}
 use Rattle.radio_core.specs.declared.event.Event.{Event}
-use Rattle.radio_core.specs.declared.event.Reply.TheVariants.{Stray}
-use Rattle.radio_core.specs.Cases.{says}
-use Rattle.radio_core.specs.Clients.{client_of}
+use Rattle.radio_core.specs.declared.outcome.Change.TheVariants.{Nothing}
+use Rattle.radio_core.specs.declared.reply.Reply.TheVariants.{Stray}
+use Rattle.radio_core.specs.declared.standing.Standing.TheVariants.{Unknown}
+use Rattle.radio_core.specs.Handing.{handed, delivered}
+use Rattle.radio_core.specs.Outcomes.{says}
 use Rattle.radio_core.specs.Run.{world_after_all}
-use Rattle.radio_core.specs.Slices.{delivered}
 use Rattle.radio_core.specs.Step.{outcome}
-use Rattle.radio_core.specs.Stretches.{handed}
-use Rattle.radio_core.specs.World.{World}
+use Rattle.radio_core.specs.World.{World, standing_of}
 
 -- the number was given, and its client is not there any more (numbers are given from 1 on)
 abbrev pub HasLeft : World → ℕ → Type 0
-HasLeft w id = (id ≤ w.last_id) × (client_of w.clients id ≡ None)
+HasLeft w id = (id ≤ w.house.last_id) × (standing_of w id ≡ Unknown)
 
 -- the event is out of place, and nothing changes
 abbrev pub IsOutOfPlace : World → Event → Type 0
-IsOutOfPlace w event = outcome w event ≡ says Stray w
+IsOutOfPlace w event = outcome w event ≡ says Stray Nothing
 
 -- through these events he does not come back, is handed nothing, and brings nothing
 pub record StaysGone (w : World) (events : List Event) (id : ℕ) : Type 0 where

@@ -1,42 +1,47 @@
-use Rattle.std.specs.Prelude.{ℕ, min, List, Option, Some, None}
-use Rattle.radio_policy.specs.Table.{listen_rows}
+use Rattle.std.specs.Prelude.{ℕ, min, Bool, if◌then◌else◌, List, Option, Some, None}
 use Rattle.radio_policy.specs.Verdicts.{verdict_in}
-use Rattle.radio_core.specs.declared.clients.ClientState.TheVariants.{Listens}
-use Rattle.radio_core.specs.declared.event.Reply.TheVariants.{Seated, Stray}
-use Rattle.radio_core.specs.declared.live.Session.{Session}
-use Rattle.radio_core.specs.declared.peer.Peer.{Peer}
+use Rattle.radio_addr.specs.declared.peer.Peer.{Peer}
+use Rattle.radio_settings.specs.Options.{options_for}
+use Rattle.radio_core.specs.declared.event.ListenRequest.{ListenRequest}
+use Rattle.radio_core.specs.declared.house.House.{House}
+use Rattle.radio_core.specs.declared.reply.Reply.TheVariants.{Seated, Stray}
+use Rattle.radio_core.specs.declared.outcome.Change.TheVariants.{Nothing, Answer, SitDown}
+use Rattle.radio_core.specs.declared.outcome.Outcome.{Outcome}
 use Rattle.radio_core.specs.declared.seats.Seat.{Seat}
-use Rattle.radio_core.specs.declared.settings.Settings.{Settings}
-use Rattle.radio_core.specs.Clients.{in_state}
-use Rattle.radio_core.specs.Live.{session_of}
+use Rattle.radio_core.specs.Sessions.{Session}
 use Rattle.radio_core.specs.Stream.{burst_start}
-use Rattle.radio_core.specs.Table.{with_seat}
-use Rattle.radio_core.specs.World.{World}
-use Rattle.radio_core.specs.Facts.{asker_of, listen_facts}
-use Rattle.radio_core.specs.Cases.{Outcome, says, answered, on_verdict, if_undecided}
+use Rattle.radio_core.specs.World.{World, standing_of}
+use Rattle.radio_core.specs.Facts.{session_at, rows_to_listen}
+use Rattle.radio_core.specs.Outcomes.{says, on_verdict, if_undecided}
 
--- how many bytes a new listener may be sent at once
-abbrev pub burst_of : Settings → ℕ
-burst_of settings = min settings.burst_size settings.queue_size
+-- how many bytes a new listener of the mount may be sent at once
+abbrev pub burst_of : House → List ℕ → ℕ
+burst_of house mount = min (options_for house.settings mount).stream.burst_size house.settings.limits.queue_size
+
+-- after how many bytes a listener of the mount is sent a metadata block, if he asked for metadata
+abbrev pub interval_for : House → List ℕ → Bool → Option ℕ
+interval_for house mount wants_metadata = (if wants_metadata then Some (options_for house.settings mount).stream.mp3_metadata_interval else None)
 
 -- the seat of a new listener: he asked for the mount, and begins at the start of a block
-abbrev pub first_seat : World → ℕ → Peer → Session → Seat
-first_seat w id peer session = record {
-  id = id;
+abbrev pub first_seat : House → ListenRequest → Peer → Session → Seat
+first_seat house asked peer session = record {
   home = session.mount;
   mount = session.mount;
   session = session.number;
-  place = burst_start session.stream (burst_of w.settings);
+  place = burst_start session.stream (burst_of house session.mount);
   peer = peer;
-  since = w.time;
+  pair = asked.pair;
+  interval = interval_for house session.mount asked.wants_metadata;
+  since = house.time;
 }
 
 -- the listener sits down; where the mount is not live, which the policy denies, nothing happens
-abbrev pub sits_down : World → ℕ → Peer → Option Session → Outcome
-sits_down w id peer None = says Stray w
-sits_down w id peer (Some session) = says (Seated session.shown) (record w { table = with_seat w.table (first_seat w id peer session); clients = in_state w.clients id Listens })
+abbrev pub sits_down : House → ListenRequest → Peer → Option Session → Outcome
+sits_down house asked peer None = says Stray Nothing
+sits_down house asked peer (Some session) =
+    says (Seated (interval_for house session.mount asked.wants_metadata) session.shown) (SitDown asked.id (first_seat house asked peer session))
 
 -- a client wants to hear the mount of this path
-abbrev pub asks_to_hear : World → ℕ → List ℕ → Outcome
-asks_to_hear w id path = if_undecided w id (λ peer.
-    on_verdict (verdict_in (listen_rows (listen_facts w path) (asker_of path))) (answered w id) (sits_down w id peer (session_of w.live path)))
+abbrev pub asks_to_hear : World → ListenRequest → Outcome
+asks_to_hear w asked = if_undecided (standing_of w asked.id) (λ peer.
+    on_verdict (verdict_in (rows_to_listen w.house asked.mount)) (Answer asked.id) (sits_down w.house asked peer (session_at w.house asked.mount)))

@@ -1,17 +1,9 @@
+-- Runs of the server.
 use Rattle.std.specs.Prelude.{List, [], ◌∷◌}
+use Rattle.radio_settings.specs.declared.settings.Settings.{Settings}
 use Rattle.radio_core.specs.declared.event.Event.{Event}
-use Rattle.radio_core.specs.declared.event.Reply.{Reply}
-use Rattle.radio_core.specs.declared.settings.Settings.{Settings}
 use Rattle.radio_core.specs.World.{World, opening}
-use Rattle.radio_core.specs.Step.{outcome}
-
--- the reply to an event in this state
-abbrev pub reply_to : World → Event → Reply
-reply_to w event = (outcome w event).reply
-
--- the state after an event
-abbrev pub world_after : World → Event → World
-world_after w event = (outcome w event).world
+use Rattle.radio_core.specs.Step.{world_after}
 
 -- the state after events, in their order
 abbrev pub world_after_all : World → List Event → World

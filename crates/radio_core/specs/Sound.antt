@@ -1,8 +1,33 @@
-use Rattle.radio_core.specs.Lists.{Each}
-use Rattle.radio_core.specs.Open.{IsOpenTo}
-use Rattle.radio_core.specs.World.{World}
+-- What holds of every state of a run.
+use Rattle.std.specs.Prelude.{◌≡◌, ℕ, ◌<◌, ◌≤◌, List, [], ◌∷◌, Some}
+use Rattle.radio_tables.specs.Lists.{Each}
+use Rattle.radio_core.specs.declared.seats.Seat.{Seat}
+use Rattle.radio_core.specs.declared.standing.Standing.TheVariants.{Unknown, Feeds, Sits}
+use Rattle.radio_core.specs.Seats.{seat_of}
+use Rattle.radio_core.specs.Sessions.{Session, session_of}
+use Rattle.radio_core.specs.Stream.{WholeStream, end_of}
+use Rattle.radio_core.specs.World.{World, standing_of}
 
--- what holds of every state of a run
+-- the places do not fall, and none is past the last
+abbrev pub AreRising : List ℕ → ℕ → Type 0
+AreRising [] last = Unit {0}
+AreRising (place ∷ places) last = (place ≤ last) × Each (λ next. place ≤ next) places × AreRising places last
+
+-- the listener sits in the session that his mount has, and his place is within its stream
+pub record IsSeatedIn (w : World) (seat : Seat) : Type 0 where
+  pub session : Session
+  pub is_live : session_of w.house.live seat.mount ≡ Some session
+  pub his_session : session.number ≡ seat.session
+  pub within : seat.place ≤ end_of session.stream
+
 pub record IsSound (w : World) : Type 0 where
-  -- the mount of each seat is open to its listener
-  pub seats_are_open : Each (IsOpenTo w) w.table.seats
+  -- nobody has a number that was not given yet
+  pub numbered : (id : ℕ) → w.house.last_id < id → standing_of w id ≡ Unknown
+  -- each source feeds the session of its number, and each session is fed by the source of its number
+  pub feeds : (id : ℕ) (mount : List ℕ) → standing_of w id ≡ Feeds mount → (session : Session) × (session_of w.house.live mount ≡ Some session) × (session.number ≡ id)
+  pub fed : (mount : List ℕ) (session : Session) → session_of w.house.live mount ≡ Some session → standing_of w session.number ≡ Feeds mount
+  -- blocks start one after another
+  pub starts : (mount : List ℕ) (session : Session) → session_of w.house.live mount ≡ Some session → AreRising session.stream.starts (end_of session.stream)
+  -- whoever has a seat sits, in the session that his mount has
+  pub sitting : (id : ℕ) (seat : Seat) → seat_of w.seats id ≡ Some seat → standing_of w id ≡ Sits
+  pub seated : (id : ℕ) (seat : Seat) → seat_of w.seats id ≡ Some seat → IsSeatedIn w seat

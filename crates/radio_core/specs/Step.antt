@@ -1,9 +1,12 @@
+-- One event of the server.
 use Rattle.std.specs.Prelude.{◌≡◌}
 use Rattle.radio_core.specs.declared.event.Event.{Event}
 use Rattle.radio_core.specs.declared.event.Event.TheVariants.{Arrive, Source, Push, SourceEnd, Listen, Draw, Leave}
-use Rattle.radio_core.specs.declared.event.Reply.{Reply}
+use Rattle.radio_core.specs.declared.reply.Reply.{Reply}
+use Rattle.radio_core.specs.declared.outcome.Change.{Change}
+use Rattle.radio_core.specs.declared.outcome.Change.TheVariants.{Nothing, Answer, Hear, End, FallSilent, Go}
+use Rattle.radio_core.specs.declared.outcome.Outcome.{Outcome}
 use Rattle.radio_core.specs.World.{World}
-use Rattle.radio_core.specs.Cases.{Outcome, says}
 use Rattle.radio_core.specs.Arrive.{arrives}
 use Rattle.radio_core.specs.Source.{asks_to_feed}
 use Rattle.radio_core.specs.Push.{delivers}
@@ -11,26 +14,44 @@ use Rattle.radio_core.specs.SourceEnd.{stops_feeding}
 use Rattle.radio_core.specs.Listen.{asks_to_hear}
 use Rattle.radio_core.specs.Draw.{draws}
 use Rattle.radio_core.specs.Leave.{leaves}
+use Rattle.radio_core.specs.Changes.{changed}
 
 -- what comes of each event
 unfoldable pub outcome : World → Event → Outcome
 outcome w (Arrive peer) = arrives w peer
-outcome w (Source id path shown) = asks_to_feed w id path shown
+outcome w (Source asked) = asks_to_feed w asked
 outcome w (Push id block) = delivers w id block
 outcome w (SourceEnd id) = stops_feeding w id
-outcome w (Listen id path) = asks_to_hear w id path
+outcome w (Listen asked) = asks_to_hear w asked
 outcome w (Draw id room) = draws w id room
 outcome w (Leave id) = leaves w id
 
+-- the reply to an event in this state, and the state after it
+unfoldable pub reply_to : World → Event → Reply
+reply_to w event = (outcome w event).reply
+
+unfoldable pub world_after : World → Event → World
+world_after w event = changed w (outcome w event).change
+
 -- in the state w the event is answered by this reply, and the state after it is w'
 abbrev pub Step : World → Event → Reply → World → Type 0
-Step w event reply w' = outcome w event ≡ says reply w'
+Step w event reply w' = (reply ≡ reply_to w event) × (w' ≡ world_after w event)
 
 -- a core stands for a state: it has the same of everything
-abbrev pub Represents : World → World → Type 0
+unfoldable pub Represents : World → World → Type 0
 Represents core w = core ≡ w
 
--- these events are never refused for want of memory
+-- these changes are never refused for want of memory
+abbrev pub NeedsNoMemory : Change → Type 0
+NeedsNoMemory Nothing = Unit {0}
+NeedsNoMemory (Answer id) = Unit {0}
+NeedsNoMemory (Hear id place) = Unit {0}
+NeedsNoMemory (End id mount) = Unit {0}
+NeedsNoMemory (FallSilent id mount) = Unit {0}
+NeedsNoMemory (Go id) = Unit {0}
+NeedsNoMemory _ = ⊥
+
+-- and so the end of a session and of a connection
 abbrev pub TakesNoMemory : Event → Type 0
 TakesNoMemory (SourceEnd id) = Unit {0}
 TakesNoMemory (Leave id) = Unit {0}

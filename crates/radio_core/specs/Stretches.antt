@@ -1,64 +1,52 @@
-use Rattle.std.specs.Prelude.{◌≡◌, ◌==◌, ℕ, ◌-◌, ◌≤◌, false, if◌then◌else◌, Some, List, [], ◌∷◌, ◌++◌, take, drop}
+-- The stretches of which all that a listener is handed is made.
+use Rattle.std.specs.Prelude.{◌≡◌, ◌==◌, ℕ, ◌-◌, ◌≤◌, if◌then◌else◌, length, Option, Some, None, List, [], ◌∷◌, ◌++◌, take, drop}
+use Rattle.radio_settings.specs.declared.settings.Settings.{Settings}
 use Rattle.radio_core.specs.declared.event.Event.{Event}
-use Rattle.radio_core.specs.declared.event.Event.TheVariants.{Draw, Leave}
-use Rattle.radio_core.specs.declared.event.Reply.{Reply}
-use Rattle.radio_core.specs.declared.event.Reply.TheVariants.{Drawn}
-use Rattle.radio_core.specs.declared.live.Session.{Session}
 use Rattle.radio_core.specs.declared.seats.Seat.{Seat}
-use Rattle.radio_core.specs.declared.standing.Standing.TheVariants.{Sits}
-use Rattle.radio_core.specs.Live.{session_of}
-use Rattle.radio_core.specs.Run.{reply_to, world_after, world_after_all}
-use Rattle.radio_core.specs.Table.{seat_of}
-use Rattle.radio_core.specs.World.{World, standing_of}
+use Rattle.radio_core.specs.Handing.{handed, delivered}
+use Rattle.radio_core.specs.Seats.{seat_of}
+use Rattle.radio_core.specs.Sessions.{Session, session_of}
+use Rattle.radio_core.specs.Step.{world_after}
+use Rattle.radio_core.specs.World.{World, opening}
 
--- the data of a reply
-abbrev pub data_in : Reply → List ℕ
-data_in (Drawn bytes) = bytes
-data_in _ = []
-
--- what an event hands to the listener
-abbrev pub handed_at : World → Event → ℕ → List ℕ
-handed_at w (Draw him room) id = (if him == id then data_in (reply_to w (Draw him room)) else [])
-handed_at w event id = []
-
--- all that the events hand to him, joined in their order
-abbrev pub handed : World → List Event → ℕ → List ℕ
-handed w [] id = []
-handed w (event ∷ events) id = handed_at w event id ++ handed (world_after w event) events id
-
--- the event is not his leaving
-abbrev pub IsNoLeave : Event → ℕ → Type 0
-IsNoLeave (Leave him) id = (him == id) ≡ false
-IsNoLeave event id = Unit {0}
-
--- the listener sits at the mount
-pub record SitsAt (w : World) (id : ℕ) (mount : List ℕ) : Type 0 where
-  pub seat : Seat
-  pub sits : standing_of w id ≡ Sits
-  pub has_the_seat : seat_of w.table id ≡ Some seat
-  pub there : seat.mount ≡ mount
-
--- he keeps his seat at the mount through all these events
-abbrev pub KeepsSeat : World → List Event → ℕ → List ℕ → Type 0
-KeepsSeat w [] id mount = Unit {0}
-KeepsSeat w (event ∷ events) id mount = IsNoLeave event id × SitsAt (world_after w event) id mount × KeepsSeat (world_after w event) events id mount
-
--- what stands between two places of a stream
+-- what stands between two places of some data
 abbrev pub between : ℕ → ℕ → List ℕ → List ℕ
 between start stop bytes = take (stop - start) (drop start bytes)
 
--- all that the events hand to him is what stands between his place before them and his place after them, in the data of one session
-pub record IsOneStretch (w : World) (events : List Event) (id : ℕ) (seat : Seat) (session : Session) : Type 0 where
-  pub seat_now : Seat
-  pub session_now : Session
-  pub has_the_seat : seat_of (world_after_all w events).table id ≡ Some seat_now
-  pub is_live : session_of (world_after_all w events).live seat.mount ≡ Some session_now
-  pub same_session : session_now.number ≡ session.number
-  pub more : List ℕ
-  pub data_grew : session_now.stream.bytes ≡ session.stream.bytes ++ more
-  pub forward : seat.place ≤ seat_now.place
-  pub in_order : handed w events id ≡ between seat.place seat_now.place session_now.stream.bytes
+-- a listener sits down: in the session of this source, and this is the first place of its stream that he hears
+pub record Sitting : Type 0 where
+  pub source : ℕ
+  pub start : ℕ
 
--- while a listener keeps his seat, he is handed one stretch of one session's data, in order, without gap or repeat
-abbrev pub StretchesAreWhole : World → Type 0
-StretchesAreWhole w = (events : List Event) (id : ℕ) (seat : Seat) (session : Session) → standing_of w id ≡ Sits → seat_of w.table id ≡ Some seat → session_of w.live seat.mount ≡ Some session → KeepsSeat w events id seat.mount → IsOneStretch w events id seat session
+abbrev pub sitting_in : Seat → Sitting
+sitting_in seat = record { source = seat.session; start = seat.place }
+
+-- the sitting that begins where his seat was the one and is the other now: a seat in another session is a new sitting
+abbrev pub begun_sittings : Option Seat → Option Seat → List Sitting
+begun_sittings None (Some seat) = sitting_in seat ∷ []
+begun_sittings (Some old) (Some seat) = (if old.session == seat.session then [] else sitting_in seat ∷ [])
+begun_sittings before None = []
+
+-- the listener's sittings through the events, in their order
+abbrev pub sittings : World → List Event → ℕ → List Sitting
+sittings w [] id = []
+sittings w (event ∷ events) id = begun_sittings (seat_of w.seats id) (seat_of (world_after w event).seats id) ++ sittings (world_after w event) events id
+
+-- the bytes are stretches, joined in order: one for each sitting, contiguous in the data that its source has sent, from where the sitting began
+abbrev pub AreStretches : (ℕ → List ℕ) → List Sitting → List ℕ → Type 0
+AreStretches sent [] bytes = bytes ≡ []
+AreStretches sent (sitting ∷ others) bytes = (stop : ℕ) × (rest : List ℕ) × (sitting.start ≤ stop) × (stop ≤ length (sent sitting.source)) × (bytes ≡ between sitting.start stop (sent sitting.source) ++ rest) × AreStretches sent others rest
+
+-- over every run, all that a listener is handed is stretches, one for each of his sittings, of what the source of that sitting delivered
+abbrev pub StretchesAreWhole : Settings → List Event → Type 0
+StretchesAreWhole settings events = (id : ℕ) → AreStretches (delivered (opening settings) events) (sittings (opening settings) events id) (handed (opening settings) events id)
+
+-- through an event, a listener keeps mount and session while he keeps his seat, and a new seat is in the session that its mount has then
+pub record KeepsItsMount (w : World) (event : Event) (id : ℕ) (seat : Seat) : Type 0 where
+  pub session : Session
+  pub is_live : session_of (world_after w event).house.live seat.mount ≡ Some session
+  pub in_the_session : seat.session ≡ session.number
+  pub kept : (old : Seat) → seat_of w.seats id ≡ Some old → old.session ≡ seat.session → (seat.mount ≡ old.mount) × (old.place ≤ seat.place)
+
+abbrev pub SeatsKeepTheirMounts : World → Event → Type 0
+SeatsKeepTheirMounts w event = (id : ℕ) (seat : Seat) → seat_of (world_after w event).seats id ≡ Some seat → KeepsItsMount w event id seat

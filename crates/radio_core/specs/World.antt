@@ -1,49 +1,51 @@
+-- The server's state.
 use Rattle.std.specs.Prelude.{ℕ, List, [], Option, Some, None}
-use Rattle.radio_policy.specs.declared.rule.Rule.{Rule}
-use Rattle.radio_core.specs.declared.settings.Settings.{Settings}
-use Rattle.radio_core.specs.declared.live.Session.{Session}
+use Rattle.radio_addr.specs.declared.peer.Peer.{Peer}
+use Rattle.radio_settings.specs.declared.settings.Settings.{Settings}
+use Rattle.radio_core.specs.declared.house.House.{House}
 use Rattle.radio_core.specs.declared.clients.Client.{Client}
 use Rattle.radio_core.specs.declared.clients.ClientState.{ClientState}
-use Rattle.radio_core.specs.declared.clients.ClientState.TheVariants.{Undecided, Feeds, Listens, Answered}
+use Rattle.radio_core.specs.declared.clients.ClientState.TheVariants.{Undecided, Feeds, Listens, Answered, Ended}
+use Rattle.radio_core.specs.declared.seats.Listener.{Listener}
+use Rattle.radio_core.specs.declared.seats.Seating.{Seating}
+use Rattle.radio_core.specs.declared.seats.Seating.TheVariants.{Sits as HasSeat, Finished as HasFinished}
 use Rattle.radio_core.specs.declared.standing.Standing.{Standing}
 use Rattle.radio_core.specs.declared.standing.Standing.TheVariants.{Unknown, Undecided as IsUndecided, Feeds as IsFeeding, Sits, Answered as IsAnswered, Finished}
 use Rattle.radio_core.specs.Clients.{client_of}
-use Rattle.radio_core.specs.Table.{Table, no_seats, rule_of}
+use Rattle.radio_core.specs.Seats.{listener_of}
 
--- the server's state
+-- the house, and the table of those who listen in it
 pub record World : Type 0 where
-  -- the moment, in milliseconds
-  pub time : ℕ
-  pub settings : Settings
-  -- the sessions of the live mounts, in the order in which they began
-  pub live : List Session
-  -- the listeners' seats, in order of their numbers, and the rules of those that have ended
-  pub table : Table
-  -- the clients that have arrived and have not left, in that order
-  pub clients : List Client
-  -- the number that was given last
-  pub last_id : ℕ
+  -- the moment, the settings, the live sessions, the clients, and the number that was given last
+  pub house : House
+  -- the listeners, in order of their numbers
+  pub seats : List Listener
 
 -- nothing has happened yet
 abbrev pub opening : Settings → World
-opening settings = record { time = 0; settings = settings; live = []; table = no_seats; clients = []; last_id = 0 }
+opening settings = record { house = record { time = 0; settings = settings; live = []; clients = []; last_id = 0 }; seats = [] }
 
--- a listener sits until he has finished by a rule
-abbrev pub standing_of_listener : Option Rule → Standing
-standing_of_listener None = Sits
-standing_of_listener (Some rule) = Finished rule
+-- one who was admitted as a listener sits, or has finished by a rule
+abbrev pub standing_seated : Seating → Standing
+standing_seated (HasSeat seat) = Sits
+standing_seated (HasFinished rule) = Finished rule
 
-abbrev pub standing_of_client : Table → Client → Standing
-standing_of_client table client = standing_by client.state where
-  standing_by : ClientState → Standing
-  standing_by Undecided = IsUndecided client.peer
-  standing_by (Feeds mount) = IsFeeding mount
-  standing_by Listens = standing_of_listener (rule_of table client.id)
-  standing_by Answered = IsAnswered
+abbrev pub standing_of_listener : Option Listener → Standing
+standing_of_listener None = IsAnswered
+standing_of_listener (Some listener) = standing_seated listener.seating
+
+-- how a client from this address stands who does this, and is this listener if he is one
+abbrev pub standing_by : Option Listener → Peer → ClientState → Standing
+standing_by listener peer Undecided = IsUndecided peer
+standing_by listener peer (Feeds mount) = IsFeeding mount
+standing_by listener peer Listens = standing_of_listener listener
+standing_by listener peer Answered = IsAnswered
+standing_by listener peer (Ended rule) = Finished rule
+
+abbrev pub standing_in : Option Listener → Option Client → Standing
+standing_in listener None = Unknown
+standing_in listener (Some client) = standing_by listener client.peer client.state
 
 -- how the client of this number stands
 abbrev pub standing_of : World → ℕ → Standing
-standing_of w id = standing_in (client_of w.clients id) where
-  standing_in : Option Client → Standing
-  standing_in None = Unknown
-  standing_in (Some client) = standing_of_client w.table client
+standing_of w id = standing_in (listener_of w.seats id) (client_of w.house.clients id)

@@ -1,10 +1,9 @@
-ghost use Rattle.std.specs.Prelude.{◌≡◌, [], ◌∷◌, ◌++◌, find, OnOk, OnErr, position};
-ghost use Rattle.std.specs.Option.{option_copied};
-ghost use Rattle.radio_core.specs.Clients.{newcomer, has_number, client_of, in_state, without_client};
+//! The clients that are there.
 
-use crate::{MountName, OutOfMemory, Peer};
-use std::alloc::Global;
-use std::marker::Model;
+use radio_addr::Peer;
+use radio_policy::Rule;
+use radio_settings::MountName;
+use radio_tables::{Change, Row};
 
 /// What a client does.
 #[derive(Clone, Copy)]
@@ -13,10 +12,12 @@ pub(crate) enum ClientState {
     Undecided,
     /// He is the source of the mount.
     Feeds(MountName),
-    /// He was admitted as a listener. The seats tell whether he sits or has finished.
+    /// He was admitted as a listener; the table of listeners has him.
     Listens,
     /// He has had his answer, and nothing more is to come.
     Answered,
+    /// He was finished by the rule, and had no seat.
+    Ended(Rule),
 }
 
 /// A client that has arrived and has not left.
@@ -29,77 +30,38 @@ pub(crate) struct Client {
     pub(crate) state: ClientState,
 }
 
-/// The clients that are there, in the order of their arrival.
+impl Row for Client {
+    type Key = u64;
+
+    ghost use Rattle.radio_tables.specs.KeyLaws.{number_is};
+    ghost use Rattle.radio_core.specs.Clients.{is_client};
+
+    ghost key = { λ client. client.id };
+
+    ghost has_key = { is_client };
+
+    ghost has_key_is = { λ id client. number_is id client.id };
+
+    fn key(&self) -> u64 {
+        self.id
+    }
+}
+
+/// The client does something else from now on.
 #[derive(Drop)]
-pub(crate) struct Clients {
-    rows: Vec<Client>,
+pub(crate) struct Does {
+    pub(crate) state: ClientState,
 }
 
-impl Model for Clients {
-    ghost use Rattle.std.specs.Prelude.{List};
-    ghost use Rattle.radio_core.specs.declared.clients.Client.{Client};
+impl Change<Client> for Does {
+    ghost use Rattle.std.specs.Prelude.{refl};
+    ghost use Rattle.radio_core.specs.Clients.{doing};
 
-    ghost Value = { List Client };
+    ghost gives = { λ change client. doing change.state client };
 
-    ghost view = { λ c. c.rows.items };
-}
+    ghost keeps_key = { λ change client. refl };
 
-impl Clients {
-    /// Nobody. It takes no memory.
-    pub(crate) fn new(alloc: Global) -> Clients
-        ensures { result ≡ [] }
-    {
-        Clients {
-            rows: Vec::new(alloc),
-        }
+    fn apply(&self, row: &mut Client) {
+        row.state = self.state;
     }
-
-    /// Adds a client who has just arrived, behind the others. `OutOfMemory` where memory was
-    /// refused; nothing has changed then.
-    pub(crate) fn add(&mut self, id: u64, peer: Peer, arrived: u64) -> Result<(), OutOfMemory>
-        ensures ok { OnOk result (self.new ≡ self.old ++ newcomer id peer arrived ∷ []) }
-        ensures err { OnErr result (self.new ≡ self.old) }
-    {
-        let state = ClientState::Undecided;
-        self.rows.push(Client {
-            id,
-            peer,
-            arrived,
-            state,
-        })?;
-        Ok(())
-    }
-
-    /// The client of this number.
-    pub(crate) fn get(&self, id: u64) -> Option<&Client>
-        ensures { option_copied result ≡ client_of self.now id }
-    {
-        self.rows.iter().find(|client| client.id == id)
-    }
-
-    /// Sets what the client of this number does.
-    pub(crate) fn set_state(&mut self, id: u64, state: ClientState)
-        ensures { self.new ≡ in_state self.old id state }
-    {
-        if let Some(at) = position_of(self.rows.as_slice(), id) {
-            let client = &mut self.rows[at];
-            client.state = state;
-        }
-    }
-
-    /// Removes the client of this number.
-    pub(crate) fn remove(&mut self, id: u64)
-        ensures { self.new ≡ without_client self.old id }
-    {
-        if let Some(at) = position_of(self.rows.as_slice(), id) {
-            self.rows.remove(at);
-        }
-    }
-}
-
-/// Where the client of this number stands.
-fn position_of(rows: &[Client], id: u64) -> Option<usize>
-    ensures { result ≡ position (has_number id) rows.now }
-{
-    rows.iter().position(|client| client.id == id)
 }

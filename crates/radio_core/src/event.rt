@@ -1,43 +1,52 @@
-use crate::{Peer, Shown, Text};
-use radio_blocks::{Block, Pieces};
-use radio_policy::Rule;
+//! What happens to the server.
+
+use bytes::Bytes;
+use radio_addr::Peer;
+use radio_blocks::Block;
+use radio_creds::Pair;
+use radio_settings::Shown;
+
+/// What a client sends who wants to feed a mount.
+#[derive(Drop)]
+pub struct SourceRequest {
+    /// The number of the client.
+    pub id: u64,
+    /// The path that he names, which need not be the name of a mount.
+    pub mount: Bytes,
+    /// The user and the password that he sends, if he does.
+    pub pair: Option<Pair>,
+    /// What his head tells of the stream.
+    pub shown: Shown,
+}
+
+/// What a client sends who wants to hear a mount.
+#[derive(Drop)]
+pub struct ListenRequest {
+    /// The number of the client.
+    pub id: u64,
+    /// The path that he names, which need not be the name of a mount.
+    pub mount: Bytes,
+    /// The user and the password that he sends, if he does.
+    pub pair: Option<Pair>,
+    /// Whether he wants metadata between the data (ICY convention, `Icy-MetaData`).
+    pub wants_metadata: bool,
+}
 
 /// What happens to the server.
 #[derive(Drop)]
 pub enum Event {
     /// A connection comes from this address.
     Arrive { peer: Peer },
-    /// The client wants to feed the mount of this path.
-    Source { id: u64, mount: Text, shown: Shown },
+    /// A client wants to feed a mount.
+    Source(SourceRequest),
     /// The source has delivered a block.
     Push { id: u64, block: Block },
     /// The source has come to the end of its data.
     SourceEnd { id: u64 },
-    /// The client wants to hear the mount of this path.
-    Listen { id: u64, mount: Text },
+    /// A client wants to hear a mount.
+    Listen(ListenRequest),
     /// The listener has room for so many bytes of data.
     Draw { id: u64, room: u32 },
     /// The client's connection is closed.
     Leave { id: u64 },
-}
-
-/// What the server replies to an event.
-#[derive(Drop)]
-pub enum Reply {
-    /// The client has this number from now on.
-    Arrived(u64),
-    /// The client feeds the mount from now on.
-    Feeding,
-    /// The client hears the mount from now on; its session shows this.
-    Seated { shown: Shown },
-    /// The listener's next data.
-    Drawn { pieces: Pieces },
-    /// It was done, and there is nothing to say.
-    Noted,
-    /// The policy denies it, by this rule.
-    Deny(Rule),
-    /// The client was finished before, by this rule.
-    Finished(Rule),
-    /// The event does not fit the client, or there is none of that number; nothing has changed.
-    Stray,
 }

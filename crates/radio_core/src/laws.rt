@@ -2,27 +2,33 @@
 //! definitions that `Core::step` follows.
 
 ghost use Rattle.std.specs.Prelude.{◌≡◌, ◌≤◌, ℕ, List, [], ◌∷◌, ◌++◌, Some};
+ghost use Rattle.radio_settings.specs.declared.settings.Settings.{Settings};
 ghost use Rattle.radio_core.specs.declared.event.Event.{Event};
 ghost use Rattle.radio_core.specs.declared.event.Event.TheVariants.{Leave};
-ghost use Rattle.radio_core.specs.declared.settings.Settings.{Settings};
 ghost use Rattle.radio_core.specs.Run.{run_after};
-ghost use Rattle.radio_core.specs.Stretches.{StretchesAreWhole};
-ghost use Rattle.radio_core.specs.Slices.{SlicesAreWhole};
+ghost use Rattle.radio_core.specs.Ways.{client_in};
+ghost use Rattle.radio_core.specs.Denials.{DenialsAreThePolicys};
+ghost use Rattle.radio_core.specs.Finishes.{FinishedAreTold};
 ghost use Rattle.radio_core.specs.Access.{AccessIsKept};
 ghost use Rattle.radio_core.specs.Admission.{BeginsAtABlock};
-ghost use Rattle.radio_core.specs.Denials.{DenialsAreThePolicys};
-ghost use Rattle.radio_core.specs.Finishes.{client_in, FinishedAreTold};
+ghost use Rattle.radio_core.specs.Service.{Serves};
+ghost use Rattle.radio_core.specs.Stretches.{StretchesAreWhole, SeatsKeepTheirMounts};
+ghost use Rattle.radio_core.specs.Others.{OthersStandOn, RepliesFit};
 ghost use Rattle.radio_core.specs.Gone.{HasLeft, IsOutOfPlace, StaysGone};
+
+use radio_policy::denials_name_the_first_rule;
 
 /// The law of denials.
 pub fn denials_are_the_policys()
     // whatever has happened, what is denied is what the policy denies then, by its first rule, and nothing has changed but that an undecided client has had his answer
     ensures denied { (settings : Settings) (events : List Event) (event : Event) → DenialsAreThePolicys (run_after settings events) event }
-{}
+{
+    denials_name_the_first_rule();
+}
 
 /// The law of denials, for those who are told that they were finished.
 pub fn finished_are_told()
-    // whoever is told that he was finished by a rule was finished by that rule: an earlier event ended the session of the mount where he had a seat
+    // whoever is told that he was finished by a rule was finished by that rule: an earlier event ended the session of the mount where he had a seat, and the rule is the one that stops a walk from there
     ensures finished { (settings : Settings) (events : List Event) (event : Event) → FinishedAreTold settings events event }
 {}
 
@@ -34,26 +40,38 @@ pub fn access_is_kept()
 
 /// The law of admission.
 pub fn listeners_begin_at_a_block()
-    // whatever has happened, only who asks to hear a mount is seated, in the session that the mount has then, and he begins where one of its blocks starts, or at its end
+    // whatever has happened, only who asks to hear a mount is seated, in the session that the mount has then, and he begins at the earliest start of one of its blocks, or at its end, that his burst allows
     ensures seated { (settings : Settings) (events : List Event) (event : Event) → BeginsAtABlock (run_after settings events) event }
 {}
 
+/// The law of service.
+pub fn whoever_may_is_served()
+    // whatever has happened, what the policy allows happens, and a listener who has a seat is handed what stands at his place
+    ensures served { (settings : Settings) (events : List Event) → Serves (run_after settings events) }
+{
+    denials_name_the_first_rule();
+}
+
 /// The law of stretches.
 pub fn stretches_are_whole()
-    // whatever has happened, all that a listener is handed from then on while he keeps his seat is one contiguous slice of one session's data, in order, without gap or repeat: from his place then to his place now
-    ensures stretches { (settings : Settings) (events : List Event) → StretchesAreWhole (run_after settings events) }
+    // over every run, all that a listener is handed is stretches, one for each of his sittings: each a contiguous slice, without gap or repeat, of what the source delivered in whose session he sat
+    ensures stretches { (settings : Settings) (events : List Event) → StretchesAreWhole settings events }
+    // and through each event a listener who keeps his seat keeps its mount and session, and does not go back
+    ensures mounts { (settings : Settings) (events : List Event) (event : Event) → SeatsKeepTheirMounts (run_after settings events) event }
 {}
 
-/// The law of slices.
-pub fn slices_are_whole()
-    // over every run, whoever he is, all that he was ever handed, joined, is one contiguous slice of all that one source ever delivered, in order, without gap or repeat, and it begins where a block of that source starts, or where its next one will
-    ensures slices { (settings : Settings) (events : List Event) → SlicesAreWhole settings events }
+/// What an event does to its own client, and to others.
+pub fn events_are_of_their_clients()
+    // whatever has happened, each reply is told to one whom it fits, and he stands as it says
+    ensures own { (settings : Settings) (events : List Event) (event : Event) → RepliesFit (run_after settings events) event }
+    // and everybody else stands as before, but who is finished by the event
+    ensures others { (settings : Settings) (events : List Event) (event : Event) → OthersStandOn (run_after settings events) event }
 {}
 
 /// The law of those who have left.
 pub fn who_left_is_gone()
     // whoever was given a number and leaves is no client then
-    ensures left { (settings : Settings) (events : List Event) (id : ℕ) → id ≤ (run_after settings events).last_id → HasLeft (run_after settings (events ++ Leave id ∷ [])) id }
+    ensures left { (settings : Settings) (events : List Event) (id : ℕ) → id ≤ (run_after settings events).house.last_id → HasLeft (run_after settings (events ++ Leave id ∷ [])) id }
     // whatever happens in the name of one who has left is out of place, and changes nothing
     ensures strays { (settings : Settings) (events : List Event) (event : Event) (id : ℕ) → HasLeft (run_after settings events) id → client_in event ≡ Some id → IsOutOfPlace (run_after settings events) event }
     // and whatever else happens, he does not come back: his number is given to nobody, he is handed nothing more, and nothing more comes from him

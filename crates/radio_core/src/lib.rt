@@ -2,40 +2,32 @@
 //!
 //! - [`Core`]: the state; [`Core::step`] is one event.
 //! - [`Event`], [`Reply`]: what happens to the server, and what it replies.
-//! - [`MountName`], [`Peer`], [`Settings`], [`Shown`], [`Text`]: the plain values of both.
 //! - [`access_is_kept`] and the other functions of `laws`: what holds of every run of events.
 //!
-//! The state is kept by parts: the clients, the seats of those who listen, and the live mounts'
-//! sessions with their streams. Each event has a file of its own under `server`.
+//! The state has two parts: the house (the settings, the live mounts' sessions, the clients), and
+//! the table of those who listen. What comes of an event is worked out first (a file for each event
+//! under `server`): a reply and a change, which is then committed whole or not at all.
 #![tactic(auto)]
 
 mod clients;
 mod event;
+mod house;
 mod laws;
-mod live;
-mod mount_name;
-mod peer;
+mod outcome;
+mod reply;
 mod seats;
 mod server;
-mod settings;
-mod shown;
+mod sessions;
 mod standing;
 mod stream;
-#[cfg(test)]
-mod tests;
-mod text;
 
-pub use event::{Event, Reply};
+pub use event::{Event, ListenRequest, SourceRequest};
 pub use laws::{
-    access_is_kept, denials_are_the_policys, finished_are_told, listeners_begin_at_a_block,
-    slices_are_whole, stretches_are_whole, who_left_is_gone,
+    access_is_kept, denials_are_the_policys, events_are_of_their_clients, finished_are_told,
+    listeners_begin_at_a_block, stretches_are_whole, who_left_is_gone, whoever_may_is_served,
 };
-pub use mount_name::{MAX_MOUNT_NAME, MountName};
-pub use peer::Peer;
+pub use reply::Reply;
 pub use server::Core;
-pub use settings::{Key, Lists, MAX_BYTES, Settings, SettingsFault};
-pub use shown::Shown;
-pub use text::Text;
 
 /// What a call answers where memory was refused. Nothing has changed then, unless it is said.
 pub type OutOfMemory = std::alloc::AllocError;

@@ -1,5 +1,6 @@
-use crate::{MountName, Peer};
+use radio_addr::Peer;
 use radio_policy::Rule;
+use radio_settings::MountName;
 
 /// How a client stands: what decides which of his events count.
 #[derive(Clone, Copy)]

@@ -17,7 +17,7 @@ use Rattle.base64.proofs.EngineFacts.{decode_of-encode_of}
 use Rattle.base64.proofs.Streams.{decoded_of-ok}
 use Rattle.radio_creds.specs.Credentials.{Credentials, colon, credentials_of}
 use Rattle.radio_creds.specs.Authorization.{IsBasicPair, space, without_spaces, basic_text, basic_pair}
-use Rattle.radio_creds.proofs.ColonLemmas.{credentials_of-user, credentials_of-text}
+use Rattle.radio_creds.proofs.ColonLemmas.{CutsFirst, credentials_of-user, credentials_of-text}
 
 pub is_false : (b : Bool) → (b ≡ true → ⊥) → b ≡ false
 is_false true h = absurd (h refl)
@@ -29,9 +29,11 @@ and_false false = refl
 
 no_space_among : (symbols : List ℕ) → list_any (λ b. eqb b space) symbols ≡ false → (i : ℕ) → eqb (get_or symbols i 0) space ≡ false
 no_space_among [] h i = refl
-no_space_among (b ∷ symbols) h zero = elim (eqb b space) as (λ t. (t || list_any (λ b. eqb b space) symbols) ≡ false → t ≡ false) [ true ↦ λ e. e | false ↦ λ _. refl ] h
+no_space_among (b ∷ symbols) h zero = elim (eqb b space) as (λ t. (t || list_any (λ b. eqb b space) symbols) ≡ false
+    → t ≡ false) [ true ↦ λ e. e | false ↦ λ _. refl ] h
 no_space_among (b ∷ symbols) h (suc i) =
-    no_space_among symbols (elim (eqb b space) as (λ t. (t || list_any (λ b. eqb b space) symbols) ≡ false → list_any (λ b. eqb b space) symbols ≡ false) [ true ↦ λ e. absurd (false≢true (sym e)) | false ↦ λ e. e ] h) i
+    no_space_among symbols (elim (eqb b space) as (λ t. (t || list_any (λ b. eqb b space) symbols) ≡ false
+    → list_any (λ b. eqb b space) symbols ≡ false) [ true ↦ λ e. absurd (false≢true (sym e)) | false ↦ λ e. e ] h) i
 
 no_space : (i : ℕ) → eqb (get_or (engine_symbols standard) i 0) space ≡ false
 no_space = no_space_among (engine_symbols standard) refl
@@ -134,29 +136,30 @@ scheme-basic_text value text h =
 -- ---- the pair of a value
 
 -- a value that the standard calls one has its pair
-pub basic_pair-of_value : (value : List ℕ) (pair : Credentials) → IsBasicPair value pair → basic_pair value ≡ Some pair
+pub basic_pair-of_value : CutsFirst → (value : List ℕ) (pair : Credentials) → IsBasicPair value pair → basic_pair value ≡ Some pair
 unfolding basic_pair
-basic_pair-of_value value pair is =
+basic_pair-of_value first value pair is =
     let bytes : List ℕ = pair.user ++ colon ∷ pair.password in
     let text : List ℕ = encode_of standard bytes in
     let rest : List ℕ = replicate (suc is.more_spaces) space ++ text in
     let five : length is.scheme ≡ 5 = sym (length-map is.scheme to_ascii_lowercase) ∙ ap length is.is_basic in
     let front : take 5 value ≡ is.scheme = ap (take 5) is.is_value ∙ ap (λ n. take n (is.scheme ++ rest)) (sym five) ∙ take-append_seam is.scheme rest in
     let tail : drop 5 value ≡ rest = ap (drop 5) is.is_value ∙ ap (λ n. drop n (is.scheme ++ rest)) (sym five) ∙ drop-append_seam is.scheme rest in
-    let one : get_or value 5 0 ≡ space = ap (λ v. get_or v 5 0) is.is_value ∙ ap (λ n. get_or (is.scheme ++ rest) n 0) (sym five) ∙ get_or-append_seam is.scheme space (replicate is.more_spaces space ++ text) 0 in
+    let one : get_or value 5 0 ≡ space = ap (λ v. get_or v 5 0) is.is_value ∙ ap (λ n. get_or (is.scheme ++ rest) n 0) (sym five)
+    ∙ get_or-append_seam is.scheme space (replicate is.more_spaces space ++ text) 0 in
     let found : basic_text value ≡ Some text
     = basic_text-scheme value (ap (map to_ascii_lowercase) front ∙ is.is_basic) one
     ∙ ap Some (ap without_spaces tail ∙ without_spaces-replicate (suc is.more_spaces) text ∙ without_spaces-credentials pair.user pair.password) in
     let back : decoded_of standard text ≡ Some bytes = decoded_of-ok standard text bytes (decode_of-encode_of standard bytes refl is.is_bytes) in
     ap (option_and_then (λ t. option_and_then credentials_of (decoded_of standard t))) found
-    ∙ ap (option_and_then credentials_of) back ∙ credentials_of-user pair.user pair.password is.no_colon
+    ∙ ap (option_and_then credentials_of) back ∙ credentials_of-user first pair.user pair.password is.no_colon
 
 -- a pair that was read is that of a value by the standard
-pub IsBasicPair-of_text : (value text bytes : List ℕ) (pair : Credentials) → basic_text value ≡ Some text
+pub IsBasicPair-of_text : CutsFirst → (value text bytes : List ℕ) (pair : Credentials) → basic_text value ≡ Some text
     → text ≡ encode_of standard bytes → IsBytes bytes → credentials_of bytes ≡ Some pair → IsBasicPair value pair
-IsBasicPair-of_text value text bytes pair scheme encoded are_bytes cut =
+IsBasicPair-of_text first value text bytes pair scheme encoded are_bytes cut =
     let parts = scheme-basic_text value text scheme in
-    let whole = credentials_of-text bytes pair cut in
+    let whole = credentials_of-text first bytes pair cut in
     record {
       scheme = take 5 value;
       more_spaces = parts.1.0;
@@ -177,15 +180,15 @@ basic_pair-text value text bytes h d =
     ap (option_and_then (λ t. option_and_then credentials_of (decoded_of standard t))) h ∙ ap (option_and_then credentials_of) d
 
 -- where nothing is found, no pair is that of the value
-pub none-exact : (value : List ℕ) → basic_pair value ≡ None → (pair : Credentials)
+pub none-exact : CutsFirst → (value : List ℕ) → basic_pair value ≡ None → (pair : Credentials)
     → (None ≡ Some pair → IsBasicPair value pair) × (IsBasicPair value pair → None ≡ Some pair)
-none-exact value none pair = (λ e. absurd (false≢true (ap is_some e)), λ is. sym none ∙ basic_pair-of_value value pair is)
+none-exact first value none pair = (λ e. absurd (false≢true (ap is_some e)), λ is. sym none ∙ basic_pair-of_value first value pair is)
 
 -- what is found is the pair of the value
-pub found-exact : (value text bytes : List ℕ) (found : Option Credentials) → basic_text value ≡ Some text
+pub found-exact : CutsFirst → (value text bytes : List ℕ) (found : Option Credentials) → basic_text value ≡ Some text
     → text ≡ encode_of standard bytes → IsBytes bytes → decoded_of standard text ≡ Some bytes → found ≡ credentials_of bytes → (pair : Credentials)
     → (found ≡ Some pair → IsBasicPair value pair) × (IsBasicPair value pair → found ≡ Some pair)
-found-exact value text bytes found scheme encoded are_bytes decoded cut pair = (
-  λ e. IsBasicPair-of_text value text bytes pair scheme encoded are_bytes (sym cut ∙ e),
-  λ is. cut ∙ sym (basic_pair-text value text (Some bytes) scheme decoded) ∙ basic_pair-of_value value pair is,
+found-exact first value text bytes found scheme encoded are_bytes decoded cut pair = (
+  λ e. IsBasicPair-of_text first value text bytes pair scheme encoded are_bytes (sym cut ∙ e),
+  λ is. cut ∙ sym (basic_pair-text value text (Some bytes) scheme decoded) ∙ basic_pair-of_value first value pair is,
 )

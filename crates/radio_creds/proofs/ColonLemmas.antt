@@ -1,66 +1,50 @@
 -- A text cut at its first colon.
-use Rattle.std.proofs.Common.{◌≡◌, ℕ, suc, add-one, ◌+◌, ◌<◌, false, cond, List, ◌∷◌, ◌++◌, length, take, drop, get_or, ltb, None, Some, refl, sym, ap, subst, ◌∙◌, arith, rules}
-use Rattle.std.specs.List.{position, position_or_len, Contains}
+use Rattle.std.proofs.Common.{◌≡◌, ℕ, ◌+◌, ◌<◌, List, ◌∷◌, ◌++◌, length, take, drop, length-append, Option, None, Some, refl, arith, sym, ap, subst, ◌∙◌}
+use Rattle.std.specs.List.{Contains}
 use Rattle.std.specs.Option.{option_map, is_some, unwrap_or}
 use Rattle.std.proofs.lemmas.Bool.{false≢true}
-use Rattle.std.proofs.lemmas.Bool.Decides.{Decides-eqb, Decides-ltb}
-use Rattle.std.proofs.lemmas.List.{take-append-drop, get_or-take, length-take, length-append, get_or_append_left}
-use Rattle.std.proofs.lemmas.List.Quantifiers.{position-Some}
-use Rattle.std.proofs.lemmas.List.Sums.{position_or_len_is}
-use Rattle.std.proofs.Math.Seq.{drop-cons, get_or-append_seam, take-append_seam, drop-append-add}
-use Rattle.radio_creds.specs.Credentials.{Credentials, colon, is_colon, credentials_of}
+use Rattle.std.proofs.Math.Seq.{take-append_seam, drop-append-add}
+use Rattle.radio_texts.specs.Cuts.{cut}
+use Rattle.radio_creds.specs.Credentials.{Credentials, colon, credentials_of}
 
--- what stands around the first colon
-pub text-at_colon : (text : List ℕ) (i : ℕ) → position is_colon text ≡ Some i → text ≡ take i text ++ colon ∷ drop (i + 1) text
-text-at_colon text i h =
-    let found = position-Some is_colon text i 0 h in
-    let here : i < length text = found.0 in
-    let is : get_or text i 0 ≡ colon = (Decides-eqb (get_or text i 0) colon).0 found.1 in
-    sym (take-append-drop i text) ∙ ap (λ rest. take i text ++ rest) (drop-cons text i 0 here ∙ ap (λ b. b ∷ drop (suc i) text) is ∙ ap (λ n. colon ∷ drop n text) (sym (add-one i)))
+-- a cut is at the first byte of its kind
+abbrev pub CutsFirst : Type 0
+CutsFirst = (at : ℕ) (text front back : List ℕ)
+    → (cut at text ≡ Some (front, back) → (text ≡ front ++ at ∷ back) × (Contains front at → ⊥))
+    × ((text ≡ front ++ at ∷ back) × (Contains front at → ⊥) → cut at text ≡ Some (front, back))
 
-pub none_before_colon : (text : List ℕ) (i : ℕ) → position is_colon text ≡ Some i → ¬ Contains (take i text) colon
-none_before_colon text i h (k, below, is) =
-    let found = position-Some is_colon text i colon h in
-    let within : k < i = omega (arith, length-take i text, found.0) in
-    let other : is_colon (get_or text k colon) ≡ false = found.2 k within in
-    let same : get_or text k colon ≡ colon = sym (get_or-take i text k colon within) ∙ is in
-    false≢true (sym other ∙ ap is_colon same)
-
--- a text is cut after a user who has no colon
-pub position-colon : (user password : List ℕ) → ¬ Contains user colon → position is_colon (user ++ colon ∷ password) ≡ Some (length user)
-position-colon user password none =
-    let text : List ℕ = user ++ colon ∷ password in
-    let long : length user < length text = omega (arith, length-append user (colon ∷ password)) in
-    let before : (k : ℕ) → k < length user → is_colon (get_or text k colon) ≡ false
-    = λ k below. other_than_colon (get_or text k colon) (λ is. none (k, below, sym (get_or_append_left user (colon ∷ password) colon k below) ∙ is)) in
-    let at : position_or_len is_colon text ≡ length user
-    = position_or_len_is is_colon text (length user) colon (omega arith) before (λ _. ap is_colon (get_or-append_seam user colon password colon)) in
-    found_at (position_or_len is_colon text) (length user) (length text) at long
-  where
-    other_than_colon : (b : ℕ) → (b ≡ colon → ⊥) → is_colon b ≡ false
-    other_than_colon b apart = search (rules, Decides-eqb b colon, apart)
-
-    found_at : (i n size : ℕ) → i ≡ n → n < size → cond (ltb i size) (Some i) None ≡ Some n
-    found_at i n size same below = rw same (ap (λ b. cond b (Some n) None) ((Decides-ltb n size).1 below))
-
-abbrev same_of : List ℕ → List ℕ → Credentials
-same_of user password = record { user = user; password = password }
+abbrev of_parts : List ℕ × List ℕ → Credentials
+of_parts parts = record { user = parts.0; password = parts.1 }
 
 -- what `credentials_of` says
-pub credentials_of-user : (user password : List ℕ) → ¬ Contains user colon
+pub credentials_of-user : CutsFirst → (user password : List ℕ) → ¬ Contains user colon
     → credentials_of (user ++ colon ∷ password) ≡ Some (record { user = user; password = password })
-credentials_of-user user password none =
-    let text : List ℕ = user ++ colon ∷ password in
-    ap (option_map (λ (i : ℕ). same_of (take i text) (drop (i + 1) text))) (position-colon user password none)
-    ∙ ap (λ u. Some (same_of u (drop (length user + 1) text))) (take-append_seam user (colon ∷ password))
-    ∙ ap (λ w. Some (same_of user w)) (drop-append-add user (colon ∷ password) 1)
+credentials_of-user first user password none =
+    ap (option_map of_parts) ((first colon (user ++ colon ∷ password) user password).1 (refl, none))
 
-pub credentials_of-text : (text : List ℕ) (pair : Credentials) → credentials_of text ≡ Some pair
+pub credentials_of-text : CutsFirst → (text : List ℕ) (pair : Credentials) → credentials_of text ≡ Some pair
     → (text ≡ pair.user ++ colon ∷ pair.password) × (¬ Contains pair.user colon)
-credentials_of-text text pair h =
-    elim (position is_colon text) as (λ place. position is_colon text ≡ place → option_map (λ (i : ℕ). same_of (take i text) (drop (i + 1) text)) place ≡ Some pair
+credentials_of-text first text pair h =
+    elim (cut colon text) as (λ o. cut colon text ≡ o → option_map of_parts o ≡ Some pair
     → (text ≡ pair.user ++ colon ∷ pair.password) × (¬ Contains pair.user colon)) [
       | None ↦ λ is none. absurd (false≢true (ap is_some none))
-      | Some i ↦ λ is some. subst (λ (p : Credentials). (text ≡ p.user ++ colon ∷ p.password) × (¬ Contains p.user colon))
-          (ap (λ o. unwrap_or o pair) some) (text-at_colon text i is, none_before_colon text i is)
+      | Some parts ↦ λ is some. subst (λ (p : Credentials). (text ≡ p.user ++ colon ∷ p.password) × (¬ Contains p.user colon))
+          (ap (λ o. unwrap_or o pair) some) ((first colon text parts.0 parts.1).0 is)
+    ] refl h
+
+-- a pair as the text that has it, with the length of its user
+pub of_text-some : CutsFirst → (text : List ℕ) (n : ℕ) → Some n ≡ option_map (λ parts. length parts.0) (cut colon text)
+    → (n < length text) × (Some (record { user = take n text; password = drop (n + 1) text }) ≡ credentials_of text)
+of_text-some first text n h =
+    elim (cut colon text) as (λ o. cut colon text ≡ o → Some n ≡ option_map (λ parts. length parts.0) o
+    → (n < length text) × (Some (record { user = take n text; password = drop (n + 1) text }) ≡ option_map of_parts o)) [
+      | None ↦ λ is none. absurd (false≢true (ap is_some (sym none)))
+      | Some parts ↦ λ is some.
+          let whole : text ≡ parts.0 ++ colon ∷ parts.1 = ((first colon text parts.0 parts.1).0 is).0 in
+          let size : n ≡ length parts.0 = cc in (
+            rw (whole, size) (omega (arith, length-append parts.0 (colon ∷ parts.1))),
+            rw (whole, size) (ap (λ user. Some (of_parts (user, drop (length parts.0 + 1) (parts.0 ++ colon ∷ parts.1))))
+                (take-append_seam parts.0 (colon ∷ parts.1))
+                ∙ ap (λ password. Some (of_parts (parts.0, password))) (drop-append-add parts.0 (colon ∷ parts.1) 1)),
+          )
     ] refl h

@@ -1,4 +1,3 @@
-pub mod PositionLemmas
 pub mod ColonLemmas
 pub mod AuthorizationLemmas
 pub mod ListedLemmas

@@ -5,12 +5,12 @@ use Rattle.std.specs.Option.{is_some}
 use Rattle.std.specs.Cmp.Lexicographic.{slice_cmp, nat_list_cmp_total}
 use Rattle.std.specs.FinMap as finite
 use Rattle.std.specs.FinMap.{get-from_entries, get-insert, get-empty, get_tied, find, same_map}
-use Rattle.std.specs.List.{position, slice_split, filter_map, cons_option}
+use Rattle.std.specs.List.{filter_map, cons_option}
 use Rattle.std.proofs.lemmas.Bool.{false≢true}
-use Rattle.std.proofs.lemmas.List.Splits.{length-slice_split}
+use Rattle.radio_texts.specs.Cuts.{fields_at}
+use Rattle.radio_texts.specs.Lines.{without_return}
 use Rattle.radio_creds.specs.UserLine.{user_line}
-use Rattle.radio_creds.specs.UserList.{UserList, with_line, lines_of, ended_lines, is_line_feed, without_return}
-use Rattle.radio_creds.proofs.PositionLemmas.{split-position, split-no_position}
+use Rattle.radio_creds.specs.UserList.{UserList, with_line, lines_of, ended_lines}
 use Rattle.radio_creds.proofs.ListedLemmas.{order, same_user, equal}
 
 -- a list with the users of more lines
@@ -23,15 +23,12 @@ ended-more line [] h = absurd (omega arith)
 ended-more line (piece ∷ pieces) h = refl
 
 -- the lines of a text with a line feed, and of one with none
-pub lines_of-more : (text : List ℕ) (end : ℕ) → position is_line_feed text ≡ Some end
-    → lines_of text ≡ without_return (take end text) ∷ lines_of (drop (end + 1) text)
-lines_of-more text end h =
-    let rest : List (List ℕ) = slice_split is_line_feed (drop (end + 1) text) in
-    let some : 0 < length rest = omega (arith, length-slice_split is_line_feed (drop (end + 1) text)) in
-    ap ended_lines (split-position is_line_feed text end h) ∙ ended-more (take end text) rest some
+pub lines_of-more : (text line after : List ℕ) → fields_at 10 text ≡ line ∷ fields_at 10 after → 0 < length (fields_at 10 after)
+    → lines_of text ≡ without_return line ∷ lines_of after
+lines_of-more text line after cut some = ap ended_lines cut ∙ ended-more line (fields_at 10 after) some
 
-pub lines_of-last : (text : List ℕ) → position is_line_feed text ≡ None → lines_of text ≡ text ∷ []
-lines_of-last text h = ap ended_lines (split-no_position is_line_feed text h)
+pub lines_of-last : (text : List ℕ) → fields_at 10 text ≡ text ∷ [] → lines_of text ≡ text ∷ []
+lines_of-last text cut = ap ended_lines cut
 
 -- the first of two answers
 abbrev or_later : Option (List ℕ) → Option (List ℕ) → Option (List ℕ)

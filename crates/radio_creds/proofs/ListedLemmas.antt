@@ -61,10 +61,12 @@ module _ {K : Type 0} (read : K → List ℕ) where
   find-inserted q k v (e ∷ es) =
       let rest : Option (List ℕ) = find (slice_cmp nat_cmp) q (listed read es) in
       elim (order (read k) (read e.0)) as (λ o. order (read k) (read e.0) ≡ o
-      → find (slice_cmp nat_cmp) q (listed read (match_ordering o ((k, v) ∷ e ∷ es) ((e.0, v) ∷ es) (e ∷ insert_entry (λ x y. order (read x) (read y)) es k v)))
+      → find (slice_cmp nat_cmp) q (listed read (match_ordering o ((k, v) ∷ e ∷ es) ((e.0, v) ∷ es)
+      (e ∷ insert_entry (λ x y. order (read x) (read y)) es k v)))
       ≡ cond (is_eq (order q (read k))) (Some v) (cond (is_eq (order q (read e.0))) (Some e.1) rest)) [
         | Less ↦ λ h. refl
-        | Equal ↦ λ h. subst (λ (u : List ℕ). cond (is_eq (order q (read e.0))) (Some v) rest ≡ cond (is_eq (order q u)) (Some v) (cond (is_eq (order q (read e.0))) (Some e.1) rest))
+        | Equal ↦ λ h. subst (λ (u : List ℕ). cond (is_eq (order q (read e.0))) (Some v) rest ≡ cond (is_eq (order q u)) (Some v)
+            (cond (is_eq (order q (read e.0))) (Some e.1) rest))
             (sym (same_user (read k) (read e.0) h)) (shadowed (is_eq (order q (read e.0))) (Some v) (Some e.1) rest)
         | Greater ↦ λ h. ap (cond (is_eq (order q (read e.0))) (Some e.1)) (find-inserted q k v es)
             ∙ swapped (is_eq (order q (read e.0))) (is_eq (order q (read k))) (Some e.1) (Some v) rest (apart q (read k) (read e.0) h)

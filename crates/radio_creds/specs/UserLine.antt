@@ -1,10 +1,11 @@
 -- A line of a user list.
-use Rattle.std.specs.Prelude.{◌≡◌, ◌≢◌, ℕ, ◌+◌, ◌==◌, List, ◌∷◌, ◌++◌, take, drop, slice_index, Option, None, Ok, if◌then◌else◌}
-use Rattle.std.specs.List.{position, Contains}
+use Rattle.std.specs.Prelude.{◌≡◌, ◌≢◌, ℕ, ◌==◌, List, ◌∷◌, ◌++◌, slice_index, Option, None, Ok, if◌then◌else◌}
+use Rattle.std.specs.List.{Contains}
 use Rattle.std.specs.Option.{option_map, option_and_then}
 use Rattle.std.specs.Result.{result_ok}
 use Rattle.hex.specs.Hex.{decode_sized}
-use Rattle.radio_creds.specs.Credentials.{colon, is_colon}
+use Rattle.radio_texts.specs.Cuts.{cut}
+use Rattle.radio_creds.specs.Credentials.{colon}
 
 abbrev pub hash : ℕ
 hash = 35
@@ -26,5 +27,4 @@ digest_written digits = result_ok (decode_sized digits 16)
 unfoldable pub user_line : List ℕ → Option (List ℕ × List ℕ)
 user_line line =
     if slice_index line 0 == hash then None
-    else option_and_then (λ i. option_map (λ digest. (take i line, digest)) (digest_written (drop (i + 1) line)))
-    (position is_colon line)
+    else option_and_then (λ parts. option_map (λ digest. (parts.0, digest)) (digest_written parts.1)) (cut colon line)

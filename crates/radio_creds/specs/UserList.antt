@@ -1,24 +1,15 @@
 -- A user list: its lines, its users, and whom it accepts.
-use Rattle.std.specs.Prelude.{◌≡◌, ℕ, ◌-◌, ◌==◌, Bool, false, List, [], ◌∷◌, ◌++◌, length, take, slice_index, Option, None, Some, if◌then◌else◌}
+use Rattle.std.specs.Prelude.{◌≡◌, ℕ, Bool, false, List, [], ◌∷◌, ◌++◌, Option, None, Some, if◌then◌else◌}
 use Rattle.std.specs.Ordering.{nat_cmp}
 use Rattle.std.specs.Cmp.Lexicographic.{slice_cmp}
 use Rattle.std.specs.FinMap as map
-use Rattle.std.specs.List.{slice_split, filter_map, list_any}
+use Rattle.std.specs.List.{filter_map, list_any}
 use Rattle.std.specs.Str.{bytes_eq}
+use Rattle.radio_texts.specs.Cuts.{fields_at}
+use Rattle.radio_texts.specs.Lines.{without_return}
 use Rattle.md5.specs.Md5.{md5}
 use Rattle.radio_creds.specs.Credentials.{Credentials}
 use Rattle.radio_creds.specs.UserLine.{user_line}
-
-abbrev pub is_line_feed : ℕ → Bool
-is_line_feed b = b == 10
-
-abbrev pub carriage_return : ℕ
-carriage_return = 13
-
--- a line without a carriage return at its end
-abbrev pub without_return : List ℕ → List ℕ
-without_return line =
-    if slice_index line (length line - 1) == carriage_return then take (length line - 1) line else line
 
 -- each line but the last was ended by a line feed, and loses a carriage return before it
 abbrev pub ended_lines : List (List ℕ) → List (List ℕ)
@@ -28,7 +19,7 @@ ended_lines (line ∷ next ∷ lines) = without_return line ∷ ended_lines (nex
 
 -- the lines of a text: what stands between its line feeds
 abbrev pub lines_of : List ℕ → List (List ℕ)
-lines_of text = ended_lines (slice_split is_line_feed text)
+lines_of text = ended_lines (fields_at 10 text)
 
 -- the users and the digests of the well-formed lines, in their order
 abbrev pub user_lines : List ℕ → List (List ℕ × List ℕ)

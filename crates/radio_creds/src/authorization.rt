@@ -10,6 +10,7 @@ use crate::OutOfMemory;
 use crate::pair::Pair;
 use base64::DecodeAllocError;
 use base64::engine::general_purpose::STANDARD;
+use radio_texts::laws::cuts;
 use std::alloc::{AllocError, Global};
 
 const SCHEME: &[u8] = b"Basic";
@@ -29,6 +30,7 @@ pub fn basic(alloc: Global, value: &[u8]) -> Result<Option<Pair>, OutOfMemory>
     // The same as a function of the value.
     ensures pair { IfOk result (λ found. found ≡ basic_pair value.now) }
 {
+    cuts();
     let Some(text) = basic_text(value) else {
         return Ok(None);
     };

@@ -1,4 +1,4 @@
-//! Digests of passwords: read from hexadecimal digits, and compared.
+//! Secrets: digests of passwords, and how secrets are compared.
 ghost use Rattle.std.specs.Prelude.{◌≡◌, ◌↔◌, IsTrue};
 ghost use Rattle.radio_creds.specs.UserLine.{digest_written};
 
@@ -15,14 +15,17 @@ pub(crate) fn read_digest(digits: &[u8]) -> Option<PasswordDigest>
     <PasswordDigest as FromHex>::from_hex(digits).ok()
 }
 
-/// Whether two digests are the same.
+/// Whether two secrets, as passwords or digests, are the same.
 ///
-/// All bytes are looked at, so the number of steps is the same wherever the two differ.
-pub(crate) fn is_same_digest(a: &PasswordDigest, b: &PasswordDigest) -> bool
+/// All bytes are compared, so the number of steps is the same wherever two secrets of one length differ.
+pub fn is_same_secret(a: &[u8], b: &[u8]) -> bool
     ensures { IsTrue result ↔ (a.now ≡ b.now) }
 {
+    if a.len() != b.len() {
+        return false;
+    }
     let mut is_same = true;
-    for i in 0..DIGEST_LEN {
+    for i in 0..a.len() {
         is_same &= a[i] == b[i];
     }
     is_same

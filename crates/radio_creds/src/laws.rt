@@ -7,11 +7,15 @@ ghost use Rattle.std.specs.FinMap as finite;
 ghost use Rattle.radio_creds.specs.UserLine.{IsUserLine, user_line};
 ghost use Rattle.radio_creds.specs.UserList.{IsFirstOf, has_line_of, has_user, user_lines, users_of};
 
+use radio_texts::laws::cuts;
+
 /// A line has a user and a digest exactly where it is `user:digest` by the format.
 pub fn lines_of_users()
     ensures { (line user digest : List ℕ)
         → (user_line line ≡ Some (user, digest)) ↔ IsUserLine line user digest }
-{}
+{
+    cuts();
+}
 
 /// A user list has the digest of the first well-formed line of a user, and the users of all its well-formed lines.
 pub fn first_lines_count()

@@ -1,8 +1,12 @@
 //! A user and a password.
-ghost use Rattle.std.specs.Prelude.{◌≡◌};
+ghost use Rattle.std.specs.Prelude.{◌≡◌, IfOk, length};
+ghost use Rattle.std.specs.Option.{option_map};
+ghost use Rattle.radio_texts.specs.Cuts.{cut as cut_at};
 ghost use Rattle.radio_creds.specs.Credentials.{credentials_of};
 
-use crate::colon::first_colon;
+use crate::OutOfMemory;
+use radio_texts::cut;
+use radio_texts::laws::cuts;
 use std::fmt;
 use std::marker::Model;
 
@@ -29,8 +33,20 @@ impl Pair {
     pub(crate) fn of_text(text: Vec<u8>) -> Option<Pair>
         ensures { result ≡ credentials_of text.items }
     {
-        let colon = first_colon(text.as_slice())?;
+        cuts();
+        let colon = front_len(text.as_slice())?;
         Some(Pair { text, colon })
+    }
+
+    /// Another pair of the same user and the same password. `Err` where there is no memory for it.
+    pub fn copy(&self) -> Result<Pair, OutOfMemory>
+        ensures { IfOk result (λ copy. copy ≡ self.now) }
+    {
+        let text = self.text.clone()?;
+        Ok(Pair {
+            text,
+            colon: self.colon,
+        })
     }
 
     /// The user. It may be empty, and need not be text in UTF-8.
@@ -48,6 +64,14 @@ impl Pair {
         let (_, password) = self.text.as_slice().split_at(self.colon + 1);
         password
     }
+}
+
+/// How many bytes stand before the first colon.
+fn front_len(text: &[u8]) -> Option<usize>
+    ensures { result ≡ option_map (λ parts. length parts.0) (cut_at 58 text.now) }
+{
+    let (front, _) = cut(text, b':')?;
+    Some(front.len())
 }
 
 /// Shows neither the user nor the password.

@@ -3,8 +3,8 @@ ghost use Rattle.std.specs.Prelude.{◌≡◌};
 ghost use Rattle.std.specs.Option.{option_map};
 ghost use Rattle.radio_creds.specs.UserLine.{user_line};
 
-use crate::colon::first_colon;
 use crate::digest::{PasswordDigest, read_digest};
+use radio_texts::cut;
 
 /// The user and the digest of a line `user:digest`, which is cut at its first colon.
 ///
@@ -16,11 +16,9 @@ pub(crate) fn user_line(line: &[u8]) -> Option<(&[u8], PasswordDigest)>
     if line.starts_with(b"#") {
         return None;
     }
-    let Some(colon) = first_colon(line) else {
+    let Some((user, digits)) = cut(line, b':') else {
         return None;
     };
-    let (user, _) = line.split_at(colon);
-    let (_, digits) = line.split_at(colon + 1);
     match read_digest(digits) {
         Some(digest) => Some((user, digest)),
         None => None,

@@ -1,16 +1,17 @@
 //! User lists.
 ghost use Rattle.std.specs.Prelude.{◌≡◌, ◌↔◌, IsTrue, IfOk, OnOk};
 ghost use Rattle.std.specs.FinMap as finite;
-ghost use Rattle.std.specs.List.{position};
 ghost use Rattle.std.specs.Option.{option_copied};
 ghost use Rattle.radio_creds.specs.UserLine.{user_line};
-ghost use Rattle.radio_creds.specs.UserList.{Accepts, has_user, is_line_feed, users_of, with_line, without_return};
+ghost use Rattle.radio_creds.specs.UserList.{Accepts, has_user, users_of, with_line};
 
 use crate::OutOfMemory;
-use crate::digest::{PasswordDigest, is_same_digest};
+use crate::digest::{PasswordDigest, is_same_secret};
 use crate::pair::Pair;
 use crate::user_line::user_line;
 use md5::{Digest, Md5};
+use radio_texts::laws::fields;
+use radio_texts::{cut, without_return};
 use std::alloc::Global;
 use std::collections::BTreeMap;
 use std::fmt;
@@ -52,9 +53,8 @@ impl Users {
             digests: BTreeMap::new(alloc),
         };
         let mut rest = bytes;
-        while let Some(end) = first_line_feed(rest) {
-            let (line, _) = rest.split_at(end);
-            let (_, after) = rest.split_at(end + 1);
+        fields();
+        'lines: while let Some((line, after)) = cut(rest, b'\n') {
             users.add_line(alloc, without_return(line))?;
             rest = after;
         }
@@ -69,7 +69,10 @@ impl Users {
         ensures { IsTrue result ↔ Accepts self.now pair.now }
     {
         match self.digest_of(pair.user()) {
-            Some(digest) => is_same_digest(digest, &Md5::digest(pair.password())),
+            Some(digest) => {
+                let sent = Md5::digest(pair.password());
+                is_same_secret(digest.as_slice(), sent.as_slice())
+            }
             None => false,
         }
     }
@@ -108,20 +111,5 @@ impl Users {
 impl fmt::Debug for Users {
     fn fmt<W: fmt::Write>(&self, f: &mut fmt::Formatter<W>) -> fmt::Result {
         f.write_str("Users { .. }")
-    }
-}
-
-fn first_line_feed(text: &[u8]) -> Option<usize>
-    ensures { result ≡ position is_line_feed text.now }
-{
-    text.iter().position(|b| *b == b'\n')
-}
-
-fn without_return(line: &[u8]) -> &[u8]
-    ensures { result.now ≡ without_return line.now }
-{
-    match line {
-        [front @ .., b'\r'] => front,
-        _ => line,
     }
 }

@@ -4,8 +4,7 @@ use Rattle.std.specs.Str.{bytes_eq}
 use Rattle.std.proofs.lemmas.List.{drop-append-le, take-append-drop, map-append}
 use Rattle.radio_blocks.specs.declared.block.TheConstants.{MAX_BLOCK}
 use Rattle.radio_core.specs.declared.event.Event.{Event}
-use Rattle.radio_core.specs.declared.event.Event.TheVariants.{Push, Source, Listen}
-use Rattle.radio_core.specs.Shown.{nothing_told}
+use Rattle.radio_core.specs.declared.event.Event.TheVariants.{Push}
 use Rattle.radio_heads.specs.declared.outcome.Progress.{Progress}
 use Rattle.radio_heads.specs.declared.outcome.Progress.TheVariants.{More, Whole}
 use Rattle.radio_heads.specs.declared.outcome.HeadFault.{HeadFault}
@@ -16,7 +15,7 @@ use Rattle.radio_floor.specs.declared.connection.Hears.{Hears}
 use Rattle.radio_floor.specs.declared.connection.Hears.TheVariants.{Head, Body, Nothing}
 use Rattle.radio_floor.specs.Conversation.{Conversation}
 use Rattle.radio_floor.specs.Blocks.{cut_into, blocks_of, pushes}
-use Rattle.radio_floor.specs.Hearing.{Heard, HearsAs, IsHeard, head_heard, request_heard, source_heard, refuses, going_on}
+use Rattle.radio_floor.specs.Hearing.{asks_to_feed, asks_to_hear, Heard, HearsAs, IsHeard, head_heard, request_heard, source_heard, refuses, going_on}
 use Rattle.radio_policy.specs.declared.rule.Rule.TheVariants.{BadHead, BadMethod}
 use Rattle.radio_floor.specs.Cuts.{Atom, datum, other, atoms_of, atoms, CutsDoNotMatter}
 
@@ -73,7 +72,7 @@ by_parts X Y Z two whole e f g h = (
 request_by : Bool → Bool → Conversation → RequestParts → List ℕ → Heard
 request_by source get conversation request behind =
     if source then source_heard conversation request.path behind
-    else if get then record { events = Listen conversation.id request.path ∷ []; conversation = going_on conversation Nothing }
+    else if get then record { events = asks_to_hear conversation.id request.path ∷ []; conversation = going_on conversation Nothing }
     else refuses conversation BadMethod
 
 -- a request, and more bytes behind it
@@ -81,9 +80,9 @@ request-cut : (source get : Bool) (conversation : Conversation) (request : Reque
 unfolding request_by
 request-cut true get conversation request behind second two whole h w =
     by_parts (source_heard conversation request.path behind) (record { events = pushes conversation.id second; conversation = going_on conversation Body }) (source_heard conversation request.path (behind ++ second)) two whole h w
-    (ap (λ (zs : List Atom). other (Source conversation.id request.path nothing_told) ∷ zs) (pushes-cut conversation.id behind second)) refl
+    (ap (λ (zs : List Atom). other (asks_to_feed conversation.id request.path) ∷ zs) (pushes-cut conversation.id behind second)) refl
 request-cut false true conversation request behind second two whole h w =
-    let heard : Heard = record { events = Listen conversation.id request.path ∷ []; conversation = going_on conversation Nothing } in
+    let heard : Heard = record { events = asks_to_hear conversation.id request.path ∷ []; conversation = going_on conversation Nothing } in
     by_parts heard (record { events = []; conversation = going_on conversation Nothing }) heard two whole h w refl refl
 request-cut false false conversation request behind second two whole h w =
     by_parts (refuses conversation BadMethod) (record { events = []; conversation = (refuses conversation BadMethod).conversation }) (refuses conversation BadMethod) two whole h w refl refl

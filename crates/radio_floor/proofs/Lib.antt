@@ -1,13 +1,6 @@
 mod BlockLemmas
 mod CutLemmas
+mod ExchangeLemmas
 mod ScriptStateLemmas
 mod ServerSimulation
 mod OneTranscript
-mod GivenLemmas
-mod BroughtLemmas
-mod Phases
-mod PhaseSteps
-mod PhaseHearing
-mod PhaseDeliveries
-mod PhaseOpenings
-mod PhaseRuns

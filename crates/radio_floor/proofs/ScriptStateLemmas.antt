@@ -3,28 +3,28 @@ use Rattle.std.specs.Prelude.{find}
 use Rattle.std.specs.Option.{option_map}
 use Rattle.radio_core.specs.World.{World}
 use Rattle.radio_core.specs.declared.event.Event.{Event}
-use Rattle.radio_core.proofs.ListLemmas.{update_first-twice}
+use Rattle.radio_tables.specs.FindLaws.{update_first-twice}
 use Rattle.radio_script.specs.declared.delivery.Delivery.{Delivery}
 use Rattle.radio_floor.specs.declared.script_server.Labelled.{Labelled}
 use Rattle.radio_script.specs.declared.faults.PerformFault.{PerformFault}
 use Rattle.radio_script.specs.declared.faults.PerformFault.TheVariants.{Label}
 use Rattle.radio_floor.specs.Conversation.{Conversation}
 use Rattle.radio_floor.specs.Exchanges.{exchanged}
-use Rattle.radio_floor.specs.ScriptState.{ScriptState, Performed, has_label, connection_of, with_connection, on_connection, for_label, for_new_label, exchanges, closes, conversation_unless, told_lines}
+use Rattle.radio_floor.specs.ScriptState.{ScriptState, Performed, has_label, connection_of, holding, with_connection, on_connection, for_label, for_new_label, exchanges, closes, conversation_unless, told_lines}
 use Rattle.radio_floor.specs.ScriptServer.{script_state_of, performed_as}
 use Rattle.radio_floor.specs.Performing.{Performs, PerformsAs}
 
 -- of two settings of a label the second stands
 pub with_connection-twice : (connections : List Labelled) (label : ℕ) (first second : Option Conversation) → with_connection (with_connection connections label first) label second ≡ with_connection connections label second
 with_connection-twice connections label first second =
-    update_first-twice (has_label label) (λ l. record l { connection = first }) (λ l. record l { connection = second }) (λ l h. h) (λ l. refl) connections
+    update_first-twice (has_label label) (holding first) (holding second) (λ l h. h) (λ l. refl) connections
 
 -- the connection is set, whatever it was set to before
 pub exchanges-mid : (w : World) (mid connections : List Labelled) (label : ℕ) (conversation : Conversation) (events : List Event) → mid ≡ with_connection connections label None → exchanges (script_state_of w mid) label conversation events ≡ exchanges (script_state_of w connections) label conversation events
 exchanges-mid w mid connections label conversation events e =
     let x = exchanged w conversation.id conversation.says events in
-    let after = conversation_unless (record conversation { says = x.says }) x.ending in
-    ap (λ (xs : List Labelled). performed_as (Some (told_lines label x.bytes x.ending)) x.world xs)
+    let after = conversation_unless (record conversation { says = x.exchange.says }) x.exchange.ending in
+    ap (λ (xs : List Labelled). performed_as (Some (told_lines label x.exchange.bytes x.exchange.ending)) x.world xs)
     (ap (λ (xs : List Labelled). with_connection xs label after) e ∙ with_connection-twice connections label None after)
 
 pub closes-mid : (w : World) (mid connections : List Labelled) (label : ℕ) (conversation : Conversation) → mid ≡ with_connection connections label None → closes (script_state_of w mid) label conversation ≡ closes (script_state_of w connections) label conversation
@@ -92,3 +92,14 @@ performs-ok (Err fault) core connections delivery lines lines' core' connections
 pub performs-label : (r : Result (Unit {0}) PerformFault) (core : World) (connections : List Labelled) (delivery : Delivery) (lines lines' : List ℕ) (core' : World) (connections' : List Labelled) → PerformsAs r core connections delivery lines lines' core' connections' → r ≡ Err Label → Performs core connections delivery None core' connections'
 performs-label r core connections delivery lines lines' core' connections' h e =
     subst (λ (s : Result (Unit {0}) PerformFault). PerformsAs s core connections delivery lines lines' core' connections') e h
+
+-- nothing becomes of a label that was not opened
+unopened_at : (label : ℕ) (conversation : Option Conversation) (l : Labelled) (ls : List Labelled) (b : Bool) → has_label label l ≡ b
+    → is_some (option_map (λ (x : Labelled). x.connection) (cond b (Some l) (find (has_label label) ls))) ≡ false
+    → (is_some (connection_of ls label) ≡ false → with_connection ls label conversation ≡ ls) → cond b (holding conversation l ∷ ls) (l ∷ with_connection ls label conversation) ≡ l ∷ ls
+unopened_at label conversation l ls true e h rest = cc
+unopened_at label conversation l ls false e h rest = ap (λ (xs : List Labelled). l ∷ xs) (rest h)
+
+pub unopened : (label : ℕ) (conversation : Option Conversation) (connections : List Labelled) → is_some (connection_of connections label) ≡ false → with_connection connections label conversation ≡ connections
+unopened label conversation [] h = refl
+unopened label conversation (l ∷ ls) h = unopened_at label conversation l ls (has_label label l) refl h (unopened label conversation ls)

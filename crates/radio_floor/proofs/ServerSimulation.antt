@@ -2,7 +2,7 @@
 use Rattle.std.proofs.Common.{◌≡◌, ℕ, List, [], Option, None, Some, Result, refl, sym, ap, subst}
 use Rattle.radio_core.specs.World.{World, opening}
 use Rattle.radio_core.specs.Step.{Represents}
-use Rattle.radio_core.specs.declared.settings.Settings.{Settings}
+use Rattle.radio_settings.specs.declared.settings.Settings.{Settings}
 use Rattle.radio_script.specs.declared.delivery.Delivery.{Delivery}
 use Rattle.radio_floor.specs.declared.script_server.ScriptServer.{ScriptServer}
 use Rattle.radio_script.specs.declared.faults.PlayFault.{PlayFault}
@@ -16,28 +16,28 @@ use Rattle.radio_script.proofs.SimulationLemmas.{runs, plays}
 
 -- what the server does
 abbrev pub server_conduct : Conduct ScriptServer
-server_conduct old delivery lines new = Performs old.core old.connections.items delivery lines new.core new.connections.items
+server_conduct old delivery lines new = Performs old.core old.connections delivery lines new.core new.connections
 
 -- the server's core stands for the state's state, and the connections are the same
 abbrev Same : ScriptServer → ScriptState → Type 0
-Same server state = (w : World) × Represents server.core w × (state ≡ script_state_of w server.connections.items)
+Same server state = (w : World) × Represents server.core w × (state ≡ script_state_of w server.connections)
 
 does : (server server' : ScriptServer) (state : ScriptState) (delivery : Delivery) (lines : Option (List ℕ)) → Same server state → server_conduct server delivery lines server' → (state' : ScriptState) × Same server' state' × conduct state delivery lines state'
 does server server' state delivery lines same performs =
     let d = performs same.0 same.1 in
-    let state' = script_state_of d.0 server'.connections.items in
+    let state' = script_state_of d.0 server'.connections in
     (state', (d.0, d.1, refl), subst (λ (f : ScriptState). conduct f delivery lines state') (sym same.2) d.2)
 
 -- a new server stands for the opening state
-opens : (server : ScriptServer) (settings : Settings) → Represents server.core (opening settings) → server.connections.items ≡ [] → Same server (opening_script settings)
+opens : (server : ScriptServer) (settings : Settings) → Represents server.core (opening settings) → server.connections ≡ [] → Same server (opening_script settings)
 opens server settings stands none = (opening settings, stands, ap (script_state_of (opening settings)) (sym none))
 
-pub server_runs : (server last : ScriptServer) (settings : Settings) (deliveries : List Delivery) (text : List ℕ) (stop : Option ℕ) → Represents server.core (opening settings) → server.connections.items ≡ [] → Runs server_conduct server 1 deliveries text stop last → IsTranscriptOf settings deliveries text stop
+pub server_runs : (server last : ScriptServer) (settings : Settings) (deliveries : List Delivery) (text : List ℕ) (stop : Option ℕ) → Represents server.core (opening settings) → server.connections ≡ [] → Runs server_conduct server 1 deliveries text stop last → IsTranscriptOf settings deliveries text stop
 server_runs server last settings deliveries text stop stands none r =
     let t = runs server_conduct conduct Same does deliveries server last (opening_script settings) 1 text stop (opens server settings stands none) r in
     (t.0, t.2)
 
-pub server_plays : (server last : ScriptServer) (settings : Settings) (script left : List ℕ) (result : Result (Unit {0}) PlayFault) (written : List ℕ) (turns : ℕ) → Represents server.core (opening settings) → server.connections.items ≡ [] → Plays server_conduct server 1 script left result written turns last → PlaysScript settings script left result written turns
+pub server_plays : (server last : ScriptServer) (settings : Settings) (script left : List ℕ) (result : Result (Unit {0}) PlayFault) (written : List ℕ) (turns : ℕ) → Represents server.core (opening settings) → server.connections ≡ [] → Plays server_conduct server 1 script left result written turns last → PlaysScript settings script left result written turns
 server_plays server last settings script left result written turns stands none h =
     plays server_conduct conduct Same does server last (opening_script settings) 1 script left result written turns (opens server settings stands none) h
 

@@ -1,47 +1,75 @@
--- What the server makes of a connection's events, one after another.
-use Rattle.std.specs.Prelude.{ℕ, Bool, true, false, if◌then◌else◌, List, [], ◌∷◌, ◌++◌, Option, None, Some}
+-- What a connection's events come to, one after another, whoever applies them.
+use Rattle.std.specs.Prelude.{◌≡◌, ℕ, Bool, true, false, if◌then◌else◌, List, [], ◌∷◌, ◌++◌, Option, None, Some}
 use Rattle.radio_core.specs.declared.event.Event.{Event}
 use Rattle.radio_core.specs.declared.event.Event.TheVariants.{Leave}
+use Rattle.radio_core.specs.declared.reply.Reply.{Reply}
 use Rattle.radio_core.specs.World.{World}
-use Rattle.radio_core.specs.Step.{outcome}
+use Rattle.radio_core.specs.Step.{Step, Represents, reply_to, world_after}
 use Rattle.radio_floor.specs.declared.connection.Says.{Says}
 use Rattle.radio_floor.specs.declared.connection.Ending.{Ending}
 use Rattle.radio_floor.specs.Saying.{Said, said}
 
--- the server's state after it, the bytes that went out, how replies are told from then on, and how the connection ends, if it does
+-- the bytes that went out, how replies are told from then on, and how the connection ends, if it does
 pub record Exchange : Type 0 where
-  pub world : World
   pub bytes : List ℕ
   pub says : Says
   pub ending : Option Ending
 
 -- nothing was exchanged yet
-abbrev pub nothing_exchanged : World → Says → Exchange
-nothing_exchanged w says = record { world = w; bytes = []; says = says; ending = None }
+abbrev pub nothing_exchanged : Says → Exchange
+nothing_exchanged says = record { bytes = []; says = says; ending = None }
 
 -- these bytes went out before it
 abbrev pub prefixed : List ℕ → Exchange → Exchange
 prefixed bytes x = record x { bytes = bytes ++ x.bytes }
 
+-- it ends with this
+abbrev pub ended_with : Said → Ending → Exchange
+ended_with told ending = record { bytes = told.bytes; says = told.says; ending = Some ending }
+
 abbrev pub is_leave : Event → Bool
 is_leave (Leave id) = true
 is_leave event = false
 
--- a connection that ends leaves the server, unless that is what it has just done
+-- from a state, an event is answered by a reply, and leaves a state
+abbrev pub Steps : Type 0 → Type 1
+Steps State = State → Event → Reply → State → Type 0
+
+-- the events are applied one after another, and each reply is told; where the connection ends, the others are not applied, and it leaves, unless that is what it has just done
+module _ {State : Type 0} (steps : Steps State) (id : ℕ) where
+  abbrev pub LeavesAfter : Bool → State → State → Type 0
+  LeavesAfter true from to = to ≡ from
+  LeavesAfter false from to = (reply : Reply) × steps from (Leave id) reply to
+
+  abbrev pub GoesOn : Option Ending → Event → Said → State → (Exchange → Type 0) → Exchange → State → Type 0
+  GoesOn None event told from Others x to = (others : Exchange) × Others others × (x ≡ prefixed told.bytes others)
+  GoesOn (Some ending) event told from Others x to = LeavesAfter (is_leave event) from to × (x ≡ ended_with told ending)
+
+  abbrev pub Exchanges : Says → List Event → State → Exchange → State → Type 0
+  Exchanges says [] from x to = (x ≡ nothing_exchanged says) × (to ≡ from)
+  Exchanges says (event ∷ events) from x to =
+      (reply : Reply) × (mid : State) × steps from event reply mid
+      × GoesOn (said says reply).ending event (said says reply) mid (λ others. Exchanges (said says reply).says events mid others to) x to
+
+-- so does a core, whatever state it stands for
+abbrev pub core_steps : Steps World
+core_steps core event reply core' = (w : World) → Represents core w → (w' : World) × Step w event reply w' × Represents core' w'
+
+-- and so does the server's state
+pub record WorldExchange : Type 0 where
+  pub world : World
+  pub exchange : Exchange
+
 abbrev pub left_after : World → ℕ → Event → World
-left_after w id event = (if is_leave event then w else (outcome w (Leave id)).world)
+left_after w id event = (if is_leave event then w else world_after w (Leave id))
 
--- one event was answered, and others are to come: they are not applied where the connection ends
-abbrev pub exchanged_then : World → ℕ → Event → Said → Exchange → Exchange
-exchanged_then w id event told others = by_ending told.ending where
-  by_ending : Option Ending → Exchange
-  by_ending None = prefixed told.bytes others
-  by_ending (Some ending) = record { world = left_after w id event; bytes = told.bytes; says = told.says; ending = Some ending }
+abbrev pub then_exchanged : World → ℕ → Event → Said → Option Ending → WorldExchange → WorldExchange
+then_exchanged w id event told None others = record { world = others.world; exchange = prefixed told.bytes others.exchange }
+then_exchanged w id event told (Some ending) others = record { world = left_after w id event; exchange = ended_with told ending }
 
--- the client's events are applied one after another, and each reply is told
-abbrev pub exchanged : World → ℕ → Says → List Event → Exchange
-exchanged w id says [] = nothing_exchanged w says
+-- what the client's events come to from this state
+abbrev pub exchanged : World → ℕ → Says → List Event → WorldExchange
+exchanged w id says [] = record { world = w; exchange = nothing_exchanged says }
 exchanged w id says (event ∷ events) =
-    let o = outcome w event in
-    let told = said says o.reply in
-    exchanged_then o.world id event told (exchanged o.world id told.says events)
+    let told = said says (reply_to w event) in
+    then_exchanged (world_after w event) id event told told.ending (exchanged (world_after w event) id told.says events)

@@ -8,5 +8,3 @@ pub mod ScriptServer
 pub mod Performing
 pub mod Transcript
 pub mod Cuts
-pub mod Brought
-pub mod Slices

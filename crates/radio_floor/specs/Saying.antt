@@ -2,12 +2,9 @@
 use Rattle.std.specs.Prelude.{ℕ, List, [], Option, None, Some}
 use Rattle.radio_policy.specs.declared.rule.Rule.{Rule}
 use Rattle.radio_policy.specs.declared.rule.Status.{Status}
-use Rattle.radio_policy.specs.declared.rule.Status.TheVariants.{BadRequest, Forbidden, NotFound}
 use Rattle.radio_policy.specs.Words.{word_of, status_of}
-use Rattle.radio_core.specs.declared.event.Reply.{Reply}
-use Rattle.radio_core.specs.declared.event.Reply.TheVariants.{Arrived, Feeding, Seated, Drawn, Noted, Deny, Finished, Stray}
-use Rattle.radio_heads.specs.declared.answer.DenialStatus.{DenialStatus}
-use Rattle.radio_heads.specs.declared.answer.DenialStatus.TheVariants.{BadRequest as Is400, Forbidden as Is403, NotFound as Is404}
+use Rattle.radio_core.specs.declared.reply.Reply.{Reply}
+use Rattle.radio_core.specs.declared.reply.Reply.TheVariants.{Arrived, Feeding, Seated, Drawn, Noted, Deny, Finished, Stray}
 use Rattle.radio_heads.specs.Answer.{listener_head, source_text, denial_text}
 use Rattle.radio_floor.specs.declared.connection.Says.{Says}
 use Rattle.radio_floor.specs.declared.connection.Says.TheVariants.{Asking, Admitted, Refusing}
@@ -20,15 +17,13 @@ pub record Said : Type 0 where
   pub says : Says
   pub ending : Option Ending
 
--- the status line's number of a denial
-abbrev pub denial_status : Status → DenialStatus
-denial_status BadRequest = Is400
-denial_status Forbidden = Is403
-denial_status NotFound = Is404
+-- the answer that names the rule; a rule without a status has none
+abbrev pub denial_with : Option Status → Rule → List ℕ
+denial_with None rule = []
+denial_with (Some status) rule = denial_text status (word_of rule)
 
--- the answer that names the rule
 abbrev pub denial : Rule → List ℕ
-denial rule = denial_text (denial_status (status_of rule)) (word_of rule)
+denial rule = denial_with (status_of rule) rule
 
 -- these bytes, and it goes on
 abbrev pub tells : List ℕ → Says → Said
@@ -54,8 +49,8 @@ noted (Refusing rule) = ends (denial rule) (Refusing rule) rule
 abbrev pub said : Says → Reply → Said
 said says (Arrived id) = tells [] says
 said says Feeding = tells source_text Admitted
-said says (Seated shown) = tells (listener_head shown.content_type shown.name shown.genre None) Admitted
-said says (Drawn pieces) = tells pieces says
+said says (Seated interval shown) = tells (listener_head shown.content_type shown.name shown.genre None) Admitted
+said says (Drawn pieces title) = tells pieces says
 said says Noted = noted says
 said says (Deny rule) = denied says rule
 said says (Finished rule) = ends [] says rule

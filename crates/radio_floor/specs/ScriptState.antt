@@ -1,15 +1,17 @@
 -- The server behind a script: what each delivery comes to.
-use Rattle.std.specs.Prelude.{◌≡◌, ℕ, Bool, ◌==◌, List, [], ◌∷◌, ◌++◌, Option, None, Some, find}
+use Rattle.std.specs.Prelude.{◌≡◌, ℕ, Bool, ◌==◌, List, [], ◌∷◌, Option, None, Some, find}
 use Rattle.std.specs.Option.{option_map}
 use Rattle.radio_core.specs.declared.event.Event.{Event}
 use Rattle.radio_core.specs.declared.event.Event.TheVariants.{Arrive, Draw, Leave}
-use Rattle.radio_core.specs.declared.event.Reply.{Reply}
-use Rattle.radio_core.specs.declared.event.Reply.TheVariants.{Arrived}
-use Rattle.radio_core.specs.declared.peer.Peer.{Peer}
-use Rattle.radio_core.specs.declared.settings.Settings.{Settings}
+use Rattle.radio_core.specs.declared.reply.Reply.{Reply}
+use Rattle.radio_core.specs.declared.reply.Reply.TheVariants.{Arrived}
+use Rattle.radio_addr.specs.declared.peer.Peer.{Peer}
+use Rattle.radio_settings.specs.declared.settings.Settings.{Settings}
 use Rattle.radio_core.specs.World.{World, opening}
-use Rattle.radio_core.specs.Lists.{update_first}
-use Rattle.radio_core.specs.Step.{outcome}
+use Rattle.radio_tables.specs.Lists.{update_first, placed}
+use Rattle.std.specs.declared.cmp.Ordering.{Ordering}
+use Rattle.std.specs.Ordering.{nat_cmp}
+use Rattle.radio_core.specs.Step.{reply_to, world_after}
 use Rattle.radio_floor.specs.declared.connection.Says.TheVariants.{Asking}
 use Rattle.radio_floor.specs.declared.connection.Ending.{Ending}
 use Rattle.radio_floor.specs.declared.connection.Ending.TheVariants.{Done}
@@ -22,7 +24,7 @@ use Rattle.radio_floor.specs.Hearing.{Heard, IsHeard}
 use Rattle.radio_floor.specs.Saying.{said}
 use Rattle.radio_floor.specs.Exchanges.{exchanged}
 
--- the server's state, and the connections of the labels opened so far, in that order; a connection that was shut is none
+-- the server's state, and the connections of the labels opened so far, in rising order; a connection that was shut is none
 pub record ScriptState : Type 0 where
   pub world : World
   pub connections : List Labelled
@@ -34,13 +36,20 @@ opening_script settings = record { world = opening settings; connections = [] }
 abbrev pub has_label : ℕ → Labelled → Bool
 has_label label connection = connection.label == label
 
+-- labels stand in rising order
+abbrev pub by_label : Labelled → Labelled → Ordering
+by_label a b = nat_cmp a.label b.label
+
 -- what became of the label, if it was opened
 abbrev pub connection_of : List Labelled → ℕ → Option (Option Conversation)
 connection_of connections label = option_map (λ labelled. labelled.connection) (find (has_label label) connections)
 
+abbrev pub holding : Option Conversation → Labelled → Labelled
+holding conversation labelled = record labelled { connection = conversation }
+
 -- something else has become of the label
 abbrev pub with_connection : List Labelled → ℕ → Option Conversation → List Labelled
-with_connection connections label conversation = update_first (has_label label) (λ labelled. record labelled { connection = conversation }) connections
+with_connection connections label conversation = update_first (has_label label) (holding conversation) connections
 
 -- the word of an ending
 abbrev pub word_of_ending : Option Ending → Option (List ℕ)
@@ -72,11 +81,11 @@ taken_in reply = None
 -- a connection arrives under a new label
 abbrev pub opens : ScriptState → ℕ → Peer → Performed
 opens state label peer =
-    let o = outcome state.world (Arrive peer) in
-    let told = said Asking o.reply in
+    let reply = reply_to state.world (Arrive peer) in
+    let told = said Asking reply in
     record {
       lines = Some (told_lines label told.bytes told.ending);
-      state = record { world = o.world; connections = state.connections ++ record { label = label; connection = taken_in o.reply } ∷ [] };
+      state = record { world = world_after state.world (Arrive peer); connections = placed by_label (record { label = label; connection = taken_in reply }) state.connections };
     }
 
 -- the conversation, unless its connection has ended
@@ -89,8 +98,8 @@ abbrev pub exchanges : ScriptState → ℕ → Conversation → List Event → P
 exchanges state label conversation events =
     let x = exchanged state.world conversation.id conversation.says events in
     record {
-      lines = Some (told_lines label x.bytes x.ending);
-      state = record { world = x.world; connections = with_connection state.connections label (conversation_unless (record conversation { says = x.says }) x.ending) };
+      lines = Some (told_lines label x.exchange.bytes x.exchange.ending);
+      state = record { world = x.world; connections = with_connection state.connections label (conversation_unless (record conversation { says = x.exchange.says }) x.exchange.ending) };
     }
 
 -- the peer has closed the connection
@@ -98,7 +107,7 @@ abbrev pub closes : ScriptState → ℕ → Conversation → Performed
 closes state label conversation =
     record {
       lines = Some (told_lines label [] (Some Done));
-      state = record { world = (outcome state.world (Leave conversation.id)).world; connections = with_connection state.connections label None };
+      state = record { world = world_after state.world (Leave conversation.id); connections = with_connection state.connections label None };
     }
 
 -- a delivery for a connection, by what became of it

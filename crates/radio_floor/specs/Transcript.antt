@@ -1,6 +1,6 @@
 -- The transcript of deliveries and of scripts, of a server of some settings to which nothing has happened yet.
 use Rattle.std.specs.Prelude.{ℕ, List, Option, Result}
-use Rattle.radio_core.specs.declared.settings.Settings.{Settings}
+use Rattle.radio_settings.specs.declared.settings.Settings.{Settings}
 use Rattle.radio_script.specs.declared.delivery.Delivery.{Delivery}
 use Rattle.radio_script.specs.declared.faults.PlayFault.{PlayFault}
 use Rattle.radio_floor.specs.ScriptState.{ScriptState, opening_script, IsPerformed}

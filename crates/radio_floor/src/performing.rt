@@ -13,7 +13,8 @@ ghost use Rattle.radio_script.specs.declared.delivery.Delivery.TheVariants.{Open
 use crate::OutOfMemory;
 use crate::connection::{Connection, Ending};
 use crate::script_server::{ScriptServer, has_label, leave, push_told, swap_connection};
-use radio_core::{Event, Peer};
+use radio_addr::Peer;
+use radio_core::Event;
 use radio_script::{Delivery, PerformFault, Performer};
 use std::alloc::Global;
 
@@ -26,8 +27,8 @@ impl ScriptServer {
         bytes: &[u8],
         lines: &mut Vec<u8>,
     ) -> Result<(), OutOfMemory>
-        ensures { OnOk result (DoesAs self.old.core self.new.core self.new.connections.items lines.old.items lines.new.items
-            (λ w done. (heard : Heard) × IsHeard connection bytes.now heard × (exchanges (script_state_of w self.old.connections.items) label heard.conversation heard.events ≡ done))) }
+        ensures { OnOk result (DoesAs self.old.core self.new.core self.new.connections lines.old.items lines.new.items
+            (λ w done. (heard : Heard) × IsHeard connection bytes.now heard × (exchanges (script_state_of w self.old.connections) label heard.conversation heard.events ≡ done))) }
     {
         let mut connection = connection;
         let events = connection.take(bytes)?;
@@ -43,8 +44,8 @@ impl ScriptServer {
         room: u32,
         lines: &mut Vec<u8>,
     ) -> Result<(), OutOfMemory>
-        ensures { OnOk result (DoesAs self.old.core self.new.core self.new.connections.items lines.old.items lines.new.items
-            (λ w done. exchanges (script_state_of w self.old.connections.items) label connection (Draw connection.id room ∷ []) ≡ done)) }
+        ensures { OnOk result (DoesAs self.old.core self.new.core self.new.connections lines.old.items lines.new.items
+            (λ w done. exchanges (script_state_of w self.old.connections) label connection (Draw connection.id room ∷ []) ≡ done)) }
     {
         let mut events = Vec::new(self.alloc);
         events.push(Event::Draw {
@@ -62,8 +63,8 @@ impl ScriptServer {
         connection: Connection,
         lines: &mut Vec<u8>,
     ) -> Result<(), OutOfMemory>
-        ensures { OnOk result (DoesAs self.old.core self.new.core self.new.connections.items lines.old.items lines.new.items
-            (λ w done. closes (script_state_of w self.old.connections.items) label connection ≡ done)) }
+        ensures { OnOk result (DoesAs self.old.core self.new.core self.new.connections lines.old.items lines.new.items
+            (λ w done. closes (script_state_of w self.old.connections) label connection ≡ done)) }
     {
         leave(&mut self.core, connection.id())?;
         swap_connection(&mut self.connections, label, None);
@@ -78,7 +79,7 @@ impl ScriptServer {
         delivery: &Delivery,
         lines: &mut Vec<u8>,
     ) -> Result<(), PerformFault>
-        ensures { PerformsAs result self.old.core self.old.connections.items delivery.now lines.old.items lines.new.items self.new.core self.new.connections.items }
+        ensures { PerformsAs result self.old.core self.old.connections delivery.now lines.old.items lines.new.items self.new.core self.new.connections }
     {
         match delivery {
             Delivery::Open { label, peer } => self.perform_open(*label, *peer, lines),
@@ -94,9 +95,9 @@ impl ScriptServer {
         peer: Peer,
         lines: &mut Vec<u8>,
     ) -> Result<(), PerformFault>
-        ensures { PerformsAs result self.old.core self.old.connections.items (Open label peer) lines.old.items lines.new.items self.new.core self.new.connections.items }
+        ensures { PerformsAs result self.old.core self.old.connections (Open label peer) lines.old.items lines.new.items self.new.core self.new.connections }
     {
-        if has_label(self.connections.as_slice(), label) {
+        if has_label(&self.connections, label) {
             return Err(PerformFault::Label);
         }
         match self.open(label, peer, lines) {
@@ -111,7 +112,7 @@ impl ScriptServer {
         bytes: &[u8],
         lines: &mut Vec<u8>,
     ) -> Result<(), PerformFault>
-        ensures { PerformsAs result self.old.core self.old.connections.items (In label bytes.now) lines.old.items lines.new.items self.new.core self.new.connections.items }
+        ensures { PerformsAs result self.old.core self.old.connections (In label bytes.now) lines.old.items lines.new.items self.new.core self.new.connections }
     {
         match swap_connection(&mut self.connections, label, None) {
             None => Err(PerformFault::Label),
@@ -129,7 +130,7 @@ impl ScriptServer {
         room: u32,
         lines: &mut Vec<u8>,
     ) -> Result<(), PerformFault>
-        ensures { PerformsAs result self.old.core self.old.connections.items (Room label room) lines.old.items lines.new.items self.new.core self.new.connections.items }
+        ensures { PerformsAs result self.old.core self.old.connections (Room label room) lines.old.items lines.new.items self.new.core self.new.connections }
     {
         match swap_connection(&mut self.connections, label, None) {
             None => Err(PerformFault::Label),
@@ -142,7 +143,7 @@ impl ScriptServer {
     }
 
     fn perform_end(&mut self, label: u32, lines: &mut Vec<u8>) -> Result<(), PerformFault>
-        ensures { PerformsAs result self.old.core self.old.connections.items (End label) lines.old.items lines.new.items self.new.core self.new.connections.items }
+        ensures { PerformsAs result self.old.core self.old.connections (End label) lines.old.items lines.new.items self.new.core self.new.connections }
     {
         match swap_connection(&mut self.connections, label, None) {
             None => Err(PerformFault::Label),
@@ -158,7 +159,7 @@ impl ScriptServer {
 impl Performer for ScriptServer {
     ghost use Rattle.radio_floor.specs.Performing.{Performs};
 
-    ghost performs = { λ old delivery lines new. Performs old.core old.connections.items delivery lines new.core new.connections.items };
+    ghost performs = { λ old delivery lines new. Performs old.core old.connections delivery lines new.core new.connections };
 
     fn perform(
         &mut self,

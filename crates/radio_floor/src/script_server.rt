@@ -1,19 +1,22 @@
 //! The server behind a script: its core, and the connections of the labels.
 
-ghost use Rattle.std.specs.Prelude.{◌≡◌, ℕ, List, [], ◌∷◌, ◌++◌, true, Ok, Err, IfOk, OnOk, position, is_some, Some, None};
+ghost use Rattle.std.specs.Prelude.{◌≡◌, ℕ, List, [], ◌∷◌, ◌++◌, true, Ok, Err, IfOk, OnOk, is_some, Some, None};
 ghost use Rattle.radio_core.specs.World.{World, opening};
 ghost use Rattle.radio_core.specs.declared.event.Event.TheVariants.{Arrive, Leave};
-ghost use Rattle.radio_core.specs.Step.{Represents, outcome};
+ghost use Rattle.radio_core.specs.Step.{Represents, reply_to, world_after};
 ghost use Rattle.radio_floor.specs.declared.connection.Says.TheVariants.{Asking};
 ghost use Rattle.radio_floor.specs.Saying.{said};
-ghost use Rattle.radio_floor.specs.ScriptState.{has_label, connection_of, with_connection, opens, exchanges, taken_in, told_lines, conversation_unless};
+ghost use Rattle.radio_floor.specs.ScriptState.{connection_of, with_connection, opens, exchanges, taken_in, told_lines, conversation_unless};
 ghost use Rattle.radio_floor.specs.ScriptServer.{script_state_of, DoesAs};
-ghost use Rattle.radio_floor.specs.Exchanges.{exchanged, is_leave};
 
 use crate::OutOfMemory;
 use crate::connection::{Connection, Ending};
-use radio_core::{Core, Event, Lists, Peer, Reply, Settings};
+use crate::exchange::exchange;
+use radio_addr::Peer;
+use radio_core::{Core, Event, Reply};
 use radio_script::push_answer;
+use radio_settings::Settings;
+use radio_tables::{Row, Swap, Table};
 use std::alloc::Global;
 use std::mem;
 
@@ -24,24 +27,63 @@ pub(crate) struct Labelled {
     pub(crate) connection: Option<Connection>,
 }
 
+impl Row for Labelled {
+    type Key = u32;
+
+    ghost use Rattle.radio_tables.specs.KeyLaws.{number_is};
+    ghost use Rattle.radio_floor.specs.ScriptState.{has_label};
+
+    ghost key = { λ labelled. labelled.label };
+
+    ghost has_key = { has_label };
+
+    ghost has_key_is = { λ label labelled. number_is label labelled.label };
+
+    fn key(&self) -> u32 {
+        self.label
+    }
+}
+
+/// What is to become of a label, or has become of it before.
+#[derive(Drop)]
+struct Holds {
+    connection: Option<Connection>,
+}
+
+impl Swap<Labelled> for Holds {
+    ghost use Rattle.std.specs.Prelude.{refl};
+    ghost use Rattle.radio_floor.specs.ScriptState.{holding};
+
+    ghost gives = { λ holds labelled. holding holds.connection labelled };
+
+    ghost takes = { λ holds labelled. record holds { connection = labelled.connection } };
+
+    ghost keeps_key = { λ holds labelled. refl };
+
+    fn swap(&mut self, row: &mut Labelled) {
+        mem::swap(&mut self.connection, &mut row.connection);
+    }
+}
+
 /// The server behind a script.
 #[derive(Drop)]
 pub(crate) struct ScriptServer {
     pub(crate) alloc: Global,
     pub(crate) core: Core,
-    pub(crate) connections: Vec<Labelled>,
+    /// The labels that were opened, in rising order.
+    pub(crate) connections: Table<Labelled>,
 }
 
 impl ScriptServer {
     /// A server of these settings, to which no connection has come. It takes no memory.
-    pub(crate) fn new(alloc: Global, settings: Settings, lists: Lists) -> ScriptServer
+    pub(crate) fn new(alloc: Global, settings: Settings) -> ScriptServer
         ensures core { Represents result.core (opening settings) }
-        ensures connections { result.connections.items ≡ [] }
+        ensures connections { result.connections ≡ [] }
     {
         ScriptServer {
             alloc,
-            core: Core::new(alloc, settings, lists),
-            connections: Vec::new(alloc),
+            core: Core::new(alloc, settings),
+            connections: Table::new(alloc),
         }
     }
 
@@ -52,12 +94,12 @@ impl ScriptServer {
         peer: Peer,
         lines: &mut Vec<u8>,
     ) -> Result<(), OutOfMemory>
-        ensures { OnOk result (DoesAs self.old.core self.new.core self.new.connections.items lines.old.items lines.new.items
-            (λ w done. opens (script_state_of w self.old.connections.items) label peer ≡ done)) }
+        ensures { OnOk result (DoesAs self.old.core self.new.core self.new.connections lines.old.items lines.new.items
+            (λ w done. opens (script_state_of w self.old.connections) label peer ≡ done)) }
     {
         let mut told = Vec::new(self.alloc);
         let (connection, ending) = arrive(self.alloc, &mut self.core, peer, &mut told)?;
-        self.connections.push(Labelled { label, connection })?;
+        self.connections.insert(Labelled { label, connection })?;
         push_told(self.alloc, label, told.as_slice(), ending, lines)?;
         Ok(())
     }
@@ -71,8 +113,8 @@ impl ScriptServer {
         events: Vec<Event>,
         lines: &mut Vec<u8>,
     ) -> Result<(), OutOfMemory>
-        ensures { OnOk result (DoesAs self.old.core self.new.core self.new.connections.items lines.old.items lines.new.items
-            (λ w done. exchanges (script_state_of w self.old.connections.items) label connection events.items ≡ done)) }
+        ensures { OnOk result (DoesAs self.old.core self.new.core self.new.connections lines.old.items lines.new.items
+            (λ w done. exchanges (script_state_of w self.old.connections) label connection events.items ≡ done)) }
     {
         let mut connection = connection;
         let mut told = Vec::new(self.alloc);
@@ -94,41 +136,29 @@ fn if_stays(connection: Connection, ending: Option<Ending>) -> Option<Connection
     }
 }
 
-fn place_of(connections: &[Labelled], label: u32) -> Option<usize>
-    ensures { result ≡ position (has_label label) connections.now }
-{
-    connections
-        .iter()
-        .position(|labelled| labelled.label == label)
-}
-
 /// Whether the label was opened.
-pub(crate) fn has_label(connections: &[Labelled], label: u32) -> bool
+pub(crate) fn has_label(connections: &Table<Labelled>, label: u32) -> bool
     ensures { result ≡ is_some (connection_of connections.now label) }
 {
-    match place_of(connections, label) {
-        Some(_) => true,
-        None => false,
-    }
+    connections.get(label).is_some()
 }
 
 /// Sets what has become of a label, and answers what it was: `None` where it was not opened, and
 /// nothing has changed then.
 pub(crate) fn swap_connection(
-    connections: &mut Vec<Labelled>,
+    connections: &mut Table<Labelled>,
     label: u32,
     connection: Option<Connection>,
 ) -> Option<Option<Connection>>
-    ensures was { result ≡ connection_of connections.old.items label }
-    ensures set { connections.new.items ≡ with_connection connections.old.items label connection }
+    ensures was { result ≡ connection_of connections.old label }
+    ensures set { connections.new ≡ with_connection connections.old label connection }
 {
-    match place_of(connections.as_slice(), label) {
-        None => None,
-        Some(at) => {
-            let labelled = &mut connections[at];
-            Some(mem::replace(&mut labelled.connection, connection))
-        }
+    if !has_label(connections, label) {
+        return None;
     }
+    let mut holds = Holds { connection };
+    connections.swap(label, &mut holds);
+    Some(holds.connection)
 }
 
 /// A connection arrives at the server: the connection, if it is taken in, and else how it ends.
@@ -139,9 +169,9 @@ fn arrive(
     out: &mut Vec<u8>,
 ) -> Result<(Option<Connection>, Option<Ending>), OutOfMemory>
     ensures { IfOk result (λ arrived. (w : World) → Represents core.old w →
-        let o = outcome w (Arrive peer) in
-        let told = said Asking o.reply in
-        Represents core.new o.world × (out.new.items ≡ out.old.items ++ told.bytes) × (arrived.0 ≡ taken_in o.reply) × (arrived.1 ≡ told.ending)) }
+        let reply = reply_to w (Arrive peer) in
+        let told = said Asking reply in
+        Represents core.new (world_after w (Arrive peer)) × (out.new.items ≡ out.old.items ++ told.bytes) × (arrived.0 ≡ taken_in reply) × (arrived.1 ≡ told.ending)) }
 {
     let reply = core.step(Event::Arrive { peer })?;
     let ending = Connection::new(alloc, 0).give(&reply, out)?;
@@ -175,64 +205,10 @@ pub(crate) fn push_told(
     }
 }
 
-/// Applies the events of the connection's client, one after another, and tells each reply. Where
-/// the connection ends, the others are not applied, and the client leaves; it answers how.
-fn exchange(
-    core: &mut Core,
-    connection: &mut Connection,
-    events: Vec<Event>,
-    out: &mut Vec<u8>,
-) -> Result<Option<Ending>, OutOfMemory>
-    ensures { IfOk result (λ ending. (w : World) → Represents core.old w →
-        let x = exchanged w connection.old.id connection.old.says events.items in
-        Represents core.new x.world × (out.new.items ≡ out.old.items ++ x.bytes) × (ending ≡ x.ending) × (connection.new ≡ record connection.old { says = x.says })) }
-{
-    let mut events = events;
-    if events.is_empty() {
-        return Ok(None);
-    }
-    let event = events.remove(0);
-    let leaves = is_leave(&event);
-    match answer(core, connection, event, out)? {
-        None => exchange(core, connection, events, out),
-        Some(ending) => {
-            if leaves {
-                return Ok(Some(ending));
-            }
-            leave(core, connection.id())?;
-            Ok(Some(ending))
-        }
-    }
-}
-
 /// The client leaves the server.
 pub(crate) fn leave(core: &mut Core, id: u64) -> Result<(), OutOfMemory>
-    ensures { OnOk result ((w : World) → Represents core.old w → Represents core.new (outcome w (Leave id)).world) }
+    ensures { OnOk result ((w : World) → Represents core.old w → Represents core.new (world_after w (Leave id))) }
 {
     core.step(Event::Leave { id })?;
     Ok(())
-}
-
-/// Applies one event of the connection's client, and tells the reply. It answers how the
-/// connection ends, if it does.
-fn answer(
-    core: &mut Core,
-    connection: &mut Connection,
-    event: Event,
-    out: &mut Vec<u8>,
-) -> Result<Option<Ending>, OutOfMemory>
-    ensures { IfOk result (λ ending. (w : World) → Represents core.old w →
-        let o = outcome w event in
-        let told = said connection.old.says o.reply in
-        Represents core.new o.world × (out.new.items ≡ out.old.items ++ told.bytes) × (ending ≡ told.ending) × (connection.new ≡ record connection.old { says = told.says })) }
-{
-    let reply = core.step(event)?;
-    connection.give(&reply, out)
-}
-
-/// Whether the client leaves by this event.
-fn is_leave(event: &Event) -> bool
-    ensures { result ≡ is_leave event.now }
-{
-    matches!(event, Event::Leave { .. })
 }

@@ -6,8 +6,8 @@ ghost use Rattle.radio_script.specs.Reading.{reader_failures, writer_failures};
 ghost use Rattle.radio_floor.specs.Transcript.{IsTranscriptOf, PlaysScript};
 
 use crate::script_server::ScriptServer;
-use radio_core::{Lists, Settings};
 use radio_script::{CountedRead, CountedWrite, Delivery, PlayFault, RunFault, play_with, run_with};
+use radio_settings::Settings;
 use std::alloc::Global;
 
 /// The lines `out` and `shut` that deliveries come to.
@@ -22,7 +22,6 @@ pub type Transcript = Vec<u8>;
 pub fn run(
     alloc: Global,
     settings: Settings,
-    lists: Lists,
     deliveries: &[Delivery],
 ) -> Result<Transcript, RunFault>
     // the transcript is that of all deliveries
@@ -30,7 +29,7 @@ pub fn run(
     // the fault comes only at a delivery whose label is at fault
     ensures delivery { (number : ℕ) → result ≡ Err (RunFault.Delivery number) → (text : List ℕ) × IsTranscriptOf settings deliveries.now text (Some number) }
 {
-    let mut server = ScriptServer::new(alloc, settings, lists);
+    let mut server = ScriptServer::new(alloc, settings);
     run_with(alloc, &mut server, deliveries)
 }
 
@@ -45,7 +44,6 @@ pub fn run(
 pub fn play<R: CountedRead, W: CountedWrite>(
     alloc: Global,
     settings: Settings,
-    lists: Lists,
     reader: &mut R,
     writer: &mut W,
 ) -> Result<(), PlayFault>
@@ -61,6 +59,6 @@ pub fn play<R: CountedRead, W: CountedWrite>(
     // nothing that was written is kept back
     ensures flushed { result ≢ Err PlayFault.Write → W.is_flushed writer.old ≡ true → W.is_flushed writer.new ≡ true }
 {
-    let mut server = ScriptServer::new(alloc, settings, lists);
+    let mut server = ScriptServer::new(alloc, settings);
     play_with(alloc, &mut server, reader, writer)
 }

@@ -8,17 +8,15 @@ use Rattle.std.proofs.lemmas.List.Concat.{flat_map-append}
 use Rattle.std.proofs.lemmas.List.Elements.{All-cons, All-nil, All-append}
 use Rattle.std.proofs.lemmas.List.Sums.{AllPass-from_list_all}
 use Rattle.httparse.specs.Grammar.{IsToken, is_token, is_token_byte, is_value_byte, trim_ows}
-use Rattle.radio_heads.specs.declared.answer.DenialStatus.TheVariants.{BadRequest, Unauthorized, Forbidden, NotFound}
+use Rattle.radio_policy.specs.declared.rule.Status.TheVariants.{BadRequest, Unauthorized, Forbidden, NotFound}
 use Rattle.radio_heads.specs.declared.answer.TextKind.{TextKind}
 use Rattle.radio_heads.specs.declared.answer.TextKind.TheVariants.{Plain, Json}
 use Rattle.radio_heads.specs.declared.answer.Welcome.{Welcome}
-use Rattle.radio_heads.specs.declared.headers.TheConstants.{MAX_HEADERS}
-use Rattle.radio_heads.specs.declared.search.TheConstants.{MAX_HEAD}
 use Rattle.radio_heads.specs.Answer.{line, header_line, shown_line, interval_line, challenge_line, status_line, content_type, listener_text, sized_head, denial_body}
-use Rattle.radio_heads.specs.Laws.{IsHeaderValue, shown_header, interval_header, challenge_header, listener_parts, sized_parts, IsReadBack, ListenerIsReadBack, DenialIsReadBack, TextIsReadBack}
+use Rattle.radio_heads.specs.Laws.{IsFieldText, IsCleanWelcome, shown_header, interval_header, challenge_header, listener_headers, listener_parts, sized_parts, IsReadBack, ListenerIsReadBack, ShortListenerIsReadBack, DenialIsReadBack, TextIsReadBack}
 use Rattle.radio_heads.specs.Reading.{IsHead}
 use Rattle.radio_heads.specs.Response.{ShowsResponse}
-use Rattle.radio_heads.proofs.ReadBackLemmas.{Header, header_text, head_text, IsCleanHeader, IsStatus, written_status, head_is_read, status_200, status_400, status_401, status_403, status_404}
+use Rattle.radio_heads.proofs.ReadBackLemmas.{Header, header_text, head_text, IsHeaderValue, IsCleanHeader, IsSoundHeader, sound_from, IsStatus, written_status, head_is_read, head_is_written, status_200, status_400, status_401, status_403, status_404}
 use Rattle.radio_heads.proofs.ValueLemmas.{decimal_is_value}
 
 -- ---- names and values of words
@@ -42,9 +40,13 @@ pub one_is_clean : (name value : List ℕ) → is_token name ≡ true → IsHead
 one_is_clean name value token clean =
     All-cons IsCleanHeader (name, value) [] (record { name = token_from name token; value = clean }) (All-nil IsCleanHeader)
 
-pub shown_is_clean : (name value : List ℕ) → is_token name ≡ true → IsHeaderValue value → All IsCleanHeader (shown_header name value)
-shown_is_clean name [] token clean = All-nil IsCleanHeader
-shown_is_clean name (b ∷ value) token clean = one_is_clean name (b ∷ value) token clean
+pub one_is_sound : (name value : List ℕ) → is_token name ≡ true → IsFieldText value → All IsSoundHeader ((name, value) ∷ [])
+one_is_sound name value token bytes =
+    All-cons IsSoundHeader (name, value) [] (record { name = token_from name token; bytes = bytes }) (All-nil IsSoundHeader)
+
+pub shown_is_sound : (name value : List ℕ) → is_token name ≡ true → IsFieldText value → All IsSoundHeader (shown_header name value)
+shown_is_sound name [] token bytes = All-nil IsSoundHeader
+shown_is_sound name (b ∷ value) token bytes = one_is_sound name (b ∷ value) token bytes
 
 pub interval_is_clean : (interval : Option ℕ) → IfSome interval (λ n. n < 2 ^ 32) → All IsCleanHeader (interval_header interval)
 unfolding is_token_byte
@@ -116,6 +118,12 @@ four_clean a b c d one two three four =
     All-append IsCleanHeader (a ++ b ++ c) d
     (All-append IsCleanHeader (a ++ b) c (All-append IsCleanHeader a b one two) three) four
 
+pub four_sound : (a b c d : List Header) → All IsSoundHeader a → All IsSoundHeader b → All IsSoundHeader c → All IsSoundHeader d
+    → All IsSoundHeader (a ++ b ++ c ++ d)
+four_sound a b c d one two three four =
+    All-append IsSoundHeader (a ++ b ++ c) d
+    (All-append IsSoundHeader (a ++ b) c (All-append IsSoundHeader a b one two) three) four
+
 -- ---- answers with a body
 
 pub sized_head_is : (n : ℕ) (type : List ℕ) (size : ℕ) → sized_head n type size ≡ head_text n (sized_parts n type size).headers
@@ -145,7 +153,7 @@ challenge_is_short n = by_test (eqb n 401)
     by_test true = (omega arith, omega arith)
     by_test false = (omega arith, omega arith)
 
-pub sized_is_few : (n : ℕ) (type : List ℕ) (size : ℕ) → length (sized_parts n type size).headers ≤ MAX_HEADERS
+pub sized_is_few : (n : ℕ) (type : List ℕ) (size : ℕ) → length (sized_parts n type size).headers ≤ 64
 sized_is_few n type size =
     omega (arith, length-append (challenge_header n) ((codes "Connection", codes "close") ∷ []), (challenge_is_short n).0)
 
@@ -171,7 +179,7 @@ pub length-six : (a b c d e f : List ℕ)
 length-six a b c d e f = simp length-append
 
 pub sized_is_short : (n : ℕ) (digits phrase type : List ℕ) (size : ℕ) → IsStatus n digits phrase → length type ≤ 30 → size < 2 ^ 64
-    → length (sized_head n type size) ≤ MAX_HEAD
+    → length (sized_head n type size) ≤ 8192
 sized_is_short n digits phrase type size status type_short small =
     let whole = length-six (status_line (codes "HTTP/1.0") n) (header_line (codes "Content-Type") type)
     (header_line (codes "Content-Length") (decimal size)) (challenge_line n) (header_line (codes "Connection") (codes "close")) (line []) in
@@ -192,8 +200,8 @@ sized_is_read n digits phrase type body status clean type_short more small =
     let size : ℕ = length body in
     let parts = sized_parts n type size in
     let same = sized_head_is n type size in
-    let short : length (head_text n parts.headers) ≤ MAX_HEAD
-    = subst (λ (xs : List ℕ). length xs ≤ MAX_HEAD) same (sized_is_short n digits phrase type size status type_short small) in
+    let short : length (head_text n parts.headers) ≤ 8192
+    = subst (λ (xs : List ℕ). length xs ≤ 8192) same (sized_is_short n digits phrase type size status type_short small) in
     subst (λ (xs : List ℕ). IsHead ShowsResponse xs parts (length (sized_head n type size))) (sym (append_assoc (sized_head n type size) body more))
     (subst (λ (xs : List ℕ). IsHead ShowsResponse (xs ++ (body ++ more)) parts (length xs)) (sym same)
     (head_is_read n digits phrase parts.headers (body ++ more) status (sized_is_clean n type size clean small) (sized_is_few n type size) short))
@@ -209,7 +217,7 @@ text_is_read kind body = sized_is_read 200 _ _ (content_type kind) body status_2
 
 -- ---- the answer to a listener
 
-pub listener_text_is : (w : Welcome) → listener_text w ≡ head_text 200 (listener_parts w).headers
+pub listener_text_is : (w : Welcome) → listener_text w ≡ head_text 200 (listener_headers w)
 listener_text_is w =
     five_lines header_text (status_line (codes "HTTP/1.0") 200) (line [])
     ((codes "Content-Type", w.content_type.now) ∷ []) (shown_header (codes "icy-name") w.name.now) (shown_header (codes "icy-genre") w.genre.now)
@@ -229,34 +237,58 @@ interval_is_few (Some n) = omega arith
 pub length-five : (a b c d e : List Header) → length (a ++ b ++ c ++ d ++ e) ≡ length a + length b + length c + length d + length e
 length-five a b c d e = simp length-append
 
--- the headers of the answer to a listener, up to the last
-abbrev pub told_headers : Welcome → List Header
-told_headers w =
-    (codes "Content-Type", w.content_type.now) ∷ []
-    ++ shown_header (codes "icy-name") w.name.now
-    ++ shown_header (codes "icy-genre") w.genre.now
-    ++ interval_header w.interval
-
-pub told_is_clean : (w : Welcome) → IsHeaderValue w.content_type.now → IsHeaderValue w.name.now → IsHeaderValue w.genre.now
-    → IfSome w.interval (λ n. n < 2 ^ 32) → All IsCleanHeader (told_headers w)
+pub listener_is_sound : (w : Welcome) → IsCleanWelcome w → All IsSoundHeader (listener_headers w)
 unfolding is_token_byte
-told_is_clean w type name genre small =
-    four_clean ((codes "Content-Type", w.content_type.now) ∷ []) (shown_header (codes "icy-name") w.name.now)
+listener_is_sound w clean =
+    let close = (codes "Connection", codes "close") ∷ [] in
+    All-append IsSoundHeader
+    ((codes "Content-Type", w.content_type.now) ∷ [] ++ shown_header (codes "icy-name") w.name.now ++ shown_header
+    (codes "icy-genre") w.genre.now ++ interval_header w.interval)
+    close
+    (four_sound ((codes "Content-Type", w.content_type.now) ∷ []) (shown_header (codes "icy-name") w.name.now)
     (shown_header (codes "icy-genre") w.genre.now) (interval_header w.interval)
-    (one_is_clean (codes "Content-Type") w.content_type.now refl type)
-    (shown_is_clean (codes "icy-name") w.name.now refl name)
-    (shown_is_clean (codes "icy-genre") w.genre.now refl genre)
-    (interval_is_clean w.interval small)
+    (one_is_sound (codes "Content-Type") w.content_type.now refl clean.content_type)
+    (shown_is_sound (codes "icy-name") w.name.now refl clean.name)
+    (shown_is_sound (codes "icy-genre") w.genre.now refl clean.genre)
+    (sound_from (interval_header w.interval) (interval_is_clean w.interval clean.interval)))
+    (sound_from close close_is_clean)
 
 pub listener_is_read : ListenerIsReadBack
-listener_is_read w more type name genre small short =
+listener_is_read w more clean short =
     let same = listener_text_is w in
-    let parts = listener_parts w in
     let few = length-five ((codes "Content-Type", w.content_type.now) ∷ []) (shown_header (codes "icy-name") w.name.now)
     (shown_header (codes "icy-genre") w.genre.now) (interval_header w.interval) ((codes "Connection", codes "close") ∷ []) in
-    subst (λ (xs : List ℕ). IsHead ShowsResponse (xs ++ more) parts (length xs)) (sym same)
-    (head_is_read 200 _ _ parts.headers more status_200
-    (All-append IsCleanHeader (told_headers w) ((codes "Connection", codes "close") ∷ [])
-    (told_is_clean w type name genre small) close_is_clean)
+    subst (λ (xs : List ℕ). IsHead ShowsResponse (xs ++ more) (listener_parts w) (length xs)) (sym same)
+    (head_is_written 200 _ _ (listener_headers w) more status_200 (listener_is_sound w clean)
     (omega (arith, few, shown_is_few (codes "icy-name") w.name.now, shown_is_few (codes "icy-genre") w.genre.now, interval_is_few w.interval))
-    (subst (λ (xs : List ℕ). length xs ≤ MAX_HEAD) same short))
+    (subst (λ (xs : List ℕ). length xs ≤ 8192) same short))
+
+-- ---- values of at most 255 bytes
+
+shown_is_short : (name value : List ℕ) → length (shown_line name value) ≤ length name + length value + 4
+shown_is_short name [] = omega arith
+shown_is_short name (b ∷ value) = omega (arith, length-header_line name (b ∷ value))
+
+interval_is_short : (interval : Option ℕ) → IfSome interval (λ n. n < 2 ^ 32) → length (interval_line interval) ≤ 40
+interval_is_short None small = omega arith
+interval_is_short (Some n) small =
+    let below : n < 2 ^ 64 = omega arith in
+    omega (arith, length-header_line (codes "icy-metaint") (decimal n), length-decimal n below)
+
+length-seven : (a b c d e f g : List ℕ)
+    → length (a ++ b ++ c ++ d ++ e ++ f ++ g) ≡ length a + length b + length c + length d + length e + length f + length g
+length-seven a b c d e f g = simp length-append
+
+pub short_listener_is_read : ShortListenerIsReadBack
+short_listener_is_read w more clean short =
+    let whole = length-seven (status_line (codes "HTTP/1.0") 200) (header_line (codes "Content-Type") w.content_type.now)
+    (shown_line (codes "icy-name") w.name.now) (shown_line (codes "icy-genre") w.genre.now) (interval_line w.interval)
+    (header_line (codes "Connection") (codes "close")) (line []) in
+    let first : length (status_line (codes "HTTP/1.0") 200) ≡ 17 = ap length status_200.line_is in
+    let second = length-header_line (codes "Content-Type") w.content_type.now in
+    let third = shown_is_short (codes "icy-name") w.name.now in
+    let fourth = shown_is_short (codes "icy-genre") w.genre.now in
+    let fifth = interval_is_short w.interval clean.interval in
+    let sizes : (length w.content_type.now ≤ 255) × (length w.name.now ≤ 255) × (length w.genre.now ≤ 255)
+    = (short.content_type, short.name, short.genre) in
+    listener_is_read w more clean (omega (arith, whole, first, second, third, fourth, fifth, sizes))

@@ -10,8 +10,6 @@ use Rattle.std.proofs.lemmas.List.Sums.{AllPass-from_list_all}
 use Rattle.httparse.specs.Ascii.{line_feed, carriage_return, colon, space}
 use Rattle.httparse.specs.Grammar.{AllPass, is_token_byte, is_uri_byte, is_value_byte, LineEnd, print_end, print_blank, print_version, Field, IsField, print_field, RequestHead, IsRequestHead, ReadsRequest, print_request, ResponseHead, IsResponseHead, ReadsResponse, print_response, print_reason, reason_phrase}
 use Rattle.httparse.proofs.GrammarLemmas.{print_request-append, print_response-append}
-use Rattle.radio_heads.specs.declared.headers.TheConstants.{MAX_HEADERS}
-use Rattle.radio_heads.specs.declared.search.TheConstants.{MAX_HEAD}
 use Rattle.radio_heads.specs.Head.{ShowsRequest, request_parts}
 use Rattle.radio_heads.specs.Response.{ShowsResponse, response_parts}
 use Rattle.radio_heads.specs.Reading.{IsHead}
@@ -121,7 +119,7 @@ request_are_lines h x = record {
 }
 
 pub request_is_head : (bytes rest : List ℕ) (h : RequestHead) → ReadsRequest bytes h rest
-    → length h.fields ≤ MAX_HEADERS → length (print_request h) ≤ MAX_HEAD
+    → length h.fields ≤ 64 → length (print_request h) ≤ 8192
     → IsHead ShowsRequest bytes (request_parts h) (length (print_request h))
 request_is_head bytes rest h x few short = record {
   front = record {
@@ -166,7 +164,7 @@ response_are_lines h x = record {
 }
 
 pub response_is_head : (bytes rest : List ℕ) (h : ResponseHead) → ReadsResponse bytes h rest
-    → length h.fields ≤ MAX_HEADERS → length (print_response h) ≤ MAX_HEAD
+    → length h.fields ≤ 64 → length (print_response h) ≤ 8192
     → IsHead ShowsResponse bytes (response_parts h) (length (print_response h))
 response_is_head bytes rest h x few short = record {
   front = record {

@@ -16,7 +16,8 @@ value_of-map front name [] = refl
 value_of-map front name (h ∷ spans) = by_test (is_same_name (span_bytes front h.name) name) (value_of-map front name spans)
   where
     by_test : (same : Bool) → value_of name (map (header_bytes front) spans) ≡ value_among front name spans
-        → option_map (λ (p : List ℕ × List ℕ). p.1) (cond same (Some (header_bytes front h)) (find (λ p. is_same_name p.0 name) (map (header_bytes front) spans)))
+        → option_map (λ (p : List ℕ × List ℕ). p.1) (cond same (Some (header_bytes front h))
+        (find (λ p. is_same_name p.0 name) (map (header_bytes front) spans)))
         ≡ option_map (λ (s : HeaderSpan). span_bytes front s.value) (cond same (Some h) (find (λ s. is_same_name (span_bytes front s.name) name) spans))
     by_test true rest = refl
     by_test false rest = rest

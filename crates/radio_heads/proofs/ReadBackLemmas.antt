@@ -11,11 +11,9 @@ use Rattle.std.proofs.lemmas.List.Sums.{AllPass-from_list_all}
 use Rattle.httparse.specs.Ascii.{space}
 use Rattle.httparse.specs.Grammar.{AllPass, IsToken, is_value_byte, trim_ows, crlf, Field, IsField, print_field, ResponseHead, IsResponseHead, print_response}
 use Rattle.httparse.specs.Spans.{name_and_value}
-use Rattle.radio_heads.specs.declared.headers.TheConstants.{MAX_HEADERS}
 use Rattle.radio_heads.specs.declared.response.Version.TheVariants.{Http10}
-use Rattle.radio_heads.specs.declared.search.TheConstants.{MAX_HEAD}
 use Rattle.radio_heads.specs.Answer.{line, header_line, status_line}
-use Rattle.radio_heads.specs.Laws.{IsHeaderValue}
+use Rattle.radio_heads.specs.Laws.{read_back}
 use Rattle.radio_heads.specs.Reading.{IsHead}
 use Rattle.radio_heads.specs.Response.{ResponseParts, ShowsResponse, response_parts}
 use Rattle.radio_heads.proofs.FoundLemmas.{response_is_head}
@@ -32,6 +30,16 @@ field_of h = record { name = h.0; raw = space ∷ h.1; end = crlf }
 abbrev pub header_text : Header → List ℕ
 header_text h = header_line h.0 h.1
 
+-- a value that comes back as it is
+pub record IsHeaderValue (value : List ℕ) : Type 0 where
+  pub bytes : AllPass is_value_byte value
+  pub trimmed : trim_ows value ≡ value
+
+-- a header whose name is a token and whose value has no byte that ends a line
+pub record IsSoundHeader (h : Header) : Type 0 where
+  pub name : IsToken h.0
+  pub bytes : AllPass is_value_byte h.1
+
 -- a header whose name is a token and whose value comes back
 pub record IsCleanHeader (h : Header) : Type 0 where
   pub name : IsToken h.0
@@ -46,24 +54,32 @@ print_fields_of (h ∷ headers) =
     ap (λ (text : List ℕ). text ++ flat_map print_field (map field_of headers)) (print_field_of h)
     ∙ ap (λ (more : List ℕ). header_text h ++ more) (print_fields_of headers)
 
-pub fields_are_clean : (headers : List Header) → All IsCleanHeader headers → All IsField (map field_of headers)
-fields_are_clean headers all = All-map IsField field_of headers
-    (All-weaker IsCleanHeader (λ h. IsField (field_of h)) (λ h clean. record {
-      name = clean.name;
-      raw = All-cons (λ b. is_value_byte b ≡ true) space h.1 refl clean.value.bytes;
+pub sound_from : (headers : List Header) → All IsCleanHeader headers → All IsSoundHeader headers
+sound_from headers all =
+    All-weaker IsCleanHeader IsSoundHeader (λ h clean. record { name = clean.name; bytes = clean.value.bytes }) headers all
+
+pub fields_are_sound : (headers : List Header) → All IsSoundHeader headers → All IsField (map field_of headers)
+fields_are_sound headers all = All-map IsField field_of headers
+    (All-weaker IsSoundHeader (λ h. IsField (field_of h)) (λ h sound. record {
+      name = sound.name;
+      raw = All-cons (λ b. is_value_byte b ≡ true) space h.1 refl sound.bytes;
     }) headers all)
 
-pub trim_ows-space : (value : List ℕ) → trim_ows value ≡ value → trim_ows (space ∷ value) ≡ value
+trim_ows-space : (value : List ℕ) → trim_ows (space ∷ value) ≡ trim_ows value
 unfolding trim_ows
-trim_ows-space value h = h
+trim_ows-space value = refl
 
-pub names_and_values : (headers : List Header) → All IsCleanHeader headers → map name_and_value (map field_of headers) ≡ headers
-names_and_values [] all = refl
-names_and_values (h ∷ headers) all =
-    let value : trim_ows (space ∷ h.1) ≡ h.1 = trim_ows-space h.1 (All-head IsCleanHeader h headers all).value.trimmed in
-    let rest = names_and_values headers (All-tail IsCleanHeader h headers all) in
-    ap (λ (v : List ℕ). (h.0, v) ∷ map name_and_value (map field_of headers)) value
-    ∙ ap (λ (more : List Header). h ∷ more) rest
+pub names_and_values : (headers : List Header) → map name_and_value (map field_of headers) ≡ map read_back headers
+names_and_values [] = refl
+names_and_values (h ∷ headers) =
+    ap (λ (v : List ℕ). (h.0, v) ∷ map name_and_value (map field_of headers)) (trim_ows-space h.1)
+    ∙ ap (λ (more : List Header). read_back h ∷ more) (names_and_values headers)
+
+pub read_back_clean : (headers : List Header) → All IsCleanHeader headers → map read_back headers ≡ headers
+read_back_clean [] all = refl
+read_back_clean (h ∷ headers) all =
+    ap (λ (v : List ℕ). (h.0, v) ∷ map read_back headers) (All-head IsCleanHeader h headers all).value.trimmed
+    ∙ ap (λ (more : List Header). h ∷ more) (read_back_clean headers (All-tail IsCleanHeader h headers all))
 
 -- ---- status lines
 
@@ -159,27 +175,37 @@ print_head_of n digits phrase headers status =
     regroup v d p c f = simp append_assoc
 
 pub head_of_is_head : (n : ℕ) (digits phrase : List ℕ) (headers : List Header) → IsStatus n digits phrase
-    → All IsCleanHeader headers → IsResponseHead (head_of digits phrase headers)
-head_of_is_head n digits phrase headers status clean = record {
+    → All IsSoundHeader headers → IsResponseHead (head_of digits phrase headers)
+head_of_is_head n digits phrase headers status sound = record {
   minor = omega arith;
   digits = (status.three, status.digits_pass);
   reason = status.phrase_passes;
-  fields = fields_are_clean headers clean;
+  fields = fields_are_sound headers sound;
 }
 
--- a head that was written is read back
+-- a head that was written is read back, without the white space at the ends of its values
+pub head_is_written : (n : ℕ) (digits phrase : List ℕ) (headers : List Header) (more : List ℕ) → IsStatus n digits phrase
+    → All IsSoundHeader headers → length headers ≤ 64 → length (head_text n headers) ≤ 8192
+    → IsHead ShowsResponse (head_text n headers ++ more) (record { version = Http10; status = n; headers = map read_back headers })
+    (length (head_text n headers))
+head_is_written n digits phrase headers more status sound few short =
+    let text = print_head_of n digits phrase headers status in
+    let size : length (print_response (head_of digits phrase headers)) ≡ length (head_text n headers) = ap length text in
+    let parts : response_parts (head_of digits phrase headers) ≡ record { version = Http10; status = n; headers = map read_back headers }
+    = ap (λ (v : ℕ). record { version = Http10; status = v; headers = map name_and_value (map field_of headers) }) status.value
+    ∙ ap (λ (hs : List Header). record { version = Http10; status = n; headers = hs }) (names_and_values headers) in
+    subst (λ (k : ℕ). IsHead ShowsResponse (head_text n headers ++ more) (record { version = Http10; status = n; headers = map read_back headers }) k) size
+    (subst (λ (p : ResponseParts). IsHead ShowsResponse (head_text n headers ++ more) p (length (print_response (head_of digits phrase headers)))) parts
+    (response_is_head (head_text n headers ++ more) more (head_of digits phrase headers)
+    (head_of_is_head n digits phrase headers status sound, ap (λ (xs : List ℕ). xs ++ more) (sym text))
+    (omega (arith, length-map headers field_of)) (omega (arith, size))))
+
+-- the same of values with no white space at their ends
 pub head_is_read : (n : ℕ) (digits phrase : List ℕ) (headers : List Header) (more : List ℕ) → IsStatus n digits phrase
-    → All IsCleanHeader headers → length headers ≤ MAX_HEADERS → length (head_text n headers) ≤ MAX_HEAD
+    → All IsCleanHeader headers → length headers ≤ 64 → length (head_text n headers) ≤ 8192
     → IsHead ShowsResponse (head_text n headers ++ more) (record { version = Http10; status = n; headers = headers })
     (length (head_text n headers))
 head_is_read n digits phrase headers more status clean few short =
-    let text = print_head_of n digits phrase headers status in
-    let size : length (print_response (head_of digits phrase headers)) ≡ length (head_text n headers) = ap length text in
-    let parts : response_parts (head_of digits phrase headers) ≡ record { version = Http10; status = n; headers = headers }
-    = ap (λ (v : ℕ). record { version = Http10; status = v; headers = map name_and_value (map field_of headers) }) status.value
-    ∙ ap (λ (hs : List Header). record { version = Http10; status = n; headers = hs }) (names_and_values headers clean) in
-    subst (λ (k : ℕ). IsHead ShowsResponse (head_text n headers ++ more) (record { version = Http10; status = n; headers = headers }) k) size
-    (subst (λ (p : ResponseParts). IsHead ShowsResponse (head_text n headers ++ more) p (length (print_response (head_of digits phrase headers)))) parts
-    (response_is_head (head_text n headers ++ more) more (head_of digits phrase headers)
-    (head_of_is_head n digits phrase headers status clean, ap (λ (xs : List ℕ). xs ++ more) (sym text))
-    (omega (arith, length-map headers field_of)) (omega (arith, size))))
+    subst (λ (hs : List Header). IsHead ShowsResponse (head_text n headers ++ more) (record { version = Http10; status = n; headers = hs })
+    (length (head_text n headers)))
+    (read_back_clean headers clean) (head_is_written n digits phrase headers more status (sound_from headers clean) few short)

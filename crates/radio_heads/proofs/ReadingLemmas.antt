@@ -5,7 +5,6 @@ use Rattle.std.proofs.lemmas.List.{take-append-le, take_all}
 use Rattle.radio_heads.specs.declared.outcome.Progress.TheVariants.{More, Whole}
 use Rattle.radio_heads.specs.declared.outcome.HeadFault.{HeadFault}
 use Rattle.radio_heads.specs.declared.outcome.HeadFault.TheVariants.{BadHead, TooManyHeaders, HeadTooLong}
-use Rattle.radio_heads.specs.declared.search.TheConstants.{MAX_HEAD}
 use Rattle.radio_heads.specs.Search.{IsEmptyLine, HasNoEnd, IsHeadEnd}
 use Rattle.radio_heads.specs.Reading.{IsFront, IsHead, IsNoHead, IsUnfinished, IsTooLong, IsReading}
 use Rattle.radio_heads.specs.Laws.{ReadingsAgree, IsSettled}
@@ -54,25 +53,25 @@ no_front-unfinished bytes n u f = u.open_end f.end.place n f.end.ends
 
 -- nor have bytes that are too long
 pub no_front-too_long : (bytes : List ℕ) (n : ℕ) → IsTooLong bytes → IsFront bytes n → ⊥
-no_front-too_long bytes n t f = no_end_within bytes MAX_HEAD n t.open_end f.end f.short
+no_front-too_long bytes n t f = no_end_within bytes 8192 n t.open_end f.end f.short
 
 -- ---- the first bytes, among which the end is searched
 
-pub IsFront-window : (bytes : List ℕ) (window end : ℕ) → window ≤ MAX_HEAD → end ≤ window → IsHeadEnd (take window bytes) end
+pub IsFront-window : (bytes : List ℕ) (window end : ℕ) → window ≤ 8192 → end ≤ window → IsHeadEnd (take window bytes) end
     → IsFront bytes end
 IsFront-window bytes window end small within h = record {
   end = IsHeadEnd-same (take window bytes) bytes window (AreSame-take bytes window) end within h;
   short = omega arith;
 }
 
-pub IsUnfinished-window : (bytes : List ℕ) (window : ℕ) → length bytes ≤ window → length bytes < MAX_HEAD
+pub IsUnfinished-window : (bytes : List ℕ) (window : ℕ) → length bytes ≤ window → length bytes < 8192
     → HasNoEnd (take window bytes) → IsUnfinished bytes
 IsUnfinished-window bytes window all room none = record {
   open_end = subst (λ (xs : List ℕ). HasNoEnd xs) (take_all window bytes all) none;
   room = room;
 }
 
-pub IsTooLong-window : (bytes : List ℕ) (window : ℕ) → window ≡ MAX_HEAD → MAX_HEAD ≤ length bytes
+pub IsTooLong-window : (bytes : List ℕ) (window : ℕ) → window ≡ 8192 → 8192 ≤ length bytes
     → HasNoEnd (take window bytes) → IsTooLong bytes
 IsTooLong-window bytes window e full none = record {
   open_end = subst (λ (n : ℕ). HasNoEnd (take n bytes)) e none;
@@ -83,7 +82,7 @@ IsTooLong-window bytes window e full none = record {
 
 pub IsTooLong-append : (bytes more : List ℕ) → IsTooLong bytes → IsTooLong (bytes ++ more)
 IsTooLong-append bytes more h = record {
-  open_end = rw (take-append-le MAX_HEAD bytes more h.full) h.open_end;
+  open_end = rw (take-append-le 8192 bytes more h.full) h.open_end;
   full = omega (arith, length-append bytes more, h.full);
 }
 

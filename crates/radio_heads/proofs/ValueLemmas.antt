@@ -8,7 +8,7 @@ use Rattle.std.proofs.lemmas.List.{reverse-reverse}
 use Rattle.std.proofs.lemmas.List.Elements.{All-cons, All-nil, All-head, All-push, All-weaker}
 use Rattle.httparse.specs.Grammar.{AllPass, is_ows, is_value_byte, skip_ows, trim_ows}
 use Rattle.httparse.proofs.TrimLemmas.{AllPass-reverse}
-use Rattle.radio_heads.specs.Laws.{IsHeaderValue}
+use Rattle.radio_heads.proofs.ReadBackLemmas.{IsHeaderValue}
 
 -- ---- numbers
 

@@ -5,8 +5,8 @@ use Rattle.httparse.specs.Ascii.{crlf_bytes}
 use Rattle.radio_heads.specs.declared.answer.Answer.{Answer as AnyAnswer}
 use Rattle.radio_heads.specs.declared.answer.Answer.TheVariants.{Listener, Source, Continue, Denial, Text}
 use Rattle.radio_heads.specs.declared.answer.Welcome.{Welcome}
-use Rattle.radio_heads.specs.declared.answer.DenialStatus.{DenialStatus}
-use Rattle.radio_heads.specs.declared.answer.DenialStatus.TheVariants.{BadRequest, Unauthorized, Forbidden, NotFound}
+use Rattle.radio_policy.specs.declared.rule.Status.{Status}
+use Rattle.radio_policy.specs.declared.rule.Status.TheVariants.{BadRequest, Unauthorized, Forbidden, NotFound}
 use Rattle.radio_heads.specs.declared.answer.TextKind.{TextKind}
 use Rattle.radio_heads.specs.declared.answer.TextKind.TheVariants.{Plain, Json}
 
@@ -37,7 +37,7 @@ unfoldable pub status_line : List ℕ → ℕ → List ℕ
 status_line version status = line (version ++ codes " " ++ status_text status)
 
 -- the number of a denial's status
-abbrev pub status_number : DenialStatus → ℕ
+abbrev pub status_number : Status → ℕ
 status_number BadRequest = 400
 status_number Unauthorized = 401
 status_number Forbidden = 403
@@ -89,7 +89,7 @@ abbrev pub denial_body : List ℕ → List ℕ
 denial_body rule = codes "denied: " ++ rule ++ codes "\n"
 
 -- a request is denied by that rule
-abbrev pub denial_text : DenialStatus → List ℕ → List ℕ
+abbrev pub denial_text : Status → List ℕ → List ℕ
 denial_text status rule = sized_text (status_number status) (content_type Plain) (denial_body rule)
 
 -- the text of an answer

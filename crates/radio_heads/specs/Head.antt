@@ -3,7 +3,6 @@ use Rattle.std.specs.Prelude.{◌≡◌, ℕ, ◌+◌, ◌≤◌, ◌==◌, Bool
 use Rattle.std.specs.List.{before_first}
 use Rattle.httparse.specs.Grammar.{RequestHead, ReadsRequest}
 use Rattle.httparse.specs.Spans.{name_and_value}
-use Rattle.radio_heads.specs.declared.headers.TheConstants.{MAX_HEADERS}
 
 -- a request: its method, its target cut at the first question mark, and its headers
 pub record RequestParts : Type 0 where
@@ -36,4 +35,4 @@ request_parts h = record {
 -- the whole front is a request head of at most 64 headers, and these are its parts
 abbrev pub ShowsRequest : List ℕ → RequestParts → Type 0
 ShowsRequest front parts =
-    (h : RequestHead) × ReadsRequest front h [] × (length h.fields ≤ MAX_HEADERS) × (parts ≡ request_parts h)
+    (h : RequestHead) × ReadsRequest front h [] × (length h.fields ≤ 64) × (parts ≡ request_parts h)

@@ -1,16 +1,14 @@
 -- Laws on readings, for callers that wait for a head, and on the answers that are read back.
-use Rattle.std.specs.Prelude.{◌≡◌, ◌≢◌, ℕ, ◌≤◌, ◌<◌, ◌^◌, ◌⊎◌, List, [], ◌∷◌, ◌++◌, length, codes, decimal, Option, None, Some, Result, Ok, IsErr, IfSome, if◌then◌else◌, ◌==◌}
+use Rattle.std.specs.Prelude.{◌≡◌, ◌≢◌, ℕ, ◌≤◌, ◌<◌, ◌^◌, ◌⊎◌, List, [], ◌∷◌, ◌++◌, length, map, codes, decimal, Option, None, Some, Result, Ok, IsErr, IfSome, if◌then◌else◌, ◌==◌}
 use Rattle.httparse.specs.Grammar.{AllPass, is_value_byte, trim_ows, RequestHead, ReadsRequest, print_request, ResponseHead, ReadsResponse, print_response}
 use Rattle.radio_heads.specs.declared.outcome.Progress.{Progress}
 use Rattle.radio_heads.specs.declared.outcome.Progress.TheVariants.{More}
 use Rattle.radio_heads.specs.declared.outcome.HeadFault.{HeadFault}
-use Rattle.radio_heads.specs.declared.answer.DenialStatus.{DenialStatus}
+use Rattle.radio_policy.specs.declared.rule.Status.{Status}
 use Rattle.radio_heads.specs.declared.answer.TextKind.{TextKind}
 use Rattle.radio_heads.specs.declared.answer.TextKind.TheVariants.{Plain}
 use Rattle.radio_heads.specs.declared.answer.Welcome.{Welcome}
 use Rattle.radio_heads.specs.declared.response.Version.TheVariants.{Http10}
-use Rattle.radio_heads.specs.declared.search.TheConstants.{MAX_HEAD}
-use Rattle.radio_heads.specs.declared.headers.TheConstants.{MAX_HEADERS}
 use Rattle.radio_heads.specs.Answer.{listener_text, sized_head, sized_text, denial_body, status_number, content_type}
 use Rattle.radio_heads.specs.Head.{ShowsRequest, request_parts}
 use Rattle.radio_heads.specs.Reading.{IsHead, IsReading, IsUnfinished}
@@ -40,20 +38,23 @@ FrontsAreUnfinished = (bytes more : List ℕ) → IsUnfinished (bytes ++ more) �
 abbrev pub RequestsAreFound : Type 0
 RequestsAreFound =
     (bytes rest : List ℕ) (h : RequestHead) → ReadsRequest bytes h rest
-    → length h.fields ≤ MAX_HEADERS → length (print_request h) ≤ MAX_HEAD
+    → length h.fields ≤ 64 → length (print_request h) ≤ 8192
     → IsHead ShowsRequest bytes (request_parts h) (length (print_request h))
 
 -- the same for a response
 abbrev pub ResponsesAreFound : Type 0
 ResponsesAreFound =
     (bytes rest : List ℕ) (h : ResponseHead) → ReadsResponse bytes h rest
-    → length h.fields ≤ MAX_HEADERS → length (print_response h) ≤ MAX_HEAD
+    → length h.fields ≤ 64 → length (print_response h) ≤ 8192
     → IsHead ShowsResponse bytes (response_parts h) (length (print_response h))
 
--- a header's value as it is read back: no byte that ends a line, and no white space at its ends
-pub record IsHeaderValue (value : List ℕ) : Type 0 where
-  pub bytes : AllPass is_value_byte value
-  pub trimmed : trim_ows value ≡ value
+-- a header's value has no byte that ends a line, and no other control byte but tabs (RFC 9112, section 5)
+abbrev pub IsFieldText : List ℕ → Type 0
+IsFieldText value = AllPass is_value_byte value
+
+-- a header as it is read back: without the white space at the ends of its value
+abbrev pub read_back : List ℕ × List ℕ → List ℕ × List ℕ
+read_back header = (header.0, trim_ows header.1)
 
 -- a header that stands only where its value is not empty
 abbrev pub shown_header : List ℕ → List ℕ → List (List ℕ × List ℕ)
@@ -70,18 +71,31 @@ abbrev pub challenge_header : ℕ → List (List ℕ × List ℕ)
 challenge_header n =
     if n == 401 then (codes "WWW-Authenticate", codes "Basic realm=\"radio\"") ∷ [] else []
 
+-- the headers in the answer to a listener
+abbrev pub listener_headers : Welcome → List (List ℕ × List ℕ)
+listener_headers w =
+    (codes "Content-Type", w.content_type.now) ∷ []
+    ++ shown_header (codes "icy-name") w.name.now
+    ++ shown_header (codes "icy-genre") w.genre.now
+    ++ interval_header w.interval
+    ++ (codes "Connection", codes "close") ∷ []
+
 -- what the answer to a listener shows
 abbrev pub listener_parts : Welcome → ResponseParts
-listener_parts w = record {
-  version = Http10;
-  status = 200;
-  headers =
-      (codes "Content-Type", w.content_type.now) ∷ []
-      ++ shown_header (codes "icy-name") w.name.now
-      ++ shown_header (codes "icy-genre") w.genre.now
-      ++ interval_header w.interval
-      ++ (codes "Connection", codes "close") ∷ [];
-}
+listener_parts w = record { version = Http10; status = 200; headers = map read_back (listener_headers w) }
+
+-- no value of it has a byte that would end its line
+pub record IsCleanWelcome (w : Welcome) : Type 0 where
+  pub content_type : IsFieldText w.content_type.now
+  pub name : IsFieldText w.name.now
+  pub genre : IsFieldText w.genre.now
+  pub interval : IfSome w.interval (λ n. n < 2 ^ 32)
+
+-- each value of it has at most 255 bytes
+pub record IsShortWelcome (w : Welcome) : Type 0 where
+  pub content_type : length w.content_type.now ≤ 255
+  pub name : length w.name.now ≤ 255
+  pub genre : length w.genre.now ≤ 255
 
 -- what the head of an answer with a body shows
 abbrev pub sized_parts : ℕ → List ℕ → ℕ → ResponseParts
@@ -98,9 +112,13 @@ sized_parts status type size = record {
 -- the answer to a listener is read back, whatever follows it
 abbrev pub ListenerIsReadBack : Type 0
 ListenerIsReadBack =
-    (w : Welcome) (more : List ℕ)
-    → IsHeaderValue w.content_type.now → IsHeaderValue w.name.now → IsHeaderValue w.genre.now
-    → IfSome w.interval (λ n. n < 2 ^ 32) → length (listener_text w) ≤ MAX_HEAD
+    (w : Welcome) (more : List ℕ) → IsCleanWelcome w → length (listener_text w) ≤ 8192
+    → IsHead ShowsResponse (listener_text w ++ more) (listener_parts w) (length (listener_text w))
+
+-- the same where no value has more than 255 bytes, as none in the settings has
+abbrev pub ShortListenerIsReadBack : Type 0
+ShortListenerIsReadBack =
+    (w : Welcome) (more : List ℕ) → IsCleanWelcome w → IsShortWelcome w
     → IsHead ShowsResponse (listener_text w ++ more) (listener_parts w) (length (listener_text w))
 
 -- the head of an answer with a body is read back, and the body stands after it
@@ -113,7 +131,7 @@ IsReadBack status type body =
 -- a denial is read back
 abbrev pub DenialIsReadBack : Type 0
 DenialIsReadBack =
-    (status : DenialStatus) (rule : List ℕ) → IsReadBack (status_number status) (content_type Plain) (denial_body rule)
+    (status : Status) (rule : List ℕ) → IsReadBack (status_number status) (content_type Plain) (denial_body rule)
 
 -- a text is read back
 abbrev pub TextIsReadBack : Type 0

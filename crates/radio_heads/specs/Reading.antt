@@ -5,13 +5,12 @@ use Rattle.radio_heads.specs.declared.outcome.Progress.{Progress}
 use Rattle.radio_heads.specs.declared.outcome.Progress.TheVariants.{More, Whole}
 use Rattle.radio_heads.specs.declared.outcome.HeadFault.{HeadFault}
 use Rattle.radio_heads.specs.declared.outcome.HeadFault.TheVariants.{BadHead, TooManyHeaders, HeadTooLong}
-use Rattle.radio_heads.specs.declared.search.TheConstants.{MAX_HEAD}
 use Rattle.radio_heads.specs.Search.{HasNoEnd, IsHeadEnd}
 
 -- the first n bytes, at most 8192, are the shortest front that ends a head
 pub record IsFront (bytes : List ℕ) (n : ℕ) : Type 0 where
   pub end : IsHeadEnd bytes n
-  pub short : n ≤ MAX_HEAD
+  pub short : n ≤ 8192
 
 -- the first n bytes are a head, and it shows these parts
 pub record IsHead {P : Type 0} (Shows : List ℕ → P → Type 0) (bytes : List ℕ) (parts : P) (n : ℕ) : Type 0 where
@@ -27,12 +26,12 @@ pub record IsNoHead {P : Type 0} (Shows : List ℕ → P → Type 0) (bytes : Li
 -- fewer than 8192 bytes have come, and none of them ends a head
 pub record IsUnfinished (bytes : List ℕ) : Type 0 where
   pub open_end : HasNoEnd bytes
-  pub room : length bytes < MAX_HEAD
+  pub room : length bytes < 8192
 
 -- the first 8192 bytes hold no end of a head
 pub record IsTooLong (bytes : List ℕ) : Type 0 where
-  pub open_end : HasNoEnd (take MAX_HEAD bytes)
-  pub full : MAX_HEAD ≤ length bytes
+  pub open_end : HasNoEnd (take 8192 bytes)
+  pub full : 8192 ≤ length bytes
 
 -- what each answer of a reading says of the bytes
 abbrev pub IsReading : {P : Type 0} → (List ℕ → P → Type 0) → List ℕ → Result (Progress P) HeadFault → Type 0

@@ -4,7 +4,6 @@ use Rattle.httparse.specs.Grammar.{ResponseHead, ReadsResponse, status_code}
 use Rattle.httparse.specs.Spans.{name_and_value}
 use Rattle.radio_heads.specs.declared.response.Version.{Version}
 use Rattle.radio_heads.specs.declared.response.Version.TheVariants.{Http10, Http11}
-use Rattle.radio_heads.specs.declared.headers.TheConstants.{MAX_HEADERS}
 
 -- an answer: its version, its status and its headers
 pub record ResponseParts : Type 0 where
@@ -28,4 +27,4 @@ response_parts h = record {
 -- the whole front is a response head of at most 64 headers, and these are its parts
 abbrev pub ShowsResponse : List ℕ → ResponseParts → Type 0
 ShowsResponse front parts =
-    (h : ResponseHead) × ReadsResponse front h [] × (length h.fields ≤ MAX_HEADERS) × (parts ≡ response_parts h)
+    (h : ResponseHead) × ReadsResponse front h [] × (length h.fields ≤ 64) × (parts ≡ response_parts h)

@@ -2,7 +2,7 @@
 ghost use Rattle.std.specs.Prelude.{◌≡◌};
 ghost use Rattle.radio_heads.specs.Answer.{content_type};
 
-use http::StatusCode;
+use radio_policy::Status;
 
 /// An answer of the server. Its texts are written as they are, so a caller cleans them first: a
 /// header's value holds no CR and no LF.
@@ -14,8 +14,9 @@ pub enum Answer<'a> {
     Source,
     /// A source may send its body (100; RFC 9110, section 15.2.1).
     Continue,
-    /// A request is denied by the rule of that name.
-    Denial { status: DenialStatus, rule: &'a str },
+    /// A request is denied by the rule of that name (RFC 9110, section 15.5); 401 alone asks for a
+    /// name and a password.
+    Denial { status: Status, rule: &'a str },
     /// A command's answer (200), whose body is of that kind.
     Text { kind: TextKind, body: &'a [u8] },
 }
@@ -33,19 +34,6 @@ pub struct Welcome<'a> {
     pub interval: Option<u32>,
 }
 
-/// The status of a denial (RFC 9110, section 15.5); 401 alone asks for a name and a password.
-#[derive(Clone, Copy, Debug, PartialEq, Eq)]
-pub enum DenialStatus {
-    /// 400
-    BadRequest,
-    /// 401
-    Unauthorized,
-    /// 403
-    Forbidden,
-    /// 404
-    NotFound,
-}
-
 /// The kind of a command's answer.
 #[derive(Clone, Copy, Debug, PartialEq, Eq)]
 pub enum TextKind {
@@ -53,22 +41,6 @@ pub enum TextKind {
     Plain,
     /// `application/json`
     Json,
-}
-
-impl From<DenialStatus> for StatusCode {
-    ghost use Rattle.std.specs.Prelude.{◌≡◌};
-    ghost use Rattle.radio_heads.specs.Answer.{status_number};
-
-    ghost from_gives = { λ status code. code ≡ status_number status };
-
-    fn from(status: DenialStatus) -> StatusCode {
-        match status {
-            DenialStatus::BadRequest => StatusCode::BAD_REQUEST,
-            DenialStatus::Unauthorized => StatusCode::UNAUTHORIZED,
-            DenialStatus::Forbidden => StatusCode::FORBIDDEN,
-            DenialStatus::NotFound => StatusCode::NOT_FOUND,
-        }
-    }
 }
 
 impl TextKind {

@@ -1,7 +1,7 @@
 //! Laws on readings, which run no code.
 ghost use Rattle.radio_heads.specs.Head.{ShowsRequest};
 ghost use Rattle.radio_heads.specs.Response.{ShowsResponse};
-ghost use Rattle.radio_heads.specs.Laws.{ReadingsAgree, IsSettled, HeadsLieWithin, FrontsAreUnfinished, RequestsAreFound, ResponsesAreFound, ListenerIsReadBack, DenialIsReadBack, TextIsReadBack};
+ghost use Rattle.radio_heads.specs.Laws.{ReadingsAgree, IsSettled, HeadsLieWithin, FrontsAreUnfinished, RequestsAreFound, ResponsesAreFound, ListenerIsReadBack, ShortListenerIsReadBack, DenialIsReadBack, TextIsReadBack};
 
 /// Two readings of the same bytes are equal, or both are faults.
 pub fn readings_agree()
@@ -35,9 +35,11 @@ pub fn heads_are_found()
 
 /// What `write_answer` writes for a listener, a denial or a text, and whatever bytes follow it, is
 /// read back with that status and those headers; of a listener's where the values have no control
-/// bytes and no white space at their ends, and the head has at most 8192 bytes.
+/// bytes but tabs, without the white space at their ends, and where the head has at most 8192 bytes
+/// or no value has more than 255.
 pub fn answers_read_back()
     ensures listener { ListenerIsReadBack }
+    ensures short { ShortListenerIsReadBack }
     ensures denial { DenialIsReadBack }
     ensures text { TextIsReadBack }
 {}

@@ -30,7 +30,7 @@ mod search;
 mod tests;
 mod writing;
 
-pub use answer::{Answer, DenialStatus, TextKind, Welcome};
+pub use answer::{Answer, TextKind, Welcome};
 pub use head::Head;
 pub use headers::MAX_HEADERS;
 pub use laws::{

@@ -7,7 +7,6 @@ mod requests;
 mod responses;
 
 use crate::{HeadFault, Progress, read_request, read_response};
-use std::process::Abort;
 
 /// What a reading gave, without the head itself.
 #[derive(Clone, Copy, Debug, PartialEq, Eq)]
@@ -37,11 +36,4 @@ fn seen_in_request(bytes: &[u8]) -> Seen {
 
 fn seen_in_response(bytes: &[u8]) -> Seen {
     seen_of(read_response(bytes))
-}
-
-/// In each of these requests is seen what stands beside it.
-fn check_requests(rt: &impl Abort, requests: &[(&[u8], Seen)]) {
-    for (bytes, want) in requests {
-        assert_eq!(rt; seen_in_request(bytes), *want, "{bytes:?}");
-    }
 }

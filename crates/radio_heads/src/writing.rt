@@ -1,10 +1,11 @@
 //! The texts of the answers.
 ghost use Rattle.std.specs.Prelude.{◌≡◌, [], ◌++◌, codes, decimal, length, IfOk, OnOk};
-ghost use Rattle.radio_heads.specs.Answer.{answer_text, line, header_line, shown_line, interval_line, challenge_line, status_line, listener_text, sized_head, sized_text, denial_text, content_type};
+ghost use Rattle.radio_heads.specs.Answer.{answer_text, line, header_line, shown_line, interval_line, challenge_line, status_line, listener_text, sized_head, sized_text, denial_text, content_type, status_number};
 
 use crate::OutOfMemory;
-use crate::answer::{Answer, DenialStatus, TextKind, Welcome};
+use crate::answer::{Answer, TextKind, Welcome};
 use http::StatusCode;
+use radio_policy::Status;
 use std::alloc::Global;
 
 /// The text of an answer, byte for byte, with its body where it has one.
@@ -27,13 +28,31 @@ fn write_welcome(alloc: Global, welcome: &Welcome) -> Result<Vec<u8>, OutOfMemor
 {
     let mut text = Vec::new(alloc);
     push_status(alloc, &mut text, "HTTP/1.0", StatusCode::OK)?;
-    push_header(&mut text, "Content-Type", welcome.content_type)?;
-    push_shown(&mut text, "icy-name", welcome.name)?;
-    push_shown(&mut text, "icy-genre", welcome.genre)?;
+    push_stream(&mut text, welcome)?;
     push_interval(alloc, &mut text, welcome.interval)?;
-    push_header(&mut text, "Connection", b"close")?;
-    push_line(&mut text, b"")?;
+    push_end(&mut text)?;
     Ok(text)
+}
+
+/// The headers that tell of the stream.
+fn push_stream(text: &mut Vec<u8>, welcome: &Welcome) -> Result<(), OutOfMemory>
+    ensures { OnOk result (text.new.items ≡ text.old.items
+        ++ header_line (codes "Content-Type") welcome.now.content_type.now
+        ++ shown_line (codes "icy-name") welcome.now.name.now
+        ++ shown_line (codes "icy-genre") welcome.now.genre.now) }
+{
+    push_header(text, "Content-Type", welcome.content_type)?;
+    push_shown(text, "icy-name", welcome.name)?;
+    push_shown(text, "icy-genre", welcome.genre)
+}
+
+/// The last header, and the empty line.
+fn push_end(text: &mut Vec<u8>) -> Result<(), OutOfMemory>
+    ensures { OnOk result (text.new.items
+        ≡ text.old.items ++ header_line (codes "Connection") (codes "close") ++ line []) }
+{
+    push_header(text, "Connection", b"close")?;
+    push_line(text, b"")
 }
 
 fn write_bare(alloc: Global, version: &str, status: StatusCode) -> Result<Vec<u8>, OutOfMemory>
@@ -45,16 +64,23 @@ fn write_bare(alloc: Global, version: &str, status: StatusCode) -> Result<Vec<u8
     Ok(text)
 }
 
-fn write_denial(alloc: Global, status: DenialStatus, rule: &str) -> Result<Vec<u8>, OutOfMemory>
+fn write_denial(alloc: Global, status: Status, rule: &str) -> Result<Vec<u8>, OutOfMemory>
     ensures { IfOk result (λ text. text.items ≡ denial_text status rule.now) }
 {
     let body = format!(in alloc; "denied: {rule}\n")?;
-    write_sized(
-        alloc,
-        StatusCode::from(status),
-        TextKind::Plain,
-        body.as_bytes(),
-    )
+    let code = status_code(status);
+    write_sized(alloc, code, TextKind::Plain, body.as_bytes())
+}
+
+fn status_code(status: Status) -> StatusCode
+    ensures { result ≡ status_number status }
+{
+    match status {
+        Status::BadRequest => StatusCode::BAD_REQUEST,
+        Status::Unauthorized => StatusCode::UNAUTHORIZED,
+        Status::Forbidden => StatusCode::FORBIDDEN,
+        Status::NotFound => StatusCode::NOT_FOUND,
+    }
 }
 
 fn write_sized(
@@ -83,8 +109,7 @@ fn write_sized_head(
     push_header(&mut text, "Content-Type", kind.content_type())?;
     push_number(alloc, &mut text, "Content-Length", size)?;
     push_challenge(&mut text, status)?;
-    push_header(&mut text, "Connection", b"close")?;
-    push_line(&mut text, b"")?;
+    push_end(&mut text)?;
     Ok(text)
 }
 

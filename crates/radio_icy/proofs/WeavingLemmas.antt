@@ -1,10 +1,10 @@
 -- How sound is woven: a byte, a part of an interval, a whole interval.
-use Rattle.std.proofs.Common.{◌≡◌, ℕ, ◌+◌, ◌<◌, ◌≤◌, List, [], ◌∷◌, ◌++◌, length, Option, None, Some, refl, arith, ap, ◌∙◌, sym, ⊎_elim, add-zero, ◌-◌, take, drop, cond, leb, append_assoc, length-take}
+use Rattle.std.proofs.Common.{◌≡◌, ℕ, ◌+◌, ◌<◌, ◌≤◌, List, [], ◌∷◌, ◌++◌, length, Option, None, Some, refl, arith, ap, ◌∙◌, sym, ⊎_elim, add-zero, ◌-◌, take, drop, append_assoc, length-take}
 use Rattle.std.specs.Option.{option_map, option_or}
-use Rattle.std.proofs.lemmas.Bool.{lt-ltb, le-ltb, lt-leb, le-leb, cases_lt}
+use Rattle.std.proofs.lemmas.Bool.{lt-ltb, le-ltb, cases_lt}
 use Rattle.std.proofs.lemmas.List.{nil_from_length, length-take-le, take-append-drop, take-take, take-append-le}
 use Rattle.radio_icy.specs.Block.{metadata_block, news_of, sent_with}
-use Rattle.radio_icy.specs.Weaving.{Weaving, from_place, woven, after_weaving}
+use Rattle.radio_icy.specs.Weaving.{Weaving, Call, after_byte, after_calls, after_weaving, block_after_byte, from_place, woven, woven_by_calls}
 use Rattle.radio_icy.proofs.BlockLemmas.{news_of_sent}
 
 -- a weaver that has passed on n bytes more, inside an interval
@@ -114,19 +114,38 @@ sent_stays w title (b ∷ sound) n =
     rw (after_at_end w title b sound h) (sent_stays (at_block w title) title sound (news_of_sent title w.sent) ∙ same))
     (cases_lt (w.place + 1) w.interval)
 
--- the last title sent after a piece of sound: the news, if the piece ends an interval
-pub sent_after : (w : Weaving) (title : Option (List ℕ)) (sound : List ℕ) → w.place < w.interval → (after_weaving w title sound).sent ≡ sent_with (cond (leb (w.interval - w.place) (length sound)) (news_of title w.sent) None) w.sent
-sent_after w title sound inside =
-    ⊎_elim
-    (λ (h : length sound < w.interval - w.place). rw (after_part w title sound (omega arith), lt-leb _ _ h) refl)
-    (λ (h : w.interval - w.place ≤ length sound).
+-- the last title sent after a piece of sound that ends an interval
+pub sent_after_block : (w : Weaving) (title : Option (List ℕ)) (sound : List ℕ) → w.place < w.interval → w.interval ≤ w.place + length sound
+    → (after_weaving w title sound).sent ≡ sent_with (news_of title w.sent) w.sent
+sent_after_block w title sound inside due =
     let n = w.interval - w.place in
-    let whole : w.place + length (take n sound) ≡ w.interval = omega (arith, length-take-le n sound h) in
-    rw (le-leb _ _ h)
-    (ap (λ s. (after_weaving w title s).sent) (sym (take-append-drop n sound))
+    let whole : w.place + length (take n sound) ≡ w.interval = omega (arith, length-take-le n sound (omega arith)) in
+    ap (λ s. (after_weaving w title s).sent) (sym (take-append-drop n sound))
     ∙ (ap (λ (v : Weaving). v.sent) (after_interval w title (take n sound) (drop n sound) inside whole)
-    ∙ sent_stays (at_block w title) title (drop n sound) (news_of_sent title w.sent))))
-    (cases_lt (length sound) (w.interval - w.place))
+    ∙ sent_stays (at_block w title) title (drop n sound) (news_of_sent title w.sent))
+
+-- a piece and then another are woven like both in one
+pub woven_both : (w : Weaving) (title : Option (List ℕ)) (a b : List ℕ) → woven w title (a ++ b) ≡ woven w title a ++ woven (after_weaving w title a) title b
+woven_both w title [] b = refl
+woven_both w title (x ∷ a) b =
+    ap (λ t. x ∷ (block_after_byte w title ++ t)) (woven_both (after_byte w title) title a b)
+    ∙ ap (λ t. x ∷ t) (sym (append_assoc (block_after_byte w title) (woven (after_byte w title) title a) (woven (after_weaving (after_byte w title) title a) title b)))
+
+pub after_both : (w : Weaving) (title : Option (List ℕ)) (a b : List ℕ) → after_weaving w title (a ++ b) ≡ after_weaving (after_weaving w title a) title b
+after_both w title [] b = refl
+after_both w title (x ∷ a) b = after_both (after_byte w title) title a b
+
+-- and so are calls and further calls
+pub woven_by_more : (w : Weaving) (calls more : List Call) → woven_by_calls w (calls ++ more) ≡ woven_by_calls w calls ++ woven_by_calls (after_calls w calls) more
+woven_by_more w [] more = refl
+woven_by_more w (c ∷ calls) more =
+    let next = after_weaving w c.title c.sound in
+    ap (λ t. woven w c.title c.sound ++ t) (woven_by_more next calls more)
+    ∙ sym (append_assoc (woven w c.title c.sound) (woven_by_calls next calls) (woven_by_calls (after_calls next calls) more))
+
+pub after_more : (w : Weaving) (calls more : List Call) → after_calls w (calls ++ more) ≡ after_calls (after_calls w calls) more
+after_more w [] more = refl
+after_more w (c ∷ calls) more = after_more (after_weaving w c.title c.sound) calls more
 
 -- a weaver with no title sent yet carries whatever title there is
 pub news_of_first : (title : Option (List ℕ)) → news_of title None ≡ title

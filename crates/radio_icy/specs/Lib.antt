@@ -1,3 +1,4 @@
+pub mod Limits
 pub mod Block
 pub mod Weaving
 pub mod Stream

@@ -1,5 +1,5 @@
 -- The title in the text of a metadata block.
-use Rattle.std.specs.Prelude.{◌≡◌, ℕ, Bool, ◌&&◌, ◌||◌, ◌==◌, nat_eq, List, [], ◌∷◌, ◌++◌, length, drop, Option, None, Some, codes, if◌then◌else◌}
+use Rattle.std.specs.Prelude.{◌≡◌, ℕ, Bool, true, false, ◌&&◌, ◌||◌, ◌==◌, nat_eq, List, [], ◌∷◌, ◌++◌, length, drop, Option, None, Some, codes, if◌then◌else◌}
 use Rattle.std.specs.List.{starts_with}
 use Rattle.std.specs.Option.{option_map}
 
@@ -23,3 +23,10 @@ title_of text =
 -- `';StreamUrl=` stands nowhere in the title
 abbrev pub HasNoUrlInside : List ℕ → Type 0
 HasNoUrlInside title = (before after : List ℕ) → title ≡ before ++ (codes "';StreamUrl=" ++ after) → ⊥
+
+-- The title stands in the text between `StreamTitle='` and a place where a title ends, and no title ends before it.
+pub record IsTitleIn (text title : List ℕ) : Type 0 where
+  pub rest : List ℕ
+  pub parts : text ≡ codes "StreamTitle='" ++ (title ++ rest)
+  pub ends : ends_title rest ≡ true
+  pub is_first : (before after : List ℕ) (b : ℕ) → title ≡ before ++ b ∷ after → ends_title ((b ∷ after) ++ rest) ≡ false

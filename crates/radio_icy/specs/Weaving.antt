@@ -48,3 +48,8 @@ abbrev pub woven_by_calls : Weaving → List Call → List ℕ
 woven_by_calls w [] = []
 woven_by_calls w (c ∷ calls) =
     woven w c.title c.sound ++ woven_by_calls (after_weaving w c.title c.sound) calls
+
+-- the weaver after them
+abbrev pub after_calls : Weaving → List Call → Weaving
+after_calls w [] = w
+after_calls w (c ∷ calls) = after_calls (after_weaving w c.title c.sound) calls

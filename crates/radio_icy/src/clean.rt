@@ -3,7 +3,7 @@ ghost use Rattle.std.specs.Prelude.{◌≡◌, ◌≤◌, IfOk, filter, encode_u
 ghost use Rattle.std.specs.Str.{chars};
 ghost use Rattle.std.specs.String.{string_bytes, string_len};
 ghost use Rattle.radio_icy.specs.Cleaning.{cleaned, front_within, is_shown};
-ghost use Rattle.radio_icy.specs.declared.TheConstants.{LONGEST_TITLE, LONGEST_FIELD};
+ghost use Rattle.radio_icy.specs.Limits.{longest_title, longest_field};
 
 use crate::{LONGEST_FIELD, LONGEST_TITLE, OutOfMemory};
 use std::alloc::Global;
@@ -14,8 +14,8 @@ use std::alloc::Global;
 /// and of what remains the longest front of at most [`LONGEST_TITLE`] bytes is kept that ends between two characters.
 /// An `Err` means that memory ran out.
 pub fn clean_title(alloc: Global, bytes: &[u8]) -> Result<String, OutOfMemory>
-    ensures text { IfOk result (λ text. string_bytes text ≡ cleaned LONGEST_TITLE bytes.now) }
-    ensures fits { IfOk result (λ text. string_len text ≤ LONGEST_TITLE) }
+    ensures text { IfOk result (λ text. string_bytes text ≡ cleaned longest_title bytes.now) }
+    ensures fits { IfOk result (λ text. string_len text ≤ longest_title) }
 {
     clean(alloc, bytes, LONGEST_TITLE)
 }
@@ -23,8 +23,8 @@ pub fn clean_title(alloc: Global, bytes: &[u8]) -> Result<String, OutOfMemory>
 /// A stream's name, genre or type from outside as a text that can be shown: cleaned like a title, to at most
 /// [`LONGEST_FIELD`] bytes. An `Err` means that memory ran out.
 pub fn clean_field(alloc: Global, bytes: &[u8]) -> Result<String, OutOfMemory>
-    ensures text { IfOk result (λ text. string_bytes text ≡ cleaned LONGEST_FIELD bytes.now) }
-    ensures fits { IfOk result (λ text. string_len text ≤ LONGEST_FIELD) }
+    ensures text { IfOk result (λ text. string_bytes text ≡ cleaned longest_field bytes.now) }
+    ensures fits { IfOk result (λ text. string_len text ≤ longest_field) }
 {
     clean(alloc, bytes, LONGEST_FIELD)
 }

@@ -2,15 +2,15 @@
 //!
 //! Each law is a function that does nothing, and its contract is the law.
 //! A caller that needs a law in a proof calls the function, and cites its clause.
-ghost use Rattle.std.specs.Prelude.{◌≡◌, ℕ, ◌<◌, ◌≤◌, List, [], ◌∷◌, ◌++◌, length, take, drop, map, Some, true, encode_utf8_all};
+ghost use Rattle.std.specs.Prelude.{◌≡◌, ℕ, ◌<◌, ◌≤◌, List, [], ◌∷◌, ◌++◌, length, take, drop, map, Option, Some, true, encode_utf8_all, codes, ◌↔◌};
 ghost use Rattle.std.specs.List.{concat, list_all};
 ghost use Rattle.std.specs.Str.{IsUtf8, chars};
 ghost use Rattle.radio_icy.specs.Block.{metadata_block, title_text};
-ghost use Rattle.radio_icy.specs.Weaving.{Call, new_weaving, woven_by_calls};
+ghost use Rattle.radio_icy.specs.Weaving.{Call, Weaving, after_calls, after_weaving, new_weaving, woven, woven_by_calls};
 ghost use Rattle.radio_icy.specs.Stream.{IsWoven, AreUntitled, sound_of_calls, parts_of, news_at, titles_sent};
 ghost use Rattle.radio_icy.specs.Unweaving.{Unweaving, new_unweaving, heard, after_feeding, heard_by_pieces, after_pieces};
 ghost use Rattle.radio_icy.specs.Bare.{bare, after_block, block_texts, sound_in, texts_in};
-ghost use Rattle.radio_icy.specs.Titles.{title_of, HasNoUrlInside};
+ghost use Rattle.radio_icy.specs.Titles.{title_of, HasNoUrlInside, IsTitleIn};
 ghost use Rattle.radio_icy.specs.Cleaning.{cleaned, shown_chars, is_shown};
 
 /// What a weaver writes over a list of calls, from the start of a stream, is woven: the sound of all calls, cut after
@@ -20,6 +20,19 @@ pub fn woven_streams()
         → 0 < n → IsWoven n calls (woven_by_calls (new_weaving n) calls) }
     ensures untitled { (n : ℕ) (calls : List Call) (k : ℕ)
         → AreUntitled calls → metadata_block (news_at n calls k) ≡ 0 ∷ [] }
+{}
+
+/// However sound is cut into calls under one title, the same is written, and calls after other calls go on where those
+/// ended: from any state of a weaver.
+pub fn joined_weaving()
+    ensures sound { (w : Weaving) (title : Option (List ℕ)) (a : List ℕ) (b : List ℕ)
+        → woven w title (a ++ b) ≡ woven w title a ++ woven (after_weaving w title a) title b }
+    ensures after_sound { (w : Weaving) (title : Option (List ℕ)) (a : List ℕ) (b : List ℕ)
+        → after_weaving w title (a ++ b) ≡ after_weaving (after_weaving w title a) title b }
+    ensures calls { (w : Weaving) (calls : List Call) (more : List Call)
+        → woven_by_calls w (calls ++ more) ≡ woven_by_calls w calls ++ woven_by_calls (after_calls w calls) more }
+    ensures after_calls { (w : Weaving) (calls : List Call) (more : List Call)
+        → after_calls w (calls ++ more) ≡ after_calls (after_calls w calls) more }
 {}
 
 /// The bare sound of a stream, by two cases: all of it, where it has no more than the interval; or else the first
@@ -53,9 +66,17 @@ pub fn unwoven_streams()
     ensures texts { (n : ℕ) (out : List ℕ) → texts_in (heard (new_unweaving n) out) ≡ block_texts n out }
 {}
 
-/// The title of the text that was made of a title is that title, unless `';StreamUrl=` stands in it.
+/// The title of the text that was made of a title is that title, unless `';StreamUrl=` stands in it; also with a URL
+/// behind it.
 pub fn titles_of_texts()
-    ensures { (title : List ℕ) → HasNoUrlInside title → title_of (title_text title) ≡ Some title }
+    ensures alone { (title : List ℕ) → HasNoUrlInside title → title_of (title_text title) ≡ Some title }
+    ensures with_url { (title : List ℕ) (url : List ℕ)
+        → HasNoUrlInside title → title_of (title_text title ++ (codes "StreamUrl=" ++ url)) ≡ Some title }
+{}
+
+/// A text has a title exactly where it stands between `StreamTitle='` and the first place where a title ends.
+pub fn titles_in_texts()
+    ensures { (text : List ℕ) (title : List ℕ) → (title_of text ≡ Some title) ↔ IsTitleIn text title }
 {}
 
 /// A cleaned text is UTF-8 of at most n bytes, and is left as it is by cleaning. Its characters are the longest front

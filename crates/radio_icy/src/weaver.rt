@@ -3,9 +3,9 @@ ghost use Rattle.std.specs.Prelude.{◌≡◌, ◌+◌, ◌<◌, ◌≤◌, ◌+
 ghost use Rattle.std.specs.Option.{option_copied};
 ghost use Rattle.radio_icy.specs.Block.{news_of};
 ghost use Rattle.radio_icy.specs.Weaving.{new_weaving, from_place, woven, after_weaving};
-ghost use Rattle.radio_icy.specs.declared.TheConstants.{LONGEST_TITLE};
+ghost use Rattle.radio_icy.specs.Limits.{longest_title};
 
-use crate::block::append_block;
+use crate::block::{UNIT, append_block};
 use crate::texts::copy_of;
 use crate::{LONGEST_TITLE, OutOfMemory};
 use std::alloc::Global;
@@ -64,7 +64,7 @@ impl Weaver {
         title: Option<&[u8]>,
         out: &mut Vec<u8>,
     ) -> Result<(), OutOfMemory>
-        requires { IfSome title (λ t. length t.now ≤ LONGEST_TITLE) }
+        requires { IfSome title (λ t. length t.now ≤ longest_title) }
         ensures woven { let title_now = option_copied title.entry in
             OnOk result (out.new.items ≡ out.old.items ++ woven self.old title_now sound.now) }
         ensures after { let title_now = option_copied title.entry in
@@ -74,10 +74,33 @@ impl Weaver {
         ensures err { OnErr result (self.new ≡ self.old) }
         ensures out_err { OnErr result (out.new.items ≡ out.old.items) }
     {
+        if sound.len() < self.interval - self.place {
+            out.extend_from_slice(sound)?;
+            self.place += sound.len();
+            return Ok(());
+        }
+        self.weave_blocks(sound, title, out)
+    }
+
+    // The same, where a block is due: only then is the title looked at. All room that is needed is asked for first.
+    fn weave_blocks(
+        &mut self,
+        sound: &[u8],
+        title: Option<&[u8]>,
+        out: &mut Vec<u8>,
+    ) -> Result<(), OutOfMemory>
+        requires due { self.old.interval ≤ self.old.place + length sound.now }
+        requires fits { IfSome title (λ t. length t.now ≤ longest_title) }
+        ensures woven { let title_now = option_copied title.entry in
+            OnOk result (out.new.items ≡ out.old.items ++ woven self.old title_now sound.now) }
+        ensures after { let title_now = option_copied title.entry in
+            OnOk result (self.new ≡ after_weaving self.old title_now sound.now) }
+        ensures err { OnErr result (self.new ≡ self.old) }
+        ensures out_err { OnErr result (out.new.items ≡ out.old.items) }
+    {
         let news = self.news_of(title);
-        let is_due = self.interval - self.place <= sound.len();
-        let due = if is_due { news } else { None };
-        let sent = copy_of(self.alloc, due)?;
+        let sent = copy_of(self.alloc, news)?;
+        out.reserve(self.most_written(sound.len(), news))?;
         let start = out.len();
         match append_woven(self.interval, self.place, sound, news, out) {
             Ok(place) => {
@@ -90,6 +113,13 @@ impl Weaver {
                 Err(e)
             }
         }
+    }
+
+    // No fewer bytes than so much sound comes to: a byte for each block, and the text of the first.
+    fn most_written(&self, sound: usize, news: Option<&[u8]>) -> usize {
+        let blocks = sound.saturating_add(self.place) / self.interval;
+        let text = news.map_or(0, |title| title.len().saturating_add(2 * UNIT));
+        sound.saturating_add(blocks).saturating_add(text)
     }
 
     // The title that the next block carries.
@@ -113,7 +143,7 @@ fn append_woven(
     out: &mut Vec<u8>,
 ) -> Result<usize, OutOfMemory>
     requires inside { place < interval }
-    requires fits { IfSome news (λ t. length t.now ≤ LONGEST_TITLE) }
+    requires fits { IfSome news (λ t. length t.now ≤ longest_title) }
     ensures woven { let start = from_place interval place in
         OnOk result (out.new.items ≡ out.old.items ++ woven start (option_copied news.entry) sound.now) }
     ensures place { let start = from_place interval place in

@@ -1,6 +1,6 @@
 use Rattle.std.proofs.Common.{◌≡◌, Bool, true, false, List, [], ◌∷◌, ◌++◌, refl, ap, ◌∙◌}
 use Rattle.radio_policy.specs.declared.rule.Rule.{Rule}
-use Rattle.radio_policy.specs.declared.judgement.Verdict.TheVariants.{Deny}
+use Rattle.radio_policy.specs.declared.judgement.Verdict.TheVariants.{Allow, Deny}
 use Rattle.radio_policy.specs.Table.{Row, row}
 use Rattle.radio_policy.specs.Verdicts.{verdict_in, Denies, Allows}
 
@@ -26,3 +26,16 @@ verdict_past (x ∷ xs) rest h = rw h.0 (verdict_past xs rest h.1)
 -- and the first rule whose condition holds is the verdict's
 pub verdict-Denies : (rows : List Row) (rule : Rule) → Denies rows rule → verdict_in rows ≡ Deny rule
 verdict-Denies rows rule d = ap verdict_in d.2 ∙ verdict_past d.0 (row rule true ∷ d.1) d.3
+
+-- a verdict that allows says that no condition holds, and the other way round
+allows_at : (name : Rule) (holds : Bool) (xs : List Row) → (verdict_in xs ≡ Allow → Allows xs) → verdict_in (row name holds ∷ xs) ≡ Allow → Allows (row name holds ∷ xs)
+allows_at name true xs known e = cc
+allows_at name false xs known e = (refl, known e)
+
+pub verdict-Allows : (rows : List Row) → verdict_in rows ≡ Allow → Allows rows
+verdict-Allows [] e = tt
+verdict-Allows (x ∷ xs) e = allows_at x.rule x.holds xs (verdict-Allows xs) e
+
+pub Allows-verdict : (rows : List Row) → Allows rows → verdict_in rows ≡ Allow
+Allows-verdict [] a = refl
+Allows-verdict (x ∷ xs) a = rw a.0 (Allows-verdict xs a.1)

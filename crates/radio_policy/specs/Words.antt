@@ -1,4 +1,4 @@
-use Rattle.std.specs.Prelude.{ℕ, List, codes}
+use Rattle.std.specs.Prelude.{ℕ, List, codes, Option, Some}
 use Rattle.radio_policy.specs.declared.rule.Rule.{Rule}
 use Rattle.radio_policy.specs.declared.rule.Rule.TheVariants.{BadMount, MountInUse, NoMount, NotLive, NumbersSpent, BadHead, BadMethod}
 use Rattle.radio_policy.specs.declared.rule.Status.{Status}
@@ -14,12 +14,12 @@ word_of NumbersSpent = codes "numbers-spent"
 word_of BadHead = codes "bad-head"
 word_of BadMethod = codes "bad-method"
 
--- the status of the answer that tells a denial by the rule
-abbrev pub status_of : Rule → Status
-status_of BadMount = BadRequest
-status_of MountInUse = Forbidden
-status_of NoMount = NotFound
-status_of NotLive = NotFound
-status_of NumbersSpent = Forbidden
-status_of BadHead = BadRequest
-status_of BadMethod = BadRequest
+-- the status of the answer that tells a denial by the rule; a rule by which nothing is denied in an answer has none
+abbrev pub status_of : Rule → Option Status
+status_of BadMount = Some BadRequest
+status_of MountInUse = Some Forbidden
+status_of NoMount = Some NotFound
+status_of NotLive = Some NotFound
+status_of NumbersSpent = Some Forbidden
+status_of BadHead = Some BadRequest
+status_of BadMethod = Some BadRequest

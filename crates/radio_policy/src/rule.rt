@@ -7,6 +7,8 @@ use std::fmt;
 pub enum Status {
     /// 400: what was sent cannot be served.
     BadRequest,
+    /// 401: the pair that was sent, or none, does not open it.
+    Unauthorized,
     /// 403: the server is not willing.
     Forbidden,
     /// 404: there is no such mount.
@@ -50,14 +52,14 @@ impl Rule {
         }
     }
 
-    /// The status of the answer that tells a denial by this rule.
-    pub fn status(self) -> Status
+    /// The status of the answer that tells a denial by this rule; `None` where it has no answer.
+    pub fn status(self) -> Option<Status>
         ensures { result ≡ status_of self }
     {
         match self {
-            Rule::BadMount | Rule::BadHead | Rule::BadMethod => Status::BadRequest,
-            Rule::MountInUse | Rule::NumbersSpent => Status::Forbidden,
-            Rule::NoMount | Rule::NotLive => Status::NotFound,
+            Rule::BadMount | Rule::BadHead | Rule::BadMethod => Some(Status::BadRequest),
+            Rule::MountInUse | Rule::NumbersSpent => Some(Status::Forbidden),
+            Rule::NoMount | Rule::NotLive => Some(Status::NotFound),
         }
     }
 }

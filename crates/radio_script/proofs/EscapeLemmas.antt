@@ -1,11 +1,12 @@
 -- What is escaped is read back.
-use Rattle.std.proofs.Common.{◌≡◌, ℕ, ◌+◌, ◌*◌, ◌/◌, ◌%◌, ◌<◌, Bool, true, false, nat_lt, ◌==◌, List, [], ◌∷◌, ◌++◌, Option, Some, None, refl, ap, ◌∙◌, subst, arith}
+use Rattle.std.proofs.Common.{◌≡◌, ℕ, ◌+◌, ◌*◌, ◌/◌, ◌%◌, ◌<◌, Bool, true, false, nat_lt, ◌==◌, List, [], ◌∷◌, ◌++◌, Option, Some, None, refl, ap, ◌∙◌, subst, arith, append_assoc, add-one, drop-cons, drop, get_or, length, suc}
 use Rattle.std.specs.List.{flat_map, AllByRecursion}
-use Rattle.std.specs.Option.{option_map}
+use Rattle.std.specs.Option.{option_map, option_to_list, MatchOption}
 use Rattle.std.specs.Char.{digit_char}
 use Rattle.std.proofs.lemmas.Bool.Decides.{nat_tests}
 use Rattle.std.proofs.lemmas.Str.{digit_value-digit_char}
-use Rattle.radio_script.specs.declared.escapes.Place.TheVariants.{Between, Escape}
+use Rattle.radio_script.specs.declared.escapes.Place.TheVariants.{Between, Escape, High, Low}
+use Rattle.radio_script.specs.declared.escapes.Place.{Place}
 use Rattle.radio_script.specs.Escapes.{is_plain, escape_of, escaped, hex_value_of, step_at, unescaped_from, unescaped}
 
 -- The text is read as this byte, and then the rest.
@@ -69,3 +70,24 @@ unfolding unescaped escaped
 unescaped_escaped [] h = refl
 unescaped_escaped (b ∷ bytes) h =
     read_by_return b (flat_map escape_of bytes) h.0 (b == 13) refl ∙ ap (option_map (λ rest. b ∷ rest)) (unescaped_escaped bytes h.1)
+
+-- A byte of a text was taken: what was read so far, and what is read from there on, are the same bytes.
+joined : (bytes more : List ℕ) (o : Option (List ℕ)) → option_map (λ rest. (bytes ++ more) ++ rest) o ≡ option_map (λ rest. bytes ++ rest) (option_map (λ rest. more ++ rest) o)
+joined bytes more None = refl
+joined bytes more (Some rest) = ap Some (append_assoc bytes more rest)
+
+steps_on : (place : Place) (b : ℕ) (rest : List ℕ) (step : Place × Option ℕ) → step_at place b ≡ Some step
+    → unescaped_from place (b ∷ rest) ≡ option_map (λ bytes. option_to_list step.1 ++ bytes) (unescaped_from step.0 rest)
+steps_on Between b rest step e = rw e refl
+steps_on Escape b rest step e = rw e refl
+steps_on High b rest step e = rw e refl
+steps_on (Low high) b rest step e = rw e refl
+
+pub taken : (bytes new : List ℕ) (place next : Place) (text : List ℕ) (i : ℕ) → i < length text
+    → (r : Option (Place × Option ℕ)) → step_at place (get_or text i 0) ≡ r
+    → MatchOption r (Some next ≡ None) (λ step. (Some next ≡ Some step.0) × (new ≡ bytes ++ option_to_list step.1))
+    → option_map (λ rest. new ++ rest) (unescaped_from next (drop (i + 1) text)) ≡ option_map (λ rest. bytes ++ rest) (unescaped_from place (drop i text))
+taken bytes new place next text i low None e h = cc
+taken bytes new place next text i low (Some step) e h =
+    let same : next ≡ step.0 = cc in
+    rw (same, h.1, drop-cons text i 0, steps_on place (get_or text i 0) (drop (suc i) text) step e, add-one) (joined bytes (option_to_list step.1) (unescaped_from step.0 (drop (suc i) text)))

@@ -12,7 +12,7 @@ use Rattle.radio_script.specs.declared.limits.TheConstants.{MAX_LINE, MAX_LINES}
 use Rattle.radio_script.specs.Steps.{◌>>=◌}
 use Rattle.radio_script.specs.Parts.{parted}
 use Rattle.radio_script.specs.Numbers.{number_of}
-use Rattle.radio_script.specs.Peer.{peer_of}
+use Rattle.radio_addr.specs.Addresses.{peer_of}
 use Rattle.radio_script.specs.Escapes.{unescaped}
 use Rattle.radio_script.specs.Delivery.{label_of, open_of, in_of, room_of, end_of, delivery_of}
 use Rattle.radio_script.specs.Script.{meaning_of, onto_delivery, deliveries_from}

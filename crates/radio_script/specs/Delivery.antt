@@ -7,7 +7,7 @@ use Rattle.radio_script.specs.declared.delivery.Delivery.TheVariants.{Open, In, 
 use Rattle.radio_script.specs.Steps.{◌>>=◌}
 use Rattle.radio_script.specs.Parts.{parted}
 use Rattle.radio_script.specs.Numbers.{number_of}
-use Rattle.radio_script.specs.Peer.{peer_of}
+use Rattle.radio_addr.specs.Addresses.{peer_of}
 use Rattle.radio_script.specs.Escapes.{unescaped}
 
 -- a label: a number from 1 on

@@ -1,6 +1,5 @@
 pub mod Steps
 pub mod Parts
-pub mod Peer
 pub mod Numbers
 pub mod Escapes
 pub mod Spelling

@@ -8,8 +8,7 @@ use crate::byte_string::ByteString;
 use crate::escapes::unescape;
 use crate::numbers::read_number;
 use crate::parts::cut_at;
-use crate::peer::read_peer;
-use radio_core::Peer;
+use radio_addr::{Peer, read_peer};
 use std::alloc::Global;
 
 /// What happens to one connection. Connections are named by labels, from 1 on.

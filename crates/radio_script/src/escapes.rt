@@ -12,7 +12,7 @@ use crate::byte_string::ByteString;
 use std::alloc::Global;
 
 /// Where the reading of a text stands.
-#[derive(Clone, Copy, Debug)]
+#[derive(Clone, Copy)]
 pub enum Place {
     /// Between the spellings of two bytes.
     Between,
@@ -26,7 +26,6 @@ pub enum Place {
 
 /// The bytes that a text stands for; `None` where a backslash begins no escape, or where a byte
 /// that is neither a backslash nor of 0x20 to 0x7E stands in it.
-#[tactic(auto, unfolding(crate::specs::Escapes::unescaped))]
 pub fn unescape(alloc: Global, text: &[u8]) -> Result<Option<ByteString>, OutOfMemory>
     ensures { IfOk result (λ bytes. bytes ≡ unescaped text.now) }
 {
@@ -123,7 +122,6 @@ fn hex_value(b: u8) -> Option<u8>
 }
 
 /// Adds the text that writes the bytes. After an `Err` a part of it may stand at the end.
-#[tactic(auto, unfolding(crate::specs::Escapes::escaped))]
 pub fn push_escaped(text: &mut Vec<u8>, bytes: &[u8]) -> Result<(), OutOfMemory>
     ensures ok { OnOk result (text.new.items ≡ text.old.items ++ escaped bytes.now) }
     ensures front { StartsWith text.new.items text.old.items }

@@ -1,7 +1,7 @@
 //! Scripts, whoever performs them: from the lines that a script delivers to the lines of its
 //! transcript.
 //!
-//! - A line of a script: [`read_delivery`], made of `parts`, `numbers`, a `peer` and `escapes`.
+//! - A line of a script: [`read_delivery`], made of `parts`, `numbers` and `escapes`.
 //! - A line of a transcript: [`push_answer`].
 //! - Devices: `reading`, `writing`, and `devices`, which count their calls and failures, as a
 //!   [`Tally`] does for any reader or writer.
@@ -19,7 +19,6 @@ mod laws;
 mod limits;
 mod numbers;
 mod parts;
-mod peer;
 mod performer;
 mod playing;
 mod reading;
@@ -40,7 +39,6 @@ pub use laws::{
     transcripts_are_read_one_way, transcripts_go_on_as_they_began,
 };
 pub use limits::{MAX_LINE, MAX_LINES};
-pub use peer::read_peer;
 pub use performer::Performer;
 pub use playing::play_with;
 pub use running::run_with;

@@ -12,7 +12,7 @@ use crate::limits::MAX_LINE;
 use std::io;
 
 /// What the reading of a line found.
-#[derive(Clone, Copy, Debug, PartialEq, Eq)]
+#[derive(Clone, Copy)]
 pub enum LineRead {
     /// A line with its line feed.
     Whole,

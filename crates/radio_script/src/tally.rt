@@ -19,19 +19,20 @@ pub struct Tally<D> {
 }
 
 impl<D> Tally<D> {
-    ghost use Rattle.radio_script.specs.Tally.{calls_of, device_of, failures_of};
+    ghost use Rattle.radio_script.specs.Tally.{calls_of, device_of, failures_of, has_flushed};
 
-    /// The device, never called and never failed yet.
+    /// The device, never called and never failed yet: nothing was written that it may keep back.
     pub fn new(device: D) -> Tally<D>
         ensures device { device_of result ≡ device }
         ensures calls { calls_of result ≡ 0 }
         ensures failures { failures_of result ≡ 0 }
+        ensures flushed { has_flushed result ≡ true }
     {
         Tally {
             device,
             calls: 0,
             failures: 0,
-            is_flushed: false,
+            is_flushed: true,
         }
     }
 }

@@ -16,6 +16,30 @@ pub first_fault-append : (xs ys : List (Option SettingsFault)) → first_fault (
 first_fault-append [] ys = refl
 first_fault-append (x ∷ xs) ys = ap (option_or x) (first_fault-append xs ys) ∙ or_assoc x (first_fault xs) (first_fault ys)
 
+or_none : {A : Type 0} (x : Option A) → x ≡ option_or x None
+or_none None = refl
+or_none (Some x) = refl
+
+abbrev Faults : Type 0
+Faults = List (Option SettingsFault)
+
+-- the first fault of groups of rows, by that of each
+pub in_one : (a : Faults) → first_fault a ≡ first_fault (first_fault a ∷ [])
+in_one a = or_none (first_fault a)
+
+pub in_two : (a b : Faults) → first_fault (a ++ b) ≡ first_fault (first_fault a ∷ first_fault b ∷ [])
+in_two a b = first_fault-append a b ∙ ap (option_or (first_fault a)) (in_one b)
+
+pub in_three : (a b c : Faults) → first_fault (a ++ (b ++ c)) ≡ first_fault (first_fault a ∷ first_fault b ∷ first_fault c ∷ [])
+in_three a b c = first_fault-append a (b ++ c) ∙ ap (option_or (first_fault a)) (in_two b c)
+
+pub in_four : (a b c d : Faults) → first_fault (a ++ (b ++ (c ++ d))) ≡ first_fault (first_fault a ∷ first_fault b ∷ first_fault c ∷ first_fault d ∷ [])
+in_four a b c d = first_fault-append a (b ++ (c ++ d)) ∙ ap (option_or (first_fault a)) (in_three b c d)
+
+-- a group, and two groups in one
+pub in_groups : (a b c : Faults) → first_fault (a ++ (b ++ c)) ≡ first_fault (first_fault a ∷ first_fault (first_fault b ∷ first_fault c ∷ []) ∷ [])
+in_groups a b c = first_fault-append a (b ++ c) ∙ ap (option_or (first_fault a)) (in_two b c ∙ or_none _)
+
 -- the first fault of the same rows in some tables
 abbrev pub first_of : List Row → List Members → Option SettingsFault
 first_of rows tables = first_fault (flat_map (faults_in rows) tables)

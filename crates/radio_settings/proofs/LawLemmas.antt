@@ -11,7 +11,7 @@ use Rattle.radio_settings.specs.declared.settings.Settings.{Settings}
 use Rattle.radio_settings.specs.Rows.{first_fault}
 use Rattle.radio_settings.specs.Repeats.{first_repeat, first_repeat_after, is_among}
 use Rattle.radio_settings.specs.Document.{document_faults, document_reading, settings_or_fault, settings_of, reading_of}
-use Rattle.radio_settings.specs.Laws.{AreAllWell, IsFirstFault, IsFaultOf, AreSettingsOf, IsFirstRepeat}
+use Rattle.radio_settings.specs.Laws.{AreAllWell, AreApart, IsFirstFault, IsFaultOf, AreSettingsOf, IsFirstRepeat}
 
 abbrev pub Faults : Type 0
 Faults = List (Option SettingsFault)
@@ -134,3 +134,34 @@ first_repeat_cut names name h =
 pub first_repeat_at_cut : (names : List (List ℕ)) (name : List ℕ) → IsFirstRepeat names name → first_repeat names ≡ Some name
 unfolding first_repeat
 first_repeat_at_cut names name h = ap (first_repeat_after []) h.are_names ∙ repeat_at_cut [] h.before h.after name h.is_repeat h.none_before
+
+-- names apart from those that were passed and from one another
+apart_after : (passed before after : List (List ℕ)) (name : List ℕ) → first_repeat_after passed (before ++ name ∷ after) ≡ None → is_among (passed ++ before) name ≡ false
+apart_after passed [] after name none =
+    elim (is_among passed name) as (λ b. is_among passed name ≡ b → cond b (Some name) (first_repeat_after (passed ++ name ∷ []) after) ≡ None → is_among (passed ++ []) name ≡ false) [
+      | true ↦ λ is found. absurd (cc)
+      | false ↦ λ is found. ap (λ ms. is_among ms name) (append-nil passed) ∙ is
+    ] refl none
+apart_after passed (n ∷ before) after name none =
+    elim (is_among passed n) as (λ b. is_among passed n ≡ b → cond b (Some n) (first_repeat_after (passed ++ n ∷ []) (before ++ name ∷ after)) ≡ None
+    → is_among (passed ++ n ∷ before) name ≡ false) [
+      | true ↦ λ is found. absurd (cc)
+      | false ↦ λ is found. ap (λ ms. is_among ms name) (sym (append_assoc passed (n ∷ []) before)) ∙ apart_after (passed ++ n ∷ []) before after name found
+    ] refl none
+
+none_after : (passed names : List (List ℕ)) → ((before after : List (List ℕ)) (name : List ℕ) → names ≡ before ++ name ∷ after → is_among (passed ++ before) name ≡ false)
+    → first_repeat_after passed names ≡ None
+none_after passed [] apart = refl
+none_after passed (n ∷ names) apart =
+    let new : is_among passed n ≡ false = ap (λ ms. is_among ms n) (sym (append-nil passed)) ∙ apart [] names n refl in
+    ap (λ b. cond b (Some n) (first_repeat_after (passed ++ n ∷ []) names)) new
+    ∙ none_after (passed ++ n ∷ []) names (λ before after name are.
+    ap (λ ms. is_among ms name) (append_assoc passed (n ∷ []) before) ∙ apart (n ∷ before) after name (ap (λ ms. n ∷ ms) are))
+
+pub apart_from_none : (names : List (List ℕ)) → first_repeat names ≡ None → AreApart names
+unfolding first_repeat
+apart_from_none names none before after name are = apart_after [] before after name (ap (first_repeat_after []) (sym are) ∙ none)
+
+pub none_from_apart : (names : List (List ℕ)) → AreApart names → first_repeat names ≡ None
+unfolding first_repeat
+none_from_apart names apart = none_after [] names apart

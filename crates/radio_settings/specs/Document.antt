@@ -13,9 +13,9 @@ use Rattle.radio_settings.specs.declared.settings.Settings.{Settings}
 use Rattle.radio_settings.specs.Lookup.{table_at, table_or_empty, tables_at}
 use Rattle.radio_settings.specs.Rows.{faults_in, table_fault, list_fault, first_fault}
 use Rattle.radio_settings.specs.Repeats.{first_repeat}
-use Rattle.radio_settings.specs.Access.{access_rows, access_fault, access_of}
-use Rattle.radio_settings.specs.Listen.{listen_rows, listen_fault, listen_of}
-use Rattle.radio_settings.specs.Limits.{limit_rows, limits_fault, limits_of}
+use Rattle.radio_settings.specs.Access.{access_rows, access_of}
+use Rattle.radio_settings.specs.Listen.{listen_rows, listen_of}
+use Rattle.radio_settings.specs.Limits.{limit_rows, limits_of}
 use Rattle.radio_settings.specs.Mounts.{mount_rows, options_of, mounts_of}
 use Rattle.radio_settings.specs.Relays.{relay_rows, relays_of}
 use Rattle.radio_settings.specs.Slave.{slave_rows, slave_of}
@@ -82,29 +82,6 @@ document_faults document =
     ++ (relays_faults document
     ++ (slave_faults document
     ++ repeat_faults document)))))
-
--- the first fault of a list of tables, and of a table some keys of which must be there
-unfoldable pub mounts_fault : Members → Option SettingsFault
-mounts_fault document = first_fault (mounts_faults document)
-
-unfoldable pub relays_fault : Members → Option SettingsFault
-relays_fault document = first_fault (relays_faults document)
-
-unfoldable pub optional_slave_fault : Members → Option SettingsFault
-optional_slave_fault document = first_fault (slave_faults document)
-
--- the first fault of a document, by the first faults of its parts
-abbrev pub fault_by_parts : Members → Option SettingsFault
-fault_by_parts document = first_fault (
-    access_fault document
-    ∷ table_fault Listen document
-    ∷ listen_fault (table_or_empty Listen document)
-    ∷ table_fault Limits document
-    ∷ limits_fault (table_or_empty Limits document)
-    ∷ mounts_fault document
-    ∷ relays_fault document
-    ∷ optional_slave_fault document
-    ∷ repeat_faults document)
 
 -- the settings, if there is no fault
 abbrev pub settings_or_fault : Members → Option SettingsFault → Result Settings SettingsFault

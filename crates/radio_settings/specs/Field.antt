@@ -1,8 +1,8 @@
 -- Fields: texts that heads may show.
 use Rattle.std.specs.Prelude.{◌≡◌, ℕ, List}
 use Rattle.radio_icy.specs.Cleaning.{cleaned}
-use Rattle.radio_icy.specs.declared.TheConstants.{LONGEST_FIELD}
+use Rattle.radio_icy.specs.Limits.{longest_field}
 
 -- a text that cleaning leaves as it is
 abbrev pub IsClean : List ℕ → Type 0
-IsClean text = cleaned LONGEST_FIELD text ≡ text
+IsClean text = cleaned longest_field text ≡ text

@@ -1,5 +1,5 @@
 -- What the definitions say of every text, in the words of the format page.
-use Rattle.std.specs.Prelude.{◌≡◌, ℕ, ◌⊎◌, true, List, ◌∷◌, ◌++◌, Option, None, Some, is_none}
+use Rattle.std.specs.Prelude.{◌≡◌, ℕ, ◌⊎◌, true, false, List, ◌∷◌, ◌++◌, Option, None, Some, is_none}
 use Rattle.std.specs.List.{list_all}
 use Rattle.toml.specs.Data.{Members}
 use Rattle.toml.specs.Parse.{parse_document}
@@ -44,3 +44,7 @@ pub record IsFirstRepeat (names : List (List ℕ)) (name : List ℕ) : Type 0 wh
   pub are_names : names ≡ before ++ name ∷ after
   pub is_repeat : is_among before name ≡ true
   pub none_before : first_repeat before ≡ None
+
+-- no name stands among those before it
+abbrev pub AreApart : List (List ℕ) → Type 0
+AreApart names = (before after : List (List ℕ)) (name : List ℕ) → names ≡ before ++ name ∷ after → is_among before name ≡ false

@@ -5,6 +5,8 @@ pub mod Field
 pub mod Shown
 pub mod Lookup
 pub mod Rows
+pub mod Logins
+pub mod Masters
 pub mod Access
 pub mod Listen
 pub mod Limits
@@ -12,7 +14,9 @@ pub mod Mounts
 pub mod Relays
 pub mod Slave
 pub mod Repeats
+pub mod Places
 pub mod Document
+pub mod Parts
 pub mod Options
 pub mod Reading
 pub mod Laws

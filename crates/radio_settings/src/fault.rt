@@ -1,5 +1,6 @@
 //! What can be wrong with the text of some settings.
-ghost use Rattle.std.specs.Prelude.{◌≡◌, Some};
+ghost use Rattle.std.specs.Prelude.{◌≡◌, ◌++◌, Some};
+ghost use Rattle.std.specs.Fmt.{WritesOnOk};
 ghost use Rattle.radio_settings.specs.Words.{fault_text};
 ghost use Rattle.radio_settings.specs.declared.fault.SettingsFault.TheVariants.{OutOfMemory as NoMemory};
 
@@ -12,7 +13,7 @@ use std::fmt;
 ///
 /// `Display` writes it in words: `not toml`, `missing KEY`, `wrong kind KEY`, `out of range KEY`, `mount twice NAME`,
 /// `bad name KEY`, `out of memory`.
-#[derive(Clone, Copy, Debug, PartialEq, Eq)]
+#[derive(Clone, Copy, PartialEq, Eq)]
 pub enum SettingsFault {
     /// The text is not TOML.
     NotToml,
@@ -36,13 +37,27 @@ impl fmt::Display for SettingsFault {
     fn fmt<W: fmt::Write>(&self, f: &mut fmt::Formatter<W>) -> fmt::Result {
         match self {
             SettingsFault::NotToml => f.write_str("not toml"),
-            SettingsFault::Missing { key } => write!(f, "missing {}", key.word()),
-            SettingsFault::WrongKind { key } => write!(f, "wrong kind {}", key.word()),
-            SettingsFault::OutOfRange { key } => write!(f, "out of range {}", key.word()),
-            SettingsFault::MountTwice { name } => write!(f, "mount twice {name}"),
-            SettingsFault::BadName { key } => write!(f, "bad name {}", key.word()),
+            SettingsFault::Missing { key } => write_both(f, "missing ", key.word()),
+            SettingsFault::WrongKind { key } => write_both(f, "wrong kind ", key.word()),
+            SettingsFault::OutOfRange { key } => write_both(f, "out of range ", key.word()),
+            SettingsFault::MountTwice { name } => write_both(f, "mount twice ", name.as_str()),
+            SettingsFault::BadName { key } => write_both(f, "bad name ", key.word()),
             SettingsFault::OutOfMemory => f.write_str("out of memory"),
         }
+    }
+}
+
+/// Writes what is wrong, and the word for where.
+fn write_both<W: fmt::Write>(f: &mut fmt::Formatter<W>, what: &str, word: &str) -> fmt::Result
+    ensures { WritesOnOk W.write_str_gives f.old result (what.now ++ word.now) f.new }
+{
+    f.write_str(what)?;
+    f.write_str(word)
+}
+
+impl fmt::Debug for SettingsFault {
+    fn fmt<W: fmt::Write>(&self, f: &mut fmt::Formatter<W>) -> fmt::Result {
+        fmt::Display::fmt(self, f)
     }
 }
 

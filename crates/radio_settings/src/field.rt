@@ -1,32 +1,34 @@
 //! What heads show: cleaned texts.
 ghost use Rattle.std.specs.Prelude.{◌≡◌, IfOk};
 ghost use Rattle.radio_icy.specs.Cleaning.{cleaned};
-ghost use Rattle.radio_icy.specs.declared.TheConstants.{LONGEST_FIELD};
+ghost use Rattle.radio_icy.specs.Limits.{longest_field};
 ghost use Rattle.radio_settings.specs.Field.{IsClean};
 
 use crate::OutOfMemory;
 use radio_icy::clean_field;
 use std::alloc::Global;
 use std::marker::Model;
+use std::sync::ArcStr;
 
 /// A text that may be shown in a head: UTF-8 of at most 255 bytes, with no character below U+0020 and no U+007F.
 ///
 /// [`Field::clean`] is the one call that makes one, so each is clean.
+/// A clone shares the text, which is not copied for it.
 #[derive(Drop)]
 pub struct Field {
-    text: String,
+    text: ArcStr,
 }
 
 impl Model for Field {
     ghost use Rattle.std.specs.Prelude.{ℕ, List};
-    ghost use Rattle.std.specs.String.{string_bytes};
+    ghost use Rattle.std.specs.Arc.{arc_str_bytes};
     ghost use Rattle.radio_settings.specs.Field.{IsClean};
 
     ghost Value = { List ℕ };
 
-    ghost view = { λ a. string_bytes a.text };
+    ghost view = { λ a. arc_str_bytes a.text };
 
-    ghost invariant = { λ a. IsClean (string_bytes a.text) };
+    ghost invariant = { λ a. IsClean (arc_str_bytes a.text) };
 }
 
 impl Field {
@@ -34,11 +36,11 @@ impl Field {
     /// that may not be shown, and cut to the longest front of at most 255 bytes that ends between two characters.
     /// An `Err` means that memory ran out.
     pub fn clean(alloc: Global, bytes: &[u8]) -> Result<Field, OutOfMemory>
-        ensures { IfOk result (λ field. field ≡ cleaned LONGEST_FIELD bytes.now) }
+        ensures { IfOk result (λ field. field ≡ cleaned longest_field bytes.now) }
     {
         radio_icy::laws::clean_texts();
         Ok(Field {
-            text: clean_field(alloc, bytes)?,
+            text: ArcStr::from_string(clean_field(alloc, bytes)?)?,
         })
     }
 
@@ -55,11 +57,21 @@ impl Field {
         ensures text { result.now ≡ self.now }
         ensures clean { IsClean self.now }
     {
-        self.text.as_bytes()
+        self.text.as_str().as_bytes()
     }
 }
 
-/// What the heads of a stream's listeners show of it.
+impl Clone for Field {
+    ghost is_clone = { λ field other. other ≡ field };
+
+    fn clone(&self) -> Result<Field, OutOfMemory> {
+        Ok(Field {
+            text: self.text.clone()?,
+        })
+    }
+}
+
+/// What the heads of a stream's listeners show of it. A clone shares the three texts.
 #[derive(Drop)]
 pub struct Shown {
     /// The content type, as in `Content-Type`.
@@ -86,6 +98,18 @@ impl Shown {
             content_type: Field::clean(alloc, content_type)?,
             name: Field::clean(alloc, name)?,
             genre: Field::clean(alloc, genre)?,
+        })
+    }
+}
+
+impl Clone for Shown {
+    ghost is_clone = { λ shown other. other ≡ shown };
+
+    fn clone(&self) -> Result<Shown, OutOfMemory> {
+        Ok(Shown {
+            content_type: self.content_type.clone()?,
+            name: self.name.clone()?,
+            genre: self.genre.clone()?,
         })
     }
 }

@@ -2,8 +2,10 @@
 ghost use Rattle.std.specs.Prelude.{◌≡◌};
 ghost use Rattle.radio_settings.specs.Keys.{word};
 
+use std::fmt;
+
 /// A key of the settings, or the name of a table. A key that stands in two tables is one.
-#[derive(Clone, Copy, Debug, PartialEq, Eq)]
+#[derive(Clone, Copy, PartialEq, Eq)]
 pub enum Key {
     SourcePassword,
     AdminUser,
@@ -102,5 +104,11 @@ impl Key {
             Key::MasterPassword => "master-password",
             Key::MasterUpdateInterval => "master-update-interval",
         }
+    }
+}
+
+impl fmt::Debug for Key {
+    fn fmt<W: fmt::Write>(&self, f: &mut fmt::Formatter<W>) -> fmt::Result {
+        f.write_str(self.word())
     }
 }

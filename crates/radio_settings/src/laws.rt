@@ -9,7 +9,7 @@ ghost use Rattle.radio_settings.specs.declared.key.Key.TheVariants.{SourcePasswo
 ghost use Rattle.radio_settings.specs.declared.settings.Settings.{Settings};
 ghost use Rattle.radio_settings.specs.Document.{reading_of};
 ghost use Rattle.radio_settings.specs.Repeats.{first_repeat};
-ghost use Rattle.radio_settings.specs.Laws.{AreSettingsOf, IsFaultOf, IsFirstRepeat};
+ghost use Rattle.radio_settings.specs.Laws.{AreApart, AreSettingsOf, IsFaultOf, IsFirstRepeat};
 
 /// A text comes to a fault exactly where it is not TOML, or some row of its document has that fault and every row
 /// before it is well; and it comes to settings exactly where it is TOML and every row is well.
@@ -18,9 +18,11 @@ pub fn first_faults()
     ensures settings { (text : List ℕ) (settings : Settings) → (reading_of text ≡ Ok settings) ↔ AreSettingsOf text settings }
 {}
 
-/// The first repeat of some names is a name that stands among those before it, where no name before it does.
+/// The first repeat of some names is a name that stands among those before it, where no name before it does; and there
+/// is none exactly where no name stands among those before it.
 pub fn first_repeats()
-    ensures { (names : List (List ℕ)) (name : List ℕ) → (first_repeat names ≡ Some name) ↔ IsFirstRepeat names name }
+    ensures found { (names : List (List ℕ)) (name : List ℕ) → (first_repeat names ≡ Some name) ↔ IsFirstRepeat names name }
+    ensures apart { (names : List (List ℕ)) → (first_repeat names ≡ None) ↔ AreApart names }
 {}
 
 /// Some texts, and what they come to.

@@ -16,8 +16,8 @@ pub mod laws;
 mod mount_name;
 mod mounts;
 mod options;
+mod places;
 mod reading;
-mod repeats;
 mod settings;
 #[cfg(test)]
 mod tests;
@@ -30,8 +30,9 @@ pub use key::Key;
 pub use mount_name::{LONGEST_MOUNT_NAME, MountName};
 pub use mounts::{MountSettings, RelaySettings};
 pub use settings::{
-    AccessSettings, Bytes, LimitSettings, ListenSettings, MountOptions, MountSetting, Port,
-    RelayLogin, RelaySetting, SecondsOfDay, Settings, SlaveSetting, SomeBytes,
+    AccessSettings, AddressLists, Bytes, LimitSettings, ListenSettings, ListenerOptions, Login,
+    Master, MountOptions, MountSetting, Port, RelayAccess, RelaySetting, SecondsOfDay, Settings,
+    SlaveSetting, SomeBytes, StreamOptions, UserOptions,
 };
 pub use text::Text;
 pub use within::Within;

@@ -6,27 +6,31 @@ ghost use Rattle.radio_settings.specs.Document.{mount_names, local_mounts, repea
 ghost use Rattle.radio_settings.specs.Reading.{Reads, ReadsAs};
 ghost use Rattle.radio_settings.specs.Repeats.{first_repeat};
 
-use crate::repeats::first_repeat;
+use crate::places::{item_at, places_of};
 use crate::{MountName, MountSetting, RelaySetting, SettingsFault};
 use std::alloc::Global;
+use std::collections::BTreeMap;
 use std::marker::Model;
 
 /// The tables `[[mount]]`, in their order. No two have one name.
 #[derive(Drop)]
 pub struct MountSettings {
     list: Vec<MountSetting>,
+    /// Where in the list the one of a name stands.
+    places: BTreeMap<MountName, usize>,
 }
 
 impl Model for MountSettings {
     ghost use Rattle.std.specs.Prelude.{◌≡◌, List, None, map};
     ghost use Rattle.radio_settings.specs.declared.settings.MountSetting.{MountSetting};
+    ghost use Rattle.radio_settings.specs.Places.{HasPlaces};
     ghost use Rattle.radio_settings.specs.Repeats.{first_repeat};
 
     ghost Value = { List MountSetting };
 
     ghost view = { λ a. a.list.items };
 
-    ghost invariant = { λ a. first_repeat (map (λ mount. mount.name) a.list.items) ≡ None };
+    ghost invariant = { λ a. (first_repeat (map (λ mount. mount.name) a.list.items) ≡ None) × HasPlaces a.places (map (λ mount. mount.name) a.list.items) };
 }
 
 impl MountSettings {
@@ -38,10 +42,8 @@ impl MountSettings {
         ensures { Reads (repeat_fault (mount_names list.items)) list.items result }
     {
         let names = names_of_mounts(alloc, list.as_slice())?;
-        match first_repeat(alloc, names.as_slice())? {
-            Some(name) => Err(SettingsFault::MountTwice { name }),
-            None => Ok(MountSettings { list }),
-        }
+        let places = places_of(alloc, names.as_slice())?;
+        Ok(MountSettings { list, places })
     }
 
     /// All of them, in the order of the text.
@@ -56,7 +58,10 @@ impl MountSettings {
     pub fn get(&self, name: &MountName) -> Option<&MountSetting>
         ensures { option_copied result ≡ find (λ mount. bytes_eq mount.name name.now) self.now }
     {
-        self.list.iter().find(|mount| mount.name == *name)
+        match self.places.get(name) {
+            Some(place) => item_at(self.list.as_slice(), *place),
+            None => None,
+        }
     }
 }
 
@@ -64,18 +69,21 @@ impl MountSettings {
 #[derive(Drop)]
 pub struct RelaySettings {
     list: Vec<RelaySetting>,
+    /// Where in the list the one of a name stands.
+    places: BTreeMap<MountName, usize>,
 }
 
 impl Model for RelaySettings {
     ghost use Rattle.std.specs.Prelude.{◌≡◌, List, None, map};
     ghost use Rattle.radio_settings.specs.declared.settings.RelaySetting.{RelaySetting};
+    ghost use Rattle.radio_settings.specs.Places.{HasPlaces};
     ghost use Rattle.radio_settings.specs.Repeats.{first_repeat};
 
     ghost Value = { List RelaySetting };
 
     ghost view = { λ a. a.list.items };
 
-    ghost invariant = { λ a. first_repeat (map (λ relay. relay.local_mount) a.list.items) ≡ None };
+    ghost invariant = { λ a. (first_repeat (map (λ relay. relay.local_mount) a.list.items) ≡ None) × HasPlaces a.places (map (λ relay. relay.local_mount) a.list.items) };
 }
 
 impl RelaySettings {
@@ -87,10 +95,8 @@ impl RelaySettings {
         ensures { Reads (repeat_fault (local_mounts list.items)) list.items result }
     {
         let names = local_mounts_of(alloc, list.as_slice())?;
-        match first_repeat(alloc, names.as_slice())? {
-            Some(name) => Err(SettingsFault::MountTwice { name }),
-            None => Ok(RelaySettings { list }),
-        }
+        let places = places_of(alloc, names.as_slice())?;
+        Ok(RelaySettings { list, places })
     }
 
     /// All of them, in the order of the text.
@@ -105,9 +111,10 @@ impl RelaySettings {
     pub fn get(&self, local_mount: &MountName) -> Option<&RelaySetting>
         ensures { option_copied result ≡ find (λ relay. bytes_eq relay.local_mount local_mount.now) self.now }
     {
-        self.list
-            .iter()
-            .find(|relay| relay.local_mount == *local_mount)
+        match self.places.get(local_mount) {
+            Some(place) => item_at(self.list.as_slice(), *place),
+            None => None,
+        }
     }
 }
 

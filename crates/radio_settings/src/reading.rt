@@ -3,6 +3,8 @@ mod access;
 mod document;
 mod limits;
 mod listen;
+mod logins;
+mod masters;
 mod mounts;
 mod relays;
 mod slave;

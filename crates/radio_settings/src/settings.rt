@@ -38,14 +38,35 @@ pub struct Settings {
 pub struct AccessSettings {
     /// What a source client sends, where its mount sets no password of its own.
     pub source_password: Text,
-    /// Who the admin is.
-    pub admin_user: Text,
-    /// What the admin sends.
-    pub admin_password: Text,
-    /// Who asks for the list of streams.
-    pub relay_user: Text,
-    /// What they send; with none, everybody is turned away but the admin.
-    pub relay_password: Option<Text>,
+    /// The admin: `admin-user` and `admin-password`.
+    pub admin: Login,
+    /// Who may ask for the list of streams.
+    pub relays: RelayAccess,
+    /// Lists of addresses.
+    pub addresses: AddressLists,
+}
+
+/// A user and a password.
+#[derive(Drop)]
+pub struct Login {
+    /// The user.
+    pub username: Text,
+    /// The password.
+    pub password: Text,
+}
+
+/// Who may ask for the list of streams beside the admin: `relay-user` and `relay-password`.
+#[derive(Drop)]
+pub struct RelayAccess {
+    /// The user.
+    pub username: Text,
+    /// The password; with none, everybody is turned away but the admin.
+    pub password: Option<Text>,
+}
+
+/// The lists of addresses that hold for all clients.
+#[derive(Drop)]
+pub struct AddressLists {
     /// The path of a list of addresses that are denied.
     pub deny_ip: Option<Text>,
     /// The path of a list of addresses, all others of which are denied.
@@ -92,10 +113,19 @@ pub struct MountSetting {
 /// What a mount may set, with every default in its place.
 #[derive(Drop)]
 pub struct MountOptions {
-    /// Who its source is.
-    pub username: Text,
-    /// What its source sends.
-    pub password: Text,
+    /// Its source: `username` and `password`.
+    pub source: Login,
+    /// How many may listen and how long, and where they go.
+    pub listeners: ListenerOptions,
+    /// What its listeners are sent.
+    pub stream: StreamOptions,
+    /// Who may listen.
+    pub users: UserOptions,
+}
+
+/// How many may listen to a mount and how long, and where they go.
+#[derive(Clone, Copy)]
+pub struct ListenerOptions {
     /// How many listeners it may have at once; `None` for no limit.
     pub max_listeners: Option<Within<0, 1_000_000>>,
     /// After how many seconds a listener is ended; `None` for no limit.
@@ -106,6 +136,11 @@ pub struct MountOptions {
     pub fallback_override: bool,
     /// Whether a listener goes to the fallback where the mount is full.
     pub fallback_when_full: bool,
+}
+
+/// What the listeners of a mount are sent, and whether it is listed.
+#[derive(Drop)]
+pub struct StreamOptions {
     /// Whether the mount stands in no public listing.
     pub hidden: bool,
     /// How many bytes a new listener is sent at once.
@@ -116,6 +151,11 @@ pub struct MountOptions {
     pub stream_name: Option<Field>,
     /// The genre; `None` for the source's.
     pub genre: Option<Field>,
+}
+
+/// Who may listen to a mount.
+#[derive(Drop)]
+pub struct UserOptions {
     /// The path of its user list; `None` for an open mount.
     pub htpasswd: Option<Text>,
     /// Whether a user may listen twice at once.
@@ -125,40 +165,34 @@ pub struct MountOptions {
 /// A table `[[relay]]`: a mount of another server that is pulled in.
 #[derive(Drop)]
 pub struct RelaySetting {
-    /// The master's name or address.
-    pub server: Field,
-    /// The master's port.
-    pub port: Port,
+    /// The other server: `server` and `port`.
+    pub master: Master,
     /// The mount to pull.
     pub mount: MountName,
     /// The mount that it feeds here.
     pub local_mount: MountName,
     /// What is sent to the master; `None` for nothing.
-    pub login: Option<RelayLogin>,
+    pub login: Option<Login>,
     /// Whether it is pulled only while somebody listens. Never, as yet.
     pub on_demand: bool,
 }
 
-/// Who a relay is to its master.
+/// A server that streams are pulled from.
 #[derive(Drop)]
-pub struct RelayLogin {
-    /// The user.
-    pub username: Text,
-    /// The password.
-    pub password: Text,
+pub struct Master {
+    /// Its name or address.
+    pub server: Field,
+    /// Its port.
+    pub port: Port,
 }
 
 /// The table `[slave]`: a master whose mounts are all pulled in.
 #[derive(Drop)]
 pub struct SlaveSetting {
-    /// The master's name or address.
-    pub master_server: Field,
-    /// The master's port.
-    pub master_port: Port,
-    /// Who this server is to the master.
-    pub master_username: Text,
-    /// What is sent to the master.
-    pub master_password: Text,
+    /// The master: `master-server` and `master-port`.
+    pub master: Master,
+    /// What is sent to the master: `master-username` and `master-password`.
+    pub login: Login,
     /// After how many seconds the list of streams is asked for again.
     pub master_update_interval: SecondsOfDay,
 }

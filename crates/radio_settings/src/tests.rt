@@ -3,10 +3,10 @@
 
 mod every_key;
 mod faults;
+mod many;
 mod memory;
 mod names;
 mod ranges;
-mod words;
 
 use crate::{MountName, OutOfMemory, Settings, SettingsFault};
 use std::alloc::Global;
@@ -21,26 +21,22 @@ fn fault_of(alloc: Global, text: &str) -> Option<SettingsFault> {
     Settings::read(alloc, text).err()
 }
 
-/// The same in words, `none` among them.
-fn fault_in_words(alloc: Global, text: &str) -> Result<String, OutOfMemory> {
-    match fault_of(alloc, text) {
-        Some(fault) => fault.to_string(alloc),
-        None => "none".to_string(alloc),
+/// Whether the fault is this one in words; `none` for none.
+fn is_told_as(
+    alloc: Global,
+    fault: Option<SettingsFault>,
+    want: &str,
+) -> Result<bool, OutOfMemory> {
+    match fault {
+        Some(fault) => Ok(fault.to_string(alloc)?.as_str() == want),
+        None => Ok(want == "none"),
     }
 }
 
-/// A text behind some lines has this fault.
-fn has_fault(
-    rt: &impl Abort,
-    alloc: Global,
-    before: &str,
-    rest: &str,
-    want: &str,
-) -> Result<(), Fail> {
-    let text = format!(in alloc; "{before}{rest}")?;
-    let fault = fault_in_words(alloc, text.as_str())?;
-    assert_eq!(rt; fault.as_str(), want, "{rest}");
-    Ok(())
+/// Whether a text behind some lines has this fault.
+fn has_fault(alloc: Global, before: &str, rest: &str, want: &str) -> Result<bool, OutOfMemory> {
+    let text = [before, rest].concat(alloc)?;
+    is_told_as(alloc, fault_of(alloc, text.as_str()), want)
 }
 
 /// Each text of a table, behind the same lines, has the fault beside it.
@@ -51,11 +47,7 @@ fn have_faults(
     table: &[(&str, &str)],
 ) -> Result<(), Fail> {
     for (rest, want) in table {
-        has_fault(rt, alloc, before, rest, want)?;
+        assert!(rt; has_fault(alloc, before, rest, want)?, "{rest}");
     }
     Ok(())
-}
-
-fn named(name: &str) -> Result<MountName, Fail> {
-    Ok(MountName::read(name.as_bytes()).ok_or("no name of a mount")?)
 }

@@ -4,20 +4,23 @@ ghost use Rattle.std.specs.Prelude.{◌≡◌, IfOk};
 use crate::OutOfMemory;
 use std::alloc::Global;
 use std::marker::Model;
+use std::sync::ArcStr;
 
 /// A text of the settings, as it stands there: a user, a password, an address or a path.
+///
+/// A clone shares the text, which is not copied for it.
 #[derive(Drop)]
 pub struct Text {
-    text: String,
+    text: ArcStr,
 }
 
 impl Model for Text {
     ghost use Rattle.std.specs.Prelude.{ℕ, List};
-    ghost use Rattle.std.specs.String.{string_bytes};
+    ghost use Rattle.std.specs.Arc.{arc_str_bytes};
 
     ghost Value = { List ℕ };
 
-    ghost view = { λ a. string_bytes a.text };
+    ghost view = { λ a. arc_str_bytes a.text };
 }
 
 impl Text {
@@ -26,7 +29,7 @@ impl Text {
         ensures { IfOk result (λ made. made ≡ text.now) }
     {
         Ok(Text {
-            text: String::from_str(alloc, text)?,
+            text: ArcStr::from_str(alloc, text)?,
         })
     }
 
@@ -41,6 +44,33 @@ impl Text {
     pub fn as_bytes(&self) -> &[u8]
         ensures { result.now ≡ self.now }
     {
-        self.text.as_bytes()
+        self.text.as_str().as_bytes()
+    }
+}
+
+impl Clone for Text {
+    ghost is_clone = { λ text other. other ≡ text };
+
+    fn clone(&self) -> Result<Text, OutOfMemory> {
+        Ok(Text {
+            text: self.text.clone()?,
+        })
+    }
+}
+
+#[cfg(test)]
+mod tests {
+    use super::*;
+
+    /// Whether another handle on a text has the same text.
+    fn is_shared(alloc: Global, text: &str) -> Result<bool, OutOfMemory> {
+        let made = Text::new(alloc, text)?;
+        let other = made.clone()?;
+        Ok(other.as_str() == text)
+    }
+
+    #[test]
+    fn shares(rt: HostRuntime) {
+        assert!(rt; is_shared(rt.alloc(), "hackme") == Ok(true));
     }
 }

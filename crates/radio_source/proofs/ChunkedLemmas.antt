@@ -7,7 +7,6 @@ use Rattle.std.proofs.lemmas.List.Elements.{All-head, All-tail}
 use Rattle.httparse.specs.Ascii.{crlf_bytes, line_feed, carriage_return}
 use Rattle.httparse.specs.Grammar.{ChunkLine, IsChunkLine, print_chunk_line, chunk_size, ReadsChunkLine, LineEnd, crlf, lf, print_end}
 use Rattle.httparse.proofs.ChunkLemmas.{chunk_line_unique, ReadsChunkLine-append}
-use Rattle.radio_source.specs.declared.position.TheConstants.{LONGEST_LINE, LONGEST_TRAILERS}
 use Rattle.radio_source.specs.declared.chunk_line.LineReading.TheVariants.{Unfinished}
 use Rattle.radio_source.specs.ChunkLine.{chunk_line_in}
 use Rattle.radio_source.specs.Place.{Place, InSized, InLine, InChunk, AtTrailer, AfterTrailerReturn, InTrailer, AtEnd, PastTheEnd, Broken, after_byte, brought_by, after_size, in_trailer, after, data_of, has_ended, fault_at}
@@ -68,7 +67,7 @@ line_rest l short held b [] e =
     refl computes
 line_rest l short held b (c ∷ more) e =
     let longer : (held ++ b ∷ []) ++ c ∷ more ≡ print_chunk_line l = append_assoc held (b ∷ []) (c ∷ more) ∙ e in
-    let room : length (held ++ b ∷ []) < LONGEST_LINE = omega (arith, short.1, ap length longer, length-append (held ++ b ∷ []) (c ∷ more)) in
+    let room : length (held ++ b ∷ []) < 256 = omega (arith, short.1, ap length longer, length-append (held ++ b ∷ []) (c ∷ more)) in
     Leads-byte {p = InLine held} {q = InLine (held ++ b ∷ [])}
     (after_line_unfinished (held ++ b ∷ []) (part_is_unfinished l short.0 (held ++ b ∷ []) c more longer) room)
     refl (line_rest l short (held ++ b ∷ []) c more longer)
@@ -101,6 +100,15 @@ chunk_leads c valid =
 pub chunks_lead : (chunks : List Chunk) → All IsChunk chunks → Leads (InLine []) (print_chunks chunks) (content_of chunks) (InLine [])
 chunks_lead [] valid = computes
 chunks_lead (c ∷ chunks) valid = Leads-append (chunk_leads c (All-head IsChunk c chunks valid)) (chunks_lead chunks (All-tail IsChunk c chunks valid))
+
+-- chunks, the line of one more, and a front of its data
+pub front_leads : (chunks : List Chunk) (line : ChunkLine) (front : List ℕ) → All IsChunk chunks → IsShortLine line → 0 < chunk_size line → length front ≤ chunk_size line
+    → Leads (InLine []) (print_chunks chunks ++ (print_chunk_line line ++ front)) (content_of chunks ++ front) (InChunk (chunk_size line - length front))
+front_leads chunks line front valid short some fits =
+    let n = chunk_size line in
+    let begun : Leads (InLine []) (print_chunk_line line) [] (InChunk n) = subst (λ (p : Place). Leads (InLine []) (print_chunk_line line) [] p) (size_some n some) (line_leads line short) in
+    let content : Leads (InChunk n) front front (InChunk (n - length front)) = record { goes = after_chunk n (n - length front) front (omega arith); brings = data_of_chunk n (n - length front) front (omega arith) } in
+    Leads-append (chunks_lead chunks valid) (Leads-append begun content)
 
 -- ---- trailers
 
@@ -176,9 +184,9 @@ end_leads left lf = computes
 
 pub body_leads : (b : ChunkedBody) → IsBody b → Leads (InLine []) (print_body b) (content_of b.chunks) AtEnd
 body_leads b valid =
-    let line : Leads (InLine []) (print_chunk_line b.last) [] (AtTrailer LONGEST_TRAILERS) = subst (λ (p : Place). Leads (InLine []) (print_chunk_line b.last) [] p) (ap after_size valid.is_last) (line_leads b.last valid.last) in
-    let trailers = trailers_lead LONGEST_TRAILERS b.trailers valid.trailers valid.fits in
-    let end = end_leads (LONGEST_TRAILERS - length (print_trailers b.trailers)) b.end in
+    let line : Leads (InLine []) (print_chunk_line b.last) [] (AtTrailer 4096) = subst (λ (p : Place). Leads (InLine []) (print_chunk_line b.last) [] p) (ap after_size valid.is_last) (line_leads b.last valid.last) in
+    let trailers = trailers_lead 4096 b.trailers valid.trailers valid.fits in
+    let end = end_leads (4096 - length (print_trailers b.trailers)) b.end in
     subst (λ (t : List ℕ). Leads (InLine []) (print_body b) t AtEnd) (append-nil (content_of b.chunks))
     (Leads-append (chunks_lead b.chunks valid.chunks) (Leads-append line (Leads-append trailers end)))
 

@@ -5,7 +5,7 @@ use Rattle.radio_source.specs.declared.body.Blocks.{Blocks}
 use Rattle.radio_source.specs.declared.fault.BodyFault.TheVariants.{OutOfMemory as NoMemory}
 use Rattle.radio_source.specs.declared.fault.BodyFault.{BodyFault}
 use Rattle.radio_source.specs.Place.{Place, after, data_of, has_ended, fault_at}
-use Rattle.radio_source.specs.Blocks.{blocks_of}
+use Rattle.radio_blocks.specs.Cutting.{blocks_of}
 use Rattle.radio_source.specs.Feeding.{Feeding, Answer, Refuses, answer_with, answer_to}
 
 pub answer_to-found : (body : Feeding) (piece : List ℕ) (blocks : List (List ℕ)) (found : List ℕ) (ends : Bool) (place : Place) (fault : Option BodyFault) → body.has_failed ≡ false → place ≡ after body.place piece → found ≡ data_of body.place piece → blocks ≡ blocks_of found → ends ≡ (has_ended place && not body.is_end_told) → fault ≡ fault_at place → answer_to body piece ≡ answer_with blocks ends fault

@@ -1,4 +1,3 @@
-pub mod BlockLemmas
 pub mod PlaceLemmas
 pub mod ChunkLineLemmas
 pub mod FeedingLemmas

@@ -3,7 +3,6 @@ use Rattle.std.proofs.Common.{◌≡◌, ℕ, zero, suc, ◌+◌, ◌-◌, ◌<�
 use Rattle.std.proofs.lemmas.Bool.{cases_Bool, cases_lt, eqb-true, ltb-true}
 use Rattle.httparse.specs.Ascii.{crlf_bytes, line_feed, carriage_return}
 use Rattle.httparse.specs.Grammar.{ChunkLine, print_chunk_line, chunk_size, ReadsChunkLine}
-use Rattle.radio_source.specs.declared.position.TheConstants.{LONGEST_LINE, LONGEST_TRAILERS}
 use Rattle.radio_source.specs.declared.fault.BodyFault.{BodyFault}
 use Rattle.radio_source.specs.declared.chunk_line.LineReading.{LineReading}
 use Rattle.radio_source.specs.declared.chunk_line.LineReading.TheVariants.{Unfinished, Whole, Refused}
@@ -22,16 +21,16 @@ by_test true x y yes_case no_case = yes_case refl
 by_test false x y yes_case no_case = no_case refl
 
 size_on : (size : ℕ) → IsOnTheWay (after_size size)
-size_on size = by_test (eqb size 0) (AtTrailer LONGEST_TRAILERS) (InChunk size) (λ _. tt) (λ _. tt)
+size_on size = by_test (eqb size 0) (AtTrailer 4096) (InChunk size) (λ _. tt) (λ _. tt)
 
 line_on : (line : List ℕ) (r : LineReading) → chunk_line_in line ≡ r → IsOnTheWay (after_line line)
 line_on line Refused h = subst IsOnTheWay (sym (after_line_refused line h)) tt
 line_on line (Whole size) h = subst IsOnTheWay (sym (after_line_whole line size h)) (size_on size)
 line_on line Unfinished h =
     ⊎_elim
-    (λ (short : length line < LONGEST_LINE). subst IsOnTheWay (sym (after_line_unfinished line h short)) (h, short))
-    (λ (long : LONGEST_LINE ≤ length line). subst IsOnTheWay (sym (after_line_too_long line h long)) tt)
-    (cases_lt (length line) LONGEST_LINE)
+    (λ (short : length line < 256). subst IsOnTheWay (sym (after_line_unfinished line h short)) (h, short))
+    (λ (long : 256 ≤ length line). subst IsOnTheWay (sym (after_line_too_long line h long)) tt)
+    (cases_lt (length line) 256)
 
 trailer_on : (left n : ℕ) → IsOnTheWay (in_trailer left n)
 trailer_on left n =
@@ -83,16 +82,16 @@ size_can size =
     (λ (t : eqb size 0 ≡ false). subst CanEnd (sym (chunk_place size t)) (chunk_can size))
     (cases_Bool (eqb size 0))
 
-held_with : (held more : List ℕ) (l : ChunkLine) → chunk_line_in held ≡ Unfinished → length held + 3 ≤ LONGEST_LINE → ReadsChunkLine (held ++ more) l [] → length more ≤ 3 → CanEnd (InLine held)
+held_with : (held more : List ℕ) (l : ChunkLine) → chunk_line_in held ≡ Unfinished → length held + 3 ≤ 256 → ReadsChunkLine (held ++ more) l [] → length more ≤ 3 → CanEnd (InLine held)
 held_with held [] l h room x near =
     let whole : ReadsChunkLine held l [] = subst (λ (t : List ℕ). ReadsChunkLine t l []) (append-nil held) x in
     absurd (unlike (sym h ∙ reads_whole held l [] whole))
 held_with held (b ∷ rest) l h room x near =
     let reads : held ++ b ∷ rest ≡ print_chunk_line l = x.1 ∙ append-nil (print_chunk_line l) in
-    let short : length (print_chunk_line l) ≤ LONGEST_LINE = omega (arith, ap length reads, length-append held (b ∷ rest)) in
+    let short : length (print_chunk_line l) ≤ 256 = omega (arith, ap length reads, length-append held (b ∷ rest)) in
     CanEnd-after (InLine held) (after_size (chunk_size l)) (b ∷ rest) (line_rest l (x.0, short) held b rest reads).goes (size_can (chunk_size l))
 
-held_can : (held : List ℕ) → chunk_line_in held ≡ Unfinished → length held + 3 ≤ LONGEST_LINE → CanEnd (InLine held)
+held_can : (held : List ℕ) → chunk_line_in held ≡ Unfinished → length held + 3 ≤ 256 → CanEnd (InLine held)
 held_can held h room = let x = unfinished_is_near held h in held_with held x.0 x.1 h room x.2 x.3
 
 some_fault : {fault : BodyFault} → Some fault ≡ None → ⊥

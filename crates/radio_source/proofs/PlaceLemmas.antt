@@ -1,7 +1,6 @@
 -- Pieces one after another, and runs of data.
 use Rattle.std.proofs.Common.{◌≡◌, ◌≢◌, ℕ, zero, suc, ◌+◌, ◌-◌, ◌<◌, ◌≤◌, List, [], ◌∷◌, ◌++◌, length, ap, sym, ◌∙◌, refl, arith, append_assoc}
 use Rattle.std.proofs.lemmas.Bool.{lt-ltb, le-ltb, ne_eqb}
-use Rattle.radio_source.specs.declared.position.TheConstants.{LONGEST_LINE, LONGEST_TRAILERS}
 use Rattle.radio_source.specs.declared.chunk_line.LineReading.TheVariants.{Unfinished, Whole, Refused}
 use Rattle.radio_source.specs.ChunkLine.{chunk_line_in}
 use Rattle.radio_source.specs.Place.{after_line, after_size, Place, InPlain, InSized, InLine, InChunk, AfterReturn, AtTrailer, AfterTrailerReturn, InTrailer, AtEnd, PastTheEnd, Broken, after_byte, brought_by, after, data_of}
@@ -137,13 +136,13 @@ none_of_one PastTheEnd n e = refl
 none_of_one Broken n e = refl
 
 -- what a reading makes of a chunk line
-pub after_line_unfinished : (line : List ℕ) → chunk_line_in line ≡ Unfinished → length line < LONGEST_LINE → after_line line ≡ InLine line
+pub after_line_unfinished : (line : List ℕ) → chunk_line_in line ≡ Unfinished → length line < 256 → after_line line ≡ InLine line
 unfolding after_line
-after_line_unfinished line h short = rw (h, lt-ltb (length line) LONGEST_LINE short) refl
+after_line_unfinished line h short = rw (h, lt-ltb (length line) 256 short) refl
 
-pub after_line_too_long : (line : List ℕ) → chunk_line_in line ≡ Unfinished → LONGEST_LINE ≤ length line → after_line line ≡ Broken
+pub after_line_too_long : (line : List ℕ) → chunk_line_in line ≡ Unfinished → 256 ≤ length line → after_line line ≡ Broken
 unfolding after_line
-after_line_too_long line h long = rw (h, le-ltb (length line) LONGEST_LINE long) refl
+after_line_too_long line h long = rw (h, le-ltb (length line) 256 long) refl
 
 pub after_line_refused : (line : List ℕ) → chunk_line_in line ≡ Refused → after_line line ≡ Broken
 unfolding after_line
@@ -153,7 +152,7 @@ pub after_line_whole : (line : List ℕ) (size : ℕ) → chunk_line_in line ≡
 unfolding after_line
 after_line_whole line size h = rw h refl
 
-pub after_last_line : (line : List ℕ) (size : ℕ) → chunk_line_in line ≡ Whole size → size ≡ 0 → after_line line ≡ AtTrailer LONGEST_TRAILERS
+pub after_last_line : (line : List ℕ) (size : ℕ) → chunk_line_in line ≡ Whole size → size ≡ 0 → after_line line ≡ AtTrailer 4096
 after_last_line line size h none = after_line_whole line size h ∙ ap after_size none
 
 pub after_chunk_line : (line : List ℕ) (size : ℕ) → chunk_line_in line ≡ Whole size → size ≢ 0 → after_line line ≡ InChunk size

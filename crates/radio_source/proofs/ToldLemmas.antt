@@ -1,47 +1,15 @@
 -- What a body tells over all its feeds.
-use Rattle.std.proofs.Common.{◌≡◌, ℕ, zero, suc, ◌≤◌, Bool, true, false, not, ◌&&◌, ◌||◌, List, [], ◌∷◌, ◌++◌, length, take, drop, ap, sym, ◌∙◌, refl, arith, append_assoc, append-nil, length-drop, Some, None, ⊎_elim}
+use Rattle.std.proofs.Common.{◌≡◌, ℕ, zero, suc, Bool, true, false, not, ◌&&◌, ◌||◌, List, [], ◌∷◌, ◌++◌, ap, sym, ◌∙◌, refl, append_assoc, append-nil, Some, None, ⊎_elim}
 use Rattle.std.proofs.lemmas.Bool.{cases_Bool, false≢true}
 use Rattle.std.specs.List.{concat}
-use Rattle.std.proofs.lemmas.List.{map-append, take-append-drop, length-take}
-use Rattle.std.proofs.lemmas.List.Elements.{All-cons}
-use Rattle.radio_blocks.specs.declared.block.TheConstants.{MAX_BLOCK}
-use Rattle.radio_blocks.specs.Block.{IsBlock}
-use Rattle.std.specs.Prelude.{All}
+use Rattle.std.proofs.lemmas.List.{map-append}
 use Rattle.radio_source.specs.declared.fault.BodyFault.{BodyFault}
 use Rattle.radio_source.specs.declared.fault.BodyFault.TheVariants.{BadChunk, PastEnd}
 use Rattle.radio_source.specs.Place.{Place, InPlain, InSized, InLine, InChunk, AfterReturn, AtTrailer, AfterTrailerReturn, InTrailer, AtEnd, PastTheEnd, Broken, after, data_of, has_ended, fault_at}
-use Rattle.radio_source.specs.Blocks.{cut_into, blocks_of}
+use Rattle.radio_blocks.specs.Cutting.{blocks_of}
 use Rattle.radio_source.specs.Feeding.{Feeding, unfed, Refuses, answer_with, is_refusal, answer_to, after_feed}
 use Rattle.radio_source.specs.Told.{Telling, TellsByte, TellsEnd, TellsFault, bytes_told, end_told, fault_told, told_in, told_by_feeds, all_told}
-use Rattle.radio_source.proofs.BlockLemmas.{blocks_of-nil}
 use Rattle.radio_source.proofs.PlaceLemmas.{after-append, data_of-append}
-
--- ---- blocks
-
-cut_into-concat : (pieces : ℕ) (bytes : List ℕ) → length bytes ≤ pieces → concat (cut_into pieces bytes) ≡ bytes
-cut_into-concat zero [] h = refl
-cut_into-concat zero (b ∷ bytes) h = absurd (omega arith)
-cut_into-concat (suc pieces) [] h = refl
-cut_into-concat (suc pieces) (b ∷ bytes) h =
-    let less = length-drop MAX_BLOCK (b ∷ bytes) in
-    ap (λ t. take MAX_BLOCK (b ∷ bytes) ++ t) (cut_into-concat pieces (drop MAX_BLOCK (b ∷ bytes)) (omega (arith, less)))
-    ∙ take-append-drop MAX_BLOCK (b ∷ bytes)
-
-pub blocks_of-concat : (bytes : List ℕ) → concat (blocks_of bytes) ≡ bytes
-unfolding blocks_of
-blocks_of-concat bytes = cut_into-concat (length bytes) bytes (omega arith)
-
-cut_into-blocks : (pieces : ℕ) (bytes : List ℕ) → All IsBlock (cut_into pieces bytes)
-cut_into-blocks zero bytes = λ k d h. absurd (omega arith)
-cut_into-blocks (suc pieces) [] = λ k d h. absurd (omega arith)
-cut_into-blocks (suc pieces) (b ∷ bytes) =
-    let size = length-take MAX_BLOCK (b ∷ bytes) in
-    All-cons IsBlock (take MAX_BLOCK (b ∷ bytes)) (cut_into pieces (drop MAX_BLOCK (b ∷ bytes)))
-    (omega (arith, size), omega (arith, size)) (cut_into-blocks pieces (drop MAX_BLOCK (b ∷ bytes)))
-
-pub blocks_of-IsBlock : (bytes : List ℕ) → All IsBlock (blocks_of bytes)
-unfolding blocks_of
-blocks_of-IsBlock bytes = cut_into-blocks (length bytes) bytes
 
 -- ---- after the end, and at a fault, nothing more comes
 
@@ -100,9 +68,13 @@ rest_from false place told bytes =
     bytes_told (data_of place bytes)
     ++ (end_told (has_ended (after place bytes) && not told) ++ fault_told (fault_at (after place bytes)))
 
+-- blocks are their data
+abbrev pub Joined : Type 0
+Joined = (bytes : List ℕ) → concat (blocks_of bytes) ≡ bytes
+
 -- an answer with no fault
-told_without_fault : (found : List ℕ) (ends : Bool) → told_in (answer_with (blocks_of found) ends None) ≡ bytes_told found ++ end_told ends
-told_without_fault found ends = ap (λ t. bytes_told t ++ end_told ends) (blocks_of-concat found)
+told_without_fault : Joined → (found : List ℕ) (ends : Bool) → told_in (answer_with (blocks_of found) ends None) ≡ bytes_told found ++ end_told ends
+told_without_fault joined found ends = ap (λ t. bytes_told t ++ end_told ends) (joined found)
 
 or_false : (b : Bool) → (b || false) ≡ b
 or_false true = refl
@@ -198,15 +170,15 @@ step_failed : (body : Feeding) (piece more : List ℕ) → body.has_failed ≡ t
 unfolding answer_to after_feed
 step_failed body piece more failed = rw failed refl
 
-step_sound : (body : Feeding) (piece more : List ℕ) → body.has_failed ≡ false → told_in (answer_to body piece) ++ rest_of (after_feed body piece) more ≡ rest_of body (piece ++ more)
+step_sound : Joined → (body : Feeding) (piece more : List ℕ) → body.has_failed ≡ false → told_in (answer_to body piece) ++ rest_of (after_feed body piece) more ≡ rest_of body (piece ++ more)
 unfolding answer_to after_feed
-step_sound body piece more sound =
+step_sound joined body piece more sound =
     rw (sound, after-append body.place piece more, data_of-append body.place piece more)
-    (step_at (blocks_of (data_of body.place piece)) (data_of body.place piece) (after body.place piece) body.is_end_told more (blocks_of-concat (data_of body.place piece)))
+    (step_at (blocks_of (data_of body.place piece)) (data_of body.place piece) (after body.place piece) body.is_end_told more (joined (data_of body.place piece)))
 
-step : (body : Feeding) (piece more : List ℕ) → told_in (answer_to body piece) ++ rest_of (after_feed body piece) more ≡ rest_of body (piece ++ more)
-step body piece more =
-    ⊎_elim (λ (h : body.has_failed ≡ true). step_failed body piece more h) (λ (h : body.has_failed ≡ false). step_sound body piece more h) (cases_Bool body.has_failed)
+step : Joined → (body : Feeding) (piece more : List ℕ) → told_in (answer_to body piece) ++ rest_of (after_feed body piece) more ≡ rest_of body (piece ++ more)
+step joined body piece more =
+    ⊎_elim (λ (h : body.has_failed ≡ true). step_failed body piece more h) (λ (h : body.has_failed ≡ false). step_sound joined body piece more h) (cases_Bool body.has_failed)
 
 -- a body whose empty feed tells all that is left: where a fault stands, the end is told
 abbrev Settles : Feeding → Type 0
@@ -229,42 +201,42 @@ settles_told AtEnd told = rw (or_true told) refl
 settles_told PastTheEnd told = rw (or_true told) refl
 settles_told Broken told = refl
 
-Settles-unfed : (place : Place) → fault_at place ≡ None → Settles (unfed place)
+Settles-unfed : blocks_of [] ≡ [] → (place : Place) → fault_at place ≡ None → Settles (unfed place)
 unfolding answer_to
-Settles-unfed place h = rw blocks_of-nil (settles_last place false h)
+Settles-unfed none place h = rw none (settles_last place false h)
 
 Settles-failed : (body : Feeding) → body.has_failed ≡ true → Settles body
 unfolding answer_to
 Settles-failed body failed = rw failed refl
 
-Settles-told : (body : Feeding) (place : Place) (told : Bool) → body.has_failed ≡ false → body.place ≡ place → body.is_end_told ≡ (told || has_ended place) → Settles body
+Settles-told : blocks_of [] ≡ [] → (body : Feeding) (place : Place) (told : Bool) → body.has_failed ≡ false → body.place ≡ place → body.is_end_told ≡ (told || has_ended place) → Settles body
 unfolding answer_to
-Settles-told body place told sound at end = rw (sound, end, at, blocks_of-nil) (settles_told place told)
+Settles-told none body place told sound at end = rw (sound, end, at, none) (settles_told place told)
 
-Settles-after : (body : Feeding) (piece : List ℕ) → Settles body → Settles (after_feed body piece)
+Settles-after : blocks_of [] ≡ [] → (body : Feeding) (piece : List ℕ) → Settles body → Settles (after_feed body piece)
 unfolding after_feed
-Settles-after body piece h =
+Settles-after none body piece h =
     ⊎_elim
     (λ (failed : body.has_failed ≡ true). Settles-failed (after_feed body piece) (rw failed refl))
     (λ (sound : body.has_failed ≡ false).
     ⊎_elim
     (λ (refused : (after_feed body piece).has_failed ≡ true). Settles-failed (after_feed body piece) refused)
     (λ (goes_on : (after_feed body piece).has_failed ≡ false).
-    Settles-told (after_feed body piece) (after body.place piece) body.is_end_told goes_on (rw sound refl) (rw sound refl))
+    Settles-told none (after_feed body piece) (after body.place piece) body.is_end_told goes_on (rw sound refl) (rw sound refl))
     (cases_Bool (after_feed body piece).has_failed))
     (cases_Bool body.has_failed)
 
-told_at_last : (body : Feeding) (pieces : List (List ℕ)) → Settles body → told_by_feeds body (pieces ++ [] ∷ []) ≡ rest_of body (concat pieces)
-told_at_last body [] h = append-nil (told_in (answer_to body [])) ∙ h
-told_at_last body (piece ∷ pieces) h =
-    ap (λ t. told_in (answer_to body piece) ++ t) (told_at_last (after_feed body piece) pieces (Settles-after body piece h))
-    ∙ step body piece (concat pieces)
+told_at_last : Joined → blocks_of [] ≡ [] → (body : Feeding) (pieces : List (List ℕ)) → Settles body → told_by_feeds body (pieces ++ [] ∷ []) ≡ rest_of body (concat pieces)
+told_at_last joined none body [] h = append-nil (told_in (answer_to body [])) ∙ h
+told_at_last joined none body (piece ∷ pieces) h =
+    ap (λ t. told_in (answer_to body piece) ++ t) (told_at_last joined none (after_feed body piece) pieces (Settles-after none body piece h))
+    ∙ step joined body piece (concat pieces)
 
 and_true : (b : Bool) → (b && true) ≡ b
 and_true true = refl
 and_true false = refl
 
-pub cuts : (place : Place) (pieces : List (List ℕ)) → fault_at place ≡ None → told_by_feeds (unfed place) (pieces ++ [] ∷ []) ≡ all_told place (concat pieces)
-cuts place pieces h =
-    told_at_last (unfed place) pieces (Settles-unfed place h)
+pub cuts : Joined → blocks_of [] ≡ [] → (place : Place) (pieces : List (List ℕ)) → fault_at place ≡ None → told_by_feeds (unfed place) (pieces ++ [] ∷ []) ≡ all_told place (concat pieces)
+cuts joined none place pieces h =
+    told_at_last joined none (unfed place) pieces (Settles-unfed none place h)
     ∙ ap (λ (e : Bool). bytes_told (data_of place (concat pieces)) ++ (end_told e ++ fault_told (fault_at (after place (concat pieces))))) (and_true (has_ended (after place (concat pieces))))

@@ -5,7 +5,6 @@ use Rattle.std.proofs.lemmas.Bool.{cases_Bool, cases_lt, false≢true, eqb-true,
 use Rattle.std.proofs.lemmas.List.Elements.{All-cons}
 use Rattle.httparse.specs.Ascii.{crlf_bytes, line_feed, carriage_return}
 use Rattle.httparse.specs.Grammar.{ChunkLine, print_chunk_line, chunk_size, ReadsChunkLine, LineEnd, crlf, lf, print_end}
-use Rattle.radio_source.specs.declared.position.TheConstants.{LONGEST_LINE, LONGEST_TRAILERS}
 use Rattle.radio_source.specs.declared.chunk_line.LineReading.{LineReading}
 use Rattle.radio_source.specs.declared.chunk_line.LineReading.TheVariants.{Unfinished, Whole, Refused}
 use Rattle.radio_source.specs.ChunkLine.{chunk_line_in}
@@ -60,7 +59,7 @@ Ends Broken bytes = Unit {0}
 
 -- what is true of each place on the way
 abbrev pub IsOnTheWay : Place → Type 0
-IsOnTheWay (InLine held) = (chunk_line_in held ≡ Unfinished) × (length held < LONGEST_LINE)
+IsOnTheWay (InLine held) = (chunk_line_in held ≡ Unfinished) × (length held < 256)
 IsOnTheWay (InTrailer left) = 0 < left
 IsOnTheWay (InChunk left) = Unit {0}
 IsOnTheWay AfterReturn = Unit {0}
@@ -121,7 +120,7 @@ line_of : (held : List ℕ) (b size : ℕ) → IsOnTheWay (InLine held) → chun
 line_of held b size way h = let x = whole_is_line (held ++ b ∷ []) size h in line_with held b size x.0 x.1 way x.2 x.3
 
 -- after the last line, and after that of a chunk
-last_line : (bytes rest : List ℕ) (size : ℕ) → size ≡ 0 → IsLineOf bytes size → HasTrailers LONGEST_TRAILERS rest → HasBody (bytes ++ rest)
+last_line : (bytes rest : List ℕ) (size : ℕ) → size ≡ 0 → IsLineOf bytes size → HasTrailers 4096 rest → HasBody (bytes ++ rest)
 last_line bytes rest size none x t = record {
   body = record { chunks = []; last = x.line; trailers = t.lines; end = t.end };
   valid = record { chunks = λ k d h. absurd (omega arith); last = x.short; is_last = x.is_size ∙ none; trailers = t.valid; fits = t.fits };
@@ -148,10 +147,10 @@ line_case : (held : List ℕ) (b : ℕ) (bytes : List ℕ) → IsOnTheWay (InLin
 line_case held b bytes way e later Unfinished h =
     let line = held ++ b ∷ [] in
     ⊎_elim
-    (λ (short : length line < LONGEST_LINE).
+    (λ (short : length line < 256).
     later (InLine line) (h, short) (ap (λ p. after p bytes) (sym (after_line_unfinished line h short)) ∙ e))
-    (λ (long : LONGEST_LINE ≤ length line). absurd (broken_never bytes (after_line line) (after_line_too_long line h long) e))
-    (cases_lt (length line) LONGEST_LINE)
+    (λ (long : 256 ≤ length line). absurd (broken_never bytes (after_line line) (after_line_too_long line h long) e))
+    (cases_lt (length line) 256)
 line_case held b bytes way e later Refused h =
     absurd (broken_never bytes (after_line (held ++ b ∷ [])) (after_line_refused (held ++ b ∷ []) h) e)
 line_case held b bytes way e later (Whole size) h =
@@ -160,7 +159,7 @@ line_case held b bytes way e later (Whole size) h =
     (λ (t : eqb size 0 ≡ true).
     let none : size ≡ 0 = eqb-true size 0 t in
     last_line line bytes size none (line_of held b size way h)
-    (later (AtTrailer LONGEST_TRAILERS) tt (ap (λ p. after p bytes) (sym (after_last_line line size h none)) ∙ e)))
+    (later (AtTrailer 4096) tt (ap (λ p. after p bytes) (sym (after_last_line line size h none)) ∙ e)))
     (λ (t : eqb size 0 ≡ false).
     let some : size ≢ 0 = λ z. false≢true (sym t ∙ ap (λ (n : ℕ). eqb n 0) z) in
     one_chunk line bytes size some (line_of held b size way h)

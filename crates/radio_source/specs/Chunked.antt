@@ -4,7 +4,6 @@ use Rattle.std.specs.List.{flat_map}
 use Rattle.httparse.specs.Ascii.{crlf_bytes, line_feed, carriage_return}
 use Rattle.httparse.specs.Grammar.{ChunkLine, IsChunkLine, print_chunk_line, chunk_size, LineEnd, print_end}
 use Rattle.radio_source.specs.Place.{Place, InPlain, InSized, InLine, InChunk, AfterReturn, AtTrailer, AfterTrailerReturn, InTrailer, AtEnd, PastTheEnd, Broken}
-use Rattle.radio_source.specs.declared.position.TheConstants.{LONGEST_LINE, LONGEST_TRAILERS}
 
 -- chunk = chunk-size [ chunk-ext ] CRLF chunk-data CRLF
 pub record Chunk : Type 0 where
@@ -16,7 +15,7 @@ print_chunk c = print_chunk_line c.line ++ (c.content ++ crlf_bytes)
 
 -- a line of the grammar, of at most 256 bytes
 abbrev pub IsShortLine : ChunkLine → Type 0
-IsShortLine l = IsChunkLine l × (length (print_chunk_line l) ≤ LONGEST_LINE)
+IsShortLine l = IsChunkLine l × (length (print_chunk_line l) ≤ 256)
 
 -- it has data, as many bytes as its line says
 abbrev pub IsChunk : Chunk → Type 0
@@ -52,13 +51,13 @@ pub record IsBody (b : ChunkedBody) : Type 0 where
   pub last : IsShortLine b.last
   pub is_last : chunk_size b.last ≡ 0
   pub trailers : All IsTrailer b.trailers
-  pub fits : length (print_trailers b.trailers) ≤ LONGEST_TRAILERS
+  pub fits : length (print_trailers b.trailers) ≤ 4096
 
 -- a chunk line that has begun has room for the three bytes that it may still need
 abbrev pub HasRoomForItsLine : Place → Type 0
 HasRoomForItsLine InPlain = Unit {0}
 HasRoomForItsLine (InSized left) = Unit {0}
-HasRoomForItsLine (InLine held) = length held + 3 ≤ LONGEST_LINE
+HasRoomForItsLine (InLine held) = length held + 3 ≤ 256
 HasRoomForItsLine (InChunk left) = Unit {0}
 HasRoomForItsLine AfterReturn = Unit {0}
 HasRoomForItsLine (AtTrailer left) = Unit {0}

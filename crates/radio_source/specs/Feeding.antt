@@ -3,7 +3,7 @@ use Rattle.std.specs.Prelude.{List, [], ◌∷◌, ℕ, Bool, true, false, ◌&&
 use Rattle.radio_source.specs.declared.fault.BodyFault.{BodyFault}
 use Rattle.radio_source.specs.declared.fault.BodyFault.TheVariants.{Failed}
 use Rattle.radio_source.specs.Place.{Place, after, data_of, has_ended, fault_at}
-use Rattle.radio_source.specs.Blocks.{blocks_of}
+use Rattle.radio_blocks.specs.Cutting.{blocks_of}
 
 -- a body between two feeds: where the bytes so far lead, and what its feeds have answered
 pub record Feeding : Type 0 where

@@ -1,8 +1,6 @@
 pub mod ChunkLine
 pub mod Place
 pub mod Position
-pub mod Blocks
-pub mod Gathering
 pub mod Feeding
 pub mod Told
 pub mod Chunked

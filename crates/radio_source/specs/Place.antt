@@ -1,7 +1,6 @@
 -- Where the bytes of a body lead: a place, byte for byte, and the data among them.
 use Rattle.std.specs.Prelude.{ℕ, zero, suc, ◌-◌, List, [], ◌∷◌, ◌++◌, length, Bool, true, false, ◌==◌, nat_lt, if◌then◌else◌, Option, None, Some}
 use Rattle.httparse.specs.Ascii.{carriage_return, line_feed}
-use Rattle.radio_source.specs.declared.position.TheConstants.{LONGEST_LINE, LONGEST_TRAILERS}
 use Rattle.radio_source.specs.declared.chunk_line.LineReading.{LineReading}
 use Rattle.radio_source.specs.declared.chunk_line.LineReading.TheVariants.{Unfinished, Whole, Refused}
 use Rattle.radio_source.specs.declared.fault.BodyFault.{BodyFault}
@@ -34,11 +33,11 @@ pub data Place : Type 0 where
 
 -- after the line of a chunk of this size: its data, or, with no data, the trailers
 abbrev pub after_size : ℕ → Place
-after_size size = if size == 0 then AtTrailer LONGEST_TRAILERS else InChunk size
+after_size size = if size == 0 then AtTrailer 4096 else InChunk size
 
 -- a line may go on while it has fewer than 256 bytes
 abbrev pub after_reading : List ℕ → LineReading → Place
-after_reading line Unfinished = if nat_lt (length line) LONGEST_LINE then InLine line else Broken
+after_reading line Unfinished = if nat_lt (length line) 256 then InLine line else Broken
 after_reading line (Whole size) = after_size size
 after_reading line Refused = Broken
 

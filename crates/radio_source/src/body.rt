@@ -4,10 +4,9 @@ ghost use Rattle.radio_source.specs.Place.{plain_start, sized_start, chunked_sta
 ghost use Rattle.radio_source.specs.Feeding.{unfed, Brings, Refuses, answer_with, answer_to, after_feed};
 ghost use Rattle.radio_source.specs.declared.fault.BodyFault.TheVariants.{OutOfMemory as NoMemory, Failed};
 
-use crate::gathering::Gathering;
 use crate::position::Position;
 use crate::{BodyFault, OutOfMemory};
-use radio_blocks::Block;
+use radio_blocks::{Block, Gathering};
 use std::alloc::Global;
 use std::marker::Model;
 

@@ -2,26 +2,27 @@
 //!
 //! Each law is a function that does nothing, and its contract is the law.
 //! A caller that needs a law in a proof calls the function, and cites its clause.
-ghost use Rattle.std.specs.Prelude.{◌≡◌, ◌≢◌, ◌↔◌, ℕ, ◌<◌, ◌≤◌, List, [], ◌∷◌, ◌++◌, length, take, drop, All, Some, None, true, false};
+ghost use Rattle.std.specs.Prelude.{◌≡◌, ◌≢◌, ◌↔◌, ℕ, ◌<◌, ◌≤◌, List, [], ◌∷◌, ◌++◌, length, take, All, ◌-◌, Some, None, true, false};
 ghost use Rattle.std.specs.List.{concat};
-ghost use Rattle.httparse.specs.Grammar.{ChunkLine, ReadsChunkLine, chunk_size, HasNoChunkLine, NeverHasChunkLine, MayBecomeChunkLine};
-ghost use Rattle.radio_blocks.specs.Block.{IsBlock};
-ghost use Rattle.radio_blocks.specs.declared.block.TheConstants.{MAX_BLOCK};
+ghost use Rattle.httparse.specs.Grammar.{ChunkLine, ReadsChunkLine, chunk_size, print_chunk_line, HasNoChunkLine, NeverHasChunkLine, MayBecomeChunkLine};
 ghost use Rattle.radio_source.specs.declared.chunk_line.LineReading.TheVariants.{Unfinished, Whole, Refused};
 ghost use Rattle.radio_source.specs.declared.fault.BodyFault.TheVariants.{PastEnd};
 ghost use Rattle.radio_source.specs.ChunkLine.{chunk_line_in};
-ghost use Rattle.radio_source.specs.Place.{Place, AtEnd, PastTheEnd, Broken, plain_start, sized_start, chunked_start, after, data_of, has_ended, fault_at};
-ghost use Rattle.radio_source.specs.Blocks.{blocks_of};
+ghost use Rattle.radio_source.specs.Place.{Place, InChunk, AtEnd, PastTheEnd, Broken, plain_start, sized_start, chunked_start, after, data_of, has_ended, fault_at};
 ghost use Rattle.radio_source.specs.Feeding.{unfed};
 ghost use Rattle.radio_source.specs.Told.{told_by_feeds, all_told};
-ghost use Rattle.radio_source.specs.Chunked.{Chunk, IsChunk, print_chunks, content_of, ChunkedBody, IsBody, print_body, HasRoomForItsLine};
+ghost use Rattle.radio_source.specs.Chunked.{Chunk, IsChunk, IsShortLine, print_chunks, content_of, ChunkedBody, IsBody, print_body, HasRoomForItsLine};
+
+use radio_blocks::laws::blocks_are_the_data;
 
 /// However a body is cut into pieces, with an empty piece fed last, its feeds tell what its bytes are: all its data in
 /// order, then its end, once, if it has come, then the fault that stands among the bytes, once, if there is one.
 pub fn cuts_do_not_matter()
     ensures { (place : Place) (pieces : List (List ℕ)) → fault_at place ≡ None
         → told_by_feeds (unfed place) (pieces ++ [] ∷ []) ≡ all_told place (concat pieces) }
-{}
+{
+    blocks_are_the_data();
+}
 
 /// Two pieces one after another are what both are as one: so what a front brings is a front of what the whole does.
 pub fn pieces_are_joined()
@@ -29,14 +30,6 @@ pub fn pieces_are_joined()
         → after place (first ++ second) ≡ after (after place first) second }
     ensures found { (place : Place) (first second : List ℕ)
         → data_of place (first ++ second) ≡ data_of place first ++ data_of (after place first) second }
-{}
-
-/// The blocks of some data are these data, cut after every 4096 bytes.
-pub fn blocks_are_the_data()
-    ensures joined { (bytes : List ℕ) → concat (blocks_of bytes) ≡ bytes }
-    ensures valid { (bytes : List ℕ) → All IsBlock (blocks_of bytes) }
-    ensures first { (bytes : List ℕ) → MAX_BLOCK < length bytes
-        → blocks_of bytes ≡ take MAX_BLOCK bytes ∷ blocks_of (drop MAX_BLOCK bytes) }
 {}
 
 /// A plain body is all data, and has neither an end nor a fault.
@@ -73,6 +66,17 @@ pub fn chunks_are_their_data()
         → data_of chunked_start (print_chunks chunks) ≡ content_of chunks }
     ensures place { (chunks : List Chunk) → All IsChunk chunks
         → after chunked_start (print_chunks chunks) ≡ chunked_start }
+{}
+
+/// The data of a chunk are brought as they come, before the chunk is whole.
+pub fn unfinished_chunks_bring_their_data()
+    ensures found { (chunks : List Chunk) (line : ChunkLine) (front : List ℕ)
+        → All IsChunk chunks → IsShortLine line → 0 < chunk_size line → length front ≤ chunk_size line
+        → data_of chunked_start (print_chunks chunks ++ (print_chunk_line line ++ front)) ≡ content_of chunks ++ front }
+    ensures place { (chunks : List Chunk) (line : ChunkLine) (front : List ℕ)
+        → All IsChunk chunks → IsShortLine line → 0 < chunk_size line → length front ≤ chunk_size line
+        → after chunked_start (print_chunks chunks ++ (print_chunk_line line ++ front))
+        ≡ InChunk (chunk_size line - length front) }
 {}
 
 /// A whole body of the grammar, with its trailers, is complete; its data are those of its chunks. Bytes behind it are

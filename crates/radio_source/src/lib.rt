@@ -10,7 +10,6 @@
 mod body;
 mod chunk_line;
 mod fault;
-mod gathering;
 pub mod laws;
 mod position;
 #[cfg(test)]

@@ -7,9 +7,9 @@ ghost use Rattle.radio_source.specs.declared.position.Stage.TheVariants.{Line};
 ghost use Rattle.radio_source.specs.Position.{place_of, data_ahead, past_data};
 
 use crate::chunk_line::{LineReading, read_chunk_line};
-use crate::gathering::Gathering;
 use crate::{BodyFault, OutOfMemory};
 use arrayvec::ArrayVec;
+use radio_blocks::Gathering;
 use std::marker::Model;
 
 /// The most bytes that a chunk line may have, CR LF with them.

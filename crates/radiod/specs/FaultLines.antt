@@ -1,7 +1,7 @@
 -- What the line on standard error says of a fault, after `radiod: `.
 use Rattle.std.specs.Prelude.{ℕ, List, ◌++◌, codes}
 use Rattle.std.specs.String.{string_bytes}
-use Rattle.radio_core.specs.Settings.{fault_text}
+use Rattle.radio_settings.specs.Words.{fault_text}
 use Rattle.radio_script.specs.Words.{play_fault_text}
 use Rattle.radiod.specs.declared.fault.Fault.{Fault}
 use Rattle.radiod.specs.declared.fault.Fault.TheVariants.{Usage, CannotRead, NotText, Settings, Play, OutOfMemory}

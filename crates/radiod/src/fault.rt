@@ -1,5 +1,5 @@
-use radio_core::SettingsFault;
 use radio_floor::PlayFault;
+use radio_settings::SettingsFault;
 use std::fmt;
 
 /// Why `radiod` ends with status 1. Its text is the line on standard error, after `radiod: `.

@@ -9,10 +9,10 @@ mod words;
 
 use crate::fault::Fault;
 use crate::words::settings_path;
-use radio_core::{Lists, Settings};
 use radio_floor::{Tally, play};
+use radio_settings::Settings;
 use std::fs;
-use std::io::BufReader;
+use std::io::{BufReader, ErrorKind};
 use std::process::ExitCode;
 
 fn main(rt: HostRuntime) -> ExitCode {
@@ -35,13 +35,7 @@ fn play_script(rt: &HostRuntime) -> Result<(), Fault> {
     };
     let mut reader = Tally::new(input);
     let mut writer = Tally::new(rt.stdout());
-    match play(
-        rt.alloc(),
-        settings,
-        Lists::default(),
-        &mut reader,
-        &mut writer,
-    ) {
+    match play(rt.alloc(), settings, &mut reader, &mut writer) {
         Ok(()) => Ok(()),
         Err(fault) => Err(Fault::Play(fault)),
     }
@@ -49,8 +43,10 @@ fn play_script(rt: &HostRuntime) -> Result<(), Fault> {
 
 /// The settings of a file.
 fn read_settings(rt: &HostRuntime, path: String) -> Result<Settings, Fault> {
-    let Ok(bytes) = fs::read(rt, path.as_str()) else {
-        return Err(Fault::CannotRead(path));
+    let bytes = match fs::read(rt, path.as_str()) {
+        Ok(bytes) => bytes,
+        Err(error) if error.kind() == ErrorKind::OutOfMemory => return Err(Fault::OutOfMemory),
+        Err(_) => return Err(Fault::CannotRead(path)),
     };
     let Ok(text) = str::from_utf8(bytes.as_slice()) else {
         return Err(Fault::NotText);

@@ -1,37 +1,40 @@
-ghost use Rattle.std.specs.Prelude.{◌≡◌, ◌<◌, ◌-◌, ◌^◌, IfOk, OnErr};
+ghost use Rattle.std.specs.Prelude.{◌≡◌, ◌<◌, ◌-◌, ◌^◌};
 ghost use Rattle.radio_core.specs.Arrive.{arrives, comes_in};
-ghost use Rattle.radio_core.specs.Cases.{says};
 
-use crate::{Core, OutOfMemory, Peer, Reply};
+use crate::outcome::{Change, Outcome};
+use crate::{Core, Reply};
+use radio_addr::Peer;
 use radio_policy::{Action, Facts, Subject, Verdict, judge};
 
 impl Core {
     /// A connection arrives.
-    pub(super) fn arrive(&mut self, peer: Peer) -> Result<Reply, OutOfMemory>
-        ensures step { IfOk result (λ reply. arrives self.old peer ≡ says reply self.new) }
-        ensures err { OnErr result (self.new ≡ self.old) }
+    pub(super) fn arrive(&self, peer: Peer) -> Outcome
+        ensures { result ≡ arrives self.now peer }
     {
         let facts = Facts {
-            number_is_spent: self.last_id == u64::MAX,
+            number_is_spent: self.house.last_id == u64::MAX,
             ..Facts::NONE
         };
         let asker = Subject {
             names_a_mount: false,
         };
         match judge(&facts, &asker, &Action::Arrive) {
-            Verdict::Deny(rule) => Ok(Reply::Deny(rule)),
+            Verdict::Deny(rule) => Outcome {
+                reply: Reply::Deny(rule),
+                change: Change::Nothing,
+            },
             Verdict::Allow => self.come_in(peer),
         }
     }
 
-    fn come_in(&mut self, peer: Peer) -> Result<Reply, OutOfMemory>
-        requires { self.old.last_id < 2 ^ 64 - 1 }
-        ensures step { IfOk result (λ reply. comes_in self.old peer ≡ says reply self.new) }
-        ensures err { OnErr result (self.new ≡ self.old) }
+    fn come_in(&self, peer: Peer) -> Outcome
+        requires { self.now.house.last_id < 2 ^ 64 - 1 }
+        ensures { result ≡ comes_in self.now peer }
     {
-        let id = self.last_id + 1;
-        self.clients.add(id, peer, self.time)?;
-        self.last_id = id;
-        Ok(Reply::Arrived(id))
+        let id = self.house.last_id + 1;
+        Outcome {
+            reply: Reply::Arrived(id),
+            change: Change::Admit { id, peer },
+        }
     }
 }

@@ -1,64 +1,128 @@
-ghost use Rattle.std.specs.Prelude.{◌≡◌, IfOk, OnErr};
-ghost use Rattle.radio_core.specs.Live.{session_of};
-ghost use Rattle.radio_core.specs.Listen.{asks_to_hear, sits_down, burst_of};
-ghost use Rattle.radio_core.specs.Cases.{says};
+ghost use Rattle.std.specs.Prelude.{◌≡◌, Some, IfOk, MatchResult};
+ghost use Rattle.radio_core.specs.Facts.{session_at};
+ghost use Rattle.radio_core.specs.Listen.{asks_to_hear, sits_down, burst_of, interval_for, first_seat};
 
-use crate::clients::ClientState;
+use crate::house::House;
+use crate::outcome::{Change, Outcome};
 use crate::seats::Seat;
+use crate::sessions::Session;
 use crate::standing::Standing;
-use crate::{Core, MountName, OutOfMemory, Peer, Reply, Text};
+use crate::{Core, ListenRequest, OutOfMemory, Reply};
+use radio_addr::Peer;
 use radio_policy::{Action, Facts, Rule, Subject, Verdict, judge};
+use radio_settings::MountName;
 
 impl Core {
-    /// A client wants to hear the mount of this path.
-    pub(super) fn listen(&mut self, id: u64, path: &Text) -> Result<Reply, OutOfMemory>
-        ensures step { IfOk result (λ reply. asks_to_hear self.old id path.now ≡ says reply self.new) }
-        ensures err { OnErr result (self.new ≡ self.old) }
+    /// A client wants to hear a mount. `OutOfMemory` where memory was refused.
+    pub(super) fn listen(&self, asked: ListenRequest) -> Result<Outcome, OutOfMemory>
+        ensures { IfOk result (λ o. o ≡ asks_to_hear self.now asked) }
     {
-        let peer = match self.standing(id) {
+        match self.may_listen(&asked) {
+            Ok(peer) => self.sit_down(asked, peer),
+            Err(other) => Ok(other),
+        }
+    }
+
+    /// The address of the client, if he may hear the mount, or what else comes of his asking.
+    fn may_listen(&self, asked: &ListenRequest) -> Result<Peer, Outcome>
+        ensures { MatchResult result (λ peer. asks_to_hear self.now asked.now ≡ sits_down self.now.house asked.now peer (session_at self.now.house asked.now.mount)) (λ other. other ≡ asks_to_hear self.now asked.now) }
+    {
+        let peer = match self.standing(asked.id) {
             Standing::Undecided(peer) => peer,
-            Standing::Finished(rule) => return Ok(Reply::Finished(rule)),
-            _ => return Ok(Reply::Stray),
+            Standing::Finished(rule) => return Err(Outcome::told(rule)),
+            _ => return Err(Outcome::stray()),
         };
-        let is_live = self.live.get(path.as_bytes()).is_some();
+        let path = asked.mount.as_slice();
+        let is_live = self.house.session_at(path).is_some();
         let facts = Facts {
             mount_is_known: is_live,
             walk_stops: if is_live { None } else { Some(Rule::NotLive) },
             ..Facts::NONE
         };
         let asker = Subject {
-            names_a_mount: MountName::read(path.as_bytes()).is_some(),
+            names_a_mount: MountName::read(path).is_some(),
         };
         match judge(&facts, &asker, &Action::Listen) {
-            Verdict::Deny(rule) => {
-                self.answer(id);
-                Ok(Reply::Deny(rule))
-            }
-            Verdict::Allow => self.sit_down(id, peer, path),
+            Verdict::Deny(rule) => Err(Outcome::refused(rule, asked.id)),
+            Verdict::Allow => Ok(peer),
         }
     }
 
     /// The listener sits down at the mount.
-    fn sit_down(&mut self, id: u64, peer: Peer, mount: &Text) -> Result<Reply, OutOfMemory>
-        ensures step { IfOk result (λ reply. sits_down self.old id peer (session_of self.old.live mount.now) ≡ says reply self.new) }
-        ensures err { OnErr result (self.new ≡ self.old) }
+    fn sit_down(&self, asked: ListenRequest, peer: Peer) -> Result<Outcome, OutOfMemory>
+        ensures { IfOk result (λ o. o ≡ sits_down self.now.house asked peer (session_at self.now.house asked.mount)) }
     {
-        let Some(session) = self.live.get(mount.as_bytes()) else {
-            return Ok(Reply::Stray);
-        };
-        let shown = session.shown.again(self.alloc)?;
-        let burst = self.settings.burst_size.min(self.settings.queue_size);
-        let seat = Seat {
-            id,
-            home: session.mount,
-            mount: session.mount,
+        match self.house.session_at(asked.mount.as_slice()) {
+            Some(session) => self.house.welcome(asked, peer, session),
+            None => Ok(Outcome::stray()),
+        }
+    }
+}
+
+impl House {
+    /// A listener is welcome in the session. `OutOfMemory` where memory was refused.
+    fn welcome(
+        &self,
+        asked: ListenRequest,
+        peer: Peer,
+        session: &Session,
+    ) -> Result<Outcome, OutOfMemory>
+        ensures { IfOk result (λ o. o ≡ sits_down self.now asked peer (Some session.now)) }
+    {
+        let shown = session.shown.clone()?;
+        let id = asked.id;
+        let seat = self.first_seat(asked, peer, session);
+        Ok(Outcome {
+            reply: Reply::Seated {
+                interval: seat.interval,
+                shown,
+            },
+            change: Change::SitDown { id, seat },
+        })
+    }
+
+    /// How many bytes a new listener of the mount may be sent at once.
+    fn burst_of(&self, mount: &MountName) -> u64
+        ensures { result ≡ burst_of self.now mount.now }
+    {
+        let burst = self.settings.options(mount).stream.burst_size.get();
+        burst.min(self.settings.limits.queue_size.get()) as u64
+    }
+
+    /// After how many bytes of data a listener of the mount is sent a metadata block, if he asked
+    /// for metadata.
+    fn interval_for(&self, mount: &MountName, wants_metadata: bool) -> Option<u32>
+        ensures { result ≡ interval_for self.now mount.now wants_metadata }
+    {
+        if wants_metadata {
+            Some(
+                self.settings
+                    .options(mount)
+                    .stream
+                    .mp3_metadata_interval
+                    .get(),
+            )
+        } else {
+            None
+        }
+    }
+
+    /// The seat of a new listener in the session.
+    fn first_seat(&self, asked: ListenRequest, peer: Peer, session: &Session) -> Seat
+        ensures { result ≡ first_seat self.now asked peer session.now }
+    {
+        let mount = session.mount;
+        let burst = self.burst_of(&mount);
+        let interval = self.interval_for(&mount, asked.wants_metadata);
+        Seat {
+            home: mount,
+            mount,
             session: session.number,
-            place: session.stream.burst_start(burst as u64),
+            place: session.stream.burst_start(burst),
             peer,
+            pair: asked.pair,
+            interval,
             since: self.time,
-        };
-        self.seats.add(seat)?;
-        self.clients.set_state(id, ClientState::Listens);
-        Ok(Reply::Seated { shown })
+        }
     }
 }

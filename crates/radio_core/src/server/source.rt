@@ -1,52 +1,51 @@
-ghost use Rattle.std.specs.Prelude.{◌≡◌, IfOk, OnErr};
+ghost use Rattle.std.specs.Prelude.{◌≡◌, MatchResult};
 ghost use Rattle.radio_core.specs.Source.{asks_to_feed, begins};
-ghost use Rattle.radio_core.specs.Cases.{says};
 
-use crate::clients::ClientState;
+use crate::outcome::{Change, Outcome};
 use crate::standing::Standing;
-use crate::{Core, MountName, OutOfMemory, Reply, Shown, Text};
+use crate::{Core, Reply, SourceRequest};
 use radio_policy::{Action, Facts, Subject, Verdict, judge};
+use radio_settings::MountName;
 
 impl Core {
-    /// A client wants to feed the mount of this path.
-    pub(super) fn source(
-        &mut self,
-        id: u64,
-        path: &Text,
-        shown: Shown,
-    ) -> Result<Reply, OutOfMemory>
-        ensures step { IfOk result (λ reply. asks_to_feed self.old id path.now shown ≡ says reply self.new) }
-        ensures err { OnErr result (self.new ≡ self.old) }
+    /// A client wants to feed a mount.
+    pub(super) fn source(&self, asked: SourceRequest) -> Outcome
+        ensures { result ≡ asks_to_feed self.now asked }
     {
-        match self.standing(id) {
-            Standing::Undecided(_) => {}
-            Standing::Finished(rule) => return Ok(Reply::Finished(rule)),
-            _ => return Ok(Reply::Stray),
+        match self.may_feed(&asked) {
+            Ok(mount) => Outcome {
+                reply: Reply::Feeding,
+                change: Change::Begin {
+                    id: asked.id,
+                    mount,
+                    shown: asked.shown,
+                },
+            },
+            Err(other) => other,
         }
-        let name = MountName::read(path.as_bytes());
+    }
+
+    /// The mount that the client may feed, or what else comes of his asking.
+    fn may_feed(&self, asked: &SourceRequest) -> Result<MountName, Outcome>
+        ensures { MatchResult result (λ mount. (mount ≡ asked.now.mount) × (asks_to_feed self.now asked.now ≡ begins asked.now)) (λ other. other ≡ asks_to_feed self.now asked.now) }
+    {
+        match self.standing(asked.id) {
+            Standing::Undecided(_) => {}
+            Standing::Finished(rule) => return Err(Outcome::told(rule)),
+            _ => return Err(Outcome::stray()),
+        }
+        let path = asked.mount.as_slice();
+        let name = MountName::read(path);
         let facts = Facts {
-            mount_is_live: self.live.get(path.as_bytes()).is_some(),
+            mount_is_live: self.house.session_at(path).is_some(),
             ..Facts::NONE
         };
         let asker = Subject {
             names_a_mount: name.is_some(),
         };
         match judge(&facts, &asker, &Action::Source) {
-            Verdict::Deny(rule) => {
-                self.answer(id);
-                Ok(Reply::Deny(rule))
-            }
-            Verdict::Allow => self.begin(id, name.unwrap(), shown),
+            Verdict::Deny(rule) => Err(Outcome::refused(rule, asked.id)),
+            Verdict::Allow => Ok(name.unwrap()),
         }
-    }
-
-    /// A session begins on the mount.
-    fn begin(&mut self, id: u64, mount: MountName, shown: Shown) -> Result<Reply, OutOfMemory>
-        ensures step { IfOk result (λ reply. begins self.old id mount shown ≡ says reply self.new) }
-        ensures err { OnErr result (self.new ≡ self.old) }
-    {
-        self.live.open(self.alloc, mount, id, shown, self.time)?;
-        self.clients.set_state(id, ClientState::Feeds(mount));
-        Ok(Reply::Feeding)
     }
 }

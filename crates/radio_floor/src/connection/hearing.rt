@@ -1,13 +1,15 @@
 ghost use Rattle.std.specs.Prelude.{◌≡◌, [], ◌∷◌, ◌++◌, drop, length, take, IfOk, OnErr};
-ghost use Rattle.radio_floor.specs.Hearing.{IsHeard, HearsAs, request_heard, source_heard, refuses, going_on};
+ghost use Rattle.radio_floor.specs.Hearing.{IsHeard, HearsAs, request_heard, source_heard, refuses, going_on, asks_to_feed, asks_to_hear};
 ghost use Rattle.radio_floor.specs.Blocks.{pushes};
 
 use crate::OutOfMemory;
 use crate::connection::blocks::push_blocks;
 use crate::connection::{Connection, Hears, Says};
-use radio_core::{Event, Shown, Text};
+use bytes::Bytes;
+use radio_core::{Event, ListenRequest, SourceRequest};
 use radio_heads::{Head, Progress, read_request_from};
 use radio_policy::Rule;
+use radio_settings::Shown;
 use std::alloc::Global;
 use std::mem;
 
@@ -59,9 +61,9 @@ impl Connection {
         if method == b"SOURCE".as_slice() {
             self.take_source(head, behind)
         } else if method == b"GET".as_slice() {
+            let event = asks_to_hear(self.alloc, id, head.path())?;
             let mut events = Vec::new(self.alloc);
-            let mount = Text::new(self.alloc, head.path())?;
-            events.push(Event::Listen { id, mount })?;
+            events.push(event)?;
             self.go_on(Hears::Nothing);
             Ok(events)
         } else {
@@ -74,10 +76,9 @@ impl Connection {
         ensures { IfOk result (λ events. source_heard self.old head.now.path behind.now ≡ record { events = events.items; conversation = self.new }) }
     {
         let id = self.id;
+        let event = asks_to_feed(self.alloc, id, head.path())?;
         let mut events = Vec::new(self.alloc);
-        let mount = Text::new(self.alloc, head.path())?;
-        let shown = Shown::nothing_told(self.alloc)?;
-        events.push(Event::Source { id, mount, shown })?;
+        events.push(event)?;
         push_blocks(self.alloc, id, behind, &mut events)?;
         self.go_on(Hears::Body);
         Ok(events)
@@ -101,4 +102,33 @@ impl Connection {
         self.held.clear();
         self.hears = hears;
     }
+}
+
+/// What a session shows whose source names no content type (Icecast 2.4 documentation).
+const DEFAULT_CONTENT_TYPE: &[u8] = b"audio/mpeg";
+
+/// The event of a client who asks to feed the mount of this path. No header of his counts yet.
+/// `OutOfMemory` where memory was refused.
+fn asks_to_feed(alloc: Global, id: u64, path: &[u8]) -> Result<Event, OutOfMemory>
+    ensures { IfOk result (λ event. event ≡ asks_to_feed id path.now) }
+{
+    Ok(Event::Source(SourceRequest {
+        id,
+        mount: Bytes::copy_from_slice(alloc, path)?,
+        pair: None,
+        shown: Shown::clean(alloc, DEFAULT_CONTENT_TYPE, b"", b"")?,
+    }))
+}
+
+/// The event of a client who asks to hear the mount of this path. No header of his counts yet.
+/// `OutOfMemory` where memory was refused.
+fn asks_to_hear(alloc: Global, id: u64, path: &[u8]) -> Result<Event, OutOfMemory>
+    ensures { IfOk result (λ event. event ≡ asks_to_hear id path.now) }
+{
+    Ok(Event::Listen(ListenRequest {
+        id,
+        mount: Bytes::copy_from_slice(alloc, path)?,
+        pair: None,
+        wants_metadata: false,
+    }))
 }

@@ -1,12 +1,13 @@
 ghost use Rattle.std.specs.Prelude.{◌≡◌, ◌++◌, IfOk, OnOk, OnErr};
 ghost use Rattle.radio_heads.specs.Answer.{answer_text, listener_head};
-ghost use Rattle.radio_floor.specs.Saying.{said, denied, noted, denial, denial_status};
+ghost use Rattle.radio_floor.specs.Saying.{said, denied, noted, denial};
 
 use crate::OutOfMemory;
 use crate::connection::{Connection, Ending, Says};
-use radio_core::{Reply, Shown};
-use radio_heads::{Answer, DenialStatus, Welcome, write_answer};
-use radio_policy::{Rule, Status};
+use radio_core::Reply;
+use radio_heads::{Answer, Welcome, write_answer};
+use radio_policy::Rule;
+use radio_settings::Shown;
 use std::alloc::Global;
 
 impl Connection {
@@ -27,13 +28,13 @@ impl Connection {
                 self.says = Says::Admitted;
                 Ok(None)
             }
-            Reply::Seated { shown } => {
+            Reply::Seated { shown, .. } => {
                 welcome(self.alloc, shown, out)?;
                 self.says = Says::Admitted;
                 Ok(None)
             }
-            Reply::Drawn { pieces } => {
-                out.extend_from_slice(pieces.as_bytes())?;
+            Reply::Drawn { pieces, .. } => {
+                pieces.write_to(out)?;
                 Ok(None)
             }
             Reply::Noted => self.note(out),
@@ -94,25 +95,17 @@ fn welcome(alloc: Global, shown: &Shown, out: &mut Vec<u8>) -> Result<(), OutOfM
     tell(alloc, &answer, out)
 }
 
-/// Appends the answer that names the rule.
+/// Appends the answer that names the rule, if the rule has one.
 fn tell_denial(alloc: Global, rule: Rule, out: &mut Vec<u8>) -> Result<(), OutOfMemory>
     ensures ok { OnOk result (out.new.items ≡ out.old.items ++ denial rule) }
     ensures err { OnErr result (out.new.items ≡ out.old.items) }
 {
+    let Some(status) = rule.status() else {
+        return Ok(());
+    };
     let answer = Answer::Denial {
-        status: denial_status(rule.status()),
+        status,
         rule: rule.word(),
     };
     tell(alloc, &answer, out)
-}
-
-/// The status line's number of a denial.
-fn denial_status(status: Status) -> DenialStatus
-    ensures { result ≡ denial_status status }
-{
-    match status {
-        Status::BadRequest => DenialStatus::BadRequest,
-        Status::Forbidden => DenialStatus::Forbidden,
-        Status::NotFound => DenialStatus::NotFound,
-    }
 }

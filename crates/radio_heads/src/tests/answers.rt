@@ -1,7 +1,7 @@
 //! The text of each answer, as the format page shows it.
-use crate::{Answer, DenialStatus, OutOfMemory, TextKind, Welcome, write_answer};
+use crate::{Answer, OutOfMemory, Progress, TextKind, Welcome, read_response, write_answer};
+use radio_policy::Status;
 use std::alloc::Global;
-use std::process::Abort;
 
 const WITH_METADATA: Welcome = Welcome {
     content_type: b"audio/mpeg",
@@ -17,7 +17,8 @@ const NOTHING_TO_SHOW: Welcome = Welcome {
     interval: None,
 };
 
-const WELCOMES: [(Answer, &[u8]); 4] = [
+/// Answers, and their texts.
+const ANSWERS: &[(Answer, &[u8])] = &[
     (
         Answer::Listener(WITH_METADATA),
         b"HTTP/1.0 200 OK\r\n\
@@ -37,17 +38,9 @@ Connection: close\r\n\
     ),
     (Answer::Source, b"HTTP/1.0 200 OK\r\n\r\n"),
     (Answer::Continue, b"HTTP/1.1 100 Continue\r\n\r\n"),
-];
-
-#[test]
-fn welcomes(rt: HostRuntime) -> Result<(), OutOfMemory> {
-    check_answers(&rt, rt.alloc(), WELCOMES.as_slice())
-}
-
-const DENIALS: [(Answer, &[u8]); 4] = [
     (
         Answer::Denial {
-            status: DenialStatus::Unauthorized,
+            status: Status::Unauthorized,
             rule: "listener-password",
         },
         b"HTTP/1.0 401 Unauthorized\r\n\
@@ -60,7 +53,7 @@ denied: listener-password\n",
     ),
     (
         Answer::Denial {
-            status: DenialStatus::BadRequest,
+            status: Status::BadRequest,
             rule: "bad-head",
         },
         b"HTTP/1.0 400 Bad Request\r\n\
@@ -72,7 +65,7 @@ denied: bad-head\n",
     ),
     (
         Answer::Denial {
-            status: DenialStatus::Forbidden,
+            status: Status::Forbidden,
             rule: "mount-full",
         },
         b"HTTP/1.0 403 Forbidden\r\n\
@@ -84,7 +77,7 @@ denied: mount-full\n",
     ),
     (
         Answer::Denial {
-            status: DenialStatus::NotFound,
+            status: Status::NotFound,
             rule: "no-mount",
         },
         b"HTTP/1.0 404 Not Found\r\n\
@@ -94,14 +87,6 @@ Connection: close\r\n\
 \r\n\
 denied: no-mount\n",
     ),
-];
-
-#[test]
-fn denials(rt: HostRuntime) -> Result<(), OutOfMemory> {
-    check_answers(&rt, rt.alloc(), DENIALS.as_slice())
-}
-
-const TEXTS: [(Answer, &[u8]); 2] = [
     (
         Answer::Text {
             kind: TextKind::Json,
@@ -127,51 +112,83 @@ Connection: close\r\n\
     ),
 ];
 
-#[test]
-fn texts(rt: HostRuntime) -> Result<(), OutOfMemory> {
-    check_answers(&rt, rt.alloc(), TEXTS.as_slice())
-}
-
-/// The text of each of these answers is what stands beside it.
-fn check_answers(
-    rt: &impl Abort,
-    alloc: Global,
-    answers: &[(Answer, &[u8])],
-) -> Result<(), OutOfMemory> {
-    for (answer, want) in answers {
-        let text = write_answer(alloc, answer)?;
-        assert_eq!(rt; text.as_slice(), *want, "{answer:?}");
+/// Whether an answer's text is this. Where memory was refused there is none, and `or` is told.
+fn is_text(alloc: Global, answer: &Answer, want: &[u8], or: bool) -> bool {
+    match write_answer(alloc, answer) {
+        Ok(text) => text.as_slice() == want,
+        Err(_) => or,
     }
-    Ok(())
 }
 
-/// Answers, and how long their texts are.
-const LENGTHS: [(Answer, usize); 5] = [
-    (Answer::Listener(WITH_METADATA), 120),
-    (Answer::Source, 19),
-    (Answer::Continue, 25),
-    (
-        Answer::Denial {
-            status: DenialStatus::NotFound,
-            rule: "no-mount",
-        },
-        123,
-    ),
-    (
-        Answer::Text {
-            kind: TextKind::Json,
-            body: b"{}",
-        },
-        91,
-    ),
-];
+#[test]
+fn answers(rt: HostRuntime) {
+    for (answer, want) in ANSWERS {
+        assert!(rt; is_text(rt.alloc(), answer, want, false), "{answer:?}");
+    }
+}
 
 /// Where memory runs out there is an error, and else the whole text.
 #[test]
 fn refused_memory(rt: HostRuntime) {
-    for (answer, length) in &LENGTHS {
-        if let Ok(text) = write_answer(rt.alloc(), answer) {
-            assert_eq!(rt; text.len(), *length, "{answer:?}");
-        }
+    for (answer, want) in ANSWERS {
+        assert!(rt; is_text(rt.alloc(), answer, want, true));
     }
+}
+
+const LARGE_HEAD: &[u8] = b"HTTP/1.0 200 OK\r\n\
+Content-Type: application/json\r\n\
+Content-Length: 1048576\r\n\
+Connection: close\r\n\
+\r\n";
+
+/// A head, if one is asked for, and 1 MiB of body.
+fn large_text(alloc: Global, head: &[u8]) -> Result<Vec<u8>, OutOfMemory> {
+    let mut text = Vec::from_slice(alloc, head)?;
+    for n in 0..1_048_576u32 {
+        text.push((n % 251) as u8)?;
+    }
+    Ok(text)
+}
+
+/// Whether a body of 1 MiB stands whole behind its head.
+fn is_large_text_whole(alloc: Global) -> Result<bool, OutOfMemory> {
+    let body = large_text(alloc, b"")?;
+    let want = large_text(alloc, LARGE_HEAD)?;
+    let answer = Answer::Text {
+        kind: TextKind::Json,
+        body: body.as_slice(),
+    };
+    Ok(is_text(alloc, &answer, want.as_slice(), false))
+}
+
+#[test]
+fn large_body(rt: HostRuntime) {
+    assert!(rt; is_large_text_whole(rt.alloc()) == Ok(true));
+}
+
+const BLANKS_AROUND: Welcome = Welcome {
+    content_type: b"\taudio/mpeg ",
+    name: b"  Radio X\t",
+    genre: b" ",
+    interval: None,
+};
+
+/// Whether a name is read back out of the answer to a listener.
+fn is_read_back(alloc: Global, welcome: Welcome, name: &[u8]) -> bool {
+    match write_answer(alloc, &Answer::Listener(welcome)) {
+        Ok(text) => is_named(text.as_slice(), name),
+        Err(_) => false,
+    }
+}
+
+fn is_named(text: &[u8], name: &[u8]) -> bool {
+    match read_response(text) {
+        Ok(Progress::Whole(head, _)) => head.value("icy-name") == Some(name),
+        _ => false,
+    }
+}
+
+#[test]
+fn read_back_without_blanks(rt: HostRuntime) {
+    assert!(rt; is_read_back(rt.alloc(), BLANKS_AROUND, b"Radio X"));
 }

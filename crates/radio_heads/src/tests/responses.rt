@@ -5,7 +5,7 @@ use crate::{Progress, Version, read_response};
 /// A response's length, version, status and content type.
 type Parts<'b> = (usize, Version, u16, Option<&'b [u8]>);
 
-const RESPONSES: [(&[u8], Parts<'static>); 2] = [
+const RESPONSES: &[(&[u8], Parts<'static>)] = &[
     (
         b"HTTP/1.1 404 File Not Found\r\nContent-Type:  text/html\t\r\n\r\n",
         (58, Version::Http11, 404, Some(b"text/html")),
@@ -26,12 +26,12 @@ fn parts_of(bytes: &[u8]) -> Option<Parts<'_>> {
 
 #[test]
 fn parts_of_responses(rt: HostRuntime) {
-    for (bytes, want) in &RESPONSES {
-        assert_eq!(rt; parts_of(bytes), Some(*want), "{bytes:?}");
+    for (bytes, want) in RESPONSES {
+        assert!(rt; parts_of(bytes) == Some(*want), "{bytes:?}");
     }
 }
 
-const STATUS_LINES: [(&[u8], Seen); 14] = [
+const STATUS_LINES: &[(&[u8], Seen)] = &[
     (b"", Seen::More),
     (b"HTTP/1.0 200 OK\r\n\r", Seen::More),
     (b"HTTP/1.0 200 OK\r\n\r\n", Seen::Whole(19)),
@@ -50,7 +50,7 @@ const STATUS_LINES: [(&[u8], Seen); 14] = [
 
 #[test]
 fn status_lines(rt: HostRuntime) {
-    for (bytes, want) in &STATUS_LINES {
-        assert_eq!(rt; seen_in_response(bytes), *want, "{bytes:?}");
+    for (bytes, want) in STATUS_LINES {
+        assert!(rt; seen_in_response(bytes) == *want, "{bytes:?}");
     }
 }

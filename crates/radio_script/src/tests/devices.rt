@@ -1,26 +1,42 @@
-//! Devices for tests: they fail at one of their calls, and take or give few bytes a call.
+//! Devices for tests: they fail at one of their calls, take or give few bytes a call, count for
+//! themselves, or keep back what they take.
 
 use std::io;
 use std::io::{Error, ErrorKind, Read, Write};
 
 /// A device that fails once, with an interrupted call, and gives or takes at most so many bytes a
-/// call.
+/// call. It counts its calls and its failures itself.
 #[derive(Drop)]
 pub struct Frail<D> {
     pub device: D,
     /// How many calls go well before the one that fails.
-    pub sound: usize,
+    pub sound: u64,
     /// How many bytes a call gives or takes at most.
     pub most: usize,
+    /// How often it was called to read or to write.
+    pub calls: u64,
+    /// How often it failed.
+    pub failures: u64,
 }
 
 impl<D> Frail<D> {
+    /// It moves a byte a call, and fails once, after so many sound calls.
+    pub fn new(device: D, sound: u64) -> Frail<D> {
+        Frail {
+            device,
+            sound,
+            most: 1,
+            calls: 0,
+            failures: 0,
+        }
+    }
+
     fn fails(&mut self) -> bool {
-        if self.sound == 0 {
-            self.sound = usize::MAX;
+        self.calls = self.calls.saturating_add(1);
+        if self.calls == self.sound.saturating_add(1) {
+            self.failures = self.failures.saturating_add(1);
             return true;
         }
-        self.sound -= 1;
         false
     }
 }
@@ -45,6 +61,25 @@ impl<D: Write> Write for Frail<D> {
     }
 
     fn flush(&mut self) -> io::Result<()> {
+        self.device.flush()
+    }
+}
+
+/// A writer that passes on what it has taken when it is flushed, and not before.
+#[derive(Drop)]
+pub struct Keeping<D> {
+    pub device: D,
+    pub kept: Vec<u8>,
+}
+
+impl<D: Write> Write for Keeping<D> {
+    fn write(&mut self, buffer: &[u8]) -> io::Result<usize> {
+        self.kept.write(buffer)
+    }
+
+    fn flush(&mut self) -> io::Result<()> {
+        self.device.write_all(&self.kept)?;
+        self.kept.clear();
         self.device.flush()
     }
 }

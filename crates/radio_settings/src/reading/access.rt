@@ -1,25 +1,45 @@
 //! The keys above all tables.
 ghost use Rattle.toml.specs.View.{table_view};
-ghost use Rattle.radio_settings.specs.Access.{access_fault, access_of};
+ghost use Rattle.radio_settings.specs.Access.{access_fault, access_of, addresses_fault, addresses_of, relay_access_fault, relay_access_of};
 ghost use Rattle.radio_settings.specs.Reading.{Reads};
 
+use super::logins::login;
 use super::values::{required_text, text, text_or};
-use crate::{AccessSettings, Key, SettingsFault};
+use crate::{AccessSettings, AddressLists, Key, RelayAccess, SettingsFault};
 use std::alloc::Global;
 use toml::Table;
 
 /// Passwords, users and address lists.
-#[tactic(auto, unfolding(crate::specs::Access::access_fault, crate::specs::Access::access_of))]
+#[tactic(auto, using(crate::proofs::PartLemmas::access_parts), unfolding(crate::specs::Access::access_of))]
 pub fn access(alloc: Global, document: &Table) -> Result<AccessSettings, SettingsFault>
     ensures { let t = table_view document.now in
         Reads (access_fault t) (access_of t) result }
 {
     Ok(AccessSettings {
         source_password: required_text(alloc, document, Key::SourcePassword)?,
-        admin_user: text_or(alloc, document, Key::AdminUser, "admin")?,
-        admin_password: required_text(alloc, document, Key::AdminPassword)?,
-        relay_user: text_or(alloc, document, Key::RelayUser, "relay")?,
-        relay_password: text(alloc, document, Key::RelayPassword)?,
+        admin: login(alloc, document, Key::AdminUser, "admin", Key::AdminPassword)?,
+        relays: relay_access(alloc, document)?,
+        addresses: addresses(alloc, document)?,
+    })
+}
+
+#[tactic(auto, unfolding(crate::specs::Access::relay_access_fault, crate::specs::Access::relay_access_of))]
+fn relay_access(alloc: Global, document: &Table) -> Result<RelayAccess, SettingsFault>
+    ensures { let t = table_view document.now in
+        Reads (relay_access_fault t) (relay_access_of t) result }
+{
+    Ok(RelayAccess {
+        username: text_or(alloc, document, Key::RelayUser, "relay")?,
+        password: text(alloc, document, Key::RelayPassword)?,
+    })
+}
+
+#[tactic(auto, unfolding(crate::specs::Access::addresses_fault, crate::specs::Access::addresses_of))]
+fn addresses(alloc: Global, document: &Table) -> Result<AddressLists, SettingsFault>
+    ensures { let t = table_view document.now in
+        Reads (addresses_fault t) (addresses_of t) result }
+{
+    Ok(AddressLists {
         deny_ip: text(alloc, document, Key::DenyIp)?,
         allow_ip: text(alloc, document, Key::AllowIp)?,
     })

@@ -2,11 +2,12 @@
 ghost use Rattle.std.specs.Prelude.{◌≡◌, ◌≢◌, Ok, Err, IfOk, IfErr, None, Some, option_map};
 ghost use Rattle.toml.specs.Parse.{parse_document};
 ghost use Rattle.toml.specs.View.{table_view};
-ghost use Rattle.radio_settings.specs.Document.{fault_by_parts, optional_slave_fault, reading_of, settings_of};
+ghost use Rattle.radio_settings.specs.Document.{reading_of, settings_of};
+ghost use Rattle.radio_settings.specs.Parts.{apart_fault, basics_fault, basics_of, fault_by_parts, listed, listed_in, listen_and_limits_fault, listen_and_limits_of, listen_with, lists_fault, optional_slave_fault, streams_fault, streams_of};
 ghost use Rattle.radio_settings.specs.Lookup.{table_at};
 ghost use Rattle.radio_settings.specs.Slave.{slave_of};
 ghost use Rattle.radio_settings.specs.declared.key.Key.TheVariants.{Slave};
-ghost use Rattle.radio_settings.specs.Reading.{Reads};
+ghost use Rattle.radio_settings.specs.Reading.{Reads, ReadsAs};
 ghost use Rattle.radio_settings.specs.declared.fault.SettingsFault.TheVariants.{NotToml, OutOfMemory};
 
 use super::access::access;
@@ -15,8 +16,11 @@ use super::listen::listen;
 use super::mounts::{default_options, mounts};
 use super::relays::relays;
 use super::slave::slave;
-use super::tables::{table_at, table_or};
-use crate::{Key, MountSettings, RelaySettings, Settings, SettingsFault, SlaveSetting};
+use super::tables::table_at;
+use crate::{
+    AccessSettings, Key, LimitSettings, ListenSettings, MountOptions, MountSetting, MountSettings,
+    RelaySetting, RelaySettings, Settings, SettingsFault, SlaveSetting,
+};
 use std::alloc::Global;
 use toml::Table;
 
@@ -57,33 +61,132 @@ fn document(alloc: Global, text: &str) -> Result<Table, SettingsFault>
     }
 }
 
+/// What a document sets. Its tables are read in their order, and names that stand twice are looked for last.
 fn settings(alloc: Global, document: &Table) -> Result<Settings, SettingsFault>
     ensures { let d = table_view document.now in
         Reads (fault_by_parts d) (settings_of d) result }
 {
-    let empty = Table::new(alloc);
-    let access = access(alloc, document)?;
-    let listen = listen(alloc, table_or(document, Key::Listen, &empty)?)?;
-    let limits = limits(table_or(document, Key::Limits, &empty)?)?;
-    let mounts = mounts(alloc, document, &access, &limits)?;
-    let relays = relays(alloc, document)?;
-    let slave = optional_slave(alloc, document)?;
-    let mounts = MountSettings::new(alloc, mounts)?;
-    let relays = RelaySettings::new(alloc, relays)?;
-    let other_mounts = default_options(alloc, &access, &limits)?;
+    let basics = read_basics(alloc, document)?;
+    let streams = read_streams(alloc, document, &basics.access, &basics.limits)?;
     Ok(Settings {
-        access,
-        listen,
-        limits,
-        mounts,
-        other_mounts,
-        relays,
-        slave,
+        access: basics.access,
+        listen: basics.listen,
+        limits: basics.limits,
+        mounts: streams.mounts,
+        other_mounts: streams.other_mounts,
+        relays: streams.relays,
+        slave: streams.slave,
     })
 }
 
+/// What is set for the whole station.
+#[derive(Drop)]
+struct Basics {
+    access: AccessSettings,
+    listen: ListenSettings,
+    limits: LimitSettings,
+}
+
+/// The keys above all tables, `[listen]` and `[limits]`.
+#[tactic(auto, unfolding(crate::specs::Parts::basics_fault))]
+fn read_basics(alloc: Global, document: &Table) -> Result<Basics, SettingsFault>
+    ensures { let d = table_view document.now in
+        Reads (basics_fault d) (basics_of d) result }
+{
+    let access = access(alloc, document)?;
+    let (listen, limits) = listen_and_limits(alloc, document)?;
+    Ok(Basics {
+        access,
+        listen,
+        limits,
+    })
+}
+
+#[tactic(auto, unfolding(crate::specs::Parts::listen_and_limits_fault))]
+fn listen_and_limits(
+    alloc: Global,
+    document: &Table,
+) -> Result<(ListenSettings, LimitSettings), SettingsFault>
+    ensures { let d = table_view document.now in
+        ReadsAs (λ p. listen_with p.0 p.1) (listen_and_limits_fault d) (listen_and_limits_of d) result }
+{
+    let listen = listen(alloc, document)?;
+    let limits = limits(alloc, document)?;
+    Ok((listen, limits))
+}
+
+/// What is set for streams.
+#[derive(Drop)]
+struct Streams {
+    mounts: MountSettings,
+    other_mounts: MountOptions,
+    relays: RelaySettings,
+    slave: Option<SlaveSetting>,
+}
+
+/// The mounts, the relays and `[slave]`; then the names that stand twice.
+#[tactic(auto, unfolding(crate::specs::Parts::streams_fault, crate::specs::Parts::apart_fault))]
+fn read_streams(
+    alloc: Global,
+    document: &Table,
+    access: &AccessSettings,
+    limits: &LimitSettings,
+) -> Result<Streams, SettingsFault>
+    ensures { let d = table_view document.now in
+        Reads (streams_fault access.now limits.now d) (streams_of access.now limits.now d) result }
+{
+    let lists = read_lists(alloc, document, access, limits)?;
+    let (mounts, relays) = apart(alloc, lists.mounts, lists.relays)?;
+    let other_mounts = default_options(alloc, access, limits)?;
+    Ok(Streams {
+        mounts,
+        other_mounts,
+        relays,
+        slave: lists.slave,
+    })
+}
+
+/// The tables of streams, in the order of the text.
+#[derive(Drop)]
+struct Lists {
+    mounts: Vec<MountSetting>,
+    relays: Vec<RelaySetting>,
+    slave: Option<SlaveSetting>,
+}
+
+#[tactic(auto, unfolding(crate::specs::Parts::lists_fault))]
+fn read_lists(
+    alloc: Global,
+    document: &Table,
+    access: &AccessSettings,
+    limits: &LimitSettings,
+) -> Result<Lists, SettingsFault>
+    ensures { let d = table_view document.now in
+        ReadsAs (λ l. listed l.mounts.items l.relays.items l.slave) (lists_fault d) (listed_in access.now limits.now d) result }
+{
+    Ok(Lists {
+        mounts: mounts(alloc, document, access, limits)?,
+        relays: relays(alloc, document)?,
+        slave: optional_slave(alloc, document)?,
+    })
+}
+
+/// The same mounts and relays, if no two mounts have one name and no two relays feed one mount.
+#[tactic(auto, unfolding(crate::specs::Parts::apart_fault))]
+fn apart(
+    alloc: Global,
+    mounts: Vec<MountSetting>,
+    relays: Vec<RelaySetting>,
+) -> Result<(MountSettings, RelaySettings), SettingsFault>
+    ensures { ReadsAs (λ p. listed p.0 p.1 None) (apart_fault mounts.items relays.items) (listed mounts.items relays.items None) result }
+{
+    let mounts = MountSettings::new(alloc, mounts)?;
+    let relays = RelaySettings::new(alloc, relays)?;
+    Ok((mounts, relays))
+}
+
 /// The table `[slave]`, if there is one.
-#[tactic(auto, unfolding(crate::specs::Document::optional_slave_fault, crate::specs::Slave::slave_fault, crate::specs::Lookup::table_at))]
+#[tactic(auto, unfolding(crate::specs::Parts::optional_slave_fault, crate::specs::Slave::slave_fault, crate::specs::Lookup::table_at))]
 fn optional_slave(alloc: Global, document: &Table) -> Result<Option<SlaveSetting>, SettingsFault>
     ensures { let d = table_view document.now in
         Reads (optional_slave_fault d) (option_map slave_of (table_at Slave d)) result }

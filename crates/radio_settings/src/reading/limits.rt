@@ -1,15 +1,29 @@
 //! The table `[limits]`.
 ghost use Rattle.toml.specs.View.{table_view};
 ghost use Rattle.radio_settings.specs.Limits.{limits_fault, limits_of};
+ghost use Rattle.radio_settings.specs.Lookup.{table_or_empty};
+ghost use Rattle.radio_settings.specs.Parts.{limits_table_fault};
+ghost use Rattle.radio_settings.specs.declared.key.Key.TheVariants.{Limits};
 ghost use Rattle.radio_settings.specs.Reading.{Reads};
 
+use super::tables::table_or;
 use super::values::number_or;
 use crate::{Key, LimitSettings, SettingsFault};
+use std::alloc::Global;
 use toml::Table;
 
 /// The limits of the whole station.
+#[tactic(auto, unfolding(crate::specs::Parts::limits_table_fault, crate::specs::Limits::limits_fault))]
+pub fn limits(alloc: Global, document: &Table) -> Result<LimitSettings, SettingsFault>
+    ensures { let d = table_view document.now in
+        Reads (limits_table_fault d) (limits_of (table_or_empty Limits d)) result }
+{
+    let empty = Table::new(alloc);
+    limits_in(table_or(document, Key::Limits, &empty)?)
+}
+
 #[tactic(auto, unfolding(crate::specs::Limits::limits_fault, crate::specs::Limits::limits_of))]
-pub fn limits(table: &Table) -> Result<LimitSettings, SettingsFault>
+fn limits_in(table: &Table) -> Result<LimitSettings, SettingsFault>
     ensures { let t = table_view table.now in
         Reads (limits_fault t) (limits_of t) result }
 {

@@ -1,16 +1,29 @@
 //! The table `[listen]`.
 ghost use Rattle.toml.specs.View.{table_view};
 ghost use Rattle.radio_settings.specs.Listen.{listen_fault, listen_of};
+ghost use Rattle.radio_settings.specs.Lookup.{table_or_empty};
+ghost use Rattle.radio_settings.specs.Parts.{listen_table_fault};
+ghost use Rattle.radio_settings.specs.declared.key.Key.TheVariants.{Listen};
 ghost use Rattle.radio_settings.specs.Reading.{Reads};
 
+use super::tables::table_or;
 use super::values::{number_or, text_or};
 use crate::{Key, ListenSettings, SettingsFault};
 use std::alloc::Global;
 use toml::Table;
 
 /// Where the server listens.
+#[tactic(auto, unfolding(crate::specs::Parts::listen_table_fault, crate::specs::Listen::listen_fault))]
+pub fn listen(alloc: Global, document: &Table) -> Result<ListenSettings, SettingsFault>
+    ensures { let d = table_view document.now in
+        Reads (listen_table_fault d) (listen_of (table_or_empty Listen d)) result }
+{
+    let empty = Table::new(alloc);
+    listen_in(alloc, table_or(document, Key::Listen, &empty)?)
+}
+
 #[tactic(auto, unfolding(crate::specs::Listen::listen_fault, crate::specs::Listen::listen_of))]
-pub fn listen(alloc: Global, table: &Table) -> Result<ListenSettings, SettingsFault>
+fn listen_in(alloc: Global, table: &Table) -> Result<ListenSettings, SettingsFault>
     ensures { let t = table_view table.now in
         Reads (listen_fault t) (listen_of t) result }
 {

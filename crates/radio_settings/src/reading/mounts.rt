@@ -3,21 +3,22 @@ ghost use Rattle.std.specs.Prelude.{◌≡◌, IfOk, map};
 ghost use Rattle.toml.specs.Data.{no_members};
 ghost use Rattle.std.specs.List.{flat_map};
 ghost use Rattle.toml.specs.View.{table_view};
-ghost use Rattle.radio_settings.specs.Document.{mounts_fault};
-ghost use Rattle.radio_settings.specs.Mounts.{options_fault, mount_fault, mount_rows, options_of, mount_of, mounts_of};
+ghost use Rattle.radio_settings.specs.Parts.{mounts_fault};
+ghost use Rattle.radio_settings.specs.Mounts.{listeners_fault, listeners_of, mount_fault, mount_of, mount_rows, mounts_of, options_fault, options_of, source_fault, source_of, stream_fault, stream_of, users_fault, users_of};
 ghost use Rattle.radio_settings.specs.Rows.{faults_in, first_fault};
 ghost use Rattle.radio_settings.specs.Reading.{Reads, ReadsAs};
 
 use super::tables::tables_at;
 use super::values::{field, flag_or, name, number, number_or, required_name, text, text_or};
 use crate::{
-    AccessSettings, Key, LimitSettings, MountOptions, MountSetting, OutOfMemory, SettingsFault,
+    AccessSettings, Key, LimitSettings, ListenerOptions, Login, MountOptions, MountSetting,
+    OutOfMemory, SettingsFault, StreamOptions, UserOptions,
 };
 use std::alloc::{AllocError, Global};
 use toml::Table;
 
 /// All mounts that have a table.
-#[tactic(auto, unfolding(crate::specs::Document::mounts_fault))]
+#[tactic(auto, unfolding(crate::specs::Parts::mounts_fault))]
 pub fn mounts(
     alloc: Global,
     document: &Table,
@@ -47,7 +48,7 @@ fn mounts_in(
     Ok(mounts)
 }
 
-#[tactic(auto, unfolding(crate::specs::Mounts::mount_fault, crate::specs::Mounts::mount_of, crate::specs::Mounts::options_fault))]
+#[tactic(auto, using(crate::proofs::PartLemmas::mount_parts), unfolding(crate::specs::Mounts::mount_of))]
 fn mount(
     alloc: Global,
     table: &Table,
@@ -64,7 +65,7 @@ fn mount(
 }
 
 /// What a table sets for a mount.
-#[tactic(auto, unfolding(crate::specs::Mounts::options_fault, crate::specs::Mounts::options_of))]
+#[tactic(auto, using(crate::proofs::PartLemmas::options_parts), unfolding(crate::specs::Mounts::options_of))]
 fn options(
     alloc: Global,
     table: &Table,
@@ -75,18 +76,62 @@ fn options(
         Reads (options_fault t) (options_of access.now limits.now t) result }
 {
     Ok(MountOptions {
+        source: source(alloc, table, access)?,
+        listeners: listeners(table)?,
+        stream: stream(alloc, table, limits)?,
+        users: users(alloc, table)?,
+    })
+}
+
+#[tactic(auto, unfolding(crate::specs::Mounts::source_fault, crate::specs::Mounts::source_of))]
+fn source(alloc: Global, table: &Table, access: &AccessSettings) -> Result<Login, SettingsFault>
+    ensures { let t = table_view table.now in
+        Reads (source_fault t) (source_of access.now t) result }
+{
+    Ok(Login {
         username: text_or(alloc, table, Key::Username, "source")?,
         password: text_or(alloc, table, Key::Password, access.source_password.as_str())?,
+    })
+}
+
+#[tactic(auto, unfolding(crate::specs::Mounts::listeners_fault, crate::specs::Mounts::listeners_of))]
+fn listeners(table: &Table) -> Result<ListenerOptions, SettingsFault>
+    ensures { let t = table_view table.now in
+        Reads (listeners_fault t) (listeners_of t) result }
+{
+    Ok(ListenerOptions {
         max_listeners: number(table, Key::MaxListeners)?,
         max_listener_duration: number(table, Key::MaxListenerDuration)?,
         fallback_mount: name(table, Key::FallbackMount)?,
         fallback_override: flag_or(table, Key::FallbackOverride, false)?,
         fallback_when_full: flag_or(table, Key::FallbackWhenFull, false)?,
+    })
+}
+
+#[tactic(auto, unfolding(crate::specs::Mounts::stream_fault, crate::specs::Mounts::stream_of))]
+fn stream(
+    alloc: Global,
+    table: &Table,
+    limits: &LimitSettings,
+) -> Result<StreamOptions, SettingsFault>
+    ensures { let t = table_view table.now in
+        Reads (stream_fault t) (stream_of limits.now t) result }
+{
+    Ok(StreamOptions {
         hidden: flag_or(table, Key::Hidden, false)?,
         burst_size: number_or(table, Key::BurstSize, limits.burst_size.get())?,
         mp3_metadata_interval: number_or(table, Key::Mp3MetadataInterval, 16000)?,
         stream_name: field(alloc, table, Key::StreamName)?,
         genre: field(alloc, table, Key::Genre)?,
+    })
+}
+
+#[tactic(auto, unfolding(crate::specs::Mounts::users_fault, crate::specs::Mounts::users_of))]
+fn users(alloc: Global, table: &Table) -> Result<UserOptions, SettingsFault>
+    ensures { let t = table_view table.now in
+        Reads (users_fault t) (users_of t) result }
+{
+    Ok(UserOptions {
         htpasswd: text(alloc, table, Key::Htpasswd)?,
         allow_duplicate_users: flag_or(table, Key::AllowDuplicateUsers, true)?,
     })

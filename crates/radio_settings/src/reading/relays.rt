@@ -2,19 +2,20 @@
 ghost use Rattle.std.specs.Prelude.{◌≡◌, map};
 ghost use Rattle.std.specs.List.{flat_map};
 ghost use Rattle.toml.specs.View.{table_view};
-ghost use Rattle.radio_settings.specs.Document.{relays_fault};
-ghost use Rattle.radio_settings.specs.Relays.{login_from, relay_fault, relay_rows, relay_of, relays_of};
+ghost use Rattle.radio_settings.specs.Parts.{relays_fault};
+ghost use Rattle.radio_settings.specs.Relays.{login_from, pair_fault, pair_of, relay_fault, relay_rows, relay_of, relays_of};
 ghost use Rattle.radio_settings.specs.Rows.{faults_in, first_fault};
 ghost use Rattle.radio_settings.specs.Reading.{Reads, ReadsAs};
 
+use super::masters::master;
 use super::tables::tables_at;
-use super::values::{name_or, no_flag, number_or, required_field, required_name, text_with};
-use crate::{Key, RelayLogin, RelaySetting, SettingsFault, Text};
+use super::values::{name_or, no_flag, required_name, text_with};
+use crate::{Key, Login, RelaySetting, SettingsFault, Text};
 use std::alloc::Global;
 use toml::Table;
 
 /// All relays.
-#[tactic(auto, unfolding(crate::specs::Document::relays_fault))]
+#[tactic(auto, unfolding(crate::specs::Parts::relays_fault))]
 pub fn relays(alloc: Global, document: &Table) -> Result<Vec<RelaySetting>, SettingsFault>
     ensures { let d = table_view document.now in
         ReadsAs (λ v. v.items) (relays_fault d) (relays_of d) result }
@@ -34,34 +35,39 @@ fn relays_in(alloc: Global, tables: &[&Table]) -> Result<Vec<RelaySetting>, Sett
     Ok(relays)
 }
 
-#[tactic(auto, unfolding(crate::specs::Relays::relay_fault, crate::specs::Relays::relay_of))]
+#[tactic(auto, using(crate::proofs::PartLemmas::relay_parts), unfolding(crate::specs::Relays::relay_of))]
 fn relay(alloc: Global, table: &Table) -> Result<RelaySetting, SettingsFault>
     ensures { let t = table_view table.now in
         Reads (relay_fault t) (relay_of t) result }
 {
-    let server = required_field(alloc, table, Key::Server)?;
-    let port = number_or(table, Key::Port, 8000)?;
+    let master = master(alloc, table, Key::Server, Key::Port)?;
     let mount = required_name(table, Key::Mount)?;
-    let local_mount = name_or(table, Key::LocalMount, mount)?;
-    let username = text_with(alloc, table, Key::Username, Key::Password)?;
-    let password = text_with(alloc, table, Key::Password, Key::Username)?;
-    let on_demand = no_flag(table, Key::OnDemand)?;
     Ok(RelaySetting {
-        server,
-        port,
+        master,
         mount,
-        local_mount,
-        login: login(username, password),
-        on_demand,
+        local_mount: name_or(table, Key::LocalMount, mount)?,
+        login: pair(alloc, table)?,
+        on_demand: no_flag(table, Key::OnDemand)?,
     })
 }
 
-/// A user and a password, if both are there.
-fn login(username: Option<Text>, password: Option<Text>) -> Option<RelayLogin>
+/// A user and a password: both, or neither.
+#[tactic(auto, unfolding(crate::specs::Relays::pair_fault, crate::specs::Relays::pair_of))]
+fn pair(alloc: Global, table: &Table) -> Result<Option<Login>, SettingsFault>
+    ensures { let t = table_view table.now in
+        Reads (pair_fault t) (pair_of t) result }
+{
+    let username = text_with(alloc, table, Key::Username, Key::Password)?;
+    let password = text_with(alloc, table, Key::Password, Key::Username)?;
+    Ok(login_from(username, password))
+}
+
+/// The login of a user and a password, if both are there.
+fn login_from(username: Option<Text>, password: Option<Text>) -> Option<Login>
     ensures { result ≡ login_from username password }
 {
     match (username, password) {
-        (Some(username), Some(password)) => Some(RelayLogin { username, password }),
+        (Some(username), Some(password)) => Some(Login { username, password }),
         _ => None,
     }
 }

@@ -2,7 +2,7 @@
 
 use super::*;
 use crate::{
-    AccessSettings, Field, LimitSettings, ListenSettings, MountOptions, RelaySetting, Text,
+    AccessSettings, Field, LimitSettings, Login, MountOptions, RelaySetting, SlaveSetting, Text,
 };
 
 const EVERY_KEY: &str = "
@@ -56,137 +56,141 @@ master-password = \"spw\"
 master-update-interval = 15
 ";
 
-/// A part of the settings: the keys above all tables, a table, or what holds for the mount or the relay of this name.
-#[derive(Clone, Copy, Debug)]
-enum Part {
-    Access,
-    Listen,
-    Limits,
-    Mount(&'static str),
-    Relay(&'static str),
-    Slave,
+/// What only two texts are set to: the passwords, a mount, a relay and a slave, each with the keys that it needs.
+const NEEDED_KEYS: &str = "
+source-password = \"sp\"
+admin-password = \"ap\"
+[[mount]]
+mount-name = \"/a\"
+[[relay]]
+server = \"s\"
+mount = \"/e\"
+[slave]
+master-server = \"m\"
+master-password = \"spw\"
+";
+
+/// What a text sets, with `-` for what is absent and 0 for no limit: of the mount `/a`, of the mount `/b`, which has no
+/// table, and of the relay that feeds `/e`.
+struct Station {
+    access: &'static [&'static str],
+    address: &'static str,
+    listen: &'static [u32],
+    limits: &'static [u32],
+    mount: &'static [&'static str],
+    mount_numbers: &'static [u32],
+    mount_flags: &'static [bool],
+    other_mount: &'static [&'static str],
+    other_numbers: &'static [u32],
+    relay: &'static [&'static str],
+    slave: &'static [&'static str],
+    relay_port: u32,
+    slave_numbers: &'static [u32],
 }
 
-/// A part of the settings of a text as a line, with `-` for a text that is absent.
-fn line_of(alloc: Global, text: &str, part: Part) -> Result<String, Fail> {
-    let settings = Settings::read(alloc, text)?;
-    part_line(alloc, &settings, part)
-}
+const EVERY_KEY_SET: Station = Station {
+    access: &["sp", "au", "ap", "ru", "rp", "d", "a"],
+    address: "::",
+    listen: &[1, 2],
+    limits: &[3, 4, 5, 6, 7, 8],
+    mount: &["mu", "mp", "/b", "Night", "Talk", "h"],
+    mount_numbers: &[9, 10, 11, 12],
+    mount_flags: &[true, true, true, false],
+    other_mount: &["source", "sp", "-", "-", "-", "-"],
+    other_numbers: &[0, 0, 6, 16000],
+    relay: &["s", "/c", "/e", "u", "p"],
+    slave: &["m", "su", "spw"],
+    relay_port: 13,
+    slave_numbers: &[14, 15],
+};
 
-fn part_line(alloc: Global, settings: &Settings, part: Part) -> Result<String, Fail> {
-    match part {
-        Part::Access => access_line(alloc, &settings.access),
-        Part::Listen => listen_line(alloc, &settings.listen),
-        Part::Limits => limits_line(alloc, &settings.limits),
-        Part::Mount(name) => mount_line(alloc, settings, name),
-        Part::Relay(name) => relay_line(alloc, settings, name),
-        Part::Slave => slave_line(alloc, settings),
-    }
-}
+const DEFAULTS: Station = Station {
+    access: &["sp", "admin", "ap", "relay", "-", "-", "-"],
+    address: "127.0.0.1",
+    listen: &[8000, 4],
+    limits: &[100, 2, 524_288, 65_536, 10, 15],
+    mount: &["source", "sp", "-", "-", "-", "-"],
+    mount_numbers: &[0, 0, 65_536, 16000],
+    mount_flags: &[false, false, false, true],
+    other_mount: &["source", "sp", "-", "-", "-", "-"],
+    other_numbers: &[0, 0, 65_536, 16000],
+    relay: &["s", "/e", "/e", "-", "-"],
+    slave: &["m", "relay", "spw"],
+    relay_port: 8000,
+    slave_numbers: &[8000, 120],
+};
 
-fn access_line(alloc: Global, access: &AccessSettings) -> Result<String, Fail> {
-    let texts = [
+fn access_texts(access: &AccessSettings) -> [&str; 7] {
+    [
         access.source_password.as_str(),
-        access.admin_user.as_str(),
-        access.admin_password.as_str(),
-        access.relay_user.as_str(),
-        or_dash(&access.relay_password),
-        or_dash(&access.deny_ip),
-        or_dash(&access.allow_ip),
-    ];
-    Ok(texts.join(alloc, " ")?)
+        access.admin.username.as_str(),
+        access.admin.password.as_str(),
+        access.relays.username.as_str(),
+        or_dash(&access.relays.password),
+        or_dash(&access.addresses.deny_ip),
+        or_dash(&access.addresses.allow_ip),
+    ]
 }
 
-fn listen_line(alloc: Global, listen: &ListenSettings) -> Result<String, Fail> {
-    let address = listen.address.as_str();
-    let port = listen.port.get();
-    let workers = listen.workers.get();
-    Ok(format!(in alloc; "{address} {port} {workers}")?)
-}
-
-fn limits_line(alloc: Global, limits: &LimitSettings) -> Result<String, Fail> {
-    let numbers = [
+fn limit_numbers(limits: &LimitSettings) -> [u32; 6] {
+    [
         limits.clients.get(),
         limits.sources.get(),
         limits.queue_size.get(),
         limits.burst_size.get(),
         limits.source_timeout.get(),
         limits.header_timeout.get(),
-    ];
-    Ok(format!(in alloc; "{numbers:?}")?)
-}
-
-fn mount_line(alloc: Global, settings: &Settings, name: &str) -> Result<String, Fail> {
-    let options = settings.options(&named(name)?);
-    let texts = options_texts(alloc, options)?;
-    let numbers = options_numbers(options);
-    let flags = options_flags(options);
-    Ok(format!(in alloc; "{texts} {numbers:?} {flags:?}")?)
-}
-
-fn options_texts(alloc: Global, options: &MountOptions) -> Result<String, OutOfMemory> {
-    let texts = [
-        options.username.as_str(),
-        options.password.as_str(),
-        name_or_dash(&options.fallback_mount),
-        field_or_dash(&options.stream_name),
-        field_or_dash(&options.genre),
-        or_dash(&options.htpasswd),
-    ];
-    texts.join(alloc, " ")
-}
-
-/// The numbers of a mount's options; 0 for no limit.
-fn options_numbers(options: &MountOptions) -> [u32; 4] {
-    [
-        match options.max_listeners {
-            Some(number) => number.get(),
-            None => 0,
-        },
-        match options.max_listener_duration {
-            Some(number) => number.get(),
-            None => 0,
-        },
-        options.burst_size.get(),
-        options.mp3_metadata_interval.get(),
     ]
 }
 
-fn options_flags(options: &MountOptions) -> [bool; 4] {
+fn mount_texts(options: &MountOptions) -> [&str; 6] {
     [
-        options.fallback_override,
-        options.fallback_when_full,
-        options.hidden,
-        options.allow_duplicate_users,
+        options.source.username.as_str(),
+        options.source.password.as_str(),
+        name_or_dash(&options.listeners.fallback_mount),
+        field_or_dash(&options.stream.stream_name),
+        field_or_dash(&options.stream.genre),
+        or_dash(&options.users.htpasswd),
     ]
 }
 
-fn relay_line(alloc: Global, settings: &Settings, name: &str) -> Result<String, Fail> {
-    let relay = settings.relays.get(&named(name)?).ok_or("no relay")?;
-    let server = relay.server.as_str();
-    let port = relay.port.get();
-    let mount = relay.mount.as_str();
-    let local_mount = relay.local_mount.as_str();
-    let login = login_word(alloc, relay)?;
-    let on_demand = relay.on_demand;
-    Ok(format!(in alloc; "{server} {port} {mount} {local_mount} {login} {on_demand}")?)
+fn mount_numbers(options: &MountOptions) -> [u32; 4] {
+    [
+        options.listeners.max_listeners.map_or(0, |most| most.get()),
+        options
+            .listeners
+            .max_listener_duration
+            .map_or(0, |longest| longest.get()),
+        options.stream.burst_size.get(),
+        options.stream.mp3_metadata_interval.get(),
+    ]
 }
 
-fn login_word(alloc: Global, relay: &RelaySetting) -> Result<String, OutOfMemory> {
-    match &relay.login {
-        Some(login) => [login.username.as_str(), login.password.as_str()].join(alloc, ":"),
-        None => "-".to_string(alloc),
+fn mount_flags(options: &MountOptions) -> [bool; 4] {
+    [
+        options.listeners.fallback_override,
+        options.listeners.fallback_when_full,
+        options.stream.hidden,
+        options.users.allow_duplicate_users,
+    ]
+}
+
+fn relay_texts(relay: &RelaySetting) -> [&str; 5] {
+    let (username, password) = login_texts(&relay.login);
+    [
+        relay.master.server.as_str(),
+        relay.mount.as_str(),
+        relay.local_mount.as_str(),
+        username,
+        password,
+    ]
+}
+
+fn login_texts(login: &Option<Login>) -> (&str, &str) {
+    match login {
+        Some(login) => (login.username.as_str(), login.password.as_str()),
+        None => ("-", "-"),
     }
-}
-
-fn slave_line(alloc: Global, settings: &Settings) -> Result<String, Fail> {
-    let slave = settings.slave.as_ref().ok_or("no slave")?;
-    let server = slave.master_server.as_str();
-    let port = slave.master_port.get();
-    let username = slave.master_username.as_str();
-    let password = slave.master_password.as_str();
-    let interval = slave.master_update_interval.get();
-    Ok(format!(in alloc; "{server} {port} {username} {password} {interval}")?)
 }
 
 fn or_dash(text: &Option<Text>) -> &str {
@@ -210,70 +214,86 @@ fn name_or_dash(name: &Option<MountName>) -> &str {
     }
 }
 
-/// A part of the settings of a text is this line.
-fn check_line(
-    rt: &impl Abort,
-    alloc: Global,
-    text: &str,
-    part: Part,
-    want: &str,
-) -> Result<(), Fail> {
-    let line = line_of(alloc, text, part)?;
-    assert_eq!(rt; line.as_str(), want, "{part:?}");
-    Ok(())
+/// Whether the keys above all tables, `[listen]` and `[limits]` are as wanted.
+fn has_basics(settings: &Settings, want: &Station) -> bool {
+    access_texts(&settings.access).as_slice() == want.access
+        && settings.listen.address.as_str() == want.address
+        && [settings.listen.port.get(), settings.listen.workers.get()].as_slice() == want.listen
+        && limit_numbers(&settings.limits).as_slice() == want.limits
 }
 
-const PARTS: [(Part, &str); 6] = [
-    (Part::Access, "sp au ap ru rp d a"),
-    (Part::Listen, ":: 1 2"),
-    (Part::Limits, "[3, 4, 5, 6, 7, 8]"),
-    (
-        Part::Mount("/a"),
-        "mu mp /b Night Talk h [9, 10, 11, 12] [true, true, true, false]",
-    ),
-    (Part::Relay("/e"), "s 13 /c /e u:p false"),
-    (Part::Slave, "m 14 su spw 15"),
-];
-
-#[test]
-fn every_key(rt: HostRuntime) -> Result<(), Fail> {
-    for (part, want) in PARTS {
-        check_line(&rt, rt.alloc(), EVERY_KEY, part, want)?;
-    }
-    Ok(())
+fn has_mount(settings: &Settings, want: &Station) -> bool {
+    let Some(name) = MountName::read(b"/a") else {
+        return false;
+    };
+    let options = settings.options(&name);
+    mount_texts(options).as_slice() == want.mount
+        && mount_numbers(options).as_slice() == want.mount_numbers
+        && mount_flags(options).as_slice() == want.mount_flags
 }
 
-/// A mount with a table that sets nothing. It has the burst of `[limits]`, as has one without a table.
-const BARE_MOUNT: &str = "[limits]\nburst-size = 7\n[[mount]]\nmount-name = \"/a\"\n";
+fn has_other_mount(settings: &Settings, want: &Station) -> bool {
+    let Some(name) = MountName::read(b"/b") else {
+        return false;
+    };
+    let options = settings.options(&name);
+    mount_texts(options).as_slice() == want.other_mount
+        && mount_numbers(options).as_slice() == want.other_numbers
+        && mount_flags(options) == [false, false, false, true]
+}
 
-const BARE_RELAY: &str = "[[relay]]\nserver = \"s\"\nmount = \"/a\"\n";
+fn has_relay(settings: &Settings, want: &Station) -> bool {
+    let Some(name) = MountName::read(b"/e") else {
+        return false;
+    };
+    let Some(relay) = settings.relays.get(&name) else {
+        return false;
+    };
+    relay_texts(relay).as_slice() == want.relay
+        && !relay.on_demand
+        && relay.master.port.get() == want.relay_port
+}
 
-const BARE_SLAVE: &str = "[slave]\nmaster-server = \"s\"\nmaster-password = \"p\"\n";
+fn has_slave(settings: &Settings, want: &Station) -> bool {
+    let Some(slave) = &settings.slave else {
+        return false;
+    };
+    slave_texts(slave).as_slice() == want.slave
+        && [slave.master.port.get(), slave.master_update_interval.get()].as_slice()
+            == want.slave_numbers
+}
 
-/// What stands behind the two passwords, and a part with its defaults.
-const DEFAULTS: [(&str, Part, &str); 7] = [
-    ("", Part::Access, "hackme admin letmein relay - - -"),
-    ("", Part::Listen, "127.0.0.1 8000 4"),
-    ("", Part::Limits, "[100, 2, 524288, 65536, 10, 15]"),
-    (
-        BARE_MOUNT,
-        Part::Mount("/a"),
-        "source hackme - - - - [0, 0, 7, 16000] [false, false, false, true]",
-    ),
-    (
-        BARE_MOUNT,
-        Part::Mount("/b"),
-        "source hackme - - - - [0, 0, 7, 16000] [false, false, false, true]",
-    ),
-    (BARE_RELAY, Part::Relay("/a"), "s 8000 /a /a - false"),
-    (BARE_SLAVE, Part::Slave, "s 8000 relay p 120"),
-];
+fn slave_texts(slave: &SlaveSetting) -> [&str; 3] {
+    [
+        slave.master.server.as_str(),
+        slave.login.username.as_str(),
+        slave.login.password.as_str(),
+    ]
+}
+
+/// Whether the settings are those of a station.
+fn is_station(settings: &Settings, want: &Station) -> bool {
+    has_basics(settings, want)
+        && has_mount(settings, want)
+        && has_other_mount(settings, want)
+        && has_relay(settings, want)
+        && has_slave(settings, want)
+}
+
+/// Whether a text sets this station.
+fn sets(alloc: Global, text: &str, want: &Station) -> bool {
+    match Settings::read(alloc, text) {
+        Ok(settings) => is_station(&settings, want),
+        Err(_) => false,
+    }
+}
+
+/// Texts, and what they set.
+const STATIONS: [(&str, Station); 2] = [(EVERY_KEY, EVERY_KEY_SET), (NEEDED_KEYS, DEFAULTS)];
 
 #[test]
-fn defaults(rt: HostRuntime) -> Result<(), Fail> {
-    for (rest, part, want) in DEFAULTS {
-        let text = format!(in rt.alloc(); "{PASSWORDS}{rest}")?;
-        check_line(&rt, rt.alloc(), text.as_str(), part, want)?;
+fn every_key_and_its_default(rt: HostRuntime) {
+    for (text, want) in &STATIONS {
+        assert!(rt; sets(rt.alloc(), text, want), "{text}");
     }
-    Ok(())
 }

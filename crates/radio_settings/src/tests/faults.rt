@@ -123,38 +123,35 @@ fn lists_of_relays(rt: HostRuntime) -> Result<(), Fail> {
 }
 
 /// The tables of mounts with these names, in this order.
-fn mounts_named(alloc: Global, names: &[&str]) -> Result<String, OutOfMemory> {
-    let mut text = String::new(alloc);
+fn add_mounts(text: &mut String, names: &[&str]) -> Result<(), OutOfMemory> {
     for name in names {
         write!(text, "[[mount]]\nmount-name = \"{name}\"\n")?;
     }
-    Ok(text)
+    Ok(())
 }
 
 /// The tables of relays that feed these mounts, in this order.
-fn relays_named(alloc: Global, names: &[&str]) -> Result<String, OutOfMemory> {
-    let mut text = String::new(alloc);
+fn add_relays(text: &mut String, names: &[&str]) -> Result<(), OutOfMemory> {
     for name in names {
         write!(
             text,
             "[[relay]]\nserver = \"s\"\nmount = \"/m\"\nlocal-mount = \"{name}\"\n"
         )?;
     }
-    Ok(text)
+    Ok(())
 }
 
-/// Mounts and relays of these names have this fault.
+/// Whether mounts and relays of these names have this fault.
 fn names_have_fault(
-    rt: &impl Abort,
     alloc: Global,
     mounts: &[&str],
     relays: &[&str],
     want: &str,
-) -> Result<(), Fail> {
-    let mounts = mounts_named(alloc, mounts)?;
-    let relays = relays_named(alloc, relays)?;
-    let text = format!(in alloc; "{mounts}{relays}")?;
-    has_fault(rt, alloc, PASSWORDS, text.as_str(), want)
+) -> Result<bool, OutOfMemory> {
+    let mut text = String::from_str(alloc, PASSWORDS)?;
+    add_mounts(&mut text, mounts)?;
+    add_relays(&mut text, relays)?;
+    has_fault(alloc, text.as_str(), "", want)
 }
 
 /// Names of mounts, names of relays, and the fault.
@@ -168,7 +165,10 @@ const NAMES: [(&[&str], &[&str], &str); 4] = [
 #[test]
 fn names_that_stand_twice(rt: HostRuntime) -> Result<(), Fail> {
     for (mounts, relays, want) in &NAMES {
-        names_have_fault(&rt, rt.alloc(), mounts, relays, want)?;
+        assert!(rt;
+            names_have_fault(rt.alloc(), mounts, relays, want)?,
+            "{want}"
+        );
     }
     Ok(())
 }

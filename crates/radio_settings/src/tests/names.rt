@@ -70,15 +70,21 @@ fn longest_name(rt: HostRuntime) -> Result<(), Fail> {
     Ok(())
 }
 
-fn check_order(rt: &impl Abort, name: &str, other: &str, order: Ordering) -> Result<(), Fail> {
-    assert_eq!(rt; named(name)?.cmp(&named(other)?), order, "{name} {other}");
-    Ok(())
+/// Names, and how the first stands to the second.
+const ORDERS: [(&[u8], &[u8], Ordering); 4] = [
+    (b"/a", b"/a", Ordering::Equal),
+    (b"/a", b"/ab", Ordering::Less),
+    (b"/ab", b"/b", Ordering::Less),
+    (b"/b", b"/", Ordering::Greater),
+];
+
+fn order_of(name: &[u8], other: &[u8]) -> Option<Ordering> {
+    Some(MountName::read(name)?.cmp(&MountName::read(other)?))
 }
 
 #[test]
-fn names_are_compared_by_their_bytes(rt: HostRuntime) -> Result<(), Fail> {
-    check_order(&rt, "/a", "/a", Ordering::Equal)?;
-    check_order(&rt, "/a", "/ab", Ordering::Less)?;
-    check_order(&rt, "/ab", "/b", Ordering::Less)?;
-    check_order(&rt, "/b", "/", Ordering::Greater)
+fn names_are_compared_by_their_bytes(rt: HostRuntime) {
+    for (name, other, order) in &ORDERS {
+        assert!(rt; order_of(name, other) == Some(*order), "{name:?}");
+    }
 }

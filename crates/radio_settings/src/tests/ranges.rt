@@ -32,7 +32,19 @@ const RELAY: &str = "server = \"s\"\nmount = \"/a\"";
 
 const SLAVE: &str = "master-server = \"s\"\nmaster-password = \"p\"";
 
-/// Each of these values of the range's key has this fault.
+/// Whether this value of the range's key has this fault.
+fn value_has_fault<T: fmt::Display>(
+    alloc: Global,
+    range: &Range,
+    value: &T,
+    want: &str,
+) -> Result<bool, OutOfMemory> {
+    let (table, before, key, _, _) = range;
+    let text = format!(in alloc; "{table}\n{before}\n{key} = {value}\n")?;
+    has_fault(alloc, PASSWORDS, text.as_str(), want)
+}
+
+/// Each of these values has it.
 fn values_have_fault<T: fmt::Display>(
     rt: &impl Abort,
     alloc: Global,
@@ -40,10 +52,8 @@ fn values_have_fault<T: fmt::Display>(
     values: &[T],
     want: &str,
 ) -> Result<(), Fail> {
-    let (table, before, key, _, _) = range;
     for value in values {
-        let text = format!(in alloc; "{table}\n{before}\n{key} = {value}\n")?;
-        has_fault(rt, alloc, PASSWORDS, text.as_str(), want)?;
+        assert!(rt; value_has_fault(alloc, range, value, want)?, "{value}");
     }
     Ok(())
 }

@@ -10,7 +10,8 @@ returns-in_err-front c =
 
 pub returns-in_err-back : goal.returns-in_err-back
 returns-in_err-back c =
-    rw c.from_residual-in_err-back.ensures (shortened_read (groups_of false c.args.front.now) (groups_of true c.args.back.now) _ _ c.in_ok-front.ensures c.in_err-back.ensures)
+    rw c.from_residual-in_err-back.ensures (shortened_read (groups_of false c.args.front.now)
+    (groups_of true c.args.back.now) _ _ c.in_ok-front.ensures c.in_err-back.ensures)
 
 pub returns : goal.returns
 returns c =

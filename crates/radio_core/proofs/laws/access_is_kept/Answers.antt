@@ -1,7 +1,7 @@
 use Rattle.radio_core.specs.Run.{run_after}
-use Rattle.radio_core.proofs.SoundLemmas.{sound_run}
+use Rattle.radio_core.proofs.SoundRuns.{sound_run}
 use Rattle.radio_core.proofs.AccessLemmas.{access_holds}
 use Rattle.radio_core.proofs.laws.access_is_kept.Goals as goal
 
 pub returns : goal.returns
-returns c = record { access = λ settings events event. access_holds (run_after settings events) event (sound_run settings events) }
+returns c = record { access = λ settings events event. access_holds (run_after settings events) (sound_run settings events) event }

@@ -1,6 +1,11 @@
 use Rattle.radio_core.specs.Run.{run_after}
+use Rattle.radio_core.proofs.SoundRuns.{sound_run}
+use Rattle.radio_core.proofs.SeatSteps.{mounts_kept}
 use Rattle.radio_core.proofs.StretchLemmas.{stretches_hold}
 use Rattle.radio_core.proofs.laws.stretches_are_whole.Goals as goal
 
-pub returns : goal.returns
-returns c = record { stretches = λ settings events. stretches_hold (run_after settings events) }
+pub returns-clause-stretches : goal.returns-clause-stretches
+returns-clause-stretches c settings events = stretches_hold settings events
+
+pub returns-clause-mounts : goal.returns-clause-mounts
+returns-clause-mounts c settings events event = mounts_kept (run_after settings events) (sound_run settings events) event

@@ -1,4 +1,5 @@
 use Rattle.radio_core.specs.Run.{run_after}
+use Rattle.radio_core.proofs.SoundRuns.{sound_run}
 use Rattle.radio_core.proofs.GoneLemmas.{has_left, strays, stays_gone}
 use Rattle.radio_core.proofs.laws.who_left_is_gone.Goals as goal
 
@@ -6,7 +7,7 @@ pub returns-clause-left : goal.returns-clause-left
 returns-clause-left c settings events id = has_left settings events id
 
 pub returns-clause-strays : goal.returns-clause-strays
-returns-clause-strays c settings events event id = strays (run_after settings events) event id
+returns-clause-strays c settings events event id left own = strays (run_after settings events) id left.1 event own
 
 pub returns-clause-gone : goal.returns-clause-gone
-returns-clause-gone c settings events more id = stays_gone (run_after settings events) more id
+returns-clause-gone c settings events more id left = stays_gone (run_after settings events) (sound_run settings events) more id left

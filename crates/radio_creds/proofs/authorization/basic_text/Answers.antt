@@ -17,7 +17,8 @@ pub returns-then-not-eq_ignore_ascii_case : goal.returns-then-not-eq_ignore_asci
 returns-then-not-eq_ignore_ascii_case c =
     elim c.then-not-eq_ignore_ascii_case.branch [
       | then-not-eq_ignore_ascii_case-via-then-not-eq_ignore_ascii_case w ↦ sym (basic_text-other_scheme c.args.value.now (λ is.
-          false≢true (sym w.if-not-eq_ignore_ascii_case.true ∙ c.eq_ignore_ascii_case.ensures.test.1 (ap (map to_ascii_lowercase) c.split_at.ensures.front ∙ is))))
+          false≢true (sym w.if-not-eq_ignore_ascii_case.true ∙ c.eq_ignore_ascii_case.ensures.test.1
+          (ap (map to_ascii_lowercase) c.split_at.ensures.front ∙ is))))
       | then-not-eq_ignore_ascii_case-via-else-not-eq_ignore_ascii_case+then-rest-ne32 w ↦ sym (basic_text-no_space c.args.value.now (λ is.
           w.if-rest-ne32.true (ap (λ rest. get_or rest 0 0) c.split_at.ensures.back ∙ get_or-drop 5 c.args.value.now 0 0 ∙ is)))
     ]

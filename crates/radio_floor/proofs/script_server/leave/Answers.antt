@@ -1,4 +1,4 @@
-use Rattle.std.proofs.Common.{sym, ap, subst}
+use Rattle.std.proofs.Common.{subst}
 use Rattle.radio_core.specs.World.{World}
 use Rattle.radio_core.specs.Step.{Represents}
 use Rattle.radio_floor.proofs.script_server.leave.Goals as goal
@@ -6,4 +6,4 @@ use Rattle.radio_floor.proofs.script_server.leave.Goals as goal
 pub returns : goal.returns
 returns c w stands =
     let s = c.in_ok-step.ensures.step w stands in
-    subst (λ (after : World). Represents c.step.new.self after) (sym (ap (λ o. o.world) s.1)) s.2
+    subst (λ (after : World). Represents c.step.new.self after) s.1.1 s.2

@@ -1,7 +1,8 @@
-use Rattle.radio_policy.specs.Table.{table}
-use Rattle.radio_policy.proofs.VerdictLemmas.{Denies-verdict, verdict-Denies}
+use Rattle.radio_policy.proofs.VerdictLemmas.{Denies-verdict, verdict-Denies, Allows-verdict, verdict-Allows}
 use Rattle.radio_policy.proofs.laws.denials_name_the_first_rule.Goals as goal
 
+pub returns-clause-allows : goal.returns-clause-allows
+returns-clause-allows c rows = (verdict-Allows rows, Allows-verdict rows)
+
 pub returns-clause-denies : goal.returns-clause-denies
-returns-clause-denies c facts subject action rule =
-    (Denies-verdict (table facts subject action) rule, verdict-Denies (table facts subject action) rule)
+returns-clause-denies c rows rule = (Denies-verdict rows rule, verdict-Denies rows rule)

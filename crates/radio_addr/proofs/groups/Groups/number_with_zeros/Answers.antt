@@ -18,4 +18,9 @@ overflow_add-result c =
     let end : c.loop-place._place ≡ 8 = omega (arith, c.args.self.few) in
     let shifted : c.loop-place.number ≡ c.args.self.number * 65536 ^ (8 - c.args.self.count) =
     c.loop-place.invariant.0 ∙ ap (λ (i : ℕ). c.args.self.number * 65536 ^ (i - c.args.self.count)) end in
-    omega (arith, shifted, sum_fits c.args.self.number c.args.self.count c.args.back.number c.args.back.count c.args.self.small c.args.back.small (omega arith))
+    omega (
+      arith,
+      shifted,
+      sum_fits c.args.self.number c.args.self.count c.args.back.number c.args.back.count c.args.self.small c.args.back.small
+          (omega arith),
+    )

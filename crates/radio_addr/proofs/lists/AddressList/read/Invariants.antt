@@ -1,5 +1,5 @@
 use Rattle.std.proofs.Common.{◌≡◌, ◌+◌, ◌≤◌, length}
-use Rattle.radio_addr.specs.Cuts.{fields_at}
+use Rattle.radio_texts.specs.Cuts.{fields_at}
 use Rattle.radio_addr.specs.Lists.{lines_after, list_of, after_ranges}
 use Rattle.radio_addr.proofs.lists.AddressList.read.Given as goal
 

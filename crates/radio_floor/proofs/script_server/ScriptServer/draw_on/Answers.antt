@@ -15,5 +15,5 @@ returns c =
     c.in_ok-push.ensures.items
     ∙ ap (λ (xs : List Event). xs ++ Draw c.id.result room ∷ []) c.new-events.ensures.items
     ∙ ap (λ (id : ℕ). Draw id room ∷ []) c.id.ensures in
-    subst (λ (xs : List Event). DoesAs old.core new.core new.connections.items c.args.lines.now.items c.exchange_on.new.lines.items
-    (λ w done. exchanges (script_state_of w old.connections.items) c.args.label conversation xs ≡ done)) events c.in_ok-exchange_on.ensures
+    subst (λ (xs : List Event). DoesAs old.core new.core new.connections c.args.lines.now.items c.exchange_on.new.lines.items
+    (λ w done. exchanges (script_state_of w old.connections) c.args.label conversation xs ≡ done)) events c.in_ok-exchange_on.ensures

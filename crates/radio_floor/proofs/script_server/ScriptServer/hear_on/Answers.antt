@@ -9,8 +9,8 @@ returns c =
     let heard : Heard = record { events = c.in_ok-events.events.items; conversation = c.take.new.self } in
     let old = c.args.self.now in
     let new = c.exchange_on.new.self in
-    let does : DoesAs old.core new.core new.connections.items c.args.lines.now.items c.exchange_on.new.lines.items
-    (λ w done. exchanges (script_state_of w old.connections.items) c.args.label heard.conversation heard.events ≡ done) = c.in_ok-exchange_on.ensures in (
+    let does : DoesAs old.core new.core new.connections c.args.lines.now.items c.exchange_on.new.lines.items
+    (λ w done. exchanges (script_state_of w old.connections) c.args.label heard.conversation heard.events ≡ done) = c.in_ok-exchange_on.ensures in (
       does.0,
       does.1,
       λ w stands.

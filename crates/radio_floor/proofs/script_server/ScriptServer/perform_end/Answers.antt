@@ -8,34 +8,34 @@ use Rattle.radio_floor.proofs.script_server.ScriptServer.perform_end.Goals as go
 -- the label was not opened
 pub returns-in-None : goal.returns-in-None
 returns-in-None c w stands =
-    let connections = c.args.self.now.connections.items in
+    let connections = c.args.self.now.connections in
     let label = c.args.label in
     let was : None ≡ connection_of connections label = sym c.in-None.is ∙ c.swap_connection.ensures.was in
-    (w, stands, unknown-label w connections c.swap_connection.new.connections.items label (λ conversation done. done ≡ closes (script_state_of w connections) label conversation) was c.swap_connection.ensures.set)
+    (w, stands, unknown-label w connections c.swap_connection.new.connections label (λ conversation done. done ≡ closes (script_state_of w connections) label conversation) was c.swap_connection.ensures.set)
 
 -- its connection was shut
 pub returns-in-Some-None : goal.returns-in-Some-None
 returns-in-Some-None c =
-    let connections = c.args.self.now.connections.items in
+    let connections = c.args.self.now.connections in
     let label = c.args.label in
     let was : Some None ≡ connection_of connections label =
     ap (λ (o : Option Conversation). Some o) (sym c.in-Some-None.field-0-is) ∙ sym c.in-Some-None.is ∙ c.swap_connection.ensures.was in (
       [],
       sym (append-nil c.args.lines.now.items),
       λ w stands.
-          (w, stands, shut-label w connections c.swap_connection.new.connections.items label (λ conversation done. done ≡ closes (script_state_of w connections) label conversation) was c.swap_connection.ensures.set),
+          (w, stands, shut-label w connections c.swap_connection.new.connections label (λ conversation done. done ≡ closes (script_state_of w connections) label conversation) was c.swap_connection.ensures.set),
     )
 
 -- its connection is there
 pub returns-in-Ok : goal.returns-in-Ok
 returns-in-Ok c =
-    let connections = c.args.self.now.connections.items in
-    let mid = c.swap_connection.new.connections.items in
+    let connections = c.args.self.now.connections in
+    let mid = c.swap_connection.new.connections in
     let label = c.args.label in
     let conversation = c.in-Some-Some.connection in
     let was : Some (Some conversation) ≡ connection_of connections label =
     ap (λ (o : Option Conversation). Some o) (sym c.in-Some-Some.field-0-is) ∙ sym c.in-Some-Some.is ∙ c.swap_connection.ensures.was in
-    let does : DoesAs c.args.self.now.core c.close.new.self.core c.close.new.self.connections.items c.args.lines.now.items c.close.new.lines.items
+    let does : DoesAs c.args.self.now.core c.close.new.self.core c.close.new.self.connections c.args.lines.now.items c.close.new.lines.items
     (λ w done. closes (script_state_of w mid) label conversation ≡ done) = c.in-Ok.ensures in (
       does.0,
       does.1,
@@ -43,7 +43,7 @@ returns-in-Ok c =
           let d = does.2 w stands in (
             d.0,
             d.1,
-            open-label (script_state_of w connections) label conversation (λ conversation done. done ≡ closes (script_state_of w connections) label conversation) (performed_as (Some does.0) d.0 c.close.new.self.connections.items) was
+            open-label (script_state_of w connections) label conversation (λ conversation done. done ≡ closes (script_state_of w connections) label conversation) (performed_as (Some does.0) d.0 c.close.new.self.connections) was
                 (sym (sym (closes-mid w mid connections label conversation c.swap_connection.ensures.set) ∙ d.2)),
           ),
     )

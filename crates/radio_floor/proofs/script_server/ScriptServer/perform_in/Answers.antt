@@ -9,34 +9,34 @@ use Rattle.radio_floor.proofs.script_server.ScriptServer.perform_in.Goals as goa
 -- the label was not opened
 pub returns-in-None : goal.returns-in-None
 returns-in-None c w stands =
-    let connections = c.args.self.now.connections.items in
+    let connections = c.args.self.now.connections in
     let label = c.args.label in
     let was : None ≡ connection_of connections label = sym c.in-None.is ∙ c.swap_connection.ensures.was in
-    (w, stands, unknown-label w connections c.swap_connection.new.connections.items label (λ conversation done. (heard : Heard) × IsHeard conversation c.args.bytes.now heard × (done ≡ exchanges (script_state_of w connections) label heard.conversation heard.events)) was c.swap_connection.ensures.set)
+    (w, stands, unknown-label w connections c.swap_connection.new.connections label (λ conversation done. (heard : Heard) × IsHeard conversation c.args.bytes.now heard × (done ≡ exchanges (script_state_of w connections) label heard.conversation heard.events)) was c.swap_connection.ensures.set)
 
 -- its connection was shut
 pub returns-in-Some-None : goal.returns-in-Some-None
 returns-in-Some-None c =
-    let connections = c.args.self.now.connections.items in
+    let connections = c.args.self.now.connections in
     let label = c.args.label in
     let was : Some None ≡ connection_of connections label =
     ap (λ (o : Option Conversation). Some o) (sym c.in-Some-None.field-0-is) ∙ sym c.in-Some-None.is ∙ c.swap_connection.ensures.was in (
       [],
       sym (append-nil c.args.lines.now.items),
       λ w stands.
-          (w, stands, shut-label w connections c.swap_connection.new.connections.items label (λ conversation done. (heard : Heard) × IsHeard conversation c.args.bytes.now heard × (done ≡ exchanges (script_state_of w connections) label heard.conversation heard.events)) was c.swap_connection.ensures.set),
+          (w, stands, shut-label w connections c.swap_connection.new.connections label (λ conversation done. (heard : Heard) × IsHeard conversation c.args.bytes.now heard × (done ≡ exchanges (script_state_of w connections) label heard.conversation heard.events)) was c.swap_connection.ensures.set),
     )
 
 -- its connection is there
 pub returns-in-Ok : goal.returns-in-Ok
 returns-in-Ok c =
-    let connections = c.args.self.now.connections.items in
-    let mid = c.swap_connection.new.connections.items in
+    let connections = c.args.self.now.connections in
+    let mid = c.swap_connection.new.connections in
     let label = c.args.label in
     let conversation = c.in-Some-Some.connection in
     let was : Some (Some conversation) ≡ connection_of connections label =
     ap (λ (o : Option Conversation). Some o) (sym c.in-Some-Some.field-0-is) ∙ sym c.in-Some-Some.is ∙ c.swap_connection.ensures.was in
-    let does : DoesAs c.args.self.now.core c.hear_on.new.self.core c.hear_on.new.self.connections.items c.args.lines.now.items c.hear_on.new.lines.items
+    let does : DoesAs c.args.self.now.core c.hear_on.new.self.core c.hear_on.new.self.connections c.args.lines.now.items c.hear_on.new.lines.items
     (λ w done. (heard : Heard) × IsHeard conversation c.args.bytes.now heard × (exchanges (script_state_of w mid) label heard.conversation heard.events ≡ done)) = c.in-Ok.ensures in (
       does.0,
       does.1,
@@ -45,7 +45,7 @@ returns-in-Ok c =
           let heard : Heard = d.2.0 in (
             d.0,
             d.1,
-            open-label (script_state_of w connections) label conversation (λ conversation done. (heard : Heard) × IsHeard conversation c.args.bytes.now heard × (done ≡ exchanges (script_state_of w connections) label heard.conversation heard.events)) (performed_as (Some does.0) d.0 c.hear_on.new.self.connections.items) was
+            open-label (script_state_of w connections) label conversation (λ conversation done. (heard : Heard) × IsHeard conversation c.args.bytes.now heard × (done ≡ exchanges (script_state_of w connections) label heard.conversation heard.events)) (performed_as (Some does.0) d.0 c.hear_on.new.self.connections) was
                 (heard, d.2.1, sym (sym (exchanges-mid w mid connections label heard.conversation heard.events c.swap_connection.ensures.set) ∙ d.2.2)),
           ),
     )

@@ -7,15 +7,15 @@ use Rattle.radio_floor.proofs.script_server.ScriptServer.perform_open.Goals as g
 
 pub returns-in-Ok : goal.returns-in-Ok
 returns-in-Ok c =
-    let connections = c.args.self.now.connections.items in
+    let connections = c.args.self.now.connections in
     let label = c.args.label in
     let is_new : false ≡ is_some (connection_of connections label) =
-    c.if-has_label.ensures ∙ ap (λ (rows : List Labelled). is_some (connection_of rows label)) c.as_slice.ensures.value in
-    let does : DoesAs c.args.self.now.core c.open.new.self.core c.open.new.self.connections.items c.args.lines.now.items c.open.new.lines.items
+    c.if-has_label.ensures in
+    let does : DoesAs c.args.self.now.core c.open.new.self.core c.open.new.self.connections c.args.lines.now.items c.open.new.lines.items
     (λ w done. opens (script_state_of w connections) label c.args.peer ≡ done) = c.in-Ok.ensures in (
       does.0,
       does.1,
       λ w stands.
           let d = does.2 w stands in
-          (d.0, d.1, new-label (script_state_of w connections) label (opens (script_state_of w connections) label c.args.peer) (performed_as (Some does.0) d.0 c.open.new.self.connections.items) is_new d.2),
+          (d.0, d.1, new-label (script_state_of w connections) label (opens (script_state_of w connections) label c.args.peer) (performed_as (Some does.0) d.0 c.open.new.self.connections) is_new d.2),
     )

@@ -1,0 +1,141 @@
+//! Weaving and unweaving beside a plain copy of the same bytes: 64 KiB of sound. In full it is 64 MiB, and the speed of
+//! each is written, in millions of bytes of sound a second and in percent of the copy's.
+//!
+//! Sound is copied and woven draw by draw into one buffer, so that no fresh page is touched.
+ghost use Rattle.std.specs.Prelude.{◌≤◌};
+
+use crate::times::{copied_size, write_speed};
+use anyhow::Result;
+use radio_icy::{Item, LONGEST_TITLE, OutOfMemory, Unweaver, Weaver};
+use std::alloc::Global;
+use std::rt::Clock;
+use std::time::{Duration, Instant};
+
+const SMALL: usize = 64 * 1024;
+
+const FULL: usize = 64 * 1024 * 1024;
+
+const DRAW: usize = 16384;
+
+const PIECE: usize = 1400;
+
+/// A size, and how long it took.
+#[derive(Clone, Copy)]
+struct Measured {
+    size: usize,
+    time: Duration,
+}
+
+/// Measures a long interval and the shortest.
+pub fn measure(rt: &(impl Clock + Print + AllocGlobal), is_full: bool) -> Result<()> {
+    let sound = vec![in rt.alloc(); 0x55; if is_full { FULL } else { SMALL }]?;
+    for interval in [16000, 1] {
+        weave_and_unweave(rt, interval, sound.as_slice(), is_full)?;
+    }
+    Ok(())
+}
+
+/// Weaves and unweaves the sound at one interval, and writes a line about it.
+fn weave_and_unweave(
+    rt: &(impl Clock + Print + AllocGlobal),
+    interval: usize,
+    sound: &[u8],
+    is_full: bool,
+) -> Result<()>
+    requires { 1 ≤ interval }
+{
+    let copy = copy_draws(rt, sound)?;
+    let woven = weave_draws(rt, interval, sound)?;
+    let pieces = copy_pieces(rt, sound)?;
+    let unwoven = unweave_pieces(rt, interval, sound)?;
+    println!(rt;
+        "interval {interval}: {} bytes of sound, {} woven, {} unwoven",
+        copy.size, woven.size, unwoven.size
+    )?;
+    if is_full {
+        write_speed(rt, "copy", copy.size, copy.time, copy.time)?;
+        write_speed(rt, "weave", copy.size, woven.time, copy.time)?;
+        write_speed(rt, "copy in pieces", pieces.size, pieces.time, pieces.time)?;
+        write_speed(rt, "unweave", unwoven.size, unwoven.time, pieces.time)?;
+    }
+    Ok(())
+}
+
+/// Copies the sound, draw by draw.
+fn copy_draws(rt: &(impl Clock + AllocGlobal), sound: &[u8]) -> Result<Measured> {
+    let mut out = Vec::with_capacity(rt.alloc(), DRAW)?;
+    let mut size = 0usize;
+    let start = Instant::now(rt)?;
+    for draw in sound.chunks(DRAW) {
+        out.clear();
+        out.extend_from_slice(draw)?;
+        size = size.saturating_add(out.len());
+    }
+    let time = start.elapsed(rt)?;
+    Ok(Measured { size, time })
+}
+
+/// Weaves the sound, draw by draw.
+fn weave_draws(rt: &(impl Clock + AllocGlobal), interval: usize, sound: &[u8]) -> Result<Measured>
+    requires { 1 ≤ interval }
+{
+    let mut weaver = Weaver::new(rt.alloc(), interval);
+    let mut out = Vec::with_capacity(rt.alloc(), 2 * DRAW + LONGEST_TITLE)?;
+    let mut size = 0usize;
+    let start = Instant::now(rt)?;
+    for draw in sound.chunks(DRAW) {
+        out.clear();
+        weaver.weave(draw, Some(b"A - B"), &mut out)?;
+        size = size.saturating_add(out.len());
+    }
+    let time = start.elapsed(rt)?;
+    Ok(Measured { size, time })
+}
+
+/// Copies the sound in pieces as they come from a network, each into memory of its own.
+fn copy_pieces(rt: &(impl Clock + AllocGlobal), sound: &[u8]) -> Result<Measured> {
+    let start = Instant::now(rt)?;
+    let size = copied_size(rt.alloc(), sound, PIECE)?;
+    let time = start.elapsed(rt)?;
+    Ok(Measured { size, time })
+}
+
+/// Takes the stream of the sound apart in such pieces.
+fn unweave_pieces(
+    rt: &(impl Clock + AllocGlobal),
+    interval: usize,
+    sound: &[u8],
+) -> Result<Measured>
+    requires { 1 ≤ interval }
+{
+    let stream = woven(rt.alloc(), interval, sound)?;
+    let start = Instant::now(rt)?;
+    let size = sound_size(rt.alloc(), interval, stream.as_slice())?;
+    let time = start.elapsed(rt)?;
+    Ok(Measured { size, time })
+}
+
+/// The stream of the sound.
+fn woven(alloc: Global, interval: usize, sound: &[u8]) -> Result<Vec<u8>, OutOfMemory>
+    requires { 1 ≤ interval }
+{
+    let mut out = Vec::new(alloc);
+    Weaver::new(alloc, interval).weave(sound, Some(b"A - B"), &mut out)?;
+    Ok(out)
+}
+
+/// How many bytes of sound a stream has, taken apart in pieces as they come from a network.
+fn sound_size(alloc: Global, interval: usize, stream: &[u8]) -> Result<usize, OutOfMemory>
+    requires { 1 ≤ interval }
+{
+    let mut unweaver = Unweaver::new(alloc, interval);
+    let mut size = 0usize;
+    for piece in stream.chunks(PIECE) {
+        for item in &unweaver.feed(piece)? {
+            if let Item::Sound(sound) = item {
+                size = size.saturating_add(sound.len());
+            }
+        }
+    }
+    Ok(size)
+}

@@ -1,7 +1,0 @@
-use Rattle.std.proofs.Common.{◌≡◌, take, drop}
-use Rattle.radio_addr.specs.Cuts.{cut}
-use Rattle.radio_addr.proofs.CutsLemmas.{after_front}
-use Rattle.radio_addr.proofs.cuts.cut.Given as goal
-
-abbrev pub invariant-loop-place : goal.invariant-loop-place
-invariant-loop-place l = cut l.at l.text ≡ after_front (take l.place l.text) (cut l.at (drop l.place l.text))

@@ -1,0 +1,206 @@
+-- what holds of every state of a run holds still after what sessions do
+use Rattle.std.proofs.Common.{◌≡◌, ◌⊎◌, inl, inr, true, false, ℕ, ◌+◌, ◌<◌, ◌≤◌, ◌==◌, Option, Some, None, List, length, take, drop, refl, ap, sym, subst, ◌∙◌, arith, length-append}
+use Rattle.std.specs.Option.{option_map}
+use Rattle.std.specs.Str.{bytes_eq}
+use Rattle.std.proofs.lemmas.Bool.Decides.{nat_tests}
+use Rattle.std.proofs.lemmas.List.{length-take, length-drop}
+use Rattle.std.proofs.lemmas.Slice.Eq.{bytes_eq-Decides}
+use Rattle.radio_policy.specs.declared.rule.Rule.TheVariants.{NotLive}
+use Rattle.radio_addr.specs.declared.peer.Peer.{Peer}
+use Rattle.radio_settings.specs.declared.field.Shown.{Shown}
+use Rattle.radio_tables.specs.KeyLaws.{by_number, by_name}
+use Rattle.radio_core.specs.declared.outcome.Change.TheVariants.{Begin, TakeIn, Hear, End, FallSilent}
+use Rattle.radio_core.specs.declared.seats.Listener.{Listener}
+use Rattle.radio_core.specs.declared.seats.Seat.{Seat}
+use Rattle.radio_core.specs.declared.seats.Seating.{Seating}
+use Rattle.radio_core.specs.declared.seats.Seating.TheVariants.{Sits as HasSeat, Finished as HasFinished}
+use Rattle.radio_core.specs.declared.standing.Standing.{Standing}
+use Rattle.radio_core.specs.declared.standing.Standing.TheVariants.{Unknown, Undecided, Feeds, Sits, Answered, Finished}
+use Rattle.radio_core.specs.World.{World, standing_of}
+use Rattle.radio_core.specs.Changes.{changed, silent}
+use Rattle.radio_core.specs.Seats.{listener_of, seat_of, seat_in, seat_held, heard_to}
+use Rattle.radio_core.specs.Sessions.{Session, session_of, opened, longer, fed, without_session}
+use Rattle.radio_core.specs.Sound.{AreRising, IsSeatedIn, IsSound}
+use Rattle.radio_core.specs.Stream.{end_of, data_at}
+use Rattle.radio_core.proofs.Lookups.{beside_moved, beside_left, has_moved, is_no_listener, have_finished, found_named, beside_fed, beside_ended, is_longer, is_over, is_new_session, beside_begun}
+use Rattle.radio_core.proofs.Standings.{Turns, Loses, turns_answered, turns_feeding, turns_gone, listener_seated, stays_hearing, silenced, silent_feeds, feeds_silent}
+use Rattle.radio_core.proofs.Soundness.{rising_more, sound_turned, seated_still}
+
+-- the names of the mount are the same
+same_names : (mount other : List ℕ) → mount ≡ other → bytes_eq mount other ≡ true
+same_names mount other same = (bytes_eq-Decides mount other).1 same
+
+-- a session begins on a mount that was not live
+module _ (w : World) (s : IsSound w) (him : ℕ) (mount : List ℕ) (shown : Shown) (peer : Peer) (stood : standing_of w him ≡ Undecided peer) (not_live : session_of w.house.live mount ≡ None) where
+  abbrev after_begin : World
+  after_begin = changed w (Begin him mount shown)
+
+  abbrev fresh : Session
+  fresh = opened mount him shown w.house.time
+
+  begin_turns : Turns w after_begin him (Feeds mount)
+  begin_turns = turns_feeding w him mount shown (λ u. cc)
+
+  new_here : (other : List ℕ) → mount ≡ other → session_of after_begin.house.live other ≡ Some fresh
+  new_here other same = is_new_session w.house.live fresh other (same_names mount other same)
+
+  as_before : (other : List ℕ) → bytes_eq mount other ≡ false → session_of after_begin.house.live other ≡ session_of w.house.live other
+  as_before other apart = beside_begun w.house.live fresh other apart
+
+  -- what was live is live as it was
+  pub begun_beside : (other : List ℕ) (session : Session) → session_of w.house.live other ≡ Some session → session_of after_begin.house.live other ≡ Some session
+  begun_beside other session e =
+      by_name mount other
+      (λ same. let none : session_of w.house.live other ≡ None = ap (session_of w.house.live) (sym same) ∙ not_live in cc)
+      (λ apart. as_before other apart ∙ e)
+
+  -- and what is live now is the new session, or was live
+  pub begun_cases : {A : Type 0} (other : List ℕ) (session : Session) → session_of after_begin.house.live other ≡ Some session → (mount ≡ other → fresh ≡ session → A) → (session_of w.house.live other ≡ Some session → A) → A
+  begun_cases {A} other session e new old =
+      by_name mount other
+      (λ same. let found : Some fresh ≡ Some session = sym (new_here other same) ∙ e in let one : fresh ≡ session = cc in new same one)
+      (λ apart. old (sym (as_before other apart) ∙ e))
+
+  pub sound_begun : IsSound after_begin
+  sound_begun = record {
+    numbered = λ id h.
+        by_number him id
+        (λ same. let unknown : standing_of w him ≡ Unknown = ap (standing_of w) same ∙ s.numbered id h in cc)
+        (λ other. begin_turns.others id other ∙ s.numbered id h);
+    feeds = λ id other e.
+        by_number him id
+        (λ same.
+        let now : Feeds mount ≡ Feeds other = sym begin_turns.his ∙ ap (standing_of after_begin) same ∙ e in
+        let one : mount ≡ other = cc in
+        (fresh, new_here other one, same))
+        (λ apart. let old = s.feeds id other (sym (begin_turns.others id apart) ∙ e) in (old.0, begun_beside other old.0 old.1, old.2));
+    fed = λ other session e.
+        begun_cases other session e
+        (λ same one. ap (λ (x : Session). standing_of after_begin x.number) (sym one) ∙ begin_turns.his ∙ ap (λ (m : List ℕ). Feeds m) same)
+        (λ old.
+        let was = s.fed other session old in
+        by_number him session.number (λ same. let feeds : standing_of w him ≡ Feeds other = ap (standing_of w) same ∙ was in cc) (λ apart. begin_turns.others session.number apart ∙ was));
+    starts = λ other session e.
+        begun_cases other session e
+        (λ same one. subst (λ (x : Session). AreRising x.stream.starts (end_of x.stream)) one tt)
+        (λ old. s.starts other session old);
+    sitting = λ id seat e.
+        let sat : standing_of w id ≡ Sits = s.sitting id seat e in
+        by_number him id (λ same. let also : standing_of w him ≡ Sits = ap (standing_of w) same ∙ sat in cc) (λ apart. begin_turns.others id apart ∙ sat);
+    seated = λ id seat e.
+        let old = s.seated id seat e in
+        record { session = old.session; is_live = begun_beside seat.mount old.session old.is_live; his_session = old.his_session; within = old.within };
+  }
+
+-- a source delivers a block
+module _ (w : World) (s : IsSound w) (mount block : List ℕ) where
+  abbrev after_block : World
+  after_block = changed w (TakeIn mount block)
+
+  pub grown : (other : List ℕ) (session : Session) → session_of w.house.live other ≡ Some session → (now : Session) × (session_of after_block.house.live other ≡ Some now) × (now.number ≡ session.number) × (end_of session.stream ≤ end_of now.stream)
+  grown other session e =
+      by_name mount other
+      (λ same.
+      let here : session_of w.house.live mount ≡ Some session = ap (session_of w.house.live) same ∙ e in
+      let longer_here = is_longer w.house.live mount block w.house.time session here in
+      (longer block w.house.time session, ap (session_of after_block.house.live) (sym same) ∙ longer_here, refl, omega (arith, length-append session.stream.bytes block)))
+      (λ apart. (session, beside_fed w.house.live mount other apart block w.house.time ∙ e, refl, omega arith))
+
+  -- what is live now was live, and is as it was or longer by the block
+  pub grown_cases : {A : Type 0} (other : List ℕ) (now : Session) → session_of after_block.house.live other ≡ Some now → ((session : Session) → mount ≡ other → session_of w.house.live mount ≡ Some session → longer block w.house.time session ≡ now → A) → (bytes_eq mount other ≡ false → session_of w.house.live other ≡ Some now → A) → (session_of w.house.live mount ≡ None → A) → A
+  grown_cases {A} other now e new old none =
+      by_name mount other here (λ apart. old apart (sym (beside_fed w.house.live mount other apart block w.house.time) ∙ e)) where
+        here : mount ≡ other → A
+        here same = by_found (session_of w.house.live mount) refl where
+          by_found : (found : Option Session) → session_of w.house.live mount ≡ found → A
+          by_found None missing = none missing
+          by_found (Some session) found =
+              let longer_here : session_of after_block.house.live mount ≡ Some (longer block w.house.time session) = is_longer w.house.live mount block w.house.time session found in
+              let both : Some (longer block w.house.time session) ≡ Some now = sym longer_here ∙ ap (session_of after_block.house.live) same ∙ e in
+              let one : longer block w.house.time session ≡ now = cc in
+              new session same found one
+
+  pub sound_grown : (him : ℕ) → standing_of w him ≡ Feeds mount → IsSound after_block
+  sound_grown him feeding = record {
+    numbered = λ id h. s.numbered id h;
+    feeds = λ id other e. let old = s.feeds id other e in let now = grown other old.0 old.1 in (now.0, now.1, now.2 ∙ old.2);
+    fed = λ other now e.
+        grown_cases other now e
+        (λ session same found one. ap (λ (x : Session). standing_of w x.number) (sym one) ∙ s.fed mount session found ∙ ap (λ (m : List ℕ). Feeds m) same)
+        (λ apart found. s.fed other now found)
+        never;
+    starts = λ other now e.
+        grown_cases other now e
+        (λ session same found one. subst (λ (x : Session). AreRising x.stream.starts (end_of x.stream)) one (rising_more session.stream.starts (end_of session.stream) (end_of (longer block w.house.time session).stream) (omega (arith, length-append session.stream.bytes block)) (s.starts mount session found)))
+        (λ apart found. s.starts other now found)
+        never;
+    sitting = λ id seat e. s.sitting id seat e;
+    seated = λ id seat e.
+        let old = s.seated id seat e in
+        let now = grown seat.mount old.session old.is_live in
+        record { session = now.0; is_live = now.1; his_session = now.2 ∙ old.his_session; within = omega (arith, now.3, old.within) };
+  } where
+    never : {A : Type 0} → session_of w.house.live mount ≡ None → A
+    never {A} none = let ours = s.feeds him mount feeding in let found : session_of w.house.live mount ≡ Some ours.0 = ours.1 in cc
+
+-- a listener hears on
+module _ (w : World) (s : IsSound w) (him room : ℕ) (seat : Seat) (session : Session) (sits : standing_of w him ≡ Sits) (has : seat_of w.seats him ≡ Some seat) (live : session_of w.house.live seat.mount ≡ Some session) where
+  abbrev behind : ℕ
+  behind = seat.place + length (data_at session.stream seat.place room)
+
+  abbrev after_draw : World
+  after_draw = changed w (Hear him behind)
+
+  moved : Seat → Seat
+  moved old = record old { place = behind }
+
+  pub behind_within : behind ≤ end_of session.stream
+  behind_within =
+      let old = s.seated him seat has in
+      let same : Some old.session ≡ Some session = sym old.is_live ∙ live in
+      let one : old.session ≡ session = cc in
+      let low : seat.place ≤ end_of session.stream = subst (λ (x : Session). seat.place ≤ end_of x.stream) one old.within in
+      omega (arith, length-take room (drop seat.place session.stream.bytes), length-drop seat.place session.stream.bytes, low)
+
+  -- his seat is the same, further on
+  pub has_moved_on : seat_of after_draw.seats him ≡ Some (record seat { place = behind })
+  has_moved_on =
+      let listener = listener_seated w.seats him seat has in
+      ap seat_in (has_moved w.seats him behind listener.0 listener.1) ∙ held listener.0.seating listener.2 where
+        held : (seating : Seating) → seat_held seating ≡ Some seat → seat_held (heard_to (seat.place + length (data_at session.stream seat.place room)) seating) ≡ Some (record seat { place = seat.place + length (data_at session.stream seat.place room) })
+        held (HasSeat old) e = let same : old ≡ seat = cc in ap (λ (x : Seat). Some (record x { place = behind })) same
+        held (HasFinished rule) e = cc
+
+  pub others_seats : (id : ℕ) → (him == id) ≡ false → seat_of after_draw.seats id ≡ seat_of w.seats id
+  others_seats id other = ap seat_in (beside_moved w.seats him id other behind)
+
+  pub sound_heard : IsSound after_draw
+  sound_heard =
+      let listener = listener_seated w.seats him seat has in
+      let same = stays_hearing w him behind listener.0 listener.1 in
+      record {
+        numbered = λ id h. same id ∙ s.numbered id h;
+        feeds = λ id other e. s.feeds id other (sym (same id) ∙ e);
+        fed = λ other now e. same now.number ∙ s.fed other now e;
+        starts = λ other now e. s.starts other now e;
+        sitting = λ id other e. same id ∙ sat_before id other e;
+        seated = seated;
+      } where
+        sat_before : (id : ℕ) (other : Seat) → seat_of after_draw.seats id ≡ Some other → standing_of w id ≡ Sits
+        sat_before id other e = by_number him id (λ one. ap (standing_of w) (sym one) ∙ sits) (λ apart. s.sitting id other (sym (others_seats id apart) ∙ e))
+
+        his_own : IsSeatedIn after_draw (record seat { place = behind })
+        his_own =
+            let old = s.seated him seat has in
+            let both : Some old.session ≡ Some session = sym old.is_live ∙ live in
+            let one : old.session ≡ session = cc in
+            record { session = session; is_live = live; his_session = ap (λ (x : Session). x.number) (sym one) ∙ old.his_session; within = behind_within }
+
+        seated : (id : ℕ) (other : Seat) → seat_of after_draw.seats id ≡ Some other → IsSeatedIn after_draw other
+        seated id other e =
+            by_number him id
+            (λ same.
+            let found : Some (record seat { place = behind }) ≡ Some other = sym has_moved_on ∙ ap (seat_of after_draw.seats) same ∙ e in
+            let one : record seat { place = behind } ≡ other = cc in
+            subst (λ (x : Seat). IsSeatedIn after_draw x) one his_own)
+            (λ apart. seated_still w s after_draw (λ mount. refl) other (s.seated id other (sym (others_seats id apart) ∙ e)))

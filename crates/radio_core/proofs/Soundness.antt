@@ -1,0 +1,189 @@
+-- what holds of every state of a run holds still after each event
+use Rattle.std.proofs.Common.{◌≡◌, Bool, true, false, ℕ, ◌+◌, ◌-◌, ◌<◌, ◌≤◌, ◌==◌, Option, Some, None, List, [], ◌∷◌, ◌++◌, length, take, drop, refl, ap, sym, subst, ◌∙◌, arith, length-append}
+use Rattle.std.specs.Prelude.{find, nat_le, unwrap_or, if◌then◌else◌}
+use Rattle.std.specs.Option.{option_map}
+use Rattle.std.specs.Str.{bytes_eq}
+use Rattle.std.proofs.lemmas.Bool.Decides.{nat_tests}
+use Rattle.std.proofs.lemmas.List.{length-take, length-drop}
+use Rattle.std.proofs.lemmas.Slice.Eq.{bytes_eq-Decides}
+use Rattle.radio_policy.specs.declared.rule.Rule.TheVariants.{NotLive}
+use Rattle.radio_addr.specs.declared.peer.Peer.{Peer}
+use Rattle.radio_settings.specs.declared.settings.Settings.{Settings}
+use Rattle.radio_tables.specs.Lists.{Each}
+use Rattle.radio_tables.specs.EachLaws.{Each_each}
+use Rattle.radio_tables.specs.FindLaws.{found_has}
+use Rattle.radio_tables.specs.KeyLaws.{by_number, by_name}
+use Rattle.radio_core.specs.declared.event.Event.{Event}
+use Rattle.radio_core.specs.declared.event.ListenRequest.{ListenRequest}
+use Rattle.radio_core.specs.declared.outcome.Change.TheVariants.{Answer, Admit, Begin, TakeIn, SitDown, Hear, End, FallSilent, Go}
+use Rattle.radio_core.specs.declared.outcome.Outcome.{Outcome}
+use Rattle.radio_core.specs.declared.seats.Listener.{Listener}
+use Rattle.radio_core.specs.declared.seats.Seat.{Seat}
+use Rattle.radio_core.specs.declared.seats.Seating.{Seating}
+use Rattle.radio_core.specs.declared.seats.Seating.TheVariants.{Sits as HasSeat, Finished as HasFinished}
+use Rattle.radio_core.specs.declared.standing.Standing.{Standing}
+use Rattle.radio_core.specs.declared.standing.Standing.TheVariants.{Unknown, Undecided, Feeds, Sits, Answered, Finished}
+use Rattle.radio_core.specs.World.{World, opening, standing_of}
+use Rattle.radio_core.specs.Changes.{changed, silent}
+use Rattle.radio_core.specs.Listen.{first_seat, burst_of}
+use Rattle.radio_core.specs.Seats.{listener_of, seat_of, seat_in, seat_held, ended_at, finished_from, finished_at, without_listener}
+use Rattle.radio_core.specs.Sessions.{Session, session_of, opened, longer, fed, without_session}
+use Rattle.radio_core.specs.Sound.{AreRising, IsSeatedIn, IsSound}
+use Rattle.radio_core.specs.Step.{outcome, world_after}
+use Rattle.radio_core.specs.Run.{world_after_all, run_after}
+use Rattle.radio_core.specs.Stream.{end_of, burst_start, data_at}
+use Rattle.radio_core.specs.Ways.{Way, Strays, IsTold, IsDenied, IsRefused, ComesIn, Begins, TakesIn, SitsDown, HandsOut, Ends, FallsSilent, Goes}
+use Rattle.radio_core.proofs.Lookups.{beside_moved, beside_left, beside_seated, has_moved, is_no_listener, has_sat_down, have_finished, found_named, beside_fed, beside_ended, is_longer, is_over, is_new_session, beside_begun}
+use Rattle.radio_core.proofs.Standings.{Turns, Loses, turns_answered, turns_feeding, turns_sitting, turns_gone, turns_admitted, listener_seated, stays_hearing, silenced, silent_feeds, feeds_silent}
+use Rattle.radio_core.proofs.Ways.{way_of}
+
+-- block starts rise still, one more at the end or a longer end
+rising_to : (starts : List ℕ) (last more : ℕ) → last ≤ more → AreRising starts last → AreRising starts more
+rising_to [] last more h r = tt
+rising_to (place ∷ places) last more h r = (omega arith, r.1, rising_to places last more h r.2)
+
+each_below : (starts : List ℕ) (place last : ℕ) → place ≤ last → Each (λ next. place ≤ next) starts → Each (λ next. place ≤ next) (starts ++ last ∷ [])
+each_below [] place last h all = (h, tt)
+each_below (next ∷ others) place last h all = (all.0, each_below others place last h all.1)
+
+pub rising_more : (starts : List ℕ) (last more : ℕ) → last ≤ more → AreRising starts last → AreRising (starts ++ last ∷ []) more
+rising_more [] last more h r = (h, tt, tt)
+rising_more (place ∷ places) last more h r = (omega arith, each_below places place last r.0 r.1, rising_more places last more h r.2)
+
+-- and none is past the end
+all_within : (starts : List ℕ) (last : ℕ) → AreRising starts last → Each (λ place. place ≤ last) starts
+all_within [] last r = tt
+all_within (place ∷ places) last r = (r.0, all_within places last r.2)
+
+pub burst_within : (session : Session) (burst : ℕ) → AreRising session.stream.starts (end_of session.stream) → burst_start session.stream burst ≤ end_of session.stream
+burst_within session burst r = by_found (find first session.stream.starts) refl where
+  first : ℕ → Bool
+  first start = nat_le (end_of session.stream - start) burst
+
+  by_found : (found : Option ℕ) → find first session.stream.starts ≡ found → unwrap_or found (end_of session.stream) ≤ end_of session.stream
+  by_found None e = omega arith
+  by_found (Some start) e = found_has first (λ place. place ≤ end_of session.stream) session.stream.starts start (all_within session.stream.starts (end_of session.stream) r) e
+
+module _ (w : World) (s : IsSound w) where
+  -- who is seated is seated still, where sessions are as they were
+  pub seated_still : (later : World) → ((mount : List ℕ) → session_of later.house.live mount ≡ session_of w.house.live mount) → (seat : Seat) → IsSeatedIn w seat → IsSeatedIn later seat
+  seated_still later sessions seat old = record { session = old.session; is_live = sessions seat.mount ∙ old.is_live; his_session = old.his_session; within = old.within }
+
+  -- and sits still, where seats are as they were, and another turns who had none
+  pub sits_still : (later : World) (him : ℕ) (now : Standing) → Turns w later him now → ((id : ℕ) → seat_of later.seats id ≡ seat_of w.seats id) → (standing_of w him ≡ Sits → ⊥) → (id : ℕ) (seat : Seat) → seat_of later.seats id ≡ Some seat → standing_of later id ≡ Sits
+  sits_still later him now t seats not id seat e =
+      let sat : standing_of w id ≡ Sits = s.sitting id seat (sym (seats id) ∙ e) in
+      by_number him id (λ same. absurd (not (ap (standing_of w) same ∙ sat))) (λ other. t.others id other ∙ sat)
+
+  -- one client turns to something else, and neither fed a mount nor does now
+  module _ (later : World) (him : ℕ) (now : Standing) (t : Turns w later him now) (sessions : (mount : List ℕ) → session_of later.house.live mount ≡ session_of w.house.live mount) (sitting : (id : ℕ) (seat : Seat) → seat_of later.seats id ≡ Some seat → standing_of later id ≡ Sits) (seated : (id : ℕ) (seat : Seat) → seat_of later.seats id ≡ Some seat → IsSeatedIn later seat) (last : w.house.last_id ≤ later.house.last_id) (above : later.house.last_id < him → now ≡ Unknown) (not_before : (mount : List ℕ) → standing_of w him ≡ Feeds mount → ⊥) (not_now : (mount : List ℕ) → now ≡ Feeds mount → ⊥) where
+    pub sound_turned : IsSound later
+    sound_turned = record {
+      numbered = λ id h.
+          by_number him id
+          (λ same. let here : later.house.last_id < him = omega arith in ap (standing_of later) (sym same) ∙ t.his ∙ above here)
+          (λ other. let high : w.house.last_id < id = omega arith in t.others id other ∙ s.numbered id high);
+      feeds = λ id mount e.
+          by_number him id
+          (λ same. absurd (not_now mount (sym t.his ∙ ap (standing_of later) same ∙ e)))
+          (λ other. let old = s.feeds id mount (sym (t.others id other) ∙ e) in (old.0, sessions mount ∙ old.1, old.2));
+      fed = λ mount session e.
+          let was = s.fed mount session (sym (sessions mount) ∙ e) in
+          by_number him session.number (λ same. absurd (not_before mount (ap (standing_of w) same ∙ was))) (λ other. t.others session.number other ∙ was);
+      starts = λ mount session e. s.starts mount session (sym (sessions mount) ∙ e);
+      sitting = sitting;
+      seated = seated;
+    }
+
+  -- a client has no seat before he is known, and so on
+  known_low : (id : ℕ) (now : Standing) → standing_of w id ≡ now → (now ≡ Unknown → ⊥) → w.house.last_id < id → {A : Type 0} → A
+  known_low id now e known high {A} = absurd (known (sym e ∙ s.numbered id high))
+
+  pub sound_answered : (id : ℕ) (peer : Peer) → standing_of w id ≡ Undecided peer → IsSound (changed w (Answer id))
+  sound_answered id peer e =
+      let t = turns_answered w id (λ u. cc) in
+      sound_turned (changed w (Answer id)) id Answered t (λ mount. refl)
+      (sits_still (changed w (Answer id)) id Answered t (λ him. refl) (λ u. cc))
+      (λ him seat h. seated_still (changed w (Answer id)) (λ mount. refl) seat (s.seated him seat h))
+      (omega arith) (λ high. known_low id (Undecided peer) e (λ u. cc) high) (λ mount f. cc) (λ mount f. cc)
+
+  pub sound_gone : (id : ℕ) → ((mount : List ℕ) → standing_of w id ≡ Feeds mount → ⊥) → IsSound (changed w (Go id))
+  sound_gone id not_feeding =
+      sound_turned (changed w (Go id)) id Unknown (turns_gone w id) (λ mount. refl) sitting seated
+      (omega arith) (λ high. refl) not_feeding (λ mount f. cc) where
+        sitting : (him : ℕ) (seat : Seat) → seat_of (without_listener w.seats id) him ≡ Some seat → standing_of (changed w (Go id)) him ≡ Sits
+        sitting him seat h =
+            by_number id him
+            (λ same. let none : seat_of (without_listener w.seats id) him ≡ None = ap (seat_of (without_listener w.seats id)) (sym same) ∙ ap seat_in (is_no_listener w.seats id) in cc)
+            (λ other. (turns_gone w id).others him other ∙ s.sitting him seat (sym (ap seat_in (beside_left w.seats id him other)) ∙ h))
+
+        seated : (him : ℕ) (seat : Seat) → seat_of (without_listener w.seats id) him ≡ Some seat → IsSeatedIn (changed w (Go id)) seat
+        seated him seat h =
+            by_number id him
+            (λ same. let none : seat_of (without_listener w.seats id) him ≡ None = ap (seat_of (without_listener w.seats id)) (sym same) ∙ ap seat_in (is_no_listener w.seats id) in cc)
+            (λ other. seated_still (changed w (Go id)) (λ mount. refl) seat (s.seated him seat (sym (ap seat_in (beside_left w.seats id him other)) ∙ h)))
+
+  -- of a newcomer nothing was known
+  pub sound_admitted : (peer : Peer) → IsSound (changed w (Admit (w.house.last_id + 1) peer))
+  sound_admitted peer =
+      let id = w.house.last_id + 1 in
+      let unknown : standing_of w id ≡ Unknown = s.numbered id (omega arith) in
+      let t = turns_admitted w id peer in
+      sound_turned (changed w (Admit id peer)) id (Undecided peer) t (λ mount. refl)
+      (sits_still (changed w (Admit id peer)) id (Undecided peer) t (λ him. refl) (λ u. cc))
+      (λ him seat h. seated_still (changed w (Admit id peer)) (λ mount. refl) seat (s.seated him seat h))
+      (omega arith) (λ high. absurd (omega arith)) (λ mount f. cc) (λ mount f. cc)
+
+  -- a listener sits down
+  module _ (asked : ListenRequest) (peer : Peer) (session : Session) (e : standing_of w asked.id ≡ Undecided peer) (live : session_of w.house.live asked.mount ≡ Some session) where
+    abbrev pub new_seat : Seat
+    new_seat = first_seat w.house asked peer session
+
+    abbrev pub after_seat : World
+    after_seat = changed w (SitDown asked.id new_seat)
+
+    pub turns_seated : Turns w after_seat asked.id Sits
+    turns_seated = turns_sitting w asked.id new_seat (λ u. cc)
+
+    -- he has that seat, and had none before
+    pub has_new_seat : seat_of after_seat.seats asked.id ≡ Some new_seat
+    has_new_seat =
+        let itself : (asked.id == asked.id) ≡ true = grind (arith, nat_tests) in
+        ap seat_in (has_sat_down w.seats asked.id new_seat itself)
+
+    pub had_no_seat : seat_of w.seats asked.id ≡ None
+    had_no_seat = by_found (seat_of w.seats asked.id) refl where
+      by_found : (found : Option Seat) → seat_of w.seats asked.id ≡ found → seat_of w.seats asked.id ≡ None
+      by_found None none = none
+      by_found (Some seat) has = let sat : standing_of w asked.id ≡ Sits = s.sitting asked.id seat has in cc
+
+    pub beside_new_seat : (id : ℕ) → (asked.id == id) ≡ false → seat_of after_seat.seats id ≡ seat_of w.seats id
+    beside_new_seat id other = ap seat_in (beside_seated w.seats asked.id id other new_seat)
+
+    new_seated : IsSeatedIn after_seat new_seat
+    new_seated = record {
+      session = session;
+      is_live = ap (session_of w.house.live) (found_named w.house.live asked.mount session live) ∙ live;
+      his_session = refl;
+      within = burst_within session (burst_of w.house session.mount) (s.starts asked.mount session live);
+    }
+
+    all_seated : (id : ℕ) (seat : Seat) → seat_of after_seat.seats id ≡ Some seat → IsSeatedIn after_seat seat
+    all_seated id seat h =
+        by_number asked.id id
+        (λ same.
+        let found : Some new_seat ≡ Some seat = sym has_new_seat ∙ ap (seat_of after_seat.seats) same ∙ h in
+        let one : new_seat ≡ seat = cc in
+        subst (λ (x : Seat). IsSeatedIn after_seat x) one new_seated)
+        (λ other. seated_still after_seat (λ mount. refl) seat (s.seated id seat (sym (beside_new_seat id other) ∙ h)))
+
+    all_sit : (id : ℕ) (seat : Seat) → seat_of after_seat.seats id ≡ Some seat → standing_of after_seat id ≡ Sits
+    all_sit id seat h =
+        by_number asked.id id
+        (λ same. ap (standing_of after_seat) (sym same) ∙ turns_seated.his)
+        (λ other. turns_seated.others id other ∙ s.sitting id seat (sym (beside_new_seat id other) ∙ h))
+
+    pub sound_sits : IsSound after_seat
+    sound_sits =
+        sound_turned after_seat asked.id Sits turns_seated (λ mount. refl) all_sit all_seated
+        (omega arith) (λ high. known_low asked.id (Undecided peer) e (λ u. cc) high) (λ mount f. cc) (λ mount f. cc)

@@ -1,0 +1,11 @@
+use Rattle.radio_core.specs.Run.{run_after}
+use Rattle.radio_core.proofs.SoundRuns.{sound_run}
+use Rattle.radio_core.proofs.FinishLemmas.{others_hold}
+use Rattle.radio_core.proofs.ServiceLemmas.{replies_fit}
+use Rattle.radio_core.proofs.laws.events_are_of_their_clients.Goals as goal
+
+pub returns-clause-own : goal.returns-clause-own
+returns-clause-own c settings events event = replies_fit (run_after settings events) (sound_run settings events) event
+
+pub returns-clause-others : goal.returns-clause-others
+returns-clause-others c settings events event = others_hold (run_after settings events) (sound_run settings events) event

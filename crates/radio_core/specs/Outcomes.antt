@@ -1,0 +1,41 @@
+-- What comes of an event: the reply, and the change of the state.
+use Rattle.std.specs.Prelude.{ℕ, List}
+use Rattle.radio_policy.specs.declared.judgement.Verdict.{Verdict}
+use Rattle.radio_policy.specs.declared.judgement.Verdict.TheVariants.{Allow, Deny as Denied}
+use Rattle.radio_addr.specs.declared.peer.Peer.{Peer}
+use Rattle.radio_core.specs.declared.reply.Reply.{Reply}
+use Rattle.radio_core.specs.declared.reply.Reply.TheVariants.{Deny, Finished, Stray}
+use Rattle.radio_core.specs.declared.outcome.Change.{Change}
+use Rattle.radio_core.specs.declared.outcome.Change.TheVariants.{Nothing}
+use Rattle.radio_core.specs.declared.outcome.Outcome.{Outcome}
+use Rattle.radio_core.specs.declared.standing.Standing.{Standing}
+use Rattle.radio_core.specs.declared.standing.Standing.TheVariants.{Undecided, Feeds, Sits, Finished as HasFinished}
+use Rattle.radio_core.specs.World.{World, standing_of}
+
+abbrev pub says : Reply → Change → Outcome
+says reply change = record { reply = reply; change = change }
+
+-- what the policy allows happens; what it denies is denied by its rule
+abbrev pub on_verdict : Verdict → Change → Outcome → Outcome
+on_verdict Allow denied allowed = allowed
+on_verdict (Denied rule) denied allowed = says (Deny rule) denied
+
+-- an event that does not fit how its client stands: he is told if he has finished, and nothing changes
+abbrev pub misfits : Standing → Outcome
+misfits (HasFinished rule) = says (Finished rule) Nothing
+misfits standing = says Stray Nothing
+
+-- only a client who has asked for nothing yet may do it
+abbrev pub if_undecided : Standing → (Peer → Outcome) → Outcome
+if_undecided (Undecided peer) go = go peer
+if_undecided standing go = misfits standing
+
+-- only a source may do it
+abbrev pub if_feeding : Standing → (List ℕ → Outcome) → Outcome
+if_feeding (Feeds mount) go = go mount
+if_feeding standing go = misfits standing
+
+-- only a listener who has a seat may do it
+abbrev pub if_sitting : Standing → Outcome → Outcome
+if_sitting Sits go = go
+if_sitting standing go = misfits standing

@@ -1,0 +1,71 @@
+-- The ways in which an event can end.
+use Rattle.std.specs.Prelude.{◌≡◌, ℕ, ◌+◌, length, List, [], Option, Some, None}
+use Rattle.radio_policy.specs.declared.rule.Rule.{Rule}
+use Rattle.radio_policy.specs.declared.judgement.Verdict.TheVariants.{Deny as Denied}
+use Rattle.radio_policy.specs.Table.{Row}
+use Rattle.radio_policy.specs.Verdicts.{verdict_in}
+use Rattle.radio_addr.specs.declared.peer.Peer.{Peer}
+use Rattle.radio_core.specs.declared.event.SourceRequest.{SourceRequest}
+use Rattle.radio_core.specs.declared.event.ListenRequest.{ListenRequest}
+use Rattle.radio_core.specs.declared.event.Event.{Event}
+use Rattle.radio_core.specs.declared.event.Event.TheVariants.{Arrive, Source, Push, SourceEnd, Listen, Draw, Leave}
+use Rattle.radio_core.specs.declared.house.House.{House}
+use Rattle.radio_core.specs.declared.outcome.Change.TheVariants.{Nothing, Answer, Admit, TakeIn, SitDown, Hear, End, FallSilent, Go}
+use Rattle.radio_core.specs.declared.outcome.Outcome.{Outcome}
+use Rattle.radio_core.specs.declared.reply.Reply.TheVariants.{Arrived, Seated, Drawn, Noted, Deny, Finished, Stray}
+use Rattle.radio_core.specs.declared.seats.Seat.{Seat}
+use Rattle.radio_core.specs.declared.standing.Standing.{Standing}
+use Rattle.radio_core.specs.declared.standing.Standing.TheVariants.{Undecided, Feeds, Sits, Finished as HasFinished}
+use Rattle.radio_core.specs.Facts.{rows_to_arrive, rows_to_feed, rows_to_push, rows_to_listen}
+use Rattle.radio_core.specs.Listen.{first_seat, interval_for}
+use Rattle.radio_core.specs.Outcomes.{says}
+use Rattle.radio_core.specs.Seats.{seat_of}
+use Rattle.radio_core.specs.Sessions.{Session, session_of}
+use Rattle.radio_core.specs.Source.{begins}
+use Rattle.radio_core.specs.Stream.{data_at}
+use Rattle.radio_core.specs.World.{World, standing_of}
+
+-- the client of an event, but for one that arrives
+abbrev pub client_in : Event → Option ℕ
+client_in (Arrive peer) = None
+client_in (Source asked) = Some asked.id
+client_in (Push id block) = Some id
+client_in (SourceEnd id) = Some id
+client_in (Listen asked) = Some asked.id
+client_in (Draw id room) = Some id
+client_in (Leave id) = Some id
+
+-- the client has asked for nothing yet
+abbrev pub IsUndecided : World → ℕ → Type 0
+IsUndecided w id = (peer : Peer) × (standing_of w id ≡ Undecided peer)
+
+-- the policy's rows for a block of one who stands so
+abbrev pub rows_from : House → List ℕ → Standing → List Row
+rows_from house block (Feeds mount) = rows_to_push house mount block
+rows_from house block standing = []
+
+-- the policy's rows for what the event asks for, as things stand
+abbrev pub rows_for : World → Event → List Row
+rows_for w (Arrive peer) = rows_to_arrive w.house
+rows_for w (Source asked) = rows_to_feed w.house asked.mount
+rows_for w (Push id block) = rows_from w.house block (standing_of w id)
+rows_for w (Listen asked) = rows_to_listen w.house asked.mount
+rows_for w event = []
+
+pub data Way (w : World) : Event → Outcome → Type 0 where
+  -- it is out of place
+  Strays : (event : Event) → Way w event (says Stray Nothing)
+  -- its client has finished, and is told the rule
+  IsTold : (event : Event) (id : ℕ) (rule : Rule) → client_in event ≡ Some id → standing_of w id ≡ HasFinished rule → Way w event (says (Finished rule) Nothing)
+  -- the policy denies it to one who did not ask for a mount
+  IsDenied : (event : Event) (rule : Rule) → verdict_in (rows_for w event) ≡ Denied rule → ((id : ℕ) → client_in event ≡ Some id → IsUndecided w id → ⊥) → Way w event (says (Deny rule) Nothing)
+  -- the policy denies a client what he asks for, and he has had his answer
+  IsRefused : (event : Event) (id : ℕ) (rule : Rule) → verdict_in (rows_for w event) ≡ Denied rule → client_in event ≡ Some id → IsUndecided w id → Way w event (says (Deny rule) (Answer id))
+  ComesIn : (peer : Peer) → Way w (Arrive peer) (says (Arrived (w.house.last_id + 1)) (Admit (w.house.last_id + 1) peer))
+  Begins : (asked : SourceRequest) → IsUndecided w asked.id → (session_of w.house.live asked.mount ≡ None) → Way w (Source asked) (begins asked)
+  TakesIn : (id : ℕ) (mount block : List ℕ) → standing_of w id ≡ Feeds mount → Way w (Push id block) (says Noted (TakeIn mount block))
+  SitsDown : (asked : ListenRequest) (peer : Peer) (session : Session) → standing_of w asked.id ≡ Undecided peer → session_of w.house.live asked.mount ≡ Some session → Way w (Listen asked) (says (Seated (interval_for w.house session.mount asked.wants_metadata) session.shown) (SitDown asked.id (first_seat w.house asked peer session)))
+  HandsOut : (id room : ℕ) (seat : Seat) (session : Session) → standing_of w id ≡ Sits → seat_of w.seats id ≡ Some seat → session_of w.house.live seat.mount ≡ Some session → Way w (Draw id room) (says (Drawn (data_at session.stream seat.place room) session.title) (Hear id (seat.place + length (data_at session.stream seat.place room))))
+  Ends : (id : ℕ) (mount : List ℕ) → standing_of w id ≡ Feeds mount → Way w (SourceEnd id) (says Noted (End id mount))
+  FallsSilent : (id : ℕ) (mount : List ℕ) → standing_of w id ≡ Feeds mount → Way w (Leave id) (says Noted (FallSilent id mount))
+  Goes : (id : ℕ) → ((mount : List ℕ) → standing_of w id ≡ Feeds mount → ⊥) → Way w (Leave id) (says Noted (Go id))

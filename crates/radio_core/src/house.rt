@@ -1,0 +1,117 @@
+//! All of the server's state but the table of listeners.
+
+ghost use Rattle.std.specs.Prelude.{◌≡◌, OnOk, OnErr};
+ghost use Rattle.std.specs.Option.{option_copied};
+ghost use Rattle.radio_core.specs.Sessions.{session_of};
+ghost use Rattle.radio_core.specs.Facts.{session_at, live_end};
+ghost use Rattle.radio_core.specs.Changes.{now_doing, admitted, begun, taken_in};
+
+use crate::OutOfMemory;
+use crate::clients::{Client, ClientState, Does};
+use crate::sessions::{Delivers, Session};
+use crate::stream::Stream;
+use radio_addr::Peer;
+use radio_blocks::Block;
+use radio_settings::{MountName, Settings, Shown};
+use radio_tables::Table;
+use std::alloc::Global;
+
+/// All of the server's state but the table of listeners.
+#[derive(Drop)]
+pub(crate) struct House {
+    /// The moment, in milliseconds.
+    pub(crate) time: u64,
+    pub(crate) settings: Settings,
+    /// The live mounts' sessions, in the order of the mounts' names.
+    pub(crate) live: Table<Session>,
+    /// The clients, in the order of their numbers.
+    pub(crate) clients: Table<Client>,
+    /// The number that was given last.
+    pub(crate) last_id: u64,
+}
+
+impl House {
+    /// The session of the mount, if it is live.
+    pub(crate) fn session(&self, mount: &MountName) -> Option<&Session>
+        ensures { option_copied result ≡ session_of self.now.live mount.now }
+    {
+        self.live.get(*mount)
+    }
+
+    /// The session of the mount of this path, if the path names one and it is live.
+    pub(crate) fn session_at(&self, path: &[u8]) -> Option<&Session>
+        ensures { option_copied result ≡ session_at self.now path.now }
+    {
+        match MountName::read(path) {
+            Some(mount) => self.session(&mount),
+            None => None,
+        }
+    }
+
+    /// How far the stream of the mount's session goes.
+    pub(crate) fn live_end(&self, mount: &MountName) -> u64
+        ensures { result ≡ live_end self.now mount.now }
+    {
+        match self.session(mount) {
+            Some(session) => session.stream.end(),
+            None => 0,
+        }
+    }
+
+    /// The client of this number does something else from now on.
+    pub(crate) fn set_state(&mut self, id: u64, state: ClientState)
+        ensures { self.new ≡ now_doing self.old id state }
+    {
+        self.clients.change(id, &Does { state });
+    }
+
+    /// A client has come, and has this number. `OutOfMemory` where memory was refused; nothing has
+    /// changed then.
+    pub(crate) fn admit(&mut self, id: u64, peer: Peer) -> Result<(), OutOfMemory>
+        ensures ok { OnOk result (self.new ≡ admitted self.old id peer) }
+        ensures err { OnErr result (self.new ≡ self.old) }
+    {
+        self.clients.insert(Client {
+            id,
+            peer,
+            arrived: self.time,
+            state: ClientState::Undecided,
+        })?;
+        self.last_id = id;
+        Ok(())
+    }
+
+    /// The client feeds the mount from now on. `OutOfMemory` where memory was refused; nothing has
+    /// changed then.
+    pub(crate) fn begin(
+        &mut self,
+        alloc: Global,
+        id: u64,
+        mount: MountName,
+        shown: Shown,
+    ) -> Result<(), OutOfMemory>
+        ensures ok { OnOk result (self.new ≡ begun self.old id mount shown) }
+        ensures err { OnErr result (self.new ≡ self.old) }
+    {
+        self.live.insert(Session {
+            mount,
+            number: id,
+            stream: Stream::new(alloc),
+            title: None,
+            shown,
+            last_block: self.time,
+        })?;
+        self.set_state(id, ClientState::Feeds(mount));
+        Ok(())
+    }
+
+    /// The mount's session has delivered a block. `OutOfMemory` where memory was refused; nothing
+    /// has changed then.
+    pub(crate) fn take_in(&mut self, mount: &MountName, block: Block) -> Result<(), OutOfMemory>
+        ensures ok { OnOk result (self.new ≡ taken_in self.old mount.now block) }
+        ensures err { OnErr result (self.new ≡ self.old) }
+    {
+        let moment = self.time;
+        self.live.try_change(*mount, &Delivers { block, moment })
+    }
+}

@@ -1,0 +1,101 @@
+//! What comes of an event: worked out first, and then committed.
+
+use crate::Reply;
+use crate::seats::Seat;
+use radio_addr::Peer;
+use radio_blocks::{Block, Place};
+use radio_policy::Rule;
+use radio_settings::{MountName, Shown};
+
+/// What an event changes.
+#[derive(Drop)]
+pub(crate) enum Change {
+    /// Nothing.
+    Nothing,
+    /// The client has had his answer.
+    Answer {
+        id: u64,
+    },
+    /// A client has come, and has this number.
+    Admit {
+        id: u64,
+        peer: Peer,
+    },
+    /// The client feeds the mount from now on: a session begins.
+    Begin {
+        id: u64,
+        mount: MountName,
+        shown: Shown,
+    },
+    /// The mount's session has delivered a block.
+    TakeIn {
+        mount: MountName,
+        block: Block,
+    },
+    /// The client has this seat from now on.
+    SitDown {
+        id: u64,
+        seat: Seat,
+    },
+    /// The listener has heard his stream up to this place.
+    Hear {
+        id: u64,
+        place: Place,
+    },
+    /// The mount's session ends, and its source has had his answer.
+    End {
+        id: u64,
+        mount: MountName,
+    },
+    /// The mount's session ends, and nothing is left of its source.
+    FallSilent {
+        id: u64,
+        mount: MountName,
+    },
+    /// Nothing is left of the client.
+    Go {
+        id: u64,
+    },
+}
+
+/// What comes of an event.
+#[derive(Drop)]
+pub(crate) struct Outcome {
+    pub(crate) reply: Reply,
+    pub(crate) change: Change,
+}
+
+impl Outcome {
+    ghost use Rattle.std.specs.Prelude.{◌≡◌};
+    ghost use Rattle.radio_core.specs.Outcomes.{says};
+
+    /// The event does not fit its client, or there is none.
+    pub(crate) fn stray() -> Outcome
+        ensures { result ≡ says Reply.Stray Change.Nothing }
+    {
+        Outcome {
+            reply: Reply::Stray,
+            change: Change::Nothing,
+        }
+    }
+
+    /// The policy denies by the rule what the client asks for, who has had his answer then.
+    pub(crate) fn refused(rule: Rule, id: u64) -> Outcome
+        ensures { result ≡ says (Reply.Deny rule) (Change.Answer id) }
+    {
+        Outcome {
+            reply: Reply::Deny(rule),
+            change: Change::Answer { id },
+        }
+    }
+
+    /// The client has finished by the rule, and is told it.
+    pub(crate) fn told(rule: Rule) -> Outcome
+        ensures { result ≡ says (Reply.Finished rule) Change.Nothing }
+    {
+        Outcome {
+            reply: Reply::Finished(rule),
+            change: Change::Nothing,
+        }
+    }
+}

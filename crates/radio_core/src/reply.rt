@@ -1,0 +1,67 @@
+//! What the server replies.
+
+use crate::OutOfMemory;
+use bytes::Bytes;
+use radio_blocks::Pieces;
+use radio_policy::Rule;
+use radio_settings::Shown;
+
+/// What the server replies to an event.
+#[derive(Drop)]
+pub enum Reply {
+    /// The client has this number from now on.
+    Arrived(u64),
+    /// The client feeds the mount from now on.
+    Feeding,
+    /// The client hears a mount from now on.
+    Seated {
+        /// After how many bytes of data he is sent a metadata block, if he asked for metadata.
+        interval: Option<u32>,
+        /// What the session shows that he hears.
+        shown: Shown,
+    },
+    /// The listener's next data.
+    Drawn {
+        /// The data.
+        pieces: Pieces,
+        /// The title that his mount has now, if it has one.
+        title: Option<Bytes>,
+    },
+    /// It was done, and there is nothing to say.
+    Noted,
+    /// The policy denies it, by this rule.
+    Deny(Rule),
+    /// The client was finished before, by this rule.
+    Finished(Rule),
+    /// The event does not fit the client, or there is none of that number; nothing has changed.
+    Stray,
+}
+
+impl Reply {
+    ghost use Rattle.std.specs.Prelude.{◌≡◌, IsOk, IfOk};
+    ghost use Rattle.radio_core.specs.Replies.{HoldsNoText};
+
+    /// An equal reply. `OutOfMemory` where memory was refused.
+    pub fn again(&self) -> Result<Reply, OutOfMemory>
+        ensures value { IfOk result (λ reply. reply ≡ self.now) }
+        // of a reply with neither data nor texts it is never refused
+        ensures frees { HoldsNoText self.now → IsOk result }
+    {
+        match self {
+            Reply::Arrived(id) => Ok(Reply::Arrived(*id)),
+            Reply::Feeding => Ok(Reply::Feeding),
+            Reply::Seated { interval, shown } => Ok(Reply::Seated {
+                interval: *interval,
+                shown: shown.clone()?,
+            }),
+            Reply::Drawn { pieces, title } => Ok(Reply::Drawn {
+                pieces: pieces.again()?,
+                title: title.clone()?,
+            }),
+            Reply::Noted => Ok(Reply::Noted),
+            Reply::Deny(rule) => Ok(Reply::Deny(*rule)),
+            Reply::Finished(rule) => Ok(Reply::Finished(*rule)),
+            Reply::Stray => Ok(Reply::Stray),
+        }
+    }
+}

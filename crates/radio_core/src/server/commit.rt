@@ -1,0 +1,77 @@
+ghost use Rattle.std.specs.Prelude.{◌≡◌, IsOk, OnOk, OnErr};
+ghost use Rattle.radio_core.specs.Changes.{changed, silent, gone};
+ghost use Rattle.radio_core.specs.Step.{NeedsNoMemory};
+
+use crate::clients::ClientState;
+use crate::outcome::Change;
+use crate::seats::{FinishesFrom, Listener, MovesOn, Seat, Seating};
+use crate::{Core, OutOfMemory};
+use radio_policy::Rule;
+use radio_settings::MountName;
+
+impl Core {
+    /// Makes a change. `OutOfMemory` where memory was refused; nothing has changed then.
+    pub(super) fn commit(&mut self, change: Change) -> Result<(), OutOfMemory>
+        ensures ok { OnOk result (self.new ≡ changed self.old change) }
+        ensures err { OnErr result (self.new ≡ self.old) }
+        ensures frees { NeedsNoMemory change → IsOk result }
+    {
+        match change {
+            Change::Nothing => Ok(()),
+            Change::Answer { id } => {
+                self.house.set_state(id, ClientState::Answered);
+                Ok(())
+            }
+            Change::Admit { id, peer } => self.house.admit(id, peer),
+            Change::Begin { id, mount, shown } => self.house.begin(self.alloc, id, mount, shown),
+            Change::TakeIn { mount, block } => self.house.take_in(&mount, block),
+            Change::SitDown { id, seat } => self.seat_listener(id, seat),
+            Change::Hear { id, place } => {
+                self.seats.change(id, &MovesOn { place });
+                Ok(())
+            }
+            Change::End { id, mount } => {
+                self.silence(mount);
+                self.house.set_state(id, ClientState::Answered);
+                Ok(())
+            }
+            Change::FallSilent { id, mount } => {
+                self.silence(mount);
+                self.forget(id);
+                Ok(())
+            }
+            Change::Go { id } => {
+                self.forget(id);
+                Ok(())
+            }
+        }
+    }
+
+    /// The client has this seat from now on.
+    fn seat_listener(&mut self, id: u64, seat: Seat) -> Result<(), OutOfMemory>
+        ensures ok { OnOk result (self.new ≡ changed self.old (Change.SitDown id seat)) }
+        ensures err { OnErr result (self.new ≡ self.old) }
+    {
+        let seating = Seating::Sits(seat);
+        self.seats.insert(Listener { id, seating })?;
+        self.house.set_state(id, ClientState::Listens);
+        Ok(())
+    }
+
+    /// The mount's session ends, and its listeners finish. It takes no memory.
+    fn silence(&mut self, mount: MountName)
+        ensures { self.new ≡ silent self.old mount }
+    {
+        self.house.live.remove(mount);
+        let rule = Rule::NotLive;
+        self.seats.change_all(&FinishesFrom { mount, rule });
+    }
+
+    /// Nothing is left of the client. It takes no memory.
+    fn forget(&mut self, id: u64)
+        ensures { self.new ≡ gone self.old id }
+    {
+        self.seats.remove(id);
+        self.house.clients.remove(id);
+    }
+}

@@ -1,0 +1,71 @@
+//! The live mounts' sessions.
+
+use crate::OutOfMemory;
+use crate::stream::Stream;
+use bytes::Bytes;
+use radio_blocks::Block;
+use radio_settings::{MountName, Shown};
+use radio_tables::{Row, TryChange};
+use std::marker::Model;
+
+/// What a source feeds to a mount, from its admission on.
+#[derive(Drop)]
+pub(crate) struct Session {
+    pub(crate) mount: MountName,
+    /// The number of the client that feeds it.
+    pub(crate) number: u64,
+    pub(crate) stream: Stream,
+    /// The title of what is on the air, if one was set.
+    pub(crate) title: Option<Bytes>,
+    /// What the heads of its listeners show.
+    pub(crate) shown: Shown,
+    /// The moment of its last block, or of its admission before there is one, in milliseconds.
+    pub(crate) last_block: u64,
+}
+
+impl Model for Session {
+    ghost use Rattle.radio_core.specs.Sessions.{Session};
+
+    ghost Value = { Session };
+
+    ghost view = { λ s. record { mount = s.mount; number = s.number; stream = s.stream; title = s.title; shown = s.shown; last_block = s.last_block } };
+}
+
+impl Row for Session {
+    type Key = MountName;
+
+    ghost use Rattle.radio_tables.specs.KeyLaws.{name_is};
+    ghost use Rattle.radio_core.specs.Sessions.{is_of};
+
+    ghost key = { λ session. session.mount };
+
+    ghost has_key = { is_of };
+
+    ghost has_key_is = { λ mount session. name_is mount session.mount };
+
+    fn key(&self) -> MountName {
+        self.mount
+    }
+}
+
+/// The session has delivered a block at this moment.
+#[derive(Drop)]
+pub(crate) struct Delivers {
+    pub(crate) block: Block,
+    pub(crate) moment: u64,
+}
+
+impl TryChange<Session> for Delivers {
+    ghost use Rattle.std.specs.Prelude.{refl};
+    ghost use Rattle.radio_core.specs.Sessions.{longer};
+
+    ghost gives = { λ change session. longer change.block change.moment session };
+
+    ghost keeps_key = { λ change session. refl };
+
+    fn try_apply(&self, row: &mut Session) -> Result<(), OutOfMemory> {
+        row.stream.push(&self.block)?;
+        row.last_block = self.moment;
+        Ok(())
+    }
+}

@@ -1,4 +1,0 @@
-//! Tests of whole scripts.
-
-mod slices;
-mod station;

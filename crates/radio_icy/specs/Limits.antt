@@ -1,0 +1,10 @@
+-- How long the texts may be.
+use Rattle.std.specs.Prelude.{ℕ}
+
+-- a title: with `StreamTitle='` before it and `';` behind it, it fits a block of 255 times 16 bytes
+abbrev pub longest_title : ℕ
+longest_title = 4065
+
+-- a shown field: a stream's name, genre or type
+abbrev pub longest_field : ℕ
+longest_field = 255

@@ -1,0 +1,103 @@
+-- The parts of a document as they are read, one after the other: their first faults, and what they set.
+use Rattle.std.specs.Prelude.{List, [], ◌∷◌, Option}
+use Rattle.std.specs.Option.{option_map}
+use Rattle.toml.specs.Data.{Members, no_members}
+use Rattle.radio_settings.specs.declared.key.Key.TheVariants.{Listen, Limits, Slave}
+use Rattle.radio_settings.specs.declared.fault.SettingsFault.{SettingsFault}
+use Rattle.radio_settings.specs.declared.reading.document.Basics.{Basics}
+use Rattle.radio_settings.specs.declared.reading.document.Streams.{Streams}
+use Rattle.radio_settings.specs.declared.settings.AccessSettings.{AccessSettings}
+use Rattle.radio_settings.specs.declared.settings.LimitSettings.{LimitSettings}
+use Rattle.radio_settings.specs.declared.settings.ListenSettings.{ListenSettings}
+use Rattle.radio_settings.specs.declared.settings.MountOptions.{MountOptions}
+use Rattle.radio_settings.specs.declared.settings.MountSetting.{MountSetting}
+use Rattle.radio_settings.specs.declared.settings.RelaySetting.{RelaySetting}
+use Rattle.radio_settings.specs.declared.settings.SlaveSetting.{SlaveSetting}
+use Rattle.radio_settings.specs.Access.{access_fault, access_of}
+use Rattle.radio_settings.specs.Document.{limits_faults, listen_faults, local_mounts, mount_names, mounts_faults, relays_faults, repeat_fault, slave_faults}
+use Rattle.radio_settings.specs.Limits.{limits_of}
+use Rattle.radio_settings.specs.Listen.{listen_of}
+use Rattle.radio_settings.specs.Lookup.{table_at, table_or_empty}
+use Rattle.radio_settings.specs.Mounts.{mounts_of, options_of}
+use Rattle.radio_settings.specs.Relays.{relays_of}
+use Rattle.radio_settings.specs.Rows.{first_fault}
+use Rattle.radio_settings.specs.Slave.{slave_of}
+
+-- the first fault of a table, and of its name
+unfoldable pub listen_table_fault : Members → Option SettingsFault
+listen_table_fault document = first_fault (listen_faults document)
+
+unfoldable pub limits_table_fault : Members → Option SettingsFault
+limits_table_fault document = first_fault (limits_faults document)
+
+-- the two tables
+unfoldable pub listen_and_limits_fault : Members → Option SettingsFault
+listen_and_limits_fault document = first_fault (listen_table_fault document ∷ limits_table_fault document ∷ [])
+
+pub record ListenAndLimits : Type 0 where
+  pub listen : ListenSettings
+  pub limits : LimitSettings
+
+abbrev pub listen_with : ListenSettings → LimitSettings → ListenAndLimits
+listen_with listen limits = record { listen = listen; limits = limits }
+
+abbrev pub listen_and_limits_of : Members → ListenAndLimits
+listen_and_limits_of document = listen_with (listen_of (table_or_empty Listen document)) (limits_of (table_or_empty Limits document))
+
+-- the keys above all tables, `[listen]` and `[limits]`
+unfoldable pub basics_fault : Members → Option SettingsFault
+basics_fault document = first_fault (access_fault document ∷ listen_and_limits_fault document ∷ [])
+
+abbrev pub basics_of : Members → Basics
+basics_of document = record {
+  access = access_of document;
+  listen = listen_of (table_or_empty Listen document);
+  limits = limits_of (table_or_empty Limits document);
+}
+
+-- the first fault of a list of tables, and of a table some keys of which must be there
+unfoldable pub mounts_fault : Members → Option SettingsFault
+mounts_fault document = first_fault (mounts_faults document)
+
+unfoldable pub relays_fault : Members → Option SettingsFault
+relays_fault document = first_fault (relays_faults document)
+
+unfoldable pub optional_slave_fault : Members → Option SettingsFault
+optional_slave_fault document = first_fault (slave_faults document)
+
+-- the tables of streams
+unfoldable pub lists_fault : Members → Option SettingsFault
+lists_fault document = first_fault (mounts_fault document ∷ relays_fault document ∷ optional_slave_fault document ∷ [])
+
+-- what they set, in the order of the text
+pub record Listed : Type 0 where
+  pub mounts : List MountSetting
+  pub relays : List RelaySetting
+  pub slave : Option SlaveSetting
+
+abbrev pub listed : List MountSetting → List RelaySetting → Option SlaveSetting → Listed
+listed mounts relays slave = record { mounts = mounts; relays = relays; slave = slave }
+
+abbrev pub listed_in : AccessSettings → LimitSettings → Members → Listed
+listed_in access limits document =
+    listed (mounts_of access limits document) (relays_of document) (option_map slave_of (table_at Slave document))
+
+-- a name that stands twice among them
+unfoldable pub apart_fault : List MountSetting → List RelaySetting → Option SettingsFault
+apart_fault mounts relays = first_fault (repeat_fault (mount_names mounts) ∷ repeat_fault (local_mounts relays) ∷ [])
+
+abbrev pub streams_with : MountOptions → Listed → Streams
+streams_with other_mounts l = record { mounts = l.mounts; other_mounts = other_mounts; relays = l.relays; slave = l.slave }
+
+-- the tables of streams, and then their names
+unfoldable pub streams_fault : AccessSettings → LimitSettings → Members → Option SettingsFault
+streams_fault access limits document =
+    first_fault (lists_fault document ∷ apart_fault (mounts_of access limits document) (relays_of document) ∷ [])
+
+abbrev pub streams_of : AccessSettings → LimitSettings → Members → Streams
+streams_of access limits document = streams_with (options_of access limits no_members) (listed_in access limits document)
+
+-- the first fault of a document, by the first faults of its parts
+abbrev pub fault_by_parts : Members → Option SettingsFault
+fault_by_parts document =
+    first_fault (basics_fault document ∷ streams_fault (access_of document) (limits_of (table_or_empty Limits document)) document ∷ [])

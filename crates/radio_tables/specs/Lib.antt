@@ -1,0 +1,5 @@
+pub mod EachLaws
+pub mod Entries
+pub mod FindLaws
+pub mod KeyLaws
+pub mod Lists

@@ -1,0 +1,3 @@
+pub mod NumbersLemmas
+pub mod CutsLemmas
+pub mod LawLemmas

@@ -1,0 +1,47 @@
+use crate::{cut, cut_at_two, read_number, without_return};
+
+type Row = (&'static [u8], u32, u32, Option<u32>);
+
+/// Texts, each with a base, the most that it may write, and the number.
+const NUMBERS: &[Row] = &[
+    (b"", 10, 255, None),
+    (b"0", 10, 255, Some(0)),
+    (b"0255", 10, 255, Some(255)),
+    (b"256", 10, 255, None),
+    (b"4294967295", 10, 4_294_967_295, Some(4_294_967_295)),
+    (b"4294967296", 10, 4_294_967_295, None),
+    (b"fFfF", 16, 65535, Some(65535)),
+    (b"+1", 10, 255, None),
+    (b"-0", 10, 255, None),
+    (b"1 ", 10, 255, None),
+    (b"1a", 10, 255, None),
+];
+
+fn is_number(row: &Row) -> bool {
+    let (text, base, most, number) = *row;
+    if !(2..=16).contains(&base) {
+        return false;
+    }
+    read_number(text, base, most) == number
+}
+
+#[test]
+fn numbers(rt: HostRuntime) {
+    for row in NUMBERS {
+        assert!(rt; is_number(row));
+    }
+}
+
+#[test]
+fn cuts(rt: HostRuntime) {
+    assert_eq!(rt;
+        cut(b"a:b:c", b':'),
+        Some((b"a".as_slice(), b"b:c".as_slice()))
+    );
+    assert_eq!(rt;
+        cut_at_two(b"a:b::c", b':'),
+        Some((b"a:b".as_slice(), b"c".as_slice()))
+    );
+    assert!(rt; cut(b"abc", b':').is_none());
+    assert!(rt; without_return(b"a\r\r") == b"a\r".as_slice());
+}

@@ -1,0 +1,204 @@
+//! Events in tables, and replies in words.
+
+use bytes::Bytes;
+use radio_addr::Peer;
+use radio_blocks::{Block, Pieces};
+use radio_core::{Core, Event, ListenRequest, OutOfMemory, Reply, SourceRequest};
+use radio_settings::{Settings, SettingsFault, Shown};
+use std::alloc::Global;
+use std::process::Abort;
+use std::test::Fail;
+
+/// The settings of a station, up to the limits that it sets.
+const STATION: &str = "source-password = \"hackme\"\nadmin-password = \"letmein\"\n[limits]\n";
+
+/// An event of a table, by its client's number, and the mount, the data or the room.
+#[derive(Clone, Copy, Debug)]
+pub enum Call {
+    Arrive,
+    /// A source that tells of its stream: `audio/ogg`, the name `Night`.
+    Source(u64, &'static str),
+    /// A source that tells nothing.
+    PlainSource(u64, &'static str),
+    Push(u64, &'static str),
+    SourceEnd(u64),
+    Listen(u64, &'static str),
+    Draw(u64, u32),
+    Leave(u64),
+}
+
+impl Call {
+    pub fn event(&self, alloc: Global) -> Result<Event, OutOfMemory> {
+        match self {
+            Call::Arrive => Ok(Event::Arrive {
+                peer: Peer::of_v4(0x0a00_0001),
+            }),
+            Call::Source(id, path) => source_event(alloc, *id, path, b"audio/ogg", b"Night"),
+            Call::PlainSource(id, path) => source_event(alloc, *id, path, b"audio/mpeg", b""),
+            Call::Push(id, text) => push_event(alloc, *id, text),
+            Call::SourceEnd(id) => Ok(Event::SourceEnd { id: *id }),
+            Call::Listen(id, path) => listen_event(alloc, *id, path),
+            Call::Draw(id, room) => Ok(Event::Draw {
+                id: *id,
+                room: *room,
+            }),
+            Call::Leave(id) => Ok(Event::Leave { id: *id }),
+        }
+    }
+}
+
+fn source_event(
+    alloc: Global,
+    id: u64,
+    path: &str,
+    content_type: &[u8],
+    name: &[u8],
+) -> Result<Event, OutOfMemory> {
+    Ok(Event::Source(SourceRequest {
+        id,
+        mount: Bytes::copy_from_slice(alloc, path.as_bytes())?,
+        pair: None,
+        shown: Shown::clean(alloc, content_type, name, b"")?,
+    }))
+}
+
+fn listen_event(alloc: Global, id: u64, path: &str) -> Result<Event, OutOfMemory> {
+    Ok(Event::Listen(ListenRequest {
+        id,
+        mount: Bytes::copy_from_slice(alloc, path.as_bytes())?,
+        pair: None,
+        wants_metadata: false,
+    }))
+}
+
+/// A table has no empty block; in its place stands an event that is stray.
+fn push_event(alloc: Global, id: u64, text: &str) -> Result<Event, OutOfMemory> {
+    match Block::new(Bytes::copy_from_slice(alloc, text.as_bytes())?) {
+        Some(block) => Ok(Event::Push { id, block }),
+        None => Ok(Event::Leave { id: 0 }),
+    }
+}
+
+/// A core with this burst-size.
+pub fn core_with_burst(alloc: Global, burst: u32) -> Result<Core, SettingsFault> {
+    let text = format!(in alloc; "{STATION}burst-size = {burst}\n")?;
+    let settings = Settings::read(alloc, text.as_str())?;
+    Ok(Core::new(alloc, settings))
+}
+
+/// A core with this burst-size replies as one table says, and then as the next.
+pub fn replies_in_turn(
+    rt: &impl Abort,
+    alloc: Global,
+    burst: u32,
+    first: &[(Call, &str)],
+    next: &[(Call, &str)],
+) -> Result<(), Fail> {
+    let mut core = core_with_burst(alloc, burst)?;
+    both_tables(rt, alloc, &mut core, first, next)
+}
+
+fn both_tables(
+    rt: &impl Abort,
+    alloc: Global,
+    core: &mut Core,
+    first: &[(Call, &str)],
+    next: &[(Call, &str)],
+) -> Result<(), Fail> {
+    replies(rt, alloc, core, first)?;
+    replies(rt, alloc, core, next)
+}
+
+/// Each call of the table is replied to as the table says.
+pub fn replies(
+    rt: &impl Abort,
+    alloc: Global,
+    core: &mut Core,
+    table: &[(Call, &str)],
+) -> Result<(), Fail> {
+    for (call, want) in table {
+        let words = told_after(alloc, core, call)?;
+        check_words(rt, call, words.as_str(), want);
+    }
+    Ok(())
+}
+
+/// Each of the three replies to a call is as the table says.
+pub fn replies_three_times(
+    rt: &impl Abort,
+    alloc: Global,
+    core: &mut Core,
+    table: &[(Call, &str)],
+) -> Result<(), Fail> {
+    for (call, want) in table {
+        check_three(rt, alloc, core, call, want)?;
+    }
+    Ok(())
+}
+
+fn check_three(
+    rt: &impl Abort,
+    alloc: Global,
+    core: &mut Core,
+    call: &Call,
+    want: &str,
+) -> Result<(), Fail> {
+    let event = call.event(alloc)?;
+    let three = core.step3(event)?;
+    check_replies(rt, alloc, &three, call, want)
+}
+
+fn check_replies(
+    rt: &impl Abort,
+    alloc: Global,
+    replies: &[Reply],
+    call: &Call,
+    want: &str,
+) -> Result<(), Fail> {
+    for reply in replies {
+        let words = told(alloc, reply)?;
+        check_words(rt, call, words.as_str(), want);
+    }
+    Ok(())
+}
+
+pub fn check_words(rt: &impl Abort, call: &Call, words: &str, want: &str) {
+    assert_eq!(rt; words, want, "at {call:?}");
+}
+
+pub fn told_after(alloc: Global, core: &mut Core, call: &Call) -> Result<String, OutOfMemory> {
+    let event = call.event(alloc)?;
+    let reply = core.step(event)?;
+    told(alloc, &reply)
+}
+
+/// A reply in words.
+pub fn told(alloc: Global, reply: &Reply) -> Result<String, OutOfMemory> {
+    match reply {
+        Reply::Arrived(id) => format!(in alloc; "arrived {id}"),
+        Reply::Feeding => "feeding".to_string(alloc),
+        Reply::Seated { shown, .. } => told_shown(alloc, shown),
+        Reply::Drawn { pieces, .. } => told_drawn(alloc, pieces),
+        Reply::Noted => "noted".to_string(alloc),
+        Reply::Deny(rule) => format!(in alloc; "deny {rule}"),
+        Reply::Finished(rule) => format!(in alloc; "finished {rule}"),
+        Reply::Stray => "stray".to_string(alloc),
+    }
+}
+
+fn told_shown(alloc: Global, shown: &Shown) -> Result<String, OutOfMemory> {
+    let content_type = shown.content_type.as_str();
+    let name = shown.name.as_str();
+    let genre = shown.genre.as_str();
+    format!(in alloc; "seated {content_type},{name},{genre}")
+}
+
+fn told_drawn(alloc: Global, pieces: &Pieces) -> Result<String, OutOfMemory> {
+    let mut drawn = Vec::new(alloc);
+    pieces.write_to(&mut drawn)?;
+    format!(in alloc; "drawn {}", text(drawn.as_slice()))
+}
+
+fn text(bytes: &[u8]) -> &str {
+    str::from_utf8(bytes).unwrap_or("(no text)")
+}

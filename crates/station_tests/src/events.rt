@@ -1,0 +1,145 @@
+//! Each event at each standing of a client.
+
+use crate::calls::*;
+use std::alloc::Global;
+use std::process::Abort;
+use std::test::Fail;
+
+/// A source is 1, a listener is 2, and 3 has asked for nothing.
+const THREE_CLIENTS: &[(Call, &str)] = &[
+    (Call::Arrive, "arrived 1"),
+    (Call::Arrive, "arrived 2"),
+    (Call::Arrive, "arrived 3"),
+    (Call::Source(1, "/a"), "feeding"),
+    (Call::Push(1, "abcd"), "noted"),
+    (Call::Listen(2, "/a"), "seated audio/ogg,Night,"),
+];
+
+/// What follows upon them.
+fn three_clients(rt: &impl Abort, alloc: Global, table: &[(Call, &str)]) -> Result<(), Fail> {
+    replies_in_turn(rt, alloc, 8, THREE_CLIENTS, table)
+}
+
+/// What does not fit a client is stray, and changes nothing.
+const STRAY_EVENTS: &[(Call, &str)] = &[
+    (Call::Source(1, "/b"), "stray"),
+    (Call::Listen(1, "/a"), "stray"),
+    (Call::Draw(1, 9), "stray"),
+    (Call::Source(2, "/b"), "stray"),
+    (Call::Push(2, "xy"), "stray"),
+    (Call::SourceEnd(2), "stray"),
+    (Call::Push(3, "xy"), "stray"),
+    (Call::Draw(3, 9), "stray"),
+    (Call::SourceEnd(3), "stray"),
+    (Call::Leave(4), "stray"),
+    (Call::Draw(2, 9), "drawn abcd"),
+];
+
+#[test]
+fn stray_events(rt: HostRuntime) -> Result<(), Fail> {
+    three_clients(&rt, rt.alloc(), STRAY_EVENTS)
+}
+
+/// A listener is handed the stream piece by piece, as he has room and as it grows.
+const PIECE_BY_PIECE: &[(Call, &str)] = &[
+    (Call::Draw(2, 3), "drawn abc"),
+    (Call::Push(1, "efgh"), "noted"),
+    (Call::Draw(2, 0), "drawn "),
+    (Call::Draw(2, 2), "drawn de"),
+    (Call::Draw(2, 100), "drawn fgh"),
+    (Call::Draw(2, 100), "drawn "),
+];
+
+#[test]
+fn draws_piece_by_piece(rt: HostRuntime) -> Result<(), Fail> {
+    three_clients(&rt, rt.alloc(), PIECE_BY_PIECE)
+}
+
+/// Each kind of reply.
+const EACH_REPLY: &[(Call, &str)] = &[
+    (Call::Arrive, "arrived 1"),
+    (Call::Source(1, "/a"), "feeding"),
+    (Call::Push(1, "abcd"), "noted"),
+    (Call::Arrive, "arrived 2"),
+    (Call::Listen(2, "/a"), "seated audio/ogg,Night,"),
+    (Call::Draw(2, 3), "drawn abc"),
+    (Call::Arrive, "arrived 3"),
+    (Call::Listen(3, "/b"), "deny no-mount"),
+    (Call::SourceEnd(1), "noted"),
+    (Call::Draw(2, 3), "finished not-live"),
+    (Call::Leave(4), "stray"),
+];
+
+/// A record of an event, its client and its caller each have its reply.
+#[test]
+fn three_equal_replies(rt: HostRuntime) -> Result<(), Fail> {
+    let mut core = core_with_burst(rt.alloc(), 8)?;
+    replies_three_times(&rt, rt.alloc(), &mut core, EACH_REPLY)
+}
+
+/// The end of a session finishes its listeners, and theirs alone, until they leave.
+const SOURCE_ENDS: &[(Call, &str)] = &[
+    (Call::Source(3, "/b"), "feeding"),
+    (Call::Arrive, "arrived 4"),
+    (Call::Listen(4, "/b"), "seated audio/ogg,Night,"),
+    (Call::SourceEnd(1), "noted"),
+    (Call::Draw(2, 9), "finished not-live"),
+    (Call::Listen(2, "/b"), "finished not-live"),
+    (Call::Push(1, "xy"), "stray"),
+    (Call::Push(3, "xy"), "noted"),
+    (Call::Draw(4, 9), "drawn xy"),
+    (Call::Leave(2), "noted"),
+    (Call::Draw(2, 9), "stray"),
+];
+
+#[test]
+fn source_that_ends(rt: HostRuntime) -> Result<(), Fail> {
+    three_clients(&rt, rt.alloc(), SOURCE_ENDS)
+}
+
+/// A source that leaves ends its session too; a listener of the next one hears that one alone.
+const SOURCE_LEAVES: &[(Call, &str)] = &[
+    (Call::Leave(1), "noted"),
+    (Call::Source(3, "/a"), "feeding"),
+    (Call::Push(3, "new"), "noted"),
+    (Call::Draw(2, 9), "finished not-live"),
+    (Call::Arrive, "arrived 4"),
+    (Call::Listen(4, "/a"), "seated audio/ogg,Night,"),
+    (Call::Draw(4, 9), "drawn new"),
+];
+
+#[test]
+fn source_that_leaves(rt: HostRuntime) -> Result<(), Fail> {
+    three_clients(&rt, rt.alloc(), SOURCE_LEAVES)
+}
+
+/// Each rule of the policy that can be met in a test; one who is denied has had his answer.
+const DENIALS: &[(Call, &str)] = &[
+    (Call::Source(3, "/a"), "deny mount-in-use"),
+    (Call::Source(3, "/b"), "stray"),
+    (Call::Arrive, "arrived 4"),
+    (Call::Source(4, "/admin/x"), "deny bad-mount"),
+    (Call::Arrive, "arrived 5"),
+    (Call::Listen(5, "a"), "deny bad-mount"),
+    (Call::Listen(5, "/a"), "stray"),
+    (Call::Arrive, "arrived 6"),
+    (Call::Listen(6, "/b"), "deny no-mount"),
+    (Call::Draw(6, 9), "stray"),
+    (Call::Leave(6), "noted"),
+    (Call::Draw(2, 9), "drawn abcd"),
+];
+
+#[test]
+fn denials(rt: HostRuntime) -> Result<(), Fail> {
+    three_clients(&rt, rt.alloc(), DENIALS)
+}
+
+/// Numbers are not given again.
+#[test]
+fn numbers_rise(rt: HostRuntime) -> Result<(), Fail> {
+    three_clients(
+        &rt,
+        rt.alloc(),
+        &[(Call::Leave(3), "noted"), (Call::Arrive, "arrived 4")],
+    )
+}

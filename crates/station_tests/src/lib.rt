@@ -1,0 +1,19 @@
+//! Tests of the server as its callers see it: what no clause says. Each call succeeds with ample
+//! memory, and the definitions mean what the rules say, on rows that were worked out by hand.
+//!
+//! - `events`, `rows`, `memory`: events and replies of the core.
+//! - `scripts`: whole scripts, over sound and failing devices; `many`: large ones.
+#![tactic(auto)]
+
+#[cfg(test)]
+mod calls;
+#[cfg(test)]
+mod events;
+#[cfg(test)]
+mod many;
+#[cfg(test)]
+mod memory;
+#[cfg(test)]
+mod rows;
+#[cfg(test)]
+mod scripts;

@@ -1,0 +1,87 @@
+//! Large scripts, with ample memory: the answer is compared.
+
+use crate::scripts::{deliveries, played, settings};
+use radio_core::OutOfMemory;
+use radio_floor::{Delivery, run};
+use radio_script::ByteString;
+use radio_settings::SettingsFault;
+use std::alloc::Global;
+
+/// How many connections come.
+const CONNECTIONS: u32 = 2000;
+
+/// A script of so many connections that each ask to hear a mount that is not live.
+fn many_connections(alloc: Global) -> Result<String, SettingsFault> {
+    let mut script = String::new(alloc);
+    for label in 1..=CONNECTIONS {
+        script.push_str("open ")?;
+        push_line(alloc, &mut script, label, " 10.0.0.1\n")?;
+        script.push_str("in ")?;
+        push_line(alloc, &mut script, label, " GET /a HTTP/1.0\\r\\n\\r\\n\n")?;
+    }
+    Ok(script)
+}
+
+fn push_line(
+    alloc: Global,
+    script: &mut String,
+    label: u32,
+    rest: &str,
+) -> Result<(), SettingsFault> {
+    let line = format!(in alloc; "{label}{rest}")?;
+    script.push_str(line.as_str())?;
+    Ok(())
+}
+
+/// How often a part stands in the text, one after another.
+fn count(text: &[u8], part: &[u8]) -> usize {
+    text.split(|b| *b == b'\n')
+        .filter(|line| line.ends_with(part))
+        .count()
+}
+
+#[test]
+fn two_thousand_connections(rt: HostRuntime) -> Result<(), SettingsFault> {
+    let script = many_connections(rt.alloc())?;
+    let (result, written) = played(rt.alloc(), 8, script.as_bytes())?;
+    assert_eq!(rt; result, Ok(()));
+    assert_eq!(rt;
+        count(written.as_slice(), b" no-mount"),
+        CONNECTIONS as usize
+    );
+    Ok(())
+}
+
+/// A source, and a listener who hears it from its first byte.
+const BOTH: &[u8] =
+    b"open 1 10.0.0.1\nin 1 SOURCE /a HTTP/1.0\\r\\n\\r\\n\nopen 2 10.0.0.2\nin 2 GET /a HTTP/1.0\\r\\n\\r\\n";
+
+/// How many bytes the source brings at once.
+const MEBIBYTES_16: usize = 16 * 1024 * 1024;
+
+/// The source brings so many bytes in one delivery, and the listener draws four of them.
+fn large_delivery(alloc: Global) -> Result<Vec<Delivery>, OutOfMemory> {
+    let mut all = deliveries(alloc, BOTH)?;
+    let brought = vec![in alloc; b'x'; MEBIBYTES_16]?;
+    all.push(Delivery::In {
+        label: 1,
+        bytes: ByteString::from(brought),
+    })?;
+    all.push(Delivery::Room { label: 2, room: 4 })?;
+    Ok(all)
+}
+
+/// Whether they come to a transcript that ends with what the listener drew.
+fn ends_with_four_bytes(alloc: Global, all: &[Delivery]) -> Result<bool, SettingsFault> {
+    match run(alloc, settings(alloc, 8)?, all) {
+        Ok(text) => Ok(text.as_slice().ends_with(b"out 2 xxxx\n")),
+        Err(_) => Ok(false),
+    }
+}
+
+#[test]
+fn sixteen_mebibytes_in_one_delivery(rt: HostRuntime) -> Result<(), SettingsFault> {
+    let all = large_delivery(rt.alloc())?;
+    assert!(rt; ends_with_four_bytes(rt.alloc(), all.as_slice())?);
+    Ok(())
+}

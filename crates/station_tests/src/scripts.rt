@@ -1,0 +1,197 @@
+//! Scripts over the server itself.
+
+use radio_core::OutOfMemory;
+use radio_floor::{Delivery, PlayFault, RunFault, Tally, play, run};
+use radio_script::read_delivery;
+use radio_settings::{Settings, SettingsFault};
+use std::alloc::Global;
+use std::io;
+use std::io::{Error, ErrorKind, Read, Write};
+
+const EIGHT_BYTES: &[u8] = b"open 1 10.0.0.1\n\
+    in 1 SOURCE /a HTTP/1.0\\r\\n\\r\\n\n\
+    in 1 abcdefgh\n\
+    open 2 10.0.0.2\n\
+    in 2 GET /a HTTP/1.0\\r\\n\\r\\n\n\
+    room 2 100\n\
+    end 2\n\
+    end 1\n";
+
+const EIGHT_BYTES_TRANSCRIPT: &[u8] = b"out 1 HTTP/1.0 200 OK\\r\\n\\r\\n\n\
+    out 2 HTTP/1.0 200 OK\\r\\nContent-Type: audio/mpeg\\r\\nConnection: close\\r\\n\\r\\n\n\
+    out 2 abcdefgh\n\
+    shut 2 done\n\
+    shut 1 done\n";
+
+// Two blocks of four bytes, and then a listener.
+const TWO_BLOCKS: &[u8] = b"open 1 10.0.0.1\n\
+    in 1 SOURCE /a HTTP/1.0\\r\\n\\r\\n\n\
+    in 1 abcd\n\
+    in 1 efgh\n\
+    open 2 10.0.0.2\n\
+    in 2 GET /a HTTP/1.0\\r\\n\\r\\n\n\
+    room 2 100\n";
+
+const ONE_BLOCK_TRANSCRIPT: &[u8] = b"out 1 HTTP/1.0 200 OK\\r\\n\\r\\n\n\
+    out 2 HTTP/1.0 200 OK\\r\\nContent-Type: audio/mpeg\\r\\nConnection: close\\r\\n\\r\\n\n\
+    out 2 efgh\n";
+
+// Settings with this burst size.
+pub fn settings(alloc: Global, burst_size: u32) -> Result<Settings, SettingsFault> {
+    let text = format!(in alloc;
+        "source-password = \"hackme\"\nadmin-password = \"letmein\"\n[limits]\nburst-size = {burst_size}\n"
+    )?;
+    Settings::read(alloc, text.as_str())
+}
+
+// What a script comes to over these devices.
+fn played_over<R: Read + Drop, W: Write + Drop>(
+    alloc: Global,
+    burst: u32,
+    reader: R,
+    writer: W,
+) -> Result<Result<(), PlayFault>, SettingsFault> {
+    let mut reader = Tally::new(reader);
+    let mut writer = Tally::new(writer);
+    let settings = settings(alloc, burst)?;
+    Ok(play(alloc, settings, &mut reader, &mut writer))
+}
+
+// What a script comes to over devices that do not fail: the result, and what was written.
+pub fn played(
+    alloc: Global,
+    burst: u32,
+    script: &[u8],
+) -> Result<(Result<(), PlayFault>, Vec<u8>), SettingsFault> {
+    let mut written = Vec::new(alloc);
+    let result = played_over(alloc, burst, script, &mut written)?;
+    Ok((result, written))
+}
+
+// The worked rows: the burst size, the script, and its transcript.
+const WORKED_ROWS: &[(&str, u32, &[u8], &[u8])] = &[
+    ("eight_bytes", 8, EIGHT_BYTES, EIGHT_BYTES_TRANSCRIPT),
+    ("burst_of_one_block", 4, TWO_BLOCKS, ONE_BLOCK_TRANSCRIPT),
+    ("burst_between_blocks", 5, TWO_BLOCKS, ONE_BLOCK_TRANSCRIPT),
+    ("empty_script", 8, b"", b""),
+];
+
+// Whether the script comes to that transcript.
+fn plays_to(
+    alloc: Global,
+    burst: u32,
+    script: &[u8],
+    transcript: &[u8],
+) -> Result<bool, SettingsFault> {
+    let (result, written) = played(alloc, burst, script)?;
+    Ok(result.is_ok() && written.as_slice() == transcript)
+}
+
+#[test]
+fn plays_the_worked_rows(rt: HostRuntime) -> Result<(), SettingsFault> {
+    for (name, burst, script, transcript) in WORKED_ROWS {
+        assert!(rt; plays_to(rt.alloc(), *burst, script, transcript)?, "{name}");
+    }
+    Ok(())
+}
+
+// The deliveries of a script's lines.
+pub fn deliveries(alloc: Global, script: &[u8]) -> Result<Vec<Delivery>, OutOfMemory> {
+    let mut all = Vec::new(alloc);
+    for line in script.split(|b| *b == b'\n') {
+        if let Some(delivery) = read_delivery(alloc, line)? {
+            all.push(delivery)?;
+        }
+    }
+    Ok(all)
+}
+
+// What a list of deliveries comes to: a transcript, or a fault.
+fn run_all(alloc: Global, script: &[u8]) -> Result<Result<Vec<u8>, RunFault>, SettingsFault> {
+    let all = deliveries(alloc, script)?;
+    Ok(run(alloc, settings(alloc, 8)?, all.as_slice()))
+}
+
+// Whether the deliveries of the script's lines come to that transcript.
+fn runs_to(alloc: Global, script: &[u8], transcript: &[u8]) -> Result<bool, SettingsFault> {
+    match run_all(alloc, script)? {
+        Ok(text) => Ok(text.as_slice() == transcript),
+        Err(_) => Ok(false),
+    }
+}
+
+// Whether they are at fault at the delivery of that number.
+fn runs_to_fault(alloc: Global, script: &[u8], number: usize) -> Result<bool, SettingsFault> {
+    match run_all(alloc, script)? {
+        Ok(_) => Ok(false),
+        Err(fault) => Ok(fault == RunFault::Delivery { number }),
+    }
+}
+
+#[test]
+fn runs_eight_bytes(rt: HostRuntime) -> Result<(), SettingsFault> {
+    assert!(rt; runs_to(rt.alloc(), EIGHT_BYTES, EIGHT_BYTES_TRANSCRIPT)?);
+    Ok(())
+}
+
+#[test]
+fn runs_to_a_label_that_was_not_opened(rt: HostRuntime) -> Result<(), SettingsFault> {
+    assert!(rt; runs_to_fault(rt.alloc(), b"open 1 10.0.0.1\nend 2", 2)?);
+    Ok(())
+}
+
+// A reader that fails at each call.
+#[derive(Drop)]
+struct Broken;
+
+impl Read for Broken {
+    fn read(&mut self, _buffer: &mut [u8]) -> io::Result<usize> {
+        Err(Error::from(ErrorKind::Interrupted))
+    }
+}
+
+// A reader that breaks behind each front of the script: a front of the transcript was written.
+#[test]
+fn ends_with_a_failing_reader(rt: HostRuntime) -> Result<(), SettingsFault> {
+    for sound in 0..EIGHT_BYTES.len() {
+        let reader = EIGHT_BYTES[..sound].chain(Broken);
+        let mut written = Vec::new(rt.alloc());
+        let result = played_over(rt.alloc(), 8, reader, &mut written)?;
+        assert_eq!(rt; result, Err(PlayFault::Read), "at {sound}");
+        assert!(rt;
+            EIGHT_BYTES_TRANSCRIPT.starts_with(written.as_slice()),
+            "at {sound}"
+        );
+    }
+    Ok(())
+}
+
+// A writer that has room for a front of the transcript alone: it has that front.
+#[test]
+fn ends_with_a_full_writer(rt: HostRuntime) -> Result<(), SettingsFault> {
+    for room in 0..EIGHT_BYTES_TRANSCRIPT.len() {
+        let mut written = vec![in rt.alloc(); 0; room]?;
+        let result = played_over(rt.alloc(), 8, EIGHT_BYTES, written.as_mut_slice())?;
+        assert_eq!(rt; result, Err(PlayFault::Write), "at {room}");
+        assert!(rt;
+            EIGHT_BYTES_TRANSCRIPT.starts_with(written.as_slice()),
+            "at {room}"
+        );
+    }
+    Ok(())
+}
+
+// With each allocation refused in its turn (`rt try --test --fail-alloc N`): the transcript, or
+// want of memory, and then a front of the transcript was written.
+#[test]
+fn plays_or_wants_memory(rt: HostRuntime) {
+    let Ok((result, written)) = played(rt.alloc(), 8, EIGHT_BYTES) else {
+        return;
+    };
+    match result {
+        Ok(()) => assert_eq!(rt; written.as_slice(), EIGHT_BYTES_TRANSCRIPT),
+        Err(PlayFault::Write) => {}
+        Err(fault) => assert_eq!(rt; fault, PlayFault::OutOfMemory),
+    }
+    assert!(rt; EIGHT_BYTES_TRANSCRIPT.starts_with(written.as_slice()));
+}
