@@ -20,13 +20,14 @@ use Rattle.radio_core.specs.Sessions.{Session, session_of}
 use Rattle.radio_core.specs.Sound.{AreRising, IsSound}
 use Rattle.radio_core.specs.Step.{outcome, reply_to, world_after}
 use Rattle.radio_core.specs.Stream.{WholeStream, end_of, burst_start, data_at}
-use Rattle.radio_core.specs.Ways.{Way, Strays, IsTold, IsDenied, IsRefused, ComesIn, Begins, TakesIn, SitsDown, HandsOut, Ends, FallsSilent, Goes}
+use Rattle.radio_core.specs.Ways.{Way, Misplaced, IsFinished, IsDenied, IsRefused, IsAdmitted, Begins, Receives, TakesSeat, HandsOut, Ends, EndsAndLeaves, Leaves}
 use Rattle.radio_core.proofs.Lookups.{found_named, has_sat_down}
 use Rattle.radio_core.proofs.Soundness.{burst_within}
 use Rattle.radio_core.proofs.Ways.{way_of}
 
 module _ (w : World) (s : IsSound w) where
-  his_by : (event : Event) (o : Outcome) → Way w event o → (bytes : List ℕ) (title : Option (List ℕ)) → o.reply ≡ Drawn bytes title → IsHis w event bytes title
+  his_by : (event : Event) (o : Outcome) → Way w event o → (bytes : List ℕ) (title : Option (List ℕ)) → o.reply ≡ Drawn bytes title
+      → IsHis w event bytes title
   his_by event o (HandsOut id room seat session sits has live) bytes title d =
       let old = s.seated id seat has in
       record {
@@ -47,17 +48,17 @@ module _ (w : World) (s : IsSound w) where
 
         drawn_title : {a b : List ℕ} {t u : Option (List ℕ)} → Drawn a t ≡ Drawn b u → t ≡ u
         drawn_title e = cc
-  his_by event o (Strays _) bytes title d = cc
-  his_by event o (IsTold _ id by his told) bytes title d = cc
+  his_by event o (Misplaced _) bytes title d = cc
+  his_by event o (IsFinished _ id by his told) bytes title d = cc
   his_by event o (IsDenied _ by v not) bytes title d = cc
   his_by event o (IsRefused _ id by v his undecided) bytes title d = cc
-  his_by event o (ComesIn peer) bytes title d = cc
+  his_by event o (IsAdmitted peer) bytes title d = cc
   his_by event o (Begins asked undecided none) bytes title d = cc
-  his_by event o (TakesIn id mount block feeding) bytes title d = cc
-  his_by event o (SitsDown asked peer session undecided live) bytes title d = cc
+  his_by event o (Receives id mount block feeding) bytes title d = cc
+  his_by event o (TakesSeat asked peer session undecided live) bytes title d = cc
   his_by event o (Ends id mount feeding) bytes title d = cc
-  his_by event o (FallsSilent id mount feeding) bytes title d = cc
-  his_by event o (Goes id other) bytes title d = cc
+  his_by event o (EndsAndLeaves id mount feeding) bytes title d = cc
+  his_by event o (Leaves id other) bytes title d = cc
 
   pub access_holds : (event : Event) → AccessIsKept w event
   unfolding reply_to
@@ -78,7 +79,8 @@ module _ (last burst : ℕ) where
   from_each place (next ∷ starts) other all (inl same) = omega arith
   from_each place (next ∷ starts) other all (inr has) = from_each place starts other all.1 has
 
-  first_at : (place : ℕ) (starts : List ℕ) (start : ℕ) (b : Bool) → first place ≡ b → AreRising (place ∷ starts) last → (find first starts ≡ Some start → IsFirst starts start) → find first (place ∷ starts) ≡ Some start → IsFirst (place ∷ starts) start
+  first_at : (place : ℕ) (starts : List ℕ) (start : ℕ) (b : Bool) → first place ≡ b → AreRising (place ∷ starts) last
+      → (find first starts ≡ Some start → IsFirst starts start) → find first (place ∷ starts) ≡ Some start → IsFirst (place ∷ starts) start
   first_at place starts start true e rising later h =
       let here : find first (place ∷ starts) ≡ Some place = find_here first place starts e in
       let same : place ≡ start = cc in
@@ -107,7 +109,8 @@ module _ (last burst : ℕ) where
   first_found [] start rising h = cc
   first_found (place ∷ starts) start rising h = first_at place starts start (first place) refl rising (first_found starts start rising.2) h
 
-  none_at : (place : ℕ) (starts : List ℕ) (b : Bool) → first place ≡ b → find first (place ∷ starts) ≡ None → (find first starts ≡ None) × (burst < last - place)
+  none_at : (place : ℕ) (starts : List ℕ) (b : Bool) → first place ≡ b → find first (place ∷ starts) ≡ None
+      → (find first starts ≡ None) × (burst < last - place)
   none_at place starts true e h = let here : find first (place ∷ starts) ≡ Some place = find_here first place starts e in cc
   none_at place starts false e h = (sym (find_later first place starts e) ∙ h, grind (arith, nat_tests))
 
@@ -116,12 +119,14 @@ module _ (last burst : ℕ) where
   none_near (place ∷ starts) h other (inl same) near = let far = (none_at place starts (first place) refl h).1 in omega arith
   none_near (place ∷ starts) h other (inr has) near = none_near starts (none_at place starts (first place) refl h).0 other has near
 
-pub earliest_start : (session : Session) (burst : ℕ) → AreRising session.stream.starts (end_of session.stream) → IsEarliestStart session.stream burst (burst_start session.stream burst)
+pub earliest_start : (session : Session) (burst : ℕ) → AreRising session.stream.starts (end_of session.stream)
+    → IsEarliestStart session.stream burst (burst_start session.stream burst)
 earliest_start session burst rising = by_found (find (first last burst) session.stream.starts) refl where
   last : ℕ
   last = end_of session.stream
 
-  by_found : (found : Option ℕ) → find (first (end_of session.stream) burst) session.stream.starts ≡ found → IsEarliestStart session.stream burst (unwrap_or found (end_of session.stream))
+  by_found : (found : Option ℕ) → find (first (end_of session.stream) burst) session.stream.starts ≡ found
+      → IsEarliestStart session.stream burst (unwrap_or found (end_of session.stream))
   by_found None e = record { at_a_block = inr refl; in_the_burst = omega arith; earliest = λ other at near. either other at near } where
     either : (other : ℕ) → IsBlockStart session.stream other → end_of session.stream - other ≤ burst → end_of session.stream ≤ other
     either other (inl has) near = absurd (none_near (end_of session.stream) burst session.stream.starts e other has near)
@@ -137,8 +142,9 @@ earliest_start session burst rising = by_found (find (first last burst) session.
         either other (inr same) near = omega (arith, low)
 
 module _ (w : World) (s : IsSound w) where
-  seated_by : (event : Event) (o : Outcome) → Way w event o → (interval : Option ℕ) (shown : Shown) → o.reply ≡ Seated interval shown → ((id : ℕ) → seat_of (changed w o.change).seats id ≡ seat_of (world_after w event).seats id) → IsSeated w event shown
-  seated_by event o (SitsDown asked peer session undecided live) interval shown d after =
+  seated_by : (event : Event) (o : Outcome) → Way w event o → (interval : Option ℕ) (shown : Shown) → o.reply ≡ Seated interval shown
+      → ((id : ℕ) → seat_of (changed w o.change).seats id ≡ seat_of (world_after w event).seats id) → IsSeated w event shown
+  seated_by event o (TakesSeat asked peer session undecided live) interval shown d after =
       let name = found_named w.house.live asked.mount session live in
       let itself : (asked.id == asked.id) ≡ true = grind (arith, nat_tests) in
       let seat = first_seat w.house asked peer session in
@@ -152,21 +158,22 @@ module _ (w : World) (s : IsSound w) where
         has_the_seat = sym (after asked.id) ∙ ap seat_in (has_sat_down w.seats asked.id seat itself);
         at_the_mount = name;
         in_the_session = refl;
-        starts = subst (λ (m : List ℕ). IsEarliestStart session.stream (burst_of w.house m) (burst_start session.stream (burst_of w.house session.mount))) name (earliest_start session (burst_of w.house session.mount) (s.starts asked.mount session live));
+        starts = subst (λ (m : List ℕ). IsEarliestStart session.stream (burst_of w.house m) (burst_start session.stream (burst_of w.house session.mount)))
+            name (earliest_start session (burst_of w.house session.mount) (s.starts asked.mount session live));
       } where
         seated_shown : {a b : Option ℕ} {t u : Shown} → Seated a t ≡ Seated b u → t ≡ u
         seated_shown e = cc
-  seated_by event o (Strays _) interval shown d after = cc
-  seated_by event o (IsTold _ id by his told) interval shown d after = cc
+  seated_by event o (Misplaced _) interval shown d after = cc
+  seated_by event o (IsFinished _ id by his told) interval shown d after = cc
   seated_by event o (IsDenied _ by v not) interval shown d after = cc
   seated_by event o (IsRefused _ id by v his undecided) interval shown d after = cc
-  seated_by event o (ComesIn peer) interval shown d after = cc
+  seated_by event o (IsAdmitted peer) interval shown d after = cc
   seated_by event o (Begins asked undecided none) interval shown d after = cc
-  seated_by event o (TakesIn id mount block feeding) interval shown d after = cc
+  seated_by event o (Receives id mount block feeding) interval shown d after = cc
   seated_by event o (HandsOut id room seat session sits has live) interval shown d after = cc
   seated_by event o (Ends id mount feeding) interval shown d after = cc
-  seated_by event o (FallsSilent id mount feeding) interval shown d after = cc
-  seated_by event o (Goes id other) interval shown d after = cc
+  seated_by event o (EndsAndLeaves id mount feeding) interval shown d after = cc
+  seated_by event o (Leaves id other) interval shown d after = cc
 
   pub admission_holds : (event : Event) → BeginsAtABlock w event
   unfolding reply_to world_after

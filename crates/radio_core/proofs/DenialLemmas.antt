@@ -14,7 +14,7 @@ use Rattle.radio_core.specs.World.{World, standing_of}
 use Rattle.radio_core.specs.Changes.{changed}
 use Rattle.radio_core.specs.Step.{outcome, reply_to, world_after}
 use Rattle.radio_core.specs.Denials.{answered_if, after_denial, DenialsAreThePolicys}
-use Rattle.radio_core.specs.Ways.{Way, Strays, IsTold, IsDenied, IsRefused, ComesIn, Begins, TakesIn, SitsDown, HandsOut, Ends, FallsSilent, Goes, client_in, rows_for, IsUndecided}
+use Rattle.radio_core.specs.Ways.{Way, Misplaced, IsFinished, IsDenied, IsRefused, IsAdmitted, Begins, Receives, TakesSeat, HandsOut, Ends, EndsAndLeaves, Leaves, client_in, rows_for, IsUndecided}
 use Rattle.radio_core.proofs.Ways.{way_of}
 
 module _ (denies : (rows : List Row) (rule : Rule) → (verdict_in rows ≡ Denied rule) ↔ Denies rows rule) (w : World) where
@@ -43,16 +43,16 @@ module _ (denies : (rows : List Row) (rule : Rule) → (verdict_in rows ≡ Deni
   denial_by : (event : Event) (o : Outcome) → Way w event o → Denial event o
   denial_by event o (IsDenied _ by v not) = λ rule d. (named event by rule v d, nobody_answered (client_in event) not)
   denial_by event o (IsRefused _ id by v his undecided) = λ rule d. (named event by rule v d, is_answered id (client_in event) his undecided)
-  denial_by event o (Strays _) = λ rule d. cc
-  denial_by event o (IsTold _ id by his told) = λ rule d. cc
-  denial_by event o (ComesIn peer) = λ rule d. cc
+  denial_by event o (Misplaced _) = λ rule d. cc
+  denial_by event o (IsFinished _ id by his told) = λ rule d. cc
+  denial_by event o (IsAdmitted peer) = λ rule d. cc
   denial_by event o (Begins asked undecided none) = λ rule d. cc
-  denial_by event o (TakesIn id mount block feeding) = λ rule d. cc
-  denial_by event o (SitsDown asked peer session undecided live) = λ rule d. cc
+  denial_by event o (Receives id mount block feeding) = λ rule d. cc
+  denial_by event o (TakesSeat asked peer session undecided live) = λ rule d. cc
   denial_by event o (HandsOut id room seat session sits has live) = λ rule d. cc
   denial_by event o (Ends id mount feeding) = λ rule d. cc
-  denial_by event o (FallsSilent id mount feeding) = λ rule d. cc
-  denial_by event o (Goes id other) = λ rule d. cc
+  denial_by event o (EndsAndLeaves id mount feeding) = λ rule d. cc
+  denial_by event o (Leaves id other) = λ rule d. cc
 
   pub denials_hold : (event : Event) → DenialsAreThePolicys w event
   unfolding reply_to world_after

@@ -3,23 +3,23 @@ use Rattle.std.proofs.Common.{◌≡◌, ◌⊎◌, inl, inr, true, false, ℕ, 
 use Rattle.radio_addr.specs.declared.peer.Peer.{Peer}
 use Rattle.radio_tables.specs.KeyLaws.{by_number}
 use Rattle.radio_core.specs.declared.event.Event.{Event}
-use Rattle.radio_core.specs.declared.outcome.Change.TheVariants.{FallSilent}
+use Rattle.radio_core.specs.declared.outcome.Change.TheVariants.{EndAndLeave}
 use Rattle.radio_core.specs.declared.outcome.Outcome.{Outcome}
 use Rattle.radio_core.specs.declared.reply.Reply.{Reply}
 use Rattle.radio_core.specs.declared.reply.Reply.TheVariants.{Arrived}
 use Rattle.radio_core.specs.declared.standing.Standing.{Standing}
 use Rattle.radio_core.specs.declared.standing.Standing.TheVariants.{Unknown, Undecided, Feeds, Sits, Answered, Finished}
 use Rattle.radio_core.specs.World.{World, standing_of}
-use Rattle.radio_core.specs.Changes.{changed, silent}
+use Rattle.radio_core.specs.Changes.{changed, session_ended}
 use Rattle.radio_core.specs.Listen.{first_seat}
 use Rattle.radio_core.specs.Seats.{seat_of, seat_in}
 use Rattle.radio_core.specs.Sessions.{session_of}
 use Rattle.radio_core.specs.Sound.{IsSound}
 use Rattle.radio_core.specs.Step.{outcome, reply_to, world_after}
-use Rattle.radio_core.specs.Ways.{Way, Strays, IsTold, IsDenied, IsRefused, ComesIn, Begins, TakesIn, SitsDown, HandsOut, Ends, FallsSilent, Goes, client_in}
+use Rattle.radio_core.specs.Ways.{Way, Misplaced, IsFinished, IsDenied, IsRefused, IsAdmitted, Begins, Receives, TakesSeat, HandsOut, Ends, EndsAndLeaves, Leaves, client_in}
 use Rattle.radio_core.proofs.Lookups.{is_over, is_no_listener, beside_left}
-use Rattle.radio_core.proofs.Standings.{Turns, turns_answered, turns_feeding, turns_sitting, turns_gone, turns_admitted, listener_seated, stays_hearing}
-use Rattle.radio_core.proofs.SoundEnds.{turns_ended, turns_silent}
+use Rattle.radio_core.proofs.Standings.{Turns, turns_answered, turns_feeding, turns_sitting, turns_forgotten, turns_admitted, listener_seated, stays_hearing}
+use Rattle.radio_core.proofs.SoundEnds.{turns_ended, turns_ended_and_left}
 use Rattle.radio_core.proofs.Ways.{way_of}
 
 -- by his own event nobody finishes, or comes to have asked for nothing
@@ -36,31 +36,39 @@ pub data Effect (w later : World) (event : Event) (reply : Reply) : Type 0 where
   -- the event's client stands otherwise
   Acts : (him : ℕ) (now : Standing) → client_in event ≡ Some him → HasActed now → Turns w later him now → Effect w later event reply
   -- and the session ends that he feeds
-  Silences : (him : ℕ) (mount : List ℕ) (now : Standing) → client_in event ≡ Some him → HasActed now → Turns (silent w mount) later him now → session_of later.house.live mount ≡ None → ((id : ℕ) → seat_of (silent w mount).seats id ≡ None → seat_of later.seats id ≡ None) → Effect w later event reply
+  Silences : (him : ℕ) (mount : List ℕ) (now : Standing) → client_in event ≡ Some him → HasActed now → Turns (session_ended w mount) later him now
+      → session_of later.house.live mount ≡ None → ((id : ℕ) → seat_of (session_ended w mount).seats id ≡ None → seat_of later.seats id ≡ None)
+      → Effect w later event reply
 
 module _ (w : World) (s : IsSound w) where
   -- who has no seat when a session has ended has none when its source is gone
-  lost_silent : (him : ℕ) (mount : List ℕ) (id : ℕ) → seat_of (silent w mount).seats id ≡ None → seat_of (changed w (FallSilent him mount)).seats id ≡ None
-  lost_silent him mount id none =
+  lost_ended : (him : ℕ) (mount : List ℕ) (id : ℕ) → seat_of (session_ended w mount).seats id ≡ None
+      → seat_of (changed w (EndAndLeave him mount)).seats id ≡ None
+  lost_ended him mount id none =
       by_number him id
-      (λ same. ap (seat_of (changed w (FallSilent him mount)).seats) (sym same) ∙ ap seat_in (is_no_listener (silent w mount).seats him))
-      (λ other. ap seat_in (beside_left (silent w mount).seats him id other) ∙ none)
+      (λ same. ap (seat_of (changed w (EndAndLeave him mount)).seats) (sym same) ∙ ap seat_in (is_no_listener (session_ended w mount).seats him))
+      (λ other. ap seat_in (beside_left (session_ended w mount).seats him id other) ∙ none)
 
   effect_by : (event : Event) (o : Outcome) → Way w event o → Effect w (changed w o.change) event o.reply
-  effect_by event o (Strays _) = Same (λ id. refl)
-  effect_by event o (IsTold _ him by its known) = Same (λ id. refl)
+  effect_by event o (Misplaced _) = Same (λ id. refl)
+  effect_by event o (IsFinished _ him by its known) = Same (λ id. refl)
   effect_by event o (IsDenied _ by v nobody) = Same (λ id. refl)
   effect_by event o (IsRefused _ him by v its undecided) = let at = undecided.1 in Acts him Answered its tt (turns_answered w him (λ u. cc))
-  effect_by event o (ComesIn peer) = Joins peer refl (turns_admitted w (w.house.last_id + 1) peer)
-  effect_by event o (Begins asked undecided none) = let at = undecided.1 in Acts asked.id (Feeds asked.mount) refl tt (turns_feeding w asked.id asked.mount asked.shown (λ u. cc))
-  effect_by event o (TakesIn him mount block feeding) = Same (λ id. refl)
-  effect_by event o (SitsDown asked peer session undecided live) = Acts asked.id Sits refl tt (turns_sitting w asked.id (first_seat w.house asked peer session) (λ u. cc))
+  effect_by event o (IsAdmitted peer) = Joins peer refl (turns_admitted w (w.house.last_id + 1) peer)
+  effect_by event o (Begins asked undecided none) = let at = undecided.1 in Acts asked.id (Feeds asked.mount) refl tt
+      (turns_feeding w asked.id asked.mount asked.shown (λ u. cc))
+  effect_by event o (Receives him mount block feeding) = Same (λ id. refl)
+  effect_by event o (TakesSeat asked peer session undecided live) =
+      Acts asked.id Sits refl tt (turns_sitting w asked.id (first_seat w.house asked peer session) (λ u. cc))
   effect_by event o (HandsOut him room seat session sits has live) =
       let listener = listener_seated w.seats him seat has in
       Same (λ id. stays_hearing w him _ listener.0 listener.1 id)
-  effect_by event o (Ends him mount feeding) = Silences him mount Answered refl tt (turns_ended w s him mount feeding) (is_over w.house.live mount) (λ id none. none)
-  effect_by event o (FallsSilent him mount feeding) = Silences him mount Unknown refl tt (turns_silent w s him mount feeding) (is_over w.house.live mount) (lost_silent him mount)
-  effect_by event o (Goes him other) = Acts him Unknown refl tt (turns_gone w him)
+  effect_by event o (Ends him mount feeding) = Silences him mount Answered refl tt (turns_ended w s him mount feeding) (is_over w.house.live mount)
+      (λ id none. none)
+  effect_by event o (EndsAndLeaves him mount feeding) = Silences him mount Unknown refl tt
+      (turns_ended_and_left w s him mount feeding) (is_over w.house.live mount)
+      (lost_ended him mount)
+  effect_by event o (Leaves him other) = Acts him Unknown refl tt (turns_forgotten w him)
 
   pub effect_of : (event : Event) → Effect w (world_after w event) event (reply_to w event)
   unfolding reply_to world_after

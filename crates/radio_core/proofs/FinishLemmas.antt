@@ -14,7 +14,7 @@ use Rattle.radio_core.specs.declared.reply.Reply.TheVariants.{Arrived, Finished}
 use Rattle.radio_core.specs.declared.standing.Standing.{Standing}
 use Rattle.radio_core.specs.declared.standing.Standing.TheVariants.{Unknown, Undecided, Feeds, Sits, Answered, Finished as HasFinished}
 use Rattle.radio_core.specs.World.{World, opening, standing_of}
-use Rattle.radio_core.specs.Changes.{silent}
+use Rattle.radio_core.specs.Changes.{session_ended}
 use Rattle.radio_core.specs.Facts.{is_live}
 use Rattle.radio_core.specs.Finishes.{Finishes, WasFinished, FinishedAreTold}
 use Rattle.radio_core.specs.Others.{StandsOn, OthersStandOn}
@@ -23,7 +23,7 @@ use Rattle.radio_core.specs.Seats.{listener_of, seat_of}
 use Rattle.radio_core.specs.Sessions.{Session, session_of}
 use Rattle.radio_core.specs.Sound.{IsSound}
 use Rattle.radio_core.specs.Step.{outcome, reply_to, world_after}
-use Rattle.radio_core.specs.Ways.{Way, Strays, IsTold, IsDenied, IsRefused, ComesIn, Begins, TakesIn, SitsDown, HandsOut, Ends, FallsSilent, Goes, client_in}
+use Rattle.radio_core.specs.Ways.{Way, Misplaced, IsFinished, IsDenied, IsRefused, IsAdmitted, Begins, Receives, TakesSeat, HandsOut, Ends, EndsAndLeaves, Leaves, client_in}
 use Rattle.radio_core.proofs.Effects.{Effect, Same, Joins, Acts, Silences, HasActed, effect_of}
 use Rattle.radio_core.proofs.Standings.{Loses, silenced}
 use Rattle.radio_core.proofs.SoundEnds.{sits_no_more}
@@ -40,14 +40,17 @@ stopped true e = cc
 stopped false e = refl
 
 -- what the end of a session does to whoever sits at its mount: he is finished by it
-module _ (w : World) (s : IsSound w) (event : Event) (mount : List ℕ) (over : session_of (world_after w event).house.live mount ≡ None) (lost : (id : ℕ) → seat_of (silent w mount).seats id ≡ None → seat_of (world_after w event).seats id ≡ None) where
-  pub finished_by_silence : (id : ℕ) → Loses (listener_of w.seats id) (standing_of w id) (standing_of (silent w mount) id) mount → Finishes w event id NotLive
+module _ (w : World) (s : IsSound w) (event : Event) (mount : List ℕ) (over : session_of (world_after w event).house.live mount ≡ None)
+    (lost : (id : ℕ) → seat_of (session_ended w mount).seats id ≡ None → seat_of (world_after w event).seats id ≡ None) where
+  pub finished_by_silence : (id : ℕ) → Loses (listener_of w.seats id) (standing_of w id) (standing_of (session_ended w mount) id) mount
+      → Finishes w event id NotLive
   finished_by_silence id loses =
       let seat = loses.seat in
       let old = s.seated id seat loses.had_a_seat in
       let same : seat.mount ≡ mount = (bytes_eq-Decides seat.mount mount).0 loses.there in
-      let gone : session_of (world_after w event).house.live seat.mount ≡ None = ap (session_of (world_after w event).house.live) same ∙ over in
-      let dead : is_live (world_after w event).house seat.mount ≡ false = not_live (is_mount_name seat.mount) (session_of (world_after w event).house.live seat.mount) gone in
+      let forgotten : session_of (world_after w event).house.live seat.mount ≡ None = ap (session_of (world_after w event).house.live) same ∙ over in
+      let dead : is_live (world_after w event).house seat.mount ≡ false =
+      not_live (is_mount_name seat.mount) (session_of (world_after w event).house.live seat.mount) forgotten in
       record {
         seat = seat;
         had_a_seat = loses.had_a_seat;
@@ -80,15 +83,17 @@ not_undecided Answered peer acted e = cc
 
 module _ (w : World) (s : IsSound w) (event : Event) where
   abbrev Lost : List ℕ → ℕ → Type 0
-  Lost mount id = Loses (listener_of w.seats id) (standing_of w id) (standing_of (silent w mount) id) mount
+  Lost mount id = Loses (listener_of w.seats id) (standing_of w id) (standing_of (session_ended w mount) id) mount
 
   -- the end of a session turns others only where they lose their seats
   stands_by : (id : ℕ) → (client_in event ≡ Some id → ⊥) → Effect w (world_after w event) event (reply_to w event) → StandsOn w event id
   stands_by id not (Same same) = inl (same id)
-  stands_by id not (Joins peer arrived t) = by_number (w.house.last_id + 1) id (λ same. inr (inr (arrived ∙ ap (λ (n : ℕ). Arrived n) same))) (λ other. inl (t.others id other))
+  stands_by id not (Joins peer arrived t) = by_number (w.house.last_id + 1) id (λ same. inr (inr (arrived ∙ ap (λ (n : ℕ). Arrived n) same)))
+      (λ other. inl (t.others id other))
   stands_by id not (Acts him now his acted t) = inl (t.others id (apart_from event him id his not))
   stands_by id not (Silences him mount now his acted t over lost) = by_end (silenced w mount id) (t.others id (apart_from event him id his not)) where
-    by_end : (standing_of (silent w mount) id ≡ standing_of w id) ⊎ Lost mount id → standing_of (world_after w event) id ≡ standing_of (silent w mount) id → StandsOn w event id
+    by_end : (standing_of (session_ended w mount) id ≡ standing_of w id) ⊎ Lost mount id
+        → standing_of (world_after w event) id ≡ standing_of (session_ended w mount) id → StandsOn w event id
     by_end (inl same) e = inl (e ∙ same)
     by_end (inr loses) e = inr (inl (NotLive, loses.sat, e ∙ loses.finished, finished_by_silence w s event mount over lost id loses))
 
@@ -96,7 +101,8 @@ module _ (w : World) (s : IsSound w) (event : Event) where
   others_hold id not = stands_by id not (effect_of w s event)
 
   -- who stands finished after an event stood so before, or is finished by it
-  finished_by : (id : ℕ) (rule : Rule) → standing_of (world_after w event) id ≡ HasFinished rule → Effect w (world_after w event) event (reply_to w event) → (standing_of w id ≡ HasFinished rule) ⊎ Finishes w event id rule
+  finished_by : (id : ℕ) (rule : Rule) → standing_of (world_after w event) id ≡ HasFinished rule → Effect w (world_after w event) event (reply_to w event)
+      → (standing_of w id ≡ HasFinished rule) ⊎ Finishes w event id rule
   finished_by id rule e (Same same) = inl (sym (same id) ∙ e)
   finished_by id rule e (Joins peer arrived t) =
       by_number (w.house.last_id + 1) id
@@ -110,18 +116,21 @@ module _ (w : World) (s : IsSound w) (event : Event) where
       by_number him id
       (λ same. absurd (not_finished now rule acted (sym t.his ∙ ap (standing_of (world_after w event)) same ∙ e)))
       (λ other. by_end (silenced w mount id) (sym (t.others id other) ∙ e)) where
-        by_end : (standing_of (silent w mount) id ≡ standing_of w id) ⊎ Lost mount id → standing_of (silent w mount) id ≡ HasFinished rule → (standing_of w id ≡ HasFinished rule) ⊎ Finishes w event id rule
+        by_end : (standing_of (session_ended w mount) id ≡ standing_of w id) ⊎ Lost mount id → standing_of (session_ended w mount) id ≡ HasFinished rule
+            → (standing_of w id ≡ HasFinished rule) ⊎ Finishes w event id rule
         by_end (inl same) stood = inl (sym same ∙ stood)
         by_end (inr loses) stood =
             let both : HasFinished NotLive ≡ HasFinished rule = sym loses.finished ∙ stood in
             let one : NotLive ≡ rule = cc in
             inr (subst (λ (r : Rule). Finishes w event id r) one (finished_by_silence w s event mount over lost id loses))
 
-  pub finish_step : (id : ℕ) (rule : Rule) → standing_of (world_after w event) id ≡ HasFinished rule → (standing_of w id ≡ HasFinished rule) ⊎ Finishes w event id rule
+  pub finish_step : (id : ℕ) (rule : Rule) → standing_of (world_after w event) id ≡ HasFinished rule
+      → (standing_of w id ≡ HasFinished rule) ⊎ Finishes w event id rule
   finish_step id rule e = finished_by id rule e (effect_of w s event)
 
   -- who has asked for nothing after an event had not before, or has only arrived
-  undecided_by : (id : ℕ) (peer : Peer) → standing_of (world_after w event) id ≡ Undecided peer → Effect w (world_after w event) event (reply_to w event) → (standing_of w id ≡ Undecided peer) ⊎ (w.house.last_id < id)
+  undecided_by : (id : ℕ) (peer : Peer) → standing_of (world_after w event) id ≡ Undecided peer → Effect w (world_after w event) event (reply_to w event)
+      → (standing_of w id ≡ Undecided peer) ⊎ (w.house.last_id < id)
   undecided_by id peer e (Same same) = inl (sym (same id) ∙ e)
   undecided_by id peer e (Joins other arrived t) = by_number (w.house.last_id + 1) id (λ same. inr (omega arith)) (λ apart. inl (sym (t.others id apart) ∙ e))
   undecided_by id peer e (Acts him now his acted t) =
@@ -132,11 +141,13 @@ module _ (w : World) (s : IsSound w) (event : Event) where
       by_number him id
       (λ same. absurd (not_undecided now peer acted (sym t.his ∙ ap (standing_of (world_after w event)) same ∙ e)))
       (λ other. by_end (silenced w mount id) (sym (t.others id other) ∙ e)) where
-        by_end : (standing_of (silent w mount) id ≡ standing_of w id) ⊎ Lost mount id → standing_of (silent w mount) id ≡ Undecided peer → (standing_of w id ≡ Undecided peer) ⊎ (w.house.last_id < id)
+        by_end : (standing_of (session_ended w mount) id ≡ standing_of w id) ⊎ Lost mount id → standing_of (session_ended w mount) id ≡ Undecided peer
+            → (standing_of w id ≡ Undecided peer) ⊎ (w.house.last_id < id)
         by_end (inl same) stood = inl (sym same ∙ stood)
-        by_end (inr loses) stood = let finished : standing_of (silent w mount) id ≡ HasFinished NotLive = loses.finished in cc
+        by_end (inr loses) stood = let finished : standing_of (session_ended w mount) id ≡ HasFinished NotLive = loses.finished in cc
 
-  pub undecided_before : (id : ℕ) (peer : Peer) → standing_of (world_after w event) id ≡ Undecided peer → (standing_of w id ≡ Undecided peer) ⊎ (w.house.last_id < id)
+  pub undecided_before : (id : ℕ) (peer : Peer) → standing_of (world_after w event) id ≡ Undecided peer
+      → (standing_of w id ≡ Undecided peer) ⊎ (w.house.last_id < id)
   undecided_before id peer e = undecided_by id peer e (effect_of w s event)
 
 -- from any state on: who stands finished in the end stood so at the start, or one of the events has finished him
@@ -147,38 +158,51 @@ record Put (w : World) (events : List Event) (id : ℕ) (rule : Rule) : Type 0 w
   in_order : events ≡ before ++ event ∷ after
   finishes : Finishes (world_after_all w before) event id rule
 
-since : (w : World) → IsSound w → (events : List Event) (id : ℕ) (rule : Rule) → standing_of (world_after_all w events) id ≡ HasFinished rule → (standing_of w id ≡ HasFinished rule) ⊎ Put w events id rule
+since : (w : World) → IsSound w → (events : List Event) (id : ℕ) (rule : Rule) → standing_of (world_after_all w events) id ≡ HasFinished rule
+    → (standing_of w id ≡ HasFinished rule) ⊎ Put w events id rule
 since w s [] id rule e = inl e
 since w s (event ∷ events) id rule e = later (since (world_after w event) (sound_after w s event) events id rule e) where
   here : (standing_of w id ≡ HasFinished rule) ⊎ Finishes w event id rule → (standing_of w id ≡ HasFinished rule) ⊎ Put w (event ∷ events) id rule
   here (inl stood) = inl stood
   here (inr finishes) = inr (record { before = []; event = event; after = events; in_order = refl; finishes = finishes })
 
-  later : (standing_of (world_after w event) id ≡ HasFinished rule) ⊎ Put (world_after w event) events id rule → (standing_of w id ≡ HasFinished rule) ⊎ Put w (event ∷ events) id rule
+  later : (standing_of (world_after w event) id ≡ HasFinished rule) ⊎ Put (world_after w event) events id rule
+      → (standing_of w id ≡ HasFinished rule) ⊎ Put w (event ∷ events) id rule
   later (inl stood) = here (finish_step w s event id rule stood)
-  later (inr put) = inr (record { before = event ∷ put.before; event = put.event; after = put.after; in_order = ap (λ es. event ∷ es) put.in_order; finishes = put.finishes })
+  later (inr put) =
+      inr (record {
+        before = event ∷ put.before;
+        event = put.event;
+        after = put.after;
+        in_order = ap (λ es. event ∷ es) put.in_order;
+        finishes =
+            put.finishes;
+      })
 
-pub was_finished : (settings : Settings) (events : List Event) (id : ℕ) (rule : Rule) → standing_of (run_after settings events) id ≡ HasFinished rule → WasFinished settings events id rule
+pub was_finished : (settings : Settings) (events : List Event) (id : ℕ) (rule : Rule) → standing_of (run_after settings events) id ≡ HasFinished rule
+    → WasFinished settings events id rule
 was_finished settings events id rule e = either (since (opening settings) (sound_opening settings) events id rule e) where
   either : (standing_of (opening settings) id ≡ HasFinished rule) ⊎ Put (opening settings) events id rule → WasFinished settings events id rule
   either (inl stood) = cc
   either (inr put) = record { before = put.before; event = put.event; after = put.after; in_order = put.in_order; finishes = put.finishes }
 
-told_by : (w : World) (event : Event) (o : Outcome) → Way w event o → (rule : Rule) → o.reply ≡ Finished rule → (id : ℕ) × (client_in event ≡ Some id) × (standing_of w id ≡ HasFinished rule)
-told_by w event o (IsTold _ him by its known) rule d = let same : by ≡ rule = cc in (him, its, known ∙ ap (λ (r : Rule). HasFinished r) same)
-told_by w event o (Strays _) rule d = cc
+told_by : (w : World) (event : Event) (o : Outcome) → Way w event o → (rule : Rule) → o.reply ≡ Finished rule
+    → (id : ℕ) × (client_in event ≡ Some id) × (standing_of w id ≡ HasFinished rule)
+told_by w event o (IsFinished _ him by its known) rule d = let same : by ≡ rule = cc in (him, its, known ∙ ap (λ (r : Rule). HasFinished r) same)
+told_by w event o (Misplaced _) rule d = cc
 told_by w event o (IsDenied _ by v nobody) rule d = cc
 told_by w event o (IsRefused _ him by v its undecided) rule d = cc
-told_by w event o (ComesIn peer) rule d = cc
+told_by w event o (IsAdmitted peer) rule d = cc
 told_by w event o (Begins asked undecided none) rule d = cc
-told_by w event o (TakesIn him mount block feeding) rule d = cc
-told_by w event o (SitsDown asked peer session undecided live) rule d = cc
+told_by w event o (Receives him mount block feeding) rule d = cc
+told_by w event o (TakesSeat asked peer session undecided live) rule d = cc
 told_by w event o (HandsOut him room seat session sits has live) rule d = cc
 told_by w event o (Ends him mount feeding) rule d = cc
-told_by w event o (FallsSilent him mount feeding) rule d = cc
-told_by w event o (Goes him other) rule d = cc
+told_by w event o (EndsAndLeaves him mount feeding) rule d = cc
+told_by w event o (Leaves him other) rule d = cc
 
-pub finished_told : (w : World) (event : Event) (rule : Rule) → reply_to w event ≡ Finished rule → (id : ℕ) × (client_in event ≡ Some id) × (standing_of w id ≡ HasFinished rule)
+pub finished_told : (w : World) (event : Event) (rule : Rule) → reply_to w event ≡ Finished rule
+    → (id : ℕ) × (client_in event ≡ Some id) × (standing_of w id ≡ HasFinished rule)
 unfolding reply_to
 finished_told w event rule d = told_by w event (outcome w event) (way_of w event) rule d
 

@@ -6,13 +6,13 @@ use Rattle.radio_settings.specs.declared.settings.Settings.{Settings}
 use Rattle.radio_tables.specs.KeyLaws.{by_number}
 use Rattle.radio_core.specs.declared.event.Event.{Event}
 use Rattle.radio_core.specs.declared.event.Event.TheVariants.{Arrive, Source, Push, SourceEnd, Listen, Draw, Leave}
-use Rattle.radio_core.specs.declared.outcome.Change.TheVariants.{Nothing, Go, FallSilent}
+use Rattle.radio_core.specs.declared.outcome.Change.TheVariants.{Nothing, Forget, EndAndLeave}
 use Rattle.radio_core.specs.declared.outcome.Outcome.{Outcome}
 use Rattle.radio_core.specs.declared.reply.Reply.TheVariants.{Stray}
 use Rattle.radio_core.specs.declared.standing.Standing.{Standing}
 use Rattle.radio_core.specs.declared.standing.Standing.TheVariants.{Unknown, Undecided, Feeds, Sits, Answered, Finished}
 use Rattle.radio_core.specs.World.{World, standing_of}
-use Rattle.radio_core.specs.Changes.{changed, silent}
+use Rattle.radio_core.specs.Changes.{changed, session_ended}
 use Rattle.radio_core.specs.Gone.{HasLeft, IsOutOfPlace, StaysGone}
 use Rattle.radio_core.specs.Handing.{data_in, block_in, is_number, of_client, handed_at, handed, delivered_at, delivered}
 use Rattle.radio_core.specs.Leave.{leaves_from}
@@ -21,11 +21,11 @@ use Rattle.radio_core.specs.Outcomes.{says}
 use Rattle.radio_core.specs.Run.{world_after_all, run_after}
 use Rattle.radio_core.specs.Sound.{IsSound}
 use Rattle.radio_core.specs.Step.{outcome, reply_to, world_after}
-use Rattle.radio_core.specs.Ways.{Way, Strays, IsTold, IsDenied, IsRefused, ComesIn, Begins, TakesIn, SitsDown, HandsOut, Ends, FallsSilent, Goes, client_in}
+use Rattle.radio_core.specs.Ways.{Way, Misplaced, IsFinished, IsDenied, IsRefused, IsAdmitted, Begins, Receives, TakesSeat, HandsOut, Ends, EndsAndLeaves, Leaves, client_in}
 use Rattle.radio_core.proofs.FinishLemmas.{others_hold}
 use Rattle.radio_core.proofs.ServiceLemmas.{replies_fit}
 use Rattle.radio_core.proofs.SoundRuns.{sound_after, sound_run}
-use Rattle.radio_core.proofs.Standings.{turns_gone}
+use Rattle.radio_core.proofs.Standings.{turns_forgotten}
 use Rattle.radio_core.proofs.Ways.{way_of}
 
 -- runs are joined
@@ -36,17 +36,18 @@ after_joined w (event ∷ events) more = after_joined (world_after w event) even
 -- who leaves is gone
 left_by : (w : World) (id : ℕ) → id ≤ w.house.last_id → (s : Standing) → standing_of w id ≡ s → HasLeft (changed w (leaves_from id s).change) id
 left_by w id given Unknown e = (given, e)
-left_by w id given (Feeds mount) e = (given, (turns_gone (silent w mount) id).his)
-left_by w id given (Undecided peer) e = (given, (turns_gone w id).his)
-left_by w id given Sits e = (given, (turns_gone w id).his)
-left_by w id given Answered e = (given, (turns_gone w id).his)
-left_by w id given (Finished rule) e = (given, (turns_gone w id).his)
+left_by w id given (Feeds mount) e = (given, (turns_forgotten (session_ended w mount) id).his)
+left_by w id given (Undecided peer) e = (given, (turns_forgotten w id).his)
+left_by w id given Sits e = (given, (turns_forgotten w id).his)
+left_by w id given Answered e = (given, (turns_forgotten w id).his)
+left_by w id given (Finished rule) e = (given, (turns_forgotten w id).his)
 
 left_at_once : (w : World) (id : ℕ) → id ≤ w.house.last_id → HasLeft (world_after w (Leave id)) id
 unfolding world_after outcome
 left_at_once w id given = left_by w id given (standing_of w id) refl
 
-pub has_left : (settings : Settings) (events : List Event) (id : ℕ) → id ≤ (run_after settings events).house.last_id → HasLeft (run_after settings (events ++ Leave id ∷ [])) id
+pub has_left : (settings : Settings) (events : List Event) (id : ℕ) → id ≤ (run_after settings events).house.last_id
+    → HasLeft (run_after settings (events ++ Leave id ∷ [])) id
 has_left settings events id given =
     subst (λ (x : World). HasLeft x id) (sym (after_joined _ events (Leave id ∷ []))) (left_at_once (run_after settings events) id given)
 
@@ -67,32 +68,34 @@ module _ (w : World) (id : ℕ) (unknown : standing_of w id ≡ Unknown) where
 
 -- numbers are not taken back
 low_by : (w : World) (event : Event) (o : Outcome) → Way w event o → w.house.last_id ≤ (changed w o.change).house.last_id
-low_by w event o (ComesIn peer) = omega arith
-low_by w event o (Strays _) = omega arith
-low_by w event o (IsTold _ him by its known) = omega arith
+low_by w event o (IsAdmitted peer) = omega arith
+low_by w event o (Misplaced _) = omega arith
+low_by w event o (IsFinished _ him by its known) = omega arith
 low_by w event o (IsDenied _ by v nobody) = omega arith
 low_by w event o (IsRefused _ him by v its undecided) = omega arith
 low_by w event o (Begins asked undecided none) = omega arith
-low_by w event o (TakesIn him mount block feeding) = omega arith
-low_by w event o (SitsDown asked peer session undecided live) = omega arith
+low_by w event o (Receives him mount block feeding) = omega arith
+low_by w event o (TakesSeat asked peer session undecided live) = omega arith
 low_by w event o (HandsOut him room seat session sits has live) = omega arith
 low_by w event o (Ends him mount feeding) = omega arith
-low_by w event o (FallsSilent him mount feeding) = omega arith
-low_by w event o (Goes him other) = omega arith
+low_by w event o (EndsAndLeaves him mount feeding) = omega arith
+low_by w event o (Leaves him other) = omega arith
 
 pub last_rises : (w : World) (event : Event) → w.house.last_id ≤ (world_after w event).house.last_id
 unfolding world_after
 last_rises w event = low_by w event (outcome w event) (way_of w event)
 
 -- an event is of this client, or not
-pub by_own : {A : Type 0} (event : Event) (id : ℕ) → (client_in event ≡ Some id → A) → ((client_in event ≡ Some id → ⊥) → is_number id (client_in event) ≡ false → A) → A
+pub by_own : {A : Type 0} (event : Event) (id : ℕ) → (client_in event ≡ Some id → A)
+    → ((client_in event ≡ Some id → ⊥) → is_number id (client_in event) ≡ false → A) → A
 by_own {A} event id own other = by_client (client_in event) refl where
   by_client : (client : Option ℕ) → client_in event ≡ client → A
   by_client None e = other (λ h. cc) (ap (is_number id) e)
   by_client (Some him) e =
       by_number him id
       (λ same. own (e ∙ ap (λ (n : ℕ). Some n) same))
-      (λ apart. other (λ h. let both : Some him ≡ Some id = sym e ∙ h in let one : him ≡ id = cc in let itself : (him == id) ≡ true = grind (arith, nat_tests) in cc) (ap (is_number id) e ∙ apart))
+      (λ apart. other (λ h. let both : Some him ≡ Some id = sym e ∙ h in let one : him ≡ id = cc in let itself : (him == id) ≡ true =
+      grind (arith, nat_tests) in cc) (ap (is_number id) e ∙ apart))
 
 pub not_of : (event : Event) (id : ℕ) (bytes : List ℕ) → is_number id (client_in event) ≡ false → of_client event id bytes ≡ []
 not_of event id bytes e = rw e refl

@@ -15,8 +15,8 @@ use Rattle.radio_core.specs.declared.clients.Client.{Client}
 use Rattle.radio_core.specs.declared.clients.ClientState.{ClientState}
 use Rattle.radio_core.specs.declared.seats.Listener.{Listener}
 use Rattle.radio_core.specs.declared.seats.Seat.{Seat}
-use Rattle.radio_core.specs.Clients.{is_client, client_of, with_client, doing, in_state, without_client}
-use Rattle.radio_core.specs.Seats.{is_listener, listener_of, seated, with_seat, moved_on, with_place, finished_from, finished_at, without_listener}
+use Rattle.radio_core.specs.Clients.{is_client, client_of, with_client, with_state, in_state, without_client}
+use Rattle.radio_core.specs.Seats.{is_listener, listener_of, seated, with_seat, advanced, with_place, finished_from, finished_at, without_listener}
 use Rattle.radio_core.specs.Sessions.{Session, is_of, session_of, with_session, longer, fed, without_session}
 
 -- a choice whose test is known
@@ -32,14 +32,15 @@ module _ (clients : List Client) (him id : ℕ) (other : (him == id) ≡ false) 
   not_his : (x : Client) → is_client him x ≡ true → is_client id x ≡ false
   not_his x e = ap (λ n. n == id) (eqb-true x.id him e) ∙ other
 
-  pub beside_doing : (state : ClientState) → client_of (in_state clients him state) id ≡ client_of clients id
-  beside_doing state = find_apart (is_client id) (is_client him) (doing state) (λ x e. (not_his x e, not_his x e)) clients
+  pub beside_state : (state : ClientState) → client_of (in_state clients him state) id ≡ client_of clients id
+  beside_state state = find_apart (is_client id) (is_client him) (with_state state) (λ x e. (not_his x e, not_his x e)) clients
 
-  pub beside_gone : client_of (without_client clients him) id ≡ client_of clients id
-  beside_gone = find_others (is_client id) (is_client him) not_his clients
+  pub beside_forgotten : client_of (without_client clients him) id ≡ client_of clients id
+  beside_forgotten = find_others (is_client id) (is_client him) not_his clients
 
-pub does : (clients : List Client) (id : ℕ) (state : ClientState) (client : Client) → client_of clients id ≡ Some client → client_of (in_state clients id state) id ≡ Some (doing state client)
-does clients id state client e = find_same (is_client id) (doing state) (λ x. refl) clients client e
+pub does : (clients : List Client) (id : ℕ) (state : ClientState) (client : Client) → client_of clients id ≡ Some client
+    → client_of (in_state clients id state) id ≡ Some (with_state state client)
+does clients id state client e = find_same (is_client id) (with_state state) (λ x. refl) clients client e
 
 pub is_no_client : (clients : List Client) (id : ℕ) → client_of (without_client clients id) id ≡ None
 is_no_client clients id = find_removed (is_client id) (is_client id) clients
@@ -61,7 +62,7 @@ module _ (seats : List Listener) (him id : ℕ) (other : (him == id) ≡ false) 
   not_his_seat x e = ap (λ n. n == id) (eqb-true x.id him e) ∙ other
 
   pub beside_moved : (place : ℕ) → listener_of (with_place seats him place) id ≡ listener_of seats id
-  beside_moved place = find_apart (is_listener id) (is_listener him) (moved_on place) (λ x e. (not_his_seat x e, not_his_seat x e)) seats
+  beside_moved place = find_apart (is_listener id) (is_listener him) (advanced place) (λ x e. (not_his_seat x e, not_his_seat x e)) seats
 
   pub beside_left : listener_of (without_listener seats him) id ≡ listener_of seats id
   beside_left = find_others (is_listener id) (is_listener him) not_his_seat seats
@@ -71,8 +72,9 @@ module _ (seats : List Listener) (him id : ℕ) (other : (him == id) ≡ false) 
       find_placed nat_cmp nat_cmp_total (λ (listener : Listener). listener.id) is_listener (λ k listener. number_is k listener.id) id (seated him seat) seats
       ∙ passed (Some (seated him seat)) (listener_of seats id) other
 
-pub has_moved : (seats : List Listener) (id place : ℕ) (listener : Listener) → listener_of seats id ≡ Some listener → listener_of (with_place seats id place) id ≡ Some (moved_on place listener)
-has_moved seats id place listener e = find_same (is_listener id) (moved_on place) (λ x. refl) seats listener e
+pub has_moved : (seats : List Listener) (id place : ℕ) (listener : Listener) → listener_of seats id ≡ Some listener
+    → listener_of (with_place seats id place) id ≡ Some (advanced place listener)
+has_moved seats id place listener e = find_same (is_listener id) (advanced place) (λ x. refl) seats listener e
 
 pub is_no_listener : (seats : List Listener) (id : ℕ) → listener_of (without_listener seats id) id ≡ None
 is_no_listener seats id = find_removed (is_listener id) (is_listener id) seats
@@ -82,7 +84,8 @@ has_sat_down seats id seat e =
     find_placed nat_cmp nat_cmp_total (λ (listener : Listener). listener.id) is_listener (λ k listener. number_is k listener.id) id (seated id seat) seats
     ∙ chosen (Some (seated id seat)) (listener_of seats id) e
 
-pub have_finished : (seats : List Listener) (mount : List ℕ) (rule : Rule) (id : ℕ) → listener_of (finished_at seats mount rule) id ≡ option_map (finished_from mount rule) (listener_of seats id)
+pub have_finished : (seats : List Listener) (mount : List ℕ) (rule : Rule) (id : ℕ)
+    → listener_of (finished_at seats mount rule) id ≡ option_map (finished_from mount rule) (listener_of seats id)
 have_finished seats mount rule id = find_mapped (is_listener id) (finished_from mount rule) (λ x. refl) seats
 
 -- sessions
@@ -104,7 +107,8 @@ module _ (live : List Session) (mount other : List ℕ) (apart : bytes_eq mount 
   pub beside_ended : session_of (without_session live mount) other ≡ session_of live other
   beside_ended = find_others (is_of other) (is_of mount) not_named live
 
-pub is_longer : (live : List Session) (mount block : List ℕ) (moment : ℕ) (session : Session) → session_of live mount ≡ Some session → session_of (fed live mount block moment) mount ≡ Some (longer block moment session)
+pub is_longer : (live : List Session) (mount block : List ℕ) (moment : ℕ) (session : Session) → session_of live mount ≡ Some session
+    → session_of (fed live mount block moment) mount ≡ Some (longer block moment session)
 is_longer live mount block moment session e = find_same (is_of mount) (longer block moment) (λ x. refl) live session e
 
 pub is_over : (live : List Session) (mount : List ℕ) → session_of (without_session live mount) mount ≡ None
@@ -112,7 +116,8 @@ is_over live mount = find_removed (is_of mount) (is_of mount) live
 
 module _ (live : List Session) (new : Session) (mount : List ℕ) where
   looked_up_session : session_of (with_session live new) mount ≡ (if bytes_eq new.mount mount then Some new else session_of live mount)
-  looked_up_session = find_placed (slice_cmp nat_cmp) nat_list_cmp_total (λ (session : Session). session.mount) is_of (λ k session. name_is k session.mount) mount new live
+  looked_up_session = find_placed (slice_cmp nat_cmp) nat_list_cmp_total (λ (session : Session). session.mount) is_of
+      (λ k session. name_is k session.mount) mount new live
 
   pub is_new_session : bytes_eq new.mount mount ≡ true → session_of (with_session live new) mount ≡ Some new
   is_new_session e = looked_up_session ∙ chosen (Some new) (session_of live mount) e

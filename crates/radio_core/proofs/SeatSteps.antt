@@ -8,12 +8,12 @@ use Rattle.radio_tables.specs.KeyLaws.{by_number}
 use Rattle.radio_core.specs.declared.event.Event.{Event}
 use Rattle.radio_core.specs.declared.event.Event.TheVariants.{Draw}
 use Rattle.radio_core.specs.declared.event.ListenRequest.{ListenRequest}
-use Rattle.radio_core.specs.declared.outcome.Change.TheVariants.{SitDown, Hear}
+use Rattle.radio_core.specs.declared.outcome.Change.TheVariants.{TakeSeat, Advance}
 use Rattle.radio_core.specs.declared.outcome.Outcome.{Outcome}
 use Rattle.radio_core.specs.declared.seats.Seat.{Seat}
 use Rattle.radio_core.specs.declared.standing.Standing.TheVariants.{Undecided, Sits}
 use Rattle.radio_core.specs.World.{World, standing_of}
-use Rattle.radio_core.specs.Changes.{changed, silent}
+use Rattle.radio_core.specs.Changes.{changed, session_ended}
 use Rattle.radio_core.specs.Handing.{data_in, of_client, handed_at}
 use Rattle.radio_core.specs.Listen.{first_seat, burst_of}
 use Rattle.radio_core.specs.Seats.{seat_of, seat_in}
@@ -22,11 +22,11 @@ use Rattle.radio_core.specs.Sound.{IsSound}
 use Rattle.radio_core.specs.Step.{outcome, reply_to, world_after}
 use Rattle.radio_core.specs.Stream.{data_at, end_of}
 use Rattle.radio_core.specs.Stretches.{KeepsItsMount, SeatsKeepTheirMounts}
-use Rattle.radio_core.specs.Ways.{Way, Strays, IsTold, IsDenied, IsRefused, ComesIn, Begins, TakesIn, SitsDown, HandsOut, Ends, FallsSilent, Goes, client_in}
+use Rattle.radio_core.specs.Ways.{Way, Misplaced, IsFinished, IsDenied, IsRefused, IsAdmitted, Begins, Receives, TakesSeat, HandsOut, Ends, EndsAndLeaves, Leaves, client_in}
 use Rattle.radio_core.proofs.GoneLemmas.{not_of, nothing_of}
 use Rattle.radio_core.proofs.Lookups.{found_named, is_no_listener, beside_left}
 use Rattle.radio_core.proofs.Soundness.{has_new_seat, had_no_seat, beside_new_seat, burst_within}
-use Rattle.radio_core.proofs.SoundSessions.{has_moved_on, others_seats, behind_within}
+use Rattle.radio_core.proofs.SoundSessions.{has_advanced, others_seats, behind_within}
 use Rattle.radio_core.proofs.SoundEnds.{still_sits, sits_on, sits_no_more}
 use Rattle.radio_core.proofs.SoundRuns.{sound_after}
 use Rattle.radio_core.proofs.Ways.{way_of}
@@ -34,13 +34,19 @@ use Rattle.radio_core.proofs.Ways.{way_of}
 -- all that an event can do to a seat: nothing, hand out what stands at its place, give one to who had none, take it away
 pub data SeatStep (w : World) : Option Seat → List ℕ → Option Seat → Type 0 where
   Stays : (seat : Option Seat) → SeatStep w seat [] seat
-  IsHanded : (seat : Seat) (session : Session) (room : ℕ) → session_of w.house.live seat.mount ≡ Some session → session.number ≡ seat.session → seat.place + length (data_at session.stream seat.place room) ≤ end_of session.stream → SeatStep w (Some seat) (data_at session.stream seat.place room) (Some (record seat { place = seat.place + length (data_at session.stream seat.place room) }))
-  SitsIn : (seat : Seat) (session : Session) → session_of w.house.live seat.mount ≡ Some session → session.number ≡ seat.session → seat.place ≤ end_of session.stream → SeatStep w None [] (Some seat)
+  IsHanded : (seat : Seat) (session : Session) (room : ℕ) → session_of w.house.live seat.mount ≡ Some session → session.number ≡ seat.session
+      → seat.place + length (data_at session.stream seat.place room) ≤ end_of session.stream
+      → SeatStep w (Some seat) (data_at session.stream seat.place room)
+      (Some (record seat { place = seat.place + length (data_at session.stream seat.place room) }))
+  SitsIn : (seat : Seat) (session : Session) → session_of w.house.live seat.mount ≡ Some session → session.number ≡ seat.session
+      → seat.place ≤ end_of session.stream → SeatStep w None [] (Some seat)
   LosesIt : (before : Option Seat) → SeatStep w before [] None
 
-adapted : (w : World) {a before : Option Seat} {x bytes : List ℕ} {b later : Option Seat} → a ≡ before → x ≡ bytes → b ≡ later → SeatStep w a x b → SeatStep w before bytes later
+adapted : (w : World) {a before : Option Seat} {x bytes : List ℕ} {b later : Option Seat} → a ≡ before → x ≡ bytes → b ≡ later → SeatStep w a x b
+    → SeatStep w before bytes later
 adapted w {a} {before} {x} {bytes} {b} {later} ea ex eb step =
-    subst (λ (o : Option Seat). SeatStep w o bytes later) ea (subst (λ (xs : List ℕ). SeatStep w a xs later) ex (subst (λ (o : Option Seat). SeatStep w a x o) eb step))
+    subst (λ (o : Option Seat). SeatStep w o bytes later) ea (subst (λ (xs : List ℕ). SeatStep w a xs later) ex
+    (subst (λ (o : Option Seat). SeatStep w a x o) eb step))
 
 module _ (w : World) (s : IsSound w) (id : ℕ) where
   abbrev mine : Option Seat
@@ -51,39 +57,46 @@ module _ (w : World) (s : IsSound w) (id : ℕ) where
   stays bytes later none same = adapted w refl (sym none) (sym same) (Stays mine)
 
   loses : (bytes : List ℕ) (later : Option Seat) → bytes ≡ [] → later ≡ None → SeatStep w mine bytes later
-  loses bytes later none gone = adapted w refl (sym none) (sym gone) (LosesIt mine)
+  loses bytes later none forgotten = adapted w refl (sym none) (sym forgotten) (LosesIt mine)
 
   -- a session ends: he keeps his seat at another mount, or loses it
-  when_silent : {A : Type 0} (mount : List ℕ) → (seat_of (silent w mount).seats id ≡ mine → A) → (seat_of (silent w mount).seats id ≡ None → A) → A
-  when_silent {A} mount same none = by_found mine refl where
-    no_seat : (found : Option Seat) → seat_of (silent w mount).seats id ≡ found → mine ≡ None → seat_of (silent w mount).seats id ≡ None
+  when_ended : {A : Type 0} (mount : List ℕ) → (seat_of (session_ended w mount).seats id ≡ mine → A)
+      → (seat_of (session_ended w mount).seats id ≡ None → A) → A
+  when_ended {A} mount same none = by_found mine refl where
+    no_seat : (found : Option Seat) → seat_of (session_ended w mount).seats id ≡ found → mine ≡ None → seat_of (session_ended w mount).seats id ≡ None
     no_seat None e before = e
     no_seat (Some seat) e before = let had : mine ≡ Some seat = (still_sits w mount id seat e).had_a_seat in cc
 
     by_found : (found : Option Seat) → mine ≡ found → A
-    by_found None e = none (no_seat (seat_of (silent w mount).seats id) refl e)
+    by_found None e = none (no_seat (seat_of (session_ended w mount).seats id) refl e)
     by_found (Some seat) e = by_test (bytes_eq seat.mount mount) refl where
       by_test : (b : Bool) → bytes_eq seat.mount mount ≡ b → A
       by_test true there = none (sits_no_more w mount id seat e there)
       by_test false away = same (sits_on w mount id seat e away ∙ sym e)
 
   -- he sits down
-  sits_down_at : (asked : ListenRequest) (peer : Peer) (session : Session) → standing_of w asked.id ≡ Undecided peer → session_of w.house.live asked.mount ≡ Some session → (bytes : List ℕ) → bytes ≡ [] → SeatStep w mine bytes (seat_of (changed w (SitDown asked.id (first_seat w.house asked peer session))).seats id)
-  sits_down_at asked peer session undecided live bytes none =
+  takes_seat_at : (asked : ListenRequest) (peer : Peer) (session : Session) → standing_of w asked.id ≡ Undecided peer
+      → session_of w.house.live asked.mount ≡ Some session → (bytes : List ℕ) → bytes ≡ []
+      → SeatStep w mine bytes (seat_of (changed w (TakeSeat asked.id (first_seat w.house asked peer session))).seats id)
+  takes_seat_at asked peer session undecided live bytes none =
       let seat = first_seat w.house asked peer session in
       by_number asked.id id
       (λ same.
       let name : session.mount ≡ asked.mount = found_named w.house.live asked.mount session live in
-      let here : seat_of (changed w (SitDown asked.id seat)).seats id ≡ Some seat = ap (seat_of (changed w (SitDown asked.id seat)).seats) (sym same) ∙ has_new_seat w s asked peer session undecided live in
+      let here : seat_of (changed w (TakeSeat asked.id seat)).seats id ≡ Some seat =
+      ap (seat_of (changed w (TakeSeat asked.id seat)).seats) (sym same) ∙ has_new_seat w s asked peer session undecided live in
       let before : mine ≡ None = ap (seat_of w.seats) (sym same) ∙ had_no_seat w s asked peer session undecided live in
       adapted w (sym before) (sym none) (sym here)
-      (SitsIn seat session (ap (session_of w.house.live) name ∙ live) refl (burst_within session (burst_of w.house session.mount) (s.starts asked.mount session live))))
-      (λ other. stays bytes (seat_of (changed w (SitDown asked.id seat)).seats id) none (beside_new_seat w s asked peer session undecided live id other))
+      (SitsIn seat session (ap (session_of w.house.live) name ∙ live) refl
+      (burst_within session (burst_of w.house session.mount) (s.starts asked.mount session live))))
+      (λ other. stays bytes (seat_of (changed w (TakeSeat asked.id seat)).seats id) none (beside_new_seat w s asked peer session undecided live id other))
 
   -- he is handed what stands at his place
-  hands_at : (him room : ℕ) (seat : Seat) (session : Session) → standing_of w him ≡ Sits → seat_of w.seats him ≡ Some seat → session_of w.house.live seat.mount ≡ Some session → SeatStep w mine (of_client (Draw him room) id (data_at session.stream seat.place room)) (seat_of (changed w (Hear him (seat.place + length (data_at session.stream seat.place room)))).seats id)
+  hands_at : (him room : ℕ) (seat : Seat) (session : Session) → standing_of w him ≡ Sits → seat_of w.seats him ≡ Some seat
+      → session_of w.house.live seat.mount ≡ Some session → SeatStep w mine (of_client (Draw him room) id (data_at session.stream seat.place room))
+      (seat_of (changed w (Advance him (seat.place + length (data_at session.stream seat.place room)))).seats id)
   hands_at him room seat session sits has live =
-      let later = changed w (Hear him (seat.place + length (data_at session.stream seat.place room))) in
+      let later = changed w (Advance him (seat.place + length (data_at session.stream seat.place room))) in
       let bytes = data_at session.stream seat.place room in
       by_number him id
       (λ same.
@@ -91,46 +104,54 @@ module _ (w : World) (s : IsSound w) (id : ℕ) where
       let old = s.seated him seat has in
       let both : Some old.session ≡ Some session = sym old.is_live ∙ live in
       let one : old.session ≡ session = cc in
-      adapted w (sym has ∙ ap (seat_of w.seats) same) (sym (his_bytes (him == id) bytes itself)) (sym (has_moved_on w s him room seat session sits has live) ∙ ap (seat_of later.seats) same)
+      adapted w (sym has ∙ ap (seat_of w.seats) same) (sym (his_bytes (him == id) bytes itself))
+      (sym (has_advanced w s him room seat session sits has live) ∙ ap (seat_of later.seats) same)
       (IsHanded seat session room live (ap (λ (x : Session). x.number) (sym one) ∙ old.his_session) (behind_within w s him room seat session sits has live)))
-      (λ other. stays (of_client (Draw him room) id bytes) (seat_of later.seats id) (not_of (Draw him room) id bytes other) (others_seats w s him room seat session sits has live id other)) where
+      (λ other. stays (of_client (Draw him room) id bytes) (seat_of later.seats id) (not_of (Draw him room) id bytes other)
+      (others_seats w s him room seat session sits has live id other)) where
         his_bytes : (b : Bool) (bytes : List ℕ) → b ≡ true → (if b then bytes else []) ≡ bytes
         his_bytes true bytes e = refl
         his_bytes false bytes e = cc
 
   step_by : (event : Event) (o : Outcome) → Way w event o → SeatStep w mine (of_client event id (data_in o.reply)) (seat_of (changed w o.change).seats id)
-  step_by event o (Strays _) = stays (of_client event id []) mine (nothing_of event id [] refl) refl
-  step_by event o (IsTold _ him by its known) = stays (of_client event id []) mine (nothing_of event id [] refl) refl
+  step_by event o (Misplaced _) = stays (of_client event id []) mine (nothing_of event id [] refl) refl
+  step_by event o (IsFinished _ him by its known) = stays (of_client event id []) mine (nothing_of event id [] refl) refl
   step_by event o (IsDenied _ by v nobody) = stays (of_client event id []) mine (nothing_of event id [] refl) refl
   step_by event o (IsRefused _ him by v its undecided) = stays (of_client event id []) mine (nothing_of event id [] refl) refl
-  step_by event o (ComesIn peer) = stays [] mine refl refl
+  step_by event o (IsAdmitted peer) = stays [] mine refl refl
   step_by event o (Begins asked undecided none) = stays (of_client event id []) mine (nothing_of event id [] refl) refl
-  step_by event o (TakesIn him mount block feeding) = stays (of_client event id []) mine (nothing_of event id [] refl) refl
-  step_by event o (SitsDown asked peer session undecided live) = sits_down_at asked peer session undecided live (of_client event id []) (nothing_of event id [] refl)
+  step_by event o (Receives him mount block feeding) = stays (of_client event id []) mine (nothing_of event id [] refl) refl
+  step_by event o (TakesSeat asked peer session undecided live) =
+      takes_seat_at asked peer session undecided live (of_client event id []) (nothing_of event id [] refl)
   step_by event o (HandsOut him room seat session sits has live) = hands_at him room seat session sits has live
   step_by event o (Ends him mount feeding) =
-      when_silent mount
+      when_ended mount
       (λ same. stays (of_client event id []) (seat_of (changed w o.change).seats id) (nothing_of event id [] refl) same)
       (λ none. loses (of_client event id []) (seat_of (changed w o.change).seats id) (nothing_of event id [] refl) none)
-  step_by event o (FallsSilent him mount feeding) =
+  step_by event o (EndsAndLeaves him mount feeding) =
       by_number him id
-      (λ same. loses (of_client event id []) (seat_of (changed w o.change).seats id) (nothing_of event id [] refl) (ap (seat_of (changed w o.change).seats) (sym same) ∙ ap seat_in (is_no_listener (silent w mount).seats him)))
+      (λ same. loses (of_client event id []) (seat_of (changed w o.change).seats id) (nothing_of event id [] refl)
+      (ap (seat_of (changed w o.change).seats) (sym same) ∙ ap seat_in (is_no_listener (session_ended w mount).seats him)))
       (λ other.
-      let beside : seat_of (changed w o.change).seats id ≡ seat_of (silent w mount).seats id = ap seat_in (beside_left (silent w mount).seats him id other) in
-      when_silent mount
+      let beside : seat_of (changed w o.change).seats id ≡ seat_of (session_ended w mount).seats id =
+      ap seat_in (beside_left (session_ended w mount).seats him id other) in
+      when_ended mount
       (λ same. stays (of_client event id []) (seat_of (changed w o.change).seats id) (nothing_of event id [] refl) (beside ∙ same))
       (λ none. loses (of_client event id []) (seat_of (changed w o.change).seats id) (nothing_of event id [] refl) (beside ∙ none)))
-  step_by event o (Goes him other) =
+  step_by event o (Leaves him other) =
       by_number him id
-      (λ same. loses (of_client event id []) (seat_of (changed w o.change).seats id) (nothing_of event id [] refl) (ap (seat_of (changed w o.change).seats) (sym same) ∙ ap seat_in (is_no_listener w.seats him)))
-      (λ apart. stays (of_client event id []) (seat_of (changed w o.change).seats id) (nothing_of event id [] refl) (ap seat_in (beside_left w.seats him id apart)))
+      (λ same. loses (of_client event id []) (seat_of (changed w o.change).seats id) (nothing_of event id [] refl)
+      (ap (seat_of (changed w o.change).seats) (sym same) ∙ ap seat_in (is_no_listener w.seats him)))
+      (λ apart. stays (of_client event id []) (seat_of (changed w o.change).seats id) (nothing_of event id [] refl)
+      (ap seat_in (beside_left w.seats him id apart)))
 
   pub seat_step : (event : Event) → SeatStep w mine (handed_at w event id) (seat_of (world_after w event).seats id)
   unfolding reply_to world_after
   seat_step event = step_by event (outcome w event) (way_of w event)
 
 -- a seat that is kept is at the same mount, and not further back
-keeps : (w : World) (before later : Option Seat) (bytes : List ℕ) → SeatStep w before bytes later → (old seat : Seat) → before ≡ Some old → later ≡ Some seat → old.session ≡ seat.session → (seat.mount ≡ old.mount) × (old.place ≤ seat.place)
+keeps : (w : World) (before later : Option Seat) (bytes : List ℕ) → SeatStep w before bytes later → (old seat : Seat) → before ≡ Some old
+    → later ≡ Some seat → old.session ≡ seat.session → (seat.mount ≡ old.mount) × (old.place ≤ seat.place)
 keeps w before later bytes (Stays same) old seat eo es kept =
     let both : Some old ≡ Some seat = sym eo ∙ es in
     let one : old ≡ seat = cc in
@@ -139,7 +160,8 @@ keeps w before later bytes (IsHanded had session room live number within) old se
     let one : had ≡ old = cc in
     let moved : record had { place = had.place + length (data_at session.stream had.place room) } ≡ seat = cc in (
       ap (λ (x : Seat). x.mount) (sym moved) ∙ ap (λ (x : Seat). x.mount) one,
-      subst (λ (x : Seat). old.place ≤ x.place) moved (subst (λ (x : Seat). x.place ≤ had.place + length (data_at session.stream had.place room)) one (omega arith)),
+      subst (λ (x : Seat). old.place ≤ x.place) moved (subst (λ (x : Seat). x.place ≤ had.place + length (data_at session.stream had.place room)) one
+          (omega arith)),
     )
 keeps w before later bytes (SitsIn new session live number within) old seat eo es kept = cc
 keeps w before later bytes (LosesIt had) old seat eo es kept = cc
@@ -151,5 +173,6 @@ mounts_kept w s event id seat e =
       session = now.session;
       is_live = now.is_live;
       in_the_session = sym now.his_session;
-      kept = λ old had same. keeps w (seat_of w.seats id) (seat_of (world_after w event).seats id) (handed_at w event id) (seat_step w s id event) old seat had e same;
+      kept = λ old had same. keeps w (seat_of w.seats id) (seat_of (world_after w event).seats id) (handed_at w event id)
+          (seat_step w s id event) old seat had e same;
     }

@@ -31,10 +31,10 @@ use Rattle.radio_core.specs.World.{World, standing_of, standing_in, standing_by,
 use Rattle.radio_core.specs.Changes.{changed}
 use Rattle.radio_core.specs.Facts.{session_at, is_live, walk_stops, rows_to_arrive, rows_to_feed, rows_to_push, rows_to_listen}
 use Rattle.radio_core.specs.Outcomes.{on_verdict, if_undecided, if_feeding, if_sitting}
-use Rattle.radio_core.specs.Arrive.{comes_in}
+use Rattle.radio_core.specs.Arrive.{admits_client}
 use Rattle.radio_core.specs.Source.{begins}
 use Rattle.radio_core.specs.Push.{takes_in}
-use Rattle.radio_core.specs.Listen.{first_seat, sits_down}
+use Rattle.radio_core.specs.Listen.{first_seat, takes_seat}
 use Rattle.radio_core.specs.Draw.{hands_out, hands_out_at}
 use Rattle.radio_core.specs.Others.{RepliesFit}
 use Rattle.radio_core.specs.Seats.{listener_of, seat_of, seat_in, seat_held}
@@ -42,7 +42,7 @@ use Rattle.radio_core.specs.Service.{IsTakenIn, IsHanded, Serves}
 use Rattle.radio_core.specs.Sessions.{Session, session_of}
 use Rattle.radio_core.specs.Sound.{IsSound}
 use Rattle.radio_core.specs.Step.{outcome, reply_to, world_after}
-use Rattle.radio_core.specs.Ways.{Way, Strays, IsTold, IsDenied, IsRefused, ComesIn, Begins, TakesIn, SitsDown, HandsOut, Ends, FallsSilent, Goes, IsUndecided}
+use Rattle.radio_core.specs.Ways.{Way, Misplaced, IsFinished, IsDenied, IsRefused, IsAdmitted, Begins, Receives, TakesSeat, HandsOut, Ends, EndsAndLeaves, Leaves, IsUndecided}
 use Rattle.radio_core.proofs.FinishLemmas.{finished_told}
 use Rattle.radio_core.proofs.Standings.{turns_answered, turns_feeding, turns_sitting, turns_admitted}
 use Rattle.radio_core.proofs.Ways.{way_of, found_at_path}
@@ -88,7 +88,8 @@ listener_seat : (listener : Option Listener) → standing_of_listener listener �
 listener_seat None e = cc
 listener_seat (Some listener) e = held_seat listener.seating e
 
-by_state : (listener : Option Listener) (peer : Peer) (state : ClientState) → standing_by listener peer state ≡ Sits → (seat : Seat) × (seat_in listener ≡ Some seat)
+by_state : (listener : Option Listener) (peer : Peer) (state : ClientState) → standing_by listener peer state ≡ Sits
+    → (seat : Seat) × (seat_in listener ≡ Some seat)
 by_state listener peer IsNew e = cc
 by_state listener peer (IsSource mount) e = cc
 by_state listener peer Listens e = listener_seat listener e
@@ -103,37 +104,43 @@ pub seat_of_sitting : (w : World) (id : ℕ) → standing_of w id ≡ Sits → (
 seat_of_sitting w id e = by_client (listener_of w.seats id) (client_of w.house.clients id) e
 
 module _ (allows : (rows : List Row) → (verdict_in rows ≡ Allow) ↔ Allows rows) (w : World) (s : IsSound w) where
-  outcome_arrive : (peer : Peer) → Allows (rows_to_arrive w.house) → outcome w (Arrive peer) ≡ comes_in w peer
+  outcome_arrive : (peer : Peer) → Allows (rows_to_arrive w.house) → outcome w (Arrive peer) ≡ admits_client w peer
   unfolding outcome
-  outcome_arrive peer a = is_allowed (verdict_in (rows_to_arrive w.house)) _ (comes_in w peer) ((allows (rows_to_arrive w.house)).1 a)
+  outcome_arrive peer a = is_allowed (verdict_in (rows_to_arrive w.house)) _ (admits_client w peer) ((allows (rows_to_arrive w.house)).1 a)
 
-  outcome_source : (asked : SourceRequest) (peer : Peer) → standing_of w asked.id ≡ Undecided peer → Allows (rows_to_feed w.house asked.mount) → outcome w (Source asked) ≡ begins asked
+  outcome_source : (asked : SourceRequest) (peer : Peer) → standing_of w asked.id ≡ Undecided peer → Allows (rows_to_feed w.house asked.mount)
+      → outcome w (Source asked) ≡ begins asked
   unfolding outcome
   outcome_source asked peer e a =
       goes_undecided (standing_of w asked.id) peer _ e
       ∙ is_allowed (verdict_in (rows_to_feed w.house asked.mount)) _ (begins asked) ((allows (rows_to_feed w.house asked.mount)).1 a)
 
-  outcome_push : (id : ℕ) (mount block : List ℕ) → standing_of w id ≡ Feeds mount → Allows (rows_to_push w.house mount block) → outcome w (Push id block) ≡ takes_in mount block
+  outcome_push : (id : ℕ) (mount block : List ℕ) → standing_of w id ≡ Feeds mount → Allows (rows_to_push w.house mount block)
+      → outcome w (Push id block) ≡ takes_in mount block
   unfolding outcome
   outcome_push id mount block e a =
       goes_feeding (standing_of w id) mount _ e
       ∙ is_allowed (verdict_in (rows_to_push w.house mount block)) _ (takes_in mount block) ((allows (rows_to_push w.house mount block)).1 a)
 
-  outcome_listen : (asked : ListenRequest) (peer : Peer) (session : Session) → standing_of w asked.id ≡ Undecided peer → verdict_in (rows_to_listen w.house asked.mount) ≡ Allow → session_at w.house asked.mount ≡ Some session → outcome w (Listen asked) ≡ sits_down w.house asked peer (Some session)
+  outcome_listen : (asked : ListenRequest) (peer : Peer) (session : Session) → standing_of w asked.id ≡ Undecided peer
+      → verdict_in (rows_to_listen w.house asked.mount) ≡ Allow → session_at w.house asked.mount ≡ Some session
+      → outcome w (Listen asked) ≡ takes_seat w.house asked peer (Some session)
   unfolding outcome
   outcome_listen asked peer session e v found =
       goes_undecided (standing_of w asked.id) peer _ e
-      ∙ is_allowed (verdict_in (rows_to_listen w.house asked.mount)) _ (sits_down w.house asked peer (session_at w.house asked.mount)) v
-      ∙ ap (sits_down w.house asked peer) found
+      ∙ is_allowed (verdict_in (rows_to_listen w.house asked.mount)) _ (takes_seat w.house asked peer (session_at w.house asked.mount)) v
+      ∙ ap (takes_seat w.house asked peer) found
 
-  outcome_draw : (id room : ℕ) (seat : Seat) (session : Session) → standing_of w id ≡ Sits → seat_of w.seats id ≡ Some seat → session_of w.house.live seat.mount ≡ Some session → outcome w (Draw id room) ≡ hands_out id seat room (Some session)
+  outcome_draw : (id room : ℕ) (seat : Seat) (session : Session) → standing_of w id ≡ Sits → seat_of w.seats id ≡ Some seat
+      → session_of w.house.live seat.mount ≡ Some session → outcome w (Draw id room) ≡ hands_out id seat room (Some session)
   unfolding outcome
   outcome_draw id room seat session e has live =
       goes_sitting (standing_of w id) _ e
       ∙ ap (hands_out_at w.house id room) has
       ∙ ap (hands_out id seat room) live
 
-  after_outcome : (event : Event) (o : Outcome) (id : ℕ) (now : Standing) → outcome w event ≡ o → standing_of (changed w o.change) id ≡ now → standing_of (world_after w event) id ≡ now
+  after_outcome : (event : Event) (o : Outcome) (id : ℕ) (now : Standing) → outcome w event ≡ o → standing_of (changed w o.change) id ≡ now
+      → standing_of (world_after w event) id ≡ now
   unfolding world_after
   after_outcome event o id now e h = ap (λ (x : Outcome). standing_of (changed w x.change) id) e ∙ h
 
@@ -141,16 +148,17 @@ module _ (allows : (rows : List Row) → (verdict_in rows ≡ Allow) ↔ Allows 
   unfolding reply_to
   reply_is event o e = ap (λ (x : Outcome). x.reply) e
 
-  taken_in : (asked : ListenRequest) (peer : Peer) → standing_of w asked.id ≡ Undecided peer → Allows (rows_to_listen w.house asked.mount) → IsTakenIn w asked
-  taken_in asked peer e a =
+  received : (asked : ListenRequest) (peer : Peer) → standing_of w asked.id ≡ Undecided peer → Allows (rows_to_listen w.house asked.mount) → IsTakenIn w asked
+  received asked peer e a =
       let v = (allows (rows_to_listen w.house asked.mount)).1 a in
       let there = may_listen w asked.mount v in
       let o = outcome_listen asked peer there.0 e v there.1 in
       record {
         session = there.0;
         is_live = found_at_path w asked.mount there.0 there.1;
-        is_shown = reply_is (Listen asked) (sits_down w.house asked peer (Some there.0)) o;
-        sits = after_outcome (Listen asked) (sits_down w.house asked peer (Some there.0)) asked.id Sits o (turns_sitting w asked.id (first_seat w.house asked peer there.0) (λ u. cc)).his;
+        is_shown = reply_is (Listen asked) (takes_seat w.house asked peer (Some there.0)) o;
+        sits = after_outcome (Listen asked) (takes_seat w.house asked peer (Some there.0)) asked.id Sits o
+            (turns_sitting w asked.id (first_seat w.house asked peer there.0) (λ u. cc)).his;
       }
 
   handed_out : (id room : ℕ) → standing_of w id ≡ Sits → IsHanded w id room
@@ -162,51 +170,79 @@ module _ (allows : (rows : List Row) → (verdict_in rows ≡ Allow) ↔ Allows 
         has_the_seat = has.1;
         session = in_session.session;
         is_live = in_session.is_live;
-        is_handed = reply_is (Draw id room) (hands_out id has.0 room (Some in_session.session)) (outcome_draw id room has.0 in_session.session e has.1 in_session.is_live);
+        is_handed = reply_is (Draw id room) (hands_out id has.0 room (Some in_session.session))
+            (outcome_draw id room has.0 in_session.session e has.1 in_session.is_live);
       }
 
   pub service_holds : Serves w
   service_holds = record {
     admits = λ peer a.
-        let o = outcome_arrive peer a in
-        (reply_is (Arrive peer) (comes_in w peer) o, after_outcome (Arrive peer) (comes_in w peer) (w.house.last_id + 1) (Undecided peer) o (turns_admitted w (w.house.last_id + 1) peer).his);
+        let o = outcome_arrive peer a in (
+          reply_is (Arrive peer) (admits_client w peer) o,
+          after_outcome (Arrive peer) (admits_client w peer) (w.house.last_id + 1) (Undecided peer) o
+              (turns_admitted w (w.house.last_id + 1) peer).his,
+        );
     begins = λ asked peer e a.
-        let o = outcome_source asked peer e a in
-        (reply_is (Source asked) (begins asked) o, after_outcome (Source asked) (begins asked) asked.id (Feeds asked.mount) o (turns_feeding w asked.id asked.mount asked.shown (λ u. cc)).his);
+        let o = outcome_source asked peer e a in (
+          reply_is (Source asked) (begins asked) o,
+          after_outcome (Source asked) (begins asked) asked.id (Feeds asked.mount) o
+              (turns_feeding w asked.id asked.mount asked.shown (λ u. cc)).his,
+        );
     takes_in = λ id mount block e a. reply_is (Push id block) (takes_in mount block) (outcome_push id mount block e a);
-    seats = taken_in;
+    seats = received;
     hands_out = handed_out;
   }
 
 -- each reply fits its client
 
 record Fits (w : World) (event : Event) (o : Outcome) : Type 0 where
-  pub arrived : (id : ℕ) → o.reply ≡ Arrived id → (peer : Peer) × (event ≡ Arrive peer) × (w.house.last_id < id) × (standing_of w id ≡ Unknown) × (standing_of (changed w o.change) id ≡ Undecided peer)
-  pub feeding : o.reply ≡ Feeding → (asked : SourceRequest) × (event ≡ Source asked) × IsUndecided w asked.id × (standing_of (changed w o.change) asked.id ≡ Feeds asked.mount)
-  pub seated : (interval : Option ℕ) (shown : Shown) → o.reply ≡ Seated interval shown → (asked : ListenRequest) × (event ≡ Listen asked) × IsUndecided w asked.id × (standing_of (changed w o.change) asked.id ≡ Sits)
+  pub arrived : (id : ℕ) → o.reply ≡ Arrived id → (peer : Peer) × (event ≡ Arrive peer) × (w.house.last_id < id) × (standing_of w id ≡ Unknown)
+      × (standing_of (changed w o.change) id ≡ Undecided peer)
+  pub feeding : o.reply ≡ Feeding → (asked : SourceRequest) × (event ≡ Source asked) × IsUndecided w asked.id
+      × (standing_of (changed w o.change) asked.id ≡ Feeds asked.mount)
+  pub seated : (interval : Option ℕ) (shown : Shown) → o.reply ≡ Seated interval shown
+      → (asked : ListenRequest) × (event ≡ Listen asked) × IsUndecided w asked.id × (standing_of (changed w o.change) asked.id ≡ Sits)
 
 module _ (w : World) (s : IsSound w) where
   fits_by : (event : Event) (o : Outcome) → Way w event o → Fits w event o
-  fits_by event o (ComesIn peer) = record { arrived = his; feeding = λ d. cc; seated = λ interval shown d. cc } where
-    his : (id : ℕ) → Arrived (w.house.last_id + 1) ≡ Arrived id → (p : Peer) × (Arrive peer ≡ Arrive p) × (w.house.last_id < id) × (standing_of w id ≡ Unknown) × (standing_of (changed w (comes_in w peer).change) id ≡ Undecided p)
+  fits_by event o (IsAdmitted peer) = record { arrived = his; feeding = λ d. cc; seated = λ interval shown d. cc } where
+    his : (id : ℕ) → Arrived (w.house.last_id + 1) ≡ Arrived id
+        → (p : Peer) × (Arrive peer ≡ Arrive p) × (w.house.last_id < id) × (standing_of w id ≡ Unknown)
+        × (standing_of (changed w (admits_client w peer).change) id ≡ Undecided p)
     his id d =
         let same : w.house.last_id + 1 ≡ id = cc in
-        let above : w.house.last_id < id = omega arith in
-        (peer, refl, above, s.numbered id above, ap (standing_of (changed w (comes_in w peer).change)) (sym same) ∙ (turns_admitted w (w.house.last_id + 1) peer).his)
+        let above : w.house.last_id < id = omega arith in (
+          peer,
+          refl,
+          above,
+          s.numbered id above,
+          ap (standing_of (changed w (admits_client w peer).change)) (sym same) ∙
+              (turns_admitted w (w.house.last_id + 1) peer).his,
+        )
   fits_by event o (Begins asked undecided none) =
       let at = undecided.1 in
-      record { arrived = λ id d. cc; feeding = λ d. (asked, refl, undecided, (turns_feeding w asked.id asked.mount asked.shown (λ u. cc)).his); seated = λ interval shown d. cc }
-  fits_by event o (SitsDown asked peer session undecided live) =
-      record { arrived = λ id d. cc; feeding = λ d. cc; seated = λ interval shown d. (asked, refl, (peer, undecided), (turns_sitting w asked.id (first_seat w.house asked peer session) (λ u. cc)).his) }
-  fits_by event o (Strays _) = record { arrived = λ id d. cc; feeding = λ d. cc; seated = λ interval shown d. cc }
-  fits_by event o (IsTold _ him by its known) = record { arrived = λ id d. cc; feeding = λ d. cc; seated = λ interval shown d. cc }
+      record {
+        arrived = λ id d. cc;
+        feeding = λ d. (asked, refl, undecided, (turns_feeding w asked.id asked.mount asked.shown (λ u. cc)).his);
+        seated =
+            λ interval shown d. cc;
+      }
+  fits_by event o (TakesSeat asked peer session undecided live) =
+      record {
+        arrived = λ id d. cc;
+        feeding = λ d. cc;
+        seated =
+            λ interval shown d. (asked, refl, (peer, undecided), (turns_sitting w asked.id (first_seat w.house asked peer session) (λ u. cc)).his);
+      }
+  fits_by event o (Misplaced _) = record { arrived = λ id d. cc; feeding = λ d. cc; seated = λ interval shown d. cc }
+  fits_by event o (IsFinished _ him by its known) = record { arrived = λ id d. cc; feeding = λ d. cc; seated = λ interval shown d. cc }
   fits_by event o (IsDenied _ by v nobody) = record { arrived = λ id d. cc; feeding = λ d. cc; seated = λ interval shown d. cc }
   fits_by event o (IsRefused _ him by v its undecided) = record { arrived = λ id d. cc; feeding = λ d. cc; seated = λ interval shown d. cc }
-  fits_by event o (TakesIn him mount block feeding) = record { arrived = λ id d. cc; feeding = λ d. cc; seated = λ interval shown d. cc }
+  fits_by event o (Receives him mount block feeding) = record { arrived = λ id d. cc; feeding = λ d. cc; seated = λ interval shown d. cc }
   fits_by event o (HandsOut him room seat session sits has live) = record { arrived = λ id d. cc; feeding = λ d. cc; seated = λ interval shown d. cc }
   fits_by event o (Ends him mount feeding) = record { arrived = λ id d. cc; feeding = λ d. cc; seated = λ interval shown d. cc }
-  fits_by event o (FallsSilent him mount feeding) = record { arrived = λ id d. cc; feeding = λ d. cc; seated = λ interval shown d. cc }
-  fits_by event o (Goes him other) = record { arrived = λ id d. cc; feeding = λ d. cc; seated = λ interval shown d. cc }
+  fits_by event o (EndsAndLeaves him mount feeding) = record { arrived = λ id d. cc; feeding = λ d. cc; seated = λ interval shown d. cc }
+  fits_by event o (Leaves him other) = record { arrived = λ id d. cc; feeding = λ d. cc; seated = λ interval shown d. cc }
 
   pub replies_fit : (event : Event) → RepliesFit w event
   unfolding reply_to world_after

@@ -7,7 +7,7 @@ use Rattle.std.proofs.lemmas.Bool.Decides.{nat_tests}
 use Rattle.std.proofs.lemmas.Slice.Eq.{bytes_eq-Decides}
 use Rattle.radio_policy.specs.declared.rule.Rule.TheVariants.{NotLive}
 use Rattle.radio_tables.specs.KeyLaws.{by_number, by_name}
-use Rattle.radio_core.specs.declared.outcome.Change.TheVariants.{Answer, Go, End, FallSilent}
+use Rattle.radio_core.specs.declared.outcome.Change.TheVariants.{Answer, Forget, End, EndAndLeave}
 use Rattle.radio_core.specs.declared.seats.Listener.{Listener}
 use Rattle.radio_core.specs.declared.seats.Seat.{Seat}
 use Rattle.radio_core.specs.declared.seats.Seating.{Seating}
@@ -15,77 +15,92 @@ use Rattle.radio_core.specs.declared.seats.Seating.TheVariants.{Sits as HasSeat,
 use Rattle.radio_core.specs.declared.standing.Standing.{Standing}
 use Rattle.radio_core.specs.declared.standing.Standing.TheVariants.{Unknown, Feeds, Sits, Answered}
 use Rattle.radio_core.specs.World.{World, standing_of}
-use Rattle.radio_core.specs.Changes.{changed, silent}
+use Rattle.radio_core.specs.Changes.{changed, session_ended}
 use Rattle.radio_core.specs.Seats.{listener_of, seat_of, seat_in, seat_held, ended_at, finished_from, finished_at, without_listener}
 use Rattle.radio_core.specs.Sessions.{Session, session_of, without_session}
 use Rattle.radio_core.specs.Sound.{AreRising, IsSeatedIn, IsSound}
 use Rattle.radio_core.proofs.Lookups.{beside_left, is_no_listener, have_finished, beside_ended, is_over}
-use Rattle.radio_core.proofs.Standings.{Turns, Loses, turns_answered, turns_gone, silenced, silent_feeds, feeds_silent}
+use Rattle.radio_core.proofs.Standings.{Turns, Loses, turns_answered, turns_forgotten, silenced, ended_feeds, feeds_ended}
 
 -- who has a seat after the end of a mount's session had it before, and elsewhere
 pub record StillSits (seats : List Listener) (mount : List ℕ) (id : ℕ) (seat : Seat) : Type 0 where
   pub had_a_seat : seat_of seats id ≡ Some seat
   pub elsewhere : bytes_eq seat.mount mount ≡ false
 
-held_still : (mount : List ℕ) (old seat : Seat) (b : _) → bytes_eq old.mount mount ≡ b → seat_held (if b then HasFinished NotLive else HasSeat old) ≡ Some seat → (old ≡ seat) × (b ≡ false)
+held_still : (mount : List ℕ) (old seat : Seat) (b : _) → bytes_eq old.mount mount ≡ b
+    → seat_held (if b then HasFinished NotLive else HasSeat old) ≡ Some seat → (old ≡ seat) × (b ≡ false)
 held_still mount old seat true e h = cc
 held_still mount old seat false e h = let same : old ≡ seat = cc in (same, refl)
 
-held_seating : (mount : List ℕ) (seating : Seating) (seat : Seat) → seat_held (ended_at mount NotLive seating) ≡ Some seat → (seat_held seating ≡ Some seat) × (bytes_eq seat.mount mount ≡ false)
+held_seating : (mount : List ℕ) (seating : Seating) (seat : Seat) → seat_held (ended_at mount NotLive seating) ≡ Some seat
+    → (seat_held seating ≡ Some seat) × (bytes_eq seat.mount mount ≡ false)
 held_seating mount (HasSeat old) seat h =
     let kept = held_still mount old seat (bytes_eq old.mount mount) refl h in
     (ap (λ (x : Seat). Some x) kept.0, ap (λ (x : Seat). bytes_eq x.mount mount) (sym kept.0) ∙ kept.1)
 held_seating mount (HasFinished rule) seat h = cc
 
-held_listener : (mount : List ℕ) (listener : Option Listener) (seat : Seat) → seat_in (option_map (finished_from mount NotLive) listener) ≡ Some seat → (seat_in listener ≡ Some seat) × (bytes_eq seat.mount mount ≡ false)
+held_listener : (mount : List ℕ) (listener : Option Listener) (seat : Seat) → seat_in (option_map (finished_from mount NotLive) listener) ≡ Some seat
+    → (seat_in listener ≡ Some seat) × (bytes_eq seat.mount mount ≡ false)
 held_listener mount None seat h = cc
 held_listener mount (Some listener) seat h = held_seating mount listener.seating seat h
 
-pub still_sits : (w : World) (mount : List ℕ) (id : ℕ) (seat : Seat) → seat_of (silent w mount).seats id ≡ Some seat → StillSits w.seats mount id seat
+pub still_sits : (w : World) (mount : List ℕ) (id : ℕ) (seat : Seat) → seat_of (session_ended w mount).seats id ≡ Some seat → StillSits w.seats mount id seat
 still_sits w mount id seat e =
     let kept = held_listener mount (listener_of w.seats id) seat (sym (ap seat_in (have_finished w.seats mount NotLive id)) ∙ e) in
     record { had_a_seat = kept.0; elsewhere = kept.1 }
 
 -- and who sits at another mount keeps his seat
-held_elsewhere : (mount : List ℕ) (seat : Seat) (b : _) → bytes_eq seat.mount mount ≡ b → b ≡ false → seat_held (if b then HasFinished NotLive else HasSeat seat) ≡ Some seat
+held_elsewhere : (mount : List ℕ) (seat : Seat) (b : _) → bytes_eq seat.mount mount ≡ b → b ≡ false
+    → seat_held (if b then HasFinished NotLive else HasSeat seat) ≡ Some seat
 held_elsewhere mount seat true e h = cc
 held_elsewhere mount seat false e h = refl
 
-sits_elsewhere : (mount : List ℕ) (seating : Seating) (seat : Seat) → seat_held seating ≡ Some seat → bytes_eq seat.mount mount ≡ false → seat_held (ended_at mount NotLive seating) ≡ Some seat
+sits_elsewhere : (mount : List ℕ) (seating : Seating) (seat : Seat) → seat_held seating ≡ Some seat → bytes_eq seat.mount mount ≡ false
+    → seat_held (ended_at mount NotLive seating) ≡ Some seat
 sits_elsewhere mount (HasSeat old) seat h apart =
     let same : old ≡ seat = cc in
     let away : bytes_eq old.mount mount ≡ false = ap (λ (x : Seat). bytes_eq x.mount mount) same ∙ apart in
     held_elsewhere mount old (bytes_eq old.mount mount) refl away ∙ h
 sits_elsewhere mount (HasFinished rule) seat h apart = cc
 
-keeps_seat : (mount : List ℕ) (listener : Option Listener) (seat : Seat) → seat_in listener ≡ Some seat → bytes_eq seat.mount mount ≡ false → seat_in (option_map (finished_from mount NotLive) listener) ≡ Some seat
+keeps_seat : (mount : List ℕ) (listener : Option Listener) (seat : Seat) → seat_in listener ≡ Some seat → bytes_eq seat.mount mount ≡ false
+    → seat_in (option_map (finished_from mount NotLive) listener) ≡ Some seat
 keeps_seat mount None seat h apart = cc
 keeps_seat mount (Some listener) seat h apart = sits_elsewhere mount listener.seating seat h apart
 
-pub sits_on : (w : World) (mount : List ℕ) (id : ℕ) (seat : Seat) → seat_of w.seats id ≡ Some seat → bytes_eq seat.mount mount ≡ false → seat_of (silent w mount).seats id ≡ Some seat
+pub sits_on : (w : World) (mount : List ℕ) (id : ℕ) (seat : Seat) → seat_of w.seats id ≡ Some seat → bytes_eq seat.mount mount ≡ false
+    → seat_of (session_ended w mount).seats id ≡ Some seat
 sits_on w mount id seat has apart = ap seat_in (have_finished w.seats mount NotLive id) ∙ keeps_seat mount (listener_of w.seats id) seat has apart
 
 -- who sat at the mount has no seat
-held_no_more : (mount : List ℕ) (seat : Seat) (b : _) → bytes_eq seat.mount mount ≡ b → b ≡ true → seat_held (if b then HasFinished NotLive else HasSeat seat) ≡ None
+held_no_more : (mount : List ℕ) (seat : Seat) (b : _) → bytes_eq seat.mount mount ≡ b → b ≡ true
+    → seat_held (if b then HasFinished NotLive else HasSeat seat) ≡ None
 held_no_more mount seat true e h = refl
 held_no_more mount seat false e h = cc
 
-seating_lost : (mount : List ℕ) (seating : Seating) (seat : Seat) → seat_held seating ≡ Some seat → bytes_eq seat.mount mount ≡ true → seat_held (ended_at mount NotLive seating) ≡ None
+seating_lost : (mount : List ℕ) (seating : Seating) (seat : Seat) → seat_held seating ≡ Some seat → bytes_eq seat.mount mount ≡ true
+    → seat_held (ended_at mount NotLive seating) ≡ None
 seating_lost mount (HasSeat old) seat h there =
     let same : old ≡ seat = cc in
     let here : bytes_eq old.mount mount ≡ true = ap (λ (x : Seat). bytes_eq x.mount mount) same ∙ there in
     held_no_more mount old (bytes_eq old.mount mount) refl here
 seating_lost mount (HasFinished rule) seat h there = cc
 
-listener_lost : (mount : List ℕ) (listener : Option Listener) (seat : Seat) → seat_in listener ≡ Some seat → bytes_eq seat.mount mount ≡ true → seat_in (option_map (finished_from mount NotLive) listener) ≡ None
+listener_lost : (mount : List ℕ) (listener : Option Listener) (seat : Seat) → seat_in listener ≡ Some seat → bytes_eq seat.mount mount ≡ true
+    → seat_in (option_map (finished_from mount NotLive) listener) ≡ None
 listener_lost mount None seat h there = cc
 listener_lost mount (Some listener) seat h there = seating_lost mount listener.seating seat h there
 
-pub sits_no_more : (w : World) (mount : List ℕ) (id : ℕ) (seat : Seat) → seat_of w.seats id ≡ Some seat → bytes_eq seat.mount mount ≡ true → seat_of (silent w mount).seats id ≡ None
+pub sits_no_more : (w : World) (mount : List ℕ) (id : ℕ) (seat : Seat) → seat_of w.seats id ≡ Some seat → bytes_eq seat.mount mount ≡ true
+    → seat_of (session_ended w mount).seats id ≡ None
 sits_no_more w mount id seat has there = ap seat_in (have_finished w.seats mount NotLive id) ∙ listener_lost mount (listener_of w.seats id) seat has there
 
 -- the source of a mount stops feeding it, and its session is over
-module _ (w : World) (s : IsSound w) (him : ℕ) (mount : List ℕ) (feeding : standing_of w him ≡ Feeds mount) (later : World) (now : Standing) (t : Turns (silent w mount) later him now) (live : (other : List ℕ) → session_of later.house.live other ≡ session_of (without_session w.house.live mount) other) (seats : (id : ℕ) (seat : Seat) → seat_of later.seats id ≡ Some seat → seat_of (silent w mount).seats id ≡ Some seat) (last : w.house.last_id ≡ later.house.last_id) (not_now : (other : List ℕ) → now ≡ Feeds other → ⊥) where
+module _ (w : World) (s : IsSound w) (him : ℕ) (mount : List ℕ) (feeding : standing_of w him ≡ Feeds mount) (later : World) (now : Standing)
+    (t : Turns (session_ended w mount) later him now) (live : (other : List ℕ)
+    → session_of later.house.live other ≡ session_of (without_session w.house.live mount) other)
+    (seats : (id : ℕ) (seat : Seat) → seat_of later.seats id ≡ Some seat → seat_of (session_ended w mount).seats id ≡ Some seat)
+    (last : w.house.last_id ≡ later.house.last_id) (not_now : (other : List ℕ) → now ≡ Feeds other → ⊥) where
   over : session_of later.house.live mount ≡ None
   over = live mount ∙ is_over w.house.live mount
 
@@ -93,7 +108,8 @@ module _ (w : World) (s : IsSound w) (him : ℕ) (mount : List ℕ) (feeding : s
   left_over other apart = live other ∙ beside_ended w.house.live mount other apart
 
   -- what is live now was live, at another mount
-  was_live : {A : Type 0} (other : List ℕ) (session : Session) → session_of later.house.live other ≡ Some session → (bytes_eq mount other ≡ false → session_of w.house.live other ≡ Some session → A) → A
+  was_live : {A : Type 0} (other : List ℕ) (session : Session) → session_of later.house.live other ≡ Some session
+      → (bytes_eq mount other ≡ false → session_of w.house.live other ≡ Some session → A) → A
   was_live {A} other session e old =
       by_name mount other
       (λ same. let none : session_of later.house.live other ≡ None = ap (session_of later.house.live) (sym same) ∙ over in cc)
@@ -110,9 +126,10 @@ module _ (w : World) (s : IsSound w) (him : ℕ) (mount : List ℕ) (feeding : s
       let itself : (him == id) ≡ true = grind (arith, nat_tests) in
       cc
 
-  unknown_still : (id : ℕ) → standing_of w id ≡ Unknown → standing_of (silent w mount) id ≡ Unknown
+  unknown_still : (id : ℕ) → standing_of w id ≡ Unknown → standing_of (session_ended w mount) id ≡ Unknown
   unknown_still id e = by_end (silenced w mount id) where
-    by_end : (standing_of (silent w mount) id ≡ standing_of w id) ⊎ Loses (listener_of w.seats id) (standing_of w id) (standing_of (silent w mount) id) mount → standing_of (silent w mount) id ≡ Unknown
+    by_end : (standing_of (session_ended w mount) id ≡ standing_of w id) ⊎ Loses (listener_of w.seats id) (standing_of w id)
+        (standing_of (session_ended w mount) id) mount → standing_of (session_ended w mount) id ≡ Unknown
     by_end (inl same) = same ∙ e
     by_end (inr loses) = let sat : standing_of w id ≡ Sits = loses.sat in cc
 
@@ -127,7 +144,7 @@ module _ (w : World) (s : IsSound w) (him : ℕ) (mount : List ℕ) (feeding : s
         by_number him id
         (λ same. absurd (not_now other (sym t.his ∙ ap (standing_of later) same ∙ e)))
         (λ apart.
-        let before : standing_of w id ≡ Feeds other = feeds_silent w mount id other (sym (t.others id apart) ∙ e) in
+        let before : standing_of w id ≡ Feeds other = feeds_ended w mount id other (sym (t.others id apart) ∙ e) in
         let old = s.feeds id other before in
         by_name mount other (λ same. other_mount id other apart before same) (λ away. (old.0, left_over other away ∙ old.1, old.2)));
     fed = λ other session e.
@@ -140,7 +157,7 @@ module _ (w : World) (s : IsSound w) (him : ℕ) (mount : List ℕ) (feeding : s
         let one : mount ≡ other = cc in
         let there : bytes_eq mount other ≡ true = (bytes_eq-Decides mount other).1 one in
         cc)
-        (λ apart. t.others session.number apart ∙ silent_feeds w mount session.number other was));
+        (λ apart. t.others session.number apart ∙ ended_feeds w mount session.number other was));
     starts = λ other session e. was_live other session e (λ away old. s.starts other session old);
     sitting = λ id seat e.
         let still = still_sits w mount id seat (seats id seat e) in
@@ -154,9 +171,10 @@ module _ (w : World) (s : IsSound w) (him : ℕ) (mount : List ℕ) (feeding : s
         let turned : bytes_eq mount seat.mount ≡ false = bytes_apart seat.mount mount still.elsewhere in
         record { session = old.session; is_live = left_over seat.mount turned ∙ old.is_live; his_session = old.his_session; within = old.within };
   } where
-    sits_still_at : (id : ℕ) (seat : Seat) → StillSits w.seats mount id seat → standing_of w id ≡ Sits → standing_of (silent w mount) id ≡ Sits
+    sits_still_at : (id : ℕ) (seat : Seat) → StillSits w.seats mount id seat → standing_of w id ≡ Sits → standing_of (session_ended w mount) id ≡ Sits
     sits_still_at id seat still sat = by_end (silenced w mount id) where
-      by_end : (standing_of (silent w mount) id ≡ standing_of w id) ⊎ Loses (listener_of w.seats id) (standing_of w id) (standing_of (silent w mount) id) mount → standing_of (silent w mount) id ≡ Sits
+      by_end : (standing_of (session_ended w mount) id ≡ standing_of w id) ⊎ Loses (listener_of w.seats id) (standing_of w id)
+          (standing_of (session_ended w mount) id) mount → standing_of (session_ended w mount) id ≡ Sits
       by_end (inl same) = same ∙ sat
       by_end (inr loses) =
           let both : Some loses.seat ≡ Some seat = sym loses.had_a_seat ∙ still.had_a_seat in
@@ -169,21 +187,24 @@ module _ (w : World) (s : IsSound w) (him : ℕ) (mount : List ℕ) (feeding : s
     bytes_apart a b e = by_name b a (λ same. let there : bytes_eq a b ≡ true = (bytes_eq-Decides a b).1 (sym same) in cc) (λ apart. apart)
 
 module _ (w : World) (s : IsSound w) (him : ℕ) (mount : List ℕ) (feeding : standing_of w him ≡ Feeds mount) where
-  pub turns_ended : Turns (silent w mount) (changed w (End him mount)) him Answered
-  turns_ended = turns_answered (silent w mount) him (λ u. let still : standing_of (silent w mount) him ≡ Feeds mount = silent_feeds w mount him mount feeding in cc)
+  pub turns_ended : Turns (session_ended w mount) (changed w (End him mount)) him Answered
+  turns_ended = turns_answered (session_ended w mount) him (λ u. let still : standing_of (session_ended w mount) him ≡ Feeds mount =
+      ended_feeds w mount him mount feeding in cc)
 
-  pub turns_silent : Turns (silent w mount) (changed w (FallSilent him mount)) him Unknown
-  turns_silent = turns_gone (silent w mount) him
+  pub turns_ended_and_left : Turns (session_ended w mount) (changed w (EndAndLeave him mount)) him Unknown
+  turns_ended_and_left = turns_forgotten (session_ended w mount) him
 
   pub sound_ended : IsSound (changed w (End him mount))
   sound_ended = sound_over w s him mount feeding (changed w (End him mount)) Answered turns_ended (λ other. refl) (λ id seat e. e) refl (λ other f. cc)
 
   -- nobody has a seat but who had one
-  pub seats_left : (id : ℕ) (seat : Seat) → seat_of (changed w (FallSilent him mount)).seats id ≡ Some seat → seat_of (silent w mount).seats id ≡ Some seat
+  pub seats_left : (id : ℕ) (seat : Seat) → seat_of (changed w (EndAndLeave him mount)).seats id ≡ Some seat
+      → seat_of (session_ended w mount).seats id ≡ Some seat
   seats_left id seat e =
       by_number him id
-      (λ same. let none : seat_of (changed w (FallSilent him mount)).seats id ≡ None = ap (seat_of (changed w (FallSilent him mount)).seats) (sym same) ∙ ap seat_in (is_no_listener (silent w mount).seats him) in cc)
-      (λ apart. sym (ap seat_in (beside_left (silent w mount).seats him id apart)) ∙ e)
+      (λ same. let none : seat_of (changed w (EndAndLeave him mount)).seats id ≡ None =
+      ap (seat_of (changed w (EndAndLeave him mount)).seats) (sym same) ∙ ap seat_in (is_no_listener (session_ended w mount).seats him) in cc)
+      (λ apart. sym (ap seat_in (beside_left (session_ended w mount).seats him id apart)) ∙ e)
 
-  pub sound_fallen : IsSound (changed w (FallSilent him mount))
-  sound_fallen = sound_over w s him mount feeding (changed w (FallSilent him mount)) Unknown turns_silent (λ other. refl) seats_left refl (λ other f. cc)
+  pub sound_ended_and_left : IsSound (changed w (EndAndLeave him mount))
+  sound_ended_and_left = sound_over w s him mount feeding (changed w (EndAndLeave him mount)) Unknown turns_ended_and_left (λ other. refl) seats_left refl (λ other f. cc)

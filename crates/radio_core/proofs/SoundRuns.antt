@@ -8,25 +8,25 @@ use Rattle.radio_core.specs.Changes.{changed}
 use Rattle.radio_core.specs.Run.{world_after_all, run_after}
 use Rattle.radio_core.specs.Sound.{IsSound}
 use Rattle.radio_core.specs.Step.{outcome, world_after}
-use Rattle.radio_core.specs.Ways.{Way, Strays, IsTold, IsDenied, IsRefused, ComesIn, Begins, TakesIn, SitsDown, HandsOut, Ends, FallsSilent, Goes}
-use Rattle.radio_core.proofs.Soundness.{sound_answered, sound_gone, sound_admitted, sound_sits}
+use Rattle.radio_core.specs.Ways.{Way, Misplaced, IsFinished, IsDenied, IsRefused, IsAdmitted, Begins, Receives, TakesSeat, HandsOut, Ends, EndsAndLeaves, Leaves}
+use Rattle.radio_core.proofs.Soundness.{sound_answered, sound_forgotten, sound_admitted, sound_sits}
 use Rattle.radio_core.proofs.SoundSessions.{sound_begun, sound_grown, sound_heard}
-use Rattle.radio_core.proofs.SoundEnds.{sound_ended, sound_fallen}
+use Rattle.radio_core.proofs.SoundEnds.{sound_ended, sound_ended_and_left}
 use Rattle.radio_core.proofs.Ways.{way_of}
 
 sound_by : (w : World) → IsSound w → (event : Event) (o : Outcome) → Way w event o → IsSound (changed w o.change)
-sound_by w s event o (Strays _) = s
-sound_by w s event o (IsTold _ id rule his told) = s
+sound_by w s event o (Misplaced _) = s
+sound_by w s event o (IsFinished _ id rule his told) = s
 sound_by w s event o (IsDenied _ rule v other) = s
 sound_by w s event o (IsRefused _ id rule v his undecided) = sound_answered w s id undecided.0 undecided.1
-sound_by w s event o (ComesIn peer) = sound_admitted w s peer
+sound_by w s event o (IsAdmitted peer) = sound_admitted w s peer
 sound_by w s event o (Begins asked undecided none) = sound_begun w s asked.id asked.mount asked.shown undecided.0 undecided.1 none
-sound_by w s event o (TakesIn id mount block feeding) = sound_grown w s mount block id feeding
-sound_by w s event o (SitsDown asked peer session undecided live) = sound_sits w s asked peer session undecided live
+sound_by w s event o (Receives id mount block feeding) = sound_grown w s mount block id feeding
+sound_by w s event o (TakesSeat asked peer session undecided live) = sound_sits w s asked peer session undecided live
 sound_by w s event o (HandsOut id room seat session sits has live) = sound_heard w s id room seat session sits has live
 sound_by w s event o (Ends id mount feeding) = sound_ended w s id mount feeding
-sound_by w s event o (FallsSilent id mount feeding) = sound_fallen w s id mount feeding
-sound_by w s event o (Goes id other) = sound_gone w s id other
+sound_by w s event o (EndsAndLeaves id mount feeding) = sound_ended_and_left w s id mount feeding
+sound_by w s event o (Leaves id other) = sound_forgotten w s id other
 
 pub sound_after : (w : World) → IsSound w → (event : Event) → IsSound (world_after w event)
 unfolding world_after

@@ -9,7 +9,7 @@ use Rattle.radio_policy.specs.declared.rule.Rule.TheVariants.{NotLive}
 use Rattle.radio_addr.specs.declared.peer.Peer.{Peer}
 use Rattle.radio_settings.specs.declared.field.Shown.{Shown}
 use Rattle.radio_tables.specs.KeyLaws.{by_number, by_name}
-use Rattle.radio_core.specs.declared.outcome.Change.TheVariants.{Begin, TakeIn, Hear, End, FallSilent}
+use Rattle.radio_core.specs.declared.outcome.Change.TheVariants.{Begin, Receive, Advance, End, EndAndLeave}
 use Rattle.radio_core.specs.declared.seats.Listener.{Listener}
 use Rattle.radio_core.specs.declared.seats.Seat.{Seat}
 use Rattle.radio_core.specs.declared.seats.Seating.{Seating}
@@ -17,13 +17,13 @@ use Rattle.radio_core.specs.declared.seats.Seating.TheVariants.{Sits as HasSeat,
 use Rattle.radio_core.specs.declared.standing.Standing.{Standing}
 use Rattle.radio_core.specs.declared.standing.Standing.TheVariants.{Unknown, Undecided, Feeds, Sits, Answered, Finished}
 use Rattle.radio_core.specs.World.{World, standing_of}
-use Rattle.radio_core.specs.Changes.{changed, silent}
+use Rattle.radio_core.specs.Changes.{changed, session_ended}
 use Rattle.radio_core.specs.Seats.{listener_of, seat_of, seat_in, seat_held, heard_to}
 use Rattle.radio_core.specs.Sessions.{Session, session_of, opened, longer, fed, without_session}
 use Rattle.radio_core.specs.Sound.{AreRising, IsSeatedIn, IsSound}
 use Rattle.radio_core.specs.Stream.{end_of, data_at}
 use Rattle.radio_core.proofs.Lookups.{beside_moved, beside_left, has_moved, is_no_listener, have_finished, found_named, beside_fed, beside_ended, is_longer, is_over, is_new_session, beside_begun}
-use Rattle.radio_core.proofs.Standings.{Turns, Loses, turns_answered, turns_feeding, turns_gone, listener_seated, stays_hearing, silenced, silent_feeds, feeds_silent}
+use Rattle.radio_core.proofs.Standings.{Turns, Loses, turns_answered, turns_feeding, turns_forgotten, listener_seated, stays_hearing, silenced, ended_feeds, feeds_ended}
 use Rattle.radio_core.proofs.Soundness.{rising_more, sound_turned, seated_still}
 
 -- the names of the mount are the same
@@ -31,7 +31,8 @@ same_names : (mount other : List ℕ) → mount ≡ other → bytes_eq mount oth
 same_names mount other same = (bytes_eq-Decides mount other).1 same
 
 -- a session begins on a mount that was not live
-module _ (w : World) (s : IsSound w) (him : ℕ) (mount : List ℕ) (shown : Shown) (peer : Peer) (stood : standing_of w him ≡ Undecided peer) (not_live : session_of w.house.live mount ≡ None) where
+module _ (w : World) (s : IsSound w) (him : ℕ) (mount : List ℕ) (shown : Shown) (peer : Peer) (stood : standing_of w him ≡ Undecided peer)
+    (not_live : session_of w.house.live mount ≡ None) where
   abbrev after_begin : World
   after_begin = changed w (Begin him mount shown)
 
@@ -48,14 +49,16 @@ module _ (w : World) (s : IsSound w) (him : ℕ) (mount : List ℕ) (shown : Sho
   as_before other apart = beside_begun w.house.live fresh other apart
 
   -- what was live is live as it was
-  pub begun_beside : (other : List ℕ) (session : Session) → session_of w.house.live other ≡ Some session → session_of after_begin.house.live other ≡ Some session
+  pub begun_beside : (other : List ℕ) (session : Session) → session_of w.house.live other ≡ Some session
+      → session_of after_begin.house.live other ≡ Some session
   begun_beside other session e =
       by_name mount other
       (λ same. let none : session_of w.house.live other ≡ None = ap (session_of w.house.live) (sym same) ∙ not_live in cc)
       (λ apart. as_before other apart ∙ e)
 
   -- and what is live now is the new session, or was live
-  pub begun_cases : {A : Type 0} (other : List ℕ) (session : Session) → session_of after_begin.house.live other ≡ Some session → (mount ≡ other → fresh ≡ session → A) → (session_of w.house.live other ≡ Some session → A) → A
+  pub begun_cases : {A : Type 0} (other : List ℕ) (session : Session) → session_of after_begin.house.live other ≡ Some session
+      → (mount ≡ other → fresh ≡ session → A) → (session_of w.house.live other ≡ Some session → A) → A
   begun_cases {A} other session e new old =
       by_name mount other
       (λ same. let found : Some fresh ≡ Some session = sym (new_here other same) ∙ e in let one : fresh ≡ session = cc in new same one)
@@ -79,7 +82,8 @@ module _ (w : World) (s : IsSound w) (him : ℕ) (mount : List ℕ) (shown : Sho
         (λ same one. ap (λ (x : Session). standing_of after_begin x.number) (sym one) ∙ begin_turns.his ∙ ap (λ (m : List ℕ). Feeds m) same)
         (λ old.
         let was = s.fed other session old in
-        by_number him session.number (λ same. let feeds : standing_of w him ≡ Feeds other = ap (standing_of w) same ∙ was in cc) (λ apart. begin_turns.others session.number apart ∙ was));
+        by_number him session.number (λ same. let feeds : standing_of w him ≡ Feeds other = ap (standing_of w) same ∙ was in cc)
+        (λ apart. begin_turns.others session.number apart ∙ was));
     starts = λ other session e.
         begun_cases other session e
         (λ same one. subst (λ (x : Session). AreRising x.stream.starts (end_of x.stream)) one tt)
@@ -95,19 +99,27 @@ module _ (w : World) (s : IsSound w) (him : ℕ) (mount : List ℕ) (shown : Sho
 -- a source delivers a block
 module _ (w : World) (s : IsSound w) (mount block : List ℕ) where
   abbrev after_block : World
-  after_block = changed w (TakeIn mount block)
+  after_block = changed w (Receive mount block)
 
-  pub grown : (other : List ℕ) (session : Session) → session_of w.house.live other ≡ Some session → (now : Session) × (session_of after_block.house.live other ≡ Some now) × (now.number ≡ session.number) × (end_of session.stream ≤ end_of now.stream)
+  pub grown : (other : List ℕ) (session : Session) → session_of w.house.live other ≡ Some session
+      → (now : Session) × (session_of after_block.house.live other ≡ Some now) × (now.number ≡ session.number) × (end_of session.stream ≤ end_of now.stream)
   grown other session e =
       by_name mount other
       (λ same.
       let here : session_of w.house.live mount ≡ Some session = ap (session_of w.house.live) same ∙ e in
-      let longer_here = is_longer w.house.live mount block w.house.time session here in
-      (longer block w.house.time session, ap (session_of after_block.house.live) (sym same) ∙ longer_here, refl, omega (arith, length-append session.stream.bytes block)))
+      let longer_here = is_longer w.house.live mount block w.house.time session here in (
+        longer block w.house.time session,
+        ap (session_of after_block.house.live) (sym same) ∙ longer_here,
+        refl,
+        omega
+            (arith, length-append session.stream.bytes block),
+      ))
       (λ apart. (session, beside_fed w.house.live mount other apart block w.house.time ∙ e, refl, omega arith))
 
   -- what is live now was live, and is as it was or longer by the block
-  pub grown_cases : {A : Type 0} (other : List ℕ) (now : Session) → session_of after_block.house.live other ≡ Some now → ((session : Session) → mount ≡ other → session_of w.house.live mount ≡ Some session → longer block w.house.time session ≡ now → A) → (bytes_eq mount other ≡ false → session_of w.house.live other ≡ Some now → A) → (session_of w.house.live mount ≡ None → A) → A
+  pub grown_cases : {A : Type 0} (other : List ℕ) (now : Session) → session_of after_block.house.live other ≡ Some now
+      → ((session : Session) → mount ≡ other → session_of w.house.live mount ≡ Some session → longer block w.house.time session ≡ now → A)
+      → (bytes_eq mount other ≡ false → session_of w.house.live other ≡ Some now → A) → (session_of w.house.live mount ≡ None → A) → A
   grown_cases {A} other now e new old none =
       by_name mount other here (λ apart. old apart (sym (beside_fed w.house.live mount other apart block w.house.time) ∙ e)) where
         here : mount ≡ other → A
@@ -115,7 +127,8 @@ module _ (w : World) (s : IsSound w) (mount block : List ℕ) where
           by_found : (found : Option Session) → session_of w.house.live mount ≡ found → A
           by_found None missing = none missing
           by_found (Some session) found =
-              let longer_here : session_of after_block.house.live mount ≡ Some (longer block w.house.time session) = is_longer w.house.live mount block w.house.time session found in
+              let longer_here : session_of after_block.house.live mount ≡ Some (longer block w.house.time session) =
+              is_longer w.house.live mount block w.house.time session found in
               let both : Some (longer block w.house.time session) ≡ Some now = sym longer_here ∙ ap (session_of after_block.house.live) same ∙ e in
               let one : longer block w.house.time session ≡ now = cc in
               new session same found one
@@ -131,7 +144,9 @@ module _ (w : World) (s : IsSound w) (mount block : List ℕ) where
         never;
     starts = λ other now e.
         grown_cases other now e
-        (λ session same found one. subst (λ (x : Session). AreRising x.stream.starts (end_of x.stream)) one (rising_more session.stream.starts (end_of session.stream) (end_of (longer block w.house.time session).stream) (omega (arith, length-append session.stream.bytes block)) (s.starts mount session found)))
+        (λ session same found one. subst (λ (x : Session). AreRising x.stream.starts (end_of x.stream)) one
+        (rising_more session.stream.starts (end_of session.stream) (end_of (longer block w.house.time session).stream)
+        (omega (arith, length-append session.stream.bytes block)) (s.starts mount session found)))
         (λ apart found. s.starts other now found)
         never;
     sitting = λ id seat e. s.sitting id seat e;
@@ -144,12 +159,13 @@ module _ (w : World) (s : IsSound w) (mount block : List ℕ) where
     never {A} none = let ours = s.feeds him mount feeding in let found : session_of w.house.live mount ≡ Some ours.0 = ours.1 in cc
 
 -- a listener hears on
-module _ (w : World) (s : IsSound w) (him room : ℕ) (seat : Seat) (session : Session) (sits : standing_of w him ≡ Sits) (has : seat_of w.seats him ≡ Some seat) (live : session_of w.house.live seat.mount ≡ Some session) where
+module _ (w : World) (s : IsSound w) (him room : ℕ) (seat : Seat) (session : Session) (sits : standing_of w him ≡ Sits)
+    (has : seat_of w.seats him ≡ Some seat) (live : session_of w.house.live seat.mount ≡ Some session) where
   abbrev behind : ℕ
   behind = seat.place + length (data_at session.stream seat.place room)
 
   abbrev after_draw : World
-  after_draw = changed w (Hear him behind)
+  after_draw = changed w (Advance him behind)
 
   moved : Seat → Seat
   moved old = record old { place = behind }
@@ -163,11 +179,13 @@ module _ (w : World) (s : IsSound w) (him room : ℕ) (seat : Seat) (session : S
       omega (arith, length-take room (drop seat.place session.stream.bytes), length-drop seat.place session.stream.bytes, low)
 
   -- his seat is the same, further on
-  pub has_moved_on : seat_of after_draw.seats him ≡ Some (record seat { place = behind })
-  has_moved_on =
+  pub has_advanced : seat_of after_draw.seats him ≡ Some (record seat { place = behind })
+  has_advanced =
       let listener = listener_seated w.seats him seat has in
       ap seat_in (has_moved w.seats him behind listener.0 listener.1) ∙ held listener.0.seating listener.2 where
-        held : (seating : Seating) → seat_held seating ≡ Some seat → seat_held (heard_to (seat.place + length (data_at session.stream seat.place room)) seating) ≡ Some (record seat { place = seat.place + length (data_at session.stream seat.place room) })
+        held : (seating : Seating) → seat_held seating ≡ Some seat
+            → seat_held (heard_to (seat.place + length (data_at session.stream seat.place room)) seating) ≡ Some
+            (record seat { place = seat.place + length (data_at session.stream seat.place room) })
         held (HasSeat old) e = let same : old ≡ seat = cc in ap (λ (x : Seat). Some (record x { place = behind })) same
         held (HasFinished rule) e = cc
 
@@ -200,7 +218,7 @@ module _ (w : World) (s : IsSound w) (him room : ℕ) (seat : Seat) (session : S
         seated id other e =
             by_number him id
             (λ same.
-            let found : Some (record seat { place = behind }) ≡ Some other = sym has_moved_on ∙ ap (seat_of after_draw.seats) same ∙ e in
+            let found : Some (record seat { place = behind }) ≡ Some other = sym has_advanced ∙ ap (seat_of after_draw.seats) same ∙ e in
             let one : record seat { place = behind } ≡ other = cc in
             subst (λ (x : Seat). IsSeatedIn after_draw x) one his_own)
             (λ apart. seated_still w s after_draw (λ mount. refl) other (s.seated id other (sym (others_seats id apart) ∙ e)))

@@ -15,7 +15,7 @@ use Rattle.radio_tables.specs.FindLaws.{found_has}
 use Rattle.radio_tables.specs.KeyLaws.{by_number, by_name}
 use Rattle.radio_core.specs.declared.event.Event.{Event}
 use Rattle.radio_core.specs.declared.event.ListenRequest.{ListenRequest}
-use Rattle.radio_core.specs.declared.outcome.Change.TheVariants.{Answer, Admit, Begin, TakeIn, SitDown, Hear, End, FallSilent, Go}
+use Rattle.radio_core.specs.declared.outcome.Change.TheVariants.{Answer, Admit, Begin, Receive, TakeSeat, Advance, End, EndAndLeave, Forget}
 use Rattle.radio_core.specs.declared.outcome.Outcome.{Outcome}
 use Rattle.radio_core.specs.declared.seats.Listener.{Listener}
 use Rattle.radio_core.specs.declared.seats.Seat.{Seat}
@@ -24,7 +24,7 @@ use Rattle.radio_core.specs.declared.seats.Seating.TheVariants.{Sits as HasSeat,
 use Rattle.radio_core.specs.declared.standing.Standing.{Standing}
 use Rattle.radio_core.specs.declared.standing.Standing.TheVariants.{Unknown, Undecided, Feeds, Sits, Answered, Finished}
 use Rattle.radio_core.specs.World.{World, opening, standing_of}
-use Rattle.radio_core.specs.Changes.{changed, silent}
+use Rattle.radio_core.specs.Changes.{changed, session_ended}
 use Rattle.radio_core.specs.Listen.{first_seat, burst_of}
 use Rattle.radio_core.specs.Seats.{listener_of, seat_of, seat_in, seat_held, ended_at, finished_from, finished_at, without_listener}
 use Rattle.radio_core.specs.Sessions.{Session, session_of, opened, longer, fed, without_session}
@@ -32,9 +32,9 @@ use Rattle.radio_core.specs.Sound.{AreRising, IsSeatedIn, IsSound}
 use Rattle.radio_core.specs.Step.{outcome, world_after}
 use Rattle.radio_core.specs.Run.{world_after_all, run_after}
 use Rattle.radio_core.specs.Stream.{end_of, burst_start, data_at}
-use Rattle.radio_core.specs.Ways.{Way, Strays, IsTold, IsDenied, IsRefused, ComesIn, Begins, TakesIn, SitsDown, HandsOut, Ends, FallsSilent, Goes}
+use Rattle.radio_core.specs.Ways.{Way, Misplaced, IsFinished, IsDenied, IsRefused, IsAdmitted, Begins, Receives, TakesSeat, HandsOut, Ends, EndsAndLeaves, Leaves}
 use Rattle.radio_core.proofs.Lookups.{beside_moved, beside_left, beside_seated, has_moved, is_no_listener, has_sat_down, have_finished, found_named, beside_fed, beside_ended, is_longer, is_over, is_new_session, beside_begun}
-use Rattle.radio_core.proofs.Standings.{Turns, Loses, turns_answered, turns_feeding, turns_sitting, turns_gone, turns_admitted, listener_seated, stays_hearing, silenced, silent_feeds, feeds_silent}
+use Rattle.radio_core.proofs.Standings.{Turns, Loses, turns_answered, turns_feeding, turns_sitting, turns_forgotten, turns_admitted, listener_seated, stays_hearing, silenced, ended_feeds, feeds_ended}
 use Rattle.radio_core.proofs.Ways.{way_of}
 
 -- block starts rise still, one more at the end or a longer end
@@ -55,28 +55,43 @@ all_within : (starts : List ℕ) (last : ℕ) → AreRising starts last → Each
 all_within [] last r = tt
 all_within (place ∷ places) last r = (r.0, all_within places last r.2)
 
-pub burst_within : (session : Session) (burst : ℕ) → AreRising session.stream.starts (end_of session.stream) → burst_start session.stream burst ≤ end_of session.stream
+pub burst_within : (session : Session) (burst : ℕ) → AreRising session.stream.starts (end_of session.stream)
+    → burst_start session.stream burst ≤ end_of session.stream
 burst_within session burst r = by_found (find first session.stream.starts) refl where
   first : ℕ → Bool
   first start = nat_le (end_of session.stream - start) burst
 
   by_found : (found : Option ℕ) → find first session.stream.starts ≡ found → unwrap_or found (end_of session.stream) ≤ end_of session.stream
   by_found None e = omega arith
-  by_found (Some start) e = found_has first (λ place. place ≤ end_of session.stream) session.stream.starts start (all_within session.stream.starts (end_of session.stream) r) e
+  by_found (Some start) e = found_has first (λ place. place ≤ end_of session.stream) session.stream.starts start
+      (all_within session.stream.starts (end_of session.stream) r) e
 
 module _ (w : World) (s : IsSound w) where
   -- who is seated is seated still, where sessions are as they were
-  pub seated_still : (later : World) → ((mount : List ℕ) → session_of later.house.live mount ≡ session_of w.house.live mount) → (seat : Seat) → IsSeatedIn w seat → IsSeatedIn later seat
-  seated_still later sessions seat old = record { session = old.session; is_live = sessions seat.mount ∙ old.is_live; his_session = old.his_session; within = old.within }
+  pub seated_still : (later : World) → ((mount : List ℕ) → session_of later.house.live mount ≡ session_of w.house.live mount) → (seat : Seat)
+      → IsSeatedIn w seat → IsSeatedIn later seat
+  seated_still later sessions seat old = record {
+    session = old.session;
+    is_live = sessions seat.mount ∙ old.is_live;
+    his_session = old.his_session;
+    within =
+        old.within;
+  }
 
   -- and sits still, where seats are as they were, and another turns who had none
-  pub sits_still : (later : World) (him : ℕ) (now : Standing) → Turns w later him now → ((id : ℕ) → seat_of later.seats id ≡ seat_of w.seats id) → (standing_of w him ≡ Sits → ⊥) → (id : ℕ) (seat : Seat) → seat_of later.seats id ≡ Some seat → standing_of later id ≡ Sits
+  pub sits_still : (later : World) (him : ℕ) (now : Standing) → Turns w later him now → ((id : ℕ) → seat_of later.seats id ≡ seat_of w.seats id)
+      → (standing_of w him ≡ Sits → ⊥) → (id : ℕ) (seat : Seat) → seat_of later.seats id ≡ Some seat → standing_of later id ≡ Sits
   sits_still later him now t seats not id seat e =
       let sat : standing_of w id ≡ Sits = s.sitting id seat (sym (seats id) ∙ e) in
       by_number him id (λ same. absurd (not (ap (standing_of w) same ∙ sat))) (λ other. t.others id other ∙ sat)
 
   -- one client turns to something else, and neither fed a mount nor does now
-  module _ (later : World) (him : ℕ) (now : Standing) (t : Turns w later him now) (sessions : (mount : List ℕ) → session_of later.house.live mount ≡ session_of w.house.live mount) (sitting : (id : ℕ) (seat : Seat) → seat_of later.seats id ≡ Some seat → standing_of later id ≡ Sits) (seated : (id : ℕ) (seat : Seat) → seat_of later.seats id ≡ Some seat → IsSeatedIn later seat) (last : w.house.last_id ≤ later.house.last_id) (above : later.house.last_id < him → now ≡ Unknown) (not_before : (mount : List ℕ) → standing_of w him ≡ Feeds mount → ⊥) (not_now : (mount : List ℕ) → now ≡ Feeds mount → ⊥) where
+  module _ (later : World) (him : ℕ) (now : Standing) (t : Turns w later him now)
+      (sessions : (mount : List ℕ) → session_of later.house.live mount ≡ session_of w.house.live mount)
+      (sitting : (id : ℕ) (seat : Seat) → seat_of later.seats id ≡ Some seat → standing_of later id ≡ Sits)
+      (seated : (id : ℕ) (seat : Seat) → seat_of later.seats id ≡ Some seat → IsSeatedIn later seat) (last : w.house.last_id ≤ later.house.last_id)
+      (above : later.house.last_id < him → now ≡ Unknown) (not_before : (mount : List ℕ) → standing_of w him ≡ Feeds mount → ⊥)
+      (not_now : (mount : List ℕ) → now ≡ Feeds mount → ⊥) where
     pub sound_turned : IsSound later
     sound_turned = record {
       numbered = λ id h.
@@ -107,21 +122,23 @@ module _ (w : World) (s : IsSound w) where
       (λ him seat h. seated_still (changed w (Answer id)) (λ mount. refl) seat (s.seated him seat h))
       (omega arith) (λ high. known_low id (Undecided peer) e (λ u. cc) high) (λ mount f. cc) (λ mount f. cc)
 
-  pub sound_gone : (id : ℕ) → ((mount : List ℕ) → standing_of w id ≡ Feeds mount → ⊥) → IsSound (changed w (Go id))
-  sound_gone id not_feeding =
-      sound_turned (changed w (Go id)) id Unknown (turns_gone w id) (λ mount. refl) sitting seated
+  pub sound_forgotten : (id : ℕ) → ((mount : List ℕ) → standing_of w id ≡ Feeds mount → ⊥) → IsSound (changed w (Forget id))
+  sound_forgotten id not_feeding =
+      sound_turned (changed w (Forget id)) id Unknown (turns_forgotten w id) (λ mount. refl) sitting seated
       (omega arith) (λ high. refl) not_feeding (λ mount f. cc) where
-        sitting : (him : ℕ) (seat : Seat) → seat_of (without_listener w.seats id) him ≡ Some seat → standing_of (changed w (Go id)) him ≡ Sits
+        sitting : (him : ℕ) (seat : Seat) → seat_of (without_listener w.seats id) him ≡ Some seat → standing_of (changed w (Forget id)) him ≡ Sits
         sitting him seat h =
             by_number id him
-            (λ same. let none : seat_of (without_listener w.seats id) him ≡ None = ap (seat_of (without_listener w.seats id)) (sym same) ∙ ap seat_in (is_no_listener w.seats id) in cc)
-            (λ other. (turns_gone w id).others him other ∙ s.sitting him seat (sym (ap seat_in (beside_left w.seats id him other)) ∙ h))
+            (λ same. let none : seat_of (without_listener w.seats id) him ≡ None =
+            ap (seat_of (without_listener w.seats id)) (sym same) ∙ ap seat_in (is_no_listener w.seats id) in cc)
+            (λ other. (turns_forgotten w id).others him other ∙ s.sitting him seat (sym (ap seat_in (beside_left w.seats id him other)) ∙ h))
 
-        seated : (him : ℕ) (seat : Seat) → seat_of (without_listener w.seats id) him ≡ Some seat → IsSeatedIn (changed w (Go id)) seat
+        seated : (him : ℕ) (seat : Seat) → seat_of (without_listener w.seats id) him ≡ Some seat → IsSeatedIn (changed w (Forget id)) seat
         seated him seat h =
             by_number id him
-            (λ same. let none : seat_of (without_listener w.seats id) him ≡ None = ap (seat_of (without_listener w.seats id)) (sym same) ∙ ap seat_in (is_no_listener w.seats id) in cc)
-            (λ other. seated_still (changed w (Go id)) (λ mount. refl) seat (s.seated him seat (sym (ap seat_in (beside_left w.seats id him other)) ∙ h)))
+            (λ same. let none : seat_of (without_listener w.seats id) him ≡ None =
+            ap (seat_of (without_listener w.seats id)) (sym same) ∙ ap seat_in (is_no_listener w.seats id) in cc)
+            (λ other. seated_still (changed w (Forget id)) (λ mount. refl) seat (s.seated him seat (sym (ap seat_in (beside_left w.seats id him other)) ∙ h)))
 
   -- of a newcomer nothing was known
   pub sound_admitted : (peer : Peer) → IsSound (changed w (Admit (w.house.last_id + 1) peer))
@@ -135,12 +152,13 @@ module _ (w : World) (s : IsSound w) where
       (omega arith) (λ high. absurd (omega arith)) (λ mount f. cc) (λ mount f. cc)
 
   -- a listener sits down
-  module _ (asked : ListenRequest) (peer : Peer) (session : Session) (e : standing_of w asked.id ≡ Undecided peer) (live : session_of w.house.live asked.mount ≡ Some session) where
+  module _ (asked : ListenRequest) (peer : Peer) (session : Session) (e : standing_of w asked.id ≡ Undecided peer)
+      (live : session_of w.house.live asked.mount ≡ Some session) where
     abbrev pub new_seat : Seat
     new_seat = first_seat w.house asked peer session
 
     abbrev pub after_seat : World
-    after_seat = changed w (SitDown asked.id new_seat)
+    after_seat = changed w (TakeSeat asked.id new_seat)
 
     pub turns_seated : Turns w after_seat asked.id Sits
     turns_seated = turns_sitting w asked.id new_seat (λ u. cc)

@@ -12,18 +12,18 @@ use Rattle.radio_tables.specs.KeyLaws.{by_number}
 use Rattle.radio_core.specs.declared.clients.Client.{Client}
 use Rattle.radio_core.specs.declared.clients.ClientState.{ClientState}
 use Rattle.radio_core.specs.declared.clients.ClientState.TheVariants.{Undecided, Feeds, Listens, Answered, Ended}
-use Rattle.radio_core.specs.declared.outcome.Change.TheVariants.{Answer, Admit, Begin, TakeIn, SitDown, Hear, Go}
+use Rattle.radio_core.specs.declared.outcome.Change.TheVariants.{Answer, Admit, Begin, Receive, TakeSeat, Advance, Forget}
 use Rattle.radio_core.specs.declared.seats.Listener.{Listener}
 use Rattle.radio_core.specs.declared.seats.Seat.{Seat}
 use Rattle.radio_core.specs.declared.seats.Seating.{Seating}
 use Rattle.radio_core.specs.declared.seats.Seating.TheVariants.{Sits as HasSeat, Finished as HasFinished}
 use Rattle.radio_core.specs.declared.standing.Standing.{Standing}
 use Rattle.radio_core.specs.declared.standing.Standing.TheVariants.{Unknown, Undecided as IsUndecided, Feeds as IsFeeding, Sits, Answered as IsAnswered, Finished}
-use Rattle.radio_core.specs.Clients.{client_of, in_state, doing}
-use Rattle.radio_core.specs.Seats.{listener_of, seat_of, seat_held, seat_in, ended_at, finished_from, moved_on, heard_to}
+use Rattle.radio_core.specs.Clients.{client_of, in_state, with_state}
+use Rattle.radio_core.specs.Seats.{listener_of, seat_of, seat_held, seat_in, ended_at, finished_from, advanced, heard_to}
 use Rattle.radio_core.specs.World.{World, standing_of, standing_in, standing_by, standing_seated, standing_of_listener}
-use Rattle.radio_core.specs.Changes.{changed, silent}
-use Rattle.radio_core.proofs.Lookups.{beside_doing, beside_gone, does, is_no_client, is_new_client, beside_new, beside_moved, beside_left, beside_seated, has_moved, is_no_listener, has_sat_down, have_finished}
+use Rattle.radio_core.specs.Changes.{changed, session_ended}
+use Rattle.radio_core.proofs.Lookups.{beside_state, beside_forgotten, does, is_no_client, is_new_client, beside_new, beside_moved, beside_left, beside_seated, has_moved, is_no_listener, has_sat_down, have_finished}
 
 -- one client stands so from now on, and the others as before
 pub record Turns (w later : World) (him : ℕ) (now : Standing) : Type 0 where
@@ -41,38 +41,49 @@ kept_of w id known = by_found (client_of w.house.clients id) refl where
   by_found (Some client) e = (client, e)
 
 -- one client is kept so from now on
-module _ (w later : World) (him : ℕ) (client : Option Client) (listener : Option Listener) (his_client : client_of later.house.clients him ≡ client) (his_seat : listener_of later.seats him ≡ listener) (clients : (id : ℕ) → (him == id) ≡ false → client_of later.house.clients id ≡ client_of w.house.clients id) (seats : (id : ℕ) → (him == id) ≡ false → listener_of later.seats id ≡ listener_of w.seats id) where
+module _ (w later : World) (him : ℕ) (client : Option Client) (listener : Option Listener) (his_client : client_of later.house.clients him ≡ client)
+    (his_seat : listener_of later.seats him ≡ listener) (clients : (id : ℕ) → (him == id) ≡ false
+    → client_of later.house.clients id ≡ client_of w.house.clients id)
+    (seats : (id : ℕ) → (him == id) ≡ false → listener_of later.seats id ≡ listener_of w.seats id) where
   turns : Turns w later him (standing_in listener client)
   turns = record {
     his = ap (λ l. standing_in l (client_of later.house.clients him)) his_seat ∙ ap (standing_in listener) his_client;
-    others = λ id other. ap (λ l. standing_in l (client_of later.house.clients id)) (seats id other) ∙ ap (standing_in (listener_of w.seats id)) (clients id other);
+    others = λ id other. ap (λ l. standing_in l (client_of later.house.clients id)) (seats id other) ∙ ap (standing_in (listener_of w.seats id))
+        (clients id other);
   }
 
 module _ (w : World) (id : ℕ) where
   -- who does something else, and is there
   module _ (state : ClientState) (known : standing_of w id ≡ Unknown → ⊥) where
-    turns_doing : (later : World) (listener : Option Listener) → later.house.clients ≡ in_state w.house.clients id state → listener_of later.seats id ≡ listener → ((him : ℕ) → (id == him) ≡ false → listener_of later.seats him ≡ listener_of w.seats him)
+    turns_state : (later : World) (listener : Option Listener) → later.house.clients ≡ in_state w.house.clients id state
+        → listener_of later.seats id ≡ listener → ((him : ℕ) → (id == him) ≡ false → listener_of later.seats him ≡ listener_of w.seats him)
         → (client : Client) × Turns w later id (standing_by listener client.peer state)
-    turns_doing later listener e his others =
+    turns_state later listener e his others =
         let found = kept_of w id known in
-        let is_so : client_of later.house.clients id ≡ Some (doing state found.0) = ap (λ cs. client_of cs id) e ∙ does w.house.clients id state found.0 found.1 in
-        (found.0, turns w later id (Some (doing state found.0)) listener is_so his (λ him other. ap (λ cs. client_of cs him) e ∙ beside_doing w.house.clients id him other state) others)
+        let is_so : client_of later.house.clients id ≡ Some (with_state state found.0) =
+        ap (λ cs. client_of cs id) e ∙ does w.house.clients id state found.0 found.1 in (
+          found.0,
+          turns w later id (Some (with_state state found.0)) listener is_so his
+              (λ him other. ap (λ cs. client_of cs him) e ∙ beside_state w.house.clients id him other state) others,
+        )
 
   pub turns_answered : (standing_of w id ≡ Unknown → ⊥) → Turns w (changed w (Answer id)) id IsAnswered
-  turns_answered known = (turns_doing Answered known (changed w (Answer id)) (listener_of w.seats id) refl refl (λ him other. refl)).1
+  turns_answered known = (turns_state Answered known (changed w (Answer id)) (listener_of w.seats id) refl refl (λ him other. refl)).1
 
   pub turns_feeding : (mount : List ℕ) (shown : Shown) → (standing_of w id ≡ Unknown → ⊥) → Turns w (changed w (Begin id mount shown)) id (IsFeeding mount)
-  turns_feeding mount shown known = (turns_doing (Feeds mount) known (changed w (Begin id mount shown)) (listener_of w.seats id) refl refl (λ him other. refl)).1
+  turns_feeding mount shown known =
+      (turns_state (Feeds mount) known (changed w (Begin id mount shown)) (listener_of w.seats id) refl refl (λ him other. refl)).1
 
-  pub turns_sitting : (seat : Seat) → (standing_of w id ≡ Unknown → ⊥) → Turns w (changed w (SitDown id seat)) id Sits
+  pub turns_sitting : (seat : Seat) → (standing_of w id ≡ Unknown → ⊥) → Turns w (changed w (TakeSeat id seat)) id Sits
   turns_sitting seat known =
       let itself : (id == id) ≡ true = grind (arith, nat_tests) in
-      (turns_doing Listens known (changed w (SitDown id seat)) (Some (record { id = id; seating = HasSeat seat })) refl (has_sat_down w.seats id seat itself) (λ him other. beside_seated w.seats id him other seat)).1
+      (turns_state Listens known (changed w (TakeSeat id seat)) (Some (record { id = id; seating = HasSeat seat })) refl
+      (has_sat_down w.seats id seat itself) (λ him other. beside_seated w.seats id him other seat)).1
 
-  pub turns_gone : Turns w (changed w (Go id)) id Unknown
-  turns_gone =
-      turns w (changed w (Go id)) id None None (is_no_client w.house.clients id) (is_no_listener w.seats id)
-      (λ him other. beside_gone w.house.clients id him other) (λ him other. beside_left w.seats id him other)
+  pub turns_forgotten : Turns w (changed w (Forget id)) id Unknown
+  turns_forgotten =
+      turns w (changed w (Forget id)) id None None (is_no_client w.house.clients id) (is_no_listener w.seats id)
+      (λ him other. beside_forgotten w.house.clients id him other) (λ him other. beside_left w.seats id him other)
 
   pub turns_admitted : (peer : Peer) → Turns w (changed w (Admit id peer)) id (IsUndecided peer)
   turns_admitted peer =
@@ -86,36 +97,41 @@ heard_on : (place : ℕ) (seating : Seating) → standing_seated (heard_to place
 heard_on place (HasSeat seat) = refl
 heard_on place (HasFinished rule) = refl
 
-heard_by : (place : ℕ) (listener : Listener) (peer : Peer) (state : ClientState) → standing_by (Some (moved_on place listener)) peer state ≡ standing_by (Some listener) peer state
+heard_by : (place : ℕ) (listener : Listener) (peer : Peer) (state : ClientState)
+    → standing_by (Some (advanced place listener)) peer state ≡ standing_by (Some listener) peer state
 heard_by place listener peer Undecided = refl
 heard_by place listener peer (Feeds mount) = refl
 heard_by place listener peer Listens = heard_on place listener.seating
 heard_by place listener peer Answered = refl
 heard_by place listener peer (Ended rule) = refl
 
-heard_in : (place : ℕ) (listener : Listener) (client : Option Client) → standing_in (Some (moved_on place listener)) client ≡ standing_in (Some listener) client
+heard_in : (place : ℕ) (listener : Listener) (client : Option Client)
+    → standing_in (Some (advanced place listener)) client ≡ standing_in (Some listener) client
 heard_in place listener None = refl
 heard_in place listener (Some client) = heard_by place listener client.peer client.state
 
 -- who has a seat is one of the listeners
-pub listener_seated : (seats : List Listener) (id : ℕ) (seat : Seat) → seat_of seats id ≡ Some seat → (listener : Listener) × (listener_of seats id ≡ Some listener) × (seat_held listener.seating ≡ Some seat)
+pub listener_seated : (seats : List Listener) (id : ℕ) (seat : Seat) → seat_of seats id ≡ Some seat
+    → (listener : Listener) × (listener_of seats id ≡ Some listener) × (seat_held listener.seating ≡ Some seat)
 listener_seated seats id seat e = by_found (listener_of seats id) refl where
-  by_found : (found : Option Listener) → listener_of seats id ≡ found → (listener : Listener) × (listener_of seats id ≡ Some listener) × (seat_held listener.seating ≡ Some seat)
+  by_found : (found : Option Listener) → listener_of seats id ≡ found
+      → (listener : Listener) × (listener_of seats id ≡ Some listener) × (seat_held listener.seating ≡ Some seat)
   by_found None none = let is_none : seat_of seats id ≡ None = ap seat_in none in cc
   by_found (Some listener) found = (listener, found, sym (ap seat_in found) ∙ e)
 
-pub stays_hearing : (w : World) (him place : ℕ) (listener : Listener) → listener_of w.seats him ≡ Some listener → (id : ℕ) → standing_of (changed w (Hear him place)) id ≡ standing_of w id
+pub stays_hearing : (w : World) (him place : ℕ) (listener : Listener) → listener_of w.seats him ≡ Some listener → (id : ℕ)
+    → standing_of (changed w (Advance him place)) id ≡ standing_of w id
 stays_hearing w him place listener found id = by_number him id his others where
-  his : him ≡ id → standing_of (changed w (Hear him place)) id ≡ standing_of w id
+  his : him ≡ id → standing_of (changed w (Advance him place)) id ≡ standing_of w id
   his same =
       let client = client_of w.house.clients id in
-      ap (λ n. standing_in (listener_of (changed w (Hear him place)).seats n) client) (sym same)
+      ap (λ n. standing_in (listener_of (changed w (Advance him place)).seats n) client) (sym same)
       ∙ ap (λ l. standing_in l client) (has_moved w.seats him place listener found)
       ∙ heard_in place listener client
       ∙ ap (λ l. standing_in l client) (sym found)
       ∙ ap (λ n. standing_in (listener_of w.seats n) client) same
 
-  others : (him == id) ≡ false → standing_of (changed w (Hear him place)) id ≡ standing_of w id
+  others : (him == id) ≡ false → standing_of (changed w (Advance him place)) id ≡ standing_of w id
   others other = ap (λ l. standing_in l (client_of w.house.clients id)) (beside_moved w.seats him id other place)
 
 -- the end of a session leaves everybody as he stands, but those who sit at its mount, who finish
@@ -128,12 +144,15 @@ pub record Loses (seats : Option Listener) (standing later : Standing) (mount : 
 
 module _ (mount : List ℕ) where
   abbrev Silenced : Option Listener → (Option Listener → Standing) → Type 0
-  Silenced listener stands = (stands (option_map (finished_from mount NotLive) listener) ≡ stands listener) ⊎ Loses listener (stands listener) (stands (option_map (finished_from mount NotLive) listener)) mount
+  Silenced listener stands = (stands (option_map (finished_from mount NotLive) listener) ≡ stands listener) ⊎ Loses listener (stands listener)
+      (stands (option_map (finished_from mount NotLive) listener)) mount
 
   abbrev after_ending : Option Listener → Standing
   after_ending listener = standing_of_listener (option_map (finished_from mount NotLive) listener)
 
-  silenced_at : (id : ℕ) (seat : Seat) (b : _) → bytes_eq seat.mount mount ≡ b → (standing_seated (if b then HasFinished NotLive else HasSeat seat) ≡ Sits) ⊎ (standing_seated (if b then HasFinished NotLive else HasSeat seat) ≡ Finished NotLive) × (b ≡ true)
+  silenced_at : (id : ℕ) (seat : Seat) (b : _) → bytes_eq seat.mount mount ≡ b
+      → (standing_seated (if b then HasFinished NotLive else HasSeat seat) ≡ Sits) ⊎
+      (standing_seated (if b then HasFinished NotLive else HasSeat seat) ≡ Finished NotLive) × (b ≡ true)
   silenced_at id seat true e = inr (refl, refl)
   silenced_at id seat false e = inl refl
 
@@ -142,7 +161,9 @@ module _ (mount : List ℕ) where
     sitting : Option Listener
     sitting = Some (record { id = id; seating = HasSeat seat })
 
-    by_end : (standing_seated (ended_at mount NotLive (HasSeat seat)) ≡ Sits) ⊎ (standing_seated (ended_at mount NotLive (HasSeat seat)) ≡ Finished NotLive) × (bytes_eq seat.mount mount ≡ true) → Silenced (Some (record { id = id; seating = HasSeat seat })) standing_of_listener
+    by_end : (standing_seated (ended_at mount NotLive (HasSeat seat)) ≡ Sits) ⊎
+        (standing_seated (ended_at mount NotLive (HasSeat seat)) ≡ Finished NotLive) × (bytes_eq seat.mount mount ≡ true)
+        → Silenced (Some (record { id = id; seating = HasSeat seat })) standing_of_listener
     by_end (inl e) = inl e
     by_end (inr e) = inr (record { seat = seat; had_a_seat = refl; there = e.1; sat = refl; finished = e.0 })
 
@@ -165,21 +186,26 @@ module _ (mount : List ℕ) where
   silenced_in listener None = inl refl
   silenced_in listener (Some client) = silenced_by listener client.peer client.state
 
-pub silenced : (w : World) (mount : List ℕ) (id : ℕ) → (standing_of (silent w mount) id ≡ standing_of w id) ⊎ Loses (listener_of w.seats id) (standing_of w id) (standing_of (silent w mount) id) mount
+pub silenced : (w : World) (mount : List ℕ) (id : ℕ) → (standing_of (session_ended w mount) id ≡ standing_of w id) ⊎ Loses (listener_of w.seats id)
+    (standing_of w id) (standing_of (session_ended w mount) id) mount
 silenced w mount id =
     let client = client_of w.house.clients id in
     let seats = have_finished w.seats mount NotLive id in
     rw seats (silenced_in mount (listener_of w.seats id) client)
 
 -- so a source still feeds, and whoever feeds did
-pub silent_feeds : (w : World) (mount : List ℕ) (id : ℕ) (other : List ℕ) → standing_of w id ≡ IsFeeding other → standing_of (silent w mount) id ≡ IsFeeding other
-silent_feeds w mount id other e = by_end (silenced w mount id) where
-  by_end : (standing_of (silent w mount) id ≡ standing_of w id) ⊎ Loses (listener_of w.seats id) (standing_of w id) (standing_of (silent w mount) id) mount → standing_of (silent w mount) id ≡ IsFeeding other
+pub ended_feeds : (w : World) (mount : List ℕ) (id : ℕ) (other : List ℕ) → standing_of w id ≡ IsFeeding other
+    → standing_of (session_ended w mount) id ≡ IsFeeding other
+ended_feeds w mount id other e = by_end (silenced w mount id) where
+  by_end : (standing_of (session_ended w mount) id ≡ standing_of w id) ⊎ Loses (listener_of w.seats id) (standing_of w id)
+      (standing_of (session_ended w mount) id) mount → standing_of (session_ended w mount) id ≡ IsFeeding other
   by_end (inl same) = same ∙ e
   by_end (inr loses) = let sat : standing_of w id ≡ Sits = loses.sat in cc
 
-pub feeds_silent : (w : World) (mount : List ℕ) (id : ℕ) (other : List ℕ) → standing_of (silent w mount) id ≡ IsFeeding other → standing_of w id ≡ IsFeeding other
-feeds_silent w mount id other e = by_end (silenced w mount id) where
-  by_end : (standing_of (silent w mount) id ≡ standing_of w id) ⊎ Loses (listener_of w.seats id) (standing_of w id) (standing_of (silent w mount) id) mount → standing_of w id ≡ IsFeeding other
+pub feeds_ended : (w : World) (mount : List ℕ) (id : ℕ) (other : List ℕ) → standing_of (session_ended w mount) id ≡ IsFeeding other
+    → standing_of w id ≡ IsFeeding other
+feeds_ended w mount id other e = by_end (silenced w mount id) where
+  by_end : (standing_of (session_ended w mount) id ≡ standing_of w id) ⊎ Loses (listener_of w.seats id) (standing_of w id)
+      (standing_of (session_ended w mount) id) mount → standing_of w id ≡ IsFeeding other
   by_end (inl same) = sym same ∙ e
-  by_end (inr loses) = let finished : standing_of (silent w mount) id ≡ Finished NotLive = loses.finished in cc
+  by_end (inr loses) = let finished : standing_of (session_ended w mount) id ≡ Finished NotLive = loses.finished in cc

@@ -58,13 +58,16 @@ module _ (now later : World) (event : Event) (o : Outcome) (is_outcome : o ≡ o
     refl,
   )
 
-  pub step_done : {E : Type 0} (result : Result Reply E) → OnOk result (later ≡ changed now o.change) → IfOk result (λ reply. reply ≡ o.reply) → (w : World) → Represents now w → IfOk result (λ reply. (w' : World) × Step w event reply w' × Represents later w')
+  pub step_done : {E : Type 0} (result : Result Reply E) → OnOk result (later ≡ changed now o.change) → IfOk result (λ reply. reply ≡ o.reply)
+      → (w : World) → Represents now w → IfOk result (λ reply. (w' : World) × Step w event reply w' × Represents later w')
   step_done (Ok reply) ok told w stands =
       let s = steps_to ok w stands in
       (s.0, (told ∙ s.1.0, s.1.1), s.2)
   step_done (Err refused) ok told w stands = tt
 
-  pub steps_done : {E : Type 0} (result : Result (List Reply) E) → OnOk result (later ≡ changed now o.change) → IfOk result (λ replies. replies ≡ o.reply ∷ o.reply ∷ o.reply ∷ []) → (w : World) → Represents now w → IfOk result (λ replies. (reply : Reply) × (w' : World) × Step w event reply w' × (replies ≡ reply ∷ reply ∷ reply ∷ []) × Represents later w')
+  pub steps_done : {E : Type 0} (result : Result (List Reply) E) → OnOk result (later ≡ changed now o.change)
+      → IfOk result (λ replies. replies ≡ o.reply ∷ o.reply ∷ o.reply ∷ []) → (w : World) → Represents now w
+      → IfOk result (λ replies. (reply : Reply) × (w' : World) × Step w event reply w' × (replies ≡ reply ∷ reply ∷ reply ∷ []) × Represents later w')
   steps_done (Ok replies) ok told w stands =
       let s = steps_to ok w stands in
       (o.reply, s.0, s.1, told, s.2)

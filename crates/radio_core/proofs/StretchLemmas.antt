@@ -11,12 +11,12 @@ use Rattle.radio_settings.specs.declared.settings.Settings.{Settings}
 use Rattle.radio_tables.specs.KeyLaws.{by_number, by_name}
 use Rattle.radio_core.specs.declared.event.Event.{Event}
 use Rattle.radio_core.specs.declared.event.Event.TheVariants.{Push}
-use Rattle.radio_core.specs.declared.outcome.Change.TheVariants.{TakeIn}
+use Rattle.radio_core.specs.declared.outcome.Change.TheVariants.{Receive}
 use Rattle.radio_core.specs.declared.outcome.Outcome.{Outcome}
 use Rattle.radio_core.specs.declared.seats.Seat.{Seat}
 use Rattle.radio_core.specs.declared.standing.Standing.TheVariants.{Unknown, Undecided, Feeds}
 use Rattle.radio_core.specs.World.{World, opening, standing_of}
-use Rattle.radio_core.specs.Changes.{changed, silent}
+use Rattle.radio_core.specs.Changes.{changed, session_ended}
 use Rattle.radio_core.specs.Handing.{block_in, is_number, of_client, handed_at, handed, delivered_at, delivered}
 use Rattle.radio_core.specs.Seats.{seat_of}
 use Rattle.radio_core.specs.Sessions.{Session, session_of, opened, longer, without_session}
@@ -24,7 +24,7 @@ use Rattle.radio_core.specs.Sound.{IsSound}
 use Rattle.radio_core.specs.Step.{outcome, world_after}
 use Rattle.radio_core.specs.Stream.{data_at, end_of}
 use Rattle.radio_core.specs.Stretches.{between, Sitting, sitting_in, begun_sittings, sittings, AreStretches, StretchesAreWhole}
-use Rattle.radio_core.specs.Ways.{Way, Strays, IsTold, IsDenied, IsRefused, ComesIn, Begins, TakesIn, SitsDown, HandsOut, Ends, FallsSilent, Goes, client_in, IsUndecided}
+use Rattle.radio_core.specs.Ways.{Way, Misplaced, IsFinished, IsDenied, IsRefused, IsAdmitted, Begins, Receives, TakesSeat, HandsOut, Ends, EndsAndLeaves, Leaves, client_in, IsUndecided}
 use Rattle.radio_core.proofs.FinishLemmas.{undecided_before}
 use Rattle.radio_core.proofs.GoneLemmas.{not_of, nothing_of, last_rises}
 use Rattle.radio_core.proofs.Lookups.{beside_ended, is_over}
@@ -36,10 +36,12 @@ use Rattle.radio_core.proofs.Ways.{way_of}
 -- slices of data that grows
 
 between_grown : (start stop : ℕ) (xs ys : List ℕ) → start ≤ stop → stop ≤ length xs → between start stop (xs ++ ys) ≡ between start stop xs
-between_grown start stop xs ys low high = ap (take (stop - start)) (drop-append-le start xs ys (omega arith)) ∙ take-append-le (stop - start) (drop start xs) ys (omega (arith, length-drop start xs))
+between_grown start stop xs ys low high = ap (take (stop - start)) (drop-append-le start xs ys (omega arith)) ∙ take-append-le (stop - start)
+    (drop start xs) ys (omega (arith, length-drop start xs))
 
 -- stretches of what was sent are stretches still when more is sent
-grown_stretches : (sent more : ℕ → List ℕ) (sittings : List Sitting) (bytes : List ℕ) → AreStretches sent sittings bytes → AreStretches (λ n. sent n ++ more n) sittings bytes
+grown_stretches : (sent more : ℕ → List ℕ) (sittings : List Sitting) (bytes : List ℕ) → AreStretches sent sittings bytes
+    → AreStretches (λ n. sent n ++ more n) sittings bytes
 grown_stretches sent more [] bytes e = e
 grown_stretches sent more (sitting ∷ others) bytes (stop, rest, low, high, e, later) = (
   stop,
@@ -50,7 +52,8 @@ grown_stretches sent more (sitting ∷ others) bytes (stop, rest, low, high, e, 
   grown_stretches sent more others rest later,
 )
 
-same_stretches : (sent now : ℕ → List ℕ) → ((n : ℕ) → sent n ≡ now n) → (sittings : List Sitting) (bytes : List ℕ) → AreStretches sent sittings bytes → AreStretches now sittings bytes
+same_stretches : (sent now : ℕ → List ℕ) → ((n : ℕ) → sent n ≡ now n) → (sittings : List Sitting) (bytes : List ℕ) → AreStretches sent sittings bytes
+    → AreStretches now sittings bytes
 same_stretches sent now same [] bytes e = e
 same_stretches sent now same (sitting ∷ others) bytes (stop, rest, low, high, e, later) = (
   stop,
@@ -62,37 +65,46 @@ same_stretches sent now same (sitting ∷ others) bytes (stop, rest, low, high, 
 )
 
 -- one stretch more
-one_more : (sent : ℕ → List ℕ) (before : List Sitting) (old : List ℕ) (last : Sitting) (stop : ℕ) → AreStretches sent before old → last.start ≤ stop → stop ≤ length (sent last.source) → AreStretches sent (before ++ last ∷ []) (old ++ between last.start stop (sent last.source))
-one_more sent [] old last stop e low high = (stop, [], low, high, ap (λ xs. xs ++ between last.start stop (sent last.source)) e ∙ sym (append-nil (between last.start stop (sent last.source))), refl)
+one_more : (sent : ℕ → List ℕ) (before : List Sitting) (old : List ℕ) (last : Sitting) (stop : ℕ) → AreStretches sent before old → last.start ≤ stop
+    → stop ≤ length (sent last.source) → AreStretches sent (before ++ last ∷ []) (old ++ between last.start stop (sent last.source))
+one_more sent [] old last stop e low high =
+    (stop, [], low, high, ap (λ xs. xs ++ between last.start stop (sent last.source)) e ∙ sym (append-nil (between last.start stop (sent last.source))), refl)
 one_more sent (sitting ∷ others) old last stop (end, rest, low', high', e, later) low high = (
   end,
   rest ++ between last.start stop (sent last.source),
   low',
   high',
-  ap (λ xs. xs ++ between last.start stop (sent last.source)) e ∙ append_assoc (between sitting.start end (sent sitting.source)) rest (between last.start stop (sent last.source)),
+  ap (λ xs. xs ++ between last.start stop (sent last.source)) e ∙ append_assoc (between sitting.start end (sent sitting.source)) rest
+      (between last.start stop (sent last.source)),
   one_more sent others rest last stop later low high,
 )
 
 -- how a listener has heard so far: what he has heard are stretches, the last of which ends at his place
 data Hears (sent : ℕ → List ℕ) : Option Seat → List Sitting → List ℕ → Type 0 where
   Idle : (past : List Sitting) (heard : List ℕ) → AreStretches sent past heard → Hears sent None past heard
-  Listening : (seat : Seat) (before : List Sitting) (last : Sitting) (old : List ℕ) → AreStretches sent before old → last.source ≡ seat.session → last.start ≤ seat.place → seat.place ≤ length (sent last.source) → Hears sent (Some seat) (before ++ last ∷ []) (old ++ between last.start seat.place (sent last.source))
+  Listening : (seat : Seat) (before : List Sitting) (last : Sitting) (old : List ℕ) → AreStretches sent before old → last.source ≡ seat.session
+      → last.start ≤ seat.place → seat.place ≤ length (sent last.source)
+      → Hears sent (Some seat) (before ++ last ∷ []) (old ++ between last.start seat.place (sent last.source))
 
 heard_so_far : (sent : ℕ → List ℕ) (seat : Option Seat) (past : List Sitting) (heard : List ℕ) → Hears sent seat past heard → AreStretches sent past heard
 heard_so_far sent seat past heard (Idle _ _ stretches) = stretches
 heard_so_far sent seat past heard (Listening him before last old stretches source low high) = one_more sent before old last him.place stretches low high
 
-hears_as : (sent : ℕ → List ℕ) {seat now : Option Seat} {past later : List Sitting} {heard more : List ℕ} → seat ≡ now → past ≡ later → heard ≡ more → Hears sent seat past heard → Hears sent now later more
+hears_as : (sent : ℕ → List ℕ) {seat now : Option Seat} {past later : List Sitting} {heard more : List ℕ} → seat ≡ now → past ≡ later → heard ≡ more
+    → Hears sent seat past heard → Hears sent now later more
 hears_as sent {seat} {now} {past} {later} {heard} {more} es ep eh h =
-    subst (λ (o : Option Seat). Hears sent o later more) es (subst (λ (xs : List Sitting). Hears sent seat xs more) ep (subst (λ (xs : List ℕ). Hears sent seat past xs) eh h))
+    subst (λ (o : Option Seat). Hears sent o later more) es (subst (λ (xs : List Sitting). Hears sent seat xs more) ep
+    (subst (λ (xs : List ℕ). Hears sent seat past xs) eh h))
 
 -- more was sent
-hears_grown : (sent more : ℕ → List ℕ) (seat : Option Seat) (past : List Sitting) (heard : List ℕ) → Hears sent seat past heard → Hears (λ n. sent n ++ more n) seat past heard
+hears_grown : (sent more : ℕ → List ℕ) (seat : Option Seat) (past : List Sitting) (heard : List ℕ) → Hears sent seat past heard
+    → Hears (λ n. sent n ++ more n) seat past heard
 hears_grown sent more seat past heard (Idle _ _ stretches) = Idle past heard (grown_stretches sent more past heard stretches)
 hears_grown sent more seat past heard (Listening him before last old stretches source low high) =
     hears_as (λ n. sent n ++ more n) refl refl
     (ap (λ xs. old ++ xs) (between_grown last.start him.place (sent last.source) (more last.source) low high))
-    (Listening him before last old (grown_stretches sent more before old stretches) source low (omega (arith, high, length-append (sent last.source) (more last.source))))
+    (Listening him before last old (grown_stretches sent more before old stretches) source low
+    (omega (arith, high, length-append (sent last.source) (more last.source))))
 
 -- a slice goes on where it ended
 taken_length : (n : ℕ) (xs : List ℕ) → take n xs ≡ take (length (take n xs)) xs
@@ -100,7 +112,8 @@ taken_length zero xs = refl
 taken_length (suc n) [] = refl
 taken_length (suc n) (x ∷ xs) = ap (λ ys. x ∷ ys) (taken_length n xs)
 
-between_more : (start place room : ℕ) (xs : List ℕ) → start ≤ place → between start place xs ++ take room (drop place xs) ≡ between start (place + length (take room (drop place xs))) xs
+between_more : (start place room : ℕ) (xs : List ℕ) → start ≤ place
+    → between start place xs ++ take room (drop place xs) ≡ between start (place + length (take room (drop place xs))) xs
 between_more start place room xs forward =
     let more = take room (drop place xs) in
     let size = length more in
@@ -121,15 +134,21 @@ begun_same old seat true e h = refl
 begun_same old seat false e h = cc
 
 begun_none : (old seat : Seat) → old.session ≡ seat.session → begun_sittings (Some old) (Some seat) ≡ []
-begun_none old seat same = let itself : (old.session == seat.session) ≡ true = grind (arith, nat_tests) in begun_same old seat (old.session == seat.session) refl itself
+begun_none old seat same = let itself : (old.session == seat.session) ≡ true =
+    grind (arith, nat_tests) in begun_same old seat (old.session == seat.session) refl itself
 
 -- what an event does to his seat keeps all that he has heard stretches
-module _ (w : World) (sent : ℕ → List ℕ) (whole : (mount : List ℕ) (session : Session) → session_of w.house.live mount ≡ Some session → session.stream.bytes ≡ sent session.number) where
-  unchanged : (seat : Option Seat) (past more : List Sitting) (heard : List ℕ) → more ≡ [] → Hears sent seat past heard → Hears sent seat (past ++ more) (heard ++ [])
+module _ (w : World) (sent : ℕ → List ℕ) (whole : (mount : List ℕ) (session : Session) → session_of w.house.live mount ≡ Some session
+    → session.stream.bytes ≡ sent session.number) where
+  unchanged : (seat : Option Seat) (past more : List Sitting) (heard : List ℕ) → more ≡ [] → Hears sent seat past heard
+      → Hears sent seat (past ++ more) (heard ++ [])
   unchanged seat past more heard none h = hears_as sent refl (sym (ap (λ xs. past ++ xs) none ∙ append-nil past)) (sym (append-nil heard)) h
 
-  handed_on : (seat : Seat) (session : Session) (room : ℕ) → session_of w.house.live seat.mount ≡ Some session → session.number ≡ seat.session → seat.place + length (data_at session.stream seat.place room) ≤ end_of session.stream → (past : List Sitting) (heard : List ℕ) → Hears sent (Some seat) past heard
-      → Hears sent (Some (record seat { place = seat.place + length (data_at session.stream seat.place room) })) past (heard ++ data_at session.stream seat.place room)
+  handed_on : (seat : Seat) (session : Session) (room : ℕ) → session_of w.house.live seat.mount ≡ Some session → session.number ≡ seat.session
+      → seat.place + length (data_at session.stream seat.place room) ≤ end_of session.stream → (past : List Sitting) (heard : List ℕ)
+      → Hears sent (Some seat) past heard
+      → Hears sent (Some (record seat { place = seat.place + length (data_at session.stream seat.place room) })) past
+      (heard ++ data_at session.stream seat.place room)
   handed_on seat session room live number within past heard (Listening _ before last old stretches source low high) =
       let all = sent last.source in
       let same : session.stream.bytes ≡ all = whole seat.mount session live ∙ ap sent (number ∙ sym source) in
@@ -142,24 +161,31 @@ module _ (w : World) (sent : ℕ → List ℕ) (whole : (mount : List ℕ) (sess
       ∙ ap (λ xs. old ++ xs) (between_more last.start seat.place room all low)
       ∙ ap (λ n. old ++ between last.start n all) (sym end) in
       let size : length session.stream.bytes ≡ length all = ap length same in
-      hears_as sent refl refl (sym joined) (Listening (record seat { place = far }) before last old stretches source (omega (arith, low)) (omega (arith, within, size)))
+      hears_as sent refl refl (sym joined) (Listening (record seat { place = far }) before last old stretches source (omega (arith, low))
+      (omega (arith, within, size)))
 
-  sits_in : (seat : Seat) (session : Session) → session_of w.house.live seat.mount ≡ Some session → session.number ≡ seat.session → seat.place ≤ end_of session.stream → (past : List Sitting) (heard : List ℕ) → Hears sent None past heard → Hears sent (Some seat) (past ++ sitting_in seat ∷ []) (heard ++ [])
+  sits_in : (seat : Seat) (session : Session) → session_of w.house.live seat.mount ≡ Some session → session.number ≡ seat.session
+      → seat.place ≤ end_of session.stream → (past : List Sitting) (heard : List ℕ) → Hears sent None past heard
+      → Hears sent (Some seat) (past ++ sitting_in seat ∷ []) (heard ++ [])
   sits_in seat session live number within past heard (Idle _ _ stretches) =
       let same : session.stream.bytes ≡ sent seat.session = whole seat.mount session live ∙ ap sent number in
       let size : length session.stream.bytes ≡ length (sent seat.session) = ap length same in
       hears_as sent refl refl (ap (λ xs. heard ++ xs) (between_none seat.place (sent seat.session)))
       (Listening seat past (sitting_in seat) heard stretches refl (omega arith) (omega (arith, within, size)))
 
-  hears_step : (before later : Option Seat) (bytes : List ℕ) → SeatStep w before bytes later → (past : List Sitting) (heard : List ℕ) → Hears sent before past heard → Hears sent later (past ++ begun_sittings before later) (heard ++ bytes)
+  hears_step : (before later : Option Seat) (bytes : List ℕ) → SeatStep w before bytes later → (past : List Sitting) (heard : List ℕ)
+      → Hears sent before past heard → Hears sent later (past ++ begun_sittings before later) (heard ++ bytes)
   hears_step before later bytes (Stays None) past heard h = unchanged None past [] heard refl h
-  hears_step before later bytes (Stays (Some seat)) past heard h = unchanged (Some seat) past (begun_sittings (Some seat) (Some seat)) heard (begun_none seat seat refl) h
+  hears_step before later bytes (Stays (Some seat)) past heard h =
+      unchanged (Some seat) past (begun_sittings (Some seat) (Some seat)) heard (begun_none seat seat refl) h
   hears_step before later bytes (IsHanded seat session room live number within) past heard h =
       let far : Seat = record seat { place = seat.place + length (data_at session.stream seat.place room) } in
-      hears_as sent refl (sym (ap (λ xs. past ++ xs) (begun_none seat far refl) ∙ append-nil past)) refl (handed_on seat session room live number within past heard h)
+      hears_as sent refl (sym (ap (λ xs. past ++ xs) (begun_none seat far refl) ∙ append-nil past)) refl
+      (handed_on seat session room live number within past heard h)
   hears_step before later bytes (SitsIn seat session live number within) past heard h = sits_in seat session live number within past heard h
   hears_step before later bytes (LosesIt None) past heard h = unchanged None past [] heard refl h
-  hears_step before later bytes (LosesIt (Some seat)) past heard h = unchanged None past [] heard refl (Idle past heard (heard_so_far sent (Some seat) past heard h))
+  hears_step before later bytes (LosesIt (Some seat)) past heard h =
+      unchanged None past [] heard refl (Idle past heard (heard_so_far sent (Some seat) past heard h))
 
 -- what was sent so far is what the sessions have
 
@@ -177,45 +203,56 @@ his_own false bytes e = cc
 
 module _ (w : World) (s : IsSound w) (sent : ℕ → List ℕ) (h : Sent w sent) where
   -- only a source brings something
-  brings_nothing : (event : Event) (o : Outcome) → Way w event o → (id : ℕ) → ((mount : List ℕ) → standing_of w id ≡ Feeds mount → ⊥) → of_client event id (block_in o.change) ≡ []
-  brings_nothing event o (TakesIn him mount block feeding) id not =
+  brings_nothing : (event : Event) (o : Outcome) → Way w event o → (id : ℕ) → ((mount : List ℕ) → standing_of w id ≡ Feeds mount → ⊥)
+      → of_client event id (block_in o.change) ≡ []
+  brings_nothing event o (Receives him mount block feeding) id not =
       by_number him id (λ same. absurd (not mount (ap (standing_of w) (sym same) ∙ feeding))) (λ other. not_of (Push him block) id block other)
-  brings_nothing event o (Strays _) id not = nothing_of event id [] refl
-  brings_nothing event o (IsTold _ him by its known) id not = nothing_of event id [] refl
+  brings_nothing event o (Misplaced _) id not = nothing_of event id [] refl
+  brings_nothing event o (IsFinished _ him by its known) id not = nothing_of event id [] refl
   brings_nothing event o (IsDenied _ by v nobody) id not = nothing_of event id [] refl
   brings_nothing event o (IsRefused _ him by v its undecided) id not = nothing_of event id [] refl
-  brings_nothing event o (ComesIn peer) id not = refl
+  brings_nothing event o (IsAdmitted peer) id not = refl
   brings_nothing event o (Begins asked undecided none) id not = nothing_of event id [] refl
-  brings_nothing event o (SitsDown asked peer session undecided live) id not = nothing_of event id [] refl
+  brings_nothing event o (TakesSeat asked peer session undecided live) id not = nothing_of event id [] refl
   brings_nothing event o (HandsOut him room seat session sits has live) id not = nothing_of event id [] refl
   brings_nothing event o (Ends him mount feeding) id not = nothing_of event id [] refl
-  brings_nothing event o (FallsSilent him mount feeding) id not = nothing_of event id [] refl
-  brings_nothing event o (Goes him other) id not = nothing_of event id [] refl
+  brings_nothing event o (EndsAndLeaves him mount feeding) id not = nothing_of event id [] refl
+  brings_nothing event o (Leaves him other) id not = nothing_of event id [] refl
 
   whole_now : Event → Outcome → Type 0
-  whole_now event o = (mount : List ℕ) (session : Session) → session_of (changed w o.change).house.live mount ≡ Some session → session.stream.bytes ≡ sent session.number ++ of_client event session.number (block_in o.change)
+  whole_now event o = (mount : List ℕ) (session : Session) → session_of (changed w o.change).house.live mount ≡ Some session
+      → session.stream.bytes ≡ sent session.number ++ of_client event session.number (block_in o.change)
 
-  as_it_was : (event : Event) (mount : List ℕ) (session : Session) → session_of w.house.live mount ≡ Some session → session.stream.bytes ≡ sent session.number ++ of_client event session.number []
-  as_it_was event mount session live = h.whole mount session live ∙ with_nothing (sent session.number) (of_client event session.number []) (nothing_of event session.number [] refl)
+  as_it_was : (event : Event) (mount : List ℕ) (session : Session) → session_of w.house.live mount ≡ Some session
+      → session.stream.bytes ≡ sent session.number ++ of_client event session.number []
+  as_it_was event mount session live = h.whole mount session live ∙ with_nothing (sent session.number) (of_client event session.number [])
+      (nothing_of event session.number [] refl)
 
-  left_over : (event : Event) (ended mount : List ℕ) (session : Session) → session_of (without_session w.house.live ended) mount ≡ Some session → session.stream.bytes ≡ sent session.number ++ of_client event session.number []
+  left_over : (event : Event) (ended mount : List ℕ) (session : Session) → session_of (without_session w.house.live ended) mount ≡ Some session
+      → session.stream.bytes ≡ sent session.number ++ of_client event session.number []
   left_over event ended mount session e =
       by_name ended mount
-      (λ same. let none : session_of (without_session w.house.live ended) mount ≡ None = ap (session_of (without_session w.house.live ended)) (sym same) ∙ is_over w.house.live ended in cc)
+      (λ same. let none : session_of (without_session w.house.live ended) mount ≡ None =
+      ap (session_of (without_session w.house.live ended)) (sym same) ∙ is_over w.house.live ended in cc)
       (λ apart. as_it_was event mount session (sym (beside_ended w.house.live ended mount apart) ∙ e))
 
-  grown_whole : (him : ℕ) (mount block : List ℕ) → standing_of w him ≡ Feeds mount → (other : List ℕ) (now : Session) → session_of (changed w (TakeIn mount block)).house.live other ≡ Some now → now.stream.bytes ≡ sent now.number ++ of_client (Push him block) now.number block
+  grown_whole : (him : ℕ) (mount block : List ℕ) → standing_of w him ≡ Feeds mount → (other : List ℕ) (now : Session)
+      → session_of (changed w (Receive mount block)).house.live other ≡ Some now
+      → now.stream.bytes ≡ sent now.number ++ of_client (Push him block) now.number block
   grown_whole him mount block feeding other now e =
       grown_cases w s mount block other now e
-      (λ session same found one. subst (λ (x : Session). x.stream.bytes ≡ sent x.number ++ of_client (Push him block) x.number block) one (here session found))
+      (λ session same found one. subst (λ (x : Session). x.stream.bytes ≡ sent x.number ++ of_client (Push him block) x.number block) one
+      (here session found))
       (λ apart found.
       h.whole other now found
       ∙ with_nothing (sent now.number) (of_client (Push him block) now.number block)
       (by_number him now.number
-      (λ same. let both : Feeds mount ≡ Feeds other = sym feeding ∙ ap (standing_of w) same ∙ s.fed other now found in let one : mount ≡ other = cc in let there : bytes_eq mount other ≡ true = (bytes_eq-Decides mount other).1 one in cc)
+      (λ same. let both : Feeds mount ≡ Feeds other = sym feeding ∙ ap (standing_of w) same ∙ s.fed other now found in let one : mount ≡ other =
+      cc in let there : bytes_eq mount other ≡ true = (bytes_eq-Decides mount other).1 one in cc)
       (λ away. not_of (Push him block) now.number block away)))
       (λ none. let ours = s.feeds him mount feeding in let found : session_of w.house.live mount ≡ Some ours.0 = ours.1 in cc) where
-        here : (session : Session) → session_of w.house.live mount ≡ Some session → session.stream.bytes ++ block ≡ sent session.number ++ of_client (Push him block) session.number block
+        here : (session : Session) → session_of w.house.live mount ≡ Some session
+            → session.stream.bytes ++ block ≡ sent session.number ++ of_client (Push him block) session.number block
         here session found =
             let ours = s.feeds him mount feeding in
             let both : Some ours.0 ≡ Some session = sym ours.1 ∙ found in
@@ -226,22 +263,22 @@ module _ (w : World) (s : IsSound w) (sent : ℕ → List ℕ) (h : Sent w sent)
 
   whole_by : (event : Event) (o : Outcome) → Way w event o → whole_now event o
   unfolding whole_now
-  whole_by event o (TakesIn him mount block feeding) = grown_whole him mount block feeding
+  whole_by event o (Receives him mount block feeding) = grown_whole him mount block feeding
   whole_by event o (Begins asked undecided none) = λ mount session e.
       begun_cases w s asked.id asked.mount asked.shown undecided.0 undecided.1 none mount session e
       (λ same one. subst (λ (x : Session). x.stream.bytes ≡ sent x.number ++ of_client event x.number []) one
       (sym (h.none_yet asked.id undecided.0 undecided.1) ∙ with_nothing (sent asked.id) (of_client event asked.id []) (nothing_of event asked.id [] refl)))
       (λ old. as_it_was event mount session old)
   whole_by event o (Ends him mount feeding) = left_over event mount
-  whole_by event o (FallsSilent him mount feeding) = left_over event mount
-  whole_by event o (Strays _) = as_it_was event
-  whole_by event o (IsTold _ him by its known) = as_it_was event
+  whole_by event o (EndsAndLeaves him mount feeding) = left_over event mount
+  whole_by event o (Misplaced _) = as_it_was event
+  whole_by event o (IsFinished _ him by its known) = as_it_was event
   whole_by event o (IsDenied _ by v nobody) = as_it_was event
   whole_by event o (IsRefused _ him by v its undecided) = as_it_was event
-  whole_by event o (ComesIn peer) = as_it_was event
-  whole_by event o (SitsDown asked peer session undecided live) = as_it_was event
+  whole_by event o (IsAdmitted peer) = as_it_was event
+  whole_by event o (TakesSeat asked peer session undecided live) = as_it_was event
   whole_by event o (HandsOut him room seat session sits has live) = as_it_was event
-  whole_by event o (Goes him other) = as_it_was event
+  whole_by event o (Leaves him other) = as_it_was event
 
   sent_step : (event : Event) → Sent (world_after w event) (λ n. sent n ++ delivered_at w event n)
   unfolding world_after whole_now
@@ -264,7 +301,8 @@ module _ (w : World) (s : IsSound w) (sent : ℕ → List ℕ) (h : Sent w sent)
     none_yet id peer e = by_before id peer (undecided_before w s event id peer e)
 
 -- from any state on: what was heard so far and what the events hand out are stretches of what was sent so far and what they deliver
-all_stretches : (w : World) → IsSound w → (sent : ℕ → List ℕ) → Sent w sent → (id : ℕ) (past : List Sitting) (heard : List ℕ) → Hears sent (seat_of w.seats id) past heard → (events : List Event)
+all_stretches : (w : World) → IsSound w → (sent : ℕ → List ℕ) → Sent w sent → (id : ℕ) (past : List Sitting) (heard : List ℕ)
+    → Hears sent (seat_of w.seats id) past heard → (events : List Event)
     → AreStretches (λ n. sent n ++ delivered w events n) (past ++ sittings w events id) (heard ++ handed w events id)
 all_stretches w s sent h id past heard so_far [] =
     subst (λ (xs : List Sitting). AreStretches (λ n. sent n ++ []) xs (heard ++ [])) (sym (append-nil past))
@@ -280,10 +318,15 @@ all_stretches w s sent h id past heard so_far (event ∷ events) =
     let now = λ (n : ℕ). sent n ++ more n in
     let grown = hears_grown sent more (seat_of later.seats id) (past ++ begun) (heard ++ bytes) heard_now in
     let rest = all_stretches later (sound_after w s event) now (sent_step w s sent h event) id (past ++ begun) (heard ++ bytes) grown events in
-    same_stretches (λ n. now n ++ delivered later events n) (λ n. sent n ++ (more n ++ delivered later events n)) (λ n. append_assoc (sent n) (more n) (delivered later events n)) (past ++ (begun ++ sittings later events id)) (heard ++ (bytes ++ handed later events id))
-    (subst (λ (xs : List Sitting). AreStretches (λ n. now n ++ delivered later events n) xs (heard ++ (bytes ++ handed later events id))) (append_assoc past begun (sittings later events id))
-    (subst (λ (xs : List ℕ). AreStretches (λ n. now n ++ delivered later events n) ((past ++ begun) ++ sittings later events id) xs) (append_assoc heard bytes (handed later events id)) rest))
+    same_stretches (λ n. now n ++ delivered later events n) (λ n. sent n ++ (more n ++ delivered later events n))
+    (λ n. append_assoc (sent n) (more n) (delivered later events n)) (past ++ (begun ++ sittings later events id))
+    (heard ++ (bytes ++ handed later events id))
+    (subst (λ (xs : List Sitting). AreStretches (λ n. now n ++ delivered later events n) xs (heard ++ (bytes ++ handed later events id)))
+    (append_assoc past begun (sittings later events id))
+    (subst (λ (xs : List ℕ). AreStretches (λ n. now n ++ delivered later events n) ((past ++ begun) ++ sittings later events id) xs)
+    (append_assoc heard bytes (handed later events id)) rest))
 
 pub stretches_hold : (settings : Settings) (events : List Event) → StretchesAreWhole settings events
 stretches_hold settings events id =
-    all_stretches (opening settings) (sound_opening settings) (λ n. []) (record { whole = λ mount session e. cc; none_yet = λ n peer e. cc; none_above = λ n h. refl }) id [] [] (Idle [] [] refl) events
+    all_stretches (opening settings) (sound_opening settings) (λ n. [])
+    (record { whole = λ mount session e. cc; none_yet = λ n peer e. cc; none_above = λ n h. refl }) id [] [] (Idle [] [] refl) events

@@ -22,56 +22,59 @@ use Rattle.radio_core.specs.declared.standing.Standing.{Standing}
 use Rattle.radio_core.specs.declared.standing.Standing.TheVariants.{Unknown, Undecided, Feeds, Sits, Answered, Finished}
 use Rattle.radio_core.specs.World.{World, standing_of}
 use Rattle.radio_core.specs.Facts.{session_at, is_live, walk_stops, rows_to_feed, rows_to_push, rows_to_listen}
-use Rattle.radio_core.specs.Outcomes.{says, on_verdict, misfits, if_undecided, if_feeding, if_sitting}
-use Rattle.radio_core.specs.Arrive.{arrives, comes_in}
+use Rattle.radio_core.specs.Outcomes.{says, on_verdict, out_of_place, if_undecided, if_feeding, if_sitting}
+use Rattle.radio_core.specs.Arrive.{arrives, admits_client}
 use Rattle.radio_core.specs.Source.{asks_to_feed, begins}
 use Rattle.radio_core.specs.Push.{delivers, takes_in}
 use Rattle.radio_core.specs.SourceEnd.{stops_feeding}
-use Rattle.radio_core.specs.Listen.{asks_to_hear, sits_down}
+use Rattle.radio_core.specs.Listen.{asks_to_hear, takes_seat}
 use Rattle.radio_core.specs.Draw.{draws, hands_out, hands_out_at}
 use Rattle.radio_core.specs.Leave.{leaves, leaves_from}
 use Rattle.radio_core.specs.Seats.{seat_of}
 use Rattle.radio_core.specs.Sessions.{Session, session_of}
 use Rattle.radio_core.specs.Step.{outcome}
-use Rattle.radio_core.specs.Ways.{Way, Strays, IsTold, IsDenied, IsRefused, ComesIn, Begins, TakesIn, SitsDown, HandsOut, Ends, FallsSilent, Goes, client_in, rows_for, IsUndecided}
+use Rattle.radio_core.specs.Ways.{Way, Misplaced, IsFinished, IsDenied, IsRefused, IsAdmitted, Begins, Receives, TakesSeat, HandsOut, Ends, EndsAndLeaves, Leaves, client_in, rows_for, IsUndecided}
 
 module _ (w : World) (event : Event) where
-  by_verdict : (denied : Change) (allowed : Outcome) (v : Verdict) → ((rule : Rule) → v ≡ Denied rule → Way w event (says (Deny rule) denied)) → (v ≡ Allow → Way w event allowed) → Way w event (on_verdict v denied allowed)
+  by_verdict : (denied : Change) (allowed : Outcome) (v : Verdict) → ((rule : Rule) → v ≡ Denied rule → Way w event (says (Deny rule) denied))
+      → (v ≡ Allow → Way w event allowed) → Way w event (on_verdict v denied allowed)
   by_verdict denied allowed Allow denies allows = allows refl
   by_verdict denied allowed (Denied rule) denies allows = denies rule refl
 
   module _ (id : ℕ) (his : client_in event ≡ Some id) where
-    misfit : (s : Standing) → standing_of w id ≡ s → Way w event (misfits s)
-    misfit Unknown e = Strays event
-    misfit (Undecided peer) e = Strays event
-    misfit (Feeds mount) e = Strays event
-    misfit Sits e = Strays event
-    misfit Answered e = Strays event
-    misfit (Finished rule) e = IsTold event id rule his e
+    when_out_of_place : (s : Standing) → standing_of w id ≡ s → Way w event (out_of_place s)
+    when_out_of_place Unknown e = Misplaced event
+    when_out_of_place (Undecided peer) e = Misplaced event
+    when_out_of_place (Feeds mount) e = Misplaced event
+    when_out_of_place Sits e = Misplaced event
+    when_out_of_place Answered e = Misplaced event
+    when_out_of_place (Finished rule) e = IsFinished event id rule his e
 
-    by_undecided : (go : Peer → Outcome) → ((peer : Peer) → standing_of w id ≡ Undecided peer → Way w event (go peer)) → (s : Standing) → standing_of w id ≡ s → Way w event (if_undecided s go)
+    by_undecided : (go : Peer → Outcome) → ((peer : Peer) → standing_of w id ≡ Undecided peer → Way w event (go peer)) → (s : Standing)
+        → standing_of w id ≡ s → Way w event (if_undecided s go)
     by_undecided go goes (Undecided peer) e = goes peer e
-    by_undecided go goes Unknown e = Strays event
-    by_undecided go goes (Feeds mount) e = Strays event
-    by_undecided go goes Sits e = Strays event
-    by_undecided go goes Answered e = Strays event
-    by_undecided go goes (Finished rule) e = IsTold event id rule his e
+    by_undecided go goes Unknown e = Misplaced event
+    by_undecided go goes (Feeds mount) e = Misplaced event
+    by_undecided go goes Sits e = Misplaced event
+    by_undecided go goes Answered e = Misplaced event
+    by_undecided go goes (Finished rule) e = IsFinished event id rule his e
 
-    by_feeding : (go : List ℕ → Outcome) → ((mount : List ℕ) → standing_of w id ≡ Feeds mount → Way w event (go mount)) → (s : Standing) → standing_of w id ≡ s → Way w event (if_feeding s go)
+    by_feeding : (go : List ℕ → Outcome) → ((mount : List ℕ) → standing_of w id ≡ Feeds mount → Way w event (go mount)) → (s : Standing)
+        → standing_of w id ≡ s → Way w event (if_feeding s go)
     by_feeding go goes (Feeds mount) e = goes mount e
-    by_feeding go goes Unknown e = Strays event
-    by_feeding go goes (Undecided peer) e = Strays event
-    by_feeding go goes Sits e = Strays event
-    by_feeding go goes Answered e = Strays event
-    by_feeding go goes (Finished rule) e = IsTold event id rule his e
+    by_feeding go goes Unknown e = Misplaced event
+    by_feeding go goes (Undecided peer) e = Misplaced event
+    by_feeding go goes Sits e = Misplaced event
+    by_feeding go goes Answered e = Misplaced event
+    by_feeding go goes (Finished rule) e = IsFinished event id rule his e
 
     by_sitting : (go : Outcome) → (standing_of w id ≡ Sits → Way w event go) → (s : Standing) → standing_of w id ≡ s → Way w event (if_sitting s go)
     by_sitting go goes Sits e = goes e
-    by_sitting go goes Unknown e = Strays event
-    by_sitting go goes (Undecided peer) e = Strays event
-    by_sitting go goes (Feeds mount) e = Strays event
-    by_sitting go goes Answered e = Strays event
-    by_sitting go goes (Finished rule) e = IsTold event id rule his e
+    by_sitting go goes Unknown e = Misplaced event
+    by_sitting go goes (Undecided peer) e = Misplaced event
+    by_sitting go goes (Feeds mount) e = Misplaced event
+    by_sitting go goes Answered e = Misplaced event
+    by_sitting go goes (Finished rule) e = IsFinished event id rule his e
 
 -- where a first row holds, its rule denies
 first_row : (rule : Rule) (rest : List Row) (holds : Bool) → verdict_in (row rule holds ∷ rest) ≡ Allow → (holds ≡ false) × (verdict_in rest ≡ Allow)
@@ -104,31 +107,34 @@ found_at_path w path session e = by_name (is_mount_name path) e where
   by_name true f = f
   by_name false f = cc
 
-sits : (w : World) (asked : ListenRequest) (peer : Peer) → standing_of w asked.id ≡ Undecided peer → (found : Option Session) → session_at w.house asked.mount ≡ found → Way w (Listen asked) (sits_down w.house asked peer found)
-sits w asked peer e None none = Strays (Listen asked)
-sits w asked peer e (Some session) found = SitsDown asked peer session e (found_at_path w asked.mount session found)
+sits : (w : World) (asked : ListenRequest) (peer : Peer) → standing_of w asked.id ≡ Undecided peer → (found : Option Session)
+    → session_at w.house asked.mount ≡ found → Way w (Listen asked) (takes_seat w.house asked peer found)
+sits w asked peer e None none = Misplaced (Listen asked)
+sits w asked peer e (Some session) found = TakesSeat asked peer session e (found_at_path w asked.mount session found)
 
 module _ (w : World) (id room : ℕ) (is_sitting : standing_of w id ≡ Sits) where
-  hands : (seat : Seat) → seat_of w.seats id ≡ Some seat → (found : Option Session) → session_of w.house.live seat.mount ≡ found → Way w (Draw id room) (hands_out id seat room found)
-  hands seat has None none = Strays (Draw id room)
+  hands : (seat : Seat) → seat_of w.seats id ≡ Some seat → (found : Option Session) → session_of w.house.live seat.mount ≡ found
+      → Way w (Draw id room) (hands_out id seat room found)
+  hands seat has None none = Misplaced (Draw id room)
   hands seat has (Some session) found = HandsOut id room seat session is_sitting has found
 
   hands_at : (has : Option Seat) → seat_of w.seats id ≡ has → Way w (Draw id room) (hands_out_at w.house id room has)
-  hands_at None none = Strays (Draw id room)
+  hands_at None none = Misplaced (Draw id room)
   hands_at (Some seat) has = hands seat has (session_of w.house.live seat.mount) refl
 
 by_leaving : (w : World) (id : ℕ) (s : Standing) → standing_of w id ≡ s → Way w (Leave id) (leaves_from id s)
-by_leaving w id Unknown e = Strays (Leave id)
-by_leaving w id (Feeds mount) e = FallsSilent id mount e
-by_leaving w id (Undecided peer) e = Goes id (λ mount f. cc)
-by_leaving w id Sits e = Goes id (λ mount f. cc)
-by_leaving w id Answered e = Goes id (λ mount f. cc)
-by_leaving w id (Finished rule) e = Goes id (λ mount f. cc)
+by_leaving w id Unknown e = Misplaced (Leave id)
+by_leaving w id (Feeds mount) e = EndsAndLeaves id mount e
+by_leaving w id (Undecided peer) e = Leaves id (λ mount f. cc)
+by_leaving w id Sits e = Leaves id (λ mount f. cc)
+by_leaving w id Answered e = Leaves id (λ mount f. cc)
+by_leaving w id (Finished rule) e = Leaves id (λ mount f. cc)
 
 pub way_of : (w : World) (event : Event) → Way w event (outcome w event)
 unfolding outcome
 way_of w (Arrive peer) =
-    by_verdict w (Arrive peer) Nothing (comes_in w peer) (verdict_in (rows_for w (Arrive peer))) (λ rule v. IsDenied (Arrive peer) rule v (λ id e u. cc)) (λ v. ComesIn peer)
+    by_verdict w (Arrive peer) Nothing (admits_client w peer) (verdict_in (rows_for w (Arrive peer)))
+    (λ rule v. IsDenied (Arrive peer) rule v (λ id e u. cc)) (λ v. IsAdmitted peer)
 way_of w (Source asked) =
     by_undecided w (Source asked) asked.id refl _
     (λ peer e. by_verdict w (Source asked) (Answer asked.id) (begins asked) (verdict_in (rows_for w (Source asked)))
@@ -139,14 +145,15 @@ way_of w (Push id block) =
     by_feeding w (Push id block) id refl _
     (λ mount e. by_verdict w (Push id block) Nothing (takes_in mount block) (verdict_in (rows_to_push w.house mount block))
     (λ rule v. IsDenied (Push id block) rule (rw e v) (λ him h u. feeds_and_asks mount e him h u))
-    (λ v. TakesIn id mount block e))
+    (λ v. Receives id mount block e))
     (standing_of w id) refl where
       feeds_and_asks : (mount : List ℕ) → standing_of w id ≡ Feeds mount → (him : ℕ) → Some id ≡ Some him → IsUndecided w him → ⊥
       feeds_and_asks mount e him h u = let same : id ≡ him = cc in let also : standing_of w id ≡ Undecided u.0 = ap (standing_of w) same ∙ u.1 in cc
 way_of w (SourceEnd id) = by_feeding w (SourceEnd id) id refl _ (λ mount e. Ends id mount e) (standing_of w id) refl
 way_of w (Listen asked) =
     by_undecided w (Listen asked) asked.id refl _
-    (λ peer e. by_verdict w (Listen asked) (Answer asked.id) (sits_down w.house asked peer (session_at w.house asked.mount)) (verdict_in (rows_for w (Listen asked)))
+    (λ peer e. by_verdict w (Listen asked) (Answer asked.id) (takes_seat w.house asked peer (session_at w.house asked.mount))
+    (verdict_in (rows_for w (Listen asked)))
     (λ rule v. IsRefused (Listen asked) asked.id rule v refl (peer, e))
     (λ v. sits w asked peer e (session_at w.house asked.mount) refl))
     (standing_of w asked.id) refl

@@ -11,7 +11,8 @@ use Rattle.radio_core.specs.Step.{reply_to}
 use Rattle.radio_core.specs.Stream.{data_at}
 use Rattle.radio_core.specs.World.{World, standing_of}
 
--- these bytes are the listener's to hear, who draws: they stand at his place in the stream of the mount where he sits, that mount is open to him, and the title is the one it has
+-- these bytes are the listener's to hear, who draws: they stand at his place in the stream of the mount where he sits, that mount is open to him, and the
+-- title is the one it has
 pub record IsHis (w : World) (event : Event) (bytes : List ℕ) (title : Option (List ℕ)) : Type 0 where
   pub id : ℕ
   pub room : ℕ

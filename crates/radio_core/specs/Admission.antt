@@ -23,7 +23,8 @@ pub record IsEarliestStart (stream : WholeStream) (burst place : ℕ) : Type 0 w
   pub in_the_burst : end_of stream - place ≤ burst
   pub earliest : (other : ℕ) → IsBlockStart stream other → end_of stream - other ≤ burst → place ≤ other
 
--- the listener has a seat in the session that the mount of his path had when he asked, is shown what it shows, and begins at the earliest block start that his burst allows
+-- the listener has a seat in the session that the mount of his path had when he asked, is shown what it shows, and begins at the earliest block start that
+-- his burst allows
 pub record IsSeated (w : World) (event : Event) (shown : Shown) : Type 0 where
   pub asked : ListenRequest
   pub listens : event ≡ Listen asked

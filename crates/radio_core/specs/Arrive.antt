@@ -9,9 +9,9 @@ use Rattle.radio_core.specs.Facts.{rows_to_arrive}
 use Rattle.radio_core.specs.Outcomes.{says, on_verdict}
 
 -- the next number is given to a client who has asked for nothing yet
-abbrev pub comes_in : World → Peer → Outcome
-comes_in w peer = says (Arrived (w.house.last_id + 1)) (Admit (w.house.last_id + 1) peer)
+abbrev pub admits_client : World → Peer → Outcome
+admits_client w peer = says (Arrived (w.house.last_id + 1)) (Admit (w.house.last_id + 1) peer)
 
 -- a connection arrives
 abbrev pub arrives : World → Peer → Outcome
-arrives w peer = on_verdict (verdict_in (rows_to_arrive w.house)) Nothing (comes_in w peer)
+arrives w peer = on_verdict (verdict_in (rows_to_arrive w.house)) Nothing (admits_client w peer)

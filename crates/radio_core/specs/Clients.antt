@@ -27,12 +27,12 @@ by_number a b = nat_cmp a.id b.id
 abbrev pub with_client : List Client → Client → List Client
 with_client clients client = placed by_number client clients
 
-abbrev pub doing : ClientState → Client → Client
-doing state client = record client { state = state }
+abbrev pub with_state : ClientState → Client → Client
+with_state state client = record client { state = state }
 
 -- the client of this number does something else from now on
 abbrev pub in_state : List Client → ℕ → ClientState → List Client
-in_state clients id state = update_first (is_client id) (doing state) clients
+in_state clients id state = update_first (is_client id) (with_state state) clients
 
 -- the client of this number is gone
 abbrev pub without_client : List Client → ℕ → List Client

@@ -23,4 +23,5 @@ after_denial w (Some id) = answered_if w id (standing_of w id)
 
 -- a reply that denies is a denial of the policy in this state, by the first rule whose condition holds, and changes nothing else
 abbrev pub DenialsAreThePolicys : World → Event → Type 0
-DenialsAreThePolicys w event = (rule : Rule) → reply_to w event ≡ Deny rule → Denies (rows_for w event) rule × (world_after w event ≡ after_denial w (client_in event))
+DenialsAreThePolicys w event = (rule : Rule) → reply_to w event ≡ Deny rule
+    → Denies (rows_for w event) rule × (world_after w event ≡ after_denial w (client_in event))

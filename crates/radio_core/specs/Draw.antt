@@ -1,7 +1,7 @@
 use Rattle.std.specs.Prelude.{ℕ, ◌+◌, length, Option, Some, None}
 use Rattle.radio_core.specs.declared.house.House.{House}
 use Rattle.radio_core.specs.declared.reply.Reply.TheVariants.{Drawn, Stray}
-use Rattle.radio_core.specs.declared.outcome.Change.TheVariants.{Nothing, Hear}
+use Rattle.radio_core.specs.declared.outcome.Change.TheVariants.{Nothing, Advance}
 use Rattle.radio_core.specs.declared.outcome.Outcome.{Outcome}
 use Rattle.radio_core.specs.declared.seats.Seat.{Seat}
 use Rattle.radio_core.specs.Sessions.{Session, session_of}
@@ -15,7 +15,7 @@ abbrev pub hands_out : ℕ → Seat → ℕ → Option Session → Outcome
 hands_out id seat room None = says Stray Nothing
 hands_out id seat room (Some session) =
     let bytes = data_at session.stream seat.place room in
-    says (Drawn bytes session.title) (Hear id (seat.place + length bytes))
+    says (Drawn bytes session.title) (Advance id (seat.place + length bytes))
 
 abbrev pub hands_out_at : House → ℕ → ℕ → Option Seat → Outcome
 hands_out_at house id room None = says Stray Nothing

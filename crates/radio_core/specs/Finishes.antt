@@ -12,7 +12,8 @@ use Rattle.radio_core.specs.Step.{reply_to, world_after}
 use Rattle.radio_core.specs.Ways.{client_in}
 use Rattle.radio_core.specs.World.{World}
 
--- the event finishes the listener by the rule: he had a seat at a mount whose session it ends, his seat is gone, and the rule is the one that stops a walk from that mount then
+-- the event finishes the listener by the rule: he had a seat at a mount whose session it ends, his seat is gone, and the rule is the one that stops a walk
+-- from that mount then
 pub record Finishes (w : World) (event : Event) (id : ℕ) (rule : Rule) : Type 0 where
   pub seat : Seat
   pub had_a_seat : seat_of w.seats id ≡ Some seat
@@ -32,4 +33,5 @@ pub record WasFinished (settings : Settings) (events : List Event) (id : ℕ) (r
 
 -- a client who is told that he was finished by a rule was finished by it at an earlier event
 abbrev pub FinishedAreTold : Settings → List Event → Event → Type 0
-FinishedAreTold settings events event = (rule : Rule) → reply_to (run_after settings events) event ≡ Finished rule → (id : ℕ) × (client_in event ≡ Some id) × WasFinished settings events id rule
+FinishedAreTold settings events event = (rule : Rule) → reply_to (run_after settings events) event ≡ Finished rule
+    → (id : ℕ) × (client_in event ≡ Some id) × WasFinished settings events id rule

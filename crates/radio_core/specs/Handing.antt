@@ -2,7 +2,7 @@
 use Rattle.std.specs.Prelude.{ℕ, ◌==◌, Bool, false, if◌then◌else◌, Option, Some, None, List, [], ◌∷◌, ◌++◌}
 use Rattle.radio_core.specs.declared.event.Event.{Event}
 use Rattle.radio_core.specs.declared.outcome.Change.{Change}
-use Rattle.radio_core.specs.declared.outcome.Change.TheVariants.{TakeIn}
+use Rattle.radio_core.specs.declared.outcome.Change.TheVariants.{Receive}
 use Rattle.radio_core.specs.declared.reply.Reply.{Reply}
 use Rattle.radio_core.specs.declared.reply.Reply.TheVariants.{Drawn}
 use Rattle.radio_core.specs.Step.{outcome, reply_to, world_after}
@@ -16,7 +16,7 @@ data_in _ = []
 
 -- the block that a change takes in
 abbrev pub block_in : Change → List ℕ
-block_in (TakeIn mount block) = block
+block_in (Receive mount block) = block
 block_in _ = []
 
 abbrev pub is_number : ℕ → Option ℕ → Bool

@@ -1,6 +1,6 @@
 use Rattle.std.specs.Prelude.{ℕ}
 use Rattle.radio_core.specs.declared.reply.Reply.TheVariants.{Noted, Stray}
-use Rattle.radio_core.specs.declared.outcome.Change.TheVariants.{Nothing, FallSilent, Go}
+use Rattle.radio_core.specs.declared.outcome.Change.TheVariants.{Nothing, EndAndLeave, Forget}
 use Rattle.radio_core.specs.declared.outcome.Outcome.{Outcome}
 use Rattle.radio_core.specs.declared.standing.Standing.{Standing}
 use Rattle.radio_core.specs.declared.standing.Standing.TheVariants.{Unknown, Feeds}
@@ -10,8 +10,8 @@ use Rattle.radio_core.specs.Outcomes.{says}
 -- a client's connection is closed, who stands so; a source's session ends first
 abbrev pub leaves_from : ℕ → Standing → Outcome
 leaves_from id Unknown = says Stray Nothing
-leaves_from id (Feeds mount) = says Noted (FallSilent id mount)
-leaves_from id standing = says Noted (Go id)
+leaves_from id (Feeds mount) = says Noted (EndAndLeave id mount)
+leaves_from id standing = says Noted (Forget id)
 
 abbrev pub leaves : World → ℕ → Outcome
 leaves w id = leaves_from id (standing_of w id)

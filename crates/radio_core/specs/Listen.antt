@@ -5,7 +5,7 @@ use Rattle.radio_settings.specs.Options.{options_for}
 use Rattle.radio_core.specs.declared.event.ListenRequest.{ListenRequest}
 use Rattle.radio_core.specs.declared.house.House.{House}
 use Rattle.radio_core.specs.declared.reply.Reply.TheVariants.{Seated, Stray}
-use Rattle.radio_core.specs.declared.outcome.Change.TheVariants.{Nothing, Answer, SitDown}
+use Rattle.radio_core.specs.declared.outcome.Change.TheVariants.{Nothing, Answer, TakeSeat}
 use Rattle.radio_core.specs.declared.outcome.Outcome.{Outcome}
 use Rattle.radio_core.specs.declared.seats.Seat.{Seat}
 use Rattle.radio_core.specs.Sessions.{Session}
@@ -36,12 +36,12 @@ first_seat house asked peer session = record {
 }
 
 -- the listener sits down; where the mount is not live, which the policy denies, nothing happens
-abbrev pub sits_down : House → ListenRequest → Peer → Option Session → Outcome
-sits_down house asked peer None = says Stray Nothing
-sits_down house asked peer (Some session) =
-    says (Seated (interval_for house session.mount asked.wants_metadata) session.shown) (SitDown asked.id (first_seat house asked peer session))
+abbrev pub takes_seat : House → ListenRequest → Peer → Option Session → Outcome
+takes_seat house asked peer None = says Stray Nothing
+takes_seat house asked peer (Some session) =
+    says (Seated (interval_for house session.mount asked.wants_metadata) session.shown) (TakeSeat asked.id (first_seat house asked peer session))
 
 -- a client wants to hear the mount of this path
 abbrev pub asks_to_hear : World → ListenRequest → Outcome
 asks_to_hear w asked = if_undecided (standing_of w asked.id) (λ peer.
-    on_verdict (verdict_in (rows_to_listen w.house asked.mount)) (Answer asked.id) (sits_down w.house asked peer (session_at w.house asked.mount)))
+    on_verdict (verdict_in (rows_to_listen w.house asked.mount)) (Answer asked.id) (takes_seat w.house asked peer (session_at w.house asked.mount)))

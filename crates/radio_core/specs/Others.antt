@@ -16,14 +16,19 @@ use Rattle.radio_core.specs.World.{World, standing_of}
 
 -- another client's event leaves him as he stands, unless it finishes him, or he has only arrived by it
 abbrev pub StandsOn : World → Event → ℕ → Type 0
-StandsOn w event id = (standing_of (world_after w event) id ≡ standing_of w id) ⊎ ((rule : Rule) × (standing_of w id ≡ Sits) × (standing_of (world_after w event) id ≡ HasFinished rule) × Finishes w event id rule) ⊎ (reply_to w event ≡ Arrived id)
+StandsOn w event id = (standing_of (world_after w event) id ≡ standing_of w id) ⊎
+    ((rule : Rule) × (standing_of w id ≡ Sits) × (standing_of (world_after w event) id ≡ HasFinished rule) × Finishes w event id rule) ⊎
+    (reply_to w event ≡ Arrived id)
 
 abbrev pub OthersStandOn : World → Event → Type 0
 OthersStandOn w event = (id : ℕ) → (client_in event ≡ Some id → ⊥) → StandsOn w event id
 
 -- each reply is told to one whom it fits, and he stands as it says
 pub record RepliesFit (w : World) (event : Event) : Type 0 where
-  pub arrived : (id : ℕ) → reply_to w event ≡ Arrived id → (peer : Peer) × (event ≡ Arrive peer) × (w.house.last_id < id) × (standing_of w id ≡ Unknown) × (standing_of (world_after w event) id ≡ Undecided peer)
-  pub feeding : reply_to w event ≡ Feeding → (asked : SourceRequest) × (event ≡ Source asked) × IsUndecided w asked.id × (standing_of (world_after w event) asked.id ≡ Feeds asked.mount)
-  pub seated : (interval : Option ℕ) (shown : Shown) → reply_to w event ≡ Seated interval shown → (asked : ListenRequest) × (event ≡ Listen asked) × IsUndecided w asked.id × (standing_of (world_after w event) asked.id ≡ Sits)
+  pub arrived : (id : ℕ) → reply_to w event ≡ Arrived id → (peer : Peer) × (event ≡ Arrive peer) × (w.house.last_id < id) × (standing_of w id ≡ Unknown)
+      × (standing_of (world_after w event) id ≡ Undecided peer)
+  pub feeding : reply_to w event ≡ Feeding → (asked : SourceRequest) × (event ≡ Source asked) × IsUndecided w asked.id
+      × (standing_of (world_after w event) asked.id ≡ Feeds asked.mount)
+  pub seated : (interval : Option ℕ) (shown : Shown) → reply_to w event ≡ Seated interval shown
+      → (asked : ListenRequest) × (event ≡ Listen asked) × IsUndecided w asked.id × (standing_of (world_after w event) asked.id ≡ Sits)
   pub finished : (rule : Rule) → reply_to w event ≡ Finished rule → (id : ℕ) × (client_in event ≡ Some id) × (standing_of w id ≡ HasFinished rule)

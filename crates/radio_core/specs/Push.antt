@@ -1,7 +1,7 @@
 use Rattle.std.specs.Prelude.{ℕ, List}
 use Rattle.radio_policy.specs.Verdicts.{verdict_in}
 use Rattle.radio_core.specs.declared.reply.Reply.TheVariants.{Noted}
-use Rattle.radio_core.specs.declared.outcome.Change.TheVariants.{Nothing, TakeIn}
+use Rattle.radio_core.specs.declared.outcome.Change.TheVariants.{Nothing, Receive}
 use Rattle.radio_core.specs.declared.outcome.Outcome.{Outcome}
 use Rattle.radio_core.specs.World.{World, standing_of}
 use Rattle.radio_core.specs.Facts.{rows_to_push}
@@ -9,7 +9,7 @@ use Rattle.radio_core.specs.Outcomes.{says, on_verdict, if_feeding}
 
 -- the block comes at the end of the mount's stream
 abbrev pub takes_in : List ℕ → List ℕ → Outcome
-takes_in mount block = says Noted (TakeIn mount block)
+takes_in mount block = says Noted (Receive mount block)
 
 -- a source delivers a block
 abbrev pub delivers : World → ℕ → List ℕ → Outcome

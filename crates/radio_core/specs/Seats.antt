@@ -47,12 +47,12 @@ abbrev pub heard_to : ℕ → Seating → Seating
 heard_to place (Sits seat) = Sits (record seat { place = place })
 heard_to place (Finished rule) = Finished rule
 
-abbrev pub moved_on : ℕ → Listener → Listener
-moved_on place listener = record listener { seating = heard_to place listener.seating }
+abbrev pub advanced : ℕ → Listener → Listener
+advanced place listener = record listener { seating = heard_to place listener.seating }
 
 -- the listener has heard his stream up to this place
 abbrev pub with_place : List Listener → ℕ → ℕ → List Listener
-with_place seats id place = update_first (is_listener id) (moved_on place) seats
+with_place seats id place = update_first (is_listener id) (advanced place) seats
 
 abbrev pub is_seat_at : List ℕ → Seating → Bool
 is_seat_at mount (Sits seat) = bytes_eq seat.mount mount

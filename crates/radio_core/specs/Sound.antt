@@ -24,7 +24,8 @@ pub record IsSound (w : World) : Type 0 where
   -- nobody has a number that was not given yet
   pub numbered : (id : ℕ) → w.house.last_id < id → standing_of w id ≡ Unknown
   -- each source feeds the session of its number, and each session is fed by the source of its number
-  pub feeds : (id : ℕ) (mount : List ℕ) → standing_of w id ≡ Feeds mount → (session : Session) × (session_of w.house.live mount ≡ Some session) × (session.number ≡ id)
+  pub feeds : (id : ℕ) (mount : List ℕ) → standing_of w id ≡ Feeds mount
+      → (session : Session) × (session_of w.house.live mount ≡ Some session) × (session.number ≡ id)
   pub fed : (mount : List ℕ) (session : Session) → session_of w.house.live mount ≡ Some session → standing_of w session.number ≡ Feeds mount
   -- blocks start one after another
   pub starts : (mount : List ℕ) (session : Session) → session_of w.house.live mount ≡ Some session → AreRising session.stream.starts (end_of session.stream)

@@ -4,7 +4,7 @@ use Rattle.radio_core.specs.declared.event.Event.{Event}
 use Rattle.radio_core.specs.declared.event.Event.TheVariants.{Arrive, Source, Push, SourceEnd, Listen, Draw, Leave}
 use Rattle.radio_core.specs.declared.reply.Reply.{Reply}
 use Rattle.radio_core.specs.declared.outcome.Change.{Change}
-use Rattle.radio_core.specs.declared.outcome.Change.TheVariants.{Nothing, Answer, Hear, End, FallSilent, Go}
+use Rattle.radio_core.specs.declared.outcome.Change.TheVariants.{Nothing, Answer, Advance, End, EndAndLeave, Forget}
 use Rattle.radio_core.specs.declared.outcome.Outcome.{Outcome}
 use Rattle.radio_core.specs.World.{World}
 use Rattle.radio_core.specs.Arrive.{arrives}
@@ -45,10 +45,10 @@ Represents core w = core ≡ w
 abbrev pub NeedsNoMemory : Change → Type 0
 NeedsNoMemory Nothing = Unit {0}
 NeedsNoMemory (Answer id) = Unit {0}
-NeedsNoMemory (Hear id place) = Unit {0}
+NeedsNoMemory (Advance id place) = Unit {0}
 NeedsNoMemory (End id mount) = Unit {0}
-NeedsNoMemory (FallSilent id mount) = Unit {0}
-NeedsNoMemory (Go id) = Unit {0}
+NeedsNoMemory (EndAndLeave id mount) = Unit {0}
+NeedsNoMemory (Forget id) = Unit {0}
 NeedsNoMemory _ = ⊥
 
 -- and so the end of a session and of a connection

@@ -35,11 +35,13 @@ sittings w (event ∷ events) id = begun_sittings (seat_of w.seats id) (seat_of 
 -- the bytes are stretches, joined in order: one for each sitting, contiguous in the data that its source has sent, from where the sitting began
 abbrev pub AreStretches : (ℕ → List ℕ) → List Sitting → List ℕ → Type 0
 AreStretches sent [] bytes = bytes ≡ []
-AreStretches sent (sitting ∷ others) bytes = (stop : ℕ) × (rest : List ℕ) × (sitting.start ≤ stop) × (stop ≤ length (sent sitting.source)) × (bytes ≡ between sitting.start stop (sent sitting.source) ++ rest) × AreStretches sent others rest
+AreStretches sent (sitting ∷ others) bytes = (stop : ℕ) × (rest : List ℕ) × (sitting.start ≤ stop) × (stop ≤ length (sent sitting.source))
+    × (bytes ≡ between sitting.start stop (sent sitting.source) ++ rest) × AreStretches sent others rest
 
 -- over every run, all that a listener is handed is stretches, one for each of his sittings, of what the source of that sitting delivered
 abbrev pub StretchesAreWhole : Settings → List Event → Type 0
-StretchesAreWhole settings events = (id : ℕ) → AreStretches (delivered (opening settings) events) (sittings (opening settings) events id) (handed (opening settings) events id)
+StretchesAreWhole settings events = (id : ℕ) → AreStretches (delivered (opening settings) events) (sittings (opening settings) events id)
+    (handed (opening settings) events id)
 
 -- through an event, a listener keeps mount and session while he keeps his seat, and a new seat is in the session that its mount has then
 pub record KeepsItsMount (w : World) (event : Event) (id : ℕ) (seat : Seat) : Type 0 where

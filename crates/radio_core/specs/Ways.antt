@@ -10,7 +10,7 @@ use Rattle.radio_core.specs.declared.event.ListenRequest.{ListenRequest}
 use Rattle.radio_core.specs.declared.event.Event.{Event}
 use Rattle.radio_core.specs.declared.event.Event.TheVariants.{Arrive, Source, Push, SourceEnd, Listen, Draw, Leave}
 use Rattle.radio_core.specs.declared.house.House.{House}
-use Rattle.radio_core.specs.declared.outcome.Change.TheVariants.{Nothing, Answer, Admit, TakeIn, SitDown, Hear, End, FallSilent, Go}
+use Rattle.radio_core.specs.declared.outcome.Change.TheVariants.{Nothing, Answer, Admit, Receive, TakeSeat, Advance, End, EndAndLeave, Forget}
 use Rattle.radio_core.specs.declared.outcome.Outcome.{Outcome}
 use Rattle.radio_core.specs.declared.reply.Reply.TheVariants.{Arrived, Seated, Drawn, Noted, Deny, Finished, Stray}
 use Rattle.radio_core.specs.declared.seats.Seat.{Seat}
@@ -54,18 +54,25 @@ rows_for w event = []
 
 pub data Way (w : World) : Event → Outcome → Type 0 where
   -- it is out of place
-  Strays : (event : Event) → Way w event (says Stray Nothing)
+  Misplaced : (event : Event) → Way w event (says Stray Nothing)
   -- its client has finished, and is told the rule
-  IsTold : (event : Event) (id : ℕ) (rule : Rule) → client_in event ≡ Some id → standing_of w id ≡ HasFinished rule → Way w event (says (Finished rule) Nothing)
+  IsFinished : (event : Event) (id : ℕ) (rule : Rule) → client_in event ≡ Some id → standing_of w id ≡ HasFinished rule
+      → Way w event (says (Finished rule) Nothing)
   -- the policy denies it to one who did not ask for a mount
-  IsDenied : (event : Event) (rule : Rule) → verdict_in (rows_for w event) ≡ Denied rule → ((id : ℕ) → client_in event ≡ Some id → IsUndecided w id → ⊥) → Way w event (says (Deny rule) Nothing)
+  IsDenied : (event : Event) (rule : Rule) → verdict_in (rows_for w event) ≡ Denied rule → ((id : ℕ) → client_in event ≡ Some id → IsUndecided w id → ⊥)
+      → Way w event (says (Deny rule) Nothing)
   -- the policy denies a client what he asks for, and he has had his answer
-  IsRefused : (event : Event) (id : ℕ) (rule : Rule) → verdict_in (rows_for w event) ≡ Denied rule → client_in event ≡ Some id → IsUndecided w id → Way w event (says (Deny rule) (Answer id))
-  ComesIn : (peer : Peer) → Way w (Arrive peer) (says (Arrived (w.house.last_id + 1)) (Admit (w.house.last_id + 1) peer))
+  IsRefused : (event : Event) (id : ℕ) (rule : Rule) → verdict_in (rows_for w event) ≡ Denied rule → client_in event ≡ Some id → IsUndecided w id
+      → Way w event (says (Deny rule) (Answer id))
+  IsAdmitted : (peer : Peer) → Way w (Arrive peer) (says (Arrived (w.house.last_id + 1)) (Admit (w.house.last_id + 1) peer))
   Begins : (asked : SourceRequest) → IsUndecided w asked.id → (session_of w.house.live asked.mount ≡ None) → Way w (Source asked) (begins asked)
-  TakesIn : (id : ℕ) (mount block : List ℕ) → standing_of w id ≡ Feeds mount → Way w (Push id block) (says Noted (TakeIn mount block))
-  SitsDown : (asked : ListenRequest) (peer : Peer) (session : Session) → standing_of w asked.id ≡ Undecided peer → session_of w.house.live asked.mount ≡ Some session → Way w (Listen asked) (says (Seated (interval_for w.house session.mount asked.wants_metadata) session.shown) (SitDown asked.id (first_seat w.house asked peer session)))
-  HandsOut : (id room : ℕ) (seat : Seat) (session : Session) → standing_of w id ≡ Sits → seat_of w.seats id ≡ Some seat → session_of w.house.live seat.mount ≡ Some session → Way w (Draw id room) (says (Drawn (data_at session.stream seat.place room) session.title) (Hear id (seat.place + length (data_at session.stream seat.place room))))
+  Receives : (id : ℕ) (mount block : List ℕ) → standing_of w id ≡ Feeds mount → Way w (Push id block) (says Noted (Receive mount block))
+  TakesSeat : (asked : ListenRequest) (peer : Peer) (session : Session) → standing_of w asked.id ≡ Undecided peer
+      → session_of w.house.live asked.mount ≡ Some session → Way w (Listen asked)
+      (says (Seated (interval_for w.house session.mount asked.wants_metadata) session.shown) (TakeSeat asked.id (first_seat w.house asked peer session)))
+  HandsOut : (id room : ℕ) (seat : Seat) (session : Session) → standing_of w id ≡ Sits → seat_of w.seats id ≡ Some seat
+      → session_of w.house.live seat.mount ≡ Some session → Way w (Draw id room)
+      (says (Drawn (data_at session.stream seat.place room) session.title) (Advance id (seat.place + length (data_at session.stream seat.place room))))
   Ends : (id : ℕ) (mount : List ℕ) → standing_of w id ≡ Feeds mount → Way w (SourceEnd id) (says Noted (End id mount))
-  FallsSilent : (id : ℕ) (mount : List ℕ) → standing_of w id ≡ Feeds mount → Way w (Leave id) (says Noted (FallSilent id mount))
-  Goes : (id : ℕ) → ((mount : List ℕ) → standing_of w id ≡ Feeds mount → ⊥) → Way w (Leave id) (says Noted (Go id))
+  EndsAndLeaves : (id : ℕ) (mount : List ℕ) → standing_of w id ≡ Feeds mount → Way w (Leave id) (says Noted (EndAndLeave id mount))
+  Leaves : (id : ℕ) → ((mount : List ℕ) → standing_of w id ≡ Feeds mount → ⊥) → Way w (Leave id) (says Noted (Forget id))

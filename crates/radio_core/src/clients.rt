@@ -49,15 +49,15 @@ impl Row for Client {
 
 /// The client does something else from now on.
 #[derive(Drop)]
-pub(crate) struct Does {
+pub(crate) struct SetState {
     pub(crate) state: ClientState,
 }
 
-impl Change<Client> for Does {
+impl Change<Client> for SetState {
     ghost use Rattle.std.specs.Prelude.{refl};
-    ghost use Rattle.radio_core.specs.Clients.{doing};
+    ghost use Rattle.radio_core.specs.Clients.{with_state};
 
-    ghost gives = { λ change client. doing change.state client };
+    ghost gives = { λ change client. with_state change.state client };
 
     ghost keeps_key = { λ change client. refl };
 

@@ -4,10 +4,10 @@ ghost use Rattle.std.specs.Prelude.{◌≡◌, OnOk, OnErr};
 ghost use Rattle.std.specs.Option.{option_copied};
 ghost use Rattle.radio_core.specs.Sessions.{session_of};
 ghost use Rattle.radio_core.specs.Facts.{session_at, live_end};
-ghost use Rattle.radio_core.specs.Changes.{now_doing, admitted, begun, taken_in};
+ghost use Rattle.radio_core.specs.Changes.{now_in_state, admitted, begun, received};
 
 use crate::OutOfMemory;
-use crate::clients::{Client, ClientState, Does};
+use crate::clients::{Client, ClientState, SetState};
 use crate::sessions::{Delivers, Session};
 use crate::stream::Stream;
 use radio_addr::Peer;
@@ -60,9 +60,9 @@ impl House {
 
     /// The client of this number does something else from now on.
     pub(crate) fn set_state(&mut self, id: u64, state: ClientState)
-        ensures { self.new ≡ now_doing self.old id state }
+        ensures { self.new ≡ now_in_state self.old id state }
     {
-        self.clients.change(id, &Does { state });
+        self.clients.change(id, &SetState { state });
     }
 
     /// A client has come, and has this number. `OutOfMemory` where memory was refused; nothing has
@@ -107,8 +107,8 @@ impl House {
 
     /// The mount's session has delivered a block. `OutOfMemory` where memory was refused; nothing
     /// has changed then.
-    pub(crate) fn take_in(&mut self, mount: &MountName, block: Block) -> Result<(), OutOfMemory>
-        ensures ok { OnOk result (self.new ≡ taken_in self.old mount.now block) }
+    pub(crate) fn receive(&mut self, mount: &MountName, block: Block) -> Result<(), OutOfMemory>
+        ensures ok { OnOk result (self.new ≡ received self.old mount.now block) }
         ensures err { OnErr result (self.new ≡ self.old) }
     {
         let moment = self.time;

@@ -28,17 +28,17 @@ pub(crate) enum Change {
         shown: Shown,
     },
     /// The mount's session has delivered a block.
-    TakeIn {
+    Receive {
         mount: MountName,
         block: Block,
     },
     /// The client has this seat from now on.
-    SitDown {
+    TakeSeat {
         id: u64,
         seat: Seat,
     },
     /// The listener has heard his stream up to this place.
-    Hear {
+    Advance {
         id: u64,
         place: Place,
     },
@@ -48,12 +48,12 @@ pub(crate) enum Change {
         mount: MountName,
     },
     /// The mount's session ends, and nothing is left of its source.
-    FallSilent {
+    EndAndLeave {
         id: u64,
         mount: MountName,
     },
     /// Nothing is left of the client.
-    Go {
+    Forget {
         id: u64,
     },
 }
@@ -90,7 +90,7 @@ impl Outcome {
     }
 
     /// The client has finished by the rule, and is told it.
-    pub(crate) fn told(rule: Rule) -> Outcome
+    pub(crate) fn finished(rule: Rule) -> Outcome
         ensures { result ≡ says (Reply.Finished rule) Change.Nothing }
     {
         Outcome {

@@ -65,15 +65,15 @@ impl Row for Listener {
 
 /// The listener has heard his stream up to this place.
 #[derive(Drop)]
-pub(crate) struct MovesOn {
+pub(crate) struct Advances {
     pub(crate) place: Place,
 }
 
-impl Change<Listener> for MovesOn {
+impl Change<Listener> for Advances {
     ghost use Rattle.std.specs.Prelude.{refl};
-    ghost use Rattle.radio_core.specs.Seats.{moved_on};
+    ghost use Rattle.radio_core.specs.Seats.{advanced};
 
-    ghost gives = { λ change listener. moved_on change.place listener };
+    ghost gives = { λ change listener. advanced change.place listener };
 
     ghost keeps_key = { λ change listener. refl };
 

@@ -1,5 +1,5 @@
 ghost use Rattle.std.specs.Prelude.{◌≡◌, ◌<◌, ◌-◌, ◌^◌};
-ghost use Rattle.radio_core.specs.Arrive.{arrives, comes_in};
+ghost use Rattle.radio_core.specs.Arrive.{arrives, admits_client};
 
 use crate::outcome::{Change, Outcome};
 use crate::{Core, Reply};
@@ -23,13 +23,13 @@ impl Core {
                 reply: Reply::Deny(rule),
                 change: Change::Nothing,
             },
-            Verdict::Allow => self.come_in(peer),
+            Verdict::Allow => self.admit_client(peer),
         }
     }
 
-    fn come_in(&self, peer: Peer) -> Outcome
+    fn admit_client(&self, peer: Peer) -> Outcome
         requires { self.now.house.last_id < 2 ^ 64 - 1 }
-        ensures { result ≡ comes_in self.now peer }
+        ensures { result ≡ admits_client self.now peer }
     {
         let id = self.house.last_id + 1;
         Outcome {

@@ -1,10 +1,10 @@
 ghost use Rattle.std.specs.Prelude.{◌≡◌, IsOk, OnOk, OnErr};
-ghost use Rattle.radio_core.specs.Changes.{changed, silent, gone};
+ghost use Rattle.radio_core.specs.Changes.{changed, session_ended, forgotten};
 ghost use Rattle.radio_core.specs.Step.{NeedsNoMemory};
 
 use crate::clients::ClientState;
 use crate::outcome::Change;
-use crate::seats::{FinishesFrom, Listener, MovesOn, Seat, Seating};
+use crate::seats::{Advances, FinishesFrom, Listener, Seat, Seating};
 use crate::{Core, OutOfMemory};
 use radio_policy::Rule;
 use radio_settings::MountName;
@@ -24,23 +24,23 @@ impl Core {
             }
             Change::Admit { id, peer } => self.house.admit(id, peer),
             Change::Begin { id, mount, shown } => self.house.begin(self.alloc, id, mount, shown),
-            Change::TakeIn { mount, block } => self.house.take_in(&mount, block),
-            Change::SitDown { id, seat } => self.seat_listener(id, seat),
-            Change::Hear { id, place } => {
-                self.seats.change(id, &MovesOn { place });
+            Change::Receive { mount, block } => self.house.receive(&mount, block),
+            Change::TakeSeat { id, seat } => self.seat_listener(id, seat),
+            Change::Advance { id, place } => {
+                self.seats.change(id, &Advances { place });
                 Ok(())
             }
             Change::End { id, mount } => {
-                self.silence(mount);
+                self.end_session(mount);
                 self.house.set_state(id, ClientState::Answered);
                 Ok(())
             }
-            Change::FallSilent { id, mount } => {
-                self.silence(mount);
+            Change::EndAndLeave { id, mount } => {
+                self.end_session(mount);
                 self.forget(id);
                 Ok(())
             }
-            Change::Go { id } => {
+            Change::Forget { id } => {
                 self.forget(id);
                 Ok(())
             }
@@ -49,7 +49,7 @@ impl Core {
 
     /// The client has this seat from now on.
     fn seat_listener(&mut self, id: u64, seat: Seat) -> Result<(), OutOfMemory>
-        ensures ok { OnOk result (self.new ≡ changed self.old (Change.SitDown id seat)) }
+        ensures ok { OnOk result (self.new ≡ changed self.old (Change.TakeSeat id seat)) }
         ensures err { OnErr result (self.new ≡ self.old) }
     {
         let seating = Seating::Sits(seat);
@@ -59,8 +59,8 @@ impl Core {
     }
 
     /// The mount's session ends, and its listeners finish. It takes no memory.
-    fn silence(&mut self, mount: MountName)
-        ensures { self.new ≡ silent self.old mount }
+    fn end_session(&mut self, mount: MountName)
+        ensures { self.new ≡ session_ended self.old mount }
     {
         self.house.live.remove(mount);
         let rule = Rule::NotLive;
@@ -69,7 +69,7 @@ impl Core {
 
     /// Nothing is left of the client. It takes no memory.
     fn forget(&mut self, id: u64)
-        ensures { self.new ≡ gone self.old id }
+        ensures { self.new ≡ forgotten self.old id }
     {
         self.seats.remove(id);
         self.house.clients.remove(id);

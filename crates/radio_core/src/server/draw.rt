@@ -14,7 +14,7 @@ impl Core {
     {
         match self.standing(id) {
             Standing::Sits => self.hand_out(id, room),
-            Standing::Finished(rule) => Ok(Outcome::told(rule)),
+            Standing::Finished(rule) => Ok(Outcome::finished(rule)),
             _ => Ok(Outcome::stray()),
         }
     }
@@ -34,7 +34,7 @@ impl Core {
         let title = session.title.clone()?;
         Ok(Outcome {
             reply: Reply::Drawn { pieces, title },
-            change: Change::Hear { id, place },
+            change: Change::Advance { id, place },
         })
     }
 }

@@ -14,11 +14,11 @@ impl Core {
             Standing::Unknown => Outcome::stray(),
             Standing::Feeds(mount) => Outcome {
                 reply: Reply::Noted,
-                change: Change::FallSilent { id, mount },
+                change: Change::EndAndLeave { id, mount },
             },
             _ => Outcome {
                 reply: Reply::Noted,
-                change: Change::Go { id },
+                change: Change::Forget { id },
             },
         }
     }

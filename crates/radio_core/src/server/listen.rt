@@ -1,6 +1,6 @@
 ghost use Rattle.std.specs.Prelude.{◌≡◌, Some, IfOk, MatchResult};
 ghost use Rattle.radio_core.specs.Facts.{session_at};
-ghost use Rattle.radio_core.specs.Listen.{asks_to_hear, sits_down, burst_of, interval_for, first_seat};
+ghost use Rattle.radio_core.specs.Listen.{asks_to_hear, takes_seat, burst_of, interval_for, first_seat};
 
 use crate::house::House;
 use crate::outcome::{Change, Outcome};
@@ -18,18 +18,18 @@ impl Core {
         ensures { IfOk result (λ o. o ≡ asks_to_hear self.now asked) }
     {
         match self.may_listen(&asked) {
-            Ok(peer) => self.sit_down(asked, peer),
+            Ok(peer) => self.take_seat(asked, peer),
             Err(other) => Ok(other),
         }
     }
 
     /// The address of the client, if he may hear the mount, or what else comes of his asking.
     fn may_listen(&self, asked: &ListenRequest) -> Result<Peer, Outcome>
-        ensures { MatchResult result (λ peer. asks_to_hear self.now asked.now ≡ sits_down self.now.house asked.now peer (session_at self.now.house asked.now.mount)) (λ other. other ≡ asks_to_hear self.now asked.now) }
+        ensures { MatchResult result (λ peer. asks_to_hear self.now asked.now ≡ takes_seat self.now.house asked.now peer (session_at self.now.house asked.now.mount)) (λ other. other ≡ asks_to_hear self.now asked.now) }
     {
         let peer = match self.standing(asked.id) {
             Standing::Undecided(peer) => peer,
-            Standing::Finished(rule) => return Err(Outcome::told(rule)),
+            Standing::Finished(rule) => return Err(Outcome::finished(rule)),
             _ => return Err(Outcome::stray()),
         };
         let path = asked.mount.as_slice();
@@ -49,8 +49,8 @@ impl Core {
     }
 
     /// The listener sits down at the mount.
-    fn sit_down(&self, asked: ListenRequest, peer: Peer) -> Result<Outcome, OutOfMemory>
-        ensures { IfOk result (λ o. o ≡ sits_down self.now.house asked peer (session_at self.now.house asked.mount)) }
+    fn take_seat(&self, asked: ListenRequest, peer: Peer) -> Result<Outcome, OutOfMemory>
+        ensures { IfOk result (λ o. o ≡ takes_seat self.now.house asked peer (session_at self.now.house asked.mount)) }
     {
         match self.house.session_at(asked.mount.as_slice()) {
             Some(session) => self.house.welcome(asked, peer, session),
@@ -67,7 +67,7 @@ impl House {
         peer: Peer,
         session: &Session,
     ) -> Result<Outcome, OutOfMemory>
-        ensures { IfOk result (λ o. o ≡ sits_down self.now asked peer (Some session.now)) }
+        ensures { IfOk result (λ o. o ≡ takes_seat self.now asked peer (Some session.now)) }
     {
         let shown = session.shown.clone()?;
         let id = asked.id;
@@ -77,7 +77,7 @@ impl House {
                 interval: seat.interval,
                 shown,
             },
-            change: Change::SitDown { id, seat },
+            change: Change::TakeSeat { id, seat },
         })
     }
 

@@ -14,7 +14,7 @@ impl Core {
     {
         let mount = match self.standing(id) {
             Standing::Feeds(mount) => mount,
-            Standing::Finished(rule) => return Outcome::told(rule),
+            Standing::Finished(rule) => return Outcome::finished(rule),
             _ => return Outcome::stray(),
         };
         let end = self.house.live_end(&mount);
@@ -32,7 +32,7 @@ impl Core {
             },
             Verdict::Allow => Outcome {
                 reply: Reply::Noted,
-                change: Change::TakeIn { mount, block },
+                change: Change::Receive { mount, block },
             },
         }
     }

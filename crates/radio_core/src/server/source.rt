@@ -31,7 +31,7 @@ impl Core {
     {
         match self.standing(asked.id) {
             Standing::Undecided(_) => {}
-            Standing::Finished(rule) => return Err(Outcome::told(rule)),
+            Standing::Finished(rule) => return Err(Outcome::finished(rule)),
             _ => return Err(Outcome::stray()),
         }
         let path = asked.mount.as_slice();

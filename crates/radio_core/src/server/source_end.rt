@@ -15,7 +15,7 @@ impl Core {
                 reply: Reply::Noted,
                 change: Change::End { id, mount },
             },
-            Standing::Finished(rule) => Outcome::told(rule),
+            Standing::Finished(rule) => Outcome::finished(rule),
             _ => Outcome::stray(),
         }
     }

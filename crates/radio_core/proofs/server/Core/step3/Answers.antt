@@ -7,7 +7,8 @@ pub returns-in-Ok-clause-step : goal.returns-in-Ok-clause-step
 returns-in-Ok-clause-step c =
     let o = c.in_ok-reply.field-0 in
     steps_done c.args.self.now c.commit_for.new.self c.args.event o c.in_ok-reply.ensures.value c.commit_for.result c.commit_for.ensures.ok
-    (IfOk-weaker c.commit_for.result (λ replies. replies ≡ c.in-Ok.replies) (λ replies. replies ≡ o.reply ∷ o.reply ∷ o.reply ∷ []) (λ replies e. e ∙ c.in-Ok.ensures.value) c.commit_for.ensures.told)
+    (IfOk-weaker c.commit_for.result (λ replies. replies ≡ c.in-Ok.replies) (λ replies. replies ≡ o.reply ∷ o.reply ∷ o.reply ∷ [])
+    (λ replies e. e ∙ c.in-Ok.ensures.value) c.commit_for.ensures.told)
 
 pub returns-in-Ok-clause-frees : goal.returns-in-Ok-clause-frees
 returns-in-Ok-clause-frees c small =
