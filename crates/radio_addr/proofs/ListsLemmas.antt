@@ -3,7 +3,8 @@ use Rattle.std.proofs.Common.{◌≡◌, ℕ, ◌+◌, ◌<◌, ◌≤◌, [], �
 use Rattle.std.proofs.lemmas.List.{nil_from_length, append-nil}
 use Rattle.std.proofs.lemmas.Bool.{cases_lt}
 use Rattle.radio_texts.specs.Cuts.{fields_at}
-use Rattle.radio_addr.specs.Lists.{line_of, without_blanks, lines_after, with_line, after_ranges, Explains, FaultsLine, AddsLine}
+use Rattle.radio_texts.specs.Blanks.{without_blanks}
+use Rattle.radio_addr.specs.Lists.{line_of, lines_after, with_line, after_ranges, Explains, FaultsLine, AddsLine}
 use Rattle.radio_addr.specs.declared.lines.AddressRange.{AddressRange}
 use Rattle.radio_addr.specs.declared.lines.Line.TheVariants.{Passed, Bad}
 use Rattle.radio_addr.specs.declared.lists.ListFault.{ListFault}

@@ -3,6 +3,7 @@ use Rattle.std.specs.Prelude.{◌≡◌, ℕ, Bool, false, ◌+◌, ◌-◌, ◌
 use Rattle.std.specs.Fmt.{decimal}
 use Rattle.std.specs.Option.{option_map, option_and_then}
 use Rattle.std.specs.List.{prefix_len, suffix_len, list_any}
+use Rattle.radio_texts.specs.Blanks.{without_blanks}
 use Rattle.radio_texts.specs.Cuts.{cut, fields_at}
 use Rattle.radio_texts.specs.Lines.{without_return}
 use Rattle.radio_texts.specs.Numbers.{number_of}
@@ -14,14 +15,6 @@ use Rattle.radio_addr.specs.declared.lists.ListFault.{ListFault}
 use Rattle.radio_addr.specs.declared.lists.ListFault.TheVariants.{LineFault, OutOfMemory}
 use Rattle.radio_addr.specs.declared.lines.Line.{Line}
 use Rattle.radio_addr.specs.declared.lines.Line.TheVariants.{Passed, Listed, Bad}
-
--- a space or a tab
-abbrev pub is_blank : ℕ → Bool
-is_blank b = b == 32 || b == 9
-
--- a text without the blanks at its ends
-unfoldable pub without_blanks : List ℕ → List ℕ
-without_blanks text = let rest = drop (prefix_len is_blank text) text in take (length rest - suffix_len is_blank rest) rest
 
 -- how many bits an address has
 abbrev pub width_of : Address → ℕ

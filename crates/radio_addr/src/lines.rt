@@ -1,10 +1,10 @@
 //! The lines of address lists.
 ghost use Rattle.std.specs.Prelude.{◌≡◌, ◌≤◌, ◌+◌, length};
 ghost use Rattle.std.specs.List.{prefix_len, suffix_len};
-ghost use Rattle.radio_addr.specs.Lists.{is_blank, without_blanks, width_of, range_of, line_of};
+ghost use Rattle.radio_addr.specs.Lists.{width_of, range_of, line_of};
 
 use crate::address::{Address, read_address};
-use radio_texts::{cut, read_number, without_return};
+use radio_texts::{cut, read_number, without_blanks, without_return};
 
 /// The addresses that agree with `address` in its first `bits` bits.
 #[derive(Debug, Clone, Copy, PartialEq, Eq)]
@@ -31,7 +31,7 @@ pub enum Line {
 pub fn read_line(line: &[u8]) -> Line
     ensures { result ≡ line_of line.now }
 {
-    let text = trimmed(without_return(line));
+    let text = without_blanks(without_return(line));
     if text.is_empty() || text[0] == b'#' {
         return Line::Passed;
     }
@@ -67,40 +67,4 @@ fn width(address: Address) -> u32
         Address::V4(_) => 32,
         Address::V6(_) => 128,
     }
-}
-
-#[tactic(auto, unfolding(crate::specs::Lists::without_blanks))]
-fn trimmed(text: &[u8]) -> &[u8]
-    ensures { result.now ≡ without_blanks text.now }
-{
-    let (_, rest) = text.split_at(blanks_in_front(text));
-    let (front, _) = rest.split_at(len_without_blanks(rest));
-    front
-}
-
-fn blanks_in_front(text: &[u8]) -> usize
-    ensures value { result ≡ prefix_len is_blank text.now }
-    ensures fits { result ≤ length text.now }
-{
-    let mut n = 0;
-    while n < text.len() && is_blank(text[n]) {
-        n += 1;
-    }
-    n
-}
-
-fn len_without_blanks(text: &[u8]) -> usize
-    ensures { result + suffix_len is_blank text.now ≡ length text.now }
-{
-    let mut n = text.len();
-    while n > 0 && is_blank(text[n - 1]) {
-        n -= 1;
-    }
-    n
-}
-
-fn is_blank(b: u8) -> bool
-    ensures { result ≡ is_blank b }
-{
-    b == b' ' || b == b'\t'
 }

@@ -1,6 +1,7 @@
 use Rattle.std.specs.Prelude.{Bool, true, not, List, [], ◌∷◌, Option, Some, None}
 use Rattle.radio_policy.specs.declared.rule.Rule.{Rule}
-use Rattle.radio_policy.specs.declared.rule.Rule.TheVariants.{BadMount, MountInUse, NoMount, NumbersSpent}
+use Rattle.radio_policy.specs.declared.rule.Rule.TheVariants.{AddressDenied, AddressNotAllowed, TooManyClients, BadMount, SourcePassword, TooManySources, MountInUse}
+use Rattle.radio_policy.specs.declared.rule.Rule.TheVariants.{ContentType, NoMount, ListenerPassword, NumbersSpent}
 use Rattle.radio_policy.specs.declared.facts.Facts.{Facts}
 use Rattle.radio_policy.specs.declared.facts.Subject.{Subject}
 use Rattle.radio_policy.specs.declared.facts.Action.{Action}
@@ -17,6 +18,9 @@ row name condition = record { rule = name; holds = condition }
 -- a connection arrives
 abbrev pub arrive_rows : Facts → List Row
 arrive_rows facts =
+    row AddressDenied facts.address_is_denied ∷
+    row AddressNotAllowed (not facts.address_is_allowed) ∷
+    row TooManyClients facts.clients_are_full ∷
     row NumbersSpent facts.number_is_spent ∷
     []
 
@@ -24,7 +28,10 @@ arrive_rows facts =
 abbrev pub source_rows : Facts → Subject → List Row
 source_rows facts subject =
     row BadMount (not subject.names_a_mount) ∷
+    row SourcePassword (not facts.is_source_pair) ∷
+    row TooManySources facts.sources_are_full ∷
     row MountInUse facts.mount_is_live ∷
+    row ContentType facts.type_is_refused ∷
     []
 
 -- a source delivers a block
@@ -43,6 +50,7 @@ abbrev pub listen_rows : Facts → Subject → List Row
 listen_rows facts subject =
     row BadMount (not subject.names_a_mount) ∷
     row NoMount (not facts.mount_is_known) ∷
+    row ListenerPassword (not facts.users_accept) ∷
     walk_rows facts.walk_stops
 
 -- the rows of an action, in the order in which they are asked

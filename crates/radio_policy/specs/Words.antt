@@ -1,14 +1,22 @@
-use Rattle.std.specs.Prelude.{ℕ, List, codes, Option, Some}
+use Rattle.std.specs.Prelude.{ℕ, List, codes, Option, Some, None}
 use Rattle.radio_policy.specs.declared.rule.Rule.{Rule}
-use Rattle.radio_policy.specs.declared.rule.Rule.TheVariants.{BadMount, MountInUse, NoMount, NotLive, NumbersSpent, BadHead, BadMethod}
+use Rattle.radio_policy.specs.declared.rule.Rule.TheVariants.{AddressDenied, AddressNotAllowed, TooManyClients, BadMount, SourcePassword, TooManySources, MountInUse}
+use Rattle.radio_policy.specs.declared.rule.Rule.TheVariants.{ContentType, NoMount, ListenerPassword, NotLive, NumbersSpent, BadHead, BadMethod}
 use Rattle.radio_policy.specs.declared.rule.Status.{Status}
-use Rattle.radio_policy.specs.declared.rule.Status.TheVariants.{BadRequest, Forbidden, NotFound}
+use Rattle.radio_policy.specs.declared.rule.Status.TheVariants.{BadRequest, Unauthorized, Forbidden, NotFound}
 
 -- the name by which a rule is told
 abbrev pub word_of : Rule → List ℕ
+word_of AddressDenied = codes "address-denied"
+word_of AddressNotAllowed = codes "address-not-allowed"
+word_of TooManyClients = codes "too-many-clients"
 word_of BadMount = codes "bad-mount"
+word_of SourcePassword = codes "source-password"
+word_of TooManySources = codes "too-many-sources"
 word_of MountInUse = codes "mount-in-use"
+word_of ContentType = codes "content-type"
 word_of NoMount = codes "no-mount"
+word_of ListenerPassword = codes "listener-password"
 word_of NotLive = codes "not-live"
 word_of NumbersSpent = codes "numbers-spent"
 word_of BadHead = codes "bad-head"
@@ -16,9 +24,16 @@ word_of BadMethod = codes "bad-method"
 
 -- the status of the answer that tells a denial by the rule; a rule by which nothing is denied in an answer has none
 abbrev pub status_of : Rule → Option Status
+status_of AddressDenied = None
+status_of AddressNotAllowed = None
+status_of TooManyClients = Some Forbidden
 status_of BadMount = Some BadRequest
+status_of SourcePassword = Some Unauthorized
+status_of TooManySources = Some Forbidden
 status_of MountInUse = Some Forbidden
+status_of ContentType = Some Forbidden
 status_of NoMount = Some NotFound
+status_of ListenerPassword = Some Unauthorized
 status_of NotLive = Some NotFound
 status_of NumbersSpent = Some Forbidden
 status_of BadHead = Some BadRequest

@@ -17,10 +17,24 @@ pub enum Action {
 /// those that its rules name.
 #[derive(Clone, Copy, Debug, PartialEq, Eq)]
 pub struct Facts {
+    /// The deny list has the peer's address.
+    pub address_is_denied: bool,
+    /// There is no allow list, or it has the peer's address.
+    pub address_is_allowed: bool,
+    /// As many clients are there as there may be.
+    pub clients_are_full: bool,
+    /// The pair that was sent is the one of the mount's source.
+    pub is_source_pair: bool,
+    /// As many sources are live as may be.
+    pub sources_are_full: bool,
     /// The mount has a live source.
     pub mount_is_live: bool,
-    /// The server knows the mount: it is live.
+    /// The content type is one that the server does not carry.
+    pub type_is_refused: bool,
+    /// The server knows the mount: it is in the settings, a relay feeds it, or it is live.
     pub mount_is_known: bool,
+    /// The mount has no users, or they accept the pair that was sent.
+    pub users_accept: bool,
     /// The rule that stops the walk from the mount asked for, if one does.
     pub walk_stops: Option<Rule>,
     /// The next number, of a client or of a byte, would pass the largest of 64 bits.
@@ -30,8 +44,15 @@ pub struct Facts {
 impl Facts {
     /// Answers that deny nothing: the start from which those of an action are set.
     pub const NONE: Facts = Facts {
+        address_is_denied: false,
+        address_is_allowed: true,
+        clients_are_full: false,
+        is_source_pair: true,
+        sources_are_full: false,
         mount_is_live: false,
+        type_is_refused: false,
         mount_is_known: true,
+        users_accept: true,
         walk_stops: None,
         number_is_spent: false,
     };

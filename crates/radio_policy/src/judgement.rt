@@ -28,7 +28,13 @@ pub fn judge(facts: &Facts, subject: &Subject, action: &Action) -> Verdict
 fn judge_arrive(facts: &Facts) -> Verdict
     ensures { result ≡ verdict_in (arrive_rows facts.now) }
 {
-    if facts.number_is_spent {
+    if facts.address_is_denied {
+        Verdict::Deny(Rule::AddressDenied)
+    } else if !facts.address_is_allowed {
+        Verdict::Deny(Rule::AddressNotAllowed)
+    } else if facts.clients_are_full {
+        Verdict::Deny(Rule::TooManyClients)
+    } else if facts.number_is_spent {
         Verdict::Deny(Rule::NumbersSpent)
     } else {
         Verdict::Allow
@@ -40,8 +46,14 @@ fn judge_source(facts: &Facts, subject: &Subject) -> Verdict
 {
     if !subject.names_a_mount {
         Verdict::Deny(Rule::BadMount)
+    } else if !facts.is_source_pair {
+        Verdict::Deny(Rule::SourcePassword)
+    } else if facts.sources_are_full {
+        Verdict::Deny(Rule::TooManySources)
     } else if facts.mount_is_live {
         Verdict::Deny(Rule::MountInUse)
+    } else if facts.type_is_refused {
+        Verdict::Deny(Rule::ContentType)
     } else {
         Verdict::Allow
     }
@@ -65,6 +77,9 @@ fn judge_listen(facts: &Facts, subject: &Subject) -> Verdict
     }
     if !facts.mount_is_known {
         return Verdict::Deny(Rule::NoMount);
+    }
+    if !facts.users_accept {
+        return Verdict::Deny(Rule::ListenerPassword);
     }
     match facts.walk_stops {
         Some(rule) => Verdict::Deny(rule),

@@ -18,10 +18,24 @@ pub enum Status {
 /// A rule by which something is denied, or by which a client was finished.
 #[derive(Clone, Copy, Debug, PartialEq, Eq)]
 pub enum Rule {
+    /// The deny list has the peer's address.
+    AddressDenied,
+    /// There is an allow list, and it does not have the peer's address.
+    AddressNotAllowed,
+    /// As many clients are there as there may be.
+    TooManyClients,
     /// The path is no mount name.
     BadMount,
+    /// The pair that was sent, or none, is not that of the mount's source.
+    SourcePassword,
+    /// As many sources are live as may be.
+    TooManySources,
     /// The mount has a live source already.
     MountInUse,
+    /// The content type is one that the server does not carry.
+    ContentType,
+    /// The mount has users, and they do not accept the pair that was sent, or none.
+    ListenerPassword,
     /// The server does not know the mount.
     NoMount,
     /// The mount has no live source.
@@ -42,8 +56,15 @@ impl Rule {
         ensures { result.now ≡ word_of self }
     {
         match self {
+            Rule::AddressDenied => "address-denied",
+            Rule::AddressNotAllowed => "address-not-allowed",
+            Rule::TooManyClients => "too-many-clients",
             Rule::BadMount => "bad-mount",
+            Rule::SourcePassword => "source-password",
+            Rule::TooManySources => "too-many-sources",
             Rule::MountInUse => "mount-in-use",
+            Rule::ContentType => "content-type",
+            Rule::ListenerPassword => "listener-password",
             Rule::NoMount => "no-mount",
             Rule::NotLive => "not-live",
             Rule::NumbersSpent => "numbers-spent",
@@ -57,8 +78,14 @@ impl Rule {
         ensures { result ≡ status_of self }
     {
         match self {
+            Rule::AddressDenied | Rule::AddressNotAllowed => None,
             Rule::BadMount | Rule::BadHead | Rule::BadMethod => Some(Status::BadRequest),
-            Rule::MountInUse | Rule::NumbersSpent => Some(Status::Forbidden),
+            Rule::SourcePassword | Rule::ListenerPassword => Some(Status::Unauthorized),
+            Rule::TooManyClients
+            | Rule::TooManySources
+            | Rule::MountInUse
+            | Rule::ContentType
+            | Rule::NumbersSpent => Some(Status::Forbidden),
             Rule::NoMount | Rule::NotLive => Some(Status::NotFound),
         }
     }

@@ -1,3 +1,4 @@
 pub mod Cuts
 pub mod Lines
 pub mod Numbers
+pub mod Blanks

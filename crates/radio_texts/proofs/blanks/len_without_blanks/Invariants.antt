@@ -1,7 +1,7 @@
 use Rattle.std.proofs.Common.{◌≡◌, ◌+◌, ◌≤◌, length, take}
 use Rattle.std.specs.List.{suffix_len}
-use Rattle.radio_addr.specs.Lists.{is_blank}
-use Rattle.radio_addr.proofs.lines.len_without_blanks.Given as goal
+use Rattle.radio_texts.specs.Blanks.{is_blank}
+use Rattle.radio_texts.proofs.blanks.len_without_blanks.Given as goal
 
 abbrev pub invariant-loop-n : goal.invariant-loop-n
 invariant-loop-n l =

@@ -1,7 +1,7 @@
 use Rattle.std.proofs.Common.{◌≡◌, ◌+◌, ◌-◌, ◌≤◌, length, drop}
 use Rattle.std.specs.List.{prefix_len}
-use Rattle.radio_addr.specs.Lists.{is_blank}
-use Rattle.radio_addr.proofs.lines.blanks_in_front.Given as goal
+use Rattle.radio_texts.specs.Blanks.{is_blank}
+use Rattle.radio_texts.proofs.blanks.blanks_in_front.Given as goal
 
 abbrev pub invariant-loop-n : goal.invariant-loop-n
 invariant-loop-n l =

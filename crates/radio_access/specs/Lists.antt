@@ -1,0 +1,66 @@
+-- Who is let in by the files that the settings name.
+use Rattle.std.specs.Prelude.{ℕ, Bool, true, false, not, ◌&&◌, List, [], Option, None, Some, find}
+use Rattle.std.specs.declared.cmp.Ordering.{Ordering}
+use Rattle.std.specs.Cmp.Lexicographic.{slice_cmp}
+use Rattle.std.specs.FinMap as map
+use Rattle.std.specs.Option.{option_map_or}
+use Rattle.std.specs.Ordering.{nat_cmp}
+use Rattle.std.specs.Str.{bytes_eq}
+use Rattle.md5.specs.Md5.{md5}
+use Rattle.radio_addr.specs.declared.address.Address.{Address}
+use Rattle.radio_addr.specs.declared.lines.AddressRange.{AddressRange}
+use Rattle.radio_addr.specs.Lists.{is_listed}
+use Rattle.radio_creds.specs.Credentials.{Credentials}
+use Rattle.radio_creds.specs.UserList.{UserList}
+use Rattle.radio_tables.specs.Lists.{placed}
+use Rattle.radio_access.specs.declared.lists.MountUsers.{MountUsers}
+
+pub record Lists : Type 0 where
+  -- the addresses that are denied, if a list of them is given
+  pub denied : Option (List AddressRange)
+  -- the only addresses that are allowed, if a list of them is given
+  pub allowed : Option (List AddressRange)
+  -- the users of each mount that has a list of them, in the order of the mounts' names
+  pub users : List MountUsers
+
+abbrev pub no_lists : Lists
+no_lists = record { denied = None; allowed = None; users = [] }
+
+-- a deny list is given, and lists the address
+abbrev pub is_denied : Lists → Address → Bool
+is_denied lists peer = option_map_or (λ ranges. is_listed ranges peer) lists.denied false
+
+-- no allow list is given, or it lists the address
+abbrev pub is_allowed : Lists → Address → Bool
+is_allowed lists peer = option_map_or (λ ranges. is_listed ranges peer) lists.allowed true
+
+-- the address passes both lists
+abbrev pub passes : Lists → Address → Bool
+passes lists peer = not (is_denied lists peer) && is_allowed lists peer
+
+abbrev pub is_of : List ℕ → MountUsers → Bool
+is_of mount listed = bytes_eq listed.mount mount
+
+-- the users of the mount, if it has a list of them
+abbrev pub users_at : Lists → List ℕ → Option MountUsers
+users_at lists mount = find (is_of mount) lists.users
+
+abbrev pub by_mount : MountUsers → MountUsers → Ordering
+by_mount a b = slice_cmp nat_cmp a.mount b.mount
+
+-- the mount has these users from now on
+abbrev pub with_users : Lists → List ℕ → UserList → Lists
+with_users lists mount users = record lists { users = placed by_mount (record { mount = mount; users = users }) lists.users }
+
+-- a digest is listed, and is that of the password
+abbrev pub is_digest_of : List ℕ → Option (List ℕ) → Bool
+is_digest_of password listed = option_map_or (λ digest. bytes_eq digest (md5 password)) listed false
+
+-- the users accept what was sent: a pair whose user they list, with the digest of its password
+abbrev pub accepts : UserList → Option Credentials → Bool
+accepts users None = false
+accepts users (Some pair) = is_digest_of pair.password (map.get users pair.user)
+
+-- the mount is open to one who sends this: it has no users, or they accept it
+abbrev pub lets_in : Lists → List ℕ → Option Credentials → Bool
+lets_in lists mount pair = option_map_or (λ listed. accepts listed.users pair) (users_at lists mount) true

@@ -1,0 +1,15 @@
+-- The pair that a mount's source sends.
+use Rattle.std.specs.Prelude.{ℕ, Bool, false, ◌&&◌, List, Option, None, Some}
+use Rattle.std.specs.Str.{bytes_eq}
+use Rattle.radio_creds.specs.Credentials.{Credentials}
+use Rattle.radio_settings.specs.declared.settings.Login.{Login}
+use Rattle.radio_settings.specs.declared.settings.Settings.{Settings}
+use Rattle.radio_settings.specs.Options.{options_for}
+
+abbrev pub is_login : Login → Credentials → Bool
+is_login login pair = bytes_eq login.username pair.user && bytes_eq login.password pair.password
+
+-- a pair was sent, and it is the user and the password of the mount's source
+abbrev pub is_source_pair : Settings → List ℕ → Option Credentials → Bool
+is_source_pair settings mount None = false
+is_source_pair settings mount (Some pair) = is_login (options_for settings mount).source pair

@@ -1,0 +1,18 @@
+//! Who is let in: address lists, user lists, source pairs, and the content types that are refused.
+//!
+//! - [`Lists`] holds what the files that the settings name hold: the addresses that are denied, those that alone are
+//!   allowed, and the users of each mount.
+//! - [`is_source_pair`] says whether a pair is the one that a mount's source sends.
+//! - [`is_refused_type`] says whether a content type is one that the server does not carry.
+#![tactic(auto)]
+
+mod content_type;
+mod lists;
+mod source_pair;
+
+pub use content_type::is_refused_type;
+pub use lists::{Lists, MountUsers};
+pub use source_pair::is_source_pair;
+
+/// What a call answers where memory was refused. Nothing has changed then.
+pub type OutOfMemory = std::alloc::AllocError;

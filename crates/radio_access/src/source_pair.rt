@@ -1,0 +1,37 @@
+//! The pair that a mount's source sends.
+ghost use Rattle.std.specs.Prelude.{◌≡◌};
+ghost use Rattle.std.specs.Option.{option_copied};
+ghost use Rattle.std.specs.Str.{bytes_eq};
+ghost use Rattle.radio_access.specs.SourcePair.{is_source_pair, is_login};
+
+use radio_creds::{Pair, is_same_secret};
+use radio_settings::{Login, MountName, Settings};
+
+/// Whether a pair, or none, is the one that the mount's source sends: the user and the password that the mount sets,
+/// else `source` and the station's source password (Icecast 2.4 documentation, mount settings).
+///
+/// All bytes of the password are compared, wherever two of one length differ.
+pub fn is_source_pair(settings: &Settings, mount: &MountName, pair: Option<&Pair>) -> bool
+    ensures { result ≡ is_source_pair settings.now mount.now (option_copied pair.entry) }
+{
+    match pair {
+        Some(pair) => is_login(&settings.options(mount).source, pair),
+        None => false,
+    }
+}
+
+/// Whether a pair is the login.
+fn is_login(login: &Login, pair: &Pair) -> bool
+    ensures { result ≡ is_login login.now pair.now }
+{
+    let is_user = is_same(login.username.as_bytes(), pair.user());
+    let is_password = is_same(login.password.as_bytes(), pair.password());
+    is_user & is_password
+}
+
+/// Whether two texts are the same, in the same number of steps wherever two of one length differ.
+fn is_same(a: &[u8], b: &[u8]) -> bool
+    ensures { result ≡ bytes_eq a.now b.now }
+{
+    is_same_secret(a, b)
+}
