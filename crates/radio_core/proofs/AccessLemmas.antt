@@ -23,13 +23,15 @@ use Rattle.radio_core.specs.Stream.{WholeStream, end_of, burst_start, data_at}
 use Rattle.radio_core.specs.Ways.{Way, Misplaced, IsFinished, IsDenied, IsRefused, IsAdmitted, Begins, Receives, TakesSeat, HandsOut, Ends, EndsAndLeaves, Leaves}
 use Rattle.radio_core.proofs.Lookups.{found_named, has_sat_down}
 use Rattle.radio_core.proofs.Soundness.{burst_within}
+use Rattle.radio_core.proofs.ListsLemmas.{KeepsLists}
 use Rattle.radio_core.proofs.Ways.{way_of}
 
-module _ (w : World) (s : IsSound w) where
+module _ (w : World) (s : IsSound w) (k : KeepsLists w) where
   his_by : (event : Event) (o : Outcome) → Way w event o → (bytes : List ℕ) (title : Option (List ℕ)) → o.reply ≡ Drawn bytes title
       → IsHis w event bytes title
   his_by event o (HandsOut id room seat session sits has live) bytes title d =
       let old = s.seated id seat has in
+      let let_in = k.seated id seat has in
       record {
         id = id;
         room = room;
@@ -41,7 +43,13 @@ module _ (w : World) (s : IsSound w) where
         is_live = live;
         is_data = sym (drawn_bytes d);
         is_title = sym (drawn_title d);
-        is_open = (old.session, old.is_live, old.his_session);
+        is_open = record {
+          session = old.session;
+          is_live = old.is_live;
+          his_session = old.his_session;
+          passes_lists = let_in.passing;
+          is_let_in = let_in.accepted;
+        };
       } where
         drawn_bytes : {a b : List ℕ} {t u : Option (List ℕ)} → Drawn a t ≡ Drawn b u → a ≡ b
         drawn_bytes e = cc
@@ -52,10 +60,10 @@ module _ (w : World) (s : IsSound w) where
   his_by event o (IsFinished _ id by his told) bytes title d = cc
   his_by event o (IsDenied _ by v not) bytes title d = cc
   his_by event o (IsRefused _ id by v his undecided) bytes title d = cc
-  his_by event o (IsAdmitted peer) bytes title d = cc
+  his_by event o (IsAdmitted peer allowed) bytes title d = cc
   his_by event o (Begins asked undecided none) bytes title d = cc
   his_by event o (Receives id mount block feeding) bytes title d = cc
-  his_by event o (TakesSeat asked peer session undecided live) bytes title d = cc
+  his_by event o (TakesSeat asked peer session undecided live allowed) bytes title d = cc
   his_by event o (Ends id mount feeding) bytes title d = cc
   his_by event o (EndsAndLeaves id mount feeding) bytes title d = cc
   his_by event o (Leaves id other) bytes title d = cc
@@ -144,7 +152,7 @@ earliest_start session burst rising = by_found (find (first last burst) session.
 module _ (w : World) (s : IsSound w) where
   seated_by : (event : Event) (o : Outcome) → Way w event o → (interval : Option ℕ) (shown : Shown) → o.reply ≡ Seated interval shown
       → ((id : ℕ) → seat_of (changed w o.change).seats id ≡ seat_of (world_after w event).seats id) → IsSeated w event shown
-  seated_by event o (TakesSeat asked peer session undecided live) interval shown d after =
+  seated_by event o (TakesSeat asked peer session undecided live allowed) interval shown d after =
       let name = found_named w.house.live asked.mount session live in
       let itself : (asked.id == asked.id) ≡ true = grind (arith, nat_tests) in
       let seat = first_seat w.house asked peer session in
@@ -167,7 +175,7 @@ module _ (w : World) (s : IsSound w) where
   seated_by event o (IsFinished _ id by his told) interval shown d after = cc
   seated_by event o (IsDenied _ by v not) interval shown d after = cc
   seated_by event o (IsRefused _ id by v his undecided) interval shown d after = cc
-  seated_by event o (IsAdmitted peer) interval shown d after = cc
+  seated_by event o (IsAdmitted peer allowed) interval shown d after = cc
   seated_by event o (Begins asked undecided none) interval shown d after = cc
   seated_by event o (Receives id mount block feeding) interval shown d after = cc
   seated_by event o (HandsOut id room seat session sits has live) interval shown d after = cc

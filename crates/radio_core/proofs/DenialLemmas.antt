@@ -45,10 +45,10 @@ module _ (denies : (rows : List Row) (rule : Rule) → (verdict_in rows ≡ Deni
   denial_by event o (IsRefused _ id by v his undecided) = λ rule d. (named event by rule v d, is_answered id (client_in event) his undecided)
   denial_by event o (Misplaced _) = λ rule d. cc
   denial_by event o (IsFinished _ id by his told) = λ rule d. cc
-  denial_by event o (IsAdmitted peer) = λ rule d. cc
+  denial_by event o (IsAdmitted peer allowed) = λ rule d. cc
   denial_by event o (Begins asked undecided none) = λ rule d. cc
   denial_by event o (Receives id mount block feeding) = λ rule d. cc
-  denial_by event o (TakesSeat asked peer session undecided live) = λ rule d. cc
+  denial_by event o (TakesSeat asked peer session undecided live allowed) = λ rule d. cc
   denial_by event o (HandsOut id room seat session sits has live) = λ rule d. cc
   denial_by event o (Ends id mount feeding) = λ rule d. cc
   denial_by event o (EndsAndLeaves id mount feeding) = λ rule d. cc

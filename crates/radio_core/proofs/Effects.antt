@@ -9,6 +9,7 @@ use Rattle.radio_core.specs.declared.reply.Reply.{Reply}
 use Rattle.radio_core.specs.declared.reply.Reply.TheVariants.{Arrived}
 use Rattle.radio_core.specs.declared.standing.Standing.{Standing}
 use Rattle.radio_core.specs.declared.standing.Standing.TheVariants.{Unknown, Undecided, Feeds, Sits, Answered, Finished}
+use Rattle.radio_access.specs.Lists.{passes}
 use Rattle.radio_core.specs.World.{World, standing_of}
 use Rattle.radio_core.specs.Changes.{changed, session_ended}
 use Rattle.radio_core.specs.Listen.{first_seat}
@@ -20,7 +21,7 @@ use Rattle.radio_core.specs.Ways.{Way, Misplaced, IsFinished, IsDenied, IsRefuse
 use Rattle.radio_core.proofs.Lookups.{is_over, is_no_listener, beside_left}
 use Rattle.radio_core.proofs.Standings.{Turns, turns_answered, turns_feeding, turns_sitting, turns_forgotten, turns_admitted, listener_seated, stays_hearing}
 use Rattle.radio_core.proofs.SoundEnds.{turns_ended, turns_ended_and_left}
-use Rattle.radio_core.proofs.Ways.{way_of}
+use Rattle.radio_core.proofs.Ways.{way_of, may_arrive}
 
 -- by his own event nobody finishes, or comes to have asked for nothing
 abbrev pub HasActed : Standing → Type 0
@@ -32,7 +33,7 @@ pub data Effect (w later : World) (event : Event) (reply : Reply) : Type 0 where
   -- everybody stands as before
   Same : ((id : ℕ) → standing_of later id ≡ standing_of w id) → Effect w later event reply
   -- a client has arrived
-  Joins : (peer : Peer) → reply ≡ Arrived (w.house.last_id + 1) → Turns w later (w.house.last_id + 1) (Undecided peer) → Effect w later event reply
+  Joins : (peer : Peer) → passes w.house.lists peer ≡ true → reply ≡ Arrived (w.house.last_id + 1) → Turns w later (w.house.last_id + 1) (Undecided peer) → Effect w later event reply
   -- the event's client stands otherwise
   Acts : (him : ℕ) (now : Standing) → client_in event ≡ Some him → HasActed now → Turns w later him now → Effect w later event reply
   -- and the session ends that he feeds
@@ -54,11 +55,11 @@ module _ (w : World) (s : IsSound w) where
   effect_by event o (IsFinished _ him by its known) = Same (λ id. refl)
   effect_by event o (IsDenied _ by v nobody) = Same (λ id. refl)
   effect_by event o (IsRefused _ him by v its undecided) = let at = undecided.1 in Acts him Answered its tt (turns_answered w him (λ u. cc))
-  effect_by event o (IsAdmitted peer) = Joins peer refl (turns_admitted w (w.house.last_id + 1) peer)
+  effect_by event o (IsAdmitted peer allowed) = Joins peer (may_arrive w peer allowed) refl (turns_admitted w (w.house.last_id + 1) peer)
   effect_by event o (Begins asked undecided none) = let at = undecided.1 in Acts asked.id (Feeds asked.mount) refl tt
       (turns_feeding w asked.id asked.mount asked.shown (λ u. cc))
   effect_by event o (Receives him mount block feeding) = Same (λ id. refl)
-  effect_by event o (TakesSeat asked peer session undecided live) =
+  effect_by event o (TakesSeat asked peer session undecided live allowed) =
       Acts asked.id Sits refl tt (turns_sitting w asked.id (first_seat w.house asked peer session) (λ u. cc))
   effect_by event o (HandsOut him room seat session sits has live) =
       let listener = listener_seated w.seats him seat has in

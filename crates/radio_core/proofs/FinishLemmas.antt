@@ -1,11 +1,12 @@
 -- the law of those who are told that they were finished, and what an event does to others
-use Rattle.std.proofs.Common.{◌≡◌, ◌⊎◌, inl, inr, true, false, ℕ, ◌+◌, ◌<◌, ◌==◌, Option, Some, None, is_some, List, [], ◌∷◌, ◌++◌, refl, ap, sym, subst, ◌∙◌, arith}
+use Rattle.std.proofs.Common.{Bool, ◌≡◌, ◌⊎◌, inl, inr, true, false, ℕ, ◌+◌, ◌<◌, ◌==◌, Option, Some, None, is_some, List, [], ◌∷◌, ◌++◌, refl, ap, sym, subst, ◌∙◌, arith}
 use Rattle.std.specs.Prelude.{if◌then◌else◌}
 use Rattle.std.proofs.lemmas.Slice.Eq.{bytes_eq-Decides}
 use Rattle.radio_policy.specs.declared.rule.Rule.{Rule}
-use Rattle.radio_policy.specs.declared.rule.Rule.TheVariants.{NotLive}
+use Rattle.radio_policy.specs.declared.rule.Rule.TheVariants.{ListenerPassword, NotLive}
 use Rattle.radio_addr.specs.declared.peer.Peer.{Peer}
 use Rattle.radio_settings.specs.declared.settings.Settings.{Settings}
+use Rattle.radio_access.specs.Lists.{Lists, passes}
 use Rattle.radio_settings.specs.MountName.{is_mount_name}
 use Rattle.radio_tables.specs.KeyLaws.{by_number}
 use Rattle.radio_core.specs.declared.event.Event.{Event}
@@ -15,7 +16,7 @@ use Rattle.radio_core.specs.declared.standing.Standing.{Standing}
 use Rattle.radio_core.specs.declared.standing.Standing.TheVariants.{Unknown, Undecided, Feeds, Sits, Answered, Finished as HasFinished}
 use Rattle.radio_core.specs.World.{World, opening, standing_of}
 use Rattle.radio_core.specs.Changes.{session_ended}
-use Rattle.radio_core.specs.Facts.{is_live}
+use Rattle.radio_core.specs.Facts.{is_live, is_let_in}
 use Rattle.radio_core.specs.Finishes.{Finishes, WasFinished, FinishedAreTold}
 use Rattle.radio_core.specs.Others.{StandsOn, OthersStandOn}
 use Rattle.radio_core.specs.Run.{world_after_all, run_after}
@@ -35,9 +36,9 @@ not_live : (b : _) (found : Option Session) → found ≡ None → is_some (if b
 not_live true found e = ap is_some e
 not_live false found e = refl
 
-stopped : (b : _) → b ≡ false → (if b then None else Some NotLive) ≡ Some NotLive
-stopped true e = cc
-stopped false e = refl
+stopped : (b accepted : Bool) → b ≡ false → (if b then (if accepted then None else Some ListenerPassword) else Some NotLive) ≡ Some NotLive
+stopped true accepted e = cc
+stopped false accepted e = refl
 
 -- what the end of a session does to whoever sits at its mount: he is finished by it
 module _ (w : World) (s : IsSound w) (event : Event) (mount : List ℕ) (over : session_of (world_after w event).house.live mount ≡ None)
@@ -57,7 +58,7 @@ module _ (w : World) (s : IsSound w) (event : Event) (mount : List ℕ) (over : 
         session = old.session;
         was_live = old.is_live;
         is_over = dead;
-        stopped_by = stopped (is_live (world_after w event).house seat.mount) dead;
+        stopped_by = stopped (is_live (world_after w event).house seat.mount) (is_let_in (world_after w event).house seat.mount seat.pair) dead;
         has_none = lost id (sits_no_more w mount id seat loses.had_a_seat loses.there);
       }
 
@@ -88,7 +89,7 @@ module _ (w : World) (s : IsSound w) (event : Event) where
   -- the end of a session turns others only where they lose their seats
   stands_by : (id : ℕ) → (client_in event ≡ Some id → ⊥) → Effect w (world_after w event) event (reply_to w event) → StandsOn w event id
   stands_by id not (Same same) = inl (same id)
-  stands_by id not (Joins peer arrived t) = by_number (w.house.last_id + 1) id (λ same. inr (inr (arrived ∙ ap (λ (n : ℕ). Arrived n) same)))
+  stands_by id not (Joins peer passing arrived t) = by_number (w.house.last_id + 1) id (λ same. inr (inr (arrived ∙ ap (λ (n : ℕ). Arrived n) same)))
       (λ other. inl (t.others id other))
   stands_by id not (Acts him now his acted t) = inl (t.others id (apart_from event him id his not))
   stands_by id not (Silences him mount now his acted t over lost) = by_end (silenced w mount id) (t.others id (apart_from event him id his not)) where
@@ -104,7 +105,7 @@ module _ (w : World) (s : IsSound w) (event : Event) where
   finished_by : (id : ℕ) (rule : Rule) → standing_of (world_after w event) id ≡ HasFinished rule → Effect w (world_after w event) event (reply_to w event)
       → (standing_of w id ≡ HasFinished rule) ⊎ Finishes w event id rule
   finished_by id rule e (Same same) = inl (sym (same id) ∙ e)
-  finished_by id rule e (Joins peer arrived t) =
+  finished_by id rule e (Joins peer passing arrived t) =
       by_number (w.house.last_id + 1) id
       (λ same. let now : Undecided peer ≡ HasFinished rule = sym t.his ∙ ap (standing_of (world_after w event)) same ∙ e in cc)
       (λ other. inl (sym (t.others id other) ∙ e))
@@ -128,11 +129,22 @@ module _ (w : World) (s : IsSound w) (event : Event) where
       → (standing_of w id ≡ HasFinished rule) ⊎ Finishes w event id rule
   finish_step id rule e = finished_by id rule e (effect_of w s event)
 
+  -- he has a new number, and his address passes the address lists
+  abbrev HasArrived : ℕ → Peer → Type 0
+  HasArrived id peer = (w.house.last_id < id) × (passes w.house.lists peer ≡ true)
+
   -- who has asked for nothing after an event had not before, or has only arrived
   undecided_by : (id : ℕ) (peer : Peer) → standing_of (world_after w event) id ≡ Undecided peer → Effect w (world_after w event) event (reply_to w event)
-      → (standing_of w id ≡ Undecided peer) ⊎ (w.house.last_id < id)
+      → (standing_of w id ≡ Undecided peer) ⊎ HasArrived id peer
   undecided_by id peer e (Same same) = inl (sym (same id) ∙ e)
-  undecided_by id peer e (Joins other arrived t) = by_number (w.house.last_id + 1) id (λ same. inr (omega arith)) (λ apart. inl (sym (t.others id apart) ∙ e))
+  undecided_by id peer e (Joins other passing arrived t) =
+      by_number (w.house.last_id + 1) id
+      (λ same.
+      let both : Undecided other ≡ Undecided peer = sym t.his ∙ ap (standing_of (world_after w event)) same ∙ e in
+      let one : other ≡ peer = cc in
+      let new : w.house.last_id < id = omega arith in
+      inr (new, ap (passes w.house.lists) (sym one) ∙ passing))
+      (λ apart. inl (sym (t.others id apart) ∙ e))
   undecided_by id peer e (Acts him now his acted t) =
       by_number him id
       (λ same. absurd (not_undecided now peer acted (sym t.his ∙ ap (standing_of (world_after w event)) same ∙ e)))
@@ -142,12 +154,12 @@ module _ (w : World) (s : IsSound w) (event : Event) where
       (λ same. absurd (not_undecided now peer acted (sym t.his ∙ ap (standing_of (world_after w event)) same ∙ e)))
       (λ other. by_end (silenced w mount id) (sym (t.others id other) ∙ e)) where
         by_end : (standing_of (session_ended w mount) id ≡ standing_of w id) ⊎ Lost mount id → standing_of (session_ended w mount) id ≡ Undecided peer
-            → (standing_of w id ≡ Undecided peer) ⊎ (w.house.last_id < id)
+            → (standing_of w id ≡ Undecided peer) ⊎ HasArrived id peer
         by_end (inl same) stood = inl (sym same ∙ stood)
         by_end (inr loses) stood = let finished : standing_of (session_ended w mount) id ≡ HasFinished NotLive = loses.finished in cc
 
   pub undecided_before : (id : ℕ) (peer : Peer) → standing_of (world_after w event) id ≡ Undecided peer
-      → (standing_of w id ≡ Undecided peer) ⊎ (w.house.last_id < id)
+      → (standing_of w id ≡ Undecided peer) ⊎ HasArrived id peer
   undecided_before id peer e = undecided_by id peer e (effect_of w s event)
 
 -- from any state on: who stands finished in the end stood so at the start, or one of the events has finished him
@@ -179,10 +191,10 @@ since w s (event ∷ events) id rule e = later (since (world_after w event) (sou
             put.finishes;
       })
 
-pub was_finished : (settings : Settings) (events : List Event) (id : ℕ) (rule : Rule) → standing_of (run_after settings events) id ≡ HasFinished rule
-    → WasFinished settings events id rule
-was_finished settings events id rule e = either (since (opening settings) (sound_opening settings) events id rule e) where
-  either : (standing_of (opening settings) id ≡ HasFinished rule) ⊎ Put (opening settings) events id rule → WasFinished settings events id rule
+pub was_finished : (settings : Settings) (lists : Lists) (events : List Event) (id : ℕ) (rule : Rule) → standing_of (run_after settings lists events) id ≡ HasFinished rule
+    → WasFinished settings lists events id rule
+was_finished settings lists events id rule e = either (since (opening settings lists) (sound_opening settings lists) events id rule e) where
+  either : (standing_of (opening settings lists) id ≡ HasFinished rule) ⊎ Put (opening settings lists) events id rule → WasFinished settings lists events id rule
   either (inl stood) = cc
   either (inr put) = record { before = put.before; event = put.event; after = put.after; in_order = put.in_order; finishes = put.finishes }
 
@@ -192,10 +204,10 @@ told_by w event o (IsFinished _ him by its known) rule d = let same : by ≡ rul
 told_by w event o (Misplaced _) rule d = cc
 told_by w event o (IsDenied _ by v nobody) rule d = cc
 told_by w event o (IsRefused _ him by v its undecided) rule d = cc
-told_by w event o (IsAdmitted peer) rule d = cc
+told_by w event o (IsAdmitted peer allowed) rule d = cc
 told_by w event o (Begins asked undecided none) rule d = cc
 told_by w event o (Receives him mount block feeding) rule d = cc
-told_by w event o (TakesSeat asked peer session undecided live) rule d = cc
+told_by w event o (TakesSeat asked peer session undecided live allowed) rule d = cc
 told_by w event o (HandsOut him room seat session sits has live) rule d = cc
 told_by w event o (Ends him mount feeding) rule d = cc
 told_by w event o (EndsAndLeaves him mount feeding) rule d = cc
@@ -206,7 +218,7 @@ pub finished_told : (w : World) (event : Event) (rule : Rule) → reply_to w eve
 unfolding reply_to
 finished_told w event rule d = told_by w event (outcome w event) (way_of w event) rule d
 
-pub finished_hold : (settings : Settings) (events : List Event) (event : Event) → FinishedAreTold settings events event
-finished_hold settings events event rule d =
-    let told = finished_told (run_after settings events) event rule d in
-    (told.0, told.1, was_finished settings events told.0 rule told.2)
+pub finished_hold : (settings : Settings) (lists : Lists) (events : List Event) (event : Event) → FinishedAreTold settings lists events event
+finished_hold settings lists events event rule d =
+    let told = finished_told (run_after settings lists events) event rule d in
+    (told.0, told.1, was_finished settings lists events told.0 rule told.2)

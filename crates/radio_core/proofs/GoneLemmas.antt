@@ -3,6 +3,7 @@ use Rattle.std.proofs.Common.{◌≡◌, ◌⊎◌, inl, inr, true, false, ℕ, 
 use Rattle.std.specs.Prelude.{if◌then◌else◌}
 use Rattle.std.proofs.lemmas.Bool.Decides.{nat_tests}
 use Rattle.radio_settings.specs.declared.settings.Settings.{Settings}
+use Rattle.radio_access.specs.Lists.{Lists}
 use Rattle.radio_tables.specs.KeyLaws.{by_number}
 use Rattle.radio_core.specs.declared.event.Event.{Event}
 use Rattle.radio_core.specs.declared.event.Event.TheVariants.{Arrive, Source, Push, SourceEnd, Listen, Draw, Leave}
@@ -46,10 +47,10 @@ left_at_once : (w : World) (id : ℕ) → id ≤ w.house.last_id → HasLeft (wo
 unfolding world_after outcome
 left_at_once w id given = left_by w id given (standing_of w id) refl
 
-pub has_left : (settings : Settings) (events : List Event) (id : ℕ) → id ≤ (run_after settings events).house.last_id
-    → HasLeft (run_after settings (events ++ Leave id ∷ [])) id
-has_left settings events id given =
-    subst (λ (x : World). HasLeft x id) (sym (after_joined _ events (Leave id ∷ []))) (left_at_once (run_after settings events) id given)
+pub has_left : (settings : Settings) (lists : Lists) (events : List Event) (id : ℕ) → id ≤ (run_after settings lists events).house.last_id
+    → HasLeft (run_after settings lists (events ++ Leave id ∷ [])) id
+has_left settings lists events id given =
+    subst (λ (x : World). HasLeft x id) (sym (after_joined _ events (Leave id ∷ []))) (left_at_once (run_after settings lists events) id given)
 
 -- whatever happens in his name is out of place
 module _ (w : World) (id : ℕ) (unknown : standing_of w id ≡ Unknown) where
@@ -68,14 +69,14 @@ module _ (w : World) (id : ℕ) (unknown : standing_of w id ≡ Unknown) where
 
 -- numbers are not taken back
 low_by : (w : World) (event : Event) (o : Outcome) → Way w event o → w.house.last_id ≤ (changed w o.change).house.last_id
-low_by w event o (IsAdmitted peer) = omega arith
+low_by w event o (IsAdmitted peer allowed) = omega arith
 low_by w event o (Misplaced _) = omega arith
 low_by w event o (IsFinished _ him by its known) = omega arith
 low_by w event o (IsDenied _ by v nobody) = omega arith
 low_by w event o (IsRefused _ him by v its undecided) = omega arith
 low_by w event o (Begins asked undecided none) = omega arith
 low_by w event o (Receives him mount block feeding) = omega arith
-low_by w event o (TakesSeat asked peer session undecided live) = omega arith
+low_by w event o (TakesSeat asked peer session undecided live allowed) = omega arith
 low_by w event o (HandsOut him room seat session sits has live) = omega arith
 low_by w event o (Ends him mount feeding) = omega arith
 low_by w event o (EndsAndLeaves him mount feeding) = omega arith

@@ -14,3 +14,4 @@ pub mod GoneLemmas
 pub mod SeatSteps
 pub mod StretchLemmas
 pub mod StepLemmas
+pub mod ListsLemmas

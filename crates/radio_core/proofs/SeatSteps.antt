@@ -118,10 +118,10 @@ module _ (w : World) (s : IsSound w) (id : ℕ) where
   step_by event o (IsFinished _ him by its known) = stays (of_client event id []) mine (nothing_of event id [] refl) refl
   step_by event o (IsDenied _ by v nobody) = stays (of_client event id []) mine (nothing_of event id [] refl) refl
   step_by event o (IsRefused _ him by v its undecided) = stays (of_client event id []) mine (nothing_of event id [] refl) refl
-  step_by event o (IsAdmitted peer) = stays [] mine refl refl
+  step_by event o (IsAdmitted peer allowed) = stays [] mine refl refl
   step_by event o (Begins asked undecided none) = stays (of_client event id []) mine (nothing_of event id [] refl) refl
   step_by event o (Receives him mount block feeding) = stays (of_client event id []) mine (nothing_of event id [] refl) refl
-  step_by event o (TakesSeat asked peer session undecided live) =
+  step_by event o (TakesSeat asked peer session undecided live allowed) =
       takes_seat_at asked peer session undecided live (of_client event id []) (nothing_of event id [] refl)
   step_by event o (HandsOut him room seat session sits has live) = hands_at him room seat session sits has live
   step_by event o (Ends him mount feeding) =

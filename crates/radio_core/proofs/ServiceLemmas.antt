@@ -2,14 +2,12 @@
 use Rattle.std.proofs.Common.{◌≡◌, ◌↔◌, true, false, ℕ, Bool, not, ◌+◌, ◌<◌, Option, Some, None, is_some, List, [], ◌∷◌, refl, ap, sym, ◌∙◌, arith}
 use Rattle.std.specs.Prelude.{if◌then◌else◌}
 use Rattle.radio_policy.specs.declared.rule.Rule.{Rule}
-use Rattle.radio_policy.specs.declared.rule.Rule.TheVariants.{BadMount, NoMount}
 use Rattle.radio_policy.specs.declared.judgement.Verdict.{Verdict}
 use Rattle.radio_policy.specs.declared.judgement.Verdict.TheVariants.{Allow, Deny as Denied}
-use Rattle.radio_policy.specs.Table.{Row, row, walk_rows}
+use Rattle.radio_policy.specs.Table.{Row}
 use Rattle.radio_policy.specs.Verdicts.{verdict_in, Allows}
 use Rattle.radio_addr.specs.declared.peer.Peer.{Peer}
 use Rattle.radio_settings.specs.declared.field.Shown.{Shown}
-use Rattle.radio_settings.specs.MountName.{is_mount_name}
 use Rattle.radio_core.specs.declared.event.Event.{Event}
 use Rattle.radio_core.specs.declared.event.Event.TheVariants.{Arrive, Source, Push, Listen, Draw}
 use Rattle.radio_core.specs.declared.event.SourceRequest.{SourceRequest}
@@ -29,7 +27,7 @@ use Rattle.radio_core.specs.declared.standing.Standing.TheVariants.{Unknown, Und
 use Rattle.radio_core.specs.Clients.{client_of}
 use Rattle.radio_core.specs.World.{World, standing_of, standing_in, standing_by, standing_of_listener, standing_seated}
 use Rattle.radio_core.specs.Changes.{changed}
-use Rattle.radio_core.specs.Facts.{session_at, is_live, walk_stops, rows_to_arrive, rows_to_feed, rows_to_push, rows_to_listen}
+use Rattle.radio_core.specs.Facts.{session_at, rows_to_arrive, rows_to_feed, rows_to_push, rows_to_listen}
 use Rattle.radio_core.specs.Outcomes.{on_verdict, if_undecided, if_feeding, if_sitting}
 use Rattle.radio_core.specs.Arrive.{admits_client}
 use Rattle.radio_core.specs.Source.{begins}
@@ -45,7 +43,7 @@ use Rattle.radio_core.specs.Step.{outcome, reply_to, world_after}
 use Rattle.radio_core.specs.Ways.{Way, Misplaced, IsFinished, IsDenied, IsRefused, IsAdmitted, Begins, Receives, TakesSeat, HandsOut, Ends, EndsAndLeaves, Leaves, IsUndecided}
 use Rattle.radio_core.proofs.FinishLemmas.{finished_told}
 use Rattle.radio_core.proofs.Standings.{turns_answered, turns_feeding, turns_sitting, turns_admitted}
-use Rattle.radio_core.proofs.Ways.{way_of, found_at_path}
+use Rattle.radio_core.proofs.Ways.{way_of, found_at_path, may_listen}
 
 is_allowed : (v : Verdict) (denied : Change) (allowed : Outcome) → v ≡ Allow → on_verdict v denied allowed ≡ allowed
 is_allowed Allow denied allowed e = refl
@@ -60,24 +58,10 @@ goes_feeding s mount go e = rw e refl
 goes_sitting : (s : Standing) (go : Outcome) → s ≡ Sits → if_sitting s go ≡ go
 goes_sitting s go e = rw e refl
 
--- where a mount is known and no walk stops, it has a session
+-- a mount that is live has a session
 found_there : (found : Option Session) → is_some found ≡ true → (session : Session) × (found ≡ Some session)
 found_there None e = cc
 found_there (Some session) e = (session, refl)
-
-is_true : (b : Bool) → not b ≡ false → b ≡ true
-is_true true e = refl
-is_true false e = cc
-
-after_row : (rule : Rule) (rest : List Row) (holds : Bool) → verdict_in (row rule holds ∷ rest) ≡ Allow → (holds ≡ false) × (verdict_in rest ≡ Allow)
-after_row rule rest true e = cc
-after_row rule rest false e = (refl, e)
-
-may_listen : (w : World) (path : List ℕ) → verdict_in (rows_to_listen w.house path) ≡ Allow → (session : Session) × (session_at w.house path ≡ Some session)
-may_listen w path v =
-    let one = after_row BadMount (row NoMount (not (is_live w.house path)) ∷ walk_rows (walk_stops w.house path)) (not (is_mount_name path)) v in
-    let two = after_row NoMount (walk_rows (walk_stops w.house path)) (not (is_live w.house path)) one.1 in
-    found_there (session_at w.house path) (is_true (is_live w.house path) two.0)
 
 -- who sits has a seat
 held_seat : (seating : Seating) → standing_seated seating ≡ Sits → (seat : Seat) × (seat_held seating ≡ Some seat)
@@ -104,16 +88,16 @@ pub seat_of_sitting : (w : World) (id : ℕ) → standing_of w id ≡ Sits → (
 seat_of_sitting w id e = by_client (listener_of w.seats id) (client_of w.house.clients id) e
 
 module _ (allows : (rows : List Row) → (verdict_in rows ≡ Allow) ↔ Allows rows) (w : World) (s : IsSound w) where
-  outcome_arrive : (peer : Peer) → Allows (rows_to_arrive w.house) → outcome w (Arrive peer) ≡ admits_client w peer
+  outcome_arrive : (peer : Peer) → Allows (rows_to_arrive w.house peer) → outcome w (Arrive peer) ≡ admits_client w peer
   unfolding outcome
-  outcome_arrive peer a = is_allowed (verdict_in (rows_to_arrive w.house)) _ (admits_client w peer) ((allows (rows_to_arrive w.house)).1 a)
+  outcome_arrive peer a = is_allowed (verdict_in (rows_to_arrive w.house peer)) _ (admits_client w peer) ((allows (rows_to_arrive w.house peer)).1 a)
 
-  outcome_source : (asked : SourceRequest) (peer : Peer) → standing_of w asked.id ≡ Undecided peer → Allows (rows_to_feed w.house asked.mount)
+  outcome_source : (asked : SourceRequest) (peer : Peer) → standing_of w asked.id ≡ Undecided peer → Allows (rows_to_feed w.house asked)
       → outcome w (Source asked) ≡ begins asked
   unfolding outcome
   outcome_source asked peer e a =
       goes_undecided (standing_of w asked.id) peer _ e
-      ∙ is_allowed (verdict_in (rows_to_feed w.house asked.mount)) _ (begins asked) ((allows (rows_to_feed w.house asked.mount)).1 a)
+      ∙ is_allowed (verdict_in (rows_to_feed w.house asked)) _ (begins asked) ((allows (rows_to_feed w.house asked)).1 a)
 
   outcome_push : (id : ℕ) (mount block : List ℕ) → standing_of w id ≡ Feeds mount → Allows (rows_to_push w.house mount block)
       → outcome w (Push id block) ≡ takes_in mount block
@@ -123,12 +107,12 @@ module _ (allows : (rows : List Row) → (verdict_in rows ≡ Allow) ↔ Allows 
       ∙ is_allowed (verdict_in (rows_to_push w.house mount block)) _ (takes_in mount block) ((allows (rows_to_push w.house mount block)).1 a)
 
   outcome_listen : (asked : ListenRequest) (peer : Peer) (session : Session) → standing_of w asked.id ≡ Undecided peer
-      → verdict_in (rows_to_listen w.house asked.mount) ≡ Allow → session_at w.house asked.mount ≡ Some session
+      → verdict_in (rows_to_listen w.house asked) ≡ Allow → session_at w.house asked.mount ≡ Some session
       → outcome w (Listen asked) ≡ takes_seat w.house asked peer (Some session)
   unfolding outcome
   outcome_listen asked peer session e v found =
       goes_undecided (standing_of w asked.id) peer _ e
-      ∙ is_allowed (verdict_in (rows_to_listen w.house asked.mount)) _ (takes_seat w.house asked peer (session_at w.house asked.mount)) v
+      ∙ is_allowed (verdict_in (rows_to_listen w.house asked)) _ (takes_seat w.house asked peer (session_at w.house asked.mount)) v
       ∙ ap (takes_seat w.house asked peer) found
 
   outcome_draw : (id room : ℕ) (seat : Seat) (session : Session) → standing_of w id ≡ Sits → seat_of w.seats id ≡ Some seat
@@ -148,10 +132,10 @@ module _ (allows : (rows : List Row) → (verdict_in rows ≡ Allow) ↔ Allows 
   unfolding reply_to
   reply_is event o e = ap (λ (x : Outcome). x.reply) e
 
-  received : (asked : ListenRequest) (peer : Peer) → standing_of w asked.id ≡ Undecided peer → Allows (rows_to_listen w.house asked.mount) → IsTakenIn w asked
+  received : (asked : ListenRequest) (peer : Peer) → standing_of w asked.id ≡ Undecided peer → Allows (rows_to_listen w.house asked) → IsTakenIn w asked
   received asked peer e a =
-      let v = (allows (rows_to_listen w.house asked.mount)).1 a in
-      let there = may_listen w asked.mount v in
+      let v = (allows (rows_to_listen w.house asked)).1 a in
+      let there = found_there (session_at w.house asked.mount) (may_listen w asked v).0 in
       let o = outcome_listen asked peer there.0 e v there.1 in
       record {
         session = there.0;
@@ -205,7 +189,7 @@ record Fits (w : World) (event : Event) (o : Outcome) : Type 0 where
 
 module _ (w : World) (s : IsSound w) where
   fits_by : (event : Event) (o : Outcome) → Way w event o → Fits w event o
-  fits_by event o (IsAdmitted peer) = record { arrived = his; feeding = λ d. cc; seated = λ interval shown d. cc } where
+  fits_by event o (IsAdmitted peer allowed) = record { arrived = his; feeding = λ d. cc; seated = λ interval shown d. cc } where
     his : (id : ℕ) → Arrived (w.house.last_id + 1) ≡ Arrived id
         → (p : Peer) × (Arrive peer ≡ Arrive p) × (w.house.last_id < id) × (standing_of w id ≡ Unknown)
         × (standing_of (changed w (admits_client w peer).change) id ≡ Undecided p)
@@ -227,7 +211,7 @@ module _ (w : World) (s : IsSound w) where
         seated =
             λ interval shown d. cc;
       }
-  fits_by event o (TakesSeat asked peer session undecided live) =
+  fits_by event o (TakesSeat asked peer session undecided live allowed) =
       record {
         arrived = λ id d. cc;
         feeding = λ d. cc;

@@ -1,6 +1,7 @@
 -- every state of a run is sound
 use Rattle.std.proofs.Common.{◌≡◌, Some, List, [], ◌∷◌, refl}
 use Rattle.radio_settings.specs.declared.settings.Settings.{Settings}
+use Rattle.radio_access.specs.Lists.{Lists}
 use Rattle.radio_core.specs.declared.event.Event.{Event}
 use Rattle.radio_core.specs.declared.outcome.Outcome.{Outcome}
 use Rattle.radio_core.specs.World.{World, opening}
@@ -19,10 +20,10 @@ sound_by w s event o (Misplaced _) = s
 sound_by w s event o (IsFinished _ id rule his told) = s
 sound_by w s event o (IsDenied _ rule v other) = s
 sound_by w s event o (IsRefused _ id rule v his undecided) = sound_answered w s id undecided.0 undecided.1
-sound_by w s event o (IsAdmitted peer) = sound_admitted w s peer
+sound_by w s event o (IsAdmitted peer allowed) = sound_admitted w s peer
 sound_by w s event o (Begins asked undecided none) = sound_begun w s asked.id asked.mount asked.shown undecided.0 undecided.1 none
 sound_by w s event o (Receives id mount block feeding) = sound_grown w s mount block id feeding
-sound_by w s event o (TakesSeat asked peer session undecided live) = sound_sits w s asked peer session undecided live
+sound_by w s event o (TakesSeat asked peer session undecided live allowed) = sound_sits w s asked peer session undecided live
 sound_by w s event o (HandsOut id room seat session sits has live) = sound_heard w s id room seat session sits has live
 sound_by w s event o (Ends id mount feeding) = sound_ended w s id mount feeding
 sound_by w s event o (EndsAndLeaves id mount feeding) = sound_ended_and_left w s id mount feeding
@@ -36,8 +37,8 @@ pub sound_after_all : (w : World) → IsSound w → (events : List Event) → Is
 sound_after_all w s [] = s
 sound_after_all w s (event ∷ events) = sound_after_all (world_after w event) (sound_after w s event) events
 
-pub sound_opening : (settings : Settings) → IsSound (opening settings)
-sound_opening settings = record {
+pub sound_opening : (settings : Settings) (lists : Lists) → IsSound (opening settings lists)
+sound_opening settings lists = record {
   numbered = λ id h. refl;
   feeds = λ id mount e. cc;
   fed = λ mount session e. cc;
@@ -46,5 +47,5 @@ sound_opening settings = record {
   seated = λ id seat e. cc;
 }
 
-pub sound_run : (settings : Settings) (events : List Event) → IsSound (run_after settings events)
-sound_run settings events = sound_after_all (opening settings) (sound_opening settings) events
+pub sound_run : (settings : Settings) (lists : Lists) (events : List Event) → IsSound (run_after settings lists events)
+sound_run settings lists events = sound_after_all (opening settings lists) (sound_opening settings lists) events

@@ -8,6 +8,7 @@ use Rattle.std.proofs.lemmas.Slice.Eq.{bytes_eq-Decides}
 use Rattle.std.specs.Str.{bytes_eq}
 use Rattle.radio_addr.specs.declared.peer.Peer.{Peer}
 use Rattle.radio_settings.specs.declared.settings.Settings.{Settings}
+use Rattle.radio_access.specs.Lists.{Lists, passes}
 use Rattle.radio_tables.specs.KeyLaws.{by_number, by_name}
 use Rattle.radio_core.specs.declared.event.Event.{Event}
 use Rattle.radio_core.specs.declared.event.Event.TheVariants.{Push}
@@ -211,9 +212,9 @@ module _ (w : World) (s : IsSound w) (sent : ℕ → List ℕ) (h : Sent w sent)
   brings_nothing event o (IsFinished _ him by its known) id not = nothing_of event id [] refl
   brings_nothing event o (IsDenied _ by v nobody) id not = nothing_of event id [] refl
   brings_nothing event o (IsRefused _ him by v its undecided) id not = nothing_of event id [] refl
-  brings_nothing event o (IsAdmitted peer) id not = refl
+  brings_nothing event o (IsAdmitted peer allowed) id not = refl
   brings_nothing event o (Begins asked undecided none) id not = nothing_of event id [] refl
-  brings_nothing event o (TakesSeat asked peer session undecided live) id not = nothing_of event id [] refl
+  brings_nothing event o (TakesSeat asked peer session undecided live allowed) id not = nothing_of event id [] refl
   brings_nothing event o (HandsOut him room seat session sits has live) id not = nothing_of event id [] refl
   brings_nothing event o (Ends him mount feeding) id not = nothing_of event id [] refl
   brings_nothing event o (EndsAndLeaves him mount feeding) id not = nothing_of event id [] refl
@@ -275,8 +276,8 @@ module _ (w : World) (s : IsSound w) (sent : ℕ → List ℕ) (h : Sent w sent)
   whole_by event o (IsFinished _ him by its known) = as_it_was event
   whole_by event o (IsDenied _ by v nobody) = as_it_was event
   whole_by event o (IsRefused _ him by v its undecided) = as_it_was event
-  whole_by event o (IsAdmitted peer) = as_it_was event
-  whole_by event o (TakesSeat asked peer session undecided live) = as_it_was event
+  whole_by event o (IsAdmitted peer allowed) = as_it_was event
+  whole_by event o (TakesSeat asked peer session undecided live allowed) = as_it_was event
   whole_by event o (HandsOut him room seat session sits has live) = as_it_was event
   whole_by event o (Leaves him other) = as_it_was event
 
@@ -293,9 +294,9 @@ module _ (w : World) (s : IsSound w) (sent : ℕ → List ℕ) (h : Sent w sent)
     nothing : (id : ℕ) → sent id ≡ [] → ((mount : List ℕ) → standing_of w id ≡ Feeds mount → ⊥) → sent id ++ delivered_at w event id ≡ []
     nothing id none not = ap (λ xs. xs ++ delivered_at w event id) none ∙ brings_nothing event (outcome w event) (way_of w event) id not
 
-    by_before : (id : ℕ) (peer : Peer) → (standing_of w id ≡ Undecided peer) ⊎ (w.house.last_id < id) → sent id ++ delivered_at w event id ≡ []
+    by_before : (id : ℕ) (peer : Peer) → (standing_of w id ≡ Undecided peer) ⊎ ((w.house.last_id < id) × (passes w.house.lists peer ≡ true)) → sent id ++ delivered_at w event id ≡ []
     by_before id peer (inl before) = nothing id (h.none_yet id peer before) (λ mount f. cc)
-    by_before id peer (inr above) = nothing id (h.none_above id above) (λ mount f. let unknown : standing_of w id ≡ Unknown = s.numbered id above in cc)
+    by_before id peer (inr new) = nothing id (h.none_above id new.0) (λ mount f. let unknown : standing_of w id ≡ Unknown = s.numbered id new.0 in cc)
 
     none_yet : (id : ℕ) (peer : Peer) → standing_of (world_after w event) id ≡ Undecided peer → sent id ++ delivered_at w event id ≡ []
     none_yet id peer e = by_before id peer (undecided_before w s event id peer e)
@@ -326,7 +327,7 @@ all_stretches w s sent h id past heard so_far (event ∷ events) =
     (subst (λ (xs : List ℕ). AreStretches (λ n. now n ++ delivered later events n) ((past ++ begun) ++ sittings later events id) xs)
     (append_assoc heard bytes (handed later events id)) rest))
 
-pub stretches_hold : (settings : Settings) (events : List Event) → StretchesAreWhole settings events
-stretches_hold settings events id =
-    all_stretches (opening settings) (sound_opening settings) (λ n. [])
+pub stretches_hold : (settings : Settings) (lists : Lists) (events : List Event) → StretchesAreWhole settings lists events
+stretches_hold settings lists events id =
+    all_stretches (opening settings lists) (sound_opening settings lists) (λ n. [])
     (record { whole = λ mount session e. cc; none_yet = λ n peer e. cc; none_above = λ n h. refl }) id [] [] (Idle [] [] refl) events

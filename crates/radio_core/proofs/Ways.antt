@@ -1,18 +1,22 @@
 -- each event ends in one of the ways
-use Rattle.std.proofs.Common.{◌≡◌, true, false, ℕ, Bool, not, Option, Some, None, is_some, List, [], ◌∷◌, refl, ap, sym, ◌∙◌}
+use Rattle.std.proofs.Common.{◌≡◌, true, false, ℕ, Bool, ◌==◌, not, ◌&&◌, Option, Some, None, is_some, List, [], ◌∷◌, refl, ap, sym, ◌∙◌}
 use Rattle.std.specs.Prelude.{if◌then◌else◌}
 use Rattle.radio_policy.specs.declared.rule.Rule.{Rule}
-use Rattle.radio_policy.specs.declared.rule.Rule.TheVariants.{BadMount, MountInUse, NotLive, NoMount}
+use Rattle.radio_policy.specs.declared.rule.Rule.TheVariants.{AddressDenied, AddressNotAllowed, TooManyClients, BadMount, SourcePassword, TooManySources, MountInUse}
+use Rattle.radio_policy.specs.declared.rule.Rule.TheVariants.{ContentType, NoMount, ListenerPassword, NotLive, NumbersSpent}
 use Rattle.radio_policy.specs.declared.judgement.Verdict.{Verdict}
 use Rattle.radio_policy.specs.declared.judgement.Verdict.TheVariants.{Allow, Deny as Denied}
-use Rattle.radio_policy.specs.Table.{Row, row}
+use Rattle.radio_policy.specs.Table.{Row, row, walk_rows}
 use Rattle.radio_policy.specs.Verdicts.{verdict_in}
 use Rattle.radio_addr.specs.declared.peer.Peer.{Peer}
+use Rattle.radio_creds.specs.Credentials.{Credentials}
 use Rattle.radio_settings.specs.MountName.{is_mount_name}
+use Rattle.radio_access.specs.Lists.{is_denied, is_allowed, passes, lets_in}
 use Rattle.radio_core.specs.declared.event.SourceRequest.{SourceRequest}
 use Rattle.radio_core.specs.declared.event.ListenRequest.{ListenRequest}
 use Rattle.radio_core.specs.declared.event.Event.{Event}
 use Rattle.radio_core.specs.declared.event.Event.TheVariants.{Arrive, Source, Push, SourceEnd, Listen, Draw, Leave}
+use Rattle.radio_core.specs.declared.house.House.{House}
 use Rattle.radio_core.specs.declared.outcome.Change.{Change}
 use Rattle.radio_core.specs.declared.outcome.Change.TheVariants.{Nothing, Answer}
 use Rattle.radio_core.specs.declared.outcome.Outcome.{Outcome}
@@ -21,7 +25,7 @@ use Rattle.radio_core.specs.declared.seats.Seat.{Seat}
 use Rattle.radio_core.specs.declared.standing.Standing.{Standing}
 use Rattle.radio_core.specs.declared.standing.Standing.TheVariants.{Unknown, Undecided, Feeds, Sits, Answered, Finished}
 use Rattle.radio_core.specs.World.{World, standing_of}
-use Rattle.radio_core.specs.Facts.{session_at, is_live, walk_stops, rows_to_feed, rows_to_push, rows_to_listen}
+use Rattle.radio_core.specs.Facts.{largest_number, session_at, is_live, is_let_in, arrive_facts, source_facts, listen_facts, rows_to_arrive, rows_to_feed, rows_to_push, rows_to_listen}
 use Rattle.radio_core.specs.Outcomes.{says, on_verdict, out_of_place, if_undecided, if_feeding, if_sitting}
 use Rattle.radio_core.specs.Arrive.{arrives, admits_client}
 use Rattle.radio_core.specs.Source.{asks_to_feed, begins}
@@ -76,15 +80,6 @@ module _ (w : World) (event : Event) where
     by_sitting go goes Answered e = Misplaced event
     by_sitting go goes (Finished rule) e = IsFinished event id rule his e
 
--- where a first row holds, its rule denies
-first_row : (rule : Rule) (rest : List Row) (holds : Bool) → verdict_in (row rule holds ∷ rest) ≡ Allow → (holds ≡ false) × (verdict_in rest ≡ Allow)
-first_row rule rest true e = cc
-first_row rule rest false e = (refl, e)
-
-is_name : (b : Bool) → not b ≡ false → b ≡ true
-is_name true e = refl
-is_name false e = cc
-
 none_there : (found : Option Session) → is_some found ≡ false → found ≡ None
 none_there None e = refl
 none_there (Some session) e = cc
@@ -93,12 +88,61 @@ at_name : (w : World) (path : List ℕ) (b : Bool) → is_mount_name path ≡ b 
 at_name w path b e name = rw name refl
 
 -- where a source may begin, its mount has no session
-pub may_begin : (w : World) (path : List ℕ) → verdict_in (rows_to_feed w.house path) ≡ Allow → session_of w.house.live path ≡ None
-may_begin w path v =
-    let one = first_row BadMount (row MountInUse (is_live w.house path) ∷ []) (not (is_mount_name path)) v in
-    let two = first_row MountInUse [] (is_live w.house path) one.1 in
-    let name = is_name (is_mount_name path) one.0 in
-    sym (at_name w path (is_mount_name path) refl name) ∙ none_there (session_at w.house path) two.0
+free_by : (named its full live refused : Bool)
+    → verdict_in (row BadMount (not named) ∷ row SourcePassword (not its) ∷ row TooManySources full ∷ row MountInUse live ∷ row ContentType refused ∷ []) ≡ Allow
+    → (named ≡ true) × (live ≡ false)
+free_by true true false false refused v = (refl, refl)
+free_by true true false true refused v = cc
+free_by true true true live refused v = cc
+free_by true false full live refused v = cc
+free_by false its full live refused v = cc
+
+pub may_begin : (w : World) (asked : SourceRequest) → verdict_in (rows_to_feed w.house asked) ≡ Allow → session_of w.house.live asked.mount ≡ None
+may_begin w asked v =
+    let facts = source_facts w.house asked in
+    let free = free_by (is_mount_name asked.mount) facts.is_source_pair facts.sources_are_full facts.mount_is_live facts.type_is_refused v in
+    sym (at_name w asked.mount (is_mount_name asked.mount) refl free.0) ∙ none_there (session_at w.house asked.mount) free.1
+
+-- who may arrive passes the address lists, and there is a number left for him
+passes_by : (denied allowed full spent : Bool)
+    → verdict_in (row AddressDenied denied ∷ row AddressNotAllowed (not allowed) ∷ row TooManyClients full ∷ row NumbersSpent spent ∷ []) ≡ Allow
+    → ((not denied && allowed) ≡ true) × (spent ≡ false)
+passes_by false true false false v = (refl, refl)
+passes_by false true false true v = cc
+passes_by false true true spent v = cc
+passes_by false false full spent v = cc
+passes_by true allowed full spent v = cc
+
+pub may_arrive : (w : World) (peer : Peer) → verdict_in (rows_to_arrive w.house peer) ≡ Allow → passes w.house.lists peer ≡ true
+may_arrive w peer v =
+    let facts = arrive_facts w.house peer in
+    (passes_by facts.address_is_denied facts.address_is_allowed facts.clients_are_full facts.number_is_spent v).0
+
+pub has_number_left : (house : House) (peer : Peer) → verdict_in (rows_to_arrive house peer) ≡ Allow → (house.last_id == largest_number) ≡ false
+has_number_left house peer v =
+    let facts = arrive_facts house peer in
+    (passes_by facts.address_is_denied facts.address_is_allowed facts.clients_are_full facts.number_is_spent v).1
+
+-- the mount that a listener may hear is live, and lets him in
+hears_by : (named known accepted live : Bool)
+    → verdict_in (row BadMount (not named) ∷ row NoMount (not known) ∷ row ListenerPassword (not accepted)
+    ∷ walk_rows (if live then (if accepted then None else Some ListenerPassword) else Some NotLive)) ≡ Allow
+    → (named ≡ true) × (accepted ≡ true) × (live ≡ true)
+hears_by true true true true v = (refl, refl, refl)
+hears_by true true true false v = cc
+hears_by true true false live v = cc
+hears_by true false accepted live v = cc
+hears_by false known accepted live v = cc
+
+let_in_at_name : (w : World) (path : List ℕ) (pair : Option Credentials) → is_mount_name path ≡ true → is_let_in w.house path pair ≡ lets_in w.house.lists path pair
+let_in_at_name w path pair name = rw name refl
+
+pub may_listen : (w : World) (asked : ListenRequest) → verdict_in (rows_to_listen w.house asked) ≡ Allow
+    → (is_live w.house asked.mount ≡ true) × (lets_in w.house.lists asked.mount asked.pair ≡ true)
+may_listen w asked v =
+    let facts = listen_facts w.house asked in
+    let hears = hears_by (is_mount_name asked.mount) facts.mount_is_known facts.users_accept (is_live w.house asked.mount) v in
+    (hears.2, sym (let_in_at_name w asked.mount asked.pair hears.0) ∙ hears.1)
 
 -- what is at a path is the session of that mount
 pub found_at_path : (w : World) (path : List ℕ) (session : Session) → session_at w.house path ≡ Some session → session_of w.house.live path ≡ Some session
@@ -107,10 +151,11 @@ found_at_path w path session e = by_name (is_mount_name path) e where
   by_name true f = f
   by_name false f = cc
 
-sits : (w : World) (asked : ListenRequest) (peer : Peer) → standing_of w asked.id ≡ Undecided peer → (found : Option Session)
+sits : (w : World) (asked : ListenRequest) (peer : Peer) → standing_of w asked.id ≡ Undecided peer → verdict_in (rows_to_listen w.house asked) ≡ Allow
+    → (found : Option Session)
     → session_at w.house asked.mount ≡ found → Way w (Listen asked) (takes_seat w.house asked peer found)
-sits w asked peer e None none = Misplaced (Listen asked)
-sits w asked peer e (Some session) found = TakesSeat asked peer session e (found_at_path w asked.mount session found)
+sits w asked peer e v None none = Misplaced (Listen asked)
+sits w asked peer e v (Some session) found = TakesSeat asked peer session e (found_at_path w asked.mount session found) v
 
 module _ (w : World) (id room : ℕ) (is_sitting : standing_of w id ≡ Sits) where
   hands : (seat : Seat) → seat_of w.seats id ≡ Some seat → (found : Option Session) → session_of w.house.live seat.mount ≡ found
@@ -134,12 +179,12 @@ pub way_of : (w : World) (event : Event) → Way w event (outcome w event)
 unfolding outcome
 way_of w (Arrive peer) =
     by_verdict w (Arrive peer) Nothing (admits_client w peer) (verdict_in (rows_for w (Arrive peer)))
-    (λ rule v. IsDenied (Arrive peer) rule v (λ id e u. cc)) (λ v. IsAdmitted peer)
+    (λ rule v. IsDenied (Arrive peer) rule v (λ id e u. cc)) (λ v. IsAdmitted peer v)
 way_of w (Source asked) =
     by_undecided w (Source asked) asked.id refl _
     (λ peer e. by_verdict w (Source asked) (Answer asked.id) (begins asked) (verdict_in (rows_for w (Source asked)))
     (λ rule v. IsRefused (Source asked) asked.id rule v refl (peer, e))
-    (λ v. Begins asked (peer, e) (may_begin w asked.mount v)))
+    (λ v. Begins asked (peer, e) (may_begin w asked v)))
     (standing_of w asked.id) refl
 way_of w (Push id block) =
     by_feeding w (Push id block) id refl _
@@ -155,7 +200,7 @@ way_of w (Listen asked) =
     (λ peer e. by_verdict w (Listen asked) (Answer asked.id) (takes_seat w.house asked peer (session_at w.house asked.mount))
     (verdict_in (rows_for w (Listen asked)))
     (λ rule v. IsRefused (Listen asked) asked.id rule v refl (peer, e))
-    (λ v. sits w asked peer e (session_at w.house asked.mount) refl))
+    (λ v. sits w asked peer e v (session_at w.house asked.mount) refl))
     (standing_of w asked.id) refl
 way_of w (Draw id room) = by_sitting w (Draw id room) id refl _ (λ e. hands_at w id room e (seat_of w.seats id) refl) (standing_of w id) refl
 way_of w (Leave id) = by_leaving w id (standing_of w id) refl

@@ -14,4 +14,4 @@ admits_client w peer = says (Arrived (w.house.last_id + 1)) (Admit (w.house.last
 
 -- a connection arrives
 abbrev pub arrives : World → Peer → Outcome
-arrives w peer = on_verdict (verdict_in (rows_to_arrive w.house)) Nothing (admits_client w peer)
+arrives w peer = on_verdict (verdict_in (rows_to_arrive w.house peer)) Nothing (admits_client w peer)

@@ -1,13 +1,22 @@
 -- What is looked up in the server for the policy.
-use Rattle.std.specs.Prelude.{ℕ, ◌+◌, ◌-◌, ◌^◌, ◌==◌, nat_lt, Bool, if◌then◌else◌, List, [], length, Option, Some, None, is_some}
+use Rattle.std.specs.Prelude.{ℕ, ◌+◌, ◌-◌, ◌^◌, ◌==◌, nat_lt, Bool, false, not, ◌||◌, if◌then◌else◌, List, [], length, Option, Some, None, is_some, find}
 use Rattle.std.specs.Option.{option_map_or}
+use Rattle.std.specs.Str.{bytes_eq}
 use Rattle.radio_policy.specs.declared.rule.Rule.{Rule}
-use Rattle.radio_policy.specs.declared.rule.Rule.TheVariants.{NotLive}
+use Rattle.radio_policy.specs.declared.rule.Rule.TheVariants.{ListenerPassword, NotLive}
 use Rattle.radio_policy.specs.declared.facts.Facts.{Facts}
 use Rattle.radio_policy.specs.declared.facts.Subject.{Subject}
 use Rattle.radio_policy.specs.declared.facts.TheConstants.Facts.{NONE}
 use Rattle.radio_policy.specs.Table.{Row, arrive_rows, source_rows, push_rows, listen_rows}
+use Rattle.radio_addr.specs.declared.peer.Peer.{Peer}
+use Rattle.radio_creds.specs.Credentials.{Credentials}
+use Rattle.radio_settings.specs.declared.settings.Settings.{Settings}
 use Rattle.radio_settings.specs.MountName.{is_mount_name}
+use Rattle.radio_access.specs.Lists.{is_denied, is_allowed, lets_in}
+use Rattle.radio_access.specs.SourcePair.{is_source_pair}
+use Rattle.radio_access.specs.ContentTypes.{is_refused_type}
+use Rattle.radio_core.specs.declared.event.SourceRequest.{SourceRequest}
+use Rattle.radio_core.specs.declared.event.ListenRequest.{ListenRequest}
 use Rattle.radio_core.specs.declared.house.House.{House}
 use Rattle.radio_core.specs.Stream.{end_of}
 use Rattle.radio_core.specs.Sessions.{Session, session_of}
@@ -15,6 +24,10 @@ use Rattle.radio_core.specs.Sessions.{Session, session_of}
 -- the largest number that a client's number or a place in a stream can be
 abbrev pub largest_number : ℕ
 largest_number = 2 ^ 64 - 1
+
+-- there are as many as there may be
+abbrev pub is_full : ℕ → ℕ → Bool
+is_full count limit = not (nat_lt count limit)
 
 -- what is looked up of one who asks for the mount of this path
 abbrev pub asker_of : List ℕ → Subject
@@ -27,36 +40,67 @@ session_at house path = (if is_mount_name path then session_of house.live path e
 abbrev pub is_live : House → List ℕ → Bool
 is_live house path = is_some (session_at house path)
 
+-- the settings have a table for the mount, or a relay that feeds it
+abbrev pub is_in_settings : Settings → List ℕ → Bool
+is_in_settings settings mount =
+    is_some (find (λ set. bytes_eq set.name mount) settings.mounts) || is_some (find (λ relay. bytes_eq relay.local_mount mount) settings.relays)
+
+-- the path names a mount that the settings know, or that is live
+abbrev pub is_known : House → List ℕ → Bool
+is_known house path = (if is_mount_name path then is_in_settings house.settings path || is_live house path else false)
+
+-- the path names a mount, and its source sends this pair
+abbrev pub is_source_of : House → List ℕ → Option Credentials → Bool
+is_source_of house path pair = (if is_mount_name path then is_source_pair house.settings path pair else false)
+
+-- the path names a mount that is open to one who sends this pair: it has no users, or they accept him
+abbrev pub is_let_in : House → List ℕ → Option Credentials → Bool
+is_let_in house path pair = (if is_mount_name path then lets_in house.lists path pair else false)
+
 -- the rule that stops a walk from the mount, if one does: it looks at that mount alone
-abbrev pub walk_stops : House → List ℕ → Option Rule
-walk_stops house path = (if is_live house path then None else Some NotLive)
+abbrev pub walk_stops : House → List ℕ → Option Credentials → Option Rule
+walk_stops house path pair = (if is_live house path then (if is_let_in house path pair then None else Some ListenerPassword) else Some NotLive)
 
 -- how far the stream of the mount's session goes
 abbrev pub live_end : House → List ℕ → ℕ
 live_end house mount = option_map_or (λ session. end_of session.stream) (session_of house.live mount) 0
 
 -- what is looked up for each action
-abbrev pub arrive_facts : House → Facts
-arrive_facts house = record NONE { number_is_spent = house.last_id == largest_number }
+abbrev pub arrive_facts : House → Peer → Facts
+arrive_facts house peer = record NONE {
+  address_is_denied = is_denied house.lists peer;
+  address_is_allowed = is_allowed house.lists peer;
+  clients_are_full = is_full (length house.clients) house.settings.limits.clients;
+  number_is_spent = house.last_id == largest_number;
+}
 
-abbrev pub source_facts : House → List ℕ → Facts
-source_facts house path = record NONE { mount_is_live = is_live house path }
+abbrev pub source_facts : House → SourceRequest → Facts
+source_facts house asked = record NONE {
+  is_source_pair = is_source_of house asked.mount asked.pair;
+  sources_are_full = is_full (length house.live) house.settings.limits.sources;
+  mount_is_live = is_live house asked.mount;
+  type_is_refused = is_refused_type asked.shown.content_type;
+}
 
 abbrev pub push_facts : House → List ℕ → List ℕ → Facts
 push_facts house mount block = record NONE { number_is_spent = nat_lt largest_number (live_end house mount + length block) }
 
-abbrev pub listen_facts : House → List ℕ → Facts
-listen_facts house path = record NONE { mount_is_known = is_live house path; walk_stops = walk_stops house path }
+abbrev pub listen_facts : House → ListenRequest → Facts
+listen_facts house asked = record NONE {
+  mount_is_known = is_known house asked.mount;
+  users_accept = is_let_in house asked.mount asked.pair;
+  walk_stops = walk_stops house asked.mount asked.pair;
+}
 
 -- the policy's rows for each action, as things stand
-abbrev pub rows_to_arrive : House → List Row
-rows_to_arrive house = arrive_rows (arrive_facts house)
+abbrev pub rows_to_arrive : House → Peer → List Row
+rows_to_arrive house peer = arrive_rows (arrive_facts house peer)
 
-abbrev pub rows_to_feed : House → List ℕ → List Row
-rows_to_feed house path = source_rows (source_facts house path) (asker_of path)
+abbrev pub rows_to_feed : House → SourceRequest → List Row
+rows_to_feed house asked = source_rows (source_facts house asked) (asker_of asked.mount)
 
 abbrev pub rows_to_push : House → List ℕ → List ℕ → List Row
 rows_to_push house mount block = push_rows (push_facts house mount block)
 
-abbrev pub rows_to_listen : House → List ℕ → List Row
-rows_to_listen house path = listen_rows (listen_facts house path) (asker_of path)
+abbrev pub rows_to_listen : House → ListenRequest → List Row
+rows_to_listen house asked = listen_rows (listen_facts house asked) (asker_of asked.mount)

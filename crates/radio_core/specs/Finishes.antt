@@ -1,6 +1,7 @@
 use Rattle.std.specs.Prelude.{◌≡◌, ℕ, false, Some, None, List, ◌∷◌, ◌++◌}
 use Rattle.radio_policy.specs.declared.rule.Rule.{Rule}
 use Rattle.radio_settings.specs.declared.settings.Settings.{Settings}
+use Rattle.radio_access.specs.Lists.{Lists}
 use Rattle.radio_core.specs.declared.event.Event.{Event}
 use Rattle.radio_core.specs.declared.reply.Reply.TheVariants.{Finished}
 use Rattle.radio_core.specs.declared.seats.Seat.{Seat}
@@ -20,18 +21,18 @@ pub record Finishes (w : World) (event : Event) (id : ℕ) (rule : Rule) : Type 
   pub session : Session
   pub was_live : session_of w.house.live seat.mount ≡ Some session
   pub is_over : is_live (world_after w event).house seat.mount ≡ false
-  pub stopped_by : walk_stops (world_after w event).house seat.mount ≡ Some rule
+  pub stopped_by : walk_stops (world_after w event).house seat.mount seat.pair ≡ Some rule
   pub has_none : seat_of (world_after w event).seats id ≡ None
 
 -- one of the events of a run finished the listener by the rule
-pub record WasFinished (settings : Settings) (events : List Event) (id : ℕ) (rule : Rule) : Type 0 where
+pub record WasFinished (settings : Settings) (lists : Lists) (events : List Event) (id : ℕ) (rule : Rule) : Type 0 where
   pub before : List Event
   pub event : Event
   pub after : List Event
   pub in_order : events ≡ before ++ event ∷ after
-  pub finishes : Finishes (run_after settings before) event id rule
+  pub finishes : Finishes (run_after settings lists before) event id rule
 
 -- a client who is told that he was finished by a rule was finished by it at an earlier event
-abbrev pub FinishedAreTold : Settings → List Event → Event → Type 0
-FinishedAreTold settings events event = (rule : Rule) → reply_to (run_after settings events) event ≡ Finished rule
-    → (id : ℕ) × (client_in event ≡ Some id) × WasFinished settings events id rule
+abbrev pub FinishedAreTold : Settings → Lists → List Event → Event → Type 0
+FinishedAreTold settings lists events event = (rule : Rule) → reply_to (run_after settings lists events) event ≡ Finished rule
+    → (id : ℕ) × (client_in event ≡ Some id) × WasFinished settings lists events id rule

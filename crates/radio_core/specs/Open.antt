@@ -1,8 +1,14 @@
-use Rattle.std.specs.Prelude.{◌≡◌, Some}
+use Rattle.std.specs.Prelude.{◌≡◌, true, Some}
+use Rattle.radio_access.specs.Lists.{passes, lets_in}
 use Rattle.radio_core.specs.declared.seats.Seat.{Seat}
 use Rattle.radio_core.specs.Sessions.{Session, session_of}
 use Rattle.radio_core.specs.World.{World}
 
--- the mount where the listener sits is open to him: it is live, in the session in which he was seated
-abbrev pub IsOpenTo : World → Seat → Type 0
-IsOpenTo w seat = (session : Session) × (session_of w.house.live seat.mount ≡ Some session) × (session.number ≡ seat.session)
+-- the mount where the listener sits is open to him: it is live, in the session in which he was seated; his address passes the
+-- address lists; and the mount has no users, or they accept the pair that he sent
+pub record IsOpenTo (w : World) (seat : Seat) : Type 0 where
+  pub session : Session
+  pub is_live : session_of w.house.live seat.mount ≡ Some session
+  pub his_session : session.number ≡ seat.session
+  pub passes_lists : passes w.house.lists seat.peer ≡ true
+  pub is_let_in : lets_in w.house.lists seat.mount seat.pair ≡ true

@@ -1,6 +1,7 @@
 -- Runs of the server.
 use Rattle.std.specs.Prelude.{List, [], ◌∷◌}
 use Rattle.radio_settings.specs.declared.settings.Settings.{Settings}
+use Rattle.radio_access.specs.Lists.{Lists}
 use Rattle.radio_core.specs.declared.event.Event.{Event}
 use Rattle.radio_core.specs.World.{World, opening}
 use Rattle.radio_core.specs.Step.{world_after}
@@ -11,5 +12,5 @@ world_after_all w [] = w
 world_after_all w (event ∷ events) = world_after_all (world_after w event) events
 
 -- the state after these events from the opening state: every state of every run is one of them
-abbrev pub run_after : Settings → List Event → World
-run_after settings events = world_after_all (opening settings) events
+abbrev pub run_after : Settings → Lists → List Event → World
+run_after settings lists events = world_after_all (opening settings lists) events

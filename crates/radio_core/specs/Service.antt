@@ -32,12 +32,12 @@ pub record IsHanded (w : World) (id room : ℕ) : Type 0 where
   pub is_handed : reply_to w (Draw id room) ≡ Drawn (data_at session.stream seat.place room) session.title
 
 pub record Serves (w : World) : Type 0 where
-  pub admits : (peer : Peer) → Allows (rows_to_arrive w.house) → (reply_to w (Arrive peer) ≡ Arrived (w.house.last_id + 1))
+  pub admits : (peer : Peer) → Allows (rows_to_arrive w.house peer) → (reply_to w (Arrive peer) ≡ Arrived (w.house.last_id + 1))
       × (standing_of (world_after w (Arrive peer)) (w.house.last_id + 1) ≡ Undecided peer)
-  pub begins : (asked : SourceRequest) (peer : Peer) → standing_of w asked.id ≡ Undecided peer → Allows (rows_to_feed w.house asked.mount)
+  pub begins : (asked : SourceRequest) (peer : Peer) → standing_of w asked.id ≡ Undecided peer → Allows (rows_to_feed w.house asked)
       → (reply_to w (Source asked) ≡ Feeding) × (standing_of (world_after w (Source asked)) asked.id ≡ Feeds asked.mount)
   pub takes_in : (id : ℕ) (mount block : List ℕ) → standing_of w id ≡ Feeds mount → Allows (rows_to_push w.house mount block)
       → reply_to w (Push id block) ≡ Noted
-  pub seats : (asked : ListenRequest) (peer : Peer) → standing_of w asked.id ≡ Undecided peer → Allows (rows_to_listen w.house asked.mount)
+  pub seats : (asked : ListenRequest) (peer : Peer) → standing_of w asked.id ≡ Undecided peer → Allows (rows_to_listen w.house asked)
       → IsTakenIn w asked
   pub hands_out : (id room : ℕ) → standing_of w id ≡ Sits → IsHanded w id room

@@ -14,4 +14,4 @@ begins asked = says Feeding (Begin asked.id asked.mount asked.shown)
 -- a client wants to feed the mount of this path
 abbrev pub asks_to_feed : World → SourceRequest → Outcome
 asks_to_feed w asked = if_undecided (standing_of w asked.id) (λ _.
-    on_verdict (verdict_in (rows_to_feed w.house asked.mount)) (Answer asked.id) (begins asked))
+    on_verdict (verdict_in (rows_to_feed w.house asked)) (Answer asked.id) (begins asked))

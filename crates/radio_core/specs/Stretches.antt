@@ -1,6 +1,7 @@
 -- The stretches of which all that a listener is handed is made.
 use Rattle.std.specs.Prelude.{◌≡◌, ◌==◌, ℕ, ◌-◌, ◌≤◌, if◌then◌else◌, length, Option, Some, None, List, [], ◌∷◌, ◌++◌, take, drop}
 use Rattle.radio_settings.specs.declared.settings.Settings.{Settings}
+use Rattle.radio_access.specs.Lists.{Lists}
 use Rattle.radio_core.specs.declared.event.Event.{Event}
 use Rattle.radio_core.specs.declared.seats.Seat.{Seat}
 use Rattle.radio_core.specs.Handing.{handed, delivered}
@@ -39,9 +40,9 @@ AreStretches sent (sitting ∷ others) bytes = (stop : ℕ) × (rest : List ℕ)
     × (bytes ≡ between sitting.start stop (sent sitting.source) ++ rest) × AreStretches sent others rest
 
 -- over every run, all that a listener is handed is stretches, one for each of his sittings, of what the source of that sitting delivered
-abbrev pub StretchesAreWhole : Settings → List Event → Type 0
-StretchesAreWhole settings events = (id : ℕ) → AreStretches (delivered (opening settings) events) (sittings (opening settings) events id)
-    (handed (opening settings) events id)
+abbrev pub StretchesAreWhole : Settings → Lists → List Event → Type 0
+StretchesAreWhole settings lists events = (id : ℕ) → AreStretches (delivered (opening settings lists) events) (sittings (opening settings lists) events id)
+    (handed (opening settings lists) events id)
 
 -- through an event, a listener keeps mount and session while he keeps his seat, and a new seat is in the session that its mount has then
 pub record KeepsItsMount (w : World) (event : Event) (id : ℕ) (seat : Seat) : Type 0 where

@@ -1,7 +1,7 @@
 -- The ways in which an event can end.
 use Rattle.std.specs.Prelude.{◌≡◌, ℕ, ◌+◌, length, List, [], Option, Some, None}
 use Rattle.radio_policy.specs.declared.rule.Rule.{Rule}
-use Rattle.radio_policy.specs.declared.judgement.Verdict.TheVariants.{Deny as Denied}
+use Rattle.radio_policy.specs.declared.judgement.Verdict.TheVariants.{Allow, Deny as Denied}
 use Rattle.radio_policy.specs.Table.{Row}
 use Rattle.radio_policy.specs.Verdicts.{verdict_in}
 use Rattle.radio_addr.specs.declared.peer.Peer.{Peer}
@@ -46,10 +46,10 @@ rows_from house block standing = []
 
 -- the policy's rows for what the event asks for, as things stand
 abbrev pub rows_for : World → Event → List Row
-rows_for w (Arrive peer) = rows_to_arrive w.house
-rows_for w (Source asked) = rows_to_feed w.house asked.mount
+rows_for w (Arrive peer) = rows_to_arrive w.house peer
+rows_for w (Source asked) = rows_to_feed w.house asked
 rows_for w (Push id block) = rows_from w.house block (standing_of w id)
-rows_for w (Listen asked) = rows_to_listen w.house asked.mount
+rows_for w (Listen asked) = rows_to_listen w.house asked
 rows_for w event = []
 
 pub data Way (w : World) : Event → Outcome → Type 0 where
@@ -64,11 +64,12 @@ pub data Way (w : World) : Event → Outcome → Type 0 where
   -- the policy denies a client what he asks for, and he has had his answer
   IsRefused : (event : Event) (id : ℕ) (rule : Rule) → verdict_in (rows_for w event) ≡ Denied rule → client_in event ≡ Some id → IsUndecided w id
       → Way w event (says (Deny rule) (Answer id))
-  IsAdmitted : (peer : Peer) → Way w (Arrive peer) (says (Arrived (w.house.last_id + 1)) (Admit (w.house.last_id + 1) peer))
+  IsAdmitted : (peer : Peer) → verdict_in (rows_to_arrive w.house peer) ≡ Allow → Way w (Arrive peer) (says (Arrived (w.house.last_id + 1)) (Admit (w.house.last_id + 1) peer))
   Begins : (asked : SourceRequest) → IsUndecided w asked.id → (session_of w.house.live asked.mount ≡ None) → Way w (Source asked) (begins asked)
   Receives : (id : ℕ) (mount block : List ℕ) → standing_of w id ≡ Feeds mount → Way w (Push id block) (says Noted (Receive mount block))
   TakesSeat : (asked : ListenRequest) (peer : Peer) (session : Session) → standing_of w asked.id ≡ Undecided peer
-      → session_of w.house.live asked.mount ≡ Some session → Way w (Listen asked)
+      → session_of w.house.live asked.mount ≡ Some session → verdict_in (rows_to_listen w.house asked) ≡ Allow
+      → Way w (Listen asked)
       (says (Seated (interval_for w.house session.mount asked.wants_metadata) session.shown) (TakeSeat asked.id (first_seat w.house asked peer session)))
   HandsOut : (id room : ℕ) (seat : Seat) (session : Session) → standing_of w id ≡ Sits → seat_of w.seats id ≡ Some seat
       → session_of w.house.live seat.mount ≡ Some session → Way w (Draw id room)

@@ -2,6 +2,7 @@
 use Rattle.std.specs.Prelude.{ℕ, List, [], Option, Some, None}
 use Rattle.radio_addr.specs.declared.peer.Peer.{Peer}
 use Rattle.radio_settings.specs.declared.settings.Settings.{Settings}
+use Rattle.radio_access.specs.Lists.{Lists}
 use Rattle.radio_core.specs.declared.house.House.{House}
 use Rattle.radio_core.specs.declared.clients.Client.{Client}
 use Rattle.radio_core.specs.declared.clients.ClientState.{ClientState}
@@ -16,14 +17,14 @@ use Rattle.radio_core.specs.Seats.{listener_of}
 
 -- the house, and the table of those who listen in it
 pub record World : Type 0 where
-  -- the moment, the settings, the live sessions, the clients, and the number that was given last
+  -- the moment, the settings and their lists, the live sessions, the clients, and the number that was given last
   pub house : House
   -- the listeners, in order of their numbers
   pub seats : List Listener
 
 -- nothing has happened yet
-abbrev pub opening : Settings → World
-opening settings = record { house = record { time = 0; settings = settings; live = []; clients = []; last_id = 0 }; seats = [] }
+abbrev pub opening : Settings → Lists → World
+opening settings lists = record { house = record { time = 0; settings = settings; lists = lists; live = []; clients = []; last_id = 0 }; seats = [] }
 
 -- one who was admitted as a listener sits, or has finished by a rule
 abbrev pub standing_seated : Seating → Standing

@@ -10,6 +10,7 @@ use crate::OutOfMemory;
 use crate::clients::{Client, ClientState, SetState};
 use crate::sessions::{Delivers, Session};
 use crate::stream::Stream;
+use radio_access::Lists;
 use radio_addr::Peer;
 use radio_blocks::Block;
 use radio_settings::{MountName, Settings, Shown};
@@ -22,6 +23,8 @@ pub(crate) struct House {
     /// The moment, in milliseconds.
     pub(crate) time: u64,
     pub(crate) settings: Settings,
+    /// What the files that the settings name hold.
+    pub(crate) lists: Lists,
     /// The live mounts' sessions, in the order of the mounts' names.
     pub(crate) live: Table<Session>,
     /// The clients, in the order of their numbers.

@@ -3,6 +3,7 @@
 
 ghost use Rattle.std.specs.Prelude.{◌≡◌, ◌≤◌, ℕ, List, [], ◌∷◌, ◌++◌, Some};
 ghost use Rattle.radio_settings.specs.declared.settings.Settings.{Settings};
+ghost use Rattle.radio_access.specs.Lists.{Lists};
 ghost use Rattle.radio_core.specs.declared.event.Event.{Event};
 ghost use Rattle.radio_core.specs.declared.event.Event.TheVariants.{Leave};
 ghost use Rattle.radio_core.specs.Run.{run_after};
@@ -21,7 +22,7 @@ use radio_policy::denials_name_the_first_rule;
 /// The law of denials.
 pub fn denials_are_the_policys()
     // whatever has happened, what is denied is what the policy denies then, by its first rule, and nothing has changed but that an undecided client has had his answer
-    ensures denied { (settings : Settings) (events : List Event) (event : Event) → DenialsAreThePolicys (run_after settings events) event }
+    ensures denied { (settings : Settings) (lists : Lists) (events : List Event) (event : Event) → DenialsAreThePolicys (run_after settings lists events) event }
 {
     denials_name_the_first_rule();
 }
@@ -29,25 +30,25 @@ pub fn denials_are_the_policys()
 /// The law of denials, for those who are told that they were finished.
 pub fn finished_are_told()
     // whoever is told that he was finished by a rule was finished by that rule: an earlier event ended the session of the mount where he had a seat, and the rule is the one that stops a walk from there
-    ensures finished { (settings : Settings) (events : List Event) (event : Event) → FinishedAreTold settings events event }
+    ensures finished { (settings : Settings) (lists : Lists) (events : List Event) (event : Event) → FinishedAreTold settings lists events event }
 {}
 
 /// The law of access.
 pub fn access_is_kept()
     // whatever has happened, data is handed out to a draw alone, and it stands at the listener's place in the stream of the mount where his seat is, which is open to him
-    ensures access { (settings : Settings) (events : List Event) (event : Event) → AccessIsKept (run_after settings events) event }
+    ensures access { (settings : Settings) (lists : Lists) (events : List Event) (event : Event) → AccessIsKept (run_after settings lists events) event }
 {}
 
 /// The law of admission.
 pub fn listeners_begin_at_a_block()
     // whatever has happened, only who asks to hear a mount is seated, in the session that the mount has then, and he begins at the earliest start of one of its blocks, or at its end, that his burst allows
-    ensures seated { (settings : Settings) (events : List Event) (event : Event) → BeginsAtABlock (run_after settings events) event }
+    ensures seated { (settings : Settings) (lists : Lists) (events : List Event) (event : Event) → BeginsAtABlock (run_after settings lists events) event }
 {}
 
 /// The law of service.
 pub fn whoever_may_is_served()
     // whatever has happened, what the policy allows happens, and a listener who has a seat is handed what stands at his place
-    ensures served { (settings : Settings) (events : List Event) → Serves (run_after settings events) }
+    ensures served { (settings : Settings) (lists : Lists) (events : List Event) → Serves (run_after settings lists events) }
 {
     denials_name_the_first_rule();
 }
@@ -55,25 +56,25 @@ pub fn whoever_may_is_served()
 /// The law of stretches.
 pub fn stretches_are_whole()
     // over every run, all that a listener is handed is stretches, one for each of his sittings: each a contiguous slice, without gap or repeat, of what the source delivered in whose session he sat
-    ensures stretches { (settings : Settings) (events : List Event) → StretchesAreWhole settings events }
+    ensures stretches { (settings : Settings) (lists : Lists) (events : List Event) → StretchesAreWhole settings lists events }
     // and through each event a listener who keeps his seat keeps its mount and session, and does not go back
-    ensures mounts { (settings : Settings) (events : List Event) (event : Event) → SeatsKeepTheirMounts (run_after settings events) event }
+    ensures mounts { (settings : Settings) (lists : Lists) (events : List Event) (event : Event) → SeatsKeepTheirMounts (run_after settings lists events) event }
 {}
 
 /// What an event does to its own client, and to others.
 pub fn events_are_of_their_clients()
     // whatever has happened, each reply is told to one whom it fits, and he stands as it says
-    ensures own { (settings : Settings) (events : List Event) (event : Event) → RepliesFit (run_after settings events) event }
+    ensures own { (settings : Settings) (lists : Lists) (events : List Event) (event : Event) → RepliesFit (run_after settings lists events) event }
     // and everybody else stands as before, but who is finished by the event
-    ensures others { (settings : Settings) (events : List Event) (event : Event) → OthersStandOn (run_after settings events) event }
+    ensures others { (settings : Settings) (lists : Lists) (events : List Event) (event : Event) → OthersStandOn (run_after settings lists events) event }
 {}
 
 /// The law of those who have left.
 pub fn who_left_is_gone()
     // whoever was given a number and leaves is no client then
-    ensures left { (settings : Settings) (events : List Event) (id : ℕ) → id ≤ (run_after settings events).house.last_id → HasLeft (run_after settings (events ++ Leave id ∷ [])) id }
+    ensures left { (settings : Settings) (lists : Lists) (events : List Event) (id : ℕ) → id ≤ (run_after settings lists events).house.last_id → HasLeft (run_after settings lists (events ++ Leave id ∷ [])) id }
     // whatever happens in the name of one who has left is out of place, and changes nothing
-    ensures strays { (settings : Settings) (events : List Event) (event : Event) (id : ℕ) → HasLeft (run_after settings events) id → client_in event ≡ Some id → IsOutOfPlace (run_after settings events) event }
+    ensures strays { (settings : Settings) (lists : Lists) (events : List Event) (event : Event) (id : ℕ) → HasLeft (run_after settings lists events) id → client_in event ≡ Some id → IsOutOfPlace (run_after settings lists events) event }
     // and whatever else happens, he does not come back: his number is given to nobody, he is handed nothing more, and nothing more comes from him
-    ensures gone { (settings : Settings) (events more : List Event) (id : ℕ) → HasLeft (run_after settings events) id → StaysGone (run_after settings events) more id }
+    ensures gone { (settings : Settings) (lists : Lists) (events more : List Event) (id : ℕ) → HasLeft (run_after settings lists events) id → StaysGone (run_after settings lists events) more id }
 {}

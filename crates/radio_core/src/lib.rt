@@ -11,6 +11,7 @@
 
 mod clients;
 mod event;
+mod facts;
 mod house;
 mod laws;
 mod outcome;

@@ -16,6 +16,7 @@ use crate::outcome::{Change, Outcome};
 use crate::seats::{Listener, Seat, Seating};
 use crate::standing::Standing;
 use crate::{Event, OutOfMemory, Reply};
+use radio_access::Lists;
 use radio_settings::Settings;
 use radio_tables::Table;
 use std::alloc::Global;
@@ -41,8 +42,12 @@ pub struct Core {
 
 impl Model for Core {
     ghost use Rattle.radio_core.specs.World.{World};
+    ghost use Rattle.std.specs.Coded.{codes};
+    ghost use Rattle.radio_creds.specs.contracts.user_list.Users as creds_users;
 
     ghost Value = { World };
+
+    ghost coded = { Prim.hlevel (codes, creds_users.the_row.coded) };
 
     ghost view = { λ c. record { house = c.house; seats = c.seats } };
 }
@@ -50,13 +55,14 @@ impl Model for Core {
 impl Core {
     /// A server to which nothing has happened yet. It takes no memory.
     #[tactic(auto, unfolding(crate::specs::Step::Represents))]
-    pub fn new(alloc: Global, settings: Settings) -> Core
-        // it stands for the opening state of these settings
-        ensures { Represents result (opening settings) }
+    pub fn new(alloc: Global, settings: Settings, lists: Lists) -> Core
+        // it stands for the opening state of these settings and lists
+        ensures { Represents result (opening settings lists) }
     {
         let house = House {
             time: 0,
             settings,
+            lists,
             live: Table::new(alloc),
             clients: Table::new(alloc),
             last_id: 0,

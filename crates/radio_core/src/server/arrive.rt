@@ -1,20 +1,18 @@
-ghost use Rattle.std.specs.Prelude.{◌≡◌, ◌<◌, ◌-◌, ◌^◌};
+ghost use Rattle.std.specs.Prelude.{◌≡◌, ◌==◌, false};
+ghost use Rattle.radio_core.specs.Facts.{largest_number};
 ghost use Rattle.radio_core.specs.Arrive.{arrives, admits_client};
 
 use crate::outcome::{Change, Outcome};
 use crate::{Core, Reply};
 use radio_addr::Peer;
-use radio_policy::{Action, Facts, Subject, Verdict, judge};
+use radio_policy::{Action, Subject, Verdict, judge};
 
 impl Core {
     /// A connection arrives.
     pub(super) fn arrive(&self, peer: Peer) -> Outcome
         ensures { result ≡ arrives self.now peer }
     {
-        let facts = Facts {
-            number_is_spent: self.house.last_id == u64::MAX,
-            ..Facts::NONE
-        };
+        let facts = self.house.arrive_facts(peer);
         let asker = Subject {
             names_a_mount: false,
         };
@@ -28,7 +26,7 @@ impl Core {
     }
 
     fn admit_client(&self, peer: Peer) -> Outcome
-        requires { self.now.house.last_id < 2 ^ 64 - 1 }
+        requires { (self.now.house.last_id == largest_number) ≡ false }
         ensures { result ≡ admits_client self.now peer }
     {
         let id = self.house.last_id + 1;

@@ -2,6 +2,7 @@ ghost use Rattle.std.specs.Prelude.{◌≡◌, Some, IfOk, MatchResult};
 ghost use Rattle.radio_core.specs.Facts.{session_at};
 ghost use Rattle.radio_core.specs.Listen.{asks_to_hear, takes_seat, burst_of, interval_for, first_seat};
 
+use crate::facts::asker_of;
 use crate::house::House;
 use crate::outcome::{Change, Outcome};
 use crate::seats::Seat;
@@ -9,7 +10,7 @@ use crate::sessions::Session;
 use crate::standing::Standing;
 use crate::{Core, ListenRequest, OutOfMemory, Reply};
 use radio_addr::Peer;
-use radio_policy::{Action, Facts, Rule, Subject, Verdict, judge};
+use radio_policy::{Action, Verdict, judge};
 use radio_settings::MountName;
 
 impl Core {
@@ -32,16 +33,8 @@ impl Core {
             Standing::Finished(rule) => return Err(Outcome::finished(rule)),
             _ => return Err(Outcome::stray()),
         };
-        let path = asked.mount.as_slice();
-        let is_live = self.house.session_at(path).is_some();
-        let facts = Facts {
-            mount_is_known: is_live,
-            walk_stops: if is_live { None } else { Some(Rule::NotLive) },
-            ..Facts::NONE
-        };
-        let asker = Subject {
-            names_a_mount: MountName::read(path).is_some(),
-        };
+        let facts = self.house.listen_facts(asked);
+        let asker = asker_of(asked.mount.as_slice());
         match judge(&facts, &asker, &Action::Listen) {
             Verdict::Deny(rule) => Err(Outcome::refused(rule, asked.id)),
             Verdict::Allow => Ok(peer),

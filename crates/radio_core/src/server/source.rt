@@ -1,10 +1,11 @@
 ghost use Rattle.std.specs.Prelude.{◌≡◌, MatchResult};
 ghost use Rattle.radio_core.specs.Source.{asks_to_feed, begins};
 
+use crate::facts::asker_of;
 use crate::outcome::{Change, Outcome};
 use crate::standing::Standing;
 use crate::{Core, Reply, SourceRequest};
-use radio_policy::{Action, Facts, Subject, Verdict, judge};
+use radio_policy::{Action, Verdict, judge};
 use radio_settings::MountName;
 
 impl Core {
@@ -35,17 +36,11 @@ impl Core {
             _ => return Err(Outcome::stray()),
         }
         let path = asked.mount.as_slice();
-        let name = MountName::read(path);
-        let facts = Facts {
-            mount_is_live: self.house.session_at(path).is_some(),
-            ..Facts::NONE
-        };
-        let asker = Subject {
-            names_a_mount: name.is_some(),
-        };
+        let facts = self.house.source_facts(asked);
+        let asker = asker_of(path);
         match judge(&facts, &asker, &Action::Source) {
             Verdict::Deny(rule) => Err(Outcome::refused(rule, asked.id)),
-            Verdict::Allow => Ok(name.unwrap()),
+            Verdict::Allow => Ok(MountName::read(path).unwrap()),
         }
     }
 }

@@ -5,7 +5,7 @@ use Rattle.radio_core.proofs.ServiceLemmas.{replies_fit}
 use Rattle.radio_core.proofs.laws.events_are_of_their_clients.Goals as goal
 
 pub returns-clause-own : goal.returns-clause-own
-returns-clause-own c settings events event = replies_fit (run_after settings events) (sound_run settings events) event
+returns-clause-own c settings lists events event = replies_fit (run_after settings lists events) (sound_run settings lists events) event
 
 pub returns-clause-others : goal.returns-clause-others
-returns-clause-others c settings events event = others_hold (run_after settings events) (sound_run settings events) event
+returns-clause-others c settings lists events event = others_hold (run_after settings lists events) (sound_run settings lists events) event

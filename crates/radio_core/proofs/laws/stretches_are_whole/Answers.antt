@@ -5,7 +5,7 @@ use Rattle.radio_core.proofs.StretchLemmas.{stretches_hold}
 use Rattle.radio_core.proofs.laws.stretches_are_whole.Goals as goal
 
 pub returns-clause-stretches : goal.returns-clause-stretches
-returns-clause-stretches c settings events = stretches_hold settings events
+returns-clause-stretches c settings lists events = stretches_hold settings lists events
 
 pub returns-clause-mounts : goal.returns-clause-mounts
-returns-clause-mounts c settings events event = mounts_kept (run_after settings events) (sound_run settings events) event
+returns-clause-mounts c settings lists events event = mounts_kept (run_after settings lists events) (sound_run settings lists events) event

@@ -5,6 +5,6 @@ use Rattle.radio_core.proofs.laws.whoever_may_is_served.Goals as goal
 
 pub returns : goal.returns
 returns c = record {
-  served = λ settings events. service_holds c.denials_name_the_first_rule.ensures.allows (run_after settings events)
-      (sound_run settings events);
+  served = λ settings lists events. service_holds c.denials_name_the_first_rule.ensures.allows (run_after settings lists events)
+      (sound_run settings lists events);
 }
