@@ -83,7 +83,7 @@ impl ScriptServer {
     {
         match delivery {
             Delivery::Open { label, peer } => self.perform_open(*label, *peer, lines),
-            Delivery::In { label, bytes } => self.perform_in(*label, bytes.as_bytes(), lines),
+            Delivery::In { label, bytes } => self.perform_in(*label, bytes.as_slice(), lines),
             Delivery::Room { label, room } => self.perform_room(*label, *room, lines),
             Delivery::End { label } => self.perform_end(*label, lines),
         }

@@ -10,8 +10,6 @@ mod cuts;
 pub mod laws;
 mod lines;
 mod numbers;
-#[cfg(test)]
-mod tests;
 
 pub use cuts::{cut, cut_at_two};
 pub use lines::without_return;
