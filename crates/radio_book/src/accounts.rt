@@ -77,9 +77,32 @@ impl<C: Chronicle, H: House> Accounts<C, H> {
         ensures err { OnErr result (self.new.story.core ≡ self.old.story.core) }
         ensures frees { TakesNoMemory event → IsOk result }
     {
-        let told = event.again()?;
-        let reply = self.story.answer(event)?;
-        Ok(Receipt::new(0, told, reply))
+        match event.again() {
+            Ok(told) => self.answer_with(event, told),
+            Err(refused) => {
+                drop(event);
+                Err(refused)
+            }
+        }
+    }
+
+    /// The same, with the copy that the receipt has.
+    fn answer_with(&mut self, event: Event, told: Event) -> Result<Receipt, OutOfMemory>
+        requires unkept { C.KEEPS ≡ false }
+        requires copy { told ≡ event }
+        ensures step { (w : World) → Represents self.old.story.core w → IfOk result (λ receipt. (receipt.reply ≡ reply_to w event) × Represents self.new.story.core (world_after w event)) }
+        ensures event { IfOk result (λ receipt. (receipt.serial ≡ 0) × (receipt.event ≡ event)) }
+        ensures chronicle { self.new.story.chronicle ≡ self.old.story.chronicle }
+        ensures err { OnErr result (self.new.story.core ≡ self.old.story.core) }
+        ensures frees { TakesNoMemory event → IsOk result }
+    {
+        match self.story.answer(event) {
+            Ok(reply) => Ok(Receipt::new(0, told, reply)),
+            Err(refused) => {
+                drop(told);
+                Err(refused)
+            }
+        }
     }
 
     /// One event, which is stored. `OutOfMemory` where memory was refused; nothing has changed then.
@@ -97,9 +120,29 @@ impl<C: Chronicle, H: House> Accounts<C, H> {
         ensures err { OnErr result ((self.new.story.core ≡ self.old.story.core) × (C.entries self.new.story.chronicle ≡ C.entries self.old.story.chronicle) × (holdings.new.receipts.items ≡ holdings.old.receipts.items)) }
         ensures frees { TakesNoMemory event → room_for holdings.old.clients.items event ≡ 0 → IsOk result }
     {
-        self.make_room(holdings, &event)?;
-        let copies = thrice(&event)?;
-        self.note_in_room(holdings, event, copies)
+        match self.prepare(holdings, &event) {
+            Ok(copies) => self.note_in_room(holdings, event, copies),
+            Err(refused) => {
+                drop(event);
+                Err(refused)
+            }
+        }
+    }
+
+    /// Makes room for an event and for the ends that are owed then, and copies of the event.
+    /// `OutOfMemory` where memory was refused.
+    fn prepare(&mut self, holdings: &mut Holdings<H>, event: &Event) -> Result<Copies, OutOfMemory>
+        ensures copies { IfOk result (λ copies. (copies.noted ≡ event.now) × (copies.held ≡ event.now) × (copies.told ≡ event.now)) }
+        ensures chronicle { OnOk result ((0 < C.room self.new.story.chronicle) × (self.new.debt.owed + room_for holdings.new.clients.items event.now ≤ C.room self.new.story.chronicle)) }
+        ensures most { OnOk result (C.room self.new.story.chronicle < 2 ^ 64) }
+        ensures receipts { OnOk result (vec_len holdings.new.receipts + vec_len holdings.new.clients + room_for holdings.new.clients.items event.now ≤ vec_capacity holdings.new.receipts) }
+        ensures clients { OnOk result (is_arrival event.now ≡ true → vec_len holdings.new.clients < vec_capacity holdings.new.clients) }
+        ensures frees { TakesNoMemory event.now → room_for holdings.old.clients.items event.now ≡ 0 → IsOk result }
+        ensures same { (self.new.story.core ≡ self.old.story.core) × (C.entries self.new.story.chronicle ≡ C.entries self.old.story.chronicle) }
+        ensures held { (holdings.new.receipts.items ≡ holdings.old.receipts.items) × (holdings.new.clients.items ≡ holdings.old.clients.items) }
+    {
+        self.make_room(holdings, event)?;
+        thrice(event)
     }
 
     /// Makes room for an event and for the ends that are owed then. `OutOfMemory` where memory was
@@ -145,10 +188,18 @@ impl<C: Chronicle, H: House> Accounts<C, H> {
         ensures frees { TakesNoMemory event → IsOk result }
     {
         let Copies { noted, held, told } = copies;
-        let (held_reply, reply) = self.story.record(event, noted)?;
-        let serial = self.story.chronicle.len() as u64;
-        holdings.note(&mut self.debt, Receipt::new(serial, held, held_reply));
-        Ok(Receipt::new(serial, told, reply))
+        match self.story.record(event, noted) {
+            Ok((held_reply, reply)) => {
+                let serial = self.story.chronicle.len() as u64;
+                holdings.note(&mut self.debt, Receipt::new(serial, held, held_reply));
+                Ok(Receipt::new(serial, told, reply))
+            }
+            Err(refused) => {
+                drop(held);
+                drop(told);
+                Err(refused)
+            }
+        }
     }
 }
 
@@ -157,9 +208,27 @@ fn thrice(event: &Event) -> Result<Copies, OutOfMemory>
     ensures value { IfOk result (λ copies. (copies.noted ≡ event.now) × (copies.held ≡ event.now) × (copies.told ≡ event.now)) }
     ensures frees { TakesNoMemory event.now → IsOk result }
 {
-    Ok(Copies {
-        noted: event.again()?,
-        held: event.again()?,
-        told: event.again()?,
-    })
+    let noted = event.again()?;
+    match twice(event) {
+        Ok((held, told)) => Ok(Copies { noted, held, told }),
+        Err(refused) => {
+            drop(noted);
+            Err(refused)
+        }
+    }
+}
+
+/// An event twice. `OutOfMemory` where memory was refused.
+fn twice(event: &Event) -> Result<(Event, Event), OutOfMemory>
+    ensures value { IfOk result (λ copies. (copies.0 ≡ event.now) × (copies.1 ≡ event.now)) }
+    ensures frees { TakesNoMemory event.now → IsOk result }
+{
+    let first = event.again()?;
+    match event.again() {
+        Ok(second) => Ok((first, second)),
+        Err(refused) => {
+            drop(first);
+            Err(refused)
+        }
+    }
 }

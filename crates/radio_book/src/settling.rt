@@ -51,12 +51,33 @@ pub fn settle<H: House>(
     ensures once { IfOk result (λ history. IsPermutation (range_with_len 1 (length history.items)) (all_serials passes.items)) }
 {
     let history = book.into_history();
-    check_strange(history.as_slice(), passes.as_slice())?;
-    let sorted = sorted_serials(alloc, passes.as_slice())?;
+    let checked = check(alloc, history.as_slice(), passes.as_slice());
+    drop(passes);
+    match checked {
+        Ok(()) => Ok(history),
+        Err(fault) => {
+            drop(history);
+            Err(fault)
+        }
+    }
+}
+
+/// Looks for the faults, one after another.
+fn check<H: House>(
+    alloc: Global,
+    history: &[Entry],
+    passes: &[Pass<Kept, H>],
+) -> Result<(), SettleFault>
+    ensures stand { OnOk result (All (λ pass. All (StandsIn history.now) pass) passes.now) }
+    ensures rise { OnOk result (All (λ pass. Rises 0 (serials pass)) passes.now) }
+    ensures once { OnOk result (IsPermutation (range_with_len 1 (length history.now)) (all_serials passes.now)) }
+{
+    check_strange(history, passes)?;
+    let sorted = sorted_serials(alloc, passes)?;
     check_twice(sorted.as_slice())?;
-    check_order(passes.as_slice())?;
+    check_order(passes)?;
     check_count(history.len(), sorted.as_slice())?;
-    Ok(history)
+    Ok(())
 }
 
 /// Each receipt of each pass stands in the history.
