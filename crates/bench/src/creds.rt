@@ -1,7 +1,7 @@
 //! Look-ups in a user list of 10 users beside those in one of 10,000. In full a million of each are made, and it is
 //! written how long one takes, in nanoseconds, and the ratio of the two lists.
 
-use crate::times::{micros, percent_of};
+use crate::times::{Measured, micros, percent_of};
 use anyhow::{Context, Result};
 use radio_creds::{OutOfMemory, Pair, Users, basic};
 use std::alloc::Global;
@@ -30,19 +30,61 @@ pub fn measure(rt: &(impl Clock + Print + AllocGlobal), is_full: bool) -> Result
     Ok(())
 }
 
-/// Looks each user of a list up, and asks as often for one pair, over so many rounds.
+/// Looks each of so many users up in their list, and asks as often for one pair, over so many rounds.
 fn look_up(rt: &(impl Clock + Print + AllocGlobal), size: u32, rounds: u32) -> Result<Times> {
     let names = names(rt.alloc(), size)?;
-    let users = list(rt.alloc(), names.as_slice())?;
+    look_up_names(rt, names.as_slice(), rounds)
+}
+
+fn look_up_names(
+    rt: &(impl Clock + Print + AllocGlobal),
+    names: &[String],
+    rounds: u32,
+) -> Result<Times> {
+    let users = list(rt.alloc(), names)?;
+    look_up_in(rt, &users, names, rounds)
+}
+
+fn look_up_in(
+    rt: &(impl Clock + Print + AllocGlobal),
+    users: &Users,
+    names: &[String],
+    rounds: u32,
+) -> Result<Times> {
+    let listed = time_listed(rt, users, names, rounds)?;
+    let accepted = time_accepted(rt, users, names.len(), rounds)?;
+    println!(rt;
+        "{} users: {} listed, {} accepted",
+        names.len(),
+        listed.count,
+        accepted.count
+    )?;
+    Ok(Times {
+        has: listed.time,
+        accepts: accepted.time,
+    })
+}
+
+/// Looks the users up.
+fn time_listed(rt: &impl Clock, users: &Users, names: &[String], rounds: u32) -> Result<Measured> {
+    let start = Instant::now(rt)?;
+    let count = count_listed(users, names, rounds);
+    let time = start.elapsed(rt)?;
+    Ok(Measured { count, time })
+}
+
+/// Asks as often for one pair.
+fn time_accepted(
+    rt: &(impl Clock + AllocGlobal),
+    users: &Users,
+    times: usize,
+    rounds: u32,
+) -> Result<Measured> {
     let pair = basic(rt.alloc(), VALUE)?.context("the value has no pair")?;
     let start = Instant::now(rt)?;
-    let listed = count_listed(&users, names.as_slice(), rounds);
-    let has = start.elapsed(rt)?;
-    let start = Instant::now(rt)?;
-    let accepted = count_accepted(&users, &pair, names.len(), rounds);
-    let accepts = start.elapsed(rt)?;
-    println!(rt; "{size} users: {listed} listed, {accepted} accepted")?;
-    Ok(Times { has, accepts })
+    let count = count_accepted(users, &pair, times, rounds);
+    let time = start.elapsed(rt)?;
+    Ok(Measured { count, time })
 }
 
 /// The users `user0`, `user1` and so on.
@@ -65,8 +107,8 @@ fn list(alloc: Global, names: &[String]) -> Result<Users, OutOfMemory> {
 }
 
 /// How often a user was found.
-fn count_listed(users: &Users, names: &[String], rounds: u32) -> u64 {
-    let mut count = 0u64;
+fn count_listed(users: &Users, names: &[String], rounds: u32) -> usize {
+    let mut count = 0usize;
     for _ in 0..rounds {
         for name in names {
             if users.has(name.as_bytes()) {
@@ -78,8 +120,8 @@ fn count_listed(users: &Users, names: &[String], rounds: u32) -> u64 {
 }
 
 /// How often the pair was accepted.
-fn count_accepted(users: &Users, pair: &Pair, times: usize, rounds: u32) -> u64 {
-    let mut count = 0u64;
+fn count_accepted(users: &Users, pair: &Pair, times: usize, rounds: u32) -> usize {
+    let mut count = 0usize;
     for _ in 0..rounds {
         for _ in 0..times {
             if users.accepts(pair) {

@@ -4,9 +4,9 @@
 //! Sound is copied and woven draw by draw into one buffer, so that no fresh page is touched.
 ghost use Rattle.std.specs.Prelude.{◌≤◌};
 
-use crate::times::{copied_size, write_speed};
+use crate::times::{Measured, copy_pieces, write_speeds};
 use anyhow::Result;
-use radio_icy::{Item, LONGEST_TITLE, OutOfMemory, Unweaver, Weaver};
+use radio_icy::{Item, MAX_TITLE, OutOfMemory, Unweaver, Weaver};
 use std::alloc::Global;
 use std::rt::Clock;
 use std::time::{Duration, Instant};
@@ -18,13 +18,6 @@ const FULL: usize = 64 * 1024 * 1024;
 const DRAW: usize = 16384;
 
 const PIECE: usize = 1400;
-
-/// A size, and how long it took.
-#[derive(Clone, Copy)]
-struct Measured {
-    size: usize,
-    time: Duration,
-}
 
 /// Measures a long interval and the shortest.
 pub fn measure(rt: &(impl Clock + Print + AllocGlobal), is_full: bool) -> Result<()> {
@@ -44,63 +37,84 @@ fn weave_and_unweave(
 ) -> Result<()>
     requires { 1 ≤ interval }
 {
-    let copy = copy_draws(rt, sound)?;
     let woven = weave_draws(rt, interval, sound)?;
-    let pieces = copy_pieces(rt, sound)?;
     let unwoven = unweave_pieces(rt, interval, sound)?;
     println!(rt;
         "interval {interval}: {} bytes of sound, {} woven, {} unwoven",
-        copy.size, woven.size, unwoven.size
+        sound.len(),
+        woven.count,
+        unwoven.count
     )?;
     if is_full {
-        write_speed(rt, "copy", copy.size, copy.time, copy.time)?;
-        write_speed(rt, "weave", copy.size, woven.time, copy.time)?;
-        write_speed(rt, "copy in pieces", pieces.size, pieces.time, pieces.time)?;
-        write_speed(rt, "unweave", unwoven.size, unwoven.time, pieces.time)?;
+        write_beside_copies(rt, sound, woven.time, unwoven.time)?;
     }
     Ok(())
+}
+
+/// Writes the speeds of weaving and unweaving, each beside a copy.
+fn write_beside_copies(
+    rt: &(impl Clock + Print + AllocGlobal),
+    sound: &[u8],
+    weaving: Duration,
+    unweaving: Duration,
+) -> Result<()> {
+    let copied = copy_draws(rt, sound)?;
+    write_speeds(rt, ("copy", "weave"), &copied, weaving)?;
+    let copied = copy_pieces(rt, sound, PIECE)?;
+    write_speeds(rt, ("copy in pieces", "unweave"), &copied, unweaving)
 }
 
 /// Copies the sound, draw by draw.
 fn copy_draws(rt: &(impl Clock + AllocGlobal), sound: &[u8]) -> Result<Measured> {
     let mut out = Vec::with_capacity(rt.alloc(), DRAW)?;
-    let mut size = 0usize;
     let start = Instant::now(rt)?;
+    let count = copied_size(sound, &mut out)?;
+    let time = start.elapsed(rt)?;
+    Ok(Measured { count, time })
+}
+
+/// How many bytes the draws of the sound have, each copied into the buffer.
+fn copied_size(sound: &[u8], out: &mut Vec<u8>) -> Result<usize, OutOfMemory> {
+    let mut size = 0usize;
     for draw in sound.chunks(DRAW) {
         out.clear();
         out.extend_from_slice(draw)?;
         size = size.saturating_add(out.len());
     }
-    let time = start.elapsed(rt)?;
-    Ok(Measured { size, time })
+    Ok(size)
 }
 
 /// Weaves the sound, draw by draw.
 fn weave_draws(rt: &(impl Clock + AllocGlobal), interval: usize, sound: &[u8]) -> Result<Measured>
     requires { 1 ≤ interval }
 {
-    let mut weaver = Weaver::new(rt.alloc(), interval);
-    let mut out = Vec::with_capacity(rt.alloc(), 2 * DRAW + LONGEST_TITLE)?;
-    let mut size = 0usize;
+    let mut out = Vec::with_capacity(rt.alloc(), 2 * DRAW + MAX_TITLE)?;
     let start = Instant::now(rt)?;
+    let count = woven_size(rt.alloc(), interval, sound, &mut out)?;
+    let time = start.elapsed(rt)?;
+    Ok(Measured { count, time })
+}
+
+/// How many bytes the draws of the sound come to, each woven into the buffer.
+fn woven_size(
+    alloc: Global,
+    interval: usize,
+    sound: &[u8],
+    out: &mut Vec<u8>,
+) -> Result<usize, OutOfMemory>
+    requires { 1 ≤ interval }
+{
+    let mut weaver = Weaver::new(alloc, interval);
+    let mut size = 0usize;
     for draw in sound.chunks(DRAW) {
         out.clear();
-        weaver.weave(draw, Some(b"A - B"), &mut out)?;
+        weaver.weave(draw, Some(b"A - B"), out)?;
         size = size.saturating_add(out.len());
     }
-    let time = start.elapsed(rt)?;
-    Ok(Measured { size, time })
+    Ok(size)
 }
 
-/// Copies the sound in pieces as they come from a network, each into memory of its own.
-fn copy_pieces(rt: &(impl Clock + AllocGlobal), sound: &[u8]) -> Result<Measured> {
-    let start = Instant::now(rt)?;
-    let size = copied_size(rt.alloc(), sound, PIECE)?;
-    let time = start.elapsed(rt)?;
-    Ok(Measured { size, time })
-}
-
-/// Takes the stream of the sound apart in such pieces.
+/// Takes the stream of the sound apart in pieces as they come from a network.
 fn unweave_pieces(
     rt: &(impl Clock + AllocGlobal),
     interval: usize,
@@ -110,9 +124,9 @@ fn unweave_pieces(
 {
     let stream = woven(rt.alloc(), interval, sound)?;
     let start = Instant::now(rt)?;
-    let size = sound_size(rt.alloc(), interval, stream.as_slice())?;
+    let count = sound_size(rt.alloc(), interval, stream.as_slice())?;
     let time = start.elapsed(rt)?;
-    Ok(Measured { size, time })
+    Ok(Measured { count, time })
 }
 
 /// The stream of the sound.

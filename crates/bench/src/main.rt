@@ -24,6 +24,9 @@ enum Subject {
     Source,
 }
 
+/// The word that asks for much, with times.
+const FULL: &str = "full";
+
 const ALL: [Subject; 4] = [
     Subject::Creds,
     Subject::Icy,
@@ -32,24 +35,37 @@ const ALL: [Subject; 4] = [
 ];
 
 fn main(rt: HostRuntime) -> Result<()> {
-    let is_full = env::args(&rt)?.any(|word| word.as_str() == "full");
-    let mut has_subject = false;
-    for word in env::args(&rt)?.skip(1) {
-        match subject_of(word.as_str()) {
-            Some(subject) => {
-                has_subject = true;
-                measure(&rt, subject, is_full)?;
-            }
-            None if word.as_str() == "full" => {}
-            None => settings::read_file(&rt, word.as_str())?,
-        }
+    let is_full = env::args(&rt)?.any(|word| word.as_str() == FULL);
+    if measure_words(&rt, is_full)? {
+        return Ok(());
     }
-    if !has_subject {
-        for subject in ALL {
-            measure(&rt, subject, is_full)?;
-        }
+    for subject in ALL {
+        measure(&rt, subject, is_full)?;
     }
     Ok(())
+}
+
+/// Does what the words ask for, and tells whether a subject is among them.
+fn measure_words(rt: &HostRuntime, is_full: bool) -> Result<bool> {
+    let mut has_subject = false;
+    for word in env::args(rt)?.skip(1) {
+        if measure_word(rt, word.as_str(), is_full)? {
+            has_subject = true;
+        }
+    }
+    Ok(has_subject)
+}
+
+/// Does what a word asks for, and tells whether it is a subject.
+fn measure_word(rt: &HostRuntime, word: &str, is_full: bool) -> Result<bool> {
+    if let Some(subject) = subject_of(word) {
+        measure(rt, subject, is_full)?;
+        return Ok(true);
+    }
+    if word != FULL {
+        settings::read_file(rt, word)?;
+    }
+    Ok(false)
 }
 
 /// The subject of a word.

@@ -1,7 +1,7 @@
 //! Reading settings of 10 mounts beside those of 10,000. In full 200,000 mounts of each size are read, and it is written
 //! how long one takes, in nanoseconds, and the ratio of the two.
 
-use crate::times::{micros, percent_of};
+use crate::times::{Measured, micros, percent_of};
 use anyhow::Result;
 use radio_settings::{OutOfMemory, Settings, SettingsFault};
 use std::alloc::Global;
@@ -33,20 +33,33 @@ pub fn read_file(rt: &HostRuntime, path: &str) -> Result<()> {
 /// How many mounts and relays a text sets.
 fn counts(alloc: Global, text: &str) -> Result<(usize, usize), SettingsFault> {
     let settings = Settings::read(alloc, text)?;
-    Ok((
+    Ok(counts_in(&settings))
+}
+
+fn counts_in(settings: &Settings) -> (usize, usize) {
+    (
         settings.mounts.as_slice().len(),
         settings.relays.as_slice().len(),
-    ))
+    )
 }
 
 /// Reads settings of so many mounts in so many rounds, and tells how long it took.
 fn read_size(rt: &(impl Clock + Print + AllocGlobal), size: u32, rounds: u32) -> Result<Duration> {
+    let read = read_station(rt, size, rounds)?;
+    println!(rt; "{size} mounts: {} read", read.count)?;
+    Ok(read.time)
+}
+
+fn read_station(rt: &(impl Clock + AllocGlobal), size: u32, rounds: u32) -> Result<Measured> {
     let text = station(rt.alloc(), size)?;
+    time_reading(rt, text.as_str(), rounds)
+}
+
+fn time_reading(rt: &(impl Clock + AllocGlobal), text: &str, rounds: u32) -> Result<Measured> {
     let start = Instant::now(rt)?;
-    let mounts = read_rounds(rt.alloc(), text.as_str(), rounds)?;
-    let took = start.elapsed(rt)?;
-    println!(rt; "{size} mounts: {mounts} read")?;
-    Ok(took)
+    let count = read_rounds(rt.alloc(), text, rounds)?;
+    let time = start.elapsed(rt)?;
+    Ok(Measured { count, time })
 }
 
 /// Settings with the mounts `/mount0`, `/mount1` and so on.
@@ -62,11 +75,11 @@ fn station(alloc: Global, size: u32) -> Result<String, OutOfMemory> {
 }
 
 /// How many mounts were read in all rounds.
-fn read_rounds(alloc: Global, text: &str, rounds: u32) -> Result<u64, SettingsFault> {
-    let mut mounts = 0u64;
+fn read_rounds(alloc: Global, text: &str, rounds: u32) -> Result<usize, SettingsFault> {
+    let mut mounts = 0usize;
     for _ in 0..rounds {
         let (read, _) = counts(alloc, text)?;
-        mounts = mounts.saturating_add(read as u64);
+        mounts = mounts.saturating_add(read);
     }
     Ok(mounts)
 }

@@ -3,8 +3,9 @@
 //! are copied, piece by piece.
 ghost use Rattle.std.specs.Prelude.{◌≤◌};
 
-use crate::times::{copied_size, write_speed};
+use crate::times::{Measured, copy_pieces, write_speeds};
 use anyhow::Result;
+use radio_blocks::Block;
 use radio_source::{Body, OutOfMemory};
 use std::alloc::Global;
 use std::rt::Clock;
@@ -32,10 +33,10 @@ fn feed_unframed(
     data: &[u8],
     is_full: bool,
 ) -> Result<()> {
-    let alloc = rt.alloc();
-    feed(rt, "plain", Body::plain(alloc), data, is_full)?;
-    let sized = Body::sized(alloc, data.len() as u64);
-    feed(rt, "sized", sized, data, is_full)
+    let mut plain = Body::plain(rt.alloc());
+    feed(rt, "plain", &mut plain, data, is_full)?;
+    let mut sized = Body::sized(rt.alloc(), data.len() as u64);
+    feed(rt, "sized", &mut sized, data, is_full)
 }
 
 /// A body in chunks of one size.
@@ -48,62 +49,83 @@ fn feed_chunks(
     requires { 1 ≤ chunk_size }
 {
     let bytes = chunked(rt.alloc(), chunk_size, data)?;
+    feed_chunked(rt, chunk_size, bytes.as_slice(), is_full)
+}
+
+/// The bytes of such a body.
+fn feed_chunked(
+    rt: &(impl Clock + Print + AllocGlobal),
+    chunk_size: usize,
+    bytes: &[u8],
+    is_full: bool,
+) -> Result<()> {
     let name = format!(in rt.alloc(); "chunks of {chunk_size}")?;
-    let body = Body::chunked(rt.alloc());
-    feed(rt, name.as_str(), body, bytes.as_slice(), is_full)
+    let mut body = Body::chunked(rt.alloc());
+    feed(rt, name.as_str(), &mut body, bytes, is_full)
 }
 
 /// Copies and feeds the bytes of a body in pieces, and writes a line about it.
 fn feed(
     rt: &(impl Clock + Print + AllocGlobal),
     name: &str,
-    body: Body,
+    body: &mut Body,
     bytes: &[u8],
     is_full: bool,
 ) -> Result<()> {
-    let start = Instant::now(rt)?;
-    let copied = copied_size(rt.alloc(), bytes, PIECE)?;
-    let copying = start.elapsed(rt)?;
-    let start = Instant::now(rt)?;
-    let fed = fed_size(body, bytes)?;
-    let feeding = start.elapsed(rt)?;
-    println!(rt; "{name}: {copied} bytes fed, {fed} of data")?;
+    let copied = copy_pieces(rt, bytes, PIECE)?;
+    let fed = feed_pieces(rt, body, bytes)?;
+    println!(rt; "{name}: {} bytes fed, {} of data", copied.count, fed.count)?;
     if is_full {
-        write_speed(rt, "copy", copied, copying, copying)?;
-        write_speed(rt, "feed", copied, feeding, copying)?;
+        write_speeds(rt, ("copy", "feed"), &copied, fed.time)?;
     }
     Ok(())
 }
 
-/// How many bytes of data a body has that is fed in pieces.
-fn fed_size(body: Body, bytes: &[u8]) -> Result<usize> {
-    let mut body = body;
-    let mut size = 0usize;
+/// Feeds a body in pieces: how many bytes of data it has.
+fn feed_pieces(rt: &impl Clock, body: &mut Body, bytes: &[u8]) -> Result<Measured> {
+    let start = Instant::now(rt)?;
+    let mut count = 0usize;
     for piece in bytes.chunks(PIECE) {
-        for block in &body.feed(piece)?.blocks {
-            size = size.saturating_add(block.len());
-        }
+        count = count.saturating_add(fed_size(body, piece)?);
     }
-    Ok(size)
+    let time = start.elapsed(rt)?;
+    Ok(Measured { count, time })
+}
+
+/// How many bytes of data one feed of a body brings.
+fn fed_size(body: &mut Body, piece: &[u8]) -> Result<usize> {
+    let fed = body.feed(piece)?;
+    Ok(fed.blocks.iter().map(Block::len).sum())
 }
 
 /// A chunked body of this data, in chunks of one size.
-fn chunked(alloc: Global, chunk_size: usize, data: &[u8]) -> Result<Vec<u8>>
+fn chunked(alloc: Global, chunk_size: usize, data: &[u8]) -> Result<Vec<u8>, OutOfMemory>
     requires { 1 ≤ chunk_size }
 {
-    let mut bytes = Vec::new(alloc);
     let line = chunk_line(alloc, chunk_size)?;
+    let mut bytes = Vec::new(alloc);
     for chunk in data.chunks(chunk_size) {
         if chunk.len() == chunk_size {
-            bytes.extend_from_slice(line.as_bytes())?;
+            push_chunk(&mut bytes, line.as_bytes(), chunk)?;
         } else {
-            bytes.extend_from_slice(chunk_line(alloc, chunk.len())?.as_bytes())?;
+            push_last_chunk(alloc, &mut bytes, chunk)?;
         }
-        bytes.extend_from_slice(chunk)?;
-        bytes.extend_from_slice(b"\r\n")?;
     }
     bytes.extend_from_slice(b"0\r\n\r\n")?;
     Ok(bytes)
+}
+
+/// Appends a chunk behind its line.
+fn push_chunk(bytes: &mut Vec<u8>, line: &[u8], chunk: &[u8]) -> Result<(), OutOfMemory> {
+    bytes.extend_from_slice(line)?;
+    bytes.extend_from_slice(chunk)?;
+    bytes.extend_from_slice(b"\r\n")
+}
+
+/// Appends a chunk of another size than the others.
+fn push_last_chunk(alloc: Global, bytes: &mut Vec<u8>, chunk: &[u8]) -> Result<(), OutOfMemory> {
+    let line = chunk_line(alloc, chunk.len())?;
+    push_chunk(bytes, line.as_bytes(), chunk)
 }
 
 /// The line before a chunk of so many bytes.

@@ -3,7 +3,15 @@ ghost use Rattle.std.specs.Prelude.{◌≤◌};
 
 use anyhow::Result;
 use std::alloc::{AllocError, Global};
-use std::time::Duration;
+use std::rt::Clock;
+use std::time::{Duration, Instant};
+
+/// A number of bytes or of look-ups, and how long they took.
+#[derive(Clone, Copy)]
+pub struct Measured {
+    pub count: usize,
+    pub time: Duration,
+}
 
 /// A time in microseconds, at least one.
 pub fn micros(time: Duration) -> u64
@@ -17,23 +25,38 @@ pub fn percent_of(time: Duration, other: Duration) -> u64 {
     micros(other).saturating_mul(100) / micros(time)
 }
 
-/// Writes the speed of something that went through so many bytes in one time, in millions of bytes a second, and in
-/// percent of the speed of a copy that took the other time.
-pub fn write_speed(
+/// Writes the speed of a copy and that of something that went through as many bytes, each by its name.
+pub fn write_speeds(
     rt: &impl Print,
-    what: &str,
-    size: usize,
+    names: (&str, &str),
+    copied: &Measured,
     time: Duration,
-    copying: Duration,
 ) -> Result<()> {
-    let speed = size as u64 / micros(time);
-    let percent = percent_of(time, copying);
-    println!(rt; "  {what}: {speed} MB/s, {percent} % of the copy's speed")?;
+    write_speed(rt, names.0, copied, copied.time)?;
+    write_speed(rt, names.1, copied, time)
+}
+
+/// Writes the speed of something that went through the bytes of a copy in some time, in millions of bytes a second, and
+/// in percent of the copy's.
+fn write_speed(rt: &impl Print, name: &str, copied: &Measured, time: Duration) -> Result<()> {
+    let speed = copied.count as u64 / micros(time);
+    let percent = percent_of(time, copied.time);
+    println!(rt; "  {name}: {speed} MB/s, {percent} % of the copy's speed")?;
     Ok(())
 }
 
+/// Copies bytes piece by piece, each into memory of its own.
+pub fn copy_pieces(rt: &(impl Clock + AllocGlobal), bytes: &[u8], piece: usize) -> Result<Measured>
+    requires { 1 ≤ piece }
+{
+    let start = Instant::now(rt)?;
+    let count = copied_size(rt.alloc(), bytes, piece)?;
+    let time = start.elapsed(rt)?;
+    Ok(Measured { count, time })
+}
+
 /// How many bytes there are, each piece of them copied for itself. An `Err` means that memory ran out.
-pub fn copied_size(alloc: Global, bytes: &[u8], piece: usize) -> Result<usize, AllocError>
+fn copied_size(alloc: Global, bytes: &[u8], piece: usize) -> Result<usize, AllocError>
     requires { 1 ≤ piece }
 {
     let mut size = 0usize;

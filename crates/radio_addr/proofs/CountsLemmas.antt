@@ -1,5 +1,6 @@
 -- Groups that are counted while they are read.
-use Rattle.std.proofs.Common.{◌≡◌, ℕ, zero, suc, ◌+◌, ◌-◌, ◌*◌, ◌^◌, ◌<◌, ◌≤◌, Bool, eqb, leb, cond, List, [], ◌∷◌, ◌++◌, length, replicate, Option, None, Some, refl, arith, ap, ◌∙◌, sym, ⊎_elim, lit<}
+use Rattle.std.proofs.Common.{◌≡◌, ℕ, zero, suc, ◌+◌, ◌-◌, ◌*◌, ◌^◌, ◌<◌, ◌≤◌, Bool, eqb, leb, cond, List, [], ◌∷◌, ◌++◌, length, replicate, Option, None, Some}
+use Rattle.std.proofs.Common.{refl, arith, ap, ◌∙◌, sym, ⊎_elim, lit<}
 use Rattle.std.specs.Prelude.{fold}
 use Rattle.std.specs.Option.{option_map, option_and_then}
 use Rattle.std.proofs.lemmas.Bool.{lt-ltb, le-ltb, le-leb, lt-leb, ne_eqb, cases_lt}

@@ -1,12 +1,13 @@
 -- What is written of a peer is read back as the same peer.
-use Rattle.std.proofs.Common.{◌≡◌, ℕ, zero, suc, ◌+◌, ◌*◌, ◌/◌, ◌%◌, ◌^◌, ◌<◌, ◌≤◌, Bool, true, false, eqb, ltb, leb, List, [], ◌∷◌, ◌++◌, ◌&&◌, length, get_or, None, Some, refl, arith, ap, ◌∙◌, sym, ⊎_elim}
+use Rattle.std.proofs.Common.{◌≡◌, ℕ, zero, suc, ◌+◌, ◌*◌, ◌/◌, ◌%◌, ◌^◌, ◌<◌, ◌≤◌, Bool, true, false, eqb, ltb, leb, List, [], ◌∷◌, ◌++◌, ◌&&◌, length, get_or}
+use Rattle.std.proofs.Common.{None, Some, refl, arith, ap, ◌∙◌, sym, ⊎_elim}
 use Rattle.std.specs.Fmt.{decimal, digits, digits_onto, digit_glyph}
 use Rattle.std.specs.Char.{digit_value, is_digit}
 use Rattle.std.specs.Option.{option_map}
 use Rattle.std.specs.Str.Parse.{digits_value, AllDigits, IsNumeral}
 use Rattle.std.proofs.lemmas.Bool.{lt-ltb, le-ltb, le-leb, eq-eqb, ne_eqb, and_from, and_left, and_right, cases_lt, cases_eq}
 use Rattle.std.proofs.lemmas.Grind.{pow_more}
-use Rattle.std.proofs.lemmas.List.{append-nil, length-append}
+use Rattle.std.proofs.lemmas.List.{append-nil, append_assoc, length-append}
 use Rattle.std.proofs.Math.Nat.{div-div-eq-div-mul}
 use Rattle.std.proofs.lemmas.Fmt.{digits_is_IsNumeral, decimal_digit, first_decimal}
 use Rattle.std.specs.List.{list_all, starts_with}
@@ -14,7 +15,7 @@ use Rattle.radio_texts.specs.Numbers.{number_of, is_numeral}
 use Rattle.radio_addr.specs.Numbers.{octet_of, group_of}
 use Rattle.radio_texts.specs.Cuts.{cut, cut_at_two, onto_front, fields_at, fields_by}
 use Rattle.radio_addr.specs.Addresses.{quad_of, quad_number, v6_of, address_of, peer_of, groups_in, groups_of, last_groups, number_of_groups}
-use Rattle.radio_addr.specs.Writing.{written, group_at, hexadecimal, IsPeer}
+use Rattle.radio_addr.specs.Writing.{written, four_groups, group_at, hexadecimal, IsPeer}
 use Rattle.radio_addr.specs.declared.address.Address.{Address}
 use Rattle.radio_addr.specs.declared.address.Address.TheVariants.{V4, V6}
 use Rattle.radio_addr.proofs.CountsLemmas.{groups_in-cons}
@@ -245,6 +246,14 @@ are_groups : (n : ℕ) → AreGroups (eight_groups n)
 unfolding eight_groups
 are_groups n = (omega arith, (omega arith, (omega arith, (omega arith, (omega arith, (omega arith, (omega arith, (omega arith, tt))))))))
 
+-- four texts with colons between them, and more behind
+append_assoc_four : (a b c d rest : List ℕ)
+    → (a ++ (58 ∷ (b ++ (58 ∷ (c ++ (58 ∷ d)))))) ++ (58 ∷ rest) ≡ a ++ (58 ∷ (b ++ (58 ∷ (c ++ (58 ∷ (d ++ (58 ∷ rest)))))))
+append_assoc_four a b c d rest =
+    append_assoc a (58 ∷ (b ++ (58 ∷ (c ++ (58 ∷ d))))) (58 ∷ rest)
+    ∙ ap (λ t. a ++ (58 ∷ t)) (append_assoc b (58 ∷ (c ++ (58 ∷ d))) (58 ∷ rest)
+    ∙ ap (λ t. b ++ (58 ∷ t)) (append_assoc c (58 ∷ d) (58 ∷ rest)))
+
 groups_of-some : (q : Bool) (text : List ℕ) → 0 < length text → groups_of q text ≡ groups_in q (fields_at 58 text)
 groups_of-some q [] some = absurd (omega arith)
 groups_of-some q (b ∷ text) some = refl
@@ -270,10 +279,18 @@ v6_of-written by fields n small =
     )
     (ap (λ (m : ℕ). Some m) (number_of-groups_at n small))
 
+-- what is written of it are its groups with colons between them
+written_groups : (n : ℕ) → written (V6 n) ≡ joined (eight_groups n)
+unfolding eight_groups
+written_groups n =
+    append_assoc_four (hexadecimal (group_at n 0)) (hexadecimal (group_at n 1)) (hexadecimal (group_at n 2)) (hexadecimal (group_at n 3))
+    (four_groups (group_at n 4) (group_at n 5) (group_at n 6) (group_at n 7))
+
 peer_of-v6 : ByCuts → SomeField → (n : ℕ) → n < 2 ^ 128 → (n / 2 ^ 32 ≡ 0xffff → ⊥) → peer_of (written (V6 n)) ≡ Some (V6 n)
 unfolding address_of eight_groups
 peer_of-v6 by some n small plain =
-    rw (quad_of-none (joined (eight_groups n)) (no_dot (eight_groups n) (are_groups n)), v6_of-written by some n small, ne_eqb (n / 2 ^ 32) 0xffff plain) refl
+    ap peer_of (written_groups n)
+    ∙ rw (quad_of-none (joined (eight_groups n)) (no_dot (eight_groups n) (are_groups n)), v6_of-written by some n small, ne_eqb (n / 2 ^ 32) 0xffff plain) refl
 
 pub peer_of-written : ByCuts → SomeField → (p : Address) → IsPeer p → peer_of (written p) ≡ Some p
 peer_of-written by some (V4 n) fits = peer_of-v4 n fits

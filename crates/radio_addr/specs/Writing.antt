@@ -12,14 +12,17 @@ group_at n k = n / 2 ^ (16 * (7 - k)) % 65536
 abbrev pub hexadecimal : ℕ → List ℕ
 hexadecimal group = digits 16 false group
 
+-- four groups with colons between them
+abbrev pub four_groups : ℕ → ℕ → ℕ → ℕ → List ℕ
+four_groups a b c d = hexadecimal a ++ (58 ∷ (hexadecimal b ++ (58 ∷ (hexadecimal c ++ (58 ∷ hexadecimal d)))))
+
 -- a dotted quad, or eight groups with colons between them
 abbrev pub written : Address → List ℕ
 written (V4 n) =
     decimal (n / 2 ^ 24) ++ (46 ∷ (decimal (n / 2 ^ 16 % 256) ++ (46 ∷ (decimal (n / 2 ^ 8 % 256) ++ (46 ∷ decimal (n % 256))))))
 written (V6 n) =
-    hexadecimal (group_at n 0) ++ (58 ∷ (hexadecimal (group_at n 1) ++ (58 ∷ (hexadecimal (group_at n 2) ++ (58 ∷
-    (hexadecimal (group_at n 3) ++ (58 ∷ (hexadecimal (group_at n 4) ++ (58 ∷ (hexadecimal (group_at n 5) ++ (58 ∷
-    (hexadecimal (group_at n 6) ++ (58 ∷ hexadecimal (group_at n 7))))))))))))))
+    four_groups (group_at n 0) (group_at n 1) (group_at n 2) (group_at n 3)
+    ++ (58 ∷ four_groups (group_at n 4) (group_at n 5) (group_at n 6) (group_at n 7))
 
 -- a peer as one is read: its number fits, and it is no IPv4-mapped IPv6 address
 abbrev pub IsPeer : Address → Type 0

@@ -14,8 +14,7 @@ mod lists;
 mod numbers;
 mod peer;
 mod quad;
-#[cfg(test)]
-mod tests;
+mod writing;
 
 pub use address::Address;
 pub use lines::AddressRange;

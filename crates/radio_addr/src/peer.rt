@@ -1,10 +1,11 @@
 //! Peers: the other ends of connections.
-ghost use Rattle.std.specs.Prelude.{◌≡◌, ◌<◌, ◌/◌, ◌%◌, ◌*◌, ◌^◌, Some};
+ghost use Rattle.std.specs.Prelude.{◌≡◌, Some};
 ghost use Rattle.radio_addr.specs.Addresses.{peer_of, unmapped};
 ghost use Rattle.radio_addr.specs.Writing.{written, IsPeer};
 ghost use Rattle.radio_addr.specs.declared.address.Address.{Address as AddressOf};
 
 use crate::address::{Address, read_address};
+use crate::writing::{DottedQuad, EightGroups};
 use radio_texts::laws::fields;
 use std::fmt;
 use std::marker::Model;
@@ -93,25 +94,10 @@ impl fmt::Display for Peer {
 
     fn fmt<W: fmt::Write>(&self, f: &mut fmt::Formatter<W>) -> fmt::Result {
         match self.address {
-            Address::V4(n) => {
-                let (a, b, c, d) = (n / 0x100_0000, n / 0x1_0000 % 256, n / 256 % 256, n % 256);
-                write!(f, "{a}.{b}.{c}.{d}")
-            }
-            Address::V6(n) => {
-                let (a, b, c, d) = (group(n, 7), group(n, 6), group(n, 5), group(n, 4));
-                let (e, g, h, i) = (group(n, 3), group(n, 2), group(n, 1), group(n, 0));
-                write!(f, "{a:x}:{b:x}:{c:x}:{d:x}:{e:x}:{g:x}:{h:x}:{i:x}")
-            }
+            Address::V4(n) => DottedQuad(n).fmt(f),
+            Address::V6(n) => EightGroups(n).fmt(f),
         }
     }
-}
-
-/// A 16-bit group of an address, from the last one on.
-fn group(n: u128, place: u32) -> u32
-    requires { place < 8 }
-    ensures { result ≡ n / 2 ^ (16 * place) % 65536 }
-{
-    ((n >> (16 * place)) % 65536) as u32
 }
 
 /// A law: what is written of a peer is read back as the same peer.

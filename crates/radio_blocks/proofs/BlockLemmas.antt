@@ -1,5 +1,6 @@
 -- Data cut into blocks, and blocks that are gathered one after another.
-use Rattle.std.proofs.Common.{◌≡◌, ℕ, zero, suc, ◌+◌, get_or, ◌<◌, ◌≤◌, min, List, [], ◌∷◌, ◌++◌, length, take, drop, ap, sym, ◌∙◌, refl, arith, length-drop, length-append, append_assoc, append-nil}
+use Rattle.std.proofs.Common.{◌≡◌, ℕ, zero, suc, ◌+◌, get_or, ◌<◌, ◌≤◌, min, List, [], ◌∷◌, ◌++◌, length, take, drop, ap, sym, ◌∙◌, refl, arith, length-drop}
+use Rattle.std.proofs.Common.{length-append, append_assoc, append-nil}
 use Rattle.std.specs.List.{concat}
 use Rattle.std.specs.Prelude.{All}
 use Rattle.std.proofs.lemmas.List.{take_more, take_all, drop_all, take_min, drop_min, take-append-drop, length-take}
@@ -28,7 +29,8 @@ unfolding blocks_of
 blocks_of-first [] h = absurd (omega arith)
 blocks_of-first (b ∷ bytes) h =
     let less = length-drop 4096 (b ∷ bytes) in
-    ap (λ blocks. take 4096 (b ∷ bytes) ∷ blocks) (cut_enough (length bytes) (length (drop 4096 (b ∷ bytes))) (drop 4096 (b ∷ bytes)) (omega (arith, less)) (omega arith))
+    ap (λ blocks. take 4096 (b ∷ bytes) ∷ blocks)
+    (cut_enough (length bytes) (length (drop 4096 (b ∷ bytes))) (drop 4096 (b ∷ bytes)) (omega (arith, less)) (omega arith))
 
 pub blocks_of-nil : blocks_of [] ≡ []
 unfolding blocks_of
@@ -44,7 +46,8 @@ blocks_of-whole block rest whole =
     ∙ (ap (λ b. b ∷ blocks_of (drop 4096 (block ++ rest))) front ∙ ap (λ r. block ∷ blocks_of r) back)
 
 -- the first block, where it has so many bytes
-pub blocks_of-front : (bytes : List ℕ) (size : ℕ) → 0 < length bytes → size ≡ min (length bytes) 4096 → blocks_of bytes ≡ take size bytes ∷ blocks_of (drop size bytes)
+pub blocks_of-front : (bytes : List ℕ) (size : ℕ) → 0 < length bytes → size ≡ min (length bytes) 4096
+    → blocks_of bytes ≡ take size bytes ∷ blocks_of (drop size bytes)
 blocks_of-front bytes size some e =
     let size_is : size ≡ min 4096 (length bytes) = omega (arith, e) in
     let front : take 4096 bytes ≡ take size bytes = sym (take_min 4096 bytes) ∙ ap (λ n. take n bytes) (sym size_is) in
@@ -70,7 +73,8 @@ blocks_of-full (block ∷ blocks) rest full =
     ∙ (blocks_of-whole block (concat blocks ++ rest) whole ∙ ap (λ r. block ∷ r) (blocks_of-full blocks rest others))
 
 -- what a gathering comes to, with a block begun and with none
-pub gathered-part : (blocks : List (List ℕ)) (last : List ℕ) → AreFull blocks → 0 < length last → length last < 4096 → blocks_of (concat blocks ++ last) ≡ blocks ++ last ∷ []
+pub gathered-part : (blocks : List (List ℕ)) (last : List ℕ) → AreFull blocks → 0 < length last → length last < 4096
+    → blocks_of (concat blocks ++ last) ≡ blocks ++ last ∷ []
 gathered-part blocks last full some short = blocks_of-full blocks last full ∙ ap (λ r. blocks ++ r) (blocks_of-part last some short)
 
 pub gathered-whole : (blocks : List (List ℕ)) (last : List ℕ) → AreFull blocks → last ≡ [] → blocks_of (concat blocks ++ last) ≡ blocks
@@ -83,7 +87,8 @@ concat-push [] block = append-nil block
 concat-push (first ∷ blocks) block = ap (λ r. first ++ r) (concat-push blocks block) ∙ sym (append_assoc first (concat blocks) block)
 
 -- a block that is filled up
-pub gathered-step : (blocks pushed : List (List ℕ)) (block last front none rest : List ℕ) → pushed ≡ blocks ++ block ∷ [] → block ≡ last ++ front → none ≡ [] → (concat pushed ++ none) ++ rest ≡ (concat blocks ++ last) ++ (front ++ rest)
+pub gathered-step : (blocks pushed : List (List ℕ)) (block last front none rest : List ℕ) → pushed ≡ blocks ++ block ∷ [] → block ≡ last ++ front
+    → none ≡ [] → (concat pushed ++ none) ++ rest ≡ (concat blocks ++ last) ++ (front ++ rest)
 gathered-step blocks pushed block last front none rest e f g =
     ap (λ t. (concat t ++ none) ++ rest) e
     ∙ (ap (λ t. (t ++ none) ++ rest) (concat-push blocks block)
@@ -117,7 +122,8 @@ unfolding blocks_of
 blocks_of-IsBlock bytes = cut_into-blocks (length bytes) bytes
 
 -- one slice more, behind those before it
-pub slices_more : (slices : List (List ℕ)) (i : ℕ) (d old now next slice : List ℕ) → i < length slices → slice ≡ get_or slices i d → now ≡ old ++ concat (take i slices) → next ≡ now ++ slice → next ≡ old ++ concat (take (i + 1) slices)
+pub slices_more : (slices : List (List ℕ)) (i : ℕ) (d old now next slice : List ℕ) → i < length slices → slice ≡ get_or slices i d
+    → now ≡ old ++ concat (take i slices) → next ≡ now ++ slice → next ≡ old ++ concat (take (i + 1) slices)
 slices_more slices i d old now next slice inside is so_far more =
     let joined : concat (take (i + 1) slices) ≡ concat (take i slices) ++ slice
     = ap concat (take_more slices i d inside) ∙ (concat-push (take i slices) (get_or slices i d) ∙ ap (λ (t : List ℕ). concat (take i slices) ++ t) (sym is)) in

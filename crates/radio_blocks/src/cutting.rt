@@ -19,24 +19,3 @@ pub fn first_block(alloc: Global, bytes: &[u8]) -> Result<(Block, &[u8]), OutOfM
     let block = Block::copied(alloc, front)?;
     Ok((block, rest))
 }
-
-#[cfg(test)]
-mod tests {
-    use super::*;
-
-    /// So many bytes.
-    const SO_MANY: usize = 5000;
-
-    /// The length of the first of the blocks that so many bytes make, of another handle on it, and of the rest.
-    fn lengths(alloc: Global) -> Result<(usize, usize, usize), OutOfMemory> {
-        let bytes = vec![in alloc; b'x'; SO_MANY]?;
-        let (block, rest) = first_block(alloc, bytes.as_slice())?;
-        let shared = block.share()?;
-        Ok((block.len(), shared.len(), rest.len()))
-    }
-
-    #[test]
-    fn first_of_two(rt: HostRuntime) {
-        assert!(rt; lengths(rt.alloc()) == Ok((4096, 4096, 904)));
-    }
-}

@@ -1,5 +1,5 @@
 //! Data that come in parts, cut into blocks while they come.
-ghost use Rattle.std.specs.Prelude.{◌≡◌, ℕ, ◌+◌, ◌<◌, [], ◌∷◌, ◌++◌, length, IsTrue, ◌↔◌, IfOk, OnOk};
+ghost use Rattle.std.specs.Prelude.{◌≡◌, ℕ, ◌+◌, ◌<◌, [], ◌∷◌, ◌++◌, length, IsTrue, ◌↔◌, IfOk, OnOk, OnErr};
 ghost use Rattle.radio_blocks.specs.Block.{IsBlock};
 ghost use Rattle.radio_blocks.specs.Cutting.{blocks_of};
 
@@ -70,7 +70,7 @@ impl Gathering {
             return Ok(rest);
         }
         let whole = mem::replace(&mut self.last, Vec::new(self.alloc));
-        self.blocks.push(Block::of_vec(self.alloc, whole)?)?;
+        push_block(self.alloc, &mut self.blocks, whole)?;
         self.expected = self.expected.saturating_sub(MAX_BLOCK);
         Ok(rest)
     }
@@ -99,8 +99,18 @@ impl Gathering {
         if last.is_empty() {
             return Ok(blocks);
         }
-        blocks.reserve(1)?;
-        blocks.push(Block::of_vec(alloc, last)?)?;
+        push_block(alloc, &mut blocks, last)?;
         Ok(blocks)
     }
+}
+
+/// Adds the block of these bytes.
+fn push_block(alloc: Global, blocks: &mut Vec<Block>, bytes: Vec<u8>) -> Result<(), OutOfMemory>
+    requires { IsBlock bytes.items }
+    ensures ok { OnOk result (blocks.new.items ≡ blocks.old.items ++ bytes.items ∷ []) }
+    ensures err { OnErr result (blocks.new.items ≡ blocks.old.items) }
+{
+    let block = Block::of_vec(alloc, bytes)?;
+    blocks.push(block)?;
+    Ok(())
 }

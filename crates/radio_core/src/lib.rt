@@ -9,13 +9,16 @@
 //! under `server`): a reply and a change, which is then committed whole or not at all.
 #![tactic(auto)]
 
+mod again;
 mod clients;
+mod data;
 mod event;
 mod facts;
 mod house;
 mod laws;
 mod outcome;
 mod reply;
+mod same;
 mod seats;
 mod server;
 mod sessions;

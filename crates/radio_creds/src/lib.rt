@@ -12,8 +12,6 @@ mod authorization;
 mod digest;
 pub mod laws;
 mod pair;
-#[cfg(test)]
-mod tests;
 mod user_line;
 mod user_list;
 

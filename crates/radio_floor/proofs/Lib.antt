@@ -1,6 +1,4 @@
-mod BlockLemmas
-mod CutLemmas
-mod ExchangeLemmas
 mod ScriptStateLemmas
 mod ServerSimulation
 mod OneTranscript
+mod LastWordLemmas

@@ -1,18 +1,14 @@
 -- Each delivery comes to one thing.
-use Rattle.std.proofs.Common.{◌≡◌, ℕ, List, [], ◌∷◌, Option, None, Some, inl, inr, ap, sym, ◌∙◌}
+use Rattle.std.proofs.Common.{◌≡◌, ℕ, List, [], ◌∷◌, Option, None, Some, ap, sym, ◌∙◌}
 use Rattle.radio_core.specs.declared.event.Event.TheVariants.{Draw}
-use Rattle.radio_heads.specs.Head.{ShowsRequest}
-use Rattle.radio_heads.specs.Laws.{ReadingsAgree}
-use Rattle.radio_floor.specs.declared.connection.Hears.{Hears}
-use Rattle.radio_floor.specs.declared.connection.Hears.TheVariants.{Head, Body, Nothing}
 use Rattle.radio_script.specs.declared.delivery.Delivery.{Delivery}
 use Rattle.radio_script.specs.declared.delivery.Delivery.TheVariants.{Open, In, Room, End}
-use Rattle.radio_floor.specs.Conversation.{Conversation}
-use Rattle.radio_floor.specs.Hearing.{Heard, HearsAs, IsHeard, head_heard}
+use Rattle.radio_session.specs.Conversation.{Conversation}
+use Rattle.radio_session.specs.Hearing.{Heard, IsHeard}
+use Rattle.radio_session.specs.Laws.{HearingIsOne}
 use Rattle.radio_floor.specs.ScriptState.{ScriptState, Performed, IsPerformed, on_connection, connection_of, exchanges, closes}
 use Rattle.radio_floor.specs.Transcript.{conduct}
 use Rattle.radio_script.specs.Laws.{IsDetermined}
-use Rattle.radio_floor.proofs.CutLemmas.{faults-alike}
 
 -- where a connection does one thing, so does its label
 one_on_connection : (state : ScriptState) (On : Conversation → Performed → Type 0) → ((conversation : Conversation) (p q : Performed) → On conversation p → On conversation q → p ≡ q) → (o : Option (Option Conversation)) (p q : Performed) → on_connection state On p o → on_connection state On q o → p ≡ q
@@ -20,22 +16,13 @@ one_on_connection state On one None p q h k = h ∙ sym k
 one_on_connection state On one (Some None) p q h k = h ∙ sym k
 one_on_connection state On one (Some (Some conversation)) p q h k = one conversation p q h k
 
-module _ (agree : ReadingsAgree ShowsRequest) where
-  -- bytes are heard as one thing
-  heard_as_one : (hears : Hears) (conversation : Conversation) (bytes : List ℕ) (h k : Heard) → HearsAs hears conversation bytes h → HearsAs hears conversation bytes k → h ≡ k
-  heard_as_one Nothing conversation bytes h k e f = e ∙ sym f
-  heard_as_one Body conversation bytes h k e f = e ∙ sym f
-  heard_as_one Head conversation bytes h k e f = elim (agree _ e.0 f.0 e.1 f.1) [
-    | inl same ↦ e.2 ∙ ap (head_heard conversation _) same ∙ sym f.2
-    | inr faults ↦ e.2 ∙ faults-alike conversation _ e.0 f.0 faults.0 faults.1 ∙ sym f.2
-  ]
-
+module _ (heard_as_one : HearingIsOne) where
   -- a delivery comes to one thing
   performed_once : (state : ScriptState) (delivery : Delivery) (p q : Performed) → IsPerformed state delivery p → IsPerformed state delivery q → p ≡ q
   performed_once state (Open label peer) p q h k = h ∙ sym k
   performed_once state (In label bytes) p q h k =
       one_on_connection state (λ conversation done. (heard : Heard) × IsHeard conversation bytes heard × (done ≡ exchanges state label heard.conversation heard.events))
-      (λ conversation a b x y. x.2 ∙ ap (λ (heard : Heard). exchanges state label heard.conversation heard.events) (heard_as_one conversation.hears conversation bytes x.0 y.0 x.1 y.1) ∙ sym y.2)
+      (λ conversation a b x y. x.2 ∙ ap (λ (heard : Heard). exchanges state label heard.conversation heard.events) (heard_as_one conversation bytes x.0 y.0 x.1 y.1) ∙ sym y.2)
       (connection_of state.connections label) p q h k
   performed_once state (Room label room) p q h k =
       let comes_to = λ (conversation : Conversation). exchanges state label conversation (Draw conversation.id room ∷ []) in

@@ -8,8 +8,8 @@ use Rattle.radio_script.specs.declared.delivery.Delivery.{Delivery}
 use Rattle.radio_floor.specs.declared.script_server.Labelled.{Labelled}
 use Rattle.radio_script.specs.declared.faults.PerformFault.{PerformFault}
 use Rattle.radio_script.specs.declared.faults.PerformFault.TheVariants.{Label}
-use Rattle.radio_floor.specs.Conversation.{Conversation}
-use Rattle.radio_floor.specs.Exchanges.{exchanged}
+use Rattle.radio_session.specs.Conversation.{Conversation, saying_now}
+use Rattle.radio_session.specs.Exchanges.{exchanged}
 use Rattle.radio_floor.specs.ScriptState.{ScriptState, Performed, has_label, connection_of, holding, with_connection, on_connection, for_label, for_new_label, exchanges, closes, conversation_unless, told_lines}
 use Rattle.radio_floor.specs.ScriptServer.{script_state_of, performed_as}
 use Rattle.radio_floor.specs.Performing.{Performs, PerformsAs}
@@ -23,8 +23,8 @@ with_connection-twice connections label first second =
 pub exchanges-mid : (w : World) (mid connections : List Labelled) (label : ℕ) (conversation : Conversation) (events : List Event) → mid ≡ with_connection connections label None → exchanges (script_state_of w mid) label conversation events ≡ exchanges (script_state_of w connections) label conversation events
 exchanges-mid w mid connections label conversation events e =
     let x = exchanged w conversation.id conversation.says events in
-    let after = conversation_unless (record conversation { says = x.exchange.says }) x.exchange.ending in
-    ap (λ (xs : List Labelled). performed_as (Some (told_lines label x.exchange.bytes x.exchange.ending)) x.world xs)
+    let after = conversation_unless (saying_now conversation x.exchange.says) x.exchange.state in
+    ap (λ (xs : List Labelled). performed_as (Some (told_lines label x.exchange.bytes x.exchange.state)) x.world xs)
     (ap (λ (xs : List Labelled). with_connection xs label after) e ∙ with_connection-twice connections label None after)
 
 pub closes-mid : (w : World) (mid connections : List Labelled) (label : ℕ) (conversation : Conversation) → mid ≡ with_connection connections label None → closes (script_state_of w mid) label conversation ≡ closes (script_state_of w connections) label conversation

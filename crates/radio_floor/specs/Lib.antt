@@ -1,10 +1,5 @@
-pub mod Conversation
-pub mod Blocks
-pub mod Hearing
-pub mod Saying
-pub mod Exchanges
 pub mod ScriptState
 pub mod ScriptServer
 pub mod Performing
 pub mod Transcript
-pub mod Cuts
+pub mod LastWords

@@ -12,17 +12,17 @@ use Rattle.radio_tables.specs.Lists.{update_first, placed}
 use Rattle.std.specs.declared.cmp.Ordering.{Ordering}
 use Rattle.std.specs.Ordering.{nat_cmp}
 use Rattle.radio_core.specs.Step.{reply_to, world_after}
-use Rattle.radio_floor.specs.declared.connection.Says.TheVariants.{Asking}
-use Rattle.radio_floor.specs.declared.connection.Ending.{Ending}
-use Rattle.radio_floor.specs.declared.connection.Ending.TheVariants.{Done}
+use Rattle.radio_session.specs.declared.state.State.{State}
+use Rattle.radio_session.specs.declared.state.State.TheVariants.{Running, Shut}
+use Rattle.radio_session.specs.declared.state.Ending.TheVariants.{Done}
 use Rattle.radio_script.specs.declared.delivery.Delivery.{Delivery}
 use Rattle.radio_script.specs.declared.delivery.Delivery.TheVariants.{Open, In, Room, End}
 use Rattle.radio_floor.specs.declared.script_server.Labelled.{Labelled}
 use Rattle.radio_script.specs.TranscriptLines.{answer_lines}
-use Rattle.radio_floor.specs.Conversation.{Conversation, fresh, ending_word}
-use Rattle.radio_floor.specs.Hearing.{Heard, IsHeard}
-use Rattle.radio_floor.specs.Saying.{said}
-use Rattle.radio_floor.specs.Exchanges.{exchanged}
+use Rattle.radio_session.specs.Conversation.{asking, Conversation, fresh, saying_now, ending_word}
+use Rattle.radio_session.specs.Hearing.{Heard, IsHeard}
+use Rattle.radio_session.specs.Saying.{said}
+use Rattle.radio_session.specs.Exchanges.{exchanged}
 
 -- the server's state, and the connections of the labels opened so far, in rising order; a connection that was shut is none
 pub record ScriptState : Type 0 where
@@ -51,14 +51,14 @@ holding conversation labelled = record labelled { connection = conversation }
 abbrev pub with_connection : List Labelled → ℕ → Option Conversation → List Labelled
 with_connection connections label conversation = update_first (has_label label) (holding conversation) connections
 
--- the word of an ending
-abbrev pub word_of_ending : Option Ending → Option (List ℕ)
-word_of_ending None = None
-word_of_ending (Some ending) = Some (ending_word ending)
+-- the word of a connection that is shut
+abbrev pub last_word : State → Option (List ℕ)
+last_word Running = None
+last_word (Shut ending) = Some (ending_word ending)
 
 -- the transcript's lines of one delivery: the bytes that went out, if any did, and the word of its end, if it ended
-abbrev pub told_lines : ℕ → List ℕ → Option Ending → List ℕ
-told_lines label bytes ending = answer_lines label bytes (word_of_ending ending)
+abbrev pub told_lines : ℕ → List ℕ → State → List ℕ
+told_lines label bytes state = answer_lines label bytes (last_word state)
 
 -- what a delivery comes to: None where its label is at fault, else some lines; and how things stand after it
 pub record Performed : Type 0 where
@@ -74,39 +74,39 @@ abbrev pub passed_over : ScriptState → Performed
 passed_over state = record { lines = Some []; state = state }
 
 -- the label's new connection, if the server takes it in
-abbrev pub taken_in : Reply → Option Conversation
-taken_in (Arrived id) = Some (fresh id)
-taken_in reply = None
+abbrev pub taken_in : Peer → Reply → Option Conversation
+taken_in peer (Arrived id) = Some (fresh id peer)
+taken_in peer reply = None
 
 -- a connection arrives under a new label
 abbrev pub opens : ScriptState → ℕ → Peer → Performed
 opens state label peer =
     let reply = reply_to state.world (Arrive peer) in
-    let told = said Asking reply in
+    let told = said asking reply in
     record {
-      lines = Some (told_lines label told.bytes told.ending);
-      state = record { world = world_after state.world (Arrive peer); connections = placed by_label (record { label = label; connection = taken_in reply }) state.connections };
+      lines = Some (told_lines label told.bytes told.state);
+      state = record { world = world_after state.world (Arrive peer); connections = placed by_label (record { label = label; connection = taken_in peer reply }) state.connections };
     }
 
--- the conversation, unless its connection has ended
-abbrev pub conversation_unless : Conversation → Option Ending → Option Conversation
-conversation_unless conversation None = Some conversation
-conversation_unless conversation (Some ending) = None
+-- the conversation, unless its connection was shut
+abbrev pub conversation_unless : Conversation → State → Option Conversation
+conversation_unless conversation Running = Some conversation
+conversation_unless conversation (Shut ending) = None
 
 -- a connection's events are exchanged with the server
 abbrev pub exchanges : ScriptState → ℕ → Conversation → List Event → Performed
 exchanges state label conversation events =
     let x = exchanged state.world conversation.id conversation.says events in
     record {
-      lines = Some (told_lines label x.exchange.bytes x.exchange.ending);
-      state = record { world = x.world; connections = with_connection state.connections label (conversation_unless (record conversation { says = x.exchange.says }) x.exchange.ending) };
+      lines = Some (told_lines label x.exchange.bytes x.exchange.state);
+      state = record { world = x.world; connections = with_connection state.connections label (conversation_unless (saying_now conversation x.exchange.says) x.exchange.state) };
     }
 
 -- the peer has closed the connection
 abbrev pub closes : ScriptState → ℕ → Conversation → Performed
 closes state label conversation =
     record {
-      lines = Some (told_lines label [] (Some Done));
+      lines = Some (told_lines label [] (Shut Done));
       state = record { world = world_after state.world (Leave conversation.id); connections = with_connection state.connections label None };
     }
 

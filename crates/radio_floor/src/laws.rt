@@ -1,20 +1,10 @@
-//! Laws on connections and on the transcript, which run no code.
+//! Laws on the transcript, which run no code.
 
-ghost use Rattle.radio_floor.specs.Cuts.{CutsDoNotMatter};
 ghost use Rattle.radio_script.specs.Laws.{GoesOnAsItBegan, HasOneTranscript, IsDetermined};
 ghost use Rattle.radio_floor.specs.Transcript.{conduct};
+ghost use Rattle.radio_floor.specs.LastWords.{DenialsAreTold, FinishesAreTold, ClosedOnesAreDone};
 
-use radio_heads::{heads_lie_within, readings_agree, settled};
-
-/// What comes on a connection in two pieces is heard as if it had come in one: the same head, the
-/// same data and the same events, but for where blocks are cut, and what follows is heard alike.
-pub fn cuts_do_not_matter()
-    ensures { CutsDoNotMatter }
-{
-    readings_agree();
-    settled();
-    heads_lie_within();
-}
+use radio_session::{hearing_is_one, last_words_name_the_rule};
 
 /// The server does one thing at each delivery. So a script has one transcript, and what the whole
 /// lines at its front come to is a front of it, whatever lines are behind them.
@@ -23,5 +13,15 @@ pub fn the_transcript_is_one()
     ensures one { HasOneTranscript conduct }
     ensures goes_on { GoesOnAsItBegan conduct }
 {
-    readings_agree();
+    hearing_is_one();
+}
+
+/// A connection that is shut shows the word of the rule by which it is, or `done` where its peer has
+/// closed it; and a denial of what it asked shows the answer that names the rule.
+pub fn last_words_are_told()
+    ensures denied { DenialsAreTold }
+    ensures finished { FinishesAreTold }
+    ensures done { ClosedOnesAreDone }
+{
+    last_words_name_the_rule();
 }

@@ -4,18 +4,18 @@ ghost use Rattle.radio_core.specs.declared.event.Event.TheVariants.{Draw};
 ghost use Rattle.std.specs.Prelude.{◌≡◌, ℕ, List, [], ◌∷◌, ◌++◌, None, Some, Err, OnOk};
 ghost use Rattle.radio_core.specs.World.{World};
 ghost use Rattle.radio_core.specs.Step.{Represents};
-ghost use Rattle.radio_floor.specs.Hearing.{Heard, IsHeard};
+ghost use Rattle.radio_session.specs.Hearing.{Heard, IsHeard};
 ghost use Rattle.radio_floor.specs.ScriptState.{exchanges, closes};
 ghost use Rattle.radio_floor.specs.ScriptServer.{script_state_of, DoesAs};
 ghost use Rattle.radio_floor.specs.Performing.{PerformsAs};
 ghost use Rattle.radio_script.specs.declared.delivery.Delivery.TheVariants.{Open, In, Room, End};
 
 use crate::OutOfMemory;
-use crate::connection::{Connection, Ending};
 use crate::script_server::{ScriptServer, has_label, leave, push_told, swap_connection};
 use radio_addr::Peer;
 use radio_core::Event;
 use radio_script::{Delivery, PerformFault, Performer};
+use radio_session::{Ending, Session, State};
 use std::alloc::Global;
 
 impl ScriptServer {
@@ -23,7 +23,7 @@ impl ScriptServer {
     fn hear_on(
         &mut self,
         label: u32,
-        connection: Connection,
+        connection: Session,
         bytes: &[u8],
         lines: &mut Vec<u8>,
     ) -> Result<(), OutOfMemory>
@@ -40,7 +40,7 @@ impl ScriptServer {
     fn draw_on(
         &mut self,
         label: u32,
-        connection: Connection,
+        connection: Session,
         room: u32,
         lines: &mut Vec<u8>,
     ) -> Result<(), OutOfMemory>
@@ -60,7 +60,7 @@ impl ScriptServer {
     fn close(
         &mut self,
         label: u32,
-        connection: Connection,
+        connection: Session,
         lines: &mut Vec<u8>,
     ) -> Result<(), OutOfMemory>
         ensures { OnOk result (DoesAs self.old.core self.new.core self.new.connections lines.old.items lines.new.items
@@ -68,7 +68,7 @@ impl ScriptServer {
     {
         leave(&mut self.core, connection.id())?;
         swap_connection(&mut self.connections, label, None);
-        push_told(self.alloc, label, &[], Some(Ending::Done), lines)?;
+        push_told(self.alloc, label, &[], State::Shut(Ending::Done), lines)?;
         Ok(())
     }
 }
@@ -83,7 +83,7 @@ impl ScriptServer {
     {
         match delivery {
             Delivery::Open { label, peer } => self.perform_open(*label, *peer, lines),
-            Delivery::In { label, bytes } => self.perform_in(*label, bytes.as_bytes(), lines),
+            Delivery::In { label, bytes } => self.perform_in(*label, bytes.as_slice(), lines),
             Delivery::Room { label, room } => self.perform_room(*label, *room, lines),
             Delivery::End { label } => self.perform_end(*label, lines),
         }

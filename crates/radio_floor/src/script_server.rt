@@ -4,17 +4,16 @@ ghost use Rattle.std.specs.Prelude.{◌≡◌, ℕ, List, [], ◌∷◌, ◌++�
 ghost use Rattle.radio_core.specs.World.{World, opening};
 ghost use Rattle.radio_core.specs.declared.event.Event.TheVariants.{Arrive, Leave};
 ghost use Rattle.radio_core.specs.Step.{Represents, reply_to, world_after};
-ghost use Rattle.radio_floor.specs.declared.connection.Says.TheVariants.{Asking};
-ghost use Rattle.radio_floor.specs.Saying.{said};
+ghost use Rattle.radio_session.specs.Conversation.{asking};
+ghost use Rattle.radio_session.specs.Saying.{said};
 ghost use Rattle.radio_floor.specs.ScriptState.{connection_of, with_connection, opens, exchanges, taken_in, told_lines, conversation_unless};
 ghost use Rattle.radio_floor.specs.ScriptServer.{script_state_of, DoesAs};
 
 use crate::OutOfMemory;
-use crate::connection::{Connection, Ending};
-use crate::exchange::exchange;
 use radio_addr::Peer;
 use radio_core::{Core, Event, Reply};
 use radio_script::push_answer;
+use radio_session::{Session, State, cores_exchange_as_their_states, exchange};
 use radio_settings::Settings;
 use radio_tables::{Row, Swap, Table};
 use std::alloc::Global;
@@ -24,7 +23,7 @@ use std::mem;
 #[derive(Drop)]
 pub(crate) struct Labelled {
     pub(crate) label: u32,
-    pub(crate) connection: Option<Connection>,
+    pub(crate) connection: Option<Session>,
 }
 
 impl Row for Labelled {
@@ -47,7 +46,7 @@ impl Row for Labelled {
 /// What is to become of a label, or has become of it before.
 #[derive(Drop)]
 struct Holds {
-    connection: Option<Connection>,
+    connection: Option<Session>,
 }
 
 impl Swap<Labelled> for Holds {
@@ -98,9 +97,9 @@ impl ScriptServer {
             (λ w done. opens (script_state_of w self.old.connections) label peer ≡ done)) }
     {
         let mut told = Vec::new(self.alloc);
-        let (connection, ending) = arrive(self.alloc, &mut self.core, peer, &mut told)?;
+        let (connection, state) = arrive(self.alloc, &mut self.core, peer, &mut told)?;
         self.connections.insert(Labelled { label, connection })?;
-        push_told(self.alloc, label, told.as_slice(), ending, lines)?;
+        push_told(self.alloc, label, told.as_slice(), state, lines)?;
         Ok(())
     }
 
@@ -109,30 +108,31 @@ impl ScriptServer {
     pub(crate) fn exchange_on(
         &mut self,
         label: u32,
-        connection: Connection,
+        connection: Session,
         events: Vec<Event>,
         lines: &mut Vec<u8>,
     ) -> Result<(), OutOfMemory>
         ensures { OnOk result (DoesAs self.old.core self.new.core self.new.connections lines.old.items lines.new.items
             (λ w done. exchanges (script_state_of w self.old.connections) label connection events.items ≡ done)) }
     {
+        cores_exchange_as_their_states();
         let mut connection = connection;
         let mut told = Vec::new(self.alloc);
-        let ending = exchange(&mut self.core, &mut connection, events, &mut told)?;
-        let stays = if_stays(connection, ending);
+        let state = exchange(&mut self.core, &mut connection, events, &mut told)?;
+        let stays = if_stays(connection, state);
         swap_connection(&mut self.connections, label, stays);
-        push_told(self.alloc, label, told.as_slice(), ending, lines)?;
+        push_told(self.alloc, label, told.as_slice(), state, lines)?;
         Ok(())
     }
 }
 
 /// The connection, unless it has ended.
-fn if_stays(connection: Connection, ending: Option<Ending>) -> Option<Connection>
-    ensures { result ≡ conversation_unless connection ending }
+fn if_stays(connection: Session, state: State) -> Option<Session>
+    ensures { result ≡ conversation_unless connection state }
 {
-    match ending {
-        None => Some(connection),
-        Some(_) => None,
+    match state {
+        State::Running => Some(connection),
+        State::Shut(_) => None,
     }
 }
 
@@ -148,8 +148,8 @@ pub(crate) fn has_label(connections: &Table<Labelled>, label: u32) -> bool
 pub(crate) fn swap_connection(
     connections: &mut Table<Labelled>,
     label: u32,
-    connection: Option<Connection>,
-) -> Option<Option<Connection>>
+    connection: Option<Session>,
+) -> Option<Option<Session>>
     ensures was { result ≡ connection_of connections.old label }
     ensures set { connections.new ≡ with_connection connections.old label connection }
 {
@@ -161,29 +161,31 @@ pub(crate) fn swap_connection(
     Some(holds.connection)
 }
 
-/// A connection arrives at the server: the connection, if it is taken in, and else how it ends.
+/// A connection arrives at the server: the connection, if it is taken in, and whether it goes
+/// on.
 fn arrive(
     alloc: Global,
     core: &mut Core,
     peer: Peer,
     out: &mut Vec<u8>,
-) -> Result<(Option<Connection>, Option<Ending>), OutOfMemory>
+) -> Result<(Option<Session>, State), OutOfMemory>
     ensures { IfOk result (λ arrived. (w : World) → Represents core.old w →
         let reply = reply_to w (Arrive peer) in
-        let told = said Asking reply in
-        Represents core.new (world_after w (Arrive peer)) × (out.new.items ≡ out.old.items ++ told.bytes) × (arrived.0 ≡ taken_in reply) × (arrived.1 ≡ told.ending)) }
+        let told = said asking reply in
+        Represents core.new (world_after w (Arrive peer)) × (out.new.items ≡ out.old.items ++ told.bytes) × (arrived.0 ≡ taken_in peer reply) × (arrived.1 ≡ told.state)) }
 {
     let reply = core.step(Event::Arrive { peer })?;
-    let ending = Connection::new(alloc, 0).give(&reply, out)?;
-    Ok((taken_in(alloc, &reply), ending))
+    let connection = taken_in(alloc, peer, &reply);
+    let state = Session::new(alloc, 0, peer).give(reply, out)?;
+    Ok((connection, state))
 }
 
 /// The new connection, if the server takes it in.
-fn taken_in(alloc: Global, reply: &Reply) -> Option<Connection>
-    ensures { result ≡ taken_in reply.now }
+fn taken_in(alloc: Global, peer: Peer, reply: &Reply) -> Option<Session>
+    ensures { result ≡ taken_in peer reply.now }
 {
     match reply {
-        Reply::Arrived(id) => Some(Connection::new(alloc, *id)),
+        Reply::Arrived(id) => Some(Session::new(alloc, *id, peer)),
         _ => None,
     }
 }
@@ -194,14 +196,14 @@ pub(crate) fn push_told(
     alloc: Global,
     label: u32,
     bytes: &[u8],
-    ending: Option<Ending>,
+    state: State,
     lines: &mut Vec<u8>,
 ) -> Result<(), OutOfMemory>
-    ensures { OnOk result (lines.new.items ≡ lines.old.items ++ told_lines label bytes.now ending) }
+    ensures { OnOk result (lines.new.items ≡ lines.old.items ++ told_lines label bytes.now state) }
 {
-    match ending {
-        Some(ending) => push_answer(alloc, lines, label, bytes, Some(ending.word())),
-        None => push_answer(alloc, lines, label, bytes, None),
+    match state {
+        State::Running => push_answer(alloc, lines, label, bytes, None),
+        State::Shut(ending) => push_answer(alloc, lines, label, bytes, Some(ending.word())),
     }
 }
 

@@ -1,5 +1,6 @@
 -- Each answer that is written is read back with its status and its headers.
-use Rattle.std.proofs.Common.{◌≡◌, ℕ, ◌+◌, ◌<◌, ◌≤◌, ◌^◌, Bool, true, false, if◌then◌else◌, eqb, ltb, List, [], ◌∷◌, ◌++◌, length, Option, Some, None, codes, decimal, refl, sym, ap, ◌∙◌, subst, arith, append_assoc, append-nil, length-append}
+use Rattle.std.proofs.Common.{◌≡◌, ℕ, ◌+◌, ◌<◌, ◌≤◌, ◌^◌, Bool, true, false, if◌then◌else◌, eqb, ltb, List, [], ◌∷◌, ◌++◌, length, Option, Some, None, codes}
+use Rattle.std.proofs.Common.{decimal, refl, sym, ap, ◌∙◌, subst, arith, append_assoc, append-nil, length-append}
 use Rattle.std.specs.Prelude.{All, IfSome}
 use Rattle.std.specs.List.{flat_map, list_all}
 use Rattle.std.proofs.lemmas.Bool.{and_parts, ltb-true, cond_both}
@@ -12,11 +13,14 @@ use Rattle.radio_policy.specs.declared.rule.Status.TheVariants.{BadRequest, Unau
 use Rattle.radio_heads.specs.declared.answer.TextKind.{TextKind}
 use Rattle.radio_heads.specs.declared.answer.TextKind.TheVariants.{Plain, Json}
 use Rattle.radio_heads.specs.declared.answer.Welcome.{Welcome}
-use Rattle.radio_heads.specs.Answer.{line, header_line, shown_line, interval_line, challenge_line, status_line, content_type, listener_text, sized_head, denial_body}
-use Rattle.radio_heads.specs.Laws.{IsFieldText, IsCleanWelcome, shown_header, interval_header, challenge_header, listener_headers, listener_parts, sized_parts, IsReadBack, ListenerIsReadBack, ShortListenerIsReadBack, DenialIsReadBack, TextIsReadBack}
+use Rattle.radio_heads.specs.Answer.{line, header_line, shown_line, interval_line, challenge_line, status_line, content_type, listener_text, sized_head}
+use Rattle.radio_heads.specs.Answer.{denial_body}
+use Rattle.radio_heads.specs.Laws.{IsFieldText, IsCleanWelcome, shown_header, interval_header, challenge_header, listener_headers, listener_parts, sized_parts}
+use Rattle.radio_heads.specs.Laws.{IsReadBack, ListenerIsReadBack, ShortListenerIsReadBack, DenialIsReadBack, TextIsReadBack}
 use Rattle.radio_heads.specs.Reading.{IsHead}
 use Rattle.radio_heads.specs.Response.{ShowsResponse}
-use Rattle.radio_heads.proofs.ReadBackLemmas.{Header, header_text, head_text, IsHeaderValue, IsCleanHeader, IsSoundHeader, sound_from, IsStatus, written_status, head_is_read, head_is_written, status_200, status_400, status_401, status_403, status_404}
+use Rattle.radio_heads.proofs.ReadBackLemmas.{Header, header_text, head_text, IsHeaderValue, IsCleanHeader, IsSoundHeader, sound_from, IsStatus, written_status}
+use Rattle.radio_heads.proofs.ReadBackLemmas.{head_is_read, head_is_written, status_200, status_400, status_401, status_403, status_404}
 use Rattle.radio_heads.proofs.ValueLemmas.{decimal_is_value}
 
 -- ---- names and values of words

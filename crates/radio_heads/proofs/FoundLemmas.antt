@@ -1,5 +1,6 @@
 -- A head of the grammar at the front of some bytes is what a reading gives.
-use Rattle.std.proofs.Common.{◌≡◌, ℕ, zero, suc, ◌+◌, ◌≤◌, Bool, true, false, List, [], ◌∷◌, ◌++◌, length, take, Option, Some, None, refl, sym, ap, ◌∙◌, subst, inl, inr, arith, append_assoc, append-nil, length-append}
+use Rattle.std.proofs.Common.{◌≡◌, ℕ, zero, suc, ◌+◌, ◌≤◌, Bool, true, false, List, [], ◌∷◌, ◌++◌, length, take, Option, Some, None, refl, sym, ap, ◌∙◌, subst}
+use Rattle.std.proofs.Common.{inl, inr, arith, append_assoc, append-nil, length-append}
 use Rattle.std.specs.Prelude.{All}
 use Rattle.std.specs.List.{flat_map}
 use Rattle.std.specs.Char.{is_ascii_digit}
@@ -8,7 +9,9 @@ use Rattle.std.proofs.lemmas.List.{take_at}
 use Rattle.std.proofs.lemmas.List.Elements.{All-cons, All-nil, All-append, All-weaker}
 use Rattle.std.proofs.lemmas.List.Sums.{AllPass-from_list_all}
 use Rattle.httparse.specs.Ascii.{line_feed, carriage_return, colon, space}
-use Rattle.httparse.specs.Grammar.{AllPass, is_token_byte, is_uri_byte, is_value_byte, LineEnd, print_end, print_blank, print_version, Field, IsField, print_field, RequestHead, IsRequestHead, ReadsRequest, print_request, ResponseHead, IsResponseHead, ReadsResponse, print_response, print_reason, reason_phrase}
+use Rattle.httparse.specs.Grammar.{AllPass, is_token_byte, is_uri_byte, is_value_byte, LineEnd, print_end, print_blank, print_version, Field, IsField}
+use Rattle.httparse.specs.Grammar.{print_field, RequestHead, IsRequestHead, ReadsRequest, print_request, ResponseHead, IsResponseHead, ReadsResponse}
+use Rattle.httparse.specs.Grammar.{print_response, print_reason, reason_phrase}
 use Rattle.httparse.proofs.GrammarLemmas.{print_request-append, print_response-append}
 use Rattle.radio_heads.specs.Head.{ShowsRequest, request_parts}
 use Rattle.radio_heads.specs.Response.{ShowsResponse, response_parts}

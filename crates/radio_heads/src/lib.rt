@@ -26,8 +26,6 @@ mod outcome;
 mod reading;
 mod response;
 mod search;
-#[cfg(test)]
-mod tests;
 mod writing;
 
 pub use answer::{Answer, TextKind, Welcome};

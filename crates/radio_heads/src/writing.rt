@@ -1,6 +1,7 @@
 //! The texts of the answers.
 ghost use Rattle.std.specs.Prelude.{◌≡◌, [], ◌++◌, codes, decimal, length, IfOk, OnOk};
-ghost use Rattle.radio_heads.specs.Answer.{answer_text, line, header_line, shown_line, interval_line, challenge_line, status_line, listener_text, sized_head, sized_text, denial_text, content_type, status_number};
+ghost use Rattle.radio_heads.specs.Answer.{answer_text, line, header_line, shown_line, interval_line, challenge_line, status_line};
+ghost use Rattle.radio_heads.specs.Answer.{listener_text, sized_head, sized_text, denial_text, content_type, status_number};
 
 use crate::OutOfMemory;
 use crate::answer::{Answer, TextKind, Welcome};

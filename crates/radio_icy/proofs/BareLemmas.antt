@@ -1,9 +1,11 @@
 -- A stream that is taken apart, however it is cut, gives its bare sound and the texts of its blocks.
-use Rattle.std.proofs.Common.{◌≡◌, ℕ, zero, suc, ◌+◌, ◌*◌, ◌<◌, ◌≤◌, List, [], ◌∷◌, ◌++◌, length, map, take, drop, get_or, refl, arith, ap, ◌∙◌, sym, ⊎_elim, append_assoc}
+use Rattle.std.proofs.Common.{◌≡◌, ℕ, zero, suc, ◌+◌, ◌*◌, ◌<◌, ◌≤◌, List, [], ◌∷◌, ◌++◌, length, map, take, drop, get_or, refl, arith, ap, ◌∙◌, sym, ⊎_elim}
+use Rattle.std.proofs.Common.{append_assoc}
 use Rattle.std.specs.List.{concat}
 use Rattle.std.proofs.lemmas.Bool.{lt-ltb, le-ltb, lt-leb, le-leb, ne_eqb, cases_lt}
 use Rattle.std.proofs.lemmas.List.{nil_from_length, append-nil, take-append-drop, length-take-le, length-drop, drop_more, drop_all}
-use Rattle.radio_icy.specs.Unweaving.{Atom, SoundByte, WholeText, Unweaving, at_sound, new_unweaving, heard, after_feeding, heard_by_pieces, after_pieces, without_padding, brought_by, after_byte}
+use Rattle.radio_icy.specs.Unweaving.{Atom, SoundByte, WholeText, Unweaving, at_sound, new_unweaving, heard, after_feeding, heard_by_pieces, after_pieces}
+use Rattle.radio_icy.specs.Unweaving.{without_padding, brought_by, after_byte}
 use Rattle.radio_icy.specs.Bare.{bare, bare_within, block_texts, block_texts_within, after_block, text_of_block, sound_in, texts_in}
 use Rattle.radio_icy.proofs.UnweavingLemmas.{heard_all_sound, heard_to_part, heard_to_text, heard_to_none}
 
@@ -67,7 +69,9 @@ text_of_block-whole : (q : ℕ) (bytes : List ℕ) → 0 < q → 16 * q ≤ leng
 text_of_block-whole q bytes some long = rw (ne_eqb q 0 (λ e. omega arith), le-ltb (length bytes) (16 * q) long) refl
 
 -- one interval, and what follows it
-heard_interval : (n q : ℕ) (front bytes : List ℕ) → length front ≡ n → heard (at_sound n n) (front ++ q ∷ bytes) ≡ map (λ b. SoundByte b) front ++ (as_atoms (text_of_block (q ∷ bytes)) ++ heard (at_sound n n) (after_block (q ∷ bytes)))
+heard_interval : (n q : ℕ) (front bytes : List ℕ) → length front ≡ n
+    → heard (at_sound n n) (front ++ q ∷ bytes) ≡ map (λ b. SoundByte b) front
+    ++ (as_atoms (text_of_block (q ∷ bytes)) ++ heard (at_sound n n) (after_block (q ∷ bytes)))
 heard_interval n zero front bytes whole = heard_to_none n n front bytes (sym whole)
 heard_interval n (suc q) front bytes whole =
     let size = 16 * suc q in
@@ -87,14 +91,17 @@ after_block_fits : (k n : ℕ) (out : List ℕ) → n < length out → length ou
 after_block_fits k n out more fits =
     rw (drop_more out n 0 more) (omega (arith, length-drop (16 * get_or out n 0) (drop (n + 1) out), length-drop (n + 1) out))
 
-heard_first : (n : ℕ) (out : List ℕ) → n < length out → heard (at_sound n n) out ≡ map (λ b. SoundByte b) (take n out) ++ (as_atoms (text_of_block (drop n out)) ++ heard (at_sound n n) (after_block (drop n out)))
+heard_first : (n : ℕ) (out : List ℕ) → n < length out
+    → heard (at_sound n n) out ≡ map (λ b. SoundByte b) (take n out)
+    ++ (as_atoms (text_of_block (drop n out)) ++ heard (at_sound n n) (after_block (drop n out)))
 heard_first n out more =
     let q = get_or out n 0 in
     let bytes = drop (n + 1) out in
     let split : out ≡ take n out ++ q ∷ bytes = sym (take-append-drop n out) ∙ ap (λ t. take n out ++ t) (drop_more out n 0 more) in
     ap (heard (at_sound n n)) split
     ∙ (heard_interval n q (take n out) bytes (length-take-le n out (omega arith))
-    ∙ ap (λ (t : List ℕ). map (λ b. SoundByte b) (take n out) ++ (as_atoms (text_of_block t) ++ heard (at_sound n n) (after_block t))) (sym (drop_more out n 0 more)))
+    ∙ ap (λ (t : List ℕ). map (λ b. SoundByte b) (take n out) ++ (as_atoms (text_of_block t) ++ heard (at_sound n n) (after_block t)))
+    (sym (drop_more out n 0 more)))
 
 -- the sound that is heard in a stream with at most k blocks
 pub sound_in-heard : (k n : ℕ) (out : List ℕ) → length out ≤ k → sound_in (heard (at_sound n n) out) ≡ bare_within k n out

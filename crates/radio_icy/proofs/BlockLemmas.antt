@@ -1,5 +1,6 @@
 -- Facts about the news of a block.
-use Rattle.std.proofs.Common.{◌≡◌, ℕ, ◌+◌, ◌-◌, ◌*◌, List, [], ◌∷◌, ◌++◌, length, replicate, Option, None, Some, Bool, true, false, refl, arith, length-append, append_assoc, codes}
+use Rattle.std.proofs.Common.{◌≡◌, ℕ, ◌+◌, ◌-◌, ◌*◌, List, [], ◌∷◌, ◌++◌, length, replicate, Option, None, Some, Bool, true, false, refl, arith, length-append}
+use Rattle.std.proofs.Common.{append_assoc, codes}
 use Rattle.std.specs.Str.{bytes_eq}
 use Rattle.std.proofs.lemmas.Slice.Eq.{bytes_eq-Decides}
 use Rattle.radio_icy.specs.Block.{news_of, sent_with, title_text, units_of, metadata_block}
@@ -23,12 +24,16 @@ pub length-title_text : (title : List ℕ) → length (title_text title) ≡ len
 unfolding title_text
 length-title_text title = grind (arith, length-append)
 
-joined : (out : List ℕ) (n : ℕ) (front title back text padding : List ℕ) → front ++ (title ++ back) ≡ text → ((((out ++ n ∷ []) ++ front) ++ title) ++ back) ++ padding ≡ out ++ n ∷ (text ++ padding)
+joined : (out : List ℕ) (n : ℕ) (front title back text padding : List ℕ) → front ++ (title ++ back) ≡ text
+    → ((((out ++ n ∷ []) ++ front) ++ title) ++ back) ++ padding ≡ out ++ n ∷ (text ++ padding)
 joined out n front title back text padding same = rw (← same) (simp append_assoc)
 
 -- the pieces of a title's block, written one after another
-pub block_pieces : (out title : List ℕ) (units : ℕ) (padding : List ℕ) → units ≡ units_of (length title + 15) → padding ≡ replicate (16 * units - (length title + 15)) 0 → ((((out ++ units ∷ []) ++ codes "StreamTitle='") ++ title) ++ codes "';") ++ padding ≡ out ++ metadata_block (Some title)
+pub block_pieces : (out title : List ℕ) (units : ℕ) (padding : List ℕ) → units ≡ units_of (length title + 15)
+    → padding ≡ replicate (16 * units - (length title + 15)) 0
+    → ((((out ++ units ∷ []) ++ codes "StreamTitle='") ++ title) ++ codes "';") ++ padding ≡ out ++ metadata_block (Some title)
 unfolding metadata_block
 block_pieces out title units padding is_units is_padding =
     let text : codes "StreamTitle='" ++ (title ++ codes "';") ≡ title_text title = unfold title_text in refl in
-    rw (is_padding, is_units, ← length-title_text title) (joined out (units_of (length (title_text title))) (codes "StreamTitle='") title (codes "';") (title_text title) _ text)
+    rw (is_padding, is_units, ← length-title_text title)
+    (joined out (units_of (length (title_text title))) (codes "StreamTitle='") title (codes "';") (title_text title) _ text)

@@ -6,7 +6,8 @@ use Rattle.std.proofs.lemmas.Bool.{le-leb, lt-leb}
 use Rattle.std.proofs.lemmas.List.{drop_more, append-nil, append_assoc}
 use Rattle.std.proofs.Common.{zero, suc, take, cond}
 use Rattle.std.specs.Str.{IsUtf8, is_utf8, chars}
-use Rattle.std.specs.Str.Lossy.{utf8_lossy, utf8_valid_len, valid_len_up_to, utf8_invalid_len, utf8_error_len, error_len_of_some, error_len_after_one, error_len_after_two, second_byte_min, second_byte_max, replacement_bytes, after_first_chunk}
+use Rattle.std.specs.Str.Lossy.{utf8_lossy, utf8_valid_len, valid_len_up_to, utf8_invalid_len, utf8_error_len, error_len_of_some, error_len_after_one}
+use Rattle.std.specs.Str.Lossy.{error_len_after_two, second_byte_min, second_byte_max, replacement_bytes, after_first_chunk}
 use Rattle.std.proofs.Common.{Option, None, Some, unwrap_or, eqb, leb, ⊎_elim, subst}
 use Rattle.std.specs.Prelude.{slice_index, nat_lt}
 use Rattle.std.specs.Int.{is_in_range}
@@ -14,7 +15,8 @@ use Rattle.std.specs.List.{list_all}
 use lib.Utf8.{scalars, scalar, encode}
 use Rattle.std.proofs.lemmas.Bool.{cond_both, cases_eq, cases_lt, and_parts, and_from}
 use Rattle.std.proofs.lemmas.List.{nil_from_length, take_all, length-drop, length-append}
-use Rattle.std.proofs.lemmas.Str.{IsUtf8-nil, IsUtf8-from_is_utf8, IsUtf8-append, utf8_lossy-IsUtf8, utf8_lossy_step, utf8_valid_len_le, scalars-chars, chars-encodes, length-encode}
+use Rattle.std.proofs.lemmas.Str.{IsUtf8-nil, IsUtf8-from_is_utf8, IsUtf8-append, utf8_lossy-IsUtf8, utf8_lossy_step, utf8_valid_len_le, scalars-chars}
+use Rattle.std.proofs.lemmas.Str.{chars-encodes, length-encode}
 use Rattle.radio_icy.specs.Cleaning.{is_shown, front_within, shown_chars, cleaned}
 
 -- the UTF-8 of what is kept of some characters in a room of m bytes
@@ -34,16 +36,19 @@ next_is : (cs : List ℕ) (k c : ℕ) → (k < length cs) × (c ≡ get_or cs k 
 next_is cs k c here = drop_more cs k c here.0 ∙ ap (λ (b : ℕ). b ∷ drop (k + 1) cs) (sym here.1)
 
 -- the character at place k of cs, where `made` has been made of those before it
-pub kept_past : (cs : List ℕ) (k c n m : ℕ) (made all : List ℕ) → (k < length cs) × (c ≡ get_or cs k c) → is_shown c ≡ false → n ≡ k + 1 → made ++ kept m (drop k cs) ≡ all → made ++ kept m (drop n cs) ≡ all
+pub kept_past : (cs : List ℕ) (k c n m : ℕ) (made all : List ℕ) → (k < length cs) × (c ≡ get_or cs k c) → is_shown c ≡ false → n ≡ k + 1
+    → made ++ kept m (drop k cs) ≡ all → made ++ kept m (drop n cs) ≡ all
 kept_past cs k c n m made all here hidden next so_far =
     rw next (ap (λ t. made ++ t) (sym (ap (kept m) (next_is cs k c here) ∙ kept_hidden m c (drop (k + 1) cs) hidden)) ∙ so_far)
 
-pub kept_full : (cs : List ℕ) (k c m : ℕ) (made all : List ℕ) → (k < length cs) × (c ≡ get_or cs k c) → is_shown c ≡ true → m < len_utf8 c → made ++ kept m (drop k cs) ≡ all → made ≡ all
+pub kept_full : (cs : List ℕ) (k c m : ℕ) (made all : List ℕ) → (k < length cs) × (c ≡ get_or cs k c) → is_shown c ≡ true → m < len_utf8 c
+    → made ++ kept m (drop k cs) ≡ all → made ≡ all
 kept_full cs k c m made all here shown less so_far =
     sym (append-nil made)
     ∙ (ap (λ t. made ++ t) (sym (ap (kept m) (next_is cs k c here) ∙ kept_no_room m c (drop (k + 1) cs) shown less)) ∙ so_far)
 
-pub kept_more : (cs : List ℕ) (k c n m less : ℕ) (made made' all : List ℕ) → (k < length cs) × (c ≡ get_or cs k c) → is_shown c ≡ true → len_utf8 c ≤ m → n ≡ k + 1 → less ≡ m - len_utf8 c → made' ≡ made ++ encode_utf8 c → made ++ kept m (drop k cs) ≡ all → made' ++ kept less (drop n cs) ≡ all
+pub kept_more : (cs : List ℕ) (k c n m less : ℕ) (made made' all : List ℕ) → (k < length cs) × (c ≡ get_or cs k c) → is_shown c ≡ true → len_utf8 c ≤ m
+    → n ≡ k + 1 → less ≡ m - len_utf8 c → made' ≡ made ++ encode_utf8 c → made ++ kept m (drop k cs) ≡ all → made' ++ kept less (drop n cs) ≡ all
 kept_more cs k c n m less made made' all here shown fits next room new so_far =
     rw (next, room, new)
     (append_assoc made (encode_utf8 c) (kept (m - len_utf8 c) (drop (k + 1) cs))
@@ -73,7 +78,8 @@ invalid_some bs some =
     (λ _. cond_both (nat_lt (length bs) 4) None (Some 3) P (λ _. some) (λ _. omega arith)) (λ _. omega arith)) in
     let one : P (error_len_after_one bs) =
     cond_both (nat_lt (length bs) 2) None _ P (λ _. some)
-    (λ _. cond_both (is_in_range (second_byte_min x) (second_byte_max x) (slice_index bs 1)) (error_len_after_two bs) (Some 1) P (λ _. two) (λ _. omega arith)) in
+    (λ _. cond_both (is_in_range (second_byte_min x) (second_byte_max x) (slice_index bs 1)) (error_len_after_two bs) (Some 1) P (λ _. two)
+    (λ _. omega arith)) in
     cond_both (eqb (length bs) 0) None (error_len_of_some bs) P (λ _. some)
     (λ _. cond_both (is_in_range 0xC2 0xF4 x) (error_len_after_one bs) (Some 1) P (λ _. one) (λ _. omega arith))
 
@@ -192,7 +198,8 @@ front_within-longest n (suc k) (c ∷ cs) fits =
 pub cleaned-front : (n : ℕ) (bytes : List ℕ) → take (length (chars (cleaned n bytes))) (shown_chars bytes) ≡ chars (cleaned n bytes)
 cleaned-front n bytes = rw (chars-cleaned n bytes) (front_within-front n (shown_chars bytes))
 
-pub cleaned-longest : (n : ℕ) (bytes : List ℕ) (k : ℕ) → length (encode_utf8_all (take k (shown_chars bytes))) ≤ n → take k (chars (cleaned n bytes)) ≡ take k (shown_chars bytes)
+pub cleaned-longest : (n : ℕ) (bytes : List ℕ) (k : ℕ) → length (encode_utf8_all (take k (shown_chars bytes))) ≤ n
+    → take k (chars (cleaned n bytes)) ≡ take k (shown_chars bytes)
 cleaned-longest n bytes k fits = rw (chars-cleaned n bytes) (front_within-longest n k (shown_chars bytes) fits)
 
 -- a clean text is left as it is

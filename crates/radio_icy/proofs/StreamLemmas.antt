@@ -1,5 +1,6 @@
 -- What comes of a list of calls is the woven stream: byte by byte with the title of each byte, then interval by interval.
-use Rattle.std.proofs.Common.{◌≡◌, ℕ, zero, suc, ◌+◌, ◌-◌, ◌*◌, ◌<◌, ◌≤◌, List, [], ◌∷◌, ◌++◌, length, map, take, drop, get_or, Option, None, refl, arith, ap, ◌∙◌, sym, append_assoc}
+use Rattle.std.proofs.Common.{◌≡◌, ℕ, zero, suc, ◌+◌, ◌-◌, ◌*◌, ◌<◌, ◌≤◌, List, [], ◌∷◌, ◌++◌, length, map, take, drop, get_or, Option, None, refl, arith, ap}
+use Rattle.std.proofs.Common.{◌∙◌, sym, append_assoc}
 use Rattle.std.proofs.lemmas.Bool.{lt-ltb, le-ltb}
 use Rattle.std.proofs.lemmas.List.{length-append, length-map, length-drop, drop-drop, get_or-drop}
 use Rattle.radio_icy.specs.Block.{metadata_block, news_of}
@@ -14,11 +15,14 @@ woven_titled w (b ∷ sound) [] = []
 woven_titled w (b ∷ sound) (title ∷ titles) = b ∷ (block_after_byte w title ++ woven_titled (after_byte w title) sound titles)
 
 -- the bytes of one call, and those of later ones
-woven_titled-call : (w : Weaving) (title : Option (List ℕ)) (sound later : List ℕ) (titles : List (Option (List ℕ))) → woven_titled w (sound ++ later) (map (λ _. title) sound ++ titles) ≡ woven w title sound ++ woven_titled (after_weaving w title sound) later titles
+woven_titled-call : (w : Weaving) (title : Option (List ℕ)) (sound later : List ℕ) (titles : List (Option (List ℕ)))
+    → woven_titled w (sound ++ later) (map (λ _. title) sound ++ titles) ≡ woven w title sound ++ woven_titled (after_weaving w title sound) later titles
 woven_titled-call w title [] later titles = refl
 woven_titled-call w title (b ∷ sound) later titles =
     ap (λ t. b ∷ (block_after_byte w title ++ t)) (woven_titled-call (after_byte w title) title sound later titles)
-    ∙ ap (λ t. b ∷ t) (sym (append_assoc (block_after_byte w title) (woven (after_byte w title) title sound) (woven_titled (after_weaving (after_byte w title) title sound) later titles)))
+    ∙ ap (λ t. b ∷ t) (sym
+    (append_assoc (block_after_byte w title) (woven (after_byte w title) title sound)
+    (woven_titled (after_weaving (after_byte w title) title sound) later titles)))
 
 woven_by_calls-titled : (w : Weaving) (calls : List Call) → woven_by_calls w calls ≡ woven_titled w (sound_of_calls calls) (titles_of_calls calls)
 woven_by_calls-titled w [] = refl
@@ -33,7 +37,11 @@ length-titles_of_calls (c ∷ calls) =
     ∙ omega (arith, length-map c.sound (λ _. c.title), length-titles_of_calls calls, length-append c.sound (sound_of_calls calls))
 
 -- the rest of an interval with its block: the last of its bytes stands at the place `last`
-interval_from : (last : ℕ) (w : Weaving) (sound : List ℕ) (titles : List (Option (List ℕ))) → w.place + suc last ≡ w.interval → last < length sound → last < length titles → woven_titled w sound titles ≡ take (suc last) sound ++ (metadata_block (news_of (get_or titles last None) w.sent) ++ woven_titled (at_block w (get_or titles last None)) (drop (suc last) sound) (drop (suc last) titles))
+interval_from : (last : ℕ) (w : Weaving) (sound : List ℕ) (titles : List (Option (List ℕ))) → w.place + suc last ≡ w.interval → last < length sound
+    → last < length titles → woven_titled w sound titles
+    ≡ take (suc last) sound
+    ++ (metadata_block (news_of (get_or titles last None) w.sent)
+    ++ woven_titled (at_block w (get_or titles last None)) (drop (suc last) sound) (drop (suc last) titles))
 interval_from last w [] titles whole s t = absurd (omega arith)
 interval_from last w (b ∷ sound) [] whole s t = absurd (omega arith)
 interval_from zero w (b ∷ sound) (title ∷ titles) whole s t =
@@ -44,11 +52,15 @@ interval_from (suc last) w (b ∷ sound) (title ∷ titles) whole s t =
     rw (lt-ltb (w.place + 1) w.interval inside)
     (ap (λ u. b ∷ u) (interval_from last (moved w 1) sound titles (omega arith) (omega arith) (omega arith)))
 
-interval_titled : (n last : ℕ) (w : Weaving) (sound : List ℕ) (titles : List (Option (List ℕ))) → n ≡ suc last → w.place + n ≡ w.interval → n ≤ length sound → n ≤ length titles → woven_titled w sound titles ≡ take n sound ++ (metadata_block (news_of (get_or titles last None) w.sent) ++ woven_titled (at_block w (get_or titles last None)) (drop n sound) (drop n titles))
+interval_titled : (n last : ℕ) (w : Weaving) (sound : List ℕ) (titles : List (Option (List ℕ))) → n ≡ suc last → w.place + n ≡ w.interval
+    → n ≤ length sound → n ≤ length titles → woven_titled w sound titles
+    ≡ take n sound ++ (metadata_block (news_of (get_or titles last None) w.sent)
+    ++ woven_titled (at_block w (get_or titles last None)) (drop n sound) (drop n titles))
 interval_titled n last w sound titles size whole s t = rw size (interval_from last w sound titles (omega arith) (omega arith) (omega arith))
 
 -- sound that does not end the interval
-rest_titled : (w : Weaving) (sound : List ℕ) (titles : List (Option (List ℕ))) → w.place + length sound < w.interval → length titles ≡ length sound → woven_titled w sound titles ≡ sound
+rest_titled : (w : Weaving) (sound : List ℕ) (titles : List (Option (List ℕ))) → w.place + length sound < w.interval → length titles ≡ length sound
+    → woven_titled w sound titles ≡ sound
 rest_titled w [] titles short size = refl
 rest_titled w (b ∷ sound) [] short size = absurd (omega arith)
 rest_titled w (b ∷ sound) (title ∷ titles) short size =
@@ -59,7 +71,9 @@ rest_titled w (b ∷ sound) (title ∷ titles) short size =
 abbrev pub at_part : ℕ → List Call → ℕ → Weaving
 at_part n calls k = record { interval = n; place = 0; sent = sent_before n calls k }
 
-woven_by_parts : (n : ℕ) (calls : List Call) (k : ℕ) → 0 < n → n * k ≤ length (sound_of_calls calls) → woven_titled (new_weaving n) (sound_of_calls calls) (titles_of_calls calls) ≡ woven_parts n calls k ++ woven_titled (at_part n calls k) (drop (n * k) (sound_of_calls calls)) (drop (n * k) (titles_of_calls calls))
+woven_by_parts : (n : ℕ) (calls : List Call) (k : ℕ) → 0 < n → n * k ≤ length (sound_of_calls calls)
+    → woven_titled (new_weaving n) (sound_of_calls calls) (titles_of_calls calls)
+    ≡ woven_parts n calls k ++ woven_titled (at_part n calls k) (drop (n * k) (sound_of_calls calls)) (drop (n * k) (titles_of_calls calls))
 woven_by_parts n calls zero some fits = let none : n * 0 ≡ 0 = omega arith in rw none refl
 woven_by_parts n calls (suc k) some fits =
     let w = at_part n calls k in
@@ -67,7 +81,8 @@ woven_by_parts n calls (suc k) some fits =
     let titles = titles_of_calls calls in
     let size : n * suc k ≡ n * k + n = omega arith in
     let title_is : get_or (drop (n * k) titles) (n - 1) None ≡ title_at n calls k = get_or-drop (n * k) titles (n - 1) None in
-    let next = λ (title : Option (List ℕ)) (later : List ℕ) (rest : List (Option (List ℕ))). woven_parts n calls k ++ (part_at n calls k ++ (metadata_block (news_of title w.sent) ++ woven_titled (at_block w title) later rest)) in
+    let next = λ (title : Option (List ℕ)) (later : List ℕ) (rest : List (Option (List ℕ))). woven_parts n calls k
+    ++ (part_at n calls k ++ (metadata_block (news_of title w.sent) ++ woven_titled (at_block w title) later rest)) in
     woven_by_parts n calls k some (omega arith)
     ∙ (ap (λ t. woven_parts n calls k ++ t)
     (interval_titled n (n - 1) w (drop (n * k) sound) (drop (n * k) titles) (omega arith) (omega arith)

@@ -1,5 +1,6 @@
 -- How the end of a title is looked for.
-use Rattle.std.proofs.Common.{◌≡◌, ℕ, ◌+◌, ◌<◌, ◌≤◌, Bool, ◌||◌, true, false, List, [], ◌∷◌, ◌++◌, length, take, drop, get_or, Option, None, Some, refl, arith, ap, ◌∙◌, sym, subst, cond}
+use Rattle.std.proofs.Common.{◌≡◌, ℕ, ◌+◌, ◌<◌, ◌≤◌, Bool, ◌||◌, true, false, List, [], ◌∷◌, ◌++◌, length, take, drop, get_or, Option, None, Some, refl, arith}
+use Rattle.std.proofs.Common.{ap, ◌∙◌, sym, subst, cond}
 use Rattle.std.specs.Option.{option_map}
 use Rattle.std.proofs.lemmas.List.{at_drop_more, at_drop_all, take_more, append_assoc, append-nil, take-append-drop}
 use Rattle.std.specs.Prelude.{not, bytes_eq}
@@ -20,7 +21,9 @@ at_no_end b text e = rw e refl
 at_end : (b : ℕ) (text : List ℕ) → ends_title (b ∷ text) ≡ true → before_title_end (b ∷ text) ≡ Some []
 at_end b text e = rw e refl
 
-pub title_passed : (text : List ℕ) (i : ℕ) → i < length text → ends_title (drop i text) ≡ false → before_title_end text ≡ option_map (λ t. take i text ++ t) (before_title_end (drop i text)) → before_title_end text ≡ option_map (λ t. take (i + 1) text ++ t) (before_title_end (drop (i + 1) text))
+pub title_passed : (text : List ℕ) (i : ℕ) → i < length text → ends_title (drop i text) ≡ false
+    → before_title_end text ≡ option_map (λ t. take i text ++ t) (before_title_end (drop i text))
+    → before_title_end text ≡ option_map (λ t. take (i + 1) text ++ t) (before_title_end (drop (i + 1) text))
 title_passed text i inside goes so_far =
     let here = at_drop_more ends_title text i 0 inside in
     let step = at_drop_more before_title_end text i 0 inside ∙ at_no_end (get_or text i 0) (drop (i + 1) text) (sym here ∙ goes) in
@@ -29,17 +32,20 @@ title_passed text i inside goes so_far =
     ∙ (option_map-after (take i text) (get_or text i 0) (before_title_end (drop (i + 1) text))
     ∙ ap (λ f. option_map (λ t. f ++ t) (before_title_end (drop (i + 1) text))) (sym (take_more text i 0 inside))))
 
-pub title_found : (text : List ℕ) (i : ℕ) → i < length text → ends_title (drop i text) ≡ true → before_title_end text ≡ option_map (λ t. take i text ++ t) (before_title_end (drop i text)) → Some (take i text) ≡ before_title_end text
+pub title_found : (text : List ℕ) (i : ℕ) → i < length text → ends_title (drop i text) ≡ true
+    → before_title_end text ≡ option_map (λ t. take i text ++ t) (before_title_end (drop i text)) → Some (take i text) ≡ before_title_end text
 title_found text i inside ends so_far =
     let here = at_drop_more ends_title text i 0 inside in
     let step = at_drop_more before_title_end text i 0 inside ∙ at_end (get_or text i 0) (drop (i + 1) text) (sym here ∙ ends) in
     sym (so_far ∙ (ap (option_map (λ t. take i text ++ t)) step ∙ ap (λ t. Some t) (append-nil (take i text))))
 
-pub title_missing : (text : List ℕ) (i : ℕ) → length text ≤ i → before_title_end text ≡ option_map (λ t. take i text ++ t) (before_title_end (drop i text)) → None ≡ before_title_end text
+pub title_missing : (text : List ℕ) (i : ℕ) → length text ≤ i
+    → before_title_end text ≡ option_map (λ t. take i text ++ t) (before_title_end (drop i text)) → None ≡ before_title_end text
 title_missing text i past so_far = sym (so_far ∙ ap (option_map (λ t. take i text ++ t)) (at_drop_all before_title_end text i past))
 
 -- what a text with a quote and more after it begins with, if it has no quote, the text itself begins with
-quoted_front : (front title rest : List ℕ) → list_all (λ x. not (eqb x 39)) front ≡ true → bytes_eq front (take (length front) (title ++ 39 ∷ rest)) ≡ true → title ≡ front ++ drop (length front) title
+quoted_front : (front title rest : List ℕ) → list_all (λ x. not (eqb x 39)) front ≡ true
+    → bytes_eq front (take (length front) (title ++ 39 ∷ rest)) ≡ true → title ≡ front ++ drop (length front) title
 quoted_front [] title rest plain same = refl
 quoted_front (x ∷ front) [] rest plain same =
     absurd (both_ways (eqb x 39) (not-true (eqb x 39) (and_parts (not (eqb x 39)) _ plain).0) (and_parts (eqb x 39) _ same).0)
@@ -57,7 +63,8 @@ no_end_inside b (c ∷ title) rest plain ends =
     let quote : 39 ≡ b = eqb-true 39 b (and_parts (eqb 39 b) _ begins).0 in
     let stop : 59 ≡ c = eqb-true 59 c (and_parts (eqb 59 c) _ (and_parts (eqb 39 b) _ begins).1).0 in
     ⊎_elim
-    (λ none. let empty : length (title ++ 39 ∷ 59 ∷ rest) ≡ 0 = eqb-true (length (title ++ 39 ∷ 59 ∷ rest)) 0 none in absurd (omega (arith, length-append title (39 ∷ 59 ∷ rest))))
+    (λ none. let empty : length (title ++ 39 ∷ 59 ∷ rest) ≡ 0 = eqb-true (length (title ++ 39 ∷ 59 ∷ rest)) 0 none in
+    absurd (omega (arith, length-append title (39 ∷ 59 ∷ rest))))
     (λ url.
     let front = quoted_front (codes "StreamUrl=") title (59 ∷ rest) refl url in
     plain [] (drop 10 title) (ap (λ (q : ℕ). q ∷ c ∷ title) (sym quote) ∙ (ap (λ (q : ℕ). 39 ∷ q ∷ title) (sym stop) ∙ ap (λ t. 39 ∷ 59 ∷ t) front)))
@@ -75,7 +82,8 @@ ends_at_url : (url : List ℕ) → ends_title (39 ∷ 59 ∷ codes "StreamUrl=" 
 unfolding ends_title
 ends_at_url url = or_true (eqb (length (codes "StreamUrl=" ++ url)) 0)
 
-before_title_end-title : (title rest : List ℕ) → HasNoUrlInside title → ends_title (39 ∷ 59 ∷ rest) ≡ true → before_title_end (title ++ 39 ∷ 59 ∷ rest) ≡ Some title
+before_title_end-title : (title rest : List ℕ) → HasNoUrlInside title → ends_title (39 ∷ 59 ∷ rest) ≡ true
+    → before_title_end (title ++ 39 ∷ 59 ∷ rest) ≡ Some title
 before_title_end-title [] rest plain ends = at_end 39 (59 ∷ rest) ends
 before_title_end-title (b ∷ title) rest plain ends =
     at_no_end b (title ++ 39 ∷ 59 ∷ rest) (false_from_ne_true _ (no_end_inside b title rest plain))
@@ -112,7 +120,13 @@ nothing_in (x ∷ before) after b h = cc
 
 end_here : (b : ℕ) (text title : List ℕ) → ends_title (b ∷ text) ≡ true → [] ≡ title → IsEnd (b ∷ text) title
 end_here b text title ends none =
-    record { rest = b ∷ text; parts = ap (λ u. u ++ b ∷ text) none; ends = ends; is_first = λ before after x same. absurd (nothing_in before after x (none ∙ same)) }
+    record {
+      rest = b ∷ text;
+      parts = ap (λ u. u ++ b ∷ text) none;
+      ends = ends;
+      is_first = λ before after x same.
+          absurd (nothing_in before after x (none ∙ same));
+    }
 
 end_further : (b : ℕ) (text title t : List ℕ) → ends_title (b ∷ text) ≡ false → b ∷ t ≡ title → IsEnd text t → IsEnd (b ∷ text) title
 end_further b text title t goes same i =
@@ -128,7 +142,8 @@ by_rest b text title (Some t) goes rest h = end_further b text title t goes (cc)
 end_found : (text title : List ℕ) → before_title_end text ≡ Some title → IsEnd text title
 end_found [] title h = absurd (cc)
 end_found (b ∷ text) title h =
-    elim (ends_title (b ∷ text)) as (λ t. ends_title (b ∷ text) ≡ t → cond t (Some []) (option_map (λ u. b ∷ u) (before_title_end text)) ≡ Some title → IsEnd (b ∷ text) title) [
+    elim (ends_title (b ∷ text)) as
+    (λ t. ends_title (b ∷ text) ≡ t → cond t (Some []) (option_map (λ u. b ∷ u) (before_title_end text)) ≡ Some title → IsEnd (b ∷ text) title) [
       | true ↦ λ ends found. end_here b text title ends (cc)
       | false ↦ λ goes found. by_rest b text title (before_title_end text) goes (λ t. end_found text t) found
     ] refl h
@@ -137,7 +152,8 @@ no_end_of_nothing : ends_title [] ≡ false
 unfolding ends_title
 no_end_of_nothing = refl
 
-end_given : (title rest : List ℕ) → ends_title rest ≡ true → ((before after : List ℕ) (b : ℕ) → title ≡ before ++ b ∷ after → ends_title ((b ∷ after) ++ rest) ≡ false)
+end_given : (title rest : List ℕ) → ends_title rest ≡ true
+    → ((before after : List ℕ) (b : ℕ) → title ≡ before ++ b ∷ after → ends_title ((b ∷ after) ++ rest) ≡ false)
     → before_title_end (title ++ rest) ≡ Some title
 end_given [] [] ends first = absurd (false≢true (sym no_end_of_nothing ∙ ends))
 end_given [] (b ∷ rest) ends first = at_end b rest ends
@@ -157,9 +173,11 @@ bytes_eq-same (x ∷ xs) (y ∷ ys) h =
 begun : (text title : List ℕ) → cond (bytes_eq (codes "StreamTitle='") (take 13 text)) (before_title_end (drop 13 text)) None ≡ Some title
     → (text ≡ codes "StreamTitle='" ++ drop 13 text) × (before_title_end (drop 13 text) ≡ Some title)
 begun text title h =
-    elim (bytes_eq (codes "StreamTitle='") (take 13 text)) as (λ t. bytes_eq (codes "StreamTitle='") (take 13 text) ≡ t → cond t (before_title_end (drop 13 text)) None ≡ Some title
+    elim (bytes_eq (codes "StreamTitle='") (take 13 text)) as
+    (λ t. bytes_eq (codes "StreamTitle='") (take 13 text) ≡ t → cond t (before_title_end (drop 13 text)) None ≡ Some title
     → (text ≡ codes "StreamTitle='" ++ drop 13 text) × (before_title_end (drop 13 text) ≡ Some title)) [
-      | true ↦ λ same found. (sym (take-append-drop 13 text) ∙ ap (λ u. u ++ drop 13 text) (sym (bytes_eq-same (codes "StreamTitle='") (take 13 text) same)), found)
+      | true ↦ λ same found.
+          (sym (take-append-drop 13 text) ∙ ap (λ u. u ++ drop 13 text) (sym (bytes_eq-same (codes "StreamTitle='") (take 13 text) same)), found)
       | false ↦ λ same found. absurd (cc)
     ] refl h
 

@@ -1,5 +1,6 @@
 -- How a woven stream is taken apart: a run of sound, a block, a part of a block.
-use Rattle.std.proofs.Common.{◌≡◌, ℕ, zero, suc, ◌+◌, ◌-◌, ◌*◌, ◌<◌, ◌≤◌, List, [], ◌∷◌, ◌++◌, length, map, Option, None, Some, refl, arith, ap, ◌∙◌, sym, ⊎_elim, append_assoc}
+use Rattle.std.proofs.Common.{◌≡◌, ℕ, zero, suc, ◌+◌, ◌-◌, ◌*◌, ◌<◌, ◌≤◌, List, [], ◌∷◌, ◌++◌, length, map, Option, None, Some, refl, arith, ap, ◌∙◌, sym}
+use Rattle.std.proofs.Common.{⊎_elim, append_assoc}
 use Rattle.std.proofs.Common.{Bor, IfSome, MatchOption}
 use Rattle.std.specs.Prelude.{⊤}
 use Rattle.std.specs.Option.{option_map, option_copied}
@@ -8,12 +9,14 @@ use Rattle.std.proofs.lemmas.List.{nil_from_length, append-nil}
 use Rattle.radio_icy.specs.Unweaving.{Atom, SoundByte, WholeText, at_sound, in_block, heard, after_feeding, without_padding, after_length_byte}
 
 -- a run of sound inside the interval
-pub heard_sound : (n left m : ℕ) (sound more : List ℕ) → left ≡ length sound + m → heard (at_sound n left) (sound ++ more) ≡ map (λ b. SoundByte b) sound ++ heard (at_sound n m) more
+pub heard_sound : (n left m : ℕ) (sound more : List ℕ) → left ≡ length sound + m
+    → heard (at_sound n left) (sound ++ more) ≡ map (λ b. SoundByte b) sound ++ heard (at_sound n m) more
 heard_sound n left m [] more e = let same : left ≡ m = omega arith in ap (λ (k : ℕ). heard (at_sound n k) more) same
 heard_sound n zero m (b ∷ sound) more e = absurd (omega arith)
 heard_sound n (suc left) m (b ∷ sound) more e = ap (λ t. SoundByte b ∷ t) (heard_sound n left m sound more (omega arith))
 
-pub after_sound : (n left m : ℕ) (sound more : List ℕ) → left ≡ length sound + m → after_feeding (at_sound n left) (sound ++ more) ≡ after_feeding (at_sound n m) more
+pub after_sound : (n left m : ℕ) (sound more : List ℕ) → left ≡ length sound + m
+    → after_feeding (at_sound n left) (sound ++ more) ≡ after_feeding (at_sound n m) more
 after_sound n left m [] more e = let same : left ≡ m = omega arith in ap (λ (k : ℕ). after_feeding (at_sound n k) more) same
 after_sound n zero m (b ∷ sound) more e = absurd (omega arith)
 after_sound n (suc left) m (b ∷ sound) more e = after_sound n left m sound more (omega arith)
@@ -22,17 +25,20 @@ after_sound n (suc left) m (b ∷ sound) more e = after_sound n left m sound mor
 heard_inside : (n left b : ℕ) (held more : List ℕ) → 1 < left → heard (in_block n left held) (b ∷ more) ≡ heard (in_block n (left - 1) (held ++ b ∷ [])) more
 heard_inside n left b held more h = rw (lt-ltb 1 left h) refl
 
-heard_last : (n left b : ℕ) (held more : List ℕ) → left ≤ 1 → heard (in_block n left held) (b ∷ more) ≡ WholeText (without_padding (held ++ b ∷ [])) ∷ heard (at_sound n n) more
+heard_last : (n left b : ℕ) (held more : List ℕ) → left ≤ 1
+    → heard (in_block n left held) (b ∷ more) ≡ WholeText (without_padding (held ++ b ∷ [])) ∷ heard (at_sound n n) more
 heard_last n left b held more h = rw (le-ltb 1 left h) refl
 
-after_inside : (n left b : ℕ) (held more : List ℕ) → 1 < left → after_feeding (in_block n left held) (b ∷ more) ≡ after_feeding (in_block n (left - 1) (held ++ b ∷ [])) more
+after_inside : (n left b : ℕ) (held more : List ℕ) → 1 < left
+    → after_feeding (in_block n left held) (b ∷ more) ≡ after_feeding (in_block n (left - 1) (held ++ b ∷ [])) more
 after_inside n left b held more h = rw (lt-ltb 1 left h) refl
 
 after_last : (n left b : ℕ) (held more : List ℕ) → left ≤ 1 → after_feeding (in_block n left held) (b ∷ more) ≡ after_feeding (at_sound n n) more
 after_last n left b held more h = rw (le-ltb 1 left h) refl
 
 -- the rest of a block
-pub heard_block : (n left : ℕ) (held text more : List ℕ) → 0 < left → left ≡ length text → heard (in_block n left held) (text ++ more) ≡ WholeText (without_padding (held ++ text)) ∷ heard (at_sound n n) more
+pub heard_block : (n left : ℕ) (held text more : List ℕ) → 0 < left → left ≡ length text
+    → heard (in_block n left held) (text ++ more) ≡ WholeText (without_padding (held ++ text)) ∷ heard (at_sound n n) more
 heard_block n left held [] more some e = absurd (omega arith)
 heard_block n left held (b ∷ text) more some e =
     ⊎_elim
@@ -45,7 +51,8 @@ heard_block n left held (b ∷ text) more some e =
     rw none (heard_last n left b held more h))
     (cases_lt 1 left)
 
-pub after_block : (n left : ℕ) (held text more : List ℕ) → 0 < left → left ≡ length text → after_feeding (in_block n left held) (text ++ more) ≡ after_feeding (at_sound n n) more
+pub after_block : (n left : ℕ) (held text more : List ℕ) → 0 < left → left ≡ length text
+    → after_feeding (in_block n left held) (text ++ more) ≡ after_feeding (at_sound n n) more
 after_block n left held [] more some e = absurd (omega arith)
 after_block n left held (b ∷ text) more some e =
     ⊎_elim
@@ -62,7 +69,8 @@ pub heard_part : (n left : ℕ) (held part : List ℕ) → length part < left �
 heard_part n left held [] short = refl
 heard_part n left held (b ∷ part) short = heard_inside n left b held part (omega arith) ∙ heard_part n (left - 1) (held ++ b ∷ []) part (omega arith)
 
-pub after_part : (n left : ℕ) (held part : List ℕ) → length part < left → after_feeding (in_block n left held) part ≡ in_block n (left - length part) (held ++ part)
+pub after_part : (n left : ℕ) (held part : List ℕ) → length part < left
+    → after_feeding (in_block n left held) part ≡ in_block n (left - length part) (held ++ part)
 after_part n left held [] short =
     let same : left ≡ left - 0 = omega arith in
     ap (λ (k : ℕ). in_block n k held) same ∙ ap (λ t. in_block n (left - 0) t) (sym (append-nil held))
@@ -88,38 +96,45 @@ after_all_sound n left sound fits =
     sym (ap (after_feeding (at_sound n left)) (sym (append-nil sound)) ∙ after_sound n left (left - length sound) sound [] (omega arith))
 
 -- a piece that ends inside a block
-pub heard_to_part : (n left q : ℕ) (sound block : List ℕ) → left ≡ length sound → length block < 16 * q → heard (at_sound n left) (sound ++ q ∷ block) ≡ map (λ b. SoundByte b) sound
+pub heard_to_part : (n left q : ℕ) (sound block : List ℕ) → left ≡ length sound → length block < 16 * q
+    → heard (at_sound n left) (sound ++ q ∷ block) ≡ map (λ b. SoundByte b) sound
 heard_to_part n left q sound block whole short =
     heard_sound n left 0 sound (q ∷ block) (omega arith)
     ∙ (ap (λ u. map (λ b. SoundByte b) sound ++ heard u block) (length_byte_some n q (omega arith))
     ∙ (ap (λ t. map (λ b. SoundByte b) sound ++ t) (heard_part n (16 * q) [] block short) ∙ append-nil (map (λ b. SoundByte b) sound)))
 
-pub after_to_part : (n left q : ℕ) (sound block : List ℕ) → left ≡ length sound → length block < 16 * q → in_block n (16 * q - length block) block ≡ after_feeding (at_sound n left) (sound ++ q ∷ block)
+pub after_to_part : (n left q : ℕ) (sound block : List ℕ) → left ≡ length sound → length block < 16 * q
+    → in_block n (16 * q - length block) block ≡ after_feeding (at_sound n left) (sound ++ q ∷ block)
 after_to_part n left q sound block whole short =
     sym (after_sound n left 0 sound (q ∷ block) (omega arith)
     ∙ (ap (λ u. after_feeding u block) (length_byte_some n q (omega arith)) ∙ after_part n (16 * q) [] block short))
 
 -- an interval with the text after it
-pub heard_to_text : (n left q : ℕ) (sound text later : List ℕ) → left ≡ length sound → 0 < q → length text ≡ 16 * q → heard (at_sound n left) (sound ++ q ∷ (text ++ later)) ≡ map (λ b. SoundByte b) sound ++ (WholeText (without_padding text) ∷ heard (at_sound n n) later)
+pub heard_to_text : (n left q : ℕ) (sound text later : List ℕ) → left ≡ length sound → 0 < q → length text ≡ 16 * q
+    → heard (at_sound n left) (sound ++ q ∷ (text ++ later)) ≡ map (λ b. SoundByte b) sound ++ (WholeText (without_padding text) ∷ heard (at_sound n n) later)
 heard_to_text n left q sound text later whole some size =
     heard_sound n left 0 sound (q ∷ (text ++ later)) (omega arith)
     ∙ (ap (λ u. map (λ b. SoundByte b) sound ++ heard u (text ++ later)) (length_byte_some n q some)
     ∙ ap (λ t. map (λ b. SoundByte b) sound ++ t) (heard_block n (16 * q) [] text later (omega arith) (omega arith)))
 
-pub after_to_text : (n left q : ℕ) (sound text later : List ℕ) → left ≡ length sound → 0 < q → length text ≡ 16 * q → after_feeding (at_sound n left) (sound ++ q ∷ (text ++ later)) ≡ after_feeding (at_sound n n) later
+pub after_to_text : (n left q : ℕ) (sound text later : List ℕ) → left ≡ length sound → 0 < q → length text ≡ 16 * q
+    → after_feeding (at_sound n left) (sound ++ q ∷ (text ++ later)) ≡ after_feeding (at_sound n n) later
 after_to_text n left q sound text later whole some size =
     after_sound n left 0 sound (q ∷ (text ++ later)) (omega arith)
     ∙ (ap (λ u. after_feeding u (text ++ later)) (length_byte_some n q some) ∙ after_block n (16 * q) [] text later (omega arith) (omega arith))
 
 -- an interval with no text after it
-pub heard_to_none : (n left : ℕ) (sound later : List ℕ) → left ≡ length sound → heard (at_sound n left) (sound ++ 0 ∷ later) ≡ map (λ b. SoundByte b) sound ++ heard (at_sound n n) later
+pub heard_to_none : (n left : ℕ) (sound later : List ℕ) → left ≡ length sound
+    → heard (at_sound n left) (sound ++ 0 ∷ later) ≡ map (λ b. SoundByte b) sound ++ heard (at_sound n n) later
 heard_to_none n left sound later whole = heard_sound n left 0 sound (0 ∷ later) (omega arith)
 
-pub after_to_none : (n left : ℕ) (sound later : List ℕ) → left ≡ length sound → after_feeding (at_sound n left) (sound ++ 0 ∷ later) ≡ after_feeding (at_sound n n) later
+pub after_to_none : (n left : ℕ) (sound later : List ℕ) → left ≡ length sound
+    → after_feeding (at_sound n left) (sound ++ 0 ∷ later) ≡ after_feeding (at_sound n n) later
 after_to_none n left sound later whole = after_sound n left 0 sound (0 ∷ later) (omega arith)
 
 -- what was heard and what is still to be heard, after one turn of the loop over intervals
-pub turn_to_text : (items sound new new' rest later total : List Atom) (text : Atom) → new ≡ items ++ sound → new' ≡ new ++ text ∷ [] → rest ≡ sound ++ text ∷ later → items ++ rest ≡ total → new' ++ later ≡ total
+pub turn_to_text : (items sound new new' rest later total : List Atom) (text : Atom) → new ≡ items ++ sound → new' ≡ new ++ text ∷ []
+    → rest ≡ sound ++ text ∷ later → items ++ rest ≡ total → new' ++ later ≡ total
 turn_to_text items sound new new' rest later total text first second turn whole = rw (second, first, ← whole, turn) (simp append_assoc)
 
 pub turn_to_none : (items sound new rest later total : List Atom) → new ≡ items ++ sound → rest ≡ sound ++ later → items ++ rest ≡ total → new ++ later ≡ total
@@ -129,7 +144,8 @@ pub turn_to_end : (items sound new rest total : List Atom) → new ≡ items ++ 
 turn_to_end items sound new rest total first turn whole = rw (first, ← whole, turn) refl
 
 -- a copy is there where the text is
-pub begun_kept : {X : Type 0} (P : Type 0) (f : X → List ℕ) (copy : Option X) (text : Option (Bor (List ℕ))) → option_map f copy ≡ option_copied text → IfSome text (λ _. P) → MatchOption copy ⊤ (λ _. P)
+pub begun_kept : {X : Type 0} (P : Type 0) (f : X → List ℕ) (copy : Option X) (text : Option (Bor (List ℕ))) → option_map f copy ≡ option_copied text
+    → IfSome text (λ _. P) → MatchOption copy ⊤ (λ _. P)
 begun_kept P f None text same h = tt
 begun_kept P f (Some x) None same h = absurd (cc)
 begun_kept P f (Some x) (Some t) same h = h

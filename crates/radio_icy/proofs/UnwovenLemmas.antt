@@ -1,15 +1,18 @@
 -- A woven stream, taken apart, gives the sound and the titles that went into it.
-use Rattle.std.proofs.Common.{◌≡◌, ℕ, zero, suc, ◌+◌, ◌-◌, ◌*◌, ◌<◌, ◌≤◌, List, [], ◌∷◌, ◌++◌, length, map, take, drop, get_or, replicate, eqb, codes, Option, None, Some, refl, arith, ap, ◌∙◌, sym, append_assoc}
+use Rattle.std.proofs.Common.{◌≡◌, ℕ, zero, suc, ◌+◌, ◌-◌, ◌*◌, ◌<◌, ◌≤◌, List, [], ◌∷◌, ◌++◌, length, map, take, drop, get_or, replicate, eqb, codes, Option}
+use Rattle.std.proofs.Common.{None, Some, refl, arith, ap, ◌∙◌, sym, append_assoc}
 use Rattle.std.specs.List.{suffix_len}
 use Rattle.std.specs.Option.{option_to_list}
 use Rattle.std.proofs.lemmas.Bool.{eq-eqb, ne_eqb}
-use Rattle.std.proofs.lemmas.List.{length-append, length-replicate, get_or-append_right, get_or_append_left, get_or-replicate, take-append-drop, length-take-le, length-drop, map-append, take_at}
+use Rattle.std.proofs.lemmas.List.{length-append, length-replicate, get_or-append_right, get_or_append_left, get_or-replicate, take-append-drop, length-take-le}
+use Rattle.std.proofs.lemmas.List.{length-drop, map-append, take_at}
 use Rattle.std.proofs.Math.Seq.{take-add}
 use Rattle.std.proofs.lemmas.List.{append-nil}
 use Rattle.std.proofs.lemmas.List.Sums.{suffix_len_is}
 use Rattle.radio_icy.specs.Block.{metadata_block, title_text, padded, units_of}
 use Rattle.radio_icy.specs.Weaving.{Call}
-use Rattle.radio_icy.specs.Stream.{sound_of_calls, titles_of_calls, part_at, sent_before, news_at, woven_parts, parts_of, rest_of, IsWoven, titles_sent, AreUntitled}
+use Rattle.radio_icy.specs.Stream.{sound_of_calls, titles_of_calls, part_at, sent_before, news_at, woven_parts, parts_of, rest_of, IsWoven, titles_sent}
+use Rattle.radio_icy.specs.Stream.{AreUntitled}
 use Rattle.radio_icy.specs.Unweaving.{Atom, SoundByte, WholeText, at_sound, heard, without_padding, new_unweaving}
 use Rattle.radio_icy.specs.Bare.{sound_in, texts_in}
 use Rattle.radio_icy.proofs.BlockLemmas.{length-title_text}
@@ -56,7 +59,8 @@ text_atoms None = []
 text_atoms (Some title) = WholeText (title_text title) ∷ []
 
 -- one part and its block
-heard_part_and_block : (n : ℕ) (news : Option (List ℕ)) (part later : List ℕ) → length part ≡ n → heard (at_sound n n) (part ++ (metadata_block news ++ later)) ≡ map (λ b. SoundByte b) part ++ (text_atoms news ++ heard (at_sound n n) later)
+heard_part_and_block : (n : ℕ) (news : Option (List ℕ)) (part later : List ℕ) → length part ≡ n
+    → heard (at_sound n n) (part ++ (metadata_block news ++ later)) ≡ map (λ b. SoundByte b) part ++ (text_atoms news ++ heard (at_sound n n) later)
 unfolding metadata_block
 heard_part_and_block n None part later whole = heard_to_none n n part later (sym whole)
 heard_part_and_block n (Some title) part later whole =
@@ -69,7 +73,8 @@ abbrev pub atoms_of_parts : ℕ → List Call → ℕ → List Atom
 atoms_of_parts n calls zero = []
 atoms_of_parts n calls (suc k) = atoms_of_parts n calls k ++ (map (λ b. SoundByte b) (part_at n calls k) ++ text_atoms (news_at n calls k))
 
-heard_parts : (n : ℕ) (calls : List Call) (k : ℕ) (more : List ℕ) → n * k ≤ length (sound_of_calls calls) → heard (at_sound n n) (woven_parts n calls k ++ more) ≡ atoms_of_parts n calls k ++ heard (at_sound n n) more
+heard_parts : (n : ℕ) (calls : List Call) (k : ℕ) (more : List ℕ) → n * k ≤ length (sound_of_calls calls)
+    → heard (at_sound n n) (woven_parts n calls k ++ more) ≡ atoms_of_parts n calls k ++ heard (at_sound n n) more
 heard_parts n calls zero more fits = refl
 heard_parts n calls (suc k) more fits =
     let part = part_at n calls k in
@@ -83,7 +88,8 @@ heard_parts n calls (suc k) more fits =
     ∙ (ap (λ t. atoms_of_parts n calls k ++ t) (heard_part_and_block n news part more whole) ∙ simp append_assoc))
 
 -- all that is heard in a woven stream
-heard_woven : (n : ℕ) (calls : List Call) (out : List ℕ) → 0 < n → IsWoven n calls out → heard (new_unweaving n) out ≡ atoms_of_parts n calls (parts_of n calls) ++ map (λ b. SoundByte b) (rest_of n calls)
+heard_woven : (n : ℕ) (calls : List Call) (out : List ℕ) → 0 < n → IsWoven n calls out
+    → heard (new_unweaving n) out ≡ atoms_of_parts n calls (parts_of n calls) ++ map (λ b. SoundByte b) (rest_of n calls)
 heard_woven n calls out some woven =
     let k = parts_of n calls in
     ap (heard (at_sound n n)) woven
@@ -136,7 +142,8 @@ sound_in-woven n calls out some woven =
     ∙ (ap (λ t. take (n * k) (sound_of_calls calls) ++ t) (sound_in-map (rest_of n calls))
     ∙ take-append-drop (n * k) (sound_of_calls calls))))
 
-pub texts_in-woven : (n : ℕ) (calls : List Call) (out : List ℕ) → 0 < n → IsWoven n calls out → texts_in (heard (new_unweaving n) out) ≡ map title_text (titles_sent n calls (parts_of n calls))
+pub texts_in-woven : (n : ℕ) (calls : List Call) (out : List ℕ) → 0 < n → IsWoven n calls out
+    → texts_in (heard (new_unweaving n) out) ≡ map title_text (titles_sent n calls (parts_of n calls))
 texts_in-woven n calls out some woven =
     let k = parts_of n calls in
     ap texts_in (heard_woven n calls out some woven)
@@ -145,7 +152,8 @@ texts_in-woven n calls out some woven =
     ∙ (ap (λ t. map title_text (titles_sent n calls k) ++ t) (texts_in-map (rest_of n calls)) ∙ append-nil (map title_text (titles_sent n calls k)))))
 
 -- where no call has a title, no byte has one
-untitled_bytes : (sound : List ℕ) (title : Option (List ℕ)) (titles : List (Option (List ℕ))) (i : ℕ) → title ≡ None → ((j : ℕ) → get_or titles j None ≡ None) → get_or (map (λ _. title) sound ++ titles) i None ≡ None
+untitled_bytes : (sound : List ℕ) (title : Option (List ℕ)) (titles : List (Option (List ℕ))) (i : ℕ) → title ≡ None
+    → ((j : ℕ) → get_or titles j None ≡ None) → get_or (map (λ _. title) sound ++ titles) i None ≡ None
 untitled_bytes [] title titles i none later = later i
 untitled_bytes (b ∷ sound) title titles zero none later = none
 untitled_bytes (b ∷ sound) title titles (suc i) none later = untitled_bytes sound title titles i none later

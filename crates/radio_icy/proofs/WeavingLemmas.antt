@@ -1,5 +1,6 @@
 -- How sound is woven: a byte, a part of an interval, a whole interval.
-use Rattle.std.proofs.Common.{◌≡◌, ℕ, ◌+◌, ◌<◌, ◌≤◌, List, [], ◌∷◌, ◌++◌, length, Option, None, Some, refl, arith, ap, ◌∙◌, sym, ⊎_elim, add-zero, ◌-◌, take, drop, append_assoc, length-take}
+use Rattle.std.proofs.Common.{◌≡◌, ℕ, ◌+◌, ◌<◌, ◌≤◌, List, [], ◌∷◌, ◌++◌, length, Option, None, Some, refl, arith, ap, ◌∙◌, sym, ⊎_elim, add-zero, ◌-◌, take}
+use Rattle.std.proofs.Common.{drop, append_assoc, length-take}
 use Rattle.std.specs.Option.{option_map, option_or}
 use Rattle.std.proofs.lemmas.Bool.{lt-ltb, le-ltb, cases_lt}
 use Rattle.std.proofs.lemmas.List.{nil_from_length, length-take-le, take-append-drop, take-take, take-append-le}
@@ -15,30 +16,37 @@ moved w n = record w { place = w.place + n }
 abbrev pub at_block : Weaving → Option (List ℕ) → Weaving
 at_block w title = record w { place = 0; sent = sent_with (news_of title w.sent) w.sent }
 
-woven_inside : (w : Weaving) (title : Option (List ℕ)) (b : ℕ) (sound : List ℕ) → w.place + 1 < w.interval → woven w title (b ∷ sound) ≡ b ∷ woven (moved w 1) title sound
+woven_inside : (w : Weaving) (title : Option (List ℕ)) (b : ℕ) (sound : List ℕ) → w.place + 1 < w.interval
+    → woven w title (b ∷ sound) ≡ b ∷ woven (moved w 1) title sound
 woven_inside w title b sound h = rw (lt-ltb (w.place + 1) w.interval h) refl
 
-woven_at_end : (w : Weaving) (title : Option (List ℕ)) (b : ℕ) (sound : List ℕ) → w.interval ≤ w.place + 1 → woven w title (b ∷ sound) ≡ b ∷ (metadata_block (news_of title w.sent) ++ woven (at_block w title) title sound)
+woven_at_end : (w : Weaving) (title : Option (List ℕ)) (b : ℕ) (sound : List ℕ) → w.interval ≤ w.place + 1
+    → woven w title (b ∷ sound) ≡ b ∷ (metadata_block (news_of title w.sent) ++ woven (at_block w title) title sound)
 woven_at_end w title b sound h = rw (le-ltb (w.place + 1) w.interval h) refl
 
-after_inside : (w : Weaving) (title : Option (List ℕ)) (b : ℕ) (sound : List ℕ) → w.place + 1 < w.interval → after_weaving w title (b ∷ sound) ≡ after_weaving (moved w 1) title sound
+after_inside : (w : Weaving) (title : Option (List ℕ)) (b : ℕ) (sound : List ℕ) → w.place + 1 < w.interval
+    → after_weaving w title (b ∷ sound) ≡ after_weaving (moved w 1) title sound
 after_inside w title b sound h = rw (lt-ltb (w.place + 1) w.interval h) refl
 
-after_at_end : (w : Weaving) (title : Option (List ℕ)) (b : ℕ) (sound : List ℕ) → w.interval ≤ w.place + 1 → after_weaving w title (b ∷ sound) ≡ after_weaving (at_block w title) title sound
+after_at_end : (w : Weaving) (title : Option (List ℕ)) (b : ℕ) (sound : List ℕ) → w.interval ≤ w.place + 1
+    → after_weaving w title (b ∷ sound) ≡ after_weaving (at_block w title) title sound
 after_at_end w title b sound h = rw (le-ltb (w.place + 1) w.interval h) refl
 
 -- the rest of an interval, and its block
-pub woven_interval : (w : Weaving) (title : Option (List ℕ)) (part later : List ℕ) → w.place < w.interval → w.place + length part ≡ w.interval → woven w title (part ++ later) ≡ part ++ (metadata_block (news_of title w.sent) ++ woven (at_block w title) title later)
+pub woven_interval : (w : Weaving) (title : Option (List ℕ)) (part later : List ℕ) → w.place < w.interval → w.place + length part ≡ w.interval
+    → woven w title (part ++ later) ≡ part ++ (metadata_block (news_of title w.sent) ++ woven (at_block w title) title later)
 woven_interval w title [] later inside whole = absurd (omega arith)
 woven_interval w title (b ∷ part) later inside whole =
     ⊎_elim
-    (λ (h : w.place + 1 < w.interval). woven_inside w title b (part ++ later) h ∙ ap (λ t. b ∷ t) (woven_interval (moved w 1) title part later (omega arith) (omega arith)))
+    (λ (h : w.place + 1 < w.interval). woven_inside w title b (part ++ later) h
+    ∙ ap (λ t. b ∷ t) (woven_interval (moved w 1) title part later (omega arith) (omega arith)))
     (λ (h : w.interval ≤ w.place + 1).
     let none : part ≡ [] = nil_from_length part (omega arith) in
     rw none (woven_at_end w title b later h))
     (cases_lt (w.place + 1) w.interval)
 
-pub after_interval : (w : Weaving) (title : Option (List ℕ)) (part later : List ℕ) → w.place < w.interval → w.place + length part ≡ w.interval → after_weaving w title (part ++ later) ≡ after_weaving (at_block w title) title later
+pub after_interval : (w : Weaving) (title : Option (List ℕ)) (part later : List ℕ) → w.place < w.interval → w.place + length part ≡ w.interval
+    → after_weaving w title (part ++ later) ≡ after_weaving (at_block w title) title later
 after_interval w title [] later inside whole = absurd (omega arith)
 after_interval w title (b ∷ part) later inside whole =
     ⊎_elim
@@ -53,14 +61,16 @@ pub woven_part : (w : Weaving) (title : Option (List ℕ)) (part : List ℕ) →
 woven_part w title [] short = refl
 woven_part w title (b ∷ part) short = woven_inside w title b part (omega arith) ∙ ap (λ t. b ∷ t) (woven_part (moved w 1) title part (omega arith))
 
-pub after_part : (w : Weaving) (title : Option (List ℕ)) (part : List ℕ) → w.place + length part < w.interval → after_weaving w title part ≡ moved w (length part)
+pub after_part : (w : Weaving) (title : Option (List ℕ)) (part : List ℕ) → w.place + length part < w.interval
+    → after_weaving w title part ≡ moved w (length part)
 after_part w title [] short = ap (λ (n : ℕ). record w { place = n }) (sym (add-zero w.place))
 after_part w title (b ∷ part) short =
     let sum : w.place + 1 + length part ≡ w.place + length (b ∷ part) = omega arith in
     after_inside w title b part (omega arith) ∙ (after_part (moved w 1) title part (omega arith) ∙ ap (λ (n : ℕ). record w { place = n }) sum)
 
 -- what is woven depends on the news alone
-pub woven_news : (w v : Weaving) (title news : Option (List ℕ)) (sound : List ℕ) → w.interval ≡ v.interval → w.place ≡ v.place → news_of title w.sent ≡ news_of news v.sent → woven w title sound ≡ woven v news sound
+pub woven_news : (w v : Weaving) (title news : Option (List ℕ)) (sound : List ℕ) → w.interval ≡ v.interval → w.place ≡ v.place
+    → news_of title w.sent ≡ news_of news v.sent → woven w title sound ≡ woven v news sound
 woven_news w v title news [] i p n = refl
 woven_news w v title news (b ∷ sound) i p n =
     ⊎_elim
@@ -76,7 +86,8 @@ woven_news w v title news (b ∷ sound) i p n =
     (cases_lt (w.place + 1) w.interval)
 
 -- where a weaver stands does not depend on titles
-pub place_same : (w v : Weaving) (title news : Option (List ℕ)) (sound : List ℕ) → w.interval ≡ v.interval → w.place ≡ v.place → (after_weaving w title sound).place ≡ (after_weaving v news sound).place
+pub place_same : (w v : Weaving) (title news : Option (List ℕ)) (sound : List ℕ) → w.interval ≡ v.interval → w.place ≡ v.place
+    → (after_weaving w title sound).place ≡ (after_weaving v news sound).place
 place_same w v title news [] i p = p
 place_same w v title news (b ∷ sound) i p =
     ⊎_elim
@@ -129,14 +140,16 @@ pub woven_both : (w : Weaving) (title : Option (List ℕ)) (a b : List ℕ) → 
 woven_both w title [] b = refl
 woven_both w title (x ∷ a) b =
     ap (λ t. x ∷ (block_after_byte w title ++ t)) (woven_both (after_byte w title) title a b)
-    ∙ ap (λ t. x ∷ t) (sym (append_assoc (block_after_byte w title) (woven (after_byte w title) title a) (woven (after_weaving (after_byte w title) title a) title b)))
+    ∙ ap (λ t. x ∷ t) (sym
+    (append_assoc (block_after_byte w title) (woven (after_byte w title) title a) (woven (after_weaving (after_byte w title) title a) title b)))
 
 pub after_both : (w : Weaving) (title : Option (List ℕ)) (a b : List ℕ) → after_weaving w title (a ++ b) ≡ after_weaving (after_weaving w title a) title b
 after_both w title [] b = refl
 after_both w title (x ∷ a) b = after_both (after_byte w title) title a b
 
 -- and so are calls and further calls
-pub woven_by_more : (w : Weaving) (calls more : List Call) → woven_by_calls w (calls ++ more) ≡ woven_by_calls w calls ++ woven_by_calls (after_calls w calls) more
+pub woven_by_more : (w : Weaving) (calls more : List Call)
+    → woven_by_calls w (calls ++ more) ≡ woven_by_calls w calls ++ woven_by_calls (after_calls w calls) more
 woven_by_more w [] more = refl
 woven_by_more w (c ∷ calls) more =
     let next = after_weaving w c.title c.sound in
@@ -153,14 +166,16 @@ news_of_first None = refl
 news_of_first (Some title) = refl
 
 -- one turn of the loop over whole intervals
-pub woven_turn : (n place : ℕ) (news : Option (List ℕ)) (part later : List ℕ) → place < n → place + length part ≡ n → woven (from_place n place) news (part ++ later) ≡ part ++ (metadata_block news ++ woven (from_place n 0) None later)
+pub woven_turn : (n place : ℕ) (news : Option (List ℕ)) (part later : List ℕ) → place < n → place + length part ≡ n
+    → woven (from_place n place) news (part ++ later) ≡ part ++ (metadata_block news ++ woven (from_place n 0) None later)
 woven_turn n place news part later inside whole =
     let w = from_place n place in
     woven_interval w news part later inside whole
     ∙ (ap (λ o. part ++ (metadata_block o ++ woven (at_block w news) news later)) (news_of_first news)
     ∙ ap (λ t. part ++ (metadata_block news ++ t)) (woven_news (at_block w news) (from_place n 0) news None later refl refl (news_of_sent news None)))
 
-pub place_turn : (n place : ℕ) (news : Option (List ℕ)) (part later : List ℕ) → place < n → place + length part ≡ n → (after_weaving (from_place n place) news (part ++ later)).place ≡ (after_weaving (from_place n 0) None later).place
+pub place_turn : (n place : ℕ) (news : Option (List ℕ)) (part later : List ℕ) → place < n → place + length part ≡ n
+    → (after_weaving (from_place n place) news (part ++ later)).place ≡ (after_weaving (from_place n 0) None later).place
 place_turn n place news part later inside whole =
     let w = from_place n place in
     ap (λ (v : Weaving). v.place) (after_interval w news part later inside whole) ∙ place_same (at_block w news) (from_place n 0) news None later refl refl
@@ -170,7 +185,8 @@ pub front_of_front : (n m : ℕ) (xs ys zs : List ℕ) → n ≤ m → take n ys
 front_of_front n m xs ys zs le first second = sym (take-take n m zs le) ∙ (ap (take n) second ∙ first)
 
 -- what has been written and what is to be woven, after one turn
-pub written_turn : (out part block later out' out'' rest : List ℕ) → out' ≡ out ++ part → out'' ≡ out' ++ block → rest ≡ part ++ (block ++ later) → out'' ++ later ≡ out ++ rest
+pub written_turn : (out part block later out' out'' rest : List ℕ) → out' ≡ out ++ part → out'' ≡ out' ++ block → rest ≡ part ++ (block ++ later)
+    → out'' ++ later ≡ out ++ rest
 written_turn out part block later out' out'' rest first second turn = rw (second, first, turn) (simp append_assoc)
 
 -- a list that begins with n bytes has at least n

@@ -2,9 +2,9 @@
 use Rattle.std.specs.Prelude.{ℕ}
 
 -- a title: with `StreamTitle='` before it and `';` behind it, it fits a block of 255 times 16 bytes
-abbrev pub longest_title : ℕ
-longest_title = 4065
+abbrev pub max_title : ℕ
+max_title = 4065
 
 -- a shown field: a stream's name, genre or type
-abbrev pub longest_field : ℕ
-longest_field = 255
+abbrev pub max_field : ℕ
+max_field = 255

@@ -2,9 +2,9 @@
 ghost use Rattle.std.specs.Prelude.{◌≡◌, ◌≤◌, ◌++◌, length, take, vec_len, Some, IfSome, OnOk, OnErr};
 ghost use Rattle.std.specs.Option.{option_copied};
 ghost use Rattle.radio_icy.specs.Block.{metadata_block};
-ghost use Rattle.radio_icy.specs.Limits.{longest_title};
+ghost use Rattle.radio_icy.specs.Limits.{max_title};
 
-use crate::{LONGEST_TITLE, OutOfMemory};
+use crate::{MAX_TITLE, OutOfMemory};
 
 /// The bytes that a length byte counts in.
 pub const UNIT: usize = 16;
@@ -20,7 +20,7 @@ const PADDING: [u8; UNIT] = [0; UNIT];
 /// Appends the block that carries these news to `out`; with none, one zero byte. After an `Err` what was in `out` is
 /// still its front.
 pub fn append_block(news: Option<&[u8]>, out: &mut Vec<u8>) -> Result<(), OutOfMemory>
-    requires { IfSome news (λ t. length t.now ≤ longest_title) }
+    requires { IfSome news (λ t. length t.now ≤ max_title) }
     ensures ok { OnOk result (out.new.items ≡ out.old.items ++ metadata_block (option_copied news.entry)) }
     ensures err { OnErr result (take (vec_len out.old) out.new.items ≡ out.old.items) }
 {
@@ -34,7 +34,7 @@ pub fn append_block(news: Option<&[u8]>, out: &mut Vec<u8>) -> Result<(), OutOfM
 }
 
 fn append_title_block(title: &[u8], out: &mut Vec<u8>) -> Result<(), OutOfMemory>
-    requires { length title.now ≤ longest_title }
+    requires { length title.now ≤ max_title }
     ensures ok { OnOk result (out.new.items ≡ out.old.items ++ metadata_block (Some title.now)) }
     ensures err { OnErr result (take (vec_len out.old) out.new.items ≡ out.old.items) }
 {

@@ -3,30 +3,30 @@ ghost use Rattle.std.specs.Prelude.{◌≡◌, ◌≤◌, IfOk, filter, encode_u
 ghost use Rattle.std.specs.Str.{chars};
 ghost use Rattle.std.specs.String.{string_bytes, string_len};
 ghost use Rattle.radio_icy.specs.Cleaning.{cleaned, front_within, is_shown};
-ghost use Rattle.radio_icy.specs.Limits.{longest_title, longest_field};
+ghost use Rattle.radio_icy.specs.Limits.{max_title, max_field};
 
-use crate::{LONGEST_FIELD, LONGEST_TITLE, OutOfMemory};
+use crate::{MAX_FIELD, MAX_TITLE, OutOfMemory};
 use std::alloc::Global;
 
 /// A title from outside as a text that can be woven.
 ///
 /// The bytes are read as UTF-8, with U+FFFD for each part that is none. Characters below U+0020 and U+007F are left out,
-/// and of what remains the longest front of at most [`LONGEST_TITLE`] bytes is kept that ends between two characters.
+/// and of what remains the longest front of at most [`MAX_TITLE`] bytes is kept that ends between two characters.
 /// An `Err` means that memory ran out.
 pub fn clean_title(alloc: Global, bytes: &[u8]) -> Result<String, OutOfMemory>
-    ensures text { IfOk result (λ text. string_bytes text ≡ cleaned longest_title bytes.now) }
-    ensures fits { IfOk result (λ text. string_len text ≤ longest_title) }
+    ensures text { IfOk result (λ text. string_bytes text ≡ cleaned max_title bytes.now) }
+    ensures fits { IfOk result (λ text. string_len text ≤ max_title) }
 {
-    clean(alloc, bytes, LONGEST_TITLE)
+    clean(alloc, bytes, MAX_TITLE)
 }
 
 /// A stream's name, genre or type from outside as a text that can be shown: cleaned like a title, to at most
-/// [`LONGEST_FIELD`] bytes. An `Err` means that memory ran out.
+/// [`MAX_FIELD`] bytes. An `Err` means that memory ran out.
 pub fn clean_field(alloc: Global, bytes: &[u8]) -> Result<String, OutOfMemory>
-    ensures text { IfOk result (λ text. string_bytes text ≡ cleaned longest_field bytes.now) }
-    ensures fits { IfOk result (λ text. string_len text ≤ longest_field) }
+    ensures text { IfOk result (λ text. string_bytes text ≡ cleaned max_field bytes.now) }
+    ensures fits { IfOk result (λ text. string_len text ≤ max_field) }
 {
-    clean(alloc, bytes, LONGEST_FIELD)
+    clean(alloc, bytes, MAX_FIELD)
 }
 
 #[tactic(auto, unfolding(crate::specs::Cleaning::cleaned))]

@@ -15,8 +15,6 @@ mod block;
 mod clean;
 mod items;
 pub mod laws;
-#[cfg(test)]
-mod tests;
 mod texts;
 mod title;
 mod unweaver;
@@ -32,7 +30,7 @@ pub use weaver::Weaver;
 pub type OutOfMemory = std::alloc::AllocError;
 
 /// The most bytes that a title may have, so that its text fits a block of 255 times 16 bytes.
-pub const LONGEST_TITLE: usize = 4065;
+pub const MAX_TITLE: usize = 4065;
 
 /// The most bytes that a shown field may have: a stream's name, genre or type.
-pub const LONGEST_FIELD: usize = 255;
+pub const MAX_FIELD: usize = 255;

@@ -1,13 +1,13 @@
 //! Sound in, sound with metadata blocks out.
 ghost use Rattle.std.specs.Prelude.{◌≡◌, ◌+◌, ◌<◌, ◌≤◌, ◌++◌, length, take, vec_len, IfOk, IfSome, OnOk, OnErr};
-ghost use Rattle.std.specs.Option.{option_copied};
+ghost use Rattle.std.specs.Option.{option_copied, option_map};
 ghost use Rattle.radio_icy.specs.Block.{news_of};
 ghost use Rattle.radio_icy.specs.Weaving.{new_weaving, from_place, woven, after_weaving};
-ghost use Rattle.radio_icy.specs.Limits.{longest_title};
+ghost use Rattle.radio_icy.specs.Limits.{max_title};
 
 use crate::block::{UNIT, append_block};
 use crate::texts::copy_of;
-use crate::{LONGEST_TITLE, OutOfMemory};
+use crate::{MAX_TITLE, OutOfMemory};
 use std::alloc::Global;
 use std::marker::Model;
 
@@ -55,7 +55,7 @@ impl Weaver {
     }
 
     /// Appends the bytes of `sound` to `out`, and the block of each interval that ends in them. `title` is the stream's
-    /// title now, of at most [`LONGEST_TITLE`] bytes, or `None` where it has none.
+    /// title now, of at most [`MAX_TITLE`] bytes, or `None` where it has none.
     ///
     /// An `Err` means that memory ran out: the weaver and the bytes of `out` are then as they were.
     pub fn weave(
@@ -64,7 +64,7 @@ impl Weaver {
         title: Option<&[u8]>,
         out: &mut Vec<u8>,
     ) -> Result<(), OutOfMemory>
-        requires { IfSome title (λ t. length t.now ≤ longest_title) }
+        requires { IfSome title (λ t. length t.now ≤ max_title) }
         ensures woven { let title_now = option_copied title.entry in
             OnOk result (out.new.items ≡ out.old.items ++ woven self.old title_now sound.now) }
         ensures after { let title_now = option_copied title.entry in
@@ -90,7 +90,7 @@ impl Weaver {
         out: &mut Vec<u8>,
     ) -> Result<(), OutOfMemory>
         requires due { self.old.interval ≤ self.old.place + length sound.now }
-        requires fits { IfSome title (λ t. length t.now ≤ longest_title) }
+        requires fits { IfSome title (λ t. length t.now ≤ max_title) }
         ensures woven { let title_now = option_copied title.entry in
             OnOk result (out.new.items ≡ out.old.items ++ woven self.old title_now sound.now) }
         ensures after { let title_now = option_copied title.entry in
@@ -99,8 +99,7 @@ impl Weaver {
         ensures out_err { OnErr result (out.new.items ≡ out.old.items) }
     {
         let news = self.news_of(title);
-        let sent = copy_of(self.alloc, news)?;
-        out.reserve(self.most_written(sound.len(), news))?;
+        let sent = self.sent_with_room(sound.len(), news, out)?;
         let start = out.len();
         match append_woven(self.interval, self.place, sound, news, out) {
             Ok(place) => {
@@ -113,6 +112,20 @@ impl Weaver {
                 Err(e)
             }
         }
+    }
+
+    // A copy of the title that is to be sent, once there is room for all that so much sound comes to.
+    fn sent_with_room(
+        &self,
+        sound: usize,
+        news: Option<&[u8]>,
+        out: &mut Vec<u8>,
+    ) -> Result<Option<Vec<u8>>, OutOfMemory>
+        ensures sent { IfOk result (λ sent. option_map (λ v. v.items) sent ≡ option_copied news.entry) }
+        ensures items { out.new.items ≡ out.old.items }
+    {
+        out.reserve(self.most_written(sound, news))?;
+        copy_of(self.alloc, news)
     }
 
     // No fewer bytes than so much sound comes to: a byte for each block, and the text of the first.
@@ -143,7 +156,7 @@ fn append_woven(
     out: &mut Vec<u8>,
 ) -> Result<usize, OutOfMemory>
     requires inside { place < interval }
-    requires fits { IfSome news (λ t. length t.now ≤ longest_title) }
+    requires fits { IfSome news (λ t. length t.now ≤ max_title) }
     ensures woven { let start = from_place interval place in
         OnOk result (out.new.items ≡ out.old.items ++ woven start (option_copied news.entry) sound.now) }
     ensures place { let start = from_place interval place in

@@ -5,7 +5,8 @@ use Rattle.radio_policy.specs.Table.{Row, row}
 use Rattle.radio_policy.specs.Verdicts.{verdict_in, Denies, Allows}
 
 -- one row more in front of rows of which it is known
-denies_at : (name rule : Rule) (holds : Bool) (xs : List Row) → (verdict_in xs ≡ Deny rule → Denies xs rule) → verdict_in (row name holds ∷ xs) ≡ Deny rule → Denies (row name holds ∷ xs) rule
+denies_at : (name rule : Rule) (holds : Bool) (xs : List Row) → (verdict_in xs ≡ Deny rule → Denies xs rule)
+    → verdict_in (row name holds ∷ xs) ≡ Deny rule → Denies (row name holds ∷ xs) rule
 denies_at name rule true xs known e =
     let same : name ≡ rule = cc in
     ([], xs, ap (λ n. row n true ∷ xs) same, tt)
@@ -28,7 +29,8 @@ pub verdict-Denies : (rows : List Row) (rule : Rule) → Denies rows rule → ve
 verdict-Denies rows rule d = ap verdict_in d.2 ∙ verdict_past d.0 (row rule true ∷ d.1) d.3
 
 -- a verdict that allows says that no condition holds, and the other way round
-allows_at : (name : Rule) (holds : Bool) (xs : List Row) → (verdict_in xs ≡ Allow → Allows xs) → verdict_in (row name holds ∷ xs) ≡ Allow → Allows (row name holds ∷ xs)
+allows_at : (name : Rule) (holds : Bool) (xs : List Row) → (verdict_in xs ≡ Allow → Allows xs) → verdict_in (row name holds ∷ xs) ≡ Allow
+    → Allows (row name holds ∷ xs)
 allows_at name true xs known e = cc
 allows_at name false xs known e = (refl, known e)
 

@@ -1,5 +1,6 @@
 -- What is escaped is read back.
-use Rattle.std.proofs.Common.{◌≡◌, ℕ, ◌+◌, ◌*◌, ◌/◌, ◌%◌, ◌<◌, Bool, true, false, nat_lt, ◌==◌, List, [], ◌∷◌, ◌++◌, Option, Some, None, refl, ap, ◌∙◌, subst, arith, append_assoc, add-one, drop-cons, drop, get_or, length, suc}
+use Rattle.std.proofs.Common.{◌≡◌, ℕ, ◌+◌, ◌*◌, ◌/◌, ◌%◌, ◌<◌, Bool, true, false, nat_lt, ◌==◌, List, [], ◌∷◌, ◌++◌, Option, Some, None, refl, ap, ◌∙◌, subst}
+use Rattle.std.proofs.Common.{arith, append_assoc, add-one, drop-cons, drop, get_or, length, suc}
 use Rattle.std.specs.List.{flat_map, AllByRecursion}
 use Rattle.std.specs.Option.{option_map, option_to_list, MatchOption}
 use Rattle.std.specs.Char.{digit_char}
@@ -40,14 +41,16 @@ read_named b c rest e = rw e (one_more b (unescaped_from Between rest))
 pub read_plain : (b : ℕ) (rest : List ℕ) → (b == 92) ≡ false → is_plain b ≡ true → ReadsAs (b ∷ rest) b rest
 read_plain b rest other plain = rw (plain, other) refl
 
-read_by_plain : (b : ℕ) (rest : List ℕ) → b < 256 → (b == 13) ≡ false → (b == 10) ≡ false → (b == 92) ≡ false → (t : Bool) → is_plain b ≡ t → ReadsAs (escape_of b ++ rest) b rest
+read_by_plain : (b : ℕ) (rest : List ℕ) → b < 256 → (b == 13) ≡ false → (b == 10) ≡ false → (b == 92) ≡ false → (t : Bool) → is_plain b ≡ t
+    → ReadsAs (escape_of b ++ rest) b rest
 read_by_plain b rest small e13 e10 e92 true plain = rw (e13, e10, plain, e92) (read_plain b rest e92 plain)
 read_by_plain b rest small e13 e10 e92 false plain =
     let value : (b / 16) * 16 + b % 16 ≡ b = omega arith in
     rw (e13, e10, plain, e92) (subst (λ x. ReadsAs (92 ∷ 120 ∷ digit_char (b / 16) ∷ digit_char (b % 16) ∷ rest) x rest) value
     (read_digits (b / 16) (b % 16) rest (omega arith) (omega arith)))
 
-read_by_backslash : (b : ℕ) (rest : List ℕ) → b < 256 → (b == 13) ≡ false → (b == 10) ≡ false → (t : Bool) → (b == 92) ≡ t → ReadsAs (escape_of b ++ rest) b rest
+read_by_backslash : (b : ℕ) (rest : List ℕ) → b < 256 → (b == 13) ≡ false → (b == 10) ≡ false → (t : Bool) → (b == 92) ≡ t
+    → ReadsAs (escape_of b ++ rest) b rest
 read_by_backslash b rest small e13 e10 true e92 =
     let value : 92 ≡ b = grind (arith, nat_tests) in
     subst (λ x. ReadsAs (escape_of x ++ rest) x rest) value (read_named 92 92 rest refl)
@@ -72,7 +75,8 @@ unescaped_escaped (b ∷ bytes) h =
     read_by_return b (flat_map escape_of bytes) h.0 (b == 13) refl ∙ ap (option_map (λ rest. b ∷ rest)) (unescaped_escaped bytes h.1)
 
 -- A byte of a text was taken: what was read so far, and what is read from there on, are the same bytes.
-joined : (bytes more : List ℕ) (o : Option (List ℕ)) → option_map (λ rest. (bytes ++ more) ++ rest) o ≡ option_map (λ rest. bytes ++ rest) (option_map (λ rest. more ++ rest) o)
+joined : (bytes more : List ℕ) (o : Option (List ℕ)) → option_map (λ rest. (bytes ++ more) ++ rest) o
+    ≡ option_map (λ rest. bytes ++ rest) (option_map (λ rest. more ++ rest) o)
 joined bytes more None = refl
 joined bytes more (Some rest) = ap Some (append_assoc bytes more rest)
 
@@ -90,4 +94,5 @@ pub taken : (bytes new : List ℕ) (place next : Place) (text : List ℕ) (i : �
 taken bytes new place next text i low None e h = cc
 taken bytes new place next text i low (Some step) e h =
     let same : next ≡ step.0 = cc in
-    rw (same, h.1, drop-cons text i 0, steps_on place (get_or text i 0) (drop (suc i) text) step e, add-one) (joined bytes (option_to_list step.1) (unescaped_from step.0 (drop (suc i) text)))
+    rw (same, h.1, drop-cons text i 0, steps_on place (get_or text i 0) (drop (suc i) text) step e, add-one)
+    (joined bytes (option_to_list step.1) (unescaped_from step.0 (drop (suc i) text)))

@@ -2,7 +2,8 @@
 use Rattle.std.proofs.Common.{◌≡◌, ℕ, ◌<◌, ◌==◌, ◌||◌, Bool, true, false, cond, List, [], ◌∷◌, ◌++◌, length, refl, sym, subst, ap, ◌∙◌, arith}
 use Rattle.std.specs.Bool.{OnTrue}
 use Rattle.radio_script.specs.Reading.{has_feed}
-use Rattle.radio_script.specs.Script.{onto_first, lines_of}
+use Rattle.radio_script.specs.Script.{lines_of}
+use Rattle.radio_texts.specs.Cuts.{onto_first}
 use Rattle.radio_script.specs.Plays.{IsLines, IsOneLine}
 
 pub or_false : (a b : Bool) → (a || b) ≡ false → (a ≡ false) × (b ≡ false)

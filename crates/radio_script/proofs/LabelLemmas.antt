@@ -1,5 +1,6 @@
 -- The labels that a script's lines name are numbers of 32 bits.
-use Rattle.std.proofs.Common.{◌≡◌, ℕ, ◌+◌, ◌^◌, ◌<◌, ◌||◌, Bool, true, false, cond, nat_lt, List, [], ◌∷◌, length, Option, Some, None, Result, Ok, Err, inl, inr, refl, subst}
+use Rattle.std.proofs.Common.{◌≡◌, ℕ, ◌+◌, ◌^◌, ◌<◌, ◌||◌, ◌&&◌, Bool, true, false, cond, nat_lt, nat_le, List, [], ◌∷◌, length, Option, Some, None, Result, Ok}
+use Rattle.std.proofs.Common.{Err, inl, inr, refl, subst, arith}
 use Rattle.std.specs.Prelude.{codes, ⊤}
 use Rattle.std.specs.List.{AllByRecursion}
 use Rattle.std.specs.Option.{ok_or}
@@ -10,13 +11,14 @@ use Rattle.radio_script.specs.declared.faults.PlayFault.{PlayFault}
 use Rattle.radio_script.specs.declared.faults.PlayFault.TheVariants.{Line, TooMuch}
 use Rattle.radio_script.specs.declared.limits.TheConstants.{MAX_LINE, MAX_LINES}
 use Rattle.radio_script.specs.Steps.{◌>>=◌}
-use Rattle.radio_script.specs.Parts.{parted}
-use Rattle.radio_script.specs.Numbers.{number_of}
+use Rattle.radio_texts.specs.Cuts.{cut}
+use Rattle.radio_texts.specs.Numbers.{number_of, is_numeral}
 use Rattle.radio_addr.specs.Addresses.{peer_of}
 use Rattle.radio_script.specs.Escapes.{unescaped}
-use Rattle.radio_script.specs.Delivery.{label_of, open_of, in_of, room_of, end_of, delivery_of}
+use Rattle.radio_script.specs.Delivery.{decimal_of, label_of, open_of, in_of, room_of, end_of, delivery_of}
 use Rattle.radio_script.specs.Script.{meaning_of, onto_delivery, deliveries_from}
-use Rattle.radio_script.proofs.NumberLemmas.{number_of-small}
+use Rattle.std.specs.Str.Parse.{digits_value}
+use Rattle.std.proofs.lemmas.Bool.Decides.{nat_tests}
 use Rattle.radio_script.proofs.SpellingLemmas.{bind_some, chosen}
 
 -- the label of a delivery's connection
@@ -41,26 +43,39 @@ low_if : (t : Bool) (x y : Option Delivery) → IsLow x → IsLow y → IsLow (c
 low_if true x y h k = h
 low_if false x y h k = k
 
+by_test : (t : Bool) (n m : ℕ) → cond t (Some n) None ≡ Some m → (t ≡ true) × (n ≡ m)
+by_test true n m e = (refl, cc)
+by_test false n m e = cc
+
+decimal_low : (text : List ℕ) (n : ℕ) → decimal_of text ≡ Some n → n < 2 ^ 32
+unfolding number_of
+decimal_low text n e =
+    let p = by_test (is_numeral 10 text && nat_le (digits_value 10 text) 4294967295) (digits_value 10 text) n e in
+    grind (arith, nat_tests, p.0, p.1)
+
 label_low : (text : List ℕ) (label : ℕ) → label_of text ≡ Some label → label < 2 ^ 32
 unfolding label_of
 label_low text label e =
-    let one = bind_some (number_of text) (λ n. cond (nat_lt 0 n) (Some n) None) label e in
+    let one = bind_some (decimal_of text) (λ n. cond (nat_lt 0 n) (Some n) None) label e in
     elim (chosen (nat_lt 0 one.0) (Some one.0) None (Some label) one.2) [
-      | inl p ↦ let same : one.0 ≡ label = cc in subst (λ n. n < 2 ^ 32) same (number_of-small text one.0 one.1)
+      | inl p ↦ let same : one.0 ≡ label = cc in subst (λ n. n < 2 ^ 32) same (decimal_low text one.0 one.1)
       | inr p ↦ cc
     ]
 
 open_low : (fields : List ℕ) → IsLow (open_of fields)
 unfolding open_of
-open_low fields = low_bind (parted 32 fields) _ (λ field e. low_bind (label_of field.0) _ (λ label f. low_bind (peer_of field.1) _ (λ peer g. label_low field.0 label f)))
+open_low fields = low_bind (cut 32 fields) _
+    (λ field e. low_bind (label_of field.0) _ (λ label f. low_bind (peer_of field.1) _ (λ peer g. label_low field.0 label f)))
 
 in_low : (fields : List ℕ) → IsLow (in_of fields)
 unfolding in_of
-in_low fields = low_bind (parted 32 fields) _ (λ field e. low_bind (label_of field.0) _ (λ label f. low_bind (unescaped field.1) _ (λ bytes g. label_low field.0 label f)))
+in_low fields = low_bind (cut 32 fields) _
+    (λ field e. low_bind (label_of field.0) _ (λ label f. low_bind (unescaped field.1) _ (λ bytes g. label_low field.0 label f)))
 
 room_low : (fields : List ℕ) → IsLow (room_of fields)
 unfolding room_of
-room_low fields = low_bind (parted 32 fields) _ (λ field e. low_bind (label_of field.0) _ (λ label f. low_bind (number_of field.1) _ (λ room g. label_low field.0 label f)))
+room_low fields = low_bind (cut 32 fields) _
+    (λ field e. low_bind (label_of field.0) _ (λ label f. low_bind (decimal_of field.1) _ (λ room g. label_low field.0 label f)))
 
 end_low : (fields : List ℕ) → IsLow (end_of fields)
 unfolding end_of
@@ -69,7 +84,7 @@ end_low fields = low_bind (label_of fields) _ (λ label f. label_low fields labe
 delivery_low : (line : List ℕ) → IsLow (delivery_of line)
 unfolding delivery_of
 delivery_low line =
-    low_bind (parted 32 line) _ (λ parts e.
+    low_bind (cut 32 line) _ (λ parts e.
     low_if (bytes_eq parts.0 (codes "open")) _ _ (open_low parts.1)
     (low_if (bytes_eq parts.0 (codes "in")) _ _ (in_low parts.1)
     (low_if (bytes_eq parts.0 (codes "room")) _ _ (room_low parts.1)
@@ -89,12 +104,15 @@ low_meaning_if false r h = h
 
 meaning_low : (number : ℕ) (line : List ℕ) → IsLowMeaning (meaning_of number line)
 unfolding meaning_of
-meaning_low number line = low_meaning_if (nat_lt MAX_LINES number || nat_lt MAX_LINE (length line)) _ (low_or (delivery_of line) (Line number) (delivery_low line))
+meaning_low number line =
+    low_meaning_if (nat_lt MAX_LINES number || nat_lt MAX_LINE (length line)) _ (low_or (delivery_of line) (Line number) (delivery_low line))
 
-onto_low : (r : Result Delivery PlayFault) (deliveries : List Delivery) → IsLowMeaning r → AllByRecursion HasLowLabel deliveries → AllByRecursion HasLowLabel (onto_delivery r deliveries)
+onto_low : (r : Result Delivery PlayFault) (deliveries : List Delivery) → IsLowMeaning r → AllByRecursion HasLowLabel deliveries
+    → AllByRecursion HasLowLabel (onto_delivery r deliveries)
 onto_low (Ok delivery) deliveries h k = (h, k)
 onto_low (Err fault) deliveries h k = tt
 
 pub labels_read : (number : ℕ) (lines : List (List ℕ)) → AllByRecursion HasLowLabel (deliveries_from number lines)
 labels_read number [] = tt
-labels_read number (line ∷ lines) = onto_low (meaning_of number line) (deliveries_from (number + 1) lines) (meaning_low number line) (labels_read (number + 1) lines)
+labels_read number (line ∷ lines) =
+    onto_low (meaning_of number line) (deliveries_from (number + 1) lines) (meaning_low number line) (labels_read (number + 1) lines)

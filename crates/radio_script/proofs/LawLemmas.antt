@@ -10,7 +10,8 @@ use Rattle.radio_script.specs.Laws.{IsDetermined, HasOneTranscript, GoesOnAsItBe
 use Rattle.radio_script.proofs.FeedLemmas.{lines_of-append}
 
 -- two runs of the same deliveries are one
-runs_once : {P : Type 0} (performs : Conduct P) → IsDetermined performs → (old : P) (number : ℕ) (deliveries : List Delivery) (text other : List ℕ) (stop halt : Option ℕ) (new next : P)
+runs_once : {P : Type 0} (performs : Conduct P) → IsDetermined performs
+    → (old : P) (number : ℕ) (deliveries : List Delivery) (text other : List ℕ) (stop halt : Option ℕ) (new next : P)
     → Runs performs old number deliveries text stop new → Runs performs old number deliveries other halt next
     → (text ≡ other) × (stop ≡ halt) × (new ≡ next)
 runs_once performs once old number [] text other stop halt new next r s = (r.0 ∙ sym s.0, r.1 ∙ sym s.1, r.2 ∙ sym s.2)
@@ -38,7 +39,8 @@ StartsWith-append [] ys zs h = h
 StartsWith-append (x ∷ xs) ys zs h = ap (λ l. x ∷ l) (StartsWith-append xs ys zs h)
 
 -- a run that does not stop is the front of each run of the same deliveries and more
-runs_on : {P : Type 0} (performs : Conduct P) → IsDetermined performs → (old : P) (number : ℕ) (deliveries more : List Delivery) (text whole : List ℕ) (stop : Option ℕ) (between new : P)
+runs_on : {P : Type 0} (performs : Conduct P) → IsDetermined performs
+    → (old : P) (number : ℕ) (deliveries more : List Delivery) (text whole : List ℕ) (stop : Option ℕ) (between new : P)
     → Runs performs old number deliveries text None between → Runs performs old number (deliveries ++ more) whole stop new → StartsWith whole text
 runs_on performs once old number [] more text whole stop between new r s = subst (λ x. StartsWith whole x) (sym r.0) refl
 runs_on performs once old number (delivery ∷ deliveries) more text whole stop between new (inl a) s = let here = a.here in cc
@@ -64,7 +66,8 @@ record DeliversMore (number : ℕ) (lines more : List (List ℕ)) : Type 0 where
   is : deliveries_from number (lines ++ more) ≡ deliveries_from number lines ++ rest
 
 delivers_behind : (number : ℕ) (line : List ℕ) (lines more : List (List ℕ)) (m : Result Delivery PlayFault) → meaning_of number line ≡ m
-    → fault_or m (fault_from (number + 1) lines) ≡ None → (fault_from (number + 1) lines ≡ None → DeliversMore (number + 1) lines more) → DeliversMore number (line ∷ lines) more
+    → fault_or m (fault_from (number + 1) lines) ≡ None → (fault_from (number + 1) lines ≡ None → DeliversMore (number + 1) lines more)
+    → DeliversMore number (line ∷ lines) more
 delivers_behind number line lines more (Ok delivery) e none next =
     let others = next none in
     record { rest = others.rest; is = rw e (ap (λ ds. delivery ∷ ds) others.is) }

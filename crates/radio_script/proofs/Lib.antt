@@ -1,4 +1,3 @@
-mod NumberLemmas
 mod EscapeLemmas
 mod FeedLemmas
 mod SpellingLemmas

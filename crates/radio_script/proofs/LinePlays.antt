@@ -1,5 +1,6 @@
 -- What the playing of one line comes to.
-use Rattle.std.proofs.Common.{◌≡◌, ℕ, ◌≤◌, ◌<◌, Bool, false, true, nat_lt, ◌||◌, List, [], ◌∷◌, ◌++◌, length, Option, None, Some, Ok, Err, refl, sym, ap, ◌∙◌, subst, arith, append-nil, append_assoc, length-append}
+use Rattle.std.proofs.Common.{◌≡◌, ℕ, ◌≤◌, ◌<◌, Bool, false, true, nat_lt, ◌||◌, List, [], ◌∷◌, ◌++◌, length, Option, None, Some, Ok, Err, refl, sym, ap, ◌∙◌}
+use Rattle.std.proofs.Common.{subst, arith, append-nil, append_assoc, length-append}
 use Rattle.std.proofs.lemmas.Bool.Decides.{nat_tests}
 use Rattle.std.specs.Io.KnownBytes.{Consumes, IsAtEnd}
 use Rattle.std.proofs.KnownBytes.{Appends-nil}
@@ -21,10 +22,11 @@ too_long false n h = grind (arith, nat_tests)
 
 -- nothing was written
 pub writes_nothing : (a : Option (List ℕ)) (n : ℕ) (P : List ℕ → ℕ → Type 0) → P [] 0 → Writes a a n n P
-writes_nothing a n P h = record { written = []; turns = 0; appends = Appends-nil a; called = omega arith; holds = h }
+writes_nothing a n P h = record { written = []; most_calls = 0; appends = Appends-nil a; called = omega arith; holds = h }
 
 pub writes_so : (a b : Option (List ℕ)) (m n : ℕ) (P Q : List ℕ → ℕ → Type 0) → ((w : List ℕ) (t : ℕ) → P w t → Q w t) → Writes a b m n P → Writes a b m n Q
-writes_so a b m n P Q f w = record { written = w.written; turns = w.turns; appends = w.appends; called = w.called; holds = f w.written w.turns w.holds }
+writes_so a b m n P Q f w =
+    record { written = w.written; most_calls = w.most_calls; appends = w.appends; called = w.called; holds = f w.written w.most_calls w.holds }
 
 -- what the reader had is what it gave and what it has left
 pub known_by : (a b : Option (List ℕ)) (bytes : List ℕ) (Q : List ℕ → List ℕ → Type 0) → Consumes a b bytes
@@ -53,12 +55,12 @@ unwritten performs p number line text OutOfMemory q h = (refl, refl)
 -- none of the script was played
 pub before_all : {P : Type 0} (performs : Conduct P) (p : P) (number : ℕ) (script : List ℕ) → IsPlayedBefore performs p number script script [] 0 p
 before_all performs p number script =
-    record { lines = []; parts = refl; whole = tt; played = record { transcript = no_lines performs p number; in_turns = omega arith } }
+    record { lines = []; parts = refl; whole = tt; played = record { transcript = no_lines performs p number; in_calls = omega arith } }
 
-none_before : {P : Type 0} (performs : Conduct P) (p : P) (number : ℕ) (script written : List ℕ) (turns : ℕ)
-    → (written ≡ []) × (turns ≡ 0) → IsPlayedBefore performs p number script script written turns p
-none_before performs p number script written turns h =
-    subst (λ w. IsPlayedBefore performs p number script script w turns p) (sym h.0)
+none_before : {P : Type 0} (performs : Conduct P) (p : P) (number : ℕ) (script written : List ℕ) (most_calls : ℕ)
+    → (written ≡ []) × (most_calls ≡ 0) → IsPlayedBefore performs p number script script written most_calls p
+none_before performs p number script written most_calls h =
+    subst (λ w. IsPlayedBefore performs p number script script w most_calls p) (sym h.0)
     (subst (λ t. IsPlayedBefore performs p number script script [] t p) (sym h.1) (before_all performs p number script))
 
 -- more bytes than a line may have, with no line feed among them
@@ -70,32 +72,33 @@ long_part performs p number part left one long =
     too_long (nat_lt MAX_LINES number) (length (part ++ first.more)) (omega (arith, length-append part first.more)) in
     record {
       transcript = rw first.is (too_much performs p number (part ++ first.more) first.others over);
-      in_turns = omega arith;
+      in_calls = omega arith;
     }
 
 -- Plays, where nothing of the line was answered.
-pub refused_at_once : {P : Type 0} (performs : Conduct P) (p : P) (number : ℕ) (line : List ℕ) (lines : List (List ℕ)) (script written : List ℕ) (turns : ℕ) (fault : PlayFault) (q : P)
-    → lines_of script ≡ line ∷ lines → IsAtFault performs p number line fault q → (written ≡ []) × (turns ≡ 0)
-    → IsPlayed performs p number script (Some fault) written turns q
-refused_at_once performs p number line lines script written turns fault q e h nothing =
+pub refused_at_once : {P : Type 0} (performs : Conduct P) (p : P) (number : ℕ) (line : List ℕ) (lines : List (List ℕ)) (script written : List ℕ)
+    (most_calls : ℕ) (fault : PlayFault) (q : P)
+    → lines_of script ≡ line ∷ lines → IsAtFault performs p number line fault q → (written ≡ []) × (most_calls ≡ 0)
+    → IsPlayed performs p number script (Some fault) written most_calls q
+refused_at_once performs p number line lines script written most_calls fault q e h nothing =
     record {
       transcript = rw (e, nothing.0) (at_fault performs p number line lines fault q h);
-      in_turns = omega (arith, nothing.1);
+      in_calls = omega (arith, nothing.1);
     }
 
 -- the last line, answered
-pub last_answered : {P : Type 0} (performs : Conduct P) (p : P) (number : ℕ) (line written : List ℕ) (turns : ℕ) (q : P)
-    → has_feed line ≡ false → 0 < length line → IsAnswered performs p number line written q × (turns ≤ length written)
-    → Plays performs p number line [] (Ok tt) written turns q
-last_answered performs p number line written turns q one some h =
-    (refl, record { transcript = rw (lines_of-last line one some) (answered_last performs p number line written q h.0); in_turns = h.1 })
+pub last_answered : {P : Type 0} (performs : Conduct P) (p : P) (number : ℕ) (line written : List ℕ) (most_calls : ℕ) (q : P)
+    → has_feed line ≡ false → 0 < length line → IsAnswered performs p number line written q × (most_calls ≤ length written)
+    → Plays performs p number line [] (Ok tt) written most_calls q
+last_answered performs p number line written most_calls q one some h =
+    (refl, record { transcript = rw (lines_of-last line one some) (answered_last performs p number line written q h.0); in_calls = h.1 })
 
 -- the last line, not answered whole
-pub last_failed : {P : Type 0} (performs : Conduct P) (p : P) (number : ℕ) (line written : List ℕ) (turns : ℕ) (fault : PlayFault) (q : P)
-    → has_feed line ≡ false → 0 < length line → AnswersLine performs p number line (Err fault) written turns q
-    → Plays performs p number line [] (Err fault) written turns q
-last_failed performs p number line written turns Read q one some h = absurd h
-last_failed performs p number line written turns Write q one some h =
+pub last_failed : {P : Type 0} (performs : Conduct P) (p : P) (number : ℕ) (line written : List ℕ) (most_calls : ℕ) (fault : PlayFault) (q : P)
+    → has_feed line ≡ false → 0 < length line → AnswersLine performs p number line (Err fault) written most_calls q
+    → Plays performs p number line [] (Err fault) written most_calls q
+last_failed performs p number line written most_calls Read q one some h = absurd h
+last_failed performs p number line written most_calls Write q one some h =
     record {
       lines = [];
       line = line;
@@ -110,24 +113,24 @@ last_failed performs p number line written turns Write q one some h =
       transcript = rw (lines_of-last line one some) (answered_last performs p number line h.text q h.answer);
       cut = h.front;
       is_written = refl;
-      in_turns = h.in_turns;
+      in_calls = h.in_calls;
     }
-last_failed performs p number line written turns (Line n) q one some h =
-    refused_at_once performs p number line [] line written turns (Line n) q (lines_of-last line one some) h.0 (h.1, h.2)
-last_failed performs p number line written turns TooMuch q one some h = absurd h
-last_failed performs p number line written turns OutOfMemory q one some h = (
+last_failed performs p number line written most_calls (Line n) q one some h =
+    refused_at_once performs p number line [] line written most_calls (Line n) q (lines_of-last line one some) h.0 (h.1, h.2)
+last_failed performs p number line written most_calls TooMuch q one some h = absurd h
+last_failed performs p number line written most_calls OutOfMemory q one some h = (
   line,
   p,
   IsOneLine-no_feed line one,
-  subst (λ x. IsPlayedBefore performs p number line x written turns p) (sym (append-nil line)) (none_before performs p number line written turns h),
+  subst (λ x. IsPlayedBefore performs p number line x written most_calls p) (sym (append-nil line)) (none_before performs p number line written most_calls h),
 )
 
 -- a whole line, not answered whole
-pub whole_failed : {P : Type 0} (performs : Conduct P) (p : P) (number : ℕ) (line left written : List ℕ) (turns : ℕ) (fault : PlayFault) (q : P)
-    → has_feed line ≡ false → AnswersLine performs p number line (Err fault) written turns q
-    → Plays performs p number (line ++ 10 ∷ left) left (Err fault) written turns q
-whole_failed performs p number line left written turns Read q one h = absurd h
-whole_failed performs p number line left written turns Write q one h =
+pub whole_failed : {P : Type 0} (performs : Conduct P) (p : P) (number : ℕ) (line left written : List ℕ) (most_calls : ℕ) (fault : PlayFault) (q : P)
+    → has_feed line ≡ false → AnswersLine performs p number line (Err fault) written most_calls q
+    → Plays performs p number (line ++ 10 ∷ left) left (Err fault) written most_calls q
+whole_failed performs p number line left written most_calls Read q one h = absurd h
+whole_failed performs p number line left written most_calls Write q one h =
     record {
       lines = [];
       line = line ++ 10 ∷ [];
@@ -142,17 +145,17 @@ whole_failed performs p number line left written turns Write q one h =
       transcript = rw (lines_of-line line [] one) (answered_last performs p number line h.text q h.answer);
       cut = h.front;
       is_written = refl;
-      in_turns = h.in_turns;
+      in_calls = h.in_calls;
     }
-whole_failed performs p number line left written turns (Line n) q one h =
-    refused_at_once performs p number line (lines_of left) (line ++ 10 ∷ left) written turns (Line n) q (lines_of-line line left one) h.0 (h.1, h.2)
-whole_failed performs p number line left written turns TooMuch q one h = absurd h
-whole_failed performs p number line left written turns OutOfMemory q one h = (
+whole_failed performs p number line left written most_calls (Line n) q one h =
+    refused_at_once performs p number line (lines_of left) (line ++ 10 ∷ left) written most_calls (Line n) q (lines_of-line line left one) h.0 (h.1, h.2)
+whole_failed performs p number line left written most_calls TooMuch q one h = absurd h
+whole_failed performs p number line left written most_calls OutOfMemory q one h = (
   line ++ 10 ∷ [],
   p,
   IsOneLine-push line one,
-  subst (λ x. IsPlayedBefore performs p number (line ++ 10 ∷ left) x written turns p) (sym (append_assoc line (10 ∷ []) left))
-      (none_before performs p number (line ++ 10 ∷ left) written turns h),
+  subst (λ x. IsPlayedBefore performs p number (line ++ 10 ∷ left) x written most_calls p) (sym (append_assoc line (10 ∷ []) left))
+      (none_before performs p number (line ++ 10 ∷ left) written most_calls h),
 )
 
 -- What a reading that found no line comes to.
@@ -166,13 +169,18 @@ reading_failed performs p number a b (Line n) line r = absurd r
 reading_failed performs p number a b TooMuch line r = absurd r
 reading_failed performs p number a b OutOfMemory line r =
     known_by a b r.0 (λ script left. Plays performs p number script left (Err OutOfMemory) [] 0 p) r.1
-    (λ script left e. (r.0, p, IsOneLine-no_feed r.0 r.2, subst (λ x. IsPlayedBefore performs p number script x [] 0 p) e (before_all performs p number script)))
+    (λ script left e. (
+      r.0,
+      p,
+      IsOneLine-no_feed r.0 r.2,
+      subst (λ x. IsPlayedBefore performs p number script x [] 0 p) e (before_all performs p number script),
+    ))
 
 pub nothing_left : {P : Type 0} (performs : Conduct P) (p : P) (number : ℕ) (a b : Option (List ℕ)) (line : List ℕ)
     → ReadsLine a b (Ok Nothing) line → IfKnown a b (λ script left. Plays performs p number script left (Ok tt) [] 0 p)
 nothing_left performs p number a b line r =
     known_at_end a b [] (λ script left. Plays performs p number script left (Ok tt) [] 0 p) r.0 r.1
-    (refl, record { transcript = no_lines performs p number; in_turns = omega arith })
+    (refl, record { transcript = no_lines performs p number; in_calls = omega arith })
 
 -- a line that has too many bytes
 pub long_line : {P : Type 0} (performs : Conduct P) (p : P) (number : ℕ) (a b : Option (List ℕ)) (line : List ℕ)
@@ -183,56 +191,61 @@ long_line performs p number a b line r =
 
 -- The same, with a writer that took nothing.
 known_unwritten : (a b c : Option (List ℕ)) (n : ℕ) (Q : List ℕ → List ℕ → List ℕ → ℕ → Type 0)
-    → IfKnown a b (λ script left. Q script left [] 0) → IfKnown a b (λ script left. Writes c c n n (λ written turns. Q script left written turns))
+    → IfKnown a b (λ script left. Q script left [] 0) → IfKnown a b (λ script left. Writes c c n n (λ written most_calls. Q script left written most_calls))
 known_unwritten None b c n Q h = tt
 known_unwritten (Some script) None c n Q h = h
 known_unwritten (Some script) (Some left) c n Q h = writes_nothing c n (Q script left) h
 
 pub line_failed : {P : Type 0} (performs : Conduct P) (p : P) (number : ℕ) (a b c : Option (List ℕ)) (n : ℕ) (fault : PlayFault) (line : List ℕ)
     → ReadsLine a b (Err fault) line
-    → IfKnown a b (λ script left. Writes c c n n (λ written turns. PlaysLine performs p number script left (Err fault) written turns p))
+    → IfKnown a b (λ script left. Writes c c n n (λ written most_calls. PlaysLine performs p number script left (Err fault) written most_calls p))
 line_failed performs p number a b c n fault line r =
-    known_unwritten a b c n (λ script left written turns. PlaysLine performs p number script left (Err fault) written turns p)
+    known_unwritten a b c n (λ script left written most_calls. PlaysLine performs p number script left (Err fault) written most_calls p)
     (reading_failed performs p number a b fault line r)
 
 pub line_at_end : {P : Type 0} (performs : Conduct P) (p : P) (number : ℕ) (a b c : Option (List ℕ)) (n : ℕ) (line : List ℕ)
     → ReadsLine a b (Ok Nothing) line
-    → IfKnown a b (λ script left. Writes c c n n (λ written turns. PlaysLine performs p number script left (Ok false) written turns p))
+    → IfKnown a b (λ script left. Writes c c n n (λ written most_calls. PlaysLine performs p number script left (Ok false) written most_calls p))
 line_at_end performs p number a b c n line r =
-    known_unwritten a b c n (λ script left written turns. PlaysLine performs p number script left (Ok false) written turns p)
+    known_unwritten a b c n (λ script left written most_calls. PlaysLine performs p number script left (Ok false) written most_calls p)
     (nothing_left performs p number a b line r)
 
 pub line_too_long : {P : Type 0} (performs : Conduct P) (p : P) (number : ℕ) (a b c : Option (List ℕ)) (n : ℕ) (line : List ℕ)
     → ReadsLine a b (Ok TooLong) line
-    → IfKnown a b (λ script left. Writes c c n n (λ written turns. PlaysLine performs p number script left (Err TooMuch) written turns p))
+    → IfKnown a b (λ script left. Writes c c n n (λ written most_calls. PlaysLine performs p number script left (Err TooMuch) written most_calls p))
 line_too_long performs p number a b c n line r =
-    known_unwritten a b c n (λ script left written turns. PlaysLine performs p number script left (Err TooMuch) written turns p)
+    known_unwritten a b c n (λ script left written most_calls. PlaysLine performs p number script left (Err TooMuch) written most_calls p)
     (long_line performs p number a b line r)
 
 pub line_last : {P : Type 0} (performs : Conduct P) (p : P) (number : ℕ) (a b c d : Option (List ℕ)) (m n : ℕ) (read line : List ℕ) (q : P)
-    → line ≡ read → ReadsLine a b (Ok Last) read → Writes c d m n (λ written turns. AnswersLine performs p number line (Ok tt) written turns q)
-    → IfKnown a b (λ script left. Writes c d m n (λ written turns. PlaysLine performs p number script left (Ok false) written turns q))
+    → line ≡ read → ReadsLine a b (Ok Last) read → Writes c d m n (λ written most_calls. AnswersLine performs p number line (Ok tt) written most_calls q)
+    → IfKnown a b (λ script left. Writes c d m n (λ written most_calls. PlaysLine performs p number script left (Ok false) written most_calls q))
 line_last performs p number a b c d m n read line q e reads w =
     let r : ReadsLine a b (Ok Last) line = subst (λ x. ReadsLine a b (Ok Last) x) (sym e) reads in
-    known_at_end a b line (λ script left. Writes c d m n (λ written turns. PlaysLine performs p number script left (Ok false) written turns q)) r.0 r.1
-    (writes_so c d m n _ _ (λ written turns h. last_answered performs p number line written turns q r.2 r.3 h) w)
+    known_at_end a b line
+    (λ script left. Writes c d m n (λ written most_calls. PlaysLine performs p number script left (Ok false) written most_calls q)) r.0 r.1
+    (writes_so c d m n _ _ (λ written most_calls h. last_answered performs p number line written most_calls q r.2 r.3 h) w)
 
-pub line_last_failed : {P : Type 0} (performs : Conduct P) (p : P) (number : ℕ) (a b c d : Option (List ℕ)) (m n : ℕ) (read line : List ℕ) (fault : PlayFault) (q : P)
-    → line ≡ read → ReadsLine a b (Ok Last) read → Writes c d m n (λ written turns. AnswersLine performs p number line (Err fault) written turns q)
-    → IfKnown a b (λ script left. Writes c d m n (λ written turns. PlaysLine performs p number script left (Err fault) written turns q))
+pub line_last_failed : {P : Type 0} (performs : Conduct P) (p : P) (number : ℕ) (a b c d : Option (List ℕ)) (m n : ℕ) (read line : List ℕ)
+    (fault : PlayFault) (q : P)
+    → line ≡ read → ReadsLine a b (Ok Last) read → Writes c d m n (λ written most_calls. AnswersLine performs p number line (Err fault) written most_calls q)
+    → IfKnown a b (λ script left. Writes c d m n (λ written most_calls. PlaysLine performs p number script left (Err fault) written most_calls q))
 line_last_failed performs p number a b c d m n read line fault q e reads w =
     let r : ReadsLine a b (Ok Last) line = subst (λ x. ReadsLine a b (Ok Last) x) (sym e) reads in
-    known_at_end a b line (λ script left. Writes c d m n (λ written turns. PlaysLine performs p number script left (Err fault) written turns q)) r.0 r.1
-    (writes_so c d m n _ _ (λ written turns h. last_failed performs p number line written turns fault q r.2 r.3 h) w)
+    known_at_end a b line
+    (λ script left. Writes c d m n (λ written most_calls. PlaysLine performs p number script left (Err fault) written most_calls q)) r.0 r.1
+    (writes_so c d m n _ _ (λ written most_calls h. last_failed performs p number line written most_calls fault q r.2 r.3 h) w)
 
-pub line_whole_failed : {P : Type 0} (performs : Conduct P) (p : P) (number : ℕ) (a b c d : Option (List ℕ)) (m n : ℕ) (read line : List ℕ) (fault : PlayFault) (q : P)
-    → line ≡ read → ReadsLine a b (Ok Whole) read → Writes c d m n (λ written turns. AnswersLine performs p number line (Err fault) written turns q)
-    → IfKnown a b (λ script left. Writes c d m n (λ written turns. PlaysLine performs p number script left (Err fault) written turns q))
+pub line_whole_failed : {P : Type 0} (performs : Conduct P) (p : P) (number : ℕ) (a b c d : Option (List ℕ)) (m n : ℕ) (read line : List ℕ)
+    (fault : PlayFault) (q : P)
+    → line ≡ read → ReadsLine a b (Ok Whole) read → Writes c d m n (λ written most_calls. AnswersLine performs p number line (Err fault) written most_calls q)
+    → IfKnown a b (λ script left. Writes c d m n (λ written most_calls. PlaysLine performs p number script left (Err fault) written most_calls q))
 line_whole_failed performs p number a b c d m n read line fault q e reads w =
     let r : ReadsLine a b (Ok Whole) line = subst (λ x. ReadsLine a b (Ok Whole) x) (sym e) reads in
-    known_by a b (line ++ 10 ∷ []) (λ script left. Writes c d m n (λ written turns. PlaysLine performs p number script left (Err fault) written turns q)) r.0
+    known_by a b (line ++ 10 ∷ [])
+    (λ script left. Writes c d m n (λ written most_calls. PlaysLine performs p number script left (Err fault) written most_calls q)) r.0
     (λ script left parts.
     let whole : line ++ 10 ∷ left ≡ script = sym (parts ∙ append_assoc line (10 ∷ []) left) in
-    writes_so c d m n _ _ (λ written turns h.
-    subst (λ x. Plays performs p number x left (Err fault) written turns q) whole
-    (whole_failed performs p number line left written turns fault q r.1 h)) w)
+    writes_so c d m n _ _ (λ written most_calls h.
+    subst (λ x. Plays performs p number x left (Err fault) written most_calls q) whole
+    (whole_failed performs p number line left written most_calls fault q r.1 h)) w)

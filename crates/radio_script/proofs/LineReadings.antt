@@ -1,5 +1,6 @@
 -- A transcript is read as one list of lines alone.
-use Rattle.std.proofs.Common.{◌≡◌, ◌≢◌, ℕ, ◌+◌, ◌/◌, ◌%◌, ◌^◌, ◌<◌, ◌≤◌, Bool, true, false, cond, nat_lt, ◌==◌, List, [], ◌∷◌, ◌++◌, Option, Some, None, refl, sym, ap, ◌∙◌, subst, arith, append_assoc}
+use Rattle.std.proofs.Common.{◌≡◌, ◌≢◌, ℕ, ◌+◌, ◌/◌, ◌%◌, ◌^◌, ◌<◌, ◌≤◌, Bool, true, false, cond, nat_lt, ◌==◌, List, [], ◌∷◌, ◌++◌, Option, Some, None, refl}
+use Rattle.std.proofs.Common.{sym, ap, ◌∙◌, subst, arith, append_assoc}
 use Rattle.std.specs.Prelude.{if◌then◌else◌}
 use Rattle.std.specs.List.{flat_map, AllByRecursion}
 use Rattle.std.specs.Option.{option_map}
@@ -92,7 +93,8 @@ front_of : (b : ℕ) (o : Option (List ℕ)) (cs : List ℕ) → option_map (λ 
 front_of b None cs e = cc
 front_of b (Some ds) cs e = (ds, refl, cc)
 
-read_one : (b : ℕ) (bytes cs : List ℕ) (t : Bool) → nat_lt b 256 ≡ t → unescaped_from Between (escape_of b ++ flat_map escape_of bytes) ≡ Some cs → ((ds : List ℕ) → unescaped_from Between (flat_map escape_of bytes) ≡ Some ds → bytes ≡ ds) → b ∷ bytes ≡ cs
+read_one : (b : ℕ) (bytes cs : List ℕ) (t : Bool) → nat_lt b 256 ≡ t → unescaped_from Between (escape_of b ++ flat_map escape_of bytes) ≡ Some cs
+    → ((ds : List ℕ) → unescaped_from Between (flat_map escape_of bytes) ≡ Some ds → bytes ≡ ds) → b ∷ bytes ≡ cs
 read_one b bytes cs true small e others =
     let byte : b < 256 = grind (arith, nat_tests) in
     let f = front_of b (unescaped_from Between (flat_map escape_of bytes)) cs (sym (read_by_return b (flat_map escape_of bytes) byte (b == 13) refl) ∙ e) in
@@ -119,9 +121,11 @@ labelled_then label text rest =
 decimal_lacks : (label : ℕ) → label < 2 ^ 32 → Lacks 32 (decimal label)
 decimal_lacks label small = digits_lack (decimal label) (decimal_is_IsNumeral label (omega arith)).0.1
 
-labelled_same : (label other : ℕ) (text more rest tail : List ℕ) → label < 2 ^ 32 → other < 2 ^ 32 → Lacks 10 text → Lacks 10 more → decimal label ++ (32 ∷ (text ++ (10 ∷ rest))) ≡ decimal other ++ (32 ∷ (more ++ (10 ∷ tail))) → (label ≡ other) × (text ≡ more) × (rest ≡ tail)
+labelled_same : (label other : ℕ) (text more rest tail : List ℕ) → label < 2 ^ 32 → other < 2 ^ 32 → Lacks 10 text → Lacks 10 more
+    → decimal label ++ (32 ∷ (text ++ (10 ∷ rest))) ≡ decimal other ++ (32 ∷ (more ++ (10 ∷ tail))) → (label ≡ other) × (text ≡ more) × (rest ≡ tail)
 labelled_same label other text more rest tail small little lacks lacking e =
-    let front = cut_same 32 (decimal label) (decimal other) (text ++ 10 ∷ rest) (more ++ 10 ∷ tail) (decimal_lacks label small) (decimal_lacks other little) e in
+    let front = cut_same 32 (decimal label) (decimal other) (text ++ 10 ∷ rest) (more ++ 10 ∷ tail) (decimal_lacks label small)
+    (decimal_lacks other little) e in
     let back = cut_same 10 text more rest tail lacks lacking front.1 in
     (decimal_injective label other (omega arith) (omega arith) front.0, back.0, back.1)
 
@@ -149,7 +153,8 @@ out_not_shut : (xs ys : List ℕ) → 111 ∷ xs ≢ 115 ∷ ys
 out_not_shut xs ys e = let first : ◌≡◌ {A = ℕ} 111 115 = cc in omega (arith, first)
 
 -- two lines with what stands behind them
-line_same : (line other : TranscriptLine) (rest tail : List ℕ) → IsTold line → IsLine other → line_text line ++ rest ≡ line_text other ++ tail → (line ≡ other) × (rest ≡ tail)
+line_same : (line other : TranscriptLine) (rest tail : List ℕ) → IsTold line → IsLine other → line_text line ++ rest ≡ line_text other ++ tail
+    → (line ≡ other) × (rest ≡ tail)
 line_same (out label bytes) (out other cs) rest tail h k e =
     let is = sym (out_then label bytes rest) ∙ e ∙ out_then other cs tail in
     let behind : decimal label ++ (32 ∷ (escaped bytes ++ (10 ∷ rest))) ≡ decimal other ++ (32 ∷ (escaped cs ++ (10 ∷ tail))) = cc in
@@ -188,9 +193,9 @@ told_line : (line : TranscriptLine) → IsLine line → IsTold line
 told_line (out label bytes) h = h.0
 told_line (shut label word) h = h
 
-told_lines : (lines : List TranscriptLine) → AreLines lines → AllByRecursion IsTold lines
-told_lines [] h = tt
-told_lines (line ∷ lines) h = (told_line line h.0, told_lines lines h.1)
+lines_as_written : (lines : List TranscriptLine) → AreLines lines → AllByRecursion IsTold lines
+lines_as_written [] h = tt
+lines_as_written (line ∷ lines) h = (told_line line h.0, lines_as_written lines h.1)
 
 pub read_one_way : (lines others : List TranscriptLine) → AreLines lines → AreLines others → written lines ≡ written others → lines ≡ others
-read_one_way lines others h k e = read_as_told lines others (told_lines lines h) k e
+read_one_way lines others h k e = read_as_told lines others (lines_as_written lines h) k e

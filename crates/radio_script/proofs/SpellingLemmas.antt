@@ -1,5 +1,6 @@
 -- Texts are read as the grammar says.
-use Rattle.std.proofs.Common.{◌≡◌, ◌↔◌, ℕ, zero, suc, ◌+◌, ◌*◌, ◌≤◌, ◌⊎◌, ◌==◌, inl, inr, Bool, true, false, cond, List, [], ◌∷◌, ◌++◌, length, Option, None, Some, refl, ap, ◌∙◌, subst, arith}
+use Rattle.std.proofs.Common.{◌≡◌, ◌↔◌, ℕ, zero, suc, ◌+◌, ◌*◌, ◌≤◌, ◌⊎◌, ◌==◌, inl, inr, Bool, true, false, cond, List, [], ◌∷◌, ◌++◌, length, Option, None}
+use Rattle.std.proofs.Common.{Some, refl, ap, ◌∙◌, subst, arith}
 use Rattle.std.specs.Option.{option_map, option_to_list}
 use Rattle.std.proofs.lemmas.Bool.Decides.{nat_tests}
 use Rattle.radio_script.specs.declared.escapes.Place.{Place}
@@ -37,7 +38,8 @@ record Stepped (place : Place) (b : ℕ) (text bytes : List ℕ) : Type 0 where
   follows : unescaped_from step.0 text ≡ Some rest
   all : option_to_list step.1 ++ rest ≡ bytes
 
-stepped_on : (place : Place) (b : ℕ) (text bytes : List ℕ) (step : Place × Option ℕ) → step_at place b ≡ Some step → (o : Option (List ℕ)) → unescaped_from step.0 text ≡ o
+stepped_on : (place : Place) (b : ℕ) (text bytes : List ℕ) (step : Place × Option ℕ) → step_at place b ≡ Some step → (o : Option (List ℕ))
+    → unescaped_from step.0 text ≡ o
     → option_map (λ ys. option_to_list step.1 ++ ys) o ≡ Some bytes → Stepped place b text bytes
 stepped_on place b text bytes step e None f h = cc
 stepped_on place b text bytes step e (Some rest) f h = record { step = step; rest = rest; is = e; follows = f; all = cc }
@@ -71,8 +73,10 @@ goes_to : (place : Place) (given : Option ℕ) (step : Place × Option ℕ) (tex
     → unescaped_from step.0 text ≡ Some rest → option_to_list step.1 ++ rest ≡ bytes
     → (unescaped_from place text ≡ Some rest) × (option_to_list given ++ rest ≡ bytes)
 goes_to place given step text rest bytes e follows all =
-    let same : step ≡ (place, given) = cc in
-    (subst (λ (p : Place × Option ℕ). unescaped_from p.0 text ≡ Some rest) same follows, subst (λ (p : Place × Option ℕ). option_to_list p.1 ++ rest ≡ bytes) same all)
+    let same : step ≡ (place, given) = cc in (
+      subst (λ (p : Place × Option ℕ). unescaped_from p.0 text ≡ Some rest) same follows,
+      subst (λ (p : Place × Option ℕ). option_to_list p.1 ++ rest ≡ bytes) same all,
+    )
 
 -- a byte is whole, and the rest of the text is spelled
 spelled_more : (n : ℕ) → AllSpelled n → (piece : List ℕ) (b : ℕ) (text rest bytes : List ℕ) → length text ≤ n → Spells piece b
@@ -101,7 +105,8 @@ spelled_high n all (high ∷ text) bytes h e =
     spelled_low n all high one.0 text bytes (omega arith) one.1 (r.0 ∙ ap Some r.1)
 
 -- behind a backslash
-spelled_named : (n : ℕ) → AllSpelled n → (c v : ℕ) (text bytes : List ℕ) → length text ≤ n → Spells (92 ∷ c ∷ []) v → (s : Stepped Escape c text bytes) → Some (Between, Some v) ≡ Some s.step → SpellsAll (92 ∷ c ∷ text) bytes
+spelled_named : (n : ℕ) → AllSpelled n → (c v : ℕ) (text bytes : List ℕ) → length text ≤ n → Spells (92 ∷ c ∷ []) v → (s : Stepped Escape c text bytes)
+    → Some (Between, Some v) ≡ Some s.step → SpellsAll (92 ∷ c ∷ text) bytes
 spelled_named n all c v text bytes h spells s e =
     spelled_more n all (92 ∷ c ∷ []) v text s.rest bytes h spells (goes_to Between (Some v) s.step text s.rest bytes e s.follows s.all)
 
@@ -129,7 +134,8 @@ spelled_escape n all (c ∷ text) bytes h e =
       ]
     ]
 
-spelled_between : (n : ℕ) → AllSpelled n → (b : ℕ) (text bytes : List ℕ) → length text ≤ n → unescaped_from Between (b ∷ text) ≡ Some bytes → SpellsAll (b ∷ text) bytes
+spelled_between : (n : ℕ) → AllSpelled n → (b : ℕ) (text bytes : List ℕ) → length text ≤ n → unescaped_from Between (b ∷ text) ≡ Some bytes
+    → SpellsAll (b ∷ text) bytes
 spelled_between n all b text bytes h e =
     let s = stepped Between b text bytes e in
     elim (chosen (b == 92) (Some (Escape, None)) _ (Some s.step) s.is) [

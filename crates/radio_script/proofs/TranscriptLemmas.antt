@@ -13,7 +13,8 @@ pub no_lines : {P : Type 0} (performs : Conduct P) (p : P) (number : ℕ) → Is
 no_lines performs p number = record { stop = None; run = (refl, refl, refl); ends = refl }
 
 -- A line that is answered, and then the lines behind it.
-pub answered : {P : Type 0} (performs : Conduct P) (p : P) (number : ℕ) (line first : List ℕ) (between : P) (lines : List (List ℕ)) (rest : List ℕ) (fault : Option PlayFault) (q : P)
+pub answered : {P : Type 0} (performs : Conduct P) (p : P) (number : ℕ) (line first : List ℕ) (between : P) (lines : List (List ℕ)) (rest : List ℕ)
+    (fault : Option PlayFault) (q : P)
     → IsAnswered performs p number line first between → IsTranscript performs between (number + 1) lines rest fault q
     → IsTranscript performs p number (line ∷ lines) (first ++ rest) fault q
 answered performs p number line first between lines rest fault q a t =

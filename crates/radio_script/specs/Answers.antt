@@ -40,34 +40,34 @@ module _ {P : Type 0} (performs : Conduct P) (old : P) (number : ℕ) where
   IsPerformed line (Err OutOfMemory) text new = ⊤
   IsPerformed line (Err fault) text new = ⊥
 
-  -- The text was written as far as it could be, in at most one turn for each byte of it.
-  pub record IsWrittenInPart (line written : List ℕ) (turns : ℕ) (new : P) : Type 0 where
+  -- The text was written as far as it could be, in at most one call for each byte of it.
+  pub record IsWrittenInPart (line written : List ℕ) (most_calls : ℕ) (new : P) : Type 0 where
     pub text : List ℕ
     pub answer : IsAnswered line text new
     pub front : StartsWith text written
-    pub in_turns : turns ≤ length text
+    pub in_calls : most_calls ≤ length text
 
   -- The line was answered, or it was not.
   abbrev pub AnswersLine : List ℕ → Result (Unit {0}) PlayFault → List ℕ → ℕ → P → Type 0
-  AnswersLine line (Ok done) written turns new = IsAnswered line written new × (turns ≤ length written)
-  AnswersLine line (Err (Line here)) written turns new =
-      IsAtFault line (Line here) new × (written ≡ []) × (turns ≡ 0)
-  AnswersLine line (Err Write) written turns new = IsWrittenInPart line written turns new
-  AnswersLine line (Err OutOfMemory) written turns new = (written ≡ []) × (turns ≡ 0)
-  AnswersLine line (Err fault) written turns new = ⊥
+  AnswersLine line (Ok done) written most_calls new = IsAnswered line written new × (most_calls ≤ length written)
+  AnswersLine line (Err (Line here)) written most_calls new =
+      IsAtFault line (Line here) new × (written ≡ []) × (most_calls ≡ 0)
+  AnswersLine line (Err Write) written most_calls new = IsWrittenInPart line written most_calls new
+  AnswersLine line (Err OutOfMemory) written most_calls new = (written ≡ []) × (most_calls ≡ 0)
+  AnswersLine line (Err fault) written most_calls new = ⊥
 
   -- A whole line was read and answered.
-  pub record IsLinePlayed (script left written : List ℕ) (turns : ℕ) (new : P) : Type 0 where
+  pub record IsLinePlayed (script left written : List ℕ) (most_calls : ℕ) (new : P) : Type 0 where
     pub line : List ℕ
     pub parts : script ≡ line ++ 10 ∷ left
     pub one_line : has_feed line ≡ false
     pub answer : IsAnswered line written new
-    pub in_turns : turns ≤ length written
+    pub in_calls : most_calls ≤ length written
 
   -- The next line was played and there may be more, or the script was played to its end.
   abbrev pub PlaysLine : List ℕ → List ℕ → Result Bool PlayFault → List ℕ → ℕ → P → Type 0
-  PlaysLine script left (Ok true) written turns new = IsLinePlayed script left written turns new
-  PlaysLine script left (Ok false) written turns new =
-      Plays performs old number script left (Ok tt) written turns new
-  PlaysLine script left (Err fault) written turns new =
-      Plays performs old number script left (Err fault) written turns new
+  PlaysLine script left (Ok true) written most_calls new = IsLinePlayed script left written most_calls new
+  PlaysLine script left (Ok false) written most_calls new =
+      Plays performs old number script left (Ok tt) written most_calls new
+  PlaysLine script left (Err fault) written most_calls new =
+      Plays performs old number script left (Err fault) written most_calls new

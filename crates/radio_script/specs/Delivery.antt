@@ -5,21 +5,25 @@ use Rattle.std.specs.Prelude.{codes}
 use Rattle.radio_script.specs.declared.delivery.Delivery.{Delivery}
 use Rattle.radio_script.specs.declared.delivery.Delivery.TheVariants.{Open, In, Room, End}
 use Rattle.radio_script.specs.Steps.{◌>>=◌}
-use Rattle.radio_script.specs.Parts.{parted}
-use Rattle.radio_script.specs.Numbers.{number_of}
+use Rattle.radio_texts.specs.Cuts.{cut}
+use Rattle.radio_texts.specs.Numbers.{number_of}
 use Rattle.radio_addr.specs.Addresses.{peer_of}
 use Rattle.radio_script.specs.Escapes.{unescaped}
+
+-- a number of 32 bits in decimal, with zeros in front let through
+abbrev pub decimal_of : List ℕ → Option ℕ
+decimal_of text = number_of 10 4294967295 text
 
 -- a label: a number from 1 on
 unfoldable pub label_of : List ℕ → Option ℕ
 label_of text = do
-  label ← number_of text
+  label ← decimal_of text
   if nat_lt 0 label then Some label else None
 
 -- `open C PEER`
 unfoldable pub open_of : List ℕ → Option Delivery
 open_of fields = do
-  field ← parted 32 fields
+  field ← cut 32 fields
   label ← label_of field.0
   peer ← peer_of field.1
   Some (Open label peer)
@@ -27,7 +31,7 @@ open_of fields = do
 -- `in C TEXT`
 unfoldable pub in_of : List ℕ → Option Delivery
 in_of fields = do
-  field ← parted 32 fields
+  field ← cut 32 fields
   label ← label_of field.0
   bytes ← unescaped field.1
   Some (In label bytes)
@@ -35,9 +39,9 @@ in_of fields = do
 -- `room C N`
 unfoldable pub room_of : List ℕ → Option Delivery
 room_of fields = do
-  field ← parted 32 fields
+  field ← cut 32 fields
   label ← label_of field.0
-  room ← number_of field.1
+  room ← decimal_of field.1
   Some (Room label room)
 
 -- `end C`
@@ -49,7 +53,7 @@ end_of fields = do
 -- the delivery that a line stands for, if it is one
 unfoldable pub delivery_of : List ℕ → Option Delivery
 delivery_of line = do
-  parts ← parted 32 line
+  parts ← cut 32 line
   if bytes_eq parts.0 (codes "open") then open_of parts.1 else
       (if bytes_eq parts.0 (codes "in") then in_of parts.1 else
       (if bytes_eq parts.0 (codes "room") then room_of parts.1 else

@@ -1,6 +1,4 @@
 pub mod Steps
-pub mod Parts
-pub mod Numbers
 pub mod Escapes
 pub mod Spelling
 pub mod Delivery

@@ -16,14 +16,14 @@ IfKnown None left P = ⊤
 IfKnown (Some script) None P = ⊥
 IfKnown (Some script) (Some left) P = P script left
 
--- A writer took some bytes in at most so many turns, and P holds of both.
+-- A writer took some bytes in at most so many calls, and P holds of both.
 pub record Writes (before after : Option (List ℕ)) (calls_before calls_after : ℕ)
     (P : List ℕ → ℕ → Type 0) : Type 0 where
   pub written : List ℕ
-  pub turns : ℕ
+  pub most_calls : ℕ
   pub appends : Appends before after written
-  pub called : calls_after ≤ calls_before + turns
-  pub holds : P written turns
+  pub called : calls_after ≤ calls_before + most_calls
+  pub holds : P written most_calls
 
 -- each line has its line feed
 abbrev pub IsLines : List ℕ → Type 0
@@ -38,22 +38,22 @@ IsOneLine (b ∷ bytes) = OnTrue (b == 10) (bytes ≡ []) × IsOneLine bytes
 
 -- A script is played from the performer old on. Its first line has this number.
 module _ {P : Type 0} (performs : Conduct P) (old : P) (number : ℕ) where
-  -- What was written is the transcript of the script, up to its first fault, in at most one turn
+  -- What was written is the transcript of the script, up to its first fault, in at most one call
   -- for each byte.
-  pub record IsPlayed (script : List ℕ) (fault : Option PlayFault) (written : List ℕ) (turns : ℕ) (new : P) : Type 0 where
+  pub record IsPlayed (script : List ℕ) (fault : Option PlayFault) (written : List ℕ) (most_calls : ℕ) (new : P) : Type 0 where
     pub transcript : IsTranscript performs old number (lines_of script) written fault new
-    pub in_turns : turns ≤ length written
+    pub in_calls : most_calls ≤ length written
 
   -- What was written is the transcript of the whole lines before the rest of the script.
-  pub record IsPlayedBefore (script rest written : List ℕ) (turns : ℕ) (new : P) : Type 0 where
+  pub record IsPlayedBefore (script rest written : List ℕ) (most_calls : ℕ) (new : P) : Type 0 where
     pub lines : List ℕ
     pub parts : script ≡ lines ++ rest
     pub whole : IsLines lines
-    pub played : IsPlayed lines None written turns new
+    pub played : IsPlayed lines None written most_calls new
 
   -- All that the whole lines come to was written, and a front of what the line behind them comes
-  -- to, in at most one turn for each byte. Nothing behind that line was read.
-  pub record IsCutOff (script left written : List ℕ) (turns : ℕ) (new : P) : Type 0 where
+  -- to, in at most one call for each byte. Nothing behind that line was read.
+  pub record IsCutOff (script left written : List ℕ) (most_calls : ℕ) (new : P) : Type 0 where
     pub lines : List ℕ
     pub line : List ℕ
     pub parts : script ≡ lines ++ line ++ left
@@ -67,22 +67,22 @@ module _ {P : Type 0} (performs : Conduct P) (old : P) (number : ℕ) where
     pub transcript : IsTranscript performs old number (lines_of (lines ++ line)) (before ++ text) None new
     pub cut : StartsWith text front
     pub is_written : written ≡ before ++ front
-    pub in_turns : turns ≤ length (before ++ text)
+    pub in_calls : most_calls ≤ length (before ++ text)
 
   -- The playing leaves some of the script unread, and ends so.
   abbrev pub Plays : List ℕ → List ℕ → Result (Unit {0}) PlayFault → List ℕ → ℕ → P → Type 0
   -- All was read, and the whole transcript was written.
-  Plays script left (Ok done) written turns new = (left ≡ []) × IsPlayed script None written turns new
+  Plays script left (Ok done) written most_calls new = (left ≡ []) × IsPlayed script None written most_calls new
   -- The script has this fault, and the transcript of the lines before was written.
-  Plays script left (Err (Line here)) written turns new = IsPlayed script (Some (Line here)) written turns new
-  Plays script left (Err TooMuch) written turns new = IsPlayed script (Some TooMuch) written turns new
+  Plays script left (Err (Line here)) written most_calls new = IsPlayed script (Some (Line here)) written most_calls new
+  Plays script left (Err TooMuch) written most_calls new = IsPlayed script (Some TooMuch) written most_calls new
   -- Less than a line was read when the reader failed: the lines before were answered already.
-  Plays script left (Err Read) written turns new =
-      (part : List ℕ) × (has_feed part ≡ false) × IsPlayedBefore script (part ++ left) written turns new
-  Plays script left (Err Write) written turns new = IsCutOff script left written turns new
+  Plays script left (Err Read) written most_calls new =
+      (part : List ℕ) × (has_feed part ≡ false) × IsPlayedBefore script (part ++ left) written most_calls new
+  Plays script left (Err Write) written most_calls new = IsCutOff script left written most_calls new
   -- At most the line behind the lines before was read. What became of the performer is left open.
-  Plays script left (Err OutOfMemory) written turns new =
-      (part : List ℕ) × (last : P) × IsOneLine part × IsPlayedBefore script (part ++ left) written turns last
+  Plays script left (Err OutOfMemory) written most_calls new =
+      (part : List ℕ) × (last : P) × IsOneLine part × IsPlayedBefore script (part ++ left) written most_calls last
 
 -- A reader is looked at once more: it is at its end, or it has a byte too many, or it fails.
 abbrev pub EndsThere : Option (List ℕ) → Option (List ℕ) → Result (Unit {0}) PlayFault → Type 0

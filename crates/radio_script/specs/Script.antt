@@ -6,11 +6,7 @@ use Rattle.radio_script.specs.declared.delivery.Delivery.{Delivery}
 use Rattle.radio_script.specs.declared.faults.PlayFault.{PlayFault}
 use Rattle.radio_script.specs.declared.faults.PlayFault.TheVariants.{Line, TooMuch}
 use Rattle.radio_script.specs.Delivery.{delivery_of}
-
--- the lines, with the byte at the front of the first
-abbrev pub onto_first : ℕ → List (List ℕ) → List (List ℕ)
-onto_first b [] = (b ∷ []) ∷ []
-onto_first b (line ∷ lines) = (b ∷ line) ∷ lines
+use Rattle.radio_texts.specs.Cuts.{onto_first}
 
 -- the lines of a script, without their line feeds; the last line may lack its line feed
 abbrev pub lines_of : List ℕ → List (List ℕ)

@@ -1,23 +1,22 @@
 //! What a script delivers, a line each.
 
 ghost use Rattle.std.specs.Prelude.{◌≡◌, IfOk};
-ghost use Rattle.radio_script.specs.Delivery.{delivery_of, end_of, in_of, label_of, open_of, room_of};
+ghost use Rattle.radio_script.specs.Delivery.{decimal_of, delivery_of, end_of, in_of, label_of, open_of, room_of};
 
 use crate::OutOfMemory;
-use crate::byte_string::ByteString;
 use crate::escapes::unescape;
-use crate::numbers::read_number;
-use crate::parts::cut_at;
+use bytes::Bytes;
 use radio_addr::{Peer, read_peer};
+use radio_texts::{cut, read_number};
 use std::alloc::Global;
 
 /// What happens to one connection. Connections are named by labels, from 1 on.
-#[derive(Debug, Drop)]
+#[derive(Drop)]
 pub enum Delivery {
     /// The connection arrives.
     Open { label: u32, peer: Peer },
     /// Bytes arrive on it.
-    In { label: u32, bytes: ByteString },
+    In { label: u32, bytes: Bytes },
     /// There is room for so many bytes of data on it.
     Room { label: u32, room: u32 },
     /// The peer has closed it.
@@ -30,7 +29,7 @@ pub enum Delivery {
 pub fn read_delivery(alloc: Global, line: &[u8]) -> Result<Option<Delivery>, OutOfMemory>
     ensures { IfOk result (λ delivery. delivery ≡ delivery_of line.now) }
 {
-    let Some((word, fields)) = cut_at(line, b' ') else {
+    let Some((word, fields)) = cut(line, b' ') else {
         return Ok(None);
     };
     if word == b"open".as_slice() {
@@ -52,7 +51,7 @@ pub fn read_delivery(alloc: Global, line: &[u8]) -> Result<Option<Delivery>, Out
 fn read_open(fields: &[u8]) -> Option<Delivery>
     ensures { result ≡ open_of fields.now }
 {
-    let (label, peer) = cut_at(fields, b' ')?;
+    let (label, peer) = cut(fields, b' ')?;
     let label = read_label(label)?;
     let peer = read_peer(peer)?;
     Some(Delivery::Open { label, peer })
@@ -62,7 +61,7 @@ fn read_open(fields: &[u8]) -> Option<Delivery>
 fn read_in(alloc: Global, fields: &[u8]) -> Result<Option<Delivery>, OutOfMemory>
     ensures { IfOk result (λ delivery. delivery ≡ in_of fields.now) }
 {
-    let Some((label, text)) = cut_at(fields, b' ') else {
+    let Some((label, text)) = cut(fields, b' ') else {
         return Ok(None);
     };
     let Some(label) = read_label(label) else {
@@ -78,9 +77,9 @@ fn read_in(alloc: Global, fields: &[u8]) -> Result<Option<Delivery>, OutOfMemory
 fn read_room(fields: &[u8]) -> Option<Delivery>
     ensures { result ≡ room_of fields.now }
 {
-    let (label, room) = cut_at(fields, b' ')?;
+    let (label, room) = cut(fields, b' ')?;
     let label = read_label(label)?;
-    let room = read_number(room)?;
+    let room = read_decimal(room)?;
     Some(Delivery::Room { label, room })
 }
 
@@ -96,6 +95,13 @@ fn read_end(fields: &[u8]) -> Option<Delivery>
 fn read_label(text: &[u8]) -> Option<u32>
     ensures { result ≡ label_of text.now }
 {
-    let label = read_number(text)?;
+    let label = read_decimal(text)?;
     if label == 0 { None } else { Some(label) }
+}
+
+// The number that a text writes in decimal, if it is one of 32 bits.
+fn read_decimal(text: &[u8]) -> Option<u32>
+    ensures { result ≡ decimal_of text.now }
+{
+    read_number(text, 10, u32::MAX)
 }

@@ -8,7 +8,7 @@ ghost use Rattle.std.specs.Io.{StartsWith};
 ghost use Rattle.radio_script.specs.Escapes.{escape_of, escaped, hex_value_of, step_at, unescaped};
 
 use crate::OutOfMemory;
-use crate::byte_string::ByteString;
+use bytes::Bytes;
 use std::alloc::Global;
 
 /// Where the reading of a text stands.
@@ -26,7 +26,7 @@ pub enum Place {
 
 /// The bytes that a text stands for; `None` where a backslash begins no escape, or where a byte
 /// that is neither a backslash nor of 0x20 to 0x7E stands in it.
-pub fn unescape(alloc: Global, text: &[u8]) -> Result<Option<ByteString>, OutOfMemory>
+pub fn unescape(alloc: Global, text: &[u8]) -> Result<Option<Bytes>, OutOfMemory>
     ensures { IfOk result (λ bytes. bytes ≡ unescaped text.now) }
 {
     let mut bytes = Vec::new(alloc);
@@ -38,7 +38,7 @@ pub fn unescape(alloc: Global, text: &[u8]) -> Result<Option<ByteString>, OutOfM
         }
     }
     match place {
-        Place::Between => Ok(Some(ByteString::from(bytes))),
+        Place::Between => Ok(Some(Bytes::from_vec(bytes)?)),
         _ => Ok(None),
     }
 }

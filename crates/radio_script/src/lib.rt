@@ -1,7 +1,7 @@
 //! Scripts, whoever performs them: from the lines that a script delivers to the lines of its
 //! transcript.
 //!
-//! - A line of a script: [`read_delivery`], made of `parts`, `numbers` and `escapes`.
+//! - A line of a script: [`read_delivery`], its bytes read by `escapes`.
 //! - A line of a transcript: [`push_answer`].
 //! - Devices: `reading`, `writing`, and `devices`, which count their calls and failures, as a
 //!   [`Tally`] does for any reader or writer.
@@ -10,26 +10,20 @@
 //! - Laws, which run no code: `laws`.
 #![tactic(auto)]
 
-mod byte_string;
 mod delivery;
 mod devices;
 mod escapes;
 mod faults;
 mod laws;
 mod limits;
-mod numbers;
-mod parts;
 mod performer;
 mod playing;
 mod reading;
 mod running;
 mod tally;
-#[cfg(test)]
-mod tests;
 mod transcript_lines;
 mod writing;
 
-pub use byte_string::ByteString;
 pub use delivery::{Delivery, read_delivery};
 pub use devices::{Counted, CountedRead, CountedWrite};
 pub use escapes::{push_escaped, unescape};

@@ -37,8 +37,8 @@ pub fn play_with<P: Performer, R: CountedRead, W: CountedWrite>(
     // What was written is what the script's lines come to, as far as the result says.
     ensures plays { IfKnown (R.remaining reader.old) (R.remaining reader.new) (λ script left.
         Writes (W.contents writer.old) (W.contents writer.new)
-        (W.calls writer.old) (W.calls writer.new) (λ written turns.
-        Plays P.performs performer.old 1 script left result written turns performer.new)) }
+        (W.calls writer.old) (W.calls writer.new) (λ written most_calls.
+        Plays P.performs performer.old 1 script left result written most_calls performer.new)) }
 
     // 1,000,000 lines of 65,536 bytes with their line feeds, a byte a call, and one call more.
     ensures reader_calls { R.calls reader.new ≤ R.calls reader.old + 65537000001 }
@@ -78,8 +78,8 @@ fn play_line<P: Performer, R: CountedRead, W: CountedWrite>(
     requires { number ≤ MAX_LINES }
     ensures plays { IfKnown (R.remaining reader.old) (R.remaining reader.new) (λ script left.
         Writes (W.contents writer.old) (W.contents writer.new)
-        (W.calls writer.old) (W.calls writer.new) (λ written turns.
-        PlaysLine P.performs performer.old number script left result written turns performer.new)) }
+        (W.calls writer.old) (W.calls writer.new) (λ written most_calls.
+        PlaysLine P.performs performer.old number script left result written most_calls performer.new)) }
     ensures reader_calls { R.calls reader.new ≤ R.calls reader.old + (MAX_LINE + 1) }
     ensures reader_failures { R.failures reader.new ≡ reader_failures result (R.failures reader.old) }
     ensures writer_failures { W.failures writer.new ≡ writer_failures result (W.failures writer.old) }
@@ -131,8 +131,8 @@ fn answer_line<P: Performer, W: CountedWrite>(
     requires known { number ≤ MAX_LINES }
     requires short { length line.now ≤ MAX_LINE }
     ensures answers { Writes (W.contents writer.old) (W.contents writer.new)
-        (W.calls writer.old) (W.calls writer.new) (λ written turns.
-        AnswersLine P.performs performer.old number line.now result written turns performer.new) }
+        (W.calls writer.old) (W.calls writer.new) (λ written most_calls.
+        AnswersLine P.performs performer.old number line.now result written most_calls performer.new) }
     ensures failures { W.failures writer.new ≡ writer_failures result (W.failures writer.old) }
     ensures flushed { result ≢ Err PlayFault.Write
         → W.is_flushed writer.old ≡ true → W.is_flushed writer.new ≡ true }

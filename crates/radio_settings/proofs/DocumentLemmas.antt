@@ -7,8 +7,10 @@ use Rattle.radio_settings.specs.declared.fault.SettingsFault.{SettingsFault}
 use Rattle.radio_settings.specs.declared.fault.SettingsFault.TheVariants.{NotToml}
 use Rattle.radio_settings.specs.Rows.{first_fault}
 use Rattle.radio_settings.specs.Access.{access_fault}
-use Rattle.radio_settings.specs.Document.{access_faults, listen_faults, limits_faults, mounts_faults, relays_faults, slave_faults, repeat_faults, document_faults, document_reading, settings_or_fault, settings_of, reading_of}
-use Rattle.radio_settings.specs.Parts.{apart_fault, basics_fault, fault_by_parts, limits_table_fault, listen_and_limits_fault, listen_table_fault, lists_fault, mounts_fault, optional_slave_fault, relays_fault, streams_fault}
+use Rattle.radio_settings.specs.Document.{access_faults, listen_faults, limits_faults, mounts_faults, relays_faults, slave_faults, repeat_faults}
+use Rattle.radio_settings.specs.Document.{document_faults, document_reading, settings_or_fault, settings_of, reading_of}
+use Rattle.radio_settings.specs.Parts.{apart_fault, basics_fault, fault_by_parts, limits_table_fault, listen_and_limits_fault, listen_table_fault, lists_fault}
+use Rattle.radio_settings.specs.Parts.{mounts_fault, optional_slave_fault, relays_fault, streams_fault}
 use Rattle.radio_settings.proofs.FaultLemmas.{first_fault-append, in_groups, in_one}
 
 abbrev Faults : Type 0
@@ -64,7 +66,8 @@ unfolding reading_of
 reads_settings text d p well =
     ap (λ found. option_map_or document_reading found (Err NotToml)) p ∙ ap (settings_or_fault d) (first_of_document d ∙ well)
 
-pub reads_fault : (text : List ℕ) (d : Members) (fault : SettingsFault) → parse_document text ≡ Some d → fault_by_parts d ≡ Some fault → reading_of text ≡ Err fault
+pub reads_fault : (text : List ℕ) (d : Members) (fault : SettingsFault) → parse_document text ≡ Some d → fault_by_parts d ≡ Some fault
+    → reading_of text ≡ Err fault
 unfolding reading_of
 reads_fault text d fault p found =
     ap (λ o. option_map_or document_reading o (Err NotToml)) p ∙ ap (settings_or_fault d) (first_of_document d ∙ found)

@@ -72,7 +72,8 @@ pub seen_at : {A : Type 0} (see : A → Members) (xs : List A) (i : ℕ) (x : A)
 seen_at see xs i x low is = ap see is ∙ sym (get_or-map see xs i x (see x) low)
 
 -- what one more table comes to
-pub come_to_more : {B : Type 0} (of : Members → B) (tables : List Members) (i : ℕ) (t : Members) (made : List B) (b : B) → i < length tables → t ≡ get_or tables i t
+pub come_to_more : {B : Type 0} (of : Members → B) (tables : List Members) (i : ℕ) (t : Members) (made : List B) (b : B) → i < length tables
+    → t ≡ get_or tables i t
     → b ≡ of t → made ≡ map of (take i tables) → made ++ b ∷ [] ≡ map of (take (i + 1) tables)
 come_to_more of tables i t made b low is same so_far =
     ap (λ m. m ++ b ∷ []) so_far

@@ -109,7 +109,8 @@ later passed names n name new h = record {
 cut_at_repeat : (passed names : List (List ℕ)) (name : List ℕ) → first_repeat_after passed names ≡ Some name → Cut passed names name
 cut_at_repeat passed [] name h = absurd (cc)
 cut_at_repeat passed (n ∷ names) name h =
-    elim (is_among passed n) as (λ b. is_among passed n ≡ b → cond b (Some n) (first_repeat_after (passed ++ n ∷ []) names) ≡ Some name → Cut passed (n ∷ names) name) [
+    elim (is_among passed n) as
+    (λ b. is_among passed n ≡ b → cond b (Some n) (first_repeat_after (passed ++ n ∷ []) names) ≡ Some name → Cut passed (n ∷ names) name) [
       | true ↦ λ old found. here passed names n name old (cc)
       | false ↦ λ new found. later passed names n name new (cut_at_repeat (passed ++ n ∷ []) names name found)
     ] refl h
@@ -136,9 +137,11 @@ unfolding first_repeat
 first_repeat_at_cut names name h = ap (first_repeat_after []) h.are_names ∙ repeat_at_cut [] h.before h.after name h.is_repeat h.none_before
 
 -- names apart from those that were passed and from one another
-apart_after : (passed before after : List (List ℕ)) (name : List ℕ) → first_repeat_after passed (before ++ name ∷ after) ≡ None → is_among (passed ++ before) name ≡ false
+apart_after : (passed before after : List (List ℕ)) (name : List ℕ) → first_repeat_after passed (before ++ name ∷ after) ≡ None
+    → is_among (passed ++ before) name ≡ false
 apart_after passed [] after name none =
-    elim (is_among passed name) as (λ b. is_among passed name ≡ b → cond b (Some name) (first_repeat_after (passed ++ name ∷ []) after) ≡ None → is_among (passed ++ []) name ≡ false) [
+    elim (is_among passed name) as
+    (λ b. is_among passed name ≡ b → cond b (Some name) (first_repeat_after (passed ++ name ∷ []) after) ≡ None → is_among (passed ++ []) name ≡ false) [
       | true ↦ λ is found. absurd (cc)
       | false ↦ λ is found. ap (λ ms. is_among ms name) (append-nil passed) ∙ is
     ] refl none
@@ -149,7 +152,8 @@ apart_after passed (n ∷ before) after name none =
       | false ↦ λ is found. ap (λ ms. is_among ms name) (sym (append_assoc passed (n ∷ []) before)) ∙ apart_after (passed ++ n ∷ []) before after name found
     ] refl none
 
-none_after : (passed names : List (List ℕ)) → ((before after : List (List ℕ)) (name : List ℕ) → names ≡ before ++ name ∷ after → is_among (passed ++ before) name ≡ false)
+none_after : (passed names : List (List ℕ))
+    → ((before after : List (List ℕ)) (name : List ℕ) → names ≡ before ++ name ∷ after → is_among (passed ++ before) name ≡ false)
     → first_repeat_after passed names ≡ None
 none_after passed [] apart = refl
 none_after passed (n ∷ names) apart =

@@ -12,5 +12,6 @@ use Rattle.radio_settings.specs.Relays.{relay_of}
 use Rattle.radio_settings.specs.Document.{document_faults, reading_of}
 
 unfoldable pub on_literals : ⊤
-unfolding toml_on_literals is_utf8 chars word value_at text_at text_or table_at table_or_empty list_at tables_at is_mount_name fault_at table_fault list_fault first_repeat mount_of relay_of document_faults reading_of
+unfolding toml_on_literals is_utf8 chars word value_at text_at text_or table_at table_or_empty list_at tables_at
+    is_mount_name fault_at table_fault list_fault first_repeat mount_of relay_of document_faults reading_of
 on_literals = tt

@@ -3,12 +3,14 @@ use Rattle.std.proofs.Common.{◌≡◌, List, [], ◌∷◌, ◌++◌, Option, 
 use Rattle.std.specs.Option.{option_or}
 use Rattle.toml.specs.Data.{Members}
 use Rattle.radio_settings.specs.declared.fault.SettingsFault.{SettingsFault}
-use Rattle.radio_settings.specs.declared.key.Key.TheVariants.{SourcePassword, AdminUser, AdminPassword, MountName, Server, Port, Mount, LocalMount, OnDemand, MasterServer, MasterPort, MasterUsername, MasterPassword, MasterUpdateInterval}
+use Rattle.radio_settings.specs.declared.key.Key.TheVariants.{SourcePassword, AdminUser, AdminPassword, MountName, Server, Port, Mount, LocalMount, OnDemand}
+use Rattle.radio_settings.specs.declared.key.Key.TheVariants.{MasterServer, MasterPort, MasterUsername, MasterPassword, MasterUpdateInterval}
 use Rattle.radio_settings.specs.Rows.{fault_at, faults_in, first_fault, mount_name, no_flag, number, optional, required, row, text}
 use Rattle.radio_settings.specs.Access.{access_fault, address_rows, addresses_fault, relay_access_fault, relay_access_rows}
 use Rattle.radio_settings.specs.Logins.{login_fault, login_rows}
 use Rattle.radio_settings.specs.Masters.{master_fault, master_rows}
-use Rattle.radio_settings.specs.Mounts.{listener_rows, listeners_fault, mount_fault, options_fault, source_fault, source_rows, stream_fault, stream_rows, user_rows, users_fault}
+use Rattle.radio_settings.specs.Mounts.{listener_rows, listeners_fault, mount_fault, options_fault, source_fault, source_rows, stream_fault, stream_rows}
+use Rattle.radio_settings.specs.Mounts.{user_rows, users_fault}
 use Rattle.radio_settings.specs.Relays.{pair_fault, pair_rows, relay_fault}
 use Rattle.radio_settings.specs.Slave.{slave_fault}
 use Rattle.radio_settings.proofs.FaultLemmas.{in_three, in_four, first_fault-append}
@@ -43,7 +45,8 @@ relay_parts t =
     let on_demand = fault_at (row OnDemand no_flag optional) t in
     let pair = faults_in pair_rows t in
     first_fault-append (faults_in (master_rows Server Port) t) (mount ∷ local_mount ∷ (pair ++ on_demand ∷ []))
-    ∙ ap (λ rest. option_or (first_fault (faults_in (master_rows Server Port) t)) (option_or mount (option_or local_mount rest))) (first_fault-append pair (on_demand ∷ []))
+    ∙ ap (λ rest. option_or (first_fault (faults_in (master_rows Server Port) t)) (option_or mount (option_or local_mount rest)))
+    (first_fault-append pair (on_demand ∷ []))
 
 pub slave_parts : (t : Members) → slave_fault t ≡ first_fault (
     master_fault MasterServer MasterPort t ∷ login_fault MasterUsername MasterPassword t

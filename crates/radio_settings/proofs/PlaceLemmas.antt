@@ -1,5 +1,6 @@
 -- The place of each name in a list, found by name.
-use Rattle.std.proofs.Common.{◌≡◌, Bool, true, false, cond, ℕ, ◌+◌, ◌<◌, List, [], ◌∷◌, ◌++◌, length, map, take, get_or, Option, None, Some, refl, ap, sym, ◌∙◌, arith, append_assoc, length-append, eqb, is_some, ◌||◌}
+use Rattle.std.proofs.Common.{◌≡◌, Bool, true, false, cond, ℕ, ◌+◌, ◌<◌, List, [], ◌∷◌, ◌++◌, length, map, take, get_or, Option, None, Some, refl, ap, sym, ◌∙◌}
+use Rattle.std.proofs.Common.{arith, append_assoc, length-append, eqb, is_some, ◌||◌}
 use Rattle.std.proofs.lemmas.List.{take_more, length-take-le}
 use Rattle.std.proofs.lemmas.Bool.{and_parts, eqb-true, false≢true}
 use Rattle.std.proofs.lemmas.Map.Text.{is_eq-slice_cmp}
@@ -12,12 +13,15 @@ use Rattle.radio_settings.specs.Repeats.{is_among}
 use Rattle.radio_settings.proofs.RepeatLemmas.{Names, order, ties}
 
 -- one name more
-position_more : {A : Type 0} (p : A → Bool) (i : ℕ) (xs : List A) (y : A) → position_from p i (xs ++ y ∷ []) ≡ option_or (position_from p i xs) (cond (p y) (Some (i + length xs)) None)
+position_more : {A : Type 0} (p : A → Bool) (i : ℕ) (xs : List A) (y : A)
+    → position_from p i (xs ++ y ∷ []) ≡ option_or (position_from p i xs) (cond (p y) (Some (i + length xs)) None)
 position_more p i [] y = ap (λ (n : ℕ). cond (p y) (Some n) None) (omega arith)
-position_more p i (x ∷ xs) y = elim (p x) as (λ b. cond b (Some i) (position_from p (i + 1) (xs ++ y ∷ [])) ≡ option_or (cond b (Some i) (position_from p (i + 1) xs)) (cond (p y) (Some (i + length (x ∷ xs))) None)) [
-  | true ↦ refl
-  | false ↦ position_more p (i + 1) xs y ∙ ap (λ (n : ℕ). option_or (position_from p (i + 1) xs) (cond (p y) (Some n) None)) (omega arith)
-]
+position_more p i (x ∷ xs) y =
+    elim (p x) as (λ b. cond b (Some i) (position_from p (i + 1) (xs ++ y ∷ []))
+    ≡ option_or (cond b (Some i) (position_from p (i + 1) xs)) (cond (p y) (Some (i + length (x ∷ xs))) None)) [
+      | true ↦ refl
+      | false ↦ position_more p (i + 1) xs y ∙ ap (λ (n : ℕ). option_or (position_from p (i + 1) xs) (cond (p y) (Some n) None)) (omega arith)
+    ]
 
 slice_get-behind : {A : Type 0} (front xs : List A) (x : A) → slice_get (front ++ x ∷ xs) (length front) ≡ Some x
 slice_get-behind [] xs x = refl
@@ -27,11 +31,13 @@ slice_get-behind (y ∷ front) xs x = slice_get-behind front xs x
 found_behind : {A B : Type 0} (f : A → B) (p : B → Bool) (front xs : List A) (i : ℕ) → i ≡ length front
     → option_and_then (λ k. slice_get (front ++ xs) k) (position_from p i (map f xs)) ≡ find (λ x. p (f x)) xs
 found_behind f p front [] i is = refl
-found_behind f p front (x ∷ xs) i is = elim (p (f x)) as (λ b. option_and_then (λ k. slice_get (front ++ x ∷ xs) k) (cond b (Some i) (position_from p (i + 1) (map f xs))) ≡ cond b (Some x) (find (λ y. p (f y)) xs)) [
-  | true ↦ ap (λ (k : ℕ). slice_get (front ++ x ∷ xs) k) is ∙ slice_get-behind front xs x
-  | false ↦ ap (λ ys. option_and_then (λ k. slice_get ys k) (position_from p (i + 1) (map f xs))) (sym (append_assoc front (x ∷ []) xs))
-      ∙ found_behind f p (front ++ x ∷ []) xs (i + 1) (omega (arith, length-append front (x ∷ [])))
-]
+found_behind f p front (x ∷ xs) i is = elim (p (f x)) as
+    (λ b. option_and_then (λ k. slice_get (front ++ x ∷ xs) k) (cond b (Some i) (position_from p (i + 1) (map f xs)))
+    ≡ cond b (Some x) (find (λ y. p (f y)) xs)) [
+      | true ↦ ap (λ (k : ℕ). slice_get (front ++ x ∷ xs) k) is ∙ slice_get-behind front xs x
+      | false ↦ ap (λ ys. option_and_then (λ k. slice_get ys k) (position_from p (i + 1) (map f xs))) (sym (append_assoc front (x ∷ []) xs))
+          ∙ found_behind f p (front ++ x ∷ []) xs (i + 1) (omega (arith, length-append front (x ∷ [])))
+    ]
 
 pub found_at_place : {A : Type 0} (f : A → List ℕ) (xs : List A) (q : List ℕ)
     → option_and_then (λ k. slice_get xs k) (place_of (map f xs) q) ≡ find (λ x. bytes_eq (f x) q) xs

@@ -1,5 +1,6 @@
 -- Names that stand twice in a list.
-use Rattle.std.proofs.Common.{◌≡◌, Bool, true, false, cond, ◌||◌, ℕ, ◌+◌, ◌<◌, List, [], ◌∷◌, ◌++◌, length, take, drop, get_or, Some, Ordering, refl, ap, sym, ◌∙◌, arith}
+use Rattle.std.proofs.Common.{◌≡◌, Bool, true, false, cond, ◌||◌, ℕ, ◌+◌, ◌<◌, List, [], ◌∷◌, ◌++◌, length, take, drop, get_or, Some, Ordering, refl, ap, sym}
+use Rattle.std.proofs.Common.{◌∙◌, arith}
 use Rattle.std.proofs.lemmas.Bool.Decides.{nat_tests}
 use Rattle.std.proofs.lemmas.List.{take_more, drop_more}
 use Rattle.std.proofs.lemmas.List.Folds.{list_any_more}
@@ -31,7 +32,8 @@ unfolding first_repeat
 none_passed names = refl
 
 -- a name that is not among those before it is passed
-pub passed_more : (names : Names) (i : ℕ) (name : List ℕ) → i < length names → name ≡ get_or names i name → is_among (take i names) name ≡ false → IsPassed names i → IsPassed names (i + 1)
+pub passed_more : (names : Names) (i : ℕ) (name : List ℕ) → i < length names → name ≡ get_or names i name → is_among (take i names) name ≡ false
+    → IsPassed names i → IsPassed names (i + 1)
 passed_more names i name low is new so_far =
     so_far
     ∙ ap (first_repeat_after (take i names)) (drop_more names i name low ∙ ap (λ n. n ∷ drop (i + 1) names) (sym is))
@@ -39,7 +41,8 @@ passed_more names i name low is new so_far =
     ∙ ap (λ passed. first_repeat_after passed (drop (i + 1) names)) (ap (λ n. take i names ++ n ∷ []) is ∙ sym (take_more names i name low))
 
 -- a name that is among those before it is the first such
-pub found_here : (names : Names) (i : ℕ) (name : List ℕ) → i < length names → name ≡ get_or names i name → is_among (take i names) name ≡ true → IsPassed names i → first_repeat names ≡ Some name
+pub found_here : (names : Names) (i : ℕ) (name : List ℕ) → i < length names → name ≡ get_or names i name → is_among (take i names) name ≡ true
+    → IsPassed names i → first_repeat names ≡ Some name
 found_here names i name low is old so_far =
     so_far
     ∙ ap (first_repeat_after (take i names)) (drop_more names i name low ∙ ap (λ n. n ∷ drop (i + 1) names) (sym is))

@@ -1,8 +1,8 @@
 -- Fields: texts that heads may show.
 use Rattle.std.specs.Prelude.{◌≡◌, ℕ, List}
 use Rattle.radio_icy.specs.Cleaning.{cleaned}
-use Rattle.radio_icy.specs.Limits.{longest_field}
+use Rattle.radio_icy.specs.Limits.{max_field}
 
 -- a text that cleaning leaves as it is
 abbrev pub IsClean : List ℕ → Type 0
-IsClean text = cleaned longest_field text ≡ text
+IsClean text = cleaned max_field text ≡ text

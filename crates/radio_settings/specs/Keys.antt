@@ -1,7 +1,12 @@
 -- The keys of the settings, and the words for them.
 use Rattle.std.specs.Prelude.{ℕ, List, codes}
 use Rattle.radio_settings.specs.declared.key.Key.{Key}
-use Rattle.radio_settings.specs.declared.key.Key.TheVariants.{SourcePassword, AdminUser, AdminPassword, RelayUser, RelayPassword, DenyIp, AllowIp, Listen, Address, Port, Workers, Limits, Clients, Sources, QueueSize, BurstSize, SourceTimeout, HeaderTimeout, Mount, MountName, Username, Password, MaxListeners, MaxListenerDuration, FallbackMount, FallbackOverride, FallbackWhenFull, Hidden, Mp3MetadataInterval, StreamName, Genre, Htpasswd, AllowDuplicateUsers, Relay, Server, LocalMount, OnDemand, Slave, MasterServer, MasterPort, MasterUsername, MasterPassword, MasterUpdateInterval}
+use Rattle.radio_settings.specs.declared.key.Key.TheVariants.{SourcePassword, AdminUser, AdminPassword, RelayUser, RelayPassword, DenyIp, AllowIp, Listen}
+use Rattle.radio_settings.specs.declared.key.Key.TheVariants.{Address, Port, Workers, Limits, Clients, Sources, QueueSize, BurstSize, SourceTimeout}
+use Rattle.radio_settings.specs.declared.key.Key.TheVariants.{HeaderTimeout, Mount, MountName, Username, Password, MaxListeners, MaxListenerDuration}
+use Rattle.radio_settings.specs.declared.key.Key.TheVariants.{FallbackMount, FallbackOverride, FallbackWhenFull, Hidden, Mp3MetadataInterval, StreamName, Genre}
+use Rattle.radio_settings.specs.declared.key.Key.TheVariants.{Htpasswd, AllowDuplicateUsers, Relay, Server, LocalMount, OnDemand, Slave, MasterServer}
+use Rattle.radio_settings.specs.declared.key.Key.TheVariants.{MasterPort, MasterUsername, MasterPassword, MasterUpdateInterval}
 
 -- the word for a key in the settings
 unfoldable pub word : Key → List ℕ

@@ -3,7 +3,7 @@ use Rattle.std.specs.Prelude.{ℕ, ℤ, pos, negsuc, Bool, List, [], ◌∷◌, 
 use Rattle.std.specs.Option.{option_map, option_and_then}
 use Rattle.toml.specs.Data.{Data, Items, no_items, item, Members, no_members, get_member, as_str, as_integer, as_bool, as_array, as_table}
 use Rattle.radio_icy.specs.Cleaning.{cleaned}
-use Rattle.radio_icy.specs.Limits.{longest_field}
+use Rattle.radio_icy.specs.Limits.{max_field}
 use Rattle.radio_settings.specs.declared.key.Key.{Key}
 use Rattle.radio_settings.specs.Keys.{word}
 
@@ -20,10 +20,10 @@ text_or key table default = unwrap_or (text_at key table) default
 
 -- the text at a key, as heads show it
 unfoldable pub field_at : Key → Members → Option (List ℕ)
-field_at key table = option_map (cleaned longest_field) (text_at key table)
+field_at key table = option_map (cleaned max_field) (text_at key table)
 
 unfoldable pub field_or_empty : Key → Members → List ℕ
-field_or_empty key table = cleaned longest_field (text_or key table [])
+field_or_empty key table = cleaned max_field (text_or key table [])
 
 -- an integer as a natural number
 abbrev pub natural : ℤ → Option ℕ

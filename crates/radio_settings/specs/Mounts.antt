@@ -2,7 +2,9 @@
 use Rattle.std.specs.Prelude.{Option, false, true, List, [], ◌∷◌, ◌++◌, codes, map}
 use Rattle.toml.specs.Data.{Members}
 use Rattle.radio_settings.specs.declared.fault.SettingsFault.{SettingsFault}
-use Rattle.radio_settings.specs.declared.key.Key.TheVariants.{Mount, MountName, Username, Password, MaxListeners, MaxListenerDuration, FallbackMount, FallbackOverride, FallbackWhenFull, Hidden, BurstSize, Mp3MetadataInterval, StreamName, Genre, Htpasswd, AllowDuplicateUsers}
+use Rattle.radio_settings.specs.declared.key.Key.TheVariants.{Mount, MountName, Username, Password, MaxListeners, MaxListenerDuration, FallbackMount}
+use Rattle.radio_settings.specs.declared.key.Key.TheVariants.{FallbackOverride, FallbackWhenFull, Hidden, BurstSize, Mp3MetadataInterval, StreamName, Genre}
+use Rattle.radio_settings.specs.declared.key.Key.TheVariants.{Htpasswd, AllowDuplicateUsers}
 use Rattle.radio_settings.specs.declared.settings.AccessSettings.{AccessSettings}
 use Rattle.radio_settings.specs.declared.settings.LimitSettings.{LimitSettings}
 use Rattle.radio_settings.specs.declared.settings.ListenerOptions.{ListenerOptions}

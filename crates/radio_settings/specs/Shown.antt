@@ -1,10 +1,10 @@
 -- What the heads of a stream's listeners show of it.
 use Rattle.std.specs.Prelude.{ℕ, List}
 use Rattle.radio_icy.specs.Cleaning.{cleaned}
-use Rattle.radio_icy.specs.Limits.{longest_field}
+use Rattle.radio_icy.specs.Limits.{max_field}
 use Rattle.radio_settings.specs.declared.field.Shown.{Shown}
 
 -- a type, a name and a genre, each cleaned
 abbrev pub shown_of : List ℕ → List ℕ → List ℕ → Shown
 shown_of content_type name genre =
-    record { content_type = cleaned longest_field content_type; name = cleaned longest_field name; genre = cleaned longest_field genre }
+    record { content_type = cleaned max_field content_type; name = cleaned max_field name; genre = cleaned max_field genre }

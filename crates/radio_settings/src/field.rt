@@ -1,7 +1,7 @@
 //! What heads show: cleaned texts.
 ghost use Rattle.std.specs.Prelude.{◌≡◌, IfOk};
 ghost use Rattle.radio_icy.specs.Cleaning.{cleaned};
-ghost use Rattle.radio_icy.specs.Limits.{longest_field};
+ghost use Rattle.radio_icy.specs.Limits.{max_field};
 ghost use Rattle.radio_settings.specs.Field.{IsClean};
 
 use crate::OutOfMemory;
@@ -36,7 +36,7 @@ impl Field {
     /// that may not be shown, and cut to the longest front of at most 255 bytes that ends between two characters.
     /// An `Err` means that memory ran out.
     pub fn clean(alloc: Global, bytes: &[u8]) -> Result<Field, OutOfMemory>
-        ensures { IfOk result (λ field. field ≡ cleaned longest_field bytes.now) }
+        ensures { IfOk result (λ field. field ≡ cleaned max_field bytes.now) }
     {
         radio_icy::laws::clean_texts();
         Ok(Field {

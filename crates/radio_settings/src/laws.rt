@@ -34,5 +34,7 @@ pub fn worked_texts()
     ensures no_table { reading_of (codes "source-password = \"a\"\nadmin-password = \"b\"\nlisten = 2") ≡ Err (WrongKind Listen) }
     ensures no_list { reading_of (codes "source-password = \"a\"\nadmin-password = \"b\"\nmount = [1]") ≡ Err (WrongKind Mount) }
     ensures bad_name { reading_of (codes "source-password = \"a\"\nadmin-password = \"b\"\n[[mount]]\nmount-name = \"a\"") ≡ Err (BadName MountName) }
-    ensures twice { reading_of (codes "source-password = \"a\"\nadmin-password = \"b\"\n[[mount]]\nmount-name = \"/a\"\n[[mount]]\nmount-name = \"/a\"") ≡ Err (MountTwice (codes "/a")) }
+    ensures twice { reading_of
+        (codes "source-password = \"a\"\nadmin-password = \"b\"\n[[mount]]\nmount-name = \"/a\"\n[[mount]]\nmount-name = \"/a\"")
+        ≡ Err (MountTwice (codes "/a")) }
 {}

@@ -19,15 +19,13 @@ mod options;
 mod places;
 mod reading;
 mod settings;
-#[cfg(test)]
-mod tests;
 mod text;
 mod within;
 
 pub use fault::SettingsFault;
 pub use field::{Field, Shown};
 pub use key::Key;
-pub use mount_name::{LONGEST_MOUNT_NAME, MountName};
+pub use mount_name::{MAX_MOUNT_NAME, MountName};
 pub use mounts::{MountSettings, RelaySettings};
 pub use settings::{
     AccessSettings, AddressLists, Bytes, LimitSettings, ListenSettings, ListenerOptions, Login,

@@ -14,7 +14,7 @@ use std::fmt;
 use std::marker::Model;
 
 /// The largest number of bytes in the name of a mount.
-pub const LONGEST_MOUNT_NAME: usize = 255;
+pub const MAX_MOUNT_NAME: usize = 255;
 
 /// The name of a mount: UTF-8 of 1 to 255 bytes that begins with `/`, with no byte below 32 and no 127. What lies under
 /// `/admin/`, and `/status.json`, are the server's own paths and name no mount.
@@ -24,7 +24,7 @@ pub const LONGEST_MOUNT_NAME: usize = 255;
 #[derive(Clone, Copy)]
 pub struct MountName {
     len: u8,
-    bytes: [u8; LONGEST_MOUNT_NAME],
+    bytes: [u8; MAX_MOUNT_NAME],
 }
 
 impl Model for MountName {
@@ -54,7 +54,7 @@ impl MountName {
         // There is one exactly where the bytes name a mount, and it has these bytes.
         ensures { MatchOption result (is_mount_name bytes.now ≡ false) (λ name. (is_mount_name bytes.now ≡ true) × (name ≡ bytes.now)) }
     {
-        if bytes.len() > LONGEST_MOUNT_NAME || !is_valid(bytes) {
+        if bytes.len() > MAX_MOUNT_NAME || !is_valid(bytes) {
             return None;
         }
         Some(MountName {
@@ -136,11 +136,11 @@ impl fmt::Display for MountName {
 
 /// The bytes, and zeros behind them.
 #[tactic(auto, using(crate::proofs::NameLemmas::padded_more, crate::proofs::NameLemmas::padded_all))]
-fn padded(bytes: &[u8]) -> [u8; LONGEST_MOUNT_NAME]
+fn padded(bytes: &[u8]) -> [u8; MAX_MOUNT_NAME]
     requires { length bytes.now ≤ 255 }
     ensures { result ≡ bytes.now ++ replicate (255 - length bytes.now) 0 }
 {
-    let mut all = [0; LONGEST_MOUNT_NAME];
+    let mut all = [0; MAX_MOUNT_NAME];
     for (i, byte) in bytes.iter().enumerate() {
         all[i] = *byte;
     }

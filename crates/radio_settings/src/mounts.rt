@@ -83,7 +83,9 @@ impl Model for RelaySettings {
 
     ghost view = { λ a. a.list.items };
 
-    ghost invariant = { λ a. (first_repeat (map (λ relay. relay.local_mount) a.list.items) ≡ None) × HasPlaces a.places (map (λ relay. relay.local_mount) a.list.items) };
+    ghost invariant = { λ a.
+        (first_repeat (map (λ relay. relay.local_mount) a.list.items) ≡ None)
+        × HasPlaces a.places (map (λ relay. relay.local_mount) a.list.items) };
 }
 
 impl RelaySettings {

@@ -1,12 +1,14 @@
 -- A chunk line read from the left is the chunk line of `httparse`.
-use Rattle.std.proofs.Common.{◌≡◌, ℕ, zero, suc, ◌+◌, ◌*◌, ◌<◌, ◌≤◌, Bool, true, false, eqb, nat_lt, ◌&&◌, if◌then◌else◌, codes, subst, List, [], ◌∷◌, ◌++◌, length, ap, sym, ◌∙◌, refl, arith, append_assoc, append-nil, Option, Some, None}
+use Rattle.std.proofs.Common.{◌≡◌, ℕ, zero, suc, ◌+◌, ◌*◌, ◌<◌, ◌≤◌, Bool, true, false, eqb, nat_lt, ◌&&◌, if◌then◌else◌, codes, subst, List, [], ◌∷◌, ◌++◌}
+use Rattle.std.proofs.Common.{length, ap, sym, ◌∙◌, refl, arith, append_assoc, append-nil, Option, Some, None}
 use Rattle.std.specs.Char.{is_ascii_hexdigit, digit_value}
 use Rattle.std.specs.Str.Parse.{digits_value_after}
 use Rattle.std.proofs.lemmas.List.Elements.{All-head, All-tail, All-cons}
 use Rattle.std.proofs.lemmas.Bool.{lt-ltb, ne_eqb, false≢true}
 use Rattle.std.proofs.lemmas.Bool.Decides.{nat_tests}
 use Rattle.httparse.specs.Ascii.{carriage_return, line_feed, semicolon, crlf_bytes}
-use Rattle.httparse.specs.Grammar.{is_ows, is_extension_byte, AllPass, IsExtension, print_extension, ChunkLine, print_chunk_line, chunk_size, ReadsChunkLine, HasNoChunkLine, NeverHasChunkLine, MayBecomeChunkLine}
+use Rattle.httparse.specs.Grammar.{is_ows, is_extension_byte, AllPass, IsExtension, print_extension, ChunkLine, print_chunk_line, chunk_size, ReadsChunkLine}
+use Rattle.httparse.specs.Grammar.{HasNoChunkLine, NeverHasChunkLine, MayBecomeChunkLine}
 use Rattle.radio_source.specs.declared.chunk_line.LineReading.{LineReading}
 use Rattle.radio_source.specs.declared.chunk_line.LineReading.TheVariants.{Unfinished, Whole, Refused}
 use Rattle.radio_source.specs.ChunkLine.{end_in, extension_in, padding_in, digits_in, chunk_line_in}
@@ -22,7 +24,8 @@ read_tail : (size : ℕ) (e : Option (List ℕ)) (rest : List ℕ) → IsExtensi
 read_tail size None rest valid = refl
 read_tail size (Some text) rest valid = read_extension size text rest valid
 
-read_padding : (size : ℕ) (pad : List ℕ) (e : Option (List ℕ)) (rest : List ℕ) → AllPass is_ows pad → IsExtension e → padding_in size (pad ++ (print_extension e ++ (crlf_bytes ++ rest))) ≡ Whole size
+read_padding : (size : ℕ) (pad : List ℕ) (e : Option (List ℕ)) (rest : List ℕ) → AllPass is_ows pad → IsExtension e
+    → padding_in size (pad ++ (print_extension e ++ (crlf_bytes ++ rest))) ≡ Whole size
 read_padding size [] e rest all valid = read_tail size e rest valid
 read_padding size (b ∷ pad) e rest all valid =
     rw (All-head (λ v. is_ows v ≡ true) b pad all) (read_padding size pad e rest (All-tail (λ v. is_ows v ≡ true) b pad all) valid)
@@ -34,7 +37,8 @@ ows_is_no_digit b ows = grind (arith, nat_tests)
 after_digits : (count size b : ℕ) (rest : List ℕ) → 0 < count → is_ascii_hexdigit b ≡ false → digits_in count size (b ∷ rest) ≡ padding_in size (b ∷ rest)
 after_digits count size b rest some none = rw (none, ne_eqb count 0 (λ e. omega arith)) refl
 
-read_after_digits : (count size : ℕ) (pad : List ℕ) (e : Option (List ℕ)) (rest : List ℕ) → 0 < count → AllPass is_ows pad → IsExtension e → digits_in count size (pad ++ (print_extension e ++ (crlf_bytes ++ rest))) ≡ Whole size
+read_after_digits : (count size : ℕ) (pad : List ℕ) (e : Option (List ℕ)) (rest : List ℕ) → 0 < count → AllPass is_ows pad → IsExtension e
+    → digits_in count size (pad ++ (print_extension e ++ (crlf_bytes ++ rest))) ≡ Whole size
 read_after_digits count size [] None rest some all valid = after_digits count size 13 (10 ∷ rest) some refl
 read_after_digits count size [] (Some text) rest some all valid =
     after_digits count size 59 (text ++ (crlf_bytes ++ rest)) some refl ∙ read_extension size text rest valid
@@ -42,13 +46,17 @@ read_after_digits count size (b ∷ pad) e rest some all valid =
     let ows = All-head (λ v. is_ows v ≡ true) b pad all in
     after_digits count size b (pad ++ (print_extension e ++ (crlf_bytes ++ rest))) some (ows_is_no_digit b ows) ∙ read_padding size (b ∷ pad) e rest all valid
 
-read_digits : (count size : ℕ) (digits pad : List ℕ) (e : Option (List ℕ)) (rest : List ℕ) → AllPass is_ascii_hexdigit digits → length digits + count ≤ 16 → 0 < length digits + count → AllPass is_ows pad → IsExtension e → digits_in count size (digits ++ (pad ++ (print_extension e ++ (crlf_bytes ++ rest)))) ≡ Whole (digits_value_after 16 size digits)
+read_digits : (count size : ℕ) (digits pad : List ℕ) (e : Option (List ℕ)) (rest : List ℕ) → AllPass is_ascii_hexdigit digits → length digits + count ≤ 16
+    → 0 < length digits + count → AllPass is_ows pad → IsExtension e
+    → digits_in count size (digits ++ (pad ++ (print_extension e ++ (crlf_bytes ++ rest)))) ≡ Whole (digits_value_after 16 size digits)
 read_digits count size [] pad e rest all few some ows valid = read_after_digits count size pad e rest (omega (arith, some)) ows valid
 read_digits count size (b ∷ digits) pad e rest all few some ows valid =
     rw (All-head (λ v. is_ascii_hexdigit v ≡ true) b digits all, lt-ltb count 16 (omega arith))
-    (read_digits (count + 1) (size * 16 + digit_value b) digits pad e rest (All-tail (λ v. is_ascii_hexdigit v ≡ true) b digits all) (omega arith) (omega arith) ows valid)
+    (read_digits (count + 1) (size * 16 + digit_value b) digits pad e rest (All-tail (λ v. is_ascii_hexdigit v ≡ true) b digits all) (omega arith)
+        (omega arith) ows valid)
 
-pub print_chunk_line-append : (l : ChunkLine) (rest : List ℕ) → print_chunk_line l ++ rest ≡ l.digits ++ (l.pad ++ (print_extension l.extension ++ (crlf_bytes ++ rest)))
+pub print_chunk_line-append : (l : ChunkLine) (rest : List ℕ)
+    → print_chunk_line l ++ rest ≡ l.digits ++ (l.pad ++ (print_extension l.extension ++ (crlf_bytes ++ rest)))
 unfolding print_chunk_line
 print_chunk_line-append l rest = simp append_assoc
 
@@ -72,7 +80,8 @@ Shows P Unfinished = (size : ℕ) × (more : List ℕ) × P size more []
 Shows P (Whole size) = (rest : List ℕ) × P size [] rest
 Shows P Refused = Unit {0}
 
-Shows-map : (P Q : ℕ → List ℕ → List ℕ → Type 0) → ((size : ℕ) (more rest : List ℕ) → P size more rest → Q size more rest) → (r : LineReading) → Shows P r → Shows Q r
+Shows-map : (P Q : ℕ → List ℕ → List ℕ → Type 0) → ((size : ℕ) (more rest : List ℕ) → P size more rest → Q size more rest) → (r : LineReading) → Shows P r
+    → Shows Q r
 Shows-map P Q step Unfinished h = (h.0, h.1, step h.0 h.1 [] h.2)
 Shows-map P Q step (Whole size) h = (h.0, step size [] h.0 h.1)
 Shows-map P Q step Refused h = tt
@@ -324,7 +333,8 @@ refused_digits count size (b ∷ bytes) more h =
     (if nat_lt count 16 then digits_in (count + 1) (size * 16 + digit_value b) bytes else Refused)
     (if eqb count 0 then Refused else padding_in size (b ∷ bytes))
     (λ (t : is_ascii_hexdigit b ≡ true).
-    by_test (nat_lt count 16) (λ r. r ≡ Refused → digits_in count size (b ∷ (bytes ++ more)) ≡ Refused) (digits_in (count + 1) (size * 16 + digit_value b) bytes) Refused
+    by_test (nat_lt count 16) (λ r. r ≡ Refused → digits_in count size (b ∷ (bytes ++ more)) ≡ Refused)
+        (digits_in (count + 1) (size * 16 + digit_value b) bytes) Refused
     (λ (s : nat_lt count 16 ≡ true) (e : digits_in (count + 1) (size * 16 + digit_value b) bytes ≡ Refused).
     rw (t, s) (refused_digits (count + 1) (size * 16 + digit_value b) bytes more e))
     (λ (s : nat_lt count 16 ≡ false) _. rw (t, s) refl))
@@ -339,7 +349,8 @@ refused_stays bytes more h = refused_digits 0 0 bytes more h
 
 -- ---- the three readings, as `httparse` says them
 
-pub whole_is_line : (bytes : List ℕ) (size : ℕ) → chunk_line_in bytes ≡ Whole size → (l : ChunkLine) × (rest : List ℕ) × ReadsChunkLine bytes l rest × (chunk_size l ≡ size)
+pub whole_is_line : (bytes : List ℕ) (size : ℕ) → chunk_line_in bytes ≡ Whole size → (l : ChunkLine) × (rest : List ℕ) × ReadsChunkLine bytes l rest
+    × (chunk_size l ≡ size)
 whole_is_line bytes size h =
     let x : Shows (HasLine bytes) (Whole size) = subst (Shows (HasLine bytes)) h (shows_line bytes) in
     (x.1.0, x.0, subst (λ (b : List ℕ). ReadsChunkLine b x.1.0 x.0) (append-nil bytes) x.1.1, x.1.2)
@@ -354,7 +365,8 @@ pub unfinished_may : (bytes : List ℕ) → chunk_line_in bytes ≡ Unfinished �
 unfinished_may bytes h = let x : Shows (HasLine bytes) Unfinished = subst (Shows (HasLine bytes)) h (shows_line bytes) in (x.1, x.2.0, x.2.1)
 
 -- at most three bytes complete it
-pub unfinished_is_near : (bytes : List ℕ) → chunk_line_in bytes ≡ Unfinished → (more : List ℕ) × (l : ChunkLine) × ReadsChunkLine (bytes ++ more) l [] × (length more ≤ 3)
+pub unfinished_is_near : (bytes : List ℕ) → chunk_line_in bytes ≡ Unfinished → (more : List ℕ) × (l : ChunkLine) × ReadsChunkLine (bytes ++ more) l []
+    × (length more ≤ 3)
 unfinished_is_near bytes h = let x : Shows (HasLine bytes) Unfinished = subst (Shows (HasLine bytes)) h (shows_line bytes) in (x.1, x.2.0, x.2.1, x.2.3)
 
 pub refused_never : (bytes : List ℕ) → chunk_line_in bytes ≡ Refused → NeverHasChunkLine bytes

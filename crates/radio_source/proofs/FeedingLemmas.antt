@@ -8,7 +8,9 @@ use Rattle.radio_source.specs.Place.{Place, after, data_of, has_ended, fault_at}
 use Rattle.radio_blocks.specs.Cutting.{blocks_of}
 use Rattle.radio_source.specs.Feeding.{Feeding, Answer, Refuses, answer_with, answer_to}
 
-pub answer_to-found : (body : Feeding) (piece : List ℕ) (blocks : List (List ℕ)) (found : List ℕ) (ends : Bool) (place : Place) (fault : Option BodyFault) → body.has_failed ≡ false → place ≡ after body.place piece → found ≡ data_of body.place piece → blocks ≡ blocks_of found → ends ≡ (has_ended place && not body.is_end_told) → fault ≡ fault_at place → answer_to body piece ≡ answer_with blocks ends fault
+pub answer_to-found : (body : Feeding) (piece : List ℕ) (blocks : List (List ℕ)) (found : List ℕ) (ends : Bool) (place : Place) (fault : Option BodyFault)
+    → body.has_failed ≡ false → place ≡ after body.place piece → found ≡ data_of body.place piece → blocks ≡ blocks_of found
+    → ends ≡ (has_ended place && not body.is_end_told) → fault ≡ fault_at place → answer_to body piece ≡ answer_with blocks ends fault
 unfolding answer_to
 answer_to-found body piece blocks found ends place fault sound at brought cut told stands = rw (sound, stands, told, cut, brought, at) refl
 

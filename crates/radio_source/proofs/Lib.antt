@@ -1,7 +1,7 @@
 pub mod PlaceLemmas
 pub mod ChunkLineLemmas
 pub mod FeedingLemmas
-pub mod ToldLemmas
+pub mod OutputLemmas
 pub mod ChunkedLemmas
 pub mod WholeLemmas
 pub mod OpenLemmas

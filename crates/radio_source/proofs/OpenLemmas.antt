@@ -1,5 +1,6 @@
 -- Bytes of a chunked body that are not refused begin one of the grammar.
-use Rattle.std.proofs.Common.{◌≡◌, ℕ, zero, suc, ◌+◌, ◌-◌, ◌<◌, ◌≤◌, Bool, true, false, eqb, nat_lt, if◌then◌else◌, codes, List, [], ◌∷◌, ◌++◌, length, ap, sym, subst, ◌∙◌, refl, arith, ⊎_elim, append-nil, length-append, Some, None}
+use Rattle.std.proofs.Common.{◌≡◌, ℕ, zero, suc, ◌+◌, ◌-◌, ◌<◌, ◌≤◌, Bool, true, false, eqb, nat_lt, if◌then◌else◌, codes, List, [], ◌∷◌, ◌++◌, length, ap, sym}
+use Rattle.std.proofs.Common.{subst, ◌∙◌, refl, arith, ⊎_elim, append-nil, length-append, Some, None}
 use Rattle.std.proofs.lemmas.Bool.{cases_Bool, cases_lt, eqb-true, ltb-true}
 use Rattle.httparse.specs.Ascii.{crlf_bytes, line_feed, carriage_return}
 use Rattle.httparse.specs.Grammar.{ChunkLine, print_chunk_line, chunk_size, ReadsChunkLine}
@@ -7,7 +8,8 @@ use Rattle.radio_source.specs.declared.fault.BodyFault.{BodyFault}
 use Rattle.radio_source.specs.declared.chunk_line.LineReading.{LineReading}
 use Rattle.radio_source.specs.declared.chunk_line.LineReading.TheVariants.{Unfinished, Whole, Refused}
 use Rattle.radio_source.specs.ChunkLine.{chunk_line_in}
-use Rattle.radio_source.specs.Place.{Place, InPlain, InSized, InLine, InChunk, AfterReturn, AtTrailer, AfterTrailerReturn, InTrailer, AtEnd, PastTheEnd, Broken, after_byte, after_line, after_size, in_trailer, after, fault_at}
+use Rattle.radio_source.specs.Place.{Place, InPlain, InSized, InLine, InChunk, AfterReturn, AtTrailer, AfterTrailerReturn, InTrailer, AtEnd, PastTheEnd, Broken}
+use Rattle.radio_source.specs.Place.{after_byte, after_line, after_size, in_trailer, after, fault_at}
 use Rattle.radio_source.specs.Chunked.{ChunkedBody, IsBody, print_body, HasRoomForItsLine}
 use Rattle.radio_source.proofs.ChunkLineLemmas.{unfinished_is_near, reads_whole, unlike}
 use Rattle.radio_source.proofs.PlaceLemmas.{after-append, after_line_unfinished, after_line_too_long, after_line_refused, after_line_whole}
@@ -82,7 +84,8 @@ size_can size =
     (λ (t : eqb size 0 ≡ false). subst CanEnd (sym (chunk_place size t)) (chunk_can size))
     (cases_Bool (eqb size 0))
 
-held_with : (held more : List ℕ) (l : ChunkLine) → chunk_line_in held ≡ Unfinished → length held + 3 ≤ 256 → ReadsChunkLine (held ++ more) l [] → length more ≤ 3 → CanEnd (InLine held)
+held_with : (held more : List ℕ) (l : ChunkLine) → chunk_line_in held ≡ Unfinished → length held + 3 ≤ 256 → ReadsChunkLine (held ++ more) l []
+    → length more ≤ 3 → CanEnd (InLine held)
 held_with held [] l h room x near =
     let whole : ReadsChunkLine held l [] = subst (λ (t : List ℕ). ReadsChunkLine t l []) (append-nil held) x in
     absurd (unlike (sym h ∙ reads_whole held l [] whole))
@@ -110,7 +113,8 @@ can_end Broken way sound room = absurd (some_fault sound)
 can_end InPlain way sound room = absurd way
 can_end (InSized left) way sound room = absurd way
 
-pub begins_a_body : (bytes : List ℕ) → fault_at (after (InLine []) bytes) ≡ None → HasRoomForItsLine (after (InLine []) bytes) → (more : List ℕ) × (b : ChunkedBody) × IsBody b × (bytes ++ more ≡ print_body b)
+pub begins_a_body : (bytes : List ℕ) → fault_at (after (InLine []) bytes) ≡ None → HasRoomForItsLine (after (InLine []) bytes) → (more : List ℕ)
+    × (b : ChunkedBody) × IsBody b × (bytes ++ more ≡ print_body b)
 begins_a_body bytes sound room =
     let way = stays_on (InLine []) bytes (reads_nothing, omega arith) in
     let x = can_end (after (InLine []) bytes) way sound room in

@@ -3,7 +3,8 @@ use Rattle.std.proofs.Common.{◌≡◌, ◌≢◌, ℕ, zero, suc, ◌+◌, ◌
 use Rattle.std.proofs.lemmas.Bool.{lt-ltb, le-ltb, ne_eqb}
 use Rattle.radio_source.specs.declared.chunk_line.LineReading.TheVariants.{Unfinished, Whole, Refused}
 use Rattle.radio_source.specs.ChunkLine.{chunk_line_in}
-use Rattle.radio_source.specs.Place.{after_line, after_size, Place, InPlain, InSized, InLine, InChunk, AfterReturn, AtTrailer, AfterTrailerReturn, InTrailer, AtEnd, PastTheEnd, Broken, after_byte, brought_by, after, data_of}
+use Rattle.radio_source.specs.Place.{after_line, after_size, Place, InPlain, InSized, InLine, InChunk, AfterReturn, AtTrailer, AfterTrailerReturn, InTrailer}
+use Rattle.radio_source.specs.Place.{AtEnd, PastTheEnd, Broken, after_byte, brought_by, after, data_of}
 use Rattle.radio_source.specs.Position.{data_ahead, past_data}
 
 pub after-append : (place : Place) (first second : List ℕ) → after place (first ++ second) ≡ after (after place first) second
@@ -96,11 +97,13 @@ ahead_of_itself AtEnd n m e = omega arith
 ahead_of_itself PastTheEnd n m e = omega arith
 ahead_of_itself Broken n m e = omega arith
 
-pub after_run : (place : Place) (run rest : List ℕ) (m : ℕ) → length run ≡ data_ahead place m → after (past_data place (length run)) rest ≡ after place (run ++ rest)
+pub after_run : (place : Place) (run rest : List ℕ) (m : ℕ) → length run ≡ data_ahead place m
+    → after (past_data place (length run)) rest ≡ after place (run ++ rest)
 after_run place run rest m e =
     ap (λ p. after p rest) (sym (run_after place run (ahead_of_itself place (length run) m e))) ∙ sym (after-append place run rest)
 
-pub data_of_run : (place : Place) (run rest : List ℕ) (m : ℕ) → length run ≡ data_ahead place m → run ++ data_of (past_data place (length run)) rest ≡ data_of place (run ++ rest)
+pub data_of_run : (place : Place) (run rest : List ℕ) (m : ℕ) → length run ≡ data_ahead place m
+    → run ++ data_of (past_data place (length run)) rest ≡ data_of place (run ++ rest)
 data_of_run place run rest m e =
     let ahead = ahead_of_itself place (length run) m e in
     ap (λ p. run ++ data_of p rest) (sym (run_after place run ahead))

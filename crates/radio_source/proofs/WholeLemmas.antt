@@ -1,5 +1,6 @@
 -- Bytes that lead to the end of a chunked body are one of the grammar.
-use Rattle.std.proofs.Common.{◌≡◌, ◌≢◌, ℕ, zero, suc, ◌+◌, ◌-◌, ◌<◌, ◌≤◌, Bool, true, false, eqb, nat_lt, if◌then◌else◌, List, [], ◌∷◌, ◌++◌, length, ap, sym, subst, ◌∙◌, refl, arith, ⊎_elim, append_assoc, append-nil, length-append}
+use Rattle.std.proofs.Common.{◌≡◌, ◌≢◌, ℕ, zero, suc, ◌+◌, ◌-◌, ◌<◌, ◌≤◌, Bool, true, false, eqb, nat_lt, if◌then◌else◌, List, [], ◌∷◌, ◌++◌, length, ap, sym}
+use Rattle.std.proofs.Common.{subst, ◌∙◌, refl, arith, ⊎_elim, append_assoc, append-nil, length-append}
 use Rattle.std.specs.Prelude.{All}
 use Rattle.std.proofs.lemmas.Bool.{cases_Bool, cases_lt, false≢true, eqb-true, eq-eqb, ltb-true}
 use Rattle.std.proofs.lemmas.List.Elements.{All-cons}
@@ -8,7 +9,8 @@ use Rattle.httparse.specs.Grammar.{ChunkLine, print_chunk_line, chunk_size, Read
 use Rattle.radio_source.specs.declared.chunk_line.LineReading.{LineReading}
 use Rattle.radio_source.specs.declared.chunk_line.LineReading.TheVariants.{Unfinished, Whole, Refused}
 use Rattle.radio_source.specs.ChunkLine.{chunk_line_in}
-use Rattle.radio_source.specs.Place.{Place, InPlain, InSized, InLine, InChunk, AfterReturn, AtTrailer, AfterTrailerReturn, InTrailer, AtEnd, PastTheEnd, Broken, after_line, in_trailer, after, has_ended}
+use Rattle.radio_source.specs.Place.{Place, InPlain, InSized, InLine, InChunk, AfterReturn, AtTrailer, AfterTrailerReturn, InTrailer, AtEnd, PastTheEnd, Broken}
+use Rattle.radio_source.specs.Place.{after_line, in_trailer, after, has_ended}
 use Rattle.radio_source.specs.Chunked.{Chunk, IsChunk, IsShortLine, IsTrailer, print_trailers, ChunkedBody, IsBody, print_body}
 use Rattle.radio_source.proofs.ChunkLineLemmas.{whole_is_line, reads_whole, unlike}
 use Rattle.radio_source.proofs.PlaceLemmas.{after_line_unfinished, after_line_too_long, after_line_refused, after_last_line, after_chunk_line}
@@ -108,7 +110,8 @@ record IsLineOf (bytes : List ℕ) (size : ℕ) : Type 0 where
   reads : bytes ≡ print_chunk_line line
   is_size : chunk_size line ≡ size
 
-line_with : (held : List ℕ) (b size : ℕ) (l : ChunkLine) (rest : List ℕ) → IsOnTheWay (InLine held) → ReadsChunkLine (held ++ b ∷ []) l rest → chunk_size l ≡ size → IsLineOf (held ++ b ∷ []) size
+line_with : (held : List ℕ) (b size : ℕ) (l : ChunkLine) (rest : List ℕ) → IsOnTheWay (InLine held) → ReadsChunkLine (held ++ b ∷ []) l rest
+    → chunk_size l ≡ size → IsLineOf (held ++ b ∷ []) size
 line_with held b size l [] way x e =
     let reads : held ++ b ∷ [] ≡ print_chunk_line l = x.1 ∙ append-nil (print_chunk_line l) in
     record { line = l; short = (x.0, omega (arith, way.1, ap length reads, length-append held (b ∷ []))); reads = reads; is_size = e }
@@ -143,7 +146,8 @@ one_chunk bytes rest size some x d =
       reads = ap (λ s. s ++ rest) x.reads ∙ (ap (λ s. print_chunk_line x.line ++ s) d.reads ∙ simp append_assoc);
     }
 
-line_case : (held : List ℕ) (b : ℕ) (bytes : List ℕ) → IsOnTheWay (InLine held) → after (after_line (held ++ b ∷ [])) bytes ≡ AtEnd → Follows bytes → (r : LineReading) → chunk_line_in (held ++ b ∷ []) ≡ r → HasBody ((held ++ b ∷ []) ++ bytes)
+line_case : (held : List ℕ) (b : ℕ) (bytes : List ℕ) → IsOnTheWay (InLine held) → after (after_line (held ++ b ∷ [])) bytes ≡ AtEnd → Follows bytes
+    → (r : LineReading) → chunk_line_in (held ++ b ∷ []) ≡ r → HasBody ((held ++ b ∷ []) ++ bytes)
 line_case held b bytes way e later Unfinished h =
     let line = held ++ b ∷ [] in
     ⊎_elim
@@ -168,7 +172,8 @@ line_case held b bytes way e later (Whole size) h =
 
 -- ---- a place that depends on a test
 
-by_test : (test : Bool) (x y : Place) (bytes : List ℕ) (G : Type 0) → after (if test then x else y) bytes ≡ AtEnd → (test ≡ true → after x bytes ≡ AtEnd → G) → (test ≡ false → after y bytes ≡ AtEnd → G) → G
+by_test : (test : Bool) (x y : Place) (bytes : List ℕ) (G : Type 0) → after (if test then x else y) bytes ≡ AtEnd
+    → (test ≡ true → after x bytes ≡ AtEnd → G) → (test ≡ false → after y bytes ≡ AtEnd → G) → G
 by_test true x y bytes G e yes_case no_case = yes_case refl e
 by_test false x y bytes G e yes_case no_case = no_case refl e
 
@@ -196,7 +201,8 @@ more_of_line left b bytes other less x = record {
 }
 
 -- a whole line, with those after it
-as_trailers : (left k : ℕ) (front bytes : List ℕ) → length front ≡ k → k < left → (x : HasTrailerRest (left - k) bytes) → IsTrailer (front ++ x.line) → HasTrailers left (front ++ bytes)
+as_trailers : (left k : ℕ) (front bytes : List ℕ) → length front ≡ k → k < left → (x : HasTrailerRest (left - k) bytes) → IsTrailer (front ++ x.line)
+    → HasTrailers left (front ++ bytes)
 as_trailers left k front bytes size less x valid =
     let whole = (front ++ x.line) ++ line_feed ∷ [] in
     record {
@@ -232,7 +238,8 @@ not_empty b line e = omega (arith, ap length e)
 
 -- ---- each place
 
-return_case : (b : ℕ) (bytes : List ℕ) → after (if eqb b line_feed then InLine [] else Broken) bytes ≡ AtEnd → Follows bytes → HasData 0 (carriage_return ∷ b ∷ bytes)
+return_case : (b : ℕ) (bytes : List ℕ) → after (if eqb b line_feed then InLine [] else Broken) bytes ≡ AtEnd → Follows bytes
+    → HasData 0 (carriage_return ∷ b ∷ bytes)
 return_case b bytes e later =
     by_test (eqb b line_feed) (InLine []) Broken bytes (HasData 0 (carriage_return ∷ b ∷ bytes)) e
     (λ (t : eqb b line_feed ≡ true) (h : after (InLine []) bytes ≡ AtEnd).
@@ -262,7 +269,9 @@ chunk_case left b bytes x = record {
   reads = ap (λ t. b ∷ t) x.reads;
 }
 
-trailer_case : (left b : ℕ) (bytes : List ℕ) → after (if eqb b line_feed then AtEnd else if eqb b carriage_return then AfterTrailerReturn left else in_trailer left 1) bytes ≡ AtEnd → Follows bytes → HasTrailers left (b ∷ bytes)
+trailer_case : (left b : ℕ) (bytes : List ℕ)
+    → after (if eqb b line_feed then AtEnd else if eqb b carriage_return then AfterTrailerReturn left else in_trailer left 1) bytes ≡ AtEnd
+    → Follows bytes → HasTrailers left (b ∷ bytes)
 trailer_case left b bytes e later =
     by_test (eqb b line_feed) AtEnd (if eqb b carriage_return then AfterTrailerReturn left else in_trailer left 1) bytes (HasTrailers left (b ∷ bytes)) e
     (λ (t : eqb b line_feed ≡ true) (h : after AtEnd bytes ≡ AtEnd).
@@ -274,20 +283,25 @@ trailer_case left b bytes e later =
     (λ (r : eqb b carriage_return ≡ false) (k : after (in_trailer left 1) bytes ≡ AtEnd).
     let x = trailer_goes_on left 1 bytes k later in
     as_trailers left 1 (b ∷ []) bytes refl x.0 x.1
-    (All-cons (λ (c : ℕ). c ≢ line_feed) b x.1.line (other_byte b line_feed t) x.1.one, not_empty b x.1.line, not_return_alone b x.1.line (other_byte b carriage_return r))))
+    (All-cons (λ (c : ℕ). c ≢ line_feed) b x.1.line (other_byte b line_feed t) x.1.one, not_empty b x.1.line,
+        not_return_alone b x.1.line (other_byte b carriage_return r))))
 
-after_return_case : (left b : ℕ) (bytes : List ℕ) → after (if eqb b line_feed then AtEnd else in_trailer left 2) bytes ≡ AtEnd → Follows bytes → HasTrailers left (carriage_return ∷ b ∷ bytes)
+after_return_case : (left b : ℕ) (bytes : List ℕ) → after (if eqb b line_feed then AtEnd else in_trailer left 2) bytes ≡ AtEnd → Follows bytes
+    → HasTrailers left (carriage_return ∷ b ∷ bytes)
 after_return_case left b bytes e later =
     by_test (eqb b line_feed) AtEnd (in_trailer left 2) bytes (HasTrailers left (carriage_return ∷ b ∷ bytes)) e
     (λ (t : eqb b line_feed ≡ true) (h : after AtEnd bytes ≡ AtEnd).
-    no_more left crlf (carriage_return ∷ b ∷ bytes) (ap (λ (c : ℕ). carriage_return ∷ c ∷ bytes) (eqb-true b line_feed t) ∙ ap (λ s. carriage_return ∷ line_feed ∷ s) (end_is_last bytes h)))
+    no_more left crlf (carriage_return ∷ b ∷ bytes)
+        (ap (λ (c : ℕ). carriage_return ∷ c ∷ bytes) (eqb-true b line_feed t) ∙ ap (λ s. carriage_return ∷ line_feed ∷ s) (end_is_last bytes h)))
     (λ (t : eqb b line_feed ≡ false) (h : after (in_trailer left 2) bytes ≡ AtEnd).
     let x = trailer_goes_on left 2 bytes h later in
     let no_feed = All-cons (λ (c : ℕ). c ≢ line_feed) b x.1.line (other_byte b line_feed t) x.1.one in
     as_trailers left 2 (carriage_return ∷ b ∷ []) bytes refl x.0 x.1
-    (All-cons (λ (c : ℕ). c ≢ line_feed) carriage_return (b ∷ x.1.line) (λ z. omega arith) no_feed, not_empty carriage_return (b ∷ x.1.line), not_one carriage_return b x.1.line))
+    (All-cons (λ (c : ℕ). c ≢ line_feed) carriage_return (b ∷ x.1.line) (λ z. omega arith) no_feed, not_empty carriage_return (b ∷ x.1.line),
+        not_one carriage_return b x.1.line))
 
-rest_case : (left b : ℕ) (bytes : List ℕ) → 0 < left → after (if eqb b line_feed then AtTrailer (left - 1) else in_trailer left 1) bytes ≡ AtEnd → Follows bytes → HasTrailerRest left (b ∷ bytes)
+rest_case : (left b : ℕ) (bytes : List ℕ) → 0 < left → after (if eqb b line_feed then AtTrailer (left - 1) else in_trailer left 1) bytes ≡ AtEnd
+    → Follows bytes → HasTrailerRest left (b ∷ bytes)
 rest_case left b bytes some e later =
     by_test (eqb b line_feed) (AtTrailer (left - 1)) (in_trailer left 1) bytes (HasTrailerRest left (b ∷ bytes)) e
     (λ (t : eqb b line_feed ≡ true) (h : after (AtTrailer (left - 1)) bytes ≡ AtEnd).

@@ -2,5 +2,5 @@ pub mod ChunkLine
 pub mod Place
 pub mod Position
 pub mod Feeding
-pub mod Told
+pub mod Outputs
 pub mod Chunked

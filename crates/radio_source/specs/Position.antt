@@ -1,7 +1,8 @@
 -- A position in a body: what it stands for, and runs of data ahead of it.
 use Rattle.std.specs.Prelude.{ℕ, ◌-◌, List, min}
 use Rattle.radio_source.specs.declared.position.Stage.{Stage}
-use Rattle.radio_source.specs.declared.position.Stage.TheVariants.{Plain, Sized, Line, Chunk, LineFeed, Trailer, TrailerAfterReturn, TrailerRest, End, BehindTheEnd, BadByte}
+use Rattle.radio_source.specs.declared.position.Stage.TheVariants.{Plain, Sized, Line, Chunk, LineFeed, Trailer, TrailerAfterReturn, TrailerRest, End}
+use Rattle.radio_source.specs.declared.position.Stage.TheVariants.{BehindTheEnd, BadByte}
 use Rattle.radio_source.specs.Place.{Place, InPlain, InSized, InLine, InChunk, AfterReturn, AtTrailer, AfterTrailerReturn, InTrailer, AtEnd, PastTheEnd, Broken}
 
 -- the place where this comes next, with so much of a chunk line

@@ -8,18 +8,19 @@ ghost use Rattle.httparse.specs.Grammar.{ChunkLine, ReadsChunkLine, chunk_size, 
 ghost use Rattle.radio_source.specs.declared.chunk_line.LineReading.TheVariants.{Unfinished, Whole, Refused};
 ghost use Rattle.radio_source.specs.declared.fault.BodyFault.TheVariants.{PastEnd};
 ghost use Rattle.radio_source.specs.ChunkLine.{chunk_line_in};
-ghost use Rattle.radio_source.specs.Place.{Place, InChunk, AtEnd, PastTheEnd, Broken, plain_start, sized_start, chunked_start, after, data_of, has_ended, fault_at};
+ghost use Rattle.radio_source.specs.Place.{Place, InChunk, AtEnd, PastTheEnd, Broken, plain_start, sized_start, chunked_start};
+ghost use Rattle.radio_source.specs.Place.{after, data_of, has_ended, fault_at};
 ghost use Rattle.radio_source.specs.Feeding.{unfed};
-ghost use Rattle.radio_source.specs.Told.{told_by_feeds, all_told};
+ghost use Rattle.radio_source.specs.Outputs.{outputs_of_feeds, outputs_of_bytes};
 ghost use Rattle.radio_source.specs.Chunked.{Chunk, IsChunk, IsShortLine, print_chunks, content_of, ChunkedBody, IsBody, print_body, HasRoomForItsLine};
 
 use radio_blocks::laws::blocks_are_the_data;
 
-/// However a body is cut into pieces, with an empty piece fed last, its feeds tell what its bytes are: all its data in
+/// However a body is cut into pieces, with an empty piece fed last, its feeds put out what its bytes come to: all its data in
 /// order, then its end, once, if it has come, then the fault that stands among the bytes, once, if there is one.
 pub fn cuts_do_not_matter()
     ensures { (place : Place) (pieces : List (List ℕ)) → fault_at place ≡ None
-        → told_by_feeds (unfed place) (pieces ++ [] ∷ []) ≡ all_told place (concat pieces) }
+        → outputs_of_feeds (unfed place) (pieces ++ [] ∷ []) ≡ outputs_of_bytes place (concat pieces) }
 {
     blocks_are_the_data();
 }

@@ -12,12 +12,10 @@ mod chunk_line;
 mod fault;
 pub mod laws;
 mod position;
-#[cfg(test)]
-mod tests;
 
 pub use body::{Blocks, Body};
 pub use fault::BodyFault;
-pub use position::{LONGEST_LINE, LONGEST_TRAILERS};
+pub use position::{MAX_CHUNK_LINE, MAX_TRAILERS};
 
 /// No memory was left.
 pub type OutOfMemory = std::alloc::AllocError;

@@ -2,7 +2,7 @@
 ghost use Rattle.std.specs.Prelude.{◌≡◌, ◌≢◌, ℕ, ◌<◌, ◌≤◌, List, ◌∷◌, [], ◌++◌, length, OnOk, IfOk};
 ghost use Rattle.arrayvec.specs.ArrayVec.{array_vec_len};
 ghost use Rattle.radio_source.specs.Place.{after_byte, after_line, in_trailer, after, data_of, has_ended, fault_at, plain_start, sized_start, chunked_start};
-ghost use Rattle.radio_source.specs.declared.position.TheConstants.{LONGEST_LINE};
+ghost use Rattle.radio_source.specs.declared.position.TheConstants.{MAX_CHUNK_LINE};
 ghost use Rattle.radio_source.specs.declared.position.Stage.TheVariants.{Line};
 ghost use Rattle.radio_source.specs.Position.{place_of, data_ahead, past_data};
 
@@ -13,10 +13,10 @@ use radio_blocks::Gathering;
 use std::marker::Model;
 
 /// The most bytes that a chunk line may have, CR LF with them.
-pub const LONGEST_LINE: usize = 256;
+pub const MAX_CHUNK_LINE: usize = 256;
 
 /// The most bytes that the trailer lines of a body may have, their LFs with them.
-pub const LONGEST_TRAILERS: usize = 4096;
+pub const MAX_TRAILERS: usize = 4096;
 
 /// What comes next in a body.
 #[derive(Clone, Copy, Debug)]
@@ -49,7 +49,7 @@ pub enum Stage {
 #[derive(Debug, Drop)]
 pub struct Position {
     stage: Stage,
-    line: ArrayVec<u8, LONGEST_LINE>,
+    line: ArrayVec<u8, MAX_CHUNK_LINE>,
 }
 
 impl Model for Position {
@@ -57,13 +57,13 @@ impl Model for Position {
     ghost use Rattle.arrayvec.specs.ArrayVec.{array_vec_len};
     ghost use Rattle.radio_source.specs.Place.{Place};
     ghost use Rattle.radio_source.specs.Position.{place_of};
-    ghost use Rattle.radio_source.specs.declared.position.TheConstants.{LONGEST_LINE};
+    ghost use Rattle.radio_source.specs.declared.position.TheConstants.{MAX_CHUNK_LINE};
 
     ghost Value = { Place };
 
     ghost view = { λ p. place_of p.stage p.line.items };
 
-    ghost invariant = { λ p. array_vec_len p.line < LONGEST_LINE };
+    ghost invariant = { λ p. array_vec_len p.line < MAX_CHUNK_LINE };
 }
 
 impl Position {
@@ -197,17 +197,17 @@ impl Position {
 }
 
 // Goes past a byte of a chunk line, of which `line` has come, and returns what comes next.
-fn pass_line_byte(line: &mut ArrayVec<u8, LONGEST_LINE>, byte: u8) -> Stage
-    requires { array_vec_len line.old < LONGEST_LINE }
+fn pass_line_byte(line: &mut ArrayVec<u8, MAX_CHUNK_LINE>, byte: u8) -> Stage
+    requires { array_vec_len line.old < MAX_CHUNK_LINE }
     ensures place { place_of result line.new.items ≡ after_line (line.old.items ++ byte ∷ []) }
-    ensures room { array_vec_len line.new < LONGEST_LINE }
+    ensures room { array_vec_len line.new < MAX_CHUNK_LINE }
 {
     line.push(byte);
     let stage = match read_chunk_line(line.as_slice()) {
-        LineReading::Unfinished if line.len() < LONGEST_LINE => return Stage::Line,
+        LineReading::Unfinished if line.len() < MAX_CHUNK_LINE => return Stage::Line,
         LineReading::Unfinished => Stage::BadByte,
         LineReading::Refused => Stage::BadByte,
-        LineReading::Whole(0) => Stage::Trailer(LONGEST_TRAILERS),
+        LineReading::Whole(0) => Stage::Trailer(MAX_TRAILERS),
         LineReading::Whole(size) => Stage::Chunk(size),
     };
     line.clear();

@@ -12,8 +12,6 @@ mod change;
 mod laws;
 mod row;
 mod table;
-#[cfg(test)]
-mod tests;
 
 pub use change::{Change, Swap, TryChange};
 pub use laws::a_placed_row_is_found;

@@ -1,5 +1,6 @@
 -- How texts are cut, and how cuts make fields.
-use Rattle.std.proofs.Common.{suc, ◌≡◌, ℕ, ◌+◌, ◌<◌, ◌≤◌, Bool, true, false, eqb, List, [], ◌∷◌, ◌++◌, length, take, drop, get_or, Option, None, Some, MatchOption, refl, arith, ap, ◌∙◌, sym}
+use Rattle.std.proofs.Common.{suc, ◌≡◌, ℕ, ◌+◌, ◌<◌, ◌≤◌, Bool, true, false, eqb, List, [], ◌∷◌, ◌++◌, length, take, drop, get_or, Option, None, Some}
+use Rattle.std.proofs.Common.{MatchOption, refl, arith, ap, ◌∙◌, sym}
 use Rattle.std.specs.Option.{option_map}
 use Rattle.std.specs.List.{starts_with}
 use Rattle.std.proofs.lemmas.Bool.{cond_both}
@@ -27,7 +28,9 @@ after_front-onto : (front : List ℕ) (b : ℕ) (o : Parts) → after_front fron
 after_front-onto front b None = refl
 after_front-onto front b (Some parts) = ap (λ (t : List ℕ). Some (t, parts.1)) (sym (append_assoc front (b ∷ []) parts.0))
 
-pub cut_passed : (cutter : List ℕ → Parts) (test : List ℕ → Bool) (size : ℕ) (is : IsCutter cutter test size) (text : List ℕ) (i : ℕ) → i < length text → test (drop i text) ≡ false → cutter text ≡ after_front (take i text) (cutter (drop i text)) → cutter text ≡ after_front (take (i + 1) text) (cutter (drop (i + 1) text))
+pub cut_passed : (cutter : List ℕ → Parts) (test : List ℕ → Bool) (size : ℕ) (is : IsCutter cutter test size) (text : List ℕ) (i : ℕ) → i < length text
+    → test (drop i text) ≡ false → cutter text ≡ after_front (take i text) (cutter (drop i text))
+    → cutter text ≡ after_front (take (i + 1) text) (cutter (drop (i + 1) text))
 cut_passed cutter test size is text i inside other so_far =
     let here = at_drop_more test text i 0 inside in
     let step = at_drop_more cutter text i 0 inside ∙ is.goes_on (get_or text i 0) (drop (i + 1) text) (sym here ∙ other) in
@@ -36,14 +39,18 @@ cut_passed cutter test size is text i inside other so_far =
     ∙ (after_front-onto (take i text) (get_or text i 0) (cutter (drop (i + 1) text))
     ∙ ap (λ f. after_front f (cutter (drop (i + 1) text))) (sym (take_more text i 0 inside))))
 
-pub cut_found : (cutter : List ℕ → Parts) (test : List ℕ → Bool) (size : ℕ) (is : IsCutter cutter test size) (text : List ℕ) (i : ℕ) → i < length text → test (drop i text) ≡ true → cutter text ≡ after_front (take i text) (cutter (drop i text)) → Some (take i text, drop size (drop i text)) ≡ cutter text
+pub cut_found : (cutter : List ℕ → Parts) (test : List ℕ → Bool) (size : ℕ) (is : IsCutter cutter test size) (text : List ℕ) (i : ℕ) → i < length text
+    → test (drop i text) ≡ true → cutter text ≡ after_front (take i text) (cutter (drop i text)) → Some (take i text, drop size (drop i text)) ≡ cutter text
 cut_found cutter test size is text i inside passes so_far =
     let here = at_drop_more test text i 0 inside in
     let step = at_drop_more cutter text i 0 inside ∙ is.ends (get_or text i 0) (drop (i + 1) text) (sym here ∙ passes) in
     let back = ap (drop size) (drop_more text i 0 inside) in
-    sym (so_far ∙ (ap (after_front (take i text)) step ∙ (ap (λ (t : List ℕ). Some (t, drop size (get_or text i 0 ∷ drop (i + 1) text))) (append-nil (take i text)) ∙ ap (λ (t : List ℕ). Some (take i text, t)) (sym back))))
+    sym (so_far ∙ (ap (after_front (take i text)) step
+    ∙ (ap (λ (t : List ℕ). Some (t, drop size (get_or text i 0 ∷ drop (i + 1) text))) (append-nil (take i text))
+    ∙ ap (λ (t : List ℕ). Some (take i text, t)) (sym back))))
 
-pub cut_missing : (cutter : List ℕ → Parts) (test : List ℕ → Bool) (size : ℕ) (is : IsCutter cutter test size) (text : List ℕ) (i : ℕ) → length text ≤ i → cutter text ≡ after_front (take i text) (cutter (drop i text)) → None ≡ cutter text
+pub cut_missing : (cutter : List ℕ → Parts) (test : List ℕ → Bool) (size : ℕ) (is : IsCutter cutter test size) (text : List ℕ) (i : ℕ) → length text ≤ i
+    → cutter text ≡ after_front (take i text) (cutter (drop i text)) → None ≡ cutter text
 cut_missing cutter test size is text i past so_far =
     sym (so_far ∙ ap (after_front (take i text)) (at_drop_all cutter text i past ∙ is.empty))
 
@@ -88,15 +95,18 @@ some_onto b (field ∷ fields) = omega arith
 
 pub some_field : (c : ℕ) (text : List ℕ) → 0 < length (fields_at c text)
 some_field c [] = omega arith
-some_field c (b ∷ text) = cond_both (eqb b c) ([] ∷ fields_at c text) (onto_first b (fields_at c text)) (λ fs. 0 < length fs) (λ _. omega arith) (λ _. some_onto b (fields_at c text))
+some_field c (b ∷ text) =
+    cond_both (eqb b c) ([] ∷ fields_at c text) (onto_first b (fields_at c text)) (λ fs. 0 < length fs) (λ _. omega arith) (λ _. some_onto b (fields_at c text))
 
 -- a cut takes one byte away
-sizes_onto : (b n : ℕ) (o : Parts) → MatchOption o (Unit {0}) (λ parts. length parts.0 + 1 + length parts.1 ≡ n) → MatchOption (onto_front b o) (Unit {0}) (λ parts. length parts.0 + 1 + length parts.1 ≡ suc n)
+sizes_onto : (b n : ℕ) (o : Parts) → MatchOption o (Unit {0}) (λ parts. length parts.0 + 1 + length parts.1 ≡ n)
+    → MatchOption (onto_front b o) (Unit {0}) (λ parts. length parts.0 + 1 + length parts.1 ≡ suc n)
 sizes_onto b n None h = tt
 sizes_onto b n (Some parts) h = omega arith
 
 pub cut_sizes : (c : ℕ) (text : List ℕ) → MatchOption (cut c text) (Unit {0}) (λ parts. length parts.0 + 1 + length parts.1 ≡ length text)
 cut_sizes c [] = tt
-cut_sizes c (b ∷ text) = cond_both (eqb b c) (Some ([], text)) (onto_front b (cut c text)) (λ o. MatchOption o (Unit {0}) (λ parts. length parts.0 + 1 + length parts.1 ≡ length (b ∷ text)))
+cut_sizes c (b ∷ text) = cond_both (eqb b c) (Some ([], text)) (onto_front b (cut c text))
+    (λ o. MatchOption o (Unit {0}) (λ parts. length parts.0 + 1 + length parts.1 ≡ length (b ∷ text)))
     (λ _. omega arith)
     (λ _. sizes_onto b (length text) (cut c text) (cut_sizes c text))

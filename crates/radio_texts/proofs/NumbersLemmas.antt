@@ -26,7 +26,8 @@ unfolding number_of
 number_of-nil base most text none = rw none refl
 
 -- a byte that is no digit
-pub number_of-no_digit : (base most i : ℕ) (text : List ℕ) → i < length text → base ≤ digit_value (get_or text i 0) → all_digits base (drop i text) ≡ all_digits base text → None ≡ number_of base most text
+pub number_of-no_digit : (base most i : ℕ) (text : List ℕ) → i < length text → base ≤ digit_value (get_or text i 0)
+    → all_digits base (drop i text) ≡ all_digits base text → None ≡ number_of base most text
 unfolding number_of
 number_of-no_digit base most i text inside none so_far =
     let here = at_drop_more (all_digits base) text i 0 inside in
@@ -36,17 +37,20 @@ number_of-no_digit base most i text inside none so_far =
     rw (numeral) refl
 
 -- one digit more
-pub digits_more : (base i n : ℕ) (text : List ℕ) → i < length text → digits_value_after base n (drop i text) ≡ digits_value base text → digits_value_after base (n * base + digit_value (get_or text i 0)) (drop (i + 1) text) ≡ digits_value base text
+pub digits_more : (base i n : ℕ) (text : List ℕ) → i < length text → digits_value_after base n (drop i text) ≡ digits_value base text
+    → digits_value_after base (n * base + digit_value (get_or text i 0)) (drop (i + 1) text) ≡ digits_value base text
 digits_more base i n text inside so_far = sym (at_drop_more (digits_value_after base n) text i 0 inside) ∙ so_far
 
-pub all_digits_more : (base i : ℕ) (text : List ℕ) → i < length text → digit_value (get_or text i 0) < base → all_digits base (drop i text) ≡ all_digits base text → all_digits base (drop (i + 1) text) ≡ all_digits base text
+pub all_digits_more : (base i : ℕ) (text : List ℕ) → i < length text → digit_value (get_or text i 0) < base
+    → all_digits base (drop i text) ≡ all_digits base text → all_digits base (drop (i + 1) text) ≡ all_digits base text
 all_digits_more base i text inside digit so_far =
     let here = at_drop_more (all_digits base) text i 0 inside in
     let step : all_digits base (drop i text) ≡ all_digits base (drop (i + 1) text) = here ∙ rw (lt-ltb (digit_value (get_or text i 0)) base digit) refl in
     sym step ∙ so_far
 
 -- a number that has grown too large
-pub number_of-large : (base most i n : ℕ) (text : List ℕ) → 0 < base → i < length text → most < n * base + digit_value (get_or text i 0) → digits_value_after base n (drop i text) ≡ digits_value base text → None ≡ number_of base most text
+pub number_of-large : (base most i n : ℕ) (text : List ℕ) → 0 < base → i < length text → most < n * base + digit_value (get_or text i 0)
+    → digits_value_after base n (drop i text) ≡ digits_value base text → None ≡ number_of base most text
 unfolding number_of
 number_of-large base most i n text some inside large so_far =
     let value = digits_more base i n text inside so_far in
@@ -56,7 +60,9 @@ number_of-large base most i n text some inside large so_far =
     rw (fails) refl
 
 -- all digits read
-pub number_of-all : (base most i n : ℕ) (text : List ℕ) → 0 < length text → length text ≤ i → n ≤ most → digits_value_after base n (drop i text) ≡ digits_value base text → all_digits base (drop i text) ≡ all_digits base text → Some n ≡ number_of base most text
+pub number_of-all : (base most i n : ℕ) (text : List ℕ) → 0 < length text → length text ≤ i → n ≤ most
+    → digits_value_after base n (drop i text) ≡ digits_value base text → all_digits base (drop i text) ≡ all_digits base text
+    → Some n ≡ number_of base most text
 unfolding number_of
 number_of-all base most i n text some past small value digits =
     let same : n ≡ digits_value base text = sym (at_drop_all (digits_value_after base n) text i past) ∙ value in

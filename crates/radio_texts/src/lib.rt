@@ -12,8 +12,6 @@ mod cuts;
 pub mod laws;
 mod lines;
 mod numbers;
-#[cfg(test)]
-mod tests;
 
 pub use blanks::without_blanks;
 pub use cuts::{cut, cut_at_two};

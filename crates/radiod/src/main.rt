@@ -30,6 +30,11 @@ fn main(rt: HostRuntime) -> ExitCode {
 fn play_script(rt: &HostRuntime) -> Result<(), Fault> {
     let path = settings_path(rt)?;
     let settings = read_settings(rt, path)?;
+    play_with_settings(rt, settings)
+}
+
+/// Plays the script on standard input.
+fn play_with_settings(rt: &HostRuntime, settings: Settings) -> Result<(), Fault> {
     let Ok(input) = BufReader::new(rt.alloc(), rt.stdin()) else {
         return Err(Fault::OutOfMemory);
     };

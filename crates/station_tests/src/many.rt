@@ -1,9 +1,9 @@
 //! Large scripts, with ample memory: the answer is compared.
 
 use crate::scripts::{deliveries, played, settings};
+use bytes::Bytes;
 use radio_core::OutOfMemory;
 use radio_floor::{Delivery, run};
-use radio_script::ByteString;
 use radio_settings::SettingsFault;
 use std::alloc::Global;
 
@@ -65,7 +65,7 @@ fn large_delivery(alloc: Global) -> Result<Vec<Delivery>, OutOfMemory> {
     let brought = vec![in alloc; b'x'; MEBIBYTES_16]?;
     all.push(Delivery::In {
         label: 1,
-        bytes: ByteString::from(brought),
+        bytes: Bytes::from_vec(brought)?,
     })?;
     all.push(Delivery::Room { label: 2, room: 4 })?;
     Ok(all)

@@ -3,7 +3,8 @@ ghost use Rattle.std.specs.Prelude.{◌≡◌, ◌≢◌, Ok, Err, IfOk, IfErr, 
 ghost use Rattle.toml.specs.Parse.{parse_document};
 ghost use Rattle.toml.specs.View.{table_view};
 ghost use Rattle.radio_settings.specs.Document.{reading_of, settings_of};
-ghost use Rattle.radio_settings.specs.Parts.{apart_fault, basics_fault, basics_of, fault_by_parts, listed, listed_in, listen_and_limits_fault, listen_and_limits_of, listen_with, lists_fault, optional_slave_fault, streams_fault, streams_of};
+ghost use Rattle.radio_settings.specs.Parts.{apart_fault, basics_fault, basics_of, fault_by_parts, listed, listed_in, listen_and_limits_fault};
+ghost use Rattle.radio_settings.specs.Parts.{listen_and_limits_of, listen_with, lists_fault, optional_slave_fault, streams_fault, streams_of};
 ghost use Rattle.radio_settings.specs.Lookup.{table_at};
 ghost use Rattle.radio_settings.specs.Slave.{slave_of};
 ghost use Rattle.radio_settings.specs.declared.key.Key.TheVariants.{Slave};

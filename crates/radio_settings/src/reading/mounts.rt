@@ -4,7 +4,8 @@ ghost use Rattle.toml.specs.Data.{no_members};
 ghost use Rattle.std.specs.List.{flat_map};
 ghost use Rattle.toml.specs.View.{table_view};
 ghost use Rattle.radio_settings.specs.Parts.{mounts_fault};
-ghost use Rattle.radio_settings.specs.Mounts.{listeners_fault, listeners_of, mount_fault, mount_of, mount_rows, mounts_of, options_fault, options_of, source_fault, source_of, stream_fault, stream_of, users_fault, users_of};
+ghost use Rattle.radio_settings.specs.Mounts.{listeners_fault, listeners_of, mount_fault, mount_of, mount_rows, mounts_of};
+ghost use Rattle.radio_settings.specs.Mounts.{options_fault, options_of, source_fault, source_of, stream_fault, stream_of, users_fault, users_of};
 ghost use Rattle.radio_settings.specs.Rows.{faults_in, first_fault};
 ghost use Rattle.radio_settings.specs.Reading.{Reads, ReadsAs};
 

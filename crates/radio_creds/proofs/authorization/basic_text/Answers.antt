@@ -5,7 +5,8 @@ use Rattle.std.proofs.lemmas.List.{get_or-drop, get_or_past}
 use Rattle.std.proofs.lemmas.Bool.{false≢true}
 use Rattle.radio_creds.specs.Authorization.{without_spaces}
 use Rattle.radio_creds.proofs.AuthorizationLemmas.{basic_text-scheme, basic_text-other_scheme, basic_text-no_space}
-use Rattle.radio_creds.proofs.authorization.basic_text.Goals.{then-not-eq_ignore_ascii_case-via-then-not-eq_ignore_ascii_case, then-not-eq_ignore_ascii_case-via-else-not-eq_ignore_ascii_case+then-rest-ne32}
+use Rattle.radio_creds.proofs.authorization.basic_text.Goals.{then-not-eq_ignore_ascii_case-via-then-not-eq_ignore_ascii_case}
+use Rattle.radio_creds.proofs.authorization.basic_text.Goals.{then-not-eq_ignore_ascii_case-via-else-not-eq_ignore_ascii_case+then-rest-ne32}
 use Rattle.radio_creds.proofs.authorization.basic_text.Goals as goal
 
 pub returns-then-value : goal.returns-then-value

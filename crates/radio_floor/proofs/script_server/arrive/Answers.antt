@@ -3,9 +3,8 @@ use Rattle.radio_core.specs.World.{World}
 use Rattle.radio_core.specs.declared.event.Event.TheVariants.{Arrive}
 use Rattle.radio_core.specs.Step.{Represents, world_after}
 use Rattle.radio_core.specs.declared.reply.Reply.{Reply}
-use Rattle.radio_floor.specs.declared.connection.Says.TheVariants.{Asking}
-use Rattle.radio_floor.specs.Conversation.{Conversation}
-use Rattle.radio_floor.specs.Saying.{said}
+use Rattle.radio_session.specs.Conversation.{asking, Conversation}
+use Rattle.radio_session.specs.Saying.{said}
 use Rattle.radio_floor.specs.ScriptState.{taken_in}
 use Rattle.radio_floor.proofs.script_server.arrive.Goals as goal
 
@@ -13,13 +12,13 @@ pub returns : goal.returns
 returns c w stands =
     let s = c.in_ok-reply.ensures.step w stands in
     let after = subst (λ (x : World). Represents c.step.new.self x) s.1.1 s.2 in
-    let given = c.in_ok-ending.ensures.told in
+    let given = c.in_ok-state.ensures in
     let told = subst (λ (conversation : Conversation).
     (c.give.new.out.items ≡ c.args.out.now.items ++ (said conversation.says c.in_ok-reply.reply).bytes)
-    × (c.in_ok-ending.ending ≡ (said conversation.says c.in_ok-reply.reply).ending)) c.new.ensures (given.0, given.1) in
+    × (c.in_ok-state.state ≡ (said conversation.says c.in_ok-reply.reply).state)) c.new.ensures (given.bytes, given.state) in
     subst (λ (r : Reply).
     Represents c.step.new.self (world_after w (Arrive c.args.peer))
-    × (c.give.new.out.items ≡ c.args.out.now.items ++ (said Asking r).bytes)
-    × (c.taken_in.result ≡ taken_in r)
-    × (c.in_ok-ending.ending ≡ (said Asking r).ending))
-    s.1.0 (after, told.0, c.taken_in.ensures, told.1)
+    × (c.give.new.out.items ≡ c.args.out.now.items ++ (said asking r).bytes)
+    × (c.taken_in-connection.result ≡ taken_in c.args.peer r)
+    × (c.in_ok-state.state ≡ (said asking r).state))
+    s.1.0 (after, told.0, c.taken_in-connection.ensures, told.1)

@@ -9,8 +9,15 @@ use Rattle.radio_icy.proofs.weaver.append_woven.Goals as goal
 pub returns-in_err-append_block-clause-err : goal.returns-in_err-append_block-clause-err
 returns-in_err-append_block-clause-err c =
     let p = err_from_is_err_and c.from_residual-in_err-append_block.result c.from_residual-in_err-append_block.ensures.1 in
-    let kept = rw (← c.in_ok-extend_from_slice.ensures.items) at (front_more (vec_len c.args.out.now) c.args.out.now.items c.intervals.out.items c.split_at.result.0.now c.args.out.now.ok.0 c.intervals.invariant.4) in
-    rw p.1 (front_of_front _ _ _ _ _ (omega (arith, front_fits _ _ _ c.args.out.now.ok.0 c.intervals.invariant.4, c.in_ok-extend_from_slice.ensures.len, c.intervals.out.ok.0)) kept c.in_err-append_block.ensures.err)
+    let kept = rw (← c.in_ok-extend_from_slice.ensures.items) at
+    (front_more (vec_len c.args.out.now) c.args.out.now.items c.intervals.out.items c.split_at.result.0.now c.args.out.now.ok.0 c.intervals.invariant.4) in
+    rw p.1 (front_of_front _ _ _ _ _
+    (omega (
+      arith,
+      front_fits _ _ _ c.args.out.now.ok.0 c.intervals.invariant.4,
+      c.in_ok-extend_from_slice.ensures.len,
+      c.intervals.out.ok.0,
+    )) kept c.in_err-append_block.ensures.err)
 
 pub intervals-preserved : goal.intervals-preserved
 intervals-preserved c =
@@ -26,7 +33,8 @@ intervals-preserved c =
     let moves = ap (λ (s : List ℕ). (after_weaving (from_place n place) news s).place) rest_is ∙ place_turn n place news part later inside whole in (
       omega arith,
       tt,
-      written_turn c.intervals.out.items part (metadata_block news) _ _ _ _ c.in_ok-extend_from_slice.ensures.items c.in_ok-append_block.ensures.ok turn ∙ c.intervals.invariant.2,
+      written_turn c.intervals.out.items part (metadata_block news) _ _ _ _ c.in_ok-extend_from_slice.ensures.items c.in_ok-append_block.ensures.ok turn
+          ∙ c.intervals.invariant.2,
       sym moves ∙ c.intervals.invariant.3,
       rw (c.in_ok-append_block.ensures.ok, c.in_ok-extend_from_slice.ensures.items)
           (front_more _ _ _ (metadata_block news) c.args.out.now.ok.0 (front_more _ _ _ part c.args.out.now.ok.0 c.intervals.invariant.4)),
@@ -36,10 +44,12 @@ pub returns-clause-woven : goal.returns-clause-woven
 returns-clause-woven c =
     let short : c.intervals.place + length c.intervals.rest.now < c.args.interval = omega arith in
     c.in_ok-extend_from_slice-2.ensures.items
-    ∙ (ap (λ (s : List ℕ). c.intervals.out.items ++ s) (sym (woven_part (from_place c.args.interval c.intervals.place) (option_copied c.intervals.news) c.intervals.rest.now short))
+    ∙ (ap (λ (s : List ℕ). c.intervals.out.items ++ s)
+    (sym (woven_part (from_place c.args.interval c.intervals.place) (option_copied c.intervals.news) c.intervals.rest.now short))
     ∙ c.intervals.invariant.2)
 
 pub returns-clause-place : goal.returns-clause-place
 returns-clause-place c =
     let short : c.intervals.place + length c.intervals.rest.now < c.args.interval = omega arith in
-    sym (ap (λ (w : Weaving). w.place) (after_part (from_place c.args.interval c.intervals.place) (option_copied c.intervals.news) c.intervals.rest.now short)) ∙ c.intervals.invariant.3
+    sym (ap (λ (w : Weaving). w.place)
+    (after_part (from_place c.args.interval c.intervals.place) (option_copied c.intervals.news) c.intervals.rest.now short)) ∙ c.intervals.invariant.3

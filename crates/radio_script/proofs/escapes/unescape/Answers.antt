@@ -17,12 +17,13 @@ returns-in-None c = grind (arith, common_steps)
 pub loop-b-preserved : goal.loop-b-preserved
 loop-b-preserved c =
     let here = step_at c.loop-b.place (get_or c.args.text.now c.loop-b.b-index 0) in
-    taken c.loop-b.bytes.items c.take_byte.new.bytes.items c.loop-b.place c.in-Some.next c.args.text.now c.loop-b.b-index c.loop-b-test.true here refl (rw c.in-Some.is at c.in_ok-next.ensures)
+    taken c.loop-b.bytes.items c.take_byte.new.bytes.items c.loop-b.place c.in-Some.next c.args.text.now c.loop-b.b-index c.loop-b-test.true here refl
+    (rw c.in-Some.is at c.in_ok-next.ensures)
     ∙ c.loop-b.invariant
 
-pub returns-in-Between : goal.returns-in-Between
+pub returns-in_ok-from_vec-in-Between : goal.returns-in_ok-from_vec-in-Between
 unfolding unescaped
-returns-in-Between c = grind (arith, common_steps)
+returns-in_ok-from_vec-in-Between c = grind (arith, common_steps)
 
 pub returns-in_default : goal.returns-in_default
 unfolding unescaped

@@ -46,5 +46,6 @@ returns-in-Err-answer_line-2-clause-plays g c =
     (g.R.Read.remaining c.args.reader.now) (g.R.Read.remaining c.read_line.new.reader)
     (g.W.Write.contents c.args.writer.now) (g.W.Write.contents c.answer_line-in-Ok-Whole.new.writer)
     (g.W.Counted.calls c.args.writer.now) (g.W.Counted.calls c.answer_line-in-Ok-Whole.new.writer)
-    c.read_line.new.line.items c.deref-in-Ok-Whole.result.now c.in-Err-answer_line-2.fault c.answer_line-in-Ok-Whole.new.performer c.deref-in-Ok-Whole.ensures.value
+    c.read_line.new.line.items c.deref-in-Ok-Whole.result.now c.in-Err-answer_line-2.fault
+    c.answer_line-in-Ok-Whole.new.performer c.deref-in-Ok-Whole.ensures.value
     (rw c.in-Ok-Whole.field-0-is at c.in-Ok-Whole.ensures.reads) c.in-Err-answer_line-2.ensures.answers

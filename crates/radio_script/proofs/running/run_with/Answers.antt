@@ -21,7 +21,8 @@ returns-in-Err-Label-clause-delivery g c = λ number e.
     let refused = c.in-Err-Label.ensures.label (ap Err c.in-Err-Label.field-0-is) in (
       c.loop-i.text.items ++ [],
       subst (λ n. Runs performs c.args.performer.now 1 all (c.loop-i.text.items ++ []) (Some n) c.perform.new.self) here
-          (RunsOn-stops performs c.args.performer.now all c.loop-i.performer (i + 1) delivery (drop (i + 1) all) c.loop-i.text.items c.perform.new.self on refused),
+          (RunsOn-stops performs c.args.performer.now all c.loop-i.performer (i + 1) delivery
+          (drop (i + 1) all) c.loop-i.text.items c.perform.new.self on refused),
     )
 
 pub loop-i-preserved : goal.loop-i-preserved
@@ -34,7 +35,8 @@ loop-i-preserved g c =
     (next_of all i delivery (omega arith) c.index-deliveries-i.is) c.loop-i.invariant in
     let said = c.in-Ok.ensures.ok in
     subst (λ x. RunsOn performs c.args.performer.now all c.perform.new.self (i + 1 + 1) (drop (i + 1) all) x) (sym {A = List ℕ} said.1)
-    (RunsOn-more performs c.args.performer.now all c.loop-i.performer (i + 1) delivery (drop (i + 1) all) c.loop-i.text.items said.0 c.perform.new.self on said.2)
+    (RunsOn-more performs c.args.performer.now all c.loop-i.performer (i + 1) delivery
+    (drop (i + 1) all) c.loop-i.text.items said.0 c.perform.new.self on said.2)
 
 pub returns-clause-ok : goal.returns-clause-ok
 returns-clause-ok g c =

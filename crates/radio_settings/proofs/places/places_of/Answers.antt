@@ -30,5 +30,6 @@ loop-place-preserved c =
     let none : is_some (get order c.loop-place.places name) ≡ false = cc (ap (λ (o : Option ℕ). is_some o) c.in_ok-insert.ensures.old) in
     let new : is_among (take i names) name ≡ false = sym (among_passed names i name c.loop-place.places c.loop-place.invariant.1) ∙ none in (
       passed_more names i name low c.index-names-place.is new c.loop-place.invariant.0,
-      places_more names i name c.loop-place.places c.insert.new.self low c.index-names-place.is (none_from_not_some _ none) c.in_ok-insert.ensures.updates c.loop-place.invariant.1,
+      places_more names i name c.loop-place.places c.insert.new.self low c.index-names-place.is
+          (none_from_not_some _ none) c.in_ok-insert.ensures.updates c.loop-place.invariant.1,
     )

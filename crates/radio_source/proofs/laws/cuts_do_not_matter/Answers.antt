@@ -1,4 +1,4 @@
-use Rattle.radio_source.proofs.ToldLemmas.{cuts}
+use Rattle.radio_source.proofs.OutputLemmas.{cuts}
 use Rattle.radio_source.proofs.laws.cuts_do_not_matter.Goals as goal
 
 pub returns : goal.returns

@@ -11,7 +11,7 @@ pub returns-in-Unfinished-clause-place : goal.returns-in-Unfinished-clause-place
 returns-in-Unfinished-clause-place c =
     let line = c.push.new.self.items in
     let reading : chunk_line_in line ≡ Unfinished = ap chunk_line_in (sym c.as_slice.ensures.value) ∙ (sym c.read_chunk_line.ensures ∙ c.in-Unfinished.is) in
-    sym (after_line_unfinished line reading (omega (arith, c.if-len-lt-LONGEST_LINE.true, c.len.ensures.value))) ∙ ap after_line c.push.ensures.items
+    sym (after_line_unfinished line reading (omega (arith, c.if-len-lt-MAX_CHUNK_LINE.true, c.len.ensures.value))) ∙ ap after_line c.push.ensures.items
 
 pub returns-clause-place : goal.returns-clause-place
 returns-clause-place c =
@@ -27,7 +27,8 @@ returns-clause-place c =
           ∙ (sym (after_chunk_line line _ (read ∙ w.in-Whole.is) w.in-Whole.size-test.1) ∙ ap after_line c.push.ensures.items)
       | in-Unfinished-2 w ↦
           ap (λ s. place_of s empty) w.stage-is
-          ∙ (sym (after_line_too_long line (read ∙ w.in-Unfinished.is) (omega (arith, w.if-len-lt-LONGEST_LINE.false, w.len.ensures.value))) ∙ ap after_line c.push.ensures.items)
+          ∙ (sym (after_line_too_long line (read ∙ w.in-Unfinished.is) (omega (arith, w.if-len-lt-MAX_CHUNK_LINE.false, w.len.ensures.value)))
+              ∙ ap after_line c.push.ensures.items)
       | in-Refused w ↦
           ap (λ s. place_of s empty) w.stage-is
           ∙ (sym (after_line_refused line (read ∙ w.in-Refused.is)) ∙ ap after_line c.push.ensures.items)

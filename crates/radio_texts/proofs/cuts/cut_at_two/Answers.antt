@@ -11,13 +11,16 @@ returns-then-starts_with c =
     let text : List ℕ = c.args.text.now in
     let two : begins_twice c.args.at (drop c.loop-place.place text) ≡ true = rw c.split_at.ensures.back at (sym c.if-starts_with.ensures.value) in
     rw (c.split_at.ensures.front, c.split_at-then-starts_with.ensures.back, c.split_at.ensures.back)
-    (cut_found (cut_at_two c.args.at) (begins_twice c.args.at) 2 (cut_at_two-is c.args.at) text c.loop-place.place c.loop-place-test.true two c.loop-place.invariant)
+    (cut_found (cut_at_two c.args.at) (begins_twice c.args.at) 2
+    (cut_at_two-is c.args.at) text c.loop-place.place c.loop-place-test.true two c.loop-place.invariant)
 
 pub loop-place-preserved : goal.loop-place-preserved
 loop-place-preserved c =
     let text : List ℕ = c.args.text.now in
     let other : begins_twice c.args.at (drop c.loop-place.place text) ≡ false = rw c.split_at.ensures.back at (sym c.if-starts_with.ensures.value) in
-    cut_passed (cut_at_two c.args.at) (begins_twice c.args.at) 2 (cut_at_two-is c.args.at) text c.loop-place.place c.loop-place-test.true other c.loop-place.invariant
+    cut_passed (cut_at_two c.args.at) (begins_twice c.args.at) 2
+    (cut_at_two-is c.args.at) text c.loop-place.place c.loop-place-test.true other c.loop-place.invariant
 
 pub returns : goal.returns
-returns c = cut_missing (cut_at_two c.args.at) (begins_twice c.args.at) 2 (cut_at_two-is c.args.at) c.args.text.now c.loop-place.place (omega arith) c.loop-place.invariant
+returns c = cut_missing (cut_at_two c.args.at) (begins_twice c.args.at) 2 (cut_at_two-is c.args.at) c.args.text.now c.loop-place.place
+    (omega arith) c.loop-place.invariant

@@ -16,7 +16,5 @@ returns c =
     let blocks = c.self.inside.blocks.items in
     let last = c.self.inside.last.items in
     let some : 0 < length last = grind (arith, nat_tests, c.if-is_empty.false, c.is_empty.ensures) in
-    c.in_ok-push.ensures.items
-    ∙ (ap (λ b. c.reserve.new.self.items ++ b ∷ []) c.in_ok-of_vec.ensures
-    ∙ (ap (λ b. b ++ last ∷ []) c.in_ok-reserve.ensures.items
-    ∙ (sym (gathered-part blocks last c.self.invariant.0 some c.self.invariant.1) ∙ ap blocks_of c.self.view_is)))
+    c.in_ok-push_block.ensures.ok
+    ∙ (sym (gathered-part blocks last c.self.invariant.0 some c.self.invariant.1) ∙ ap blocks_of c.self.view_is)

@@ -12,7 +12,8 @@ lines-init c =
 pub lines-preserved : goal.lines-preserved
 lines-preserved c =
     rw (c.in_ok-add_line.ensures, c.without_return.ensures)
-    (c.lines.invariant ∙ ap (with_lines c.lines.users) (lines_of-more c.lines.rest.now c.in-Some.line.now c.in-Some.after.now c.in-Some.ensures.fields (c.fields.ensures.some 10 c.in-Some.after.now)))
+    (c.lines.invariant ∙ ap (with_lines c.lines.users)
+    (lines_of-more c.lines.rest.now c.in-Some.line.now c.in-Some.after.now c.in-Some.ensures.fields (c.fields.ensures.some 10 c.in-Some.after.now)))
 
 pub lines-smaller : goal.lines-smaller
 lines-smaller c = omega (arith, c.in-Some.ensures.sizes)

@@ -1,5 +1,5 @@
 use Rattle.std.proofs.Common.{◌≡◌}
-use Rattle.radio_floor.specs.Hearing.{Heard}
+use Rattle.radio_session.specs.Hearing.{Heard}
 use Rattle.radio_floor.specs.ScriptState.{exchanges}
 use Rattle.radio_floor.specs.ScriptServer.{script_state_of, DoesAs}
 use Rattle.radio_floor.proofs.script_server.ScriptServer.hear_on.Goals as goal

@@ -2,11 +2,10 @@ use Rattle.std.proofs.Common.{◌≡◌, ◌++◌, List, ℕ, Option, Some, sym,
 use Rattle.radio_core.specs.declared.event.Event.TheVariants.{Arrive}
 use Rattle.radio_core.specs.Step.{reply_to, world_after}
 use Rattle.radio_tables.specs.Lists.{placed}
-use Rattle.radio_floor.specs.declared.connection.Says.TheVariants.{Asking}
-use Rattle.radio_floor.specs.declared.connection.Ending.{Ending}
+use Rattle.radio_session.specs.declared.state.State.{State}
 use Rattle.radio_floor.specs.declared.script_server.Labelled.{Labelled}
-use Rattle.radio_floor.specs.Saying.{said}
-use Rattle.radio_floor.specs.Conversation.{Conversation}
+use Rattle.radio_session.specs.Saying.{said}
+use Rattle.radio_session.specs.Conversation.{asking, Conversation}
 use Rattle.radio_floor.specs.ScriptState.{taken_in, told_lines, by_label}
 use Rattle.radio_floor.specs.ScriptServer.{performed_as}
 use Rattle.radio_floor.proofs.script_server.ScriptServer.open.Goals as goal
@@ -14,24 +13,24 @@ use Rattle.radio_floor.proofs.script_server.ScriptServer.open.Goals as goal
 pub returns : goal.returns
 returns c =
     let bytes = c.as_slice.result.now in
-    let ending = c.in_ok-connection.ending in
+    let state = c.in_ok-connection.state in
     let before = c.args.self.now.connections in (
-      told_lines c.args.label bytes ending,
+      told_lines c.args.label bytes state,
       c.in_ok-push_told.ensures,
       λ w stands.
           let a = c.in_ok-connection.ensures w stands in
           let reply = reply_to w (Arrive c.args.peer) in
           let later = world_after w (Arrive c.args.peer) in
-          let out : bytes ≡ (said Asking reply).bytes =
-          c.as_slice.ensures.value ∙ a.1 ∙ ap (λ (xs : List ℕ). xs ++ (said Asking reply).bytes) c.new-told.ensures.items in
+          let out : bytes ≡ (said asking reply).bytes =
+          c.as_slice.ensures.value ∙ a.1 ∙ ap (λ (xs : List ℕ). xs ++ (said asking reply).bytes) c.new-told.ensures.items in
           let row = λ (conversation : Option Conversation). let r : Labelled = record { label = c.args.label; connection = conversation } in r in
-          let listed : c.insert.new.self ≡ placed by_label (row (taken_in reply)) before =
+          let listed : c.insert.new.self ≡ placed by_label (row (taken_in c.args.peer reply)) before =
           c.in_ok-insert.ensures.ok ∙ ap (λ (conversation : Option Conversation). placed by_label (row conversation) before) a.2 in
-          let after = placed by_label (row (taken_in reply)) before in (
+          let after = placed by_label (row (taken_in c.args.peer reply)) before in (
             later,
             a.0,
-            ap (λ (xs : List ℕ). performed_as (Some (told_lines c.args.label xs (said Asking reply).ending)) later after) (sym out)
-                ∙ ap (λ (e : Option Ending). performed_as (Some (told_lines c.args.label bytes e)) later after) (sym a.3)
-                ∙ ap (λ (xs : List Labelled). performed_as (Some (told_lines c.args.label bytes ending)) later xs) (sym listed),
+            ap (λ (xs : List ℕ). performed_as (Some (told_lines c.args.label xs (said asking reply).state)) later after) (sym out)
+                ∙ ap (λ (e : State). performed_as (Some (told_lines c.args.label bytes e)) later after) (sym a.3)
+                ∙ ap (λ (xs : List Labelled). performed_as (Some (told_lines c.args.label bytes state)) later xs) (sym listed),
           ),
     )

@@ -1,5 +1,5 @@
 use Rattle.std.proofs.Common.{◌≡◌, [], Option, None, Some, sym, ap, ◌∙◌, append-nil}
-use Rattle.radio_floor.specs.Conversation.{Conversation}
+use Rattle.radio_session.specs.Conversation.{Conversation}
 use Rattle.radio_floor.specs.ScriptState.{connection_of, closes}
 use Rattle.radio_floor.specs.ScriptServer.{script_state_of, performed_as, DoesAs}
 use Rattle.radio_floor.proofs.ScriptStateLemmas.{unknown-label, shut-label, open-label, closes-mid}

@@ -14,7 +14,8 @@ invariant_of-self-2 c =
     elim c.if-not-is_empty.branch [
       | then-not-is_empty+in_ok-push w ↦
           let some : 0 < vec_len run = grind (arith, nat_tests, w.if-not-is_empty.true, c.is_empty.ensures) in
-          rw (w.self-inside-is, w.in_ok-push.ensures.items, c.in_ok-reserve.ensures.items, w.replace-run.ensures.value) (AreRuns-push_sound before run c.self.invariant.0 c.self.invariant.1 some)
+          rw (w.self-inside-is, w.in_ok-push.ensures.items, c.in_ok-reserve.ensures.items, w.replace-run.ensures.value)
+          (AreRuns-push_sound before run c.self.invariant.0 c.self.invariant.1 some)
       | else-not-is_empty w ↦ rw (w.self-inside-is, c.in_ok-reserve.ensures.items) c.self.invariant.0
     ] in
     let gathered = c.if-not-is_empty.self-inside.items.items in

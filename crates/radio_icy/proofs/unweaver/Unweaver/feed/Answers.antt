@@ -25,7 +25,8 @@ returns-in_ok-add_text-in-Some-clause-heard c =
     let held : List ℕ = c.in-Some.held.items in
     let all : heard (in_block n c.self.inside.left held) c.args.bytes.now ≡ WholeText (without_padding (held ++ end)) ∷ heard (at_sound n n) rest =
     ap (heard (in_block n c.self.inside.left held)) c.split_at.ensures.by_index.0 ∙ heard_block n c.self.inside.left held end rest some size in
-    rw (← c.self.view_is, c.in-Some.is, all) (rw (c.in_ok-add_text-in-Some.ensures, c.new-items.ensures, c.as_slice.ensures.value) at c.feed_sound-in-Some.ensures.heard)
+    rw (← c.self.view_is, c.in-Some.is, all)
+    (rw (c.in_ok-add_text-in-Some.ensures, c.new-items.ensures, c.as_slice.ensures.value) at c.feed_sound-in-Some.ensures.heard)
 
 pub returns-in_ok-add_text-in-Some-clause-after : goal.returns-in_ok-add_text-in-Some-clause-after
 returns-in_ok-add_text-in-Some-clause-after c =

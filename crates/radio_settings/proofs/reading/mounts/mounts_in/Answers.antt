@@ -24,5 +24,6 @@ loop-table-preserved c =
     let low : c.loop-table.table-index < length tables = rw length-map (omega arith) in
     let is = seen_at (λ t. table_view t.now) c.args.tables.now c.loop-table.table-index c.table-item.result (omega arith) c.table-item.is in (
       well_more mount_rows tables c.loop-table.table-index (table_view c.table-item.result.now) low is c.in_ok-mount.ensures.0 c.loop-table.invariant.0,
-      c.in_ok-push.ensures.items ∙ come_to_more (mount_of c.args.access.now c.args.limits.now) tables c.loop-table.table-index (table_view c.table-item.result.now) _ _ low is c.in_ok-mount.ensures.1 c.loop-table.invariant.1,
+      c.in_ok-push.ensures.items ∙ come_to_more (mount_of c.args.access.now c.args.limits.now) tables c.loop-table.table-index
+          (table_view c.table-item.result.now) _ _ low is c.in_ok-mount.ensures.1 c.loop-table.invariant.1,
     )

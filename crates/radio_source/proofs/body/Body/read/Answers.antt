@@ -7,7 +7,8 @@ use Rattle.radio_source.proofs.FeedingLemmas.{answer_to-found, unless_memory}
 use Rattle.radio_source.proofs.body.Body.read.Goals as goal
 use Rattle.radio_source.proofs.body.Body.read.Goals.{then-has_ended, else-has_ended}
 
-the_answer : (c : goal.After-answered) → answer_to c.args.self.now c.args.bytes.now ≡ answer_with c.in_ok-blocks.blocks.items c.if-has_ended.is_complete c.fault.result
+the_answer : (c : goal.After-answered) → answer_to c.args.self.now c.args.bytes.now
+    ≡ answer_with c.in_ok-blocks.blocks.items c.if-has_ended.is_complete c.fault.result
 the_answer c =
     let body = c.args.self.now in
     let bytes = c.args.bytes.now in
@@ -21,7 +22,8 @@ the_answer c =
     answer_to-found body bytes c.in_ok-blocks.blocks.items c.pass.new.gathering c.if-has_ended.is_complete c.pass.new.self c.fault.result
     c.requires
     (c.in_ok-pass.ensures.place ∙ ap (λ (b : Feeding). after b.place bytes) c.self.view_is)
-    (c.in_ok-pass.ensures.found ∙ (ap (λ t. t ++ data_of c.self.inside.position bytes) c.new-gathering.ensures ∙ ap (λ (b : Feeding). data_of b.place bytes) c.self.view_is))
+    (c.in_ok-pass.ensures.found
+        ∙ (ap (λ t. t ++ data_of c.self.inside.position bytes) c.new-gathering.ensures ∙ ap (λ (b : Feeding). data_of b.place bytes) c.self.view_is))
     c.in_ok-blocks.ensures
     ends
     c.fault.ensures
@@ -32,4 +34,5 @@ returns-clause-ok c =
 
 pub returns-clause-fault : goal.returns-clause-fault
 returns-clause-fault c =
-    subst (λ (a : Answer). IfErr c.answered.result (λ e. e ≢ NoMemory → a ≡ Refuses e)) (sym (the_answer c)) (unless_memory c.answered.result _ c.answered.ensures.fault)
+    subst (λ (a : Answer). IfErr c.answered.result (λ e. e ≢ NoMemory → a ≡ Refuses e)) (sym (the_answer c))
+        (unless_memory c.answered.result _ c.answered.ensures.fault)

@@ -1,0 +1,160 @@
+//! Unweaving.
+
+ghost use Rattle.std.specs.Prelude.{◌≤◌, length};
+
+use super::*;
+use radio_icy::{Item, Unweaver, Weaver};
+
+/// What is told of `X_STREAM` when it is taken apart.
+const X_TOLD: &[u8] = b"abcd<StreamTitle='X';>efgh";
+
+/// Tells items behind what came before: sound as it is, and each text in brackets.
+fn gather(items: &[Item], told: &mut Vec<u8>) -> Result<(), OutOfMemory> {
+    for item in items {
+        match item {
+            Item::Sound(bytes) => told.extend_from_slice(bytes.as_slice())?,
+            Item::Text(text) => {
+                told.push(b'<')?;
+                told.extend_from_slice(text.as_slice())?;
+                told.push(b'>')?;
+            }
+        }
+    }
+    Ok(())
+}
+
+/// Whether this is told of a stream that is fed in pieces of so many bytes.
+fn is_told(
+    alloc: Global,
+    interval: usize,
+    stream: &[u8],
+    piece: usize,
+    want: &[u8],
+) -> Result<bool, OutOfMemory>
+    requires interval { 1 ≤ interval }
+    requires piece { 1 ≤ piece }
+{
+    let mut told = Vec::new(alloc);
+    let mut unweaver = Unweaver::new(alloc, interval);
+    for piece in stream.chunks(piece) {
+        gather(unweaver.feed(piece)?.as_slice(), &mut told)?;
+    }
+    Ok(told.as_slice() == want)
+}
+
+#[test]
+fn pieces_of_each_size(rt: HostRuntime) -> Result<(), OutOfMemory> {
+    for size in 1..=X_STREAM.len() {
+        assert!(rt; is_told(rt.alloc(), 4, X_STREAM, size, X_TOLD)?, "{size}");
+    }
+    Ok(())
+}
+
+/// Streams with a block after each byte or each four, and how many items are in them: runs of sound are joined.
+const COUNTS: &[(usize, &[u8], usize)] = &[(1, b"a\0b\0c\0d", 1), (4, X_STREAM, 3), (4, b"", 0)];
+
+fn has_count(
+    alloc: Global,
+    interval: usize,
+    piece: &[u8],
+    want: usize,
+) -> Result<bool, OutOfMemory> {
+    Ok(Unweaver::new(alloc, interval.max(1)).feed(piece)?.len() == want)
+}
+
+#[test]
+fn runs_of_sound_are_joined(rt: HostRuntime) -> Result<(), OutOfMemory> {
+    for (interval, piece, want) in COUNTS {
+        assert!(rt;
+            has_count(rt.alloc(), *interval, piece, *want)?,
+            "{piece:?}"
+        );
+    }
+    Ok(())
+}
+
+/// The longest block, cut at each of its bytes.
+fn is_told_cut(alloc: Global, stream: &[u8], cut: usize, want: &[u8]) -> Result<bool, OutOfMemory>
+    requires { cut ≤ length stream.now }
+{
+    let mut told = Vec::new(alloc);
+    let mut unweaver = Unweaver::new(alloc, 4);
+    let (front, rest) = stream.split_at(cut);
+    gather(unweaver.feed(front)?.as_slice(), &mut told)?;
+    gather(unweaver.feed(rest)?.as_slice(), &mut told)?;
+    Ok(told.as_slice() == want)
+}
+
+#[test]
+fn longest_block_cut_at_each_byte(rt: HostRuntime) -> Result<(), OutOfMemory> {
+    let stream = enclosed(rt.alloc(), b"abcd\xffStreamTitle='", &[b'a'; 4065], b"';ef")?;
+    let want = enclosed(rt.alloc(), b"abcd<StreamTitle='", &[b'a'; 4065], b"';>ef")?;
+    for cut in 0..=stream.len() {
+        assert!(rt;
+            is_told_cut(rt.alloc(), stream.as_slice(), cut, want.as_slice())?,
+            "{cut}"
+        );
+    }
+    Ok(())
+}
+
+/// Feeds a piece, again where that was refused, and gathers what it brings.
+fn feed_or_repeat(
+    unweaver: &mut Unweaver,
+    piece: &[u8],
+    told: &mut Vec<u8>,
+) -> Result<(), OutOfMemory> {
+    let items = match unweaver.feed(piece) {
+        Ok(items) => items,
+        Err(_) => unweaver.feed(piece)?,
+    };
+    gather(items.as_slice(), told)
+}
+
+/// Room for what a test gathers; asked for again, where one request is refused.
+fn room(alloc: Global) -> Result<Vec<u8>, OutOfMemory> {
+    match Vec::with_capacity(alloc, 64) {
+        Ok(empty) => Ok(empty),
+        Err(_) => Vec::with_capacity(alloc, 64),
+    }
+}
+
+#[test]
+fn refused_unweaving_changes_nothing(rt: HostRuntime) -> Result<(), OutOfMemory> {
+    let mut unweaver = Unweaver::new(rt.alloc(), 4);
+    let mut told = room(rt.alloc())?;
+    for piece in [b"abcd\x01Stream".as_slice(), b"Title='X", b"';efgh\0"] {
+        feed_or_repeat(&mut unweaver, piece, &mut told)?;
+    }
+    assert!(rt; told.as_slice() == X_TOLD);
+    Ok(())
+}
+
+/// The stream of so much sound, woven at once.
+fn stream_of(alloc: Global, interval: usize, sound: &[u8]) -> Result<Vec<u8>, OutOfMemory>
+    requires { 1 ≤ interval }
+{
+    let mut out = Vec::new(alloc);
+    Weaver::new(alloc, interval).weave(sound, None, &mut out)?;
+    Ok(out)
+}
+
+/// Whether 1 MiB of sound is told again, whole, of its stream in pieces of 1400 bytes.
+fn is_told_again(alloc: Global, interval: usize) -> Result<bool, OutOfMemory>
+    requires { 1 ≤ interval }
+{
+    let sound = vec![in alloc; b's'; 1 << 20]?;
+    let stream = stream_of(alloc, interval, sound.as_slice())?;
+    Ok(
+        stream.len() == sound.len() + sound.len() / interval
+            && is_told(alloc, interval, stream.as_slice(), 1400, sound.as_slice())?,
+    )
+}
+
+#[test]
+fn a_mebibyte(rt: HostRuntime) -> Result<(), OutOfMemory> {
+    for interval in [1, 16000] {
+        assert!(rt; is_told_again(rt.alloc(), interval)?, "{interval}");
+    }
+    Ok(())
+}

@@ -1,0 +1,5 @@
+pub mod Stamp
+pub mod History
+pub mod Clients
+pub mod Books
+pub mod Settling

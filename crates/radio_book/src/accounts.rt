@@ -1,0 +1,234 @@
+//! What happened, and what is owed.
+
+ghost use Rattle.std.specs.Prelude.{◌≡◌, ◌+◌, ◌≤◌, ◌<◌, ◌^◌, ◌∷◌, [], ◌++◌, ℕ, length, true, false, IsOk, IfOk, IfSome, OnOk, OnErr, vec_len, vec_capacity};
+ghost use Rattle.radio_core.specs.World.{World};
+ghost use Rattle.radio_core.specs.Step.{Represents, TakesNoMemory, reply_to, world_after};
+ghost use Rattle.radio_book.specs.History.{entry_of};
+ghost use Rattle.radio_book.specs.Clients.{is_arrival, room_for};
+
+use crate::debt::Debt;
+use crate::holdings::Holdings;
+use crate::story::Story;
+use crate::{Chronicle, House, OutOfMemory, Receipt};
+use radio_core::Event;
+use std::alloc::{AllocError, Global};
+use std::sync::ledger::Share;
+
+/// What happened, and what is owed: there is room for each entry that is owed. What no caller has of
+/// the ledger yet is cut into as many parts as there are passes left.
+#[derive(Drop)]
+pub(crate) struct Accounts<C: Chronicle, H: House> {
+    pub(crate) story: Story<C, H>,
+    debt: Debt<H>,
+    spare: Share<H>,
+    passes_left: u64,
+    ghost room: { debt.owed ≤ C.room story.chronicle },
+    ghost left: { spare.parts ≡ passes_left },
+    ghost none: { spare.amount ≡ 0 },
+}
+
+/// An event three times: for the history, for the pass and for the caller.
+#[derive(Drop)]
+struct Copies {
+    noted: Event,
+    held: Event,
+    told: Event,
+}
+
+impl<C: Chronicle, H: House> Accounts<C, H> {
+    pub(crate) fn new(
+        story: Story<C, H>,
+        debt: Debt<H>,
+        spare: Share<H>,
+        passes_left: u64,
+    ) -> Accounts<C, H>
+        requires none { debt.owed ≡ 0 }
+        requires spare { (spare.parts ≡ passes_left) × (spare.amount ≡ 0) }
+        ensures { result.story ≡ story }
+    {
+        Accounts {
+            story,
+            debt,
+            spare,
+            passes_left,
+        }
+    }
+
+    /// Empty holdings. `None` where all were taken.
+    pub(crate) fn holdings(&mut self, alloc: Global) -> Option<Holdings<H>>
+        ensures empty { IfSome result (λ holdings. holdings.receipts.items ≡ []) }
+        ensures same { self.new.story ≡ self.old.story }
+    {
+        if self.passes_left == 0 {
+            return None;
+        }
+        let share = self.spare.split_off(1, 0);
+        self.passes_left -= 1;
+        Some(Holdings::new(alloc, share))
+    }
+
+    /// One event, where nothing is stored. `OutOfMemory` where memory was refused; nothing has
+    /// changed then.
+    pub(crate) fn answer(&mut self, event: Event) -> Result<Receipt, OutOfMemory>
+        requires { C.KEEPS ≡ false }
+        ensures step { (w : World) → Represents self.old.story.core w → IfOk result (λ receipt. (receipt.reply ≡ reply_to w event) × Represents self.new.story.core (world_after w event)) }
+        ensures event { IfOk result (λ receipt. (receipt.serial ≡ 0) × (receipt.event ≡ event)) }
+        ensures chronicle { self.new.story.chronicle ≡ self.old.story.chronicle }
+        ensures err { OnErr result (self.new.story.core ≡ self.old.story.core) }
+        ensures frees { TakesNoMemory event → IsOk result }
+    {
+        match event.again() {
+            Ok(told) => self.answer_with(event, told),
+            Err(refused) => {
+                drop(event);
+                Err(refused)
+            }
+        }
+    }
+
+    /// The same, with the copy that the receipt has.
+    fn answer_with(&mut self, event: Event, told: Event) -> Result<Receipt, OutOfMemory>
+        requires unkept { C.KEEPS ≡ false }
+        requires copy { told ≡ event }
+        ensures step { (w : World) → Represents self.old.story.core w → IfOk result (λ receipt. (receipt.reply ≡ reply_to w event) × Represents self.new.story.core (world_after w event)) }
+        ensures event { IfOk result (λ receipt. (receipt.serial ≡ 0) × (receipt.event ≡ event)) }
+        ensures chronicle { self.new.story.chronicle ≡ self.old.story.chronicle }
+        ensures err { OnErr result (self.new.story.core ≡ self.old.story.core) }
+        ensures frees { TakesNoMemory event → IsOk result }
+    {
+        match self.story.answer(event) {
+            Ok(reply) => Ok(Receipt::new(0, told, reply)),
+            Err(refused) => {
+                drop(told);
+                Err(refused)
+            }
+        }
+    }
+
+    /// One event, which is stored. `OutOfMemory` where memory was refused; nothing has changed then.
+    pub(crate) fn note(
+        &mut self,
+        holdings: &mut Holdings<H>,
+        event: Event,
+    ) -> Result<Receipt, OutOfMemory>
+        requires { C.KEEPS ≡ true }
+        ensures step { (w : World) → Represents self.old.story.core w → IfOk result (λ receipt. (receipt.reply ≡ reply_to w event) × Represents self.new.story.core (world_after w event)) }
+        ensures event { IfOk result (λ receipt. receipt.event ≡ event) }
+        ensures serial { IfOk result (λ receipt. receipt.serial ≡ length (C.entries self.new.story.chronicle)) }
+        ensures history { IfOk result (λ receipt. C.entries self.new.story.chronicle ≡ C.entries self.old.story.chronicle ++ entry_of receipt ∷ []) }
+        ensures receipts { IfOk result (λ receipt. holdings.new.receipts.items ≡ holdings.old.receipts.items ++ receipt ∷ []) }
+        ensures err { OnErr result ((self.new.story.core ≡ self.old.story.core) × (C.entries self.new.story.chronicle ≡ C.entries self.old.story.chronicle) × (holdings.new.receipts.items ≡ holdings.old.receipts.items)) }
+        ensures frees { TakesNoMemory event → room_for holdings.old.clients.items event ≡ 0 → IsOk result }
+    {
+        match self.prepare(holdings, &event) {
+            Ok(copies) => self.note_in_room(holdings, event, copies),
+            Err(refused) => {
+                drop(event);
+                Err(refused)
+            }
+        }
+    }
+
+    /// Makes room for an event and for the ends that are owed then, and copies of the event.
+    /// `OutOfMemory` where memory was refused.
+    fn prepare(&mut self, holdings: &mut Holdings<H>, event: &Event) -> Result<Copies, OutOfMemory>
+        ensures copies { IfOk result (λ copies. (copies.noted ≡ event.now) × (copies.held ≡ event.now) × (copies.told ≡ event.now)) }
+        ensures chronicle { OnOk result ((0 < C.room self.new.story.chronicle) × (self.new.debt.owed + room_for holdings.new.clients.items event.now ≤ C.room self.new.story.chronicle)) }
+        ensures most { OnOk result (C.room self.new.story.chronicle < 2 ^ 64) }
+        ensures receipts { OnOk result (vec_len holdings.new.receipts + vec_len holdings.new.clients + room_for holdings.new.clients.items event.now ≤ vec_capacity holdings.new.receipts) }
+        ensures clients { OnOk result (is_arrival event.now ≡ true → vec_len holdings.new.clients < vec_capacity holdings.new.clients) }
+        ensures frees { TakesNoMemory event.now → room_for holdings.old.clients.items event.now ≡ 0 → IsOk result }
+        ensures same { (self.new.story.core ≡ self.old.story.core) × (C.entries self.new.story.chronicle ≡ C.entries self.old.story.chronicle) }
+        ensures held { (holdings.new.receipts.items ≡ holdings.old.receipts.items) × (holdings.new.clients.items ≡ holdings.old.clients.items) }
+    {
+        self.make_room(holdings, event)?;
+        thrice(event)
+    }
+
+    /// Makes room for an event and for the ends that are owed then. `OutOfMemory` where memory was
+    /// refused.
+    fn make_room(&mut self, holdings: &mut Holdings<H>, event: &Event) -> Result<(), OutOfMemory>
+        ensures chronicle { OnOk result ((0 < C.room self.new.story.chronicle) × (self.new.debt.owed + room_for holdings.new.clients.items event.now ≤ C.room self.new.story.chronicle)) }
+        ensures most { OnOk result (C.room self.new.story.chronicle < 2 ^ 64) }
+        ensures receipts { OnOk result (vec_len holdings.new.receipts + vec_len holdings.new.clients + room_for holdings.new.clients.items event.now ≤ vec_capacity holdings.new.receipts) }
+        ensures clients { OnOk result (is_arrival event.now ≡ true → vec_len holdings.new.clients < vec_capacity holdings.new.clients) }
+        ensures frees { room_for holdings.old.clients.items event.now ≡ 0 → IsOk result }
+        ensures same { (self.new.story.core ≡ self.old.story.core) × (C.entries self.new.story.chronicle ≡ C.entries self.old.story.chronicle) }
+        ensures held { (holdings.new.receipts.items ≡ holdings.old.receipts.items) × (holdings.new.clients.items ≡ holdings.old.clients.items) }
+    {
+        let more = holdings.room_for(event);
+        holdings.audit(&mut self.debt);
+        let Some(entries) = self.debt.owed.checked_add(more) else {
+            return Err(AllocError);
+        };
+        self.story.chronicle.reserve(entries)?;
+        holdings.reserve(more)
+    }
+
+    /// One event, which is stored, and for which there is room. `OutOfMemory` where memory was
+    /// refused; nothing has changed then.
+    fn note_in_room(
+        &mut self,
+        holdings: &mut Holdings<H>,
+        event: Event,
+        copies: Copies,
+    ) -> Result<Receipt, OutOfMemory>
+        requires keeps { C.KEEPS ≡ true }
+        requires copies { (copies.noted ≡ event) × (copies.held ≡ event) × (copies.told ≡ event) }
+        requires chronicle { (0 < C.room self.old.story.chronicle) × (self.old.debt.owed + room_for holdings.old.clients.items event ≤ C.room self.old.story.chronicle) }
+        requires most { C.room self.old.story.chronicle < 2 ^ 64 }
+        requires receipts { vec_len holdings.old.receipts + vec_len holdings.old.clients + room_for holdings.old.clients.items event ≤ vec_capacity holdings.old.receipts }
+        requires clients { is_arrival event ≡ true → vec_len holdings.old.clients < vec_capacity holdings.old.clients }
+        ensures step { (w : World) → Represents self.old.story.core w → IfOk result (λ receipt. (receipt.reply ≡ reply_to w event) × Represents self.new.story.core (world_after w event)) }
+        ensures event { IfOk result (λ receipt. receipt.event ≡ event) }
+        ensures serial { IfOk result (λ receipt. receipt.serial ≡ length (C.entries self.new.story.chronicle)) }
+        ensures history { IfOk result (λ receipt. C.entries self.new.story.chronicle ≡ C.entries self.old.story.chronicle ++ entry_of receipt ∷ []) }
+        ensures receipts { IfOk result (λ receipt. holdings.new.receipts.items ≡ holdings.old.receipts.items ++ receipt ∷ []) }
+        ensures err { OnErr result ((self.new.story.core ≡ self.old.story.core) × (self.new.story.chronicle ≡ self.old.story.chronicle) × (holdings.new.receipts.items ≡ holdings.old.receipts.items)) }
+        ensures frees { TakesNoMemory event → IsOk result }
+    {
+        let Copies { noted, held, told } = copies;
+        match self.story.record(event, noted) {
+            Ok((held_reply, reply)) => {
+                let serial = self.story.chronicle.len() as u64;
+                holdings.note(&mut self.debt, Receipt::new(serial, held, held_reply));
+                Ok(Receipt::new(serial, told, reply))
+            }
+            Err(refused) => {
+                drop(held);
+                drop(told);
+                Err(refused)
+            }
+        }
+    }
+}
+
+/// An event three times. `OutOfMemory` where memory was refused.
+fn thrice(event: &Event) -> Result<Copies, OutOfMemory>
+    ensures value { IfOk result (λ copies. (copies.noted ≡ event.now) × (copies.held ≡ event.now) × (copies.told ≡ event.now)) }
+    ensures frees { TakesNoMemory event.now → IsOk result }
+{
+    let noted = event.again()?;
+    match twice(event) {
+        Ok((held, told)) => Ok(Copies { noted, held, told }),
+        Err(refused) => {
+            drop(noted);
+            Err(refused)
+        }
+    }
+}
+
+/// An event twice. `OutOfMemory` where memory was refused.
+fn twice(event: &Event) -> Result<(Event, Event), OutOfMemory>
+    ensures value { IfOk result (λ copies. (copies.0 ≡ event.now) × (copies.1 ≡ event.now)) }
+    ensures frees { TakesNoMemory event.now → IsOk result }
+{
+    let first = event.again()?;
+    match event.again() {
+        Ok(second) => Ok((first, second)),
+        Err(refused) => {
+            drop(first);
+            Err(refused)
+        }
+    }
+}

@@ -1,0 +1,110 @@
+//! A core whose events are noted.
+
+ghost use Rattle.std.specs.Prelude.{◌≡◌, ◌<◌, ◌^◌, ◌∷◌, [], ◌++◌, ℕ, length, true, false, IsOk, IfOk, IfSome, OnErr};
+ghost use Rattle.radio_core.specs.World.{World, opening};
+ghost use Rattle.radio_core.specs.Step.{Represents, reply_to, world_after};
+ghost use Rattle.radio_book.specs.History.{IsTold, entry_of};
+ghost use Rattle.radio_book.specs.Clients.{is_here};
+
+use crate::accounts::Accounts;
+use crate::debt::Debt;
+use crate::story::Story;
+use crate::{Chronicle, Entry, House, Kept, OutOfMemory, Pass, Receipt};
+use radio_core::{Core, Event};
+use radio_settings::Settings;
+use std::alloc::Global;
+use std::marker::Model;
+use std::sync::ledger::Blank;
+
+/// How many passes a book gives.
+pub const PASSES: u64 = 1 << 32;
+
+/// A core, and a chronicle of what happened to it. In contracts it is the core, and the entries
+/// that are stored.
+#[derive(Drop)]
+pub struct Book<C: Chronicle, H: House> {
+    alloc: Global,
+    accounts: Accounts<C, H>,
+}
+
+impl<C: Chronicle, H: House> Model for Book<C, H> {
+    ghost use Rattle.radio_book.specs.Books.{BookState};
+
+    ghost Value = { BookState };
+
+    ghost view = { λ b. record { core = b.accounts.story.core; history = C.entries b.accounts.story.chronicle } };
+}
+
+impl<C: Chronicle, H: House> Book<C, H> {
+    /// A book in which nothing has happened yet. It takes no memory.
+    pub fn new(alloc: Global, settings: Settings, blank: Blank) -> Book<C, H>
+        requires opening { H.opening ≡ opening settings }
+        requires ledger { (blank.name ≡ H.name) × (blank.parts ≡ H.parts) × (blank.parts ≡ 2 ^ 32) }
+        // its core stands for the opening state of these settings
+        ensures core { Represents result.core (opening settings) }
+        ensures history { result.history ≡ [] }
+    {
+        let (book, spare) = blank.open::<H>();
+        let story = Story::new(Core::new(alloc, settings), C::new(alloc));
+        Book {
+            alloc,
+            accounts: Accounts::new(story, Debt::new(book), spare, PASSES),
+        }
+    }
+
+    /// A pass with no receipt yet. `None` only once [`PASSES`] were taken.
+    pub fn pass(&mut self) -> Option<Pass<C, H>>
+        ensures empty { IfSome result (λ pass. pass ≡ []) }
+        ensures same { self.new ≡ self.old }
+    {
+        let holdings = self.accounts.holdings(self.alloc)?;
+        Some(Pass::new(holdings))
+    }
+
+    /// One event, noted with its reply where entries are stored; its receipt.
+    ///
+    /// `OutOfMemory` where memory was refused; book and pass are unchanged then. The end of a client
+    /// who was let in through this pass, and has not left through it, is never refused: its entry
+    /// was reserved when he was let in.
+    pub fn apply(&mut self, pass: &mut Pass<C, H>, event: Event) -> Result<Receipt, OutOfMemory>
+        // whatever state the core stands for, the reply is that of a step from it, and the core stands for the state after it
+        ensures step { (w : World) → Represents self.old.core w → IfOk result (λ receipt. (receipt.reply ≡ reply_to w event) × Represents self.new.core (world_after w event)) }
+        ensures event { IfOk result (λ receipt. receipt.event ≡ event) }
+        // where entries are stored, the history grows by this event with this reply, at the receipt's serial
+        ensures history { C.KEEPS ≡ true → IfOk result (λ receipt. self.new.history ≡ self.old.history ++ entry_of receipt ∷ []) }
+        ensures serial { C.KEEPS ≡ true → IfOk result (λ receipt. receipt.serial ≡ length self.new.history) }
+        // and the pass by the receipt
+        ensures pass { C.KEEPS ≡ true → IfOk result (λ receipt. pass.new ≡ pass.old ++ receipt ∷ []) }
+        // where they are not, nothing is noted
+        ensures unkept { C.KEEPS ≡ false → (self.new.history ≡ self.old.history) × (pass.new ≡ pass.old) × IfOk result (λ receipt. receipt.serial ≡ 0) }
+        ensures err { OnErr result ((self.new ≡ self.old) × (pass.new ≡ pass.old)) }
+        // the end of who was let in through this pass, and has not left through it, is never refused
+        ensures leave { (id : ℕ) → event ≡ Event.Leave id → is_here id pass.old ≡ true → IsOk result }
+    {
+        if C::KEEPS {
+            self.accounts.note(&mut pass.holdings, event)
+        } else {
+            self.accounts.answer(event)
+        }
+    }
+
+    /// Whatever was called, there is a history that is a run from the opening state, and the core
+    /// stands for the state after it; where entries are stored, they are that history.
+    pub fn is_told(&self)
+        ensures { ∥ IsTold C.KEEPS H.opening self.now.history self.now.core ∥₁ }
+    {
+        let _story = &self.accounts.story;
+    }
+}
+
+impl<H: House> Book<Kept, H> {
+    ghost use Rattle.radio_book.specs.History.{IsRun};
+
+    /// Its history, which is a run from the opening state.
+    pub(crate) fn into_history(self) -> Vec<Entry>
+        ensures history { result.items ≡ self.history }
+        ensures run { ∥ IsRun H.opening result.items ∥₁ }
+    {
+        self.accounts.story.into_history()
+    }
+}

@@ -1,0 +1,21 @@
+//! Which house it is.
+
+use std::marker::Brand;
+use std::sync::ledger::Ledger;
+
+/// Which house a book and its passes belong to: the state in which it was opened, and the ledger
+/// of the ends that it owes to those who let clients in. It stands in contracts alone; a call at
+/// `Brand` picks one.
+pub trait House: Ledger {
+    ghost use Rattle.radio_core.specs.World.{World};
+
+    ghost opening: { World };
+}
+
+impl House for Brand {
+    ghost use Rattle.toml.specs.Data.{no_members};
+    ghost use Rattle.radio_core.specs.World.{opening as opening_of};
+    ghost use Rattle.radio_settings.specs.Document.{settings_of};
+
+    ghost opening = { opening_of (settings_of no_members) };
+}

@@ -1,0 +1,31 @@
+//! One legal history: a core, what happened to it, and receipts of it for those who called.
+//!
+//! - [`Book`]: a core and its chronicle; [`Book::apply`] is one event, noted.
+//! - [`Chronicle`]: what becomes of the entries. [`Kept`] stores each, [`Unkept`] none.
+//! - [`Pass`]: what a caller has: the receipts of his calls, and the right to see off whom he let in.
+//! - [`settle`]: all passes held against the book, when nobody calls any more.
+//! - [`House`]: which house a book and its passes belong to; it stands in contracts alone.
+#![tactic(auto)]
+
+mod accounts;
+mod book;
+mod chronicle;
+mod debt;
+mod entry;
+mod holdings;
+mod house;
+mod pass;
+mod receipt;
+mod settling;
+mod story;
+
+pub use book::{Book, PASSES};
+pub use chronicle::{Chronicle, Kept, Unkept};
+pub use entry::Entry;
+pub use house::House;
+pub use pass::Pass;
+pub use receipt::Receipt;
+pub use settling::{SettleFault, settle};
+
+/// What a call answers where memory was refused. Nothing has changed then.
+pub type OutOfMemory = std::alloc::AllocError;

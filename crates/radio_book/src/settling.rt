@@ -1,0 +1,210 @@
+//! All passes held against the book.
+
+ghost use Rattle.std.specs.Prelude.{◌≡◌, ◌↔◌, ◌<◌, ◌^◌, ◌∷◌, [], ◌++◌, ℕ, length, IsTrue, IfOk, OnOk, IsPermutation, All};
+ghost use Rattle.std.specs.List.{range_with_len};
+ghost use Rattle.radio_book.specs.History.{IsRun, StandsIn};
+ghost use Rattle.radio_book.specs.Settling.{Rises, all_serials, serials};
+
+use crate::{Book, Entry, House, Kept, OutOfMemory, Pass, Receipt};
+use std::alloc::Global;
+use std::cmp::Ordering;
+use std::fmt;
+
+/// What is wrong with the passes of a book.
+#[derive(Clone, Copy, Debug, PartialEq, Eq)]
+pub enum SettleFault {
+    /// The entry of the receipt of this serial does not stand there in the book's history.
+    Strange { serial: u64 },
+    /// Two receipts have this serial.
+    Twice { serial: u64 },
+    /// In one pass a receipt of the serial `got` comes after one of `seen`, and is not above it.
+    OutOfOrder { seen: u64, got: u64 },
+    /// The book has so many entries, and the passes have so many receipts.
+    Count { book: u64, passes: u64 },
+    /// Memory ran out.
+    OutOfMemory,
+}
+
+impl From<OutOfMemory> for SettleFault {
+    fn from(_: OutOfMemory) -> SettleFault {
+        SettleFault::OutOfMemory
+    }
+}
+
+/// Holds all passes of a book against it, when nobody calls any more; the history then.
+///
+/// The faults are looked for in the order in which [`SettleFault`] has them, all receipts for the
+/// first, then all for the next. `OutOfMemory` may come in place of each. After a fault the book
+/// and the passes are gone.
+pub fn settle<H: House>(
+    alloc: Global,
+    book: Book<Kept, H>,
+    passes: Vec<Pass<Kept, H>>,
+) -> Result<Vec<Entry>, SettleFault>
+    // it is the book's history, and a run from the opening state
+    ensures history { IfOk result (λ history. history.items ≡ book.history) }
+    ensures run { IfOk result (λ history. ∥ IsRun H.opening history.items ∥₁) }
+    // each receipt of each pass stands in it, in the order of the pass
+    ensures stand { IfOk result (λ history. All (λ pass. All (StandsIn history.items) pass) passes.items) }
+    ensures rise { IfOk result (λ history. All (λ pass. Rises 0 (serials pass)) passes.items) }
+    // and nothing else stands there: each place has one receipt in all passes together
+    ensures once { IfOk result (λ history. IsPermutation (range_with_len 1 (length history.items)) (all_serials passes.items)) }
+{
+    let history = book.into_history();
+    let checked = check(alloc, history.as_slice(), passes.as_slice());
+    drop(passes);
+    match checked {
+        Ok(()) => Ok(history),
+        Err(fault) => {
+            drop(history);
+            Err(fault)
+        }
+    }
+}
+
+/// Looks for the faults, one after another.
+fn check<H: House>(
+    alloc: Global,
+    history: &[Entry],
+    passes: &[Pass<Kept, H>],
+) -> Result<(), SettleFault>
+    ensures stand { OnOk result (All (λ pass. All (StandsIn history.now) pass) passes.now) }
+    ensures rise { OnOk result (All (λ pass. Rises 0 (serials pass)) passes.now) }
+    ensures once { OnOk result (IsPermutation (range_with_len 1 (length history.now)) (all_serials passes.now)) }
+{
+    check_strange(history, passes)?;
+    let sorted = sorted_serials(alloc, passes)?;
+    check_twice(sorted.as_slice())?;
+    check_order(passes)?;
+    check_count(history.len(), sorted.as_slice())?;
+    Ok(())
+}
+
+/// Each receipt of each pass stands in the history.
+fn check_strange<H: House>(history: &[Entry], passes: &[Pass<Kept, H>]) -> Result<(), SettleFault>
+    ensures { OnOk result (All (λ pass. All (StandsIn history.now) pass) passes.now) }
+{
+    for pass in passes {
+        check_receipts(history, pass.receipts())?;
+    }
+    Ok(())
+}
+
+/// Each receipt stands in the history.
+fn check_receipts(history: &[Entry], receipts: &[Receipt]) -> Result<(), SettleFault>
+    ensures { OnOk result (All (StandsIn history.now) receipts.now) }
+{
+    for receipt in receipts {
+        check_receipt(history, receipt)?;
+    }
+    Ok(())
+}
+
+/// The receipt stands in the history.
+fn check_receipt(history: &[Entry], receipt: &Receipt) -> Result<(), SettleFault>
+    ensures { OnOk result (StandsIn history.now receipt.now) }
+{
+    if stands_in(history, receipt) {
+        return Ok(());
+    }
+    Err(SettleFault::Strange {
+        serial: receipt.serial(),
+    })
+}
+
+/// Whether the receipt's entry stands in the history, at its serial.
+fn stands_in(history: &[Entry], receipt: &Receipt) -> bool
+    ensures { IsTrue result ↔ StandsIn history.now receipt.now }
+{
+    let Some(place) = receipt.serial().checked_sub(1) else {
+        return false;
+    };
+    let Some(entry) = history.get(place as usize) else {
+        return false;
+    };
+    entry.event.same(receipt.event()) && entry.reply.same(receipt.reply())
+}
+
+/// The serials of all passes, sorted. `OutOfMemory` where memory was refused.
+fn sorted_serials<H: House>(
+    alloc: Global,
+    passes: &[Pass<Kept, H>],
+) -> Result<Vec<u64>, OutOfMemory>
+    ensures { IfOk result (λ sorted. IsPermutation (all_serials passes.now) sorted.items) }
+{
+    let mut sorted = Vec::new(alloc);
+    for pass in passes {
+        add_serials(&mut sorted, pass.receipts())?;
+    }
+    sorted.sort()?;
+    Ok(sorted)
+}
+
+fn add_serials(all: &mut Vec<u64>, receipts: &[Receipt]) -> Result<(), OutOfMemory>
+    ensures { OnOk result (all.new.items ≡ all.old.items ++ serials receipts.now) }
+{
+    for receipt in receipts {
+        all.push(receipt.serial())?;
+    }
+    Ok(())
+}
+
+/// No serial stands beside itself.
+fn check_twice(sorted: &[u64]) -> Result<(), SettleFault> {
+    for pair in sorted.windows(2) {
+        if pair[0] == pair[1] {
+            return Err(SettleFault::Twice { serial: pair[0] });
+        }
+    }
+    Ok(())
+}
+
+/// The serials rise in each pass.
+fn check_order<H: House>(passes: &[Pass<Kept, H>]) -> Result<(), SettleFault>
+    ensures { OnOk result (All (λ pass. Rises 0 (serials pass)) passes.now) }
+{
+    for pass in passes {
+        check_rise(pass.receipts())?;
+    }
+    Ok(())
+}
+
+/// The serials of the receipts rise.
+fn check_rise(receipts: &[Receipt]) -> Result<(), SettleFault>
+    ensures { OnOk result (Rises 0 (serials receipts.now)) }
+{
+    let mut seen = 0;
+    for receipt in receipts {
+        let got = receipt.serial();
+        if got <= seen {
+            return Err(SettleFault::OutOfOrder { seen, got });
+        }
+        seen = got;
+    }
+    Ok(())
+}
+
+/// The serials are those of a history of so many entries.
+fn check_count(book: usize, sorted: &[u64]) -> Result<(), SettleFault>
+    ensures { OnOk result (sorted.now ≡ range_with_len 1 book) }
+{
+    if sorted.len() == book && count_up(sorted) {
+        return Ok(());
+    }
+    Err(SettleFault::Count {
+        book: book as u64,
+        passes: sorted.len() as u64,
+    })
+}
+
+/// Whether the numbers are 1, 2 and so on.
+fn count_up(numbers: &[u64]) -> bool
+    ensures { IsTrue result → numbers.now ≡ range_with_len 1 (length numbers.now) }
+{
+    for (i, number) in numbers.iter().enumerate() {
+        if *number != i as u64 + 1 {
+            return false;
+        }
+    }
+    true
+}

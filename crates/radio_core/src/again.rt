@@ -1,0 +1,66 @@
+//! Equal copies of events, for whoever keeps a record of them.
+
+ghost use Rattle.std.specs.Prelude.{◌≡◌, IsOk, IfOk};
+ghost use Rattle.radio_core.specs.Step.{TakesNoMemory};
+
+use crate::{Event, ListenRequest, OutOfMemory, SourceRequest};
+use radio_creds::Pair;
+
+impl Event {
+    /// An equal event. `OutOfMemory` where memory was refused.
+    pub fn again(&self) -> Result<Event, OutOfMemory>
+        ensures value { IfOk result (λ event. event ≡ self.now) }
+        // of the end of a session and of a connection it is never refused
+        ensures frees { TakesNoMemory self.now → IsOk result }
+    {
+        match self {
+            Event::Arrive { peer } => Ok(Event::Arrive { peer: *peer }),
+            Event::Source(asked) => Ok(Event::Source(source_again(asked)?)),
+            Event::Push { id, block } => Ok(Event::Push {
+                id: *id,
+                block: block.share()?,
+            }),
+            Event::SourceEnd { id } => Ok(Event::SourceEnd { id: *id }),
+            Event::Listen(asked) => Ok(Event::Listen(listen_again(asked)?)),
+            Event::Draw { id, room } => Ok(Event::Draw {
+                id: *id,
+                room: *room,
+            }),
+            Event::Leave { id } => Ok(Event::Leave { id: *id }),
+        }
+    }
+}
+
+/// An equal request. `OutOfMemory` where memory was refused.
+fn source_again(asked: &SourceRequest) -> Result<SourceRequest, OutOfMemory>
+    ensures { IfOk result (λ again. again ≡ asked.now) }
+{
+    Ok(SourceRequest {
+        id: asked.id,
+        mount: asked.mount.clone()?,
+        pair: pair_again(&asked.pair)?,
+        shown: asked.shown.clone()?,
+    })
+}
+
+/// An equal request. `OutOfMemory` where memory was refused.
+fn listen_again(asked: &ListenRequest) -> Result<ListenRequest, OutOfMemory>
+    ensures { IfOk result (λ again. again ≡ asked.now) }
+{
+    Ok(ListenRequest {
+        id: asked.id,
+        mount: asked.mount.clone()?,
+        pair: pair_again(&asked.pair)?,
+        wants_metadata: asked.wants_metadata,
+    })
+}
+
+/// The pair again, if there is one. `OutOfMemory` where memory was refused.
+fn pair_again(pair: &Option<Pair>) -> Result<Option<Pair>, OutOfMemory>
+    ensures { IfOk result (λ again. again ≡ pair.now) }
+{
+    match pair {
+        Some(pair) => Ok(Some(pair.copy()?)),
+        None => Ok(None),
+    }
+}

@@ -1,0 +1,136 @@
+//! Whether events, and whether replies, are equal.
+
+ghost use Rattle.std.specs.Prelude.{◌≡◌, ◌↔◌, IsTrue};
+
+use crate::data::is_same_data;
+use crate::{Event, ListenRequest, Reply, SourceRequest};
+use bytes::Bytes;
+use radio_addr::Peer;
+use radio_creds::Pair;
+use radio_policy::Rule;
+use radio_settings::Shown;
+
+impl Event {
+    /// Whether the two events are equal.
+    pub fn same(&self, other: &Event) -> bool
+        ensures { IsTrue result ↔ self.now ≡ other.now }
+    {
+        match (self, other) {
+            (Event::Arrive { peer: a }, Event::Arrive { peer: b }) => is_same_peer(*a, *b),
+            (Event::Source(a), Event::Source(b)) => is_same_source(a, b),
+            (Event::Push { id: a, block: x }, Event::Push { id: b, block: y }) => {
+                *a == *b && is_same_bytes(x.as_bytes(), y.as_bytes())
+            }
+            (Event::SourceEnd { id: a }, Event::SourceEnd { id: b }) => *a == *b,
+            (Event::Listen(a), Event::Listen(b)) => is_same_listener(a, b),
+            (Event::Draw { id: a, room: x }, Event::Draw { id: b, room: y }) => {
+                *a == *b && *x == *y
+            }
+            (Event::Leave { id: a }, Event::Leave { id: b }) => *a == *b,
+            _ => false,
+        }
+    }
+}
+
+impl Reply {
+    /// Whether the two replies are equal.
+    pub fn same(&self, other: &Reply) -> bool
+        ensures { IsTrue result ↔ self.now ≡ other.now }
+    {
+        match (self, other) {
+            (Reply::Arrived(a), Reply::Arrived(b)) => *a == *b,
+            (Reply::Feeding, Reply::Feeding) => true,
+            (
+                Reply::Seated {
+                    interval: a,
+                    shown: x,
+                },
+                Reply::Seated {
+                    interval: b,
+                    shown: y,
+                },
+            ) => *a == *b && is_same_shown(x, y),
+            (
+                Reply::Drawn {
+                    pieces: a,
+                    title: x,
+                },
+                Reply::Drawn {
+                    pieces: b,
+                    title: y,
+                },
+            ) => is_same_data(a.slices(), b.slices()) && is_same_title(x, y),
+            (Reply::Noted, Reply::Noted) => true,
+            (Reply::Deny(a), Reply::Deny(b)) => is_same_rule(*a, *b),
+            (Reply::Finished(a), Reply::Finished(b)) => is_same_rule(*a, *b),
+            (Reply::Stray, Reply::Stray) => true,
+            _ => false,
+        }
+    }
+}
+
+fn is_same_source(a: &SourceRequest, b: &SourceRequest) -> bool
+    ensures { IsTrue result ↔ a.now ≡ b.now }
+{
+    a.id == b.id
+        && is_same_bytes(a.mount.as_slice(), b.mount.as_slice())
+        && is_same_pair(&a.pair, &b.pair)
+        && is_same_shown(&a.shown, &b.shown)
+}
+
+fn is_same_listener(a: &ListenRequest, b: &ListenRequest) -> bool
+    ensures { IsTrue result ↔ a.now ≡ b.now }
+{
+    a.id == b.id
+        && a.wants_metadata == b.wants_metadata
+        && is_same_bytes(a.mount.as_slice(), b.mount.as_slice())
+        && is_same_pair(&a.pair, &b.pair)
+}
+
+fn is_same_bytes(a: &[u8], b: &[u8]) -> bool
+    ensures { IsTrue result ↔ a.now ≡ b.now }
+{
+    a == b
+}
+
+fn is_same_peer(a: Peer, b: Peer) -> bool
+    ensures { IsTrue result ↔ a ≡ b }
+{
+    a == b
+}
+
+fn is_same_rule(a: Rule, b: Rule) -> bool
+    ensures { IsTrue result ↔ a ≡ b }
+{
+    a == b
+}
+
+fn is_same_pair(a: &Option<Pair>, b: &Option<Pair>) -> bool
+    ensures { IsTrue result ↔ a.now ≡ b.now }
+{
+    match (a, b) {
+        (Some(a), Some(b)) => {
+            is_same_bytes(a.user(), b.user()) && is_same_bytes(a.password(), b.password())
+        }
+        (None, None) => true,
+        _ => false,
+    }
+}
+
+fn is_same_shown(a: &Shown, b: &Shown) -> bool
+    ensures { IsTrue result ↔ a.now ≡ b.now }
+{
+    is_same_bytes(a.content_type.as_bytes(), b.content_type.as_bytes())
+        && is_same_bytes(a.name.as_bytes(), b.name.as_bytes())
+        && is_same_bytes(a.genre.as_bytes(), b.genre.as_bytes())
+}
+
+fn is_same_title(a: &Option<Bytes>, b: &Option<Bytes>) -> bool
+    ensures { IsTrue result ↔ a.now ≡ b.now }
+{
+    match (a, b) {
+        (Some(a), Some(b)) => is_same_bytes(a.as_slice(), b.as_slice()),
+        (None, None) => true,
+        _ => false,
+    }
+}

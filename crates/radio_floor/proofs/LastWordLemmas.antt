@@ -1,0 +1,35 @@
+-- The lines of a delivery show the last word of its connection.
+use Rattle.std.proofs.Common.{◌≡◌, ℕ, List, [], ◌∷◌, Option, Some, refl, ap, sym, subst, ◌∙◌}
+use Rattle.radio_core.specs.declared.event.Event.{Event}
+use Rattle.radio_core.specs.declared.reply.Reply.{Reply}
+use Rattle.radio_core.specs.Step.{reply_to, world_after}
+use Rattle.radio_script.specs.TranscriptLines.{answer_lines}
+use Rattle.radio_session.specs.declared.state.State.{State}
+use Rattle.radio_session.specs.Conversation.{Conversation, ending_word}
+use Rattle.radio_session.specs.Saying.{Said, said}
+use Rattle.radio_session.specs.Exchanges.{WorldExchange, then_exchanged, exchanged}
+use Rattle.radio_session.specs.LastWords.{EndsWith, DenialsNameTheirRule, FinishesAreSilent}
+use Rattle.radio_floor.specs.ScriptState.{ScriptState, told_lines}
+use Rattle.radio_floor.specs.LastWords.{ShutsWith, DenialsAreTold, FinishesAreTold}
+
+abbrev lines_of : ℕ → WorldExchange → List ℕ
+lines_of label x = told_lines label x.exchange.bytes x.exchange.state
+
+-- the reply ends the connection
+shuts_with : (state : ScriptState) (label : ℕ) (conversation : Conversation) (event : Event) (reply : Reply) (bytes word : List ℕ) → reply_to state.world event ≡ reply → EndsWith (said conversation.says reply) bytes word → ShutsWith state label conversation event bytes word
+shuts_with state label conversation event reply bytes word replied ends events =
+    let w = state.world in
+    let told = said conversation.says (reply_to w event) in
+    let others = exchanged (world_after w event) conversation.id told.says events in
+    let e : EndsWith told bytes word = subst (λ (r : Reply). EndsWith (said conversation.says r) bytes word) (sym replied) ends in
+    ap (λ (s : State). Some (lines_of label (then_exchanged (world_after w event) conversation.id event told s others))) e.shut
+    ∙ ap (λ (xs : List ℕ). Some (answer_lines label xs (Some (ending_word e.ending)))) e.bytes_told
+    ∙ ap (λ (xs : List ℕ). Some (answer_lines label bytes (Some xs))) e.last_word
+
+pub denials_are_told : DenialsNameTheirRule → DenialsAreTold
+denials_are_told law state label conversation event rule status asks replied known =
+    shuts_with state label conversation event _ _ _ replied (law conversation.says rule status asks known)
+
+pub finishes_are_told : FinishesAreSilent → FinishesAreTold
+finishes_are_told law state label conversation event rule replied =
+    shuts_with state label conversation event _ _ _ replied (law conversation.says rule)

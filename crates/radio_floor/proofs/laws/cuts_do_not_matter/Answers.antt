@@ -1,5 +1,0 @@
-use Rattle.radio_floor.proofs.CutLemmas as lemmas
-use Rattle.radio_floor.proofs.laws.cuts_do_not_matter.Goals as goal
-
-pub returns : goal.returns
-returns c = lemmas.cuts_do_not_matter c.readings_agree.ensures.requests c.settled.ensures.requests c.heads_lie_within.ensures.requests

@@ -1,0 +1,34 @@
+-- What a transcript tells of the end of a connection.
+use Rattle.std.specs.Prelude.{◌≡◌, ℕ, List, [], ◌∷◌, codes, Some}
+use Rattle.radio_policy.specs.declared.rule.Rule.{Rule}
+use Rattle.radio_policy.specs.declared.rule.Status.{Status}
+use Rattle.radio_policy.specs.Words.{word_of, status_of}
+use Rattle.radio_heads.specs.Answer.{denial_text}
+use Rattle.radio_core.specs.declared.event.Event.{Event}
+use Rattle.radio_core.specs.declared.reply.Reply.TheVariants.{Deny, Finished}
+use Rattle.radio_core.specs.Step.{reply_to}
+use Rattle.radio_script.specs.TranscriptLines.{answer_lines}
+use Rattle.radio_session.specs.Conversation.{Conversation}
+use Rattle.radio_session.specs.LastWords.{IsAsking}
+use Rattle.radio_floor.specs.ScriptState.{ScriptState, exchanges, closes}
+
+-- whatever events were behind it, with this event the connection of the label is told these bytes, and shut with this word
+abbrev pub ShutsWith : ScriptState → ℕ → Conversation → Event → List ℕ → List ℕ → Type 0
+ShutsWith state label conversation event bytes word =
+    (events : List Event) → (exchanges state label conversation (event ∷ events)).lines ≡ Some (answer_lines label bytes (Some word))
+
+-- what was asked is denied by a rule: the lines show the answer that names it, and its word
+abbrev pub DenialsAreTold : Type 0
+DenialsAreTold = (state : ScriptState) (label : ℕ) (conversation : Conversation) (event : Event) (rule : Rule) (status : Status)
+    → IsAsking conversation.says → reply_to state.world event ≡ Deny rule → status_of rule ≡ Some status
+    → ShutsWith state label conversation event (denial_text status (word_of rule)) (word_of rule)
+
+-- the client was finished by a rule: the line shows its word
+abbrev pub FinishesAreTold : Type 0
+FinishesAreTold = (state : ScriptState) (label : ℕ) (conversation : Conversation) (event : Event) (rule : Rule)
+    → reply_to state.world event ≡ Finished rule → ShutsWith state label conversation event [] (word_of rule)
+
+-- the peer has closed: the line shows that the connection is done
+abbrev pub ClosedOnesAreDone : Type 0
+ClosedOnesAreDone = (state : ScriptState) (label : ℕ) (conversation : Conversation)
+    → (closes state label conversation).lines ≡ Some (answer_lines label [] (Some (codes "done")))

@@ -1,0 +1,83 @@
+//! The lock round a book.
+
+ghost use Rattle.std.specs.Prelude.{◌≡◌, ◌^◌, ◌∷◌, [], ◌++◌, ℕ, length, true, false, IsOk, IfOk, IfSome, OnErr, All, IsPermutation};
+ghost use Rattle.std.specs.List.{range_with_len};
+ghost use Rattle.radio_core.specs.World.{opening};
+ghost use Rattle.radio_book.specs.Clients.{is_here};
+ghost use Rattle.radio_book.specs.History.{IsRun, StandsIn};
+ghost use Rattle.radio_book.specs.Settling.{Rises, all_serials, serials};
+
+use radio_book::{Book, Chronicle, Entry, House, Kept, OutOfMemory, Pass, Receipt, SettleFault};
+use radio_core::Event;
+use radio_settings::Settings;
+use std::alloc::Global;
+use std::sync::ledger::Blank;
+use std::sync::{Mutex, Wait};
+
+/// A book that several threads call, one at a time.
+#[derive(Drop)]
+pub struct Hall<C: Chronicle, H: House> {
+    book: Mutex<Book<C, H>>,
+}
+
+impl<C: Chronicle, H: House> Hall<C, H> {
+    /// A house of these settings, in which nothing has happened yet. It takes no memory.
+    pub fn new(alloc: Global, settings: Settings, blank: Blank) -> Hall<C, H>
+        requires opening { H.opening ≡ opening settings }
+        requires ledger { (blank.name ≡ H.name) × (blank.parts ≡ H.parts) × (blank.parts ≡ 2 ^ 32) }
+    {
+        Hall {
+            book: Mutex::new(Book::new(alloc, settings, blank)),
+        }
+    }
+
+    /// A pass with no receipt yet. `None` only once [`PASSES`](radio_book::PASSES) were taken.
+    pub fn pass<R: Wait>(&self, rt: &R) -> Option<Pass<C, H>>
+        ensures { IfSome result (λ pass. pass ≡ []) }
+    {
+        self.book.lock(rt).pass()
+    }
+
+    /// One event, by [`Book::apply`] under the lock; its receipt.
+    ///
+    /// `OutOfMemory` where memory was refused; the book and the pass are unchanged then. The end of
+    /// a client who was let in through this pass, and has not left through it, is never refused.
+    pub fn apply<R: Wait>(
+        &self,
+        rt: &R,
+        pass: &mut Pass<C, H>,
+        event: Event,
+    ) -> Result<Receipt, OutOfMemory>
+        ensures event { IfOk result (λ receipt. receipt.event ≡ event) }
+        // where entries are stored, the pass gains the receipt; where they are not, nothing is noted
+        ensures pass { C.KEEPS ≡ true → IfOk result (λ receipt. pass.new ≡ pass.old ++ receipt ∷ []) }
+        ensures unkept { C.KEEPS ≡ false → (pass.new ≡ pass.old) × IfOk result (λ receipt. receipt.serial ≡ 0) }
+        ensures err { OnErr result (pass.new ≡ pass.old) }
+        ensures leave { (id : ℕ) → event ≡ Event.Leave id → is_here id pass.old ≡ true → IsOk result }
+    {
+        self.book.lock(rt).apply(pass, event)
+    }
+
+    /// The book, which no thread calls any more.
+    pub fn into_book(self) -> Book<C, H> {
+        self.book.into_inner()
+    }
+}
+
+/// Holds all passes of a house against its history, once the threads have been joined; the history
+/// then. The faults are those of [`radio_book::settle`]; after one the house and the passes are gone.
+pub fn settle<H: House>(
+    alloc: Global,
+    hall: Hall<Kept, H>,
+    passes: Vec<Pass<Kept, H>>,
+) -> Result<Vec<Entry>, SettleFault>
+    // it is a run from the opening state
+    ensures run { IfOk result (λ history. ∥ IsRun H.opening history.items ∥₁) }
+    // each receipt of each pass stands in it, in the order of the pass
+    ensures stand { IfOk result (λ history. All (λ pass. All (StandsIn history.items) pass) passes.items) }
+    ensures rise { IfOk result (λ history. All (λ pass. Rises 0 (serials pass)) passes.items) }
+    // and nothing else stands there: each place has one receipt in all passes together
+    ensures once { IfOk result (λ history. IsPermutation (range_with_len 1 (length history.items)) (all_serials passes.items)) }
+{
+    radio_book::settle(alloc, hall.into_book(), passes)
+}

@@ -1,0 +1,36 @@
+-- What bytes are heard as is one thing.
+use Rattle.std.proofs.Common.{◌≡◌, ℕ, List, ◌++◌, ap, sym, ◌∙◌, refl, inl, inr, Result, Ok, Err, IsErr}
+use Rattle.radio_heads.specs.declared.outcome.Progress.{Progress}
+use Rattle.radio_heads.specs.declared.outcome.Progress.TheVariants.{More, Whole}
+use Rattle.radio_heads.specs.declared.outcome.HeadFault.{HeadFault}
+use Rattle.radio_heads.specs.Head.{RequestParts, ShowsRequest}
+use Rattle.radio_heads.specs.Reading.{IsReading}
+use Rattle.radio_heads.specs.Laws.{ReadingsAgree}
+use Rattle.radio_session.specs.declared.session.Hears.{Hears}
+use Rattle.radio_session.specs.declared.session.Hears.TheVariants.{Head, Body, Nothing}
+use Rattle.radio_session.specs.Conversation.{Conversation}
+use Rattle.radio_session.specs.Hearing.{Heard, HearsAs, IsHeard, head_heard}
+use Rattle.radio_session.specs.Laws.{HearingIsOne}
+
+-- two faults are heard alike
+pub faults-alike : (conversation : Conversation) (bytes : List ℕ) (r s : Result (Progress RequestParts) HeadFault) → IsErr r → IsErr s → head_heard conversation bytes r ≡ head_heard conversation bytes s
+faults-alike conversation bytes (Err e) (Err f) h k = refl
+faults-alike conversation bytes (Err e) (Ok p) h k = cc
+faults-alike conversation bytes (Ok p) s h k = cc
+
+module _ (agree : ReadingsAgree ShowsRequest) where
+  -- what two readings of the same bytes are heard as is one thing
+  pub heard-alike : (conversation : Conversation) (bytes : List ℕ) (r s : Result (Progress RequestParts) HeadFault) → IsReading ShowsRequest bytes r → IsReading ShowsRequest bytes s → head_heard conversation bytes r ≡ head_heard conversation bytes s
+  heard-alike conversation bytes r s p q = elim (agree bytes r s p q) [
+    | inl same ↦ ap (head_heard conversation bytes) same
+    | inr faults ↦ faults-alike conversation bytes r s faults.0 faults.1
+  ]
+
+  heard_as_one : (hears : Hears) (conversation : Conversation) (bytes : List ℕ) (h k : Heard) → HearsAs hears conversation bytes h → HearsAs hears conversation bytes k → h ≡ k
+  heard_as_one Nothing conversation bytes h k e f = e ∙ sym f
+  heard_as_one Body conversation bytes h k e f = e ∙ sym f
+  heard_as_one Head conversation bytes h k e f =
+      e.2 ∙ heard-alike conversation (conversation.held ++ bytes) e.0 f.0 e.1 f.1 ∙ sym f.2
+
+  pub hearing_is_one : HearingIsOne
+  hearing_is_one conversation bytes one other h k = heard_as_one conversation.hears conversation bytes one other h k

@@ -1,0 +1,4 @@
+mod HearingLemmas
+mod CutLemmas
+mod ExchangeLemmas
+mod LastWordLemmas

@@ -1,0 +1,6 @@
+use Rattle.radio_session.proofs.CutLemmas as lemmas
+use Rattle.radio_session.proofs.laws.cuts_do_not_matter.Goals as goal
+
+pub returns : goal.returns
+returns c =
+    lemmas.cuts_do_not_matter c.blocks_are_the_data.ensures.joined c.readings_agree.ensures.requests c.settled.ensures.requests c.heads_lie_within.ensures.requests

@@ -1,0 +1,36 @@
+-- One connection's conversation with the server.
+use Rattle.std.specs.Prelude.{ℕ, Bool, true, false, List, [], codes}
+use Rattle.radio_policy.specs.Words.{word_of}
+use Rattle.radio_addr.specs.declared.peer.Peer.{Peer}
+use Rattle.radio_session.specs.declared.session.Hears.{Hears}
+use Rattle.radio_session.specs.declared.session.Hears.TheVariants.{Head}
+use Rattle.radio_session.specs.declared.session.Says.{Says}
+use Rattle.radio_session.specs.declared.session.Says.TheVariants.{Asking}
+use Rattle.radio_session.specs.declared.state.Ending.{Ending}
+use Rattle.radio_session.specs.declared.state.Ending.TheVariants.{Done, By}
+
+-- the number of its client and its peer, the bytes of an unfinished head, how it goes on in both directions, and whether a call was refused for want of memory
+pub record Conversation : Type 0 where
+  pub id : ℕ
+  pub peer : Peer
+  pub held : List ℕ
+  pub hears : Hears
+  pub says : Says
+  pub has_failed : Bool
+
+-- nothing was admitted yet
+abbrev pub asking : Says
+asking = Asking
+
+-- a conversation in which nothing was said yet
+abbrev pub fresh : ℕ → Peer → Conversation
+fresh id peer = record { id = id; peer = peer; held = []; hears = Head; says = asking; has_failed = false }
+
+-- how replies are told from now on
+abbrev pub saying_now : Conversation → Says → Conversation
+saying_now conversation says = record conversation { says = says }
+
+-- the word for an ending in a transcript
+abbrev pub ending_word : Ending → List ℕ
+ending_word Done = codes "done"
+ending_word (By rule) = word_of rule

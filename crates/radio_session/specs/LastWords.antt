@@ -1,0 +1,44 @@
+-- What a connection is told last, and the word by which it is shut.
+use Rattle.std.specs.Prelude.{◌≡◌, ℕ, List, [], None, Some}
+use Rattle.radio_policy.specs.declared.rule.Rule.{Rule}
+use Rattle.radio_policy.specs.declared.rule.Status.{Status}
+use Rattle.radio_policy.specs.Words.{word_of, status_of}
+use Rattle.radio_core.specs.declared.reply.Reply.TheVariants.{Noted, Deny, Finished}
+use Rattle.radio_heads.specs.Answer.{denial_text}
+use Rattle.radio_session.specs.declared.session.Says.{Says}
+use Rattle.radio_session.specs.declared.session.Says.TheVariants.{Asking, Admitted, Refusing}
+use Rattle.radio_session.specs.declared.state.State.TheVariants.{Shut}
+use Rattle.radio_session.specs.declared.state.Ending.{Ending}
+use Rattle.radio_session.specs.Conversation.{ending_word}
+use Rattle.radio_session.specs.Saying.{Said, said}
+
+-- these bytes are told, and the connection is shut with this word
+pub record EndsWith (told : Said) (bytes word : List ℕ) : Type 0 where
+  pub ending : Ending
+  pub bytes_told : told.bytes ≡ bytes
+  pub shut : told.state ≡ Shut ending
+  pub last_word : ending_word ending ≡ word
+
+-- nothing was admitted yet
+abbrev pub IsAsking : Says → Type 0
+IsAsking says = says ≡ Asking
+
+-- The denial of what was asked is told in an answer of the rule's status that names the rule, and the word is the rule's.
+abbrev pub DenialsNameTheirRule : Type 0
+DenialsNameTheirRule = (says : Says) (rule : Rule) (status : Status) → IsAsking says → status_of rule ≡ Some status → EndsWith (said says (Deny rule)) (denial_text status (word_of rule)) (word_of rule)
+
+-- a rule without a status has no answer
+abbrev pub RulesWithoutStatusAreSilent : Type 0
+RulesWithoutStatusAreSilent = (says : Says) (rule : Rule) → status_of rule ≡ None → EndsWith (said says (Deny rule)) [] (word_of rule)
+
+-- nor has a denial after an admission
+abbrev pub LateDenialsAreSilent : Type 0
+LateDenialsAreSilent = (rule : Rule) → EndsWith (said Admitted (Deny rule)) [] (word_of rule)
+
+-- who was finished by a rule is told nothing, and the word is the rule's
+abbrev pub FinishesAreSilent : Type 0
+FinishesAreSilent = (says : Says) (rule : Rule) → EndsWith (said says (Finished rule)) [] (word_of rule)
+
+-- the connection's own refusal is told as a denial, once the client has left
+abbrev pub RefusalsNameTheirRule : Type 0
+RefusalsNameTheirRule = (rule : Rule) (status : Status) → status_of rule ≡ Some status → EndsWith (said (Refusing rule) Noted) (denial_text status (word_of rule)) (word_of rule)

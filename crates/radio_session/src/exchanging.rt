@@ -1,0 +1,93 @@
+//! A connection's events, exchanged with whoever applies them.
+
+ghost use Rattle.std.specs.Prelude.{◌≡◌, ◌++◌, IfOk};
+ghost use Rattle.radio_core.specs.declared.reply.Reply.{Reply as ReplyOf};
+ghost use Rattle.radio_session.specs.Saying.{said};
+ghost use Rattle.radio_session.specs.Exchanges.{Exchange, Exchanges, LeavesAfter, is_leave};
+ghost use Rattle.radio_session.specs.Conversation.{saying_now};
+
+use crate::OutOfMemory;
+use crate::session::Session;
+use crate::state::State;
+use radio_core::{Core, Event, Reply};
+
+/// Who applies the events of connections: a core, or whoever has one.
+pub trait Applies {
+    ghost use Rattle.radio_session.specs.Exchanges.{Steps};
+
+    // from one state the event is answered by the reply, and leaves the other state
+    ghost steps: { Steps Self };
+
+    /// Applies an event. `OutOfMemory` where memory was refused; nothing is said of the state then.
+    fn apply(&mut self, event: Event) -> Result<Reply, OutOfMemory>
+        ensures { IfOk result (λ reply. steps self.old event reply self.new) };
+}
+
+impl Applies for Core {
+    ghost use Rattle.radio_session.specs.Exchanges.{core_steps};
+
+    ghost steps = { core_steps };
+
+    fn apply(&mut self, event: Event) -> Result<Reply, OutOfMemory> {
+        self.step(event)
+    }
+}
+
+/// Applies the events of the connection's client, one after another, and tells each reply behind the
+/// bytes of `out`. Where the connection ends, the others are not applied, and the client leaves. It
+/// answers whether the connection goes on.
+///
+/// `OutOfMemory`: memory was refused; nothing is said of the server then, and the connection is to
+/// be shut.
+pub fn exchange<S: Applies>(
+    server: &mut S,
+    session: &mut Session,
+    events: Vec<Event>,
+    out: &mut Vec<u8>,
+) -> Result<State, OutOfMemory>
+    ensures { IfOk result (λ state. (x : Exchange)
+        × Exchanges S.steps session.old.id session.old.says events.items server.old x server.new
+        × (out.new.items ≡ out.old.items ++ x.bytes) × (state ≡ x.state) × (session.new ≡ saying_now session.old x.says)) }
+{
+    for event in events {
+        let leaves = is_leave(&event);
+        if let State::Shut(ending) = answer(server, session, event, out)? {
+            leave_after(server, session.id(), leaves)?;
+            return Ok(State::Shut(ending));
+        }
+    }
+    Ok(State::Running)
+}
+
+/// Applies one event of the connection's client, and tells the reply. It answers whether the
+/// connection goes on.
+fn answer<S: Applies>(
+    server: &mut S,
+    session: &mut Session,
+    event: Event,
+    out: &mut Vec<u8>,
+) -> Result<State, OutOfMemory>
+    ensures { IfOk result (λ state. (reply : ReplyOf) × S.steps server.old event reply server.new
+        × (let told = said session.old.says reply in
+        (out.new.items ≡ out.old.items ++ told.bytes) × (state ≡ told.state) × (session.new ≡ saying_now session.old told.says))) }
+{
+    let reply = server.apply(event)?;
+    session.give(reply, out)
+}
+
+/// The client leaves, unless that is what he has just done.
+fn leave_after<S: Applies>(server: &mut S, id: u64, has_left: bool) -> Result<(), OutOfMemory>
+    ensures { IfOk result (λ _. LeavesAfter S.steps id has_left server.old server.new) }
+{
+    if !has_left {
+        server.apply(Event::Leave { id })?;
+    }
+    Ok(())
+}
+
+/// Whether the client leaves by this event.
+fn is_leave(event: &Event) -> bool
+    ensures { result ≡ is_leave event.now }
+{
+    matches!(event, Event::Leave { .. })
+}

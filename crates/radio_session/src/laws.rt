@@ -1,0 +1,52 @@
+//! Laws on sessions, which run no code.
+
+ghost use Rattle.std.specs.Prelude.{◌≡◌, codes};
+ghost use Rattle.radio_session.specs.Conversation.{ending_word};
+ghost use Rattle.radio_session.specs.declared.state.Ending.TheVariants.{Done};
+ghost use Rattle.radio_session.specs.LastWords.{DenialsNameTheirRule, RulesWithoutStatusAreSilent, LateDenialsAreSilent, FinishesAreSilent, RefusalsNameTheirRule};
+ghost use Rattle.radio_session.specs.Cuts.{CutsDoNotMatter};
+ghost use Rattle.radio_session.specs.Laws.{HearingIsOne, CoresExchangeAsTheirStates};
+
+use radio_blocks::laws::blocks_are_the_data;
+use radio_heads::{heads_lie_within, readings_agree, settled};
+
+/// What comes on a connection in two pieces is heard as if it had come in one: the same head, the
+/// same data and the same events, but for where blocks are cut, and what follows is heard alike.
+pub fn cuts_do_not_matter()
+    ensures { CutsDoNotMatter }
+{
+    readings_agree();
+    settled();
+    heads_lie_within();
+    blocks_are_the_data();
+}
+
+/// Bytes that come on a connection are heard as one thing.
+pub fn hearing_is_one()
+    ensures { HearingIsOne }
+{
+    readings_agree();
+}
+
+/// What a connection's events come to over a core is what they come to from any state that the core
+/// stands for.
+pub fn cores_exchange_as_their_states()
+    ensures { CoresExchangeAsTheirStates }
+{}
+
+/// The last word of a connection is that of the rule that ended it, or `done` where none did; and
+/// the answer before it, where there is one, has the rule's status and names the rule.
+pub fn last_words_name_the_rule()
+    // what was asked is denied: an answer that names the rule
+    ensures denied { DenialsNameTheirRule }
+    // there is none where the rule has no status
+    ensures no_status { RulesWithoutStatusAreSilent }
+    // or where a source or a listener was admitted before
+    ensures denied_late { LateDenialsAreSilent }
+    // who was finished is told nothing
+    ensures finished { FinishesAreSilent }
+    // the connection's own refusal: an answer that names the rule
+    ensures refused { RefusalsNameTheirRule }
+    // and where no rule ended it
+    ensures done { ending_word Done ≡ codes "done" }
+{}

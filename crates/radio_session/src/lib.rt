@@ -1,0 +1,26 @@
+//! One connection's conversation with the server: from the bytes that come on it to events, and
+//! from replies to the bytes that go out on it.
+//!
+//! - [`Session`]: the connection. [`Session::take`] is given what comes, and answers the events that
+//!   it means; [`Session::give`] is given the reply to each, and tells it.
+//! - [`State`], [`Ending`]: whether the connection goes on, and the word by which it ends.
+//! - [`exchange`]: the events of a connection, applied one after another by whoever [`Applies`]
+//!   them, each reply told, up to the end of the connection.
+//! - Laws, which run no code: [`cuts_do_not_matter`], [`hearing_is_one`],
+//!   [`cores_exchange_as_their_states`], [`last_words_name_the_rule`].
+#![tactic(auto)]
+
+mod exchanging;
+mod laws;
+mod session;
+mod state;
+
+pub use exchanging::{Applies, exchange};
+pub use laws::{
+    cores_exchange_as_their_states, cuts_do_not_matter, hearing_is_one, last_words_name_the_rule,
+};
+pub use session::{Hears, Says, Session};
+pub use state::{Ending, State};
+
+/// What a call answers where memory was refused.
+pub type OutOfMemory = std::alloc::AllocError;

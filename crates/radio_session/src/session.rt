@@ -1,0 +1,108 @@
+//! A connection, and what is heard and told on it.
+
+ghost use Rattle.std.specs.Prelude.{◌≡◌};
+ghost use Rattle.radio_session.specs.Conversation.{Conversation, fresh};
+
+use radio_addr::Peer;
+use radio_policy::Rule;
+use std::alloc::Global;
+use std::marker::Model;
+
+mod blocks;
+mod hearing;
+mod saying;
+
+/// What the bytes that come on a connection are read as.
+#[derive(Clone, Copy, Debug, PartialEq, Eq)]
+pub enum Hears {
+    /// The head of a request, of which a part may have come.
+    Head,
+    /// A source's data.
+    Body,
+    /// Nothing: they are passed over.
+    Nothing,
+}
+
+/// How replies are told.
+#[derive(Clone, Copy, Debug, PartialEq, Eq)]
+pub enum Says {
+    /// Nothing was admitted yet: a denial is told in an answer.
+    Asking,
+    /// A source or a listener was admitted: an end is told by closing alone.
+    Admitted,
+    /// What came is refused by the connection's own rule, which is told when the client has left.
+    Refusing(Rule),
+}
+
+/// One connection: the number of its client, its peer, the bytes of an unfinished head, and how it
+/// goes on in both directions.
+///
+/// Its caller applies the events that [`Session::take`] answers one after another, and gives each
+/// reply to [`Session::give`], as [`exchange`](crate::exchange) does. Once that answers `Shut`, the
+/// other events are not applied, and the client leaves, unless a `Leave` was the last event.
+///
+/// It keeps at most the 8192 bytes of a head, and nothing of a body. A call that was refused memory
+/// fails the session: each later call is refused too, and its connection is to be shut.
+///
+/// In contracts it is a `Conversation`.
+#[derive(Drop)]
+pub struct Session {
+    alloc: Global,
+    id: u64,
+    peer: Peer,
+    held: Vec<u8>,
+    hears: Hears,
+    says: Says,
+    has_failed: bool,
+}
+
+impl Model for Session {
+    ghost use Rattle.radio_session.specs.Conversation.{Conversation};
+    ghost use Rattle.radio_heads.specs.Search.{HasNoEnd};
+
+    ghost Value = { Conversation };
+
+    ghost view = { λ s. record {
+      id = s.id;
+      peer = s.peer;
+      held = s.held.items;
+      hears = s.hears;
+      says = s.says;
+      has_failed = s.has_failed;
+    } };
+
+    ghost invariant = { λ s. HasNoEnd s.held.items };
+}
+
+impl Session {
+    /// The session of the client of this number, whose connection comes from this peer. It takes no
+    /// memory now, and keeps `alloc` for later. Where the server takes a connection not in, its
+    /// denial is given to a session of number 0.
+    pub fn new(alloc: Global, id: u64, peer: Peer) -> Session
+        ensures { result ≡ fresh id peer }
+    {
+        Session {
+            alloc,
+            id,
+            peer,
+            held: Vec::new(alloc),
+            hears: Hears::Head,
+            says: Says::Asking,
+            has_failed: false,
+        }
+    }
+
+    /// The number of its client.
+    pub fn id(&self) -> u64
+        ensures { result ≡ self.now.id }
+    {
+        self.id
+    }
+
+    /// The peer that its connection comes from.
+    pub fn peer(&self) -> Peer
+        ensures { result ≡ self.now.peer }
+    {
+        self.peer
+    }
+}

@@ -1,0 +1,36 @@
+//! Whether a connection goes on, and how it ends.
+
+ghost use Rattle.std.specs.Prelude.{◌≡◌};
+ghost use Rattle.radio_session.specs.Conversation.{ending_word};
+
+use radio_policy::Rule;
+
+/// Whether a connection goes on.
+#[derive(Clone, Copy, Debug, PartialEq, Eq)]
+pub enum State {
+    /// It goes on.
+    Running,
+    /// It is shut, and this is its last word. Its client leaves.
+    Shut(Ending),
+}
+
+/// How a connection ends.
+#[derive(Clone, Copy, Debug, PartialEq, Eq)]
+pub enum Ending {
+    /// The peer has closed, or has had all that he asked for.
+    Done,
+    /// By this rule.
+    By(Rule),
+}
+
+impl Ending {
+    /// The word for it in a transcript.
+    pub fn word(self) -> &'static str
+        ensures { result.now ≡ ending_word self }
+    {
+        match self {
+            Ending::Done => "done",
+            Ending::By(rule) => rule.word(),
+        }
+    }
+}

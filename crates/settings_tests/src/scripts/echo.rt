@@ -1,0 +1,81 @@
+//! A performer for tests: it gives back the bytes that arrive, and shuts a connection whose peer
+//! has closed it.
+
+ghost use Rattle.std.specs.Prelude.{◌≡◌, ◌++◌, ℕ, List, OnOk};
+
+use radio_script::{Delivery, PerformFault, Performer, push_answer};
+use std::alloc::Global;
+
+/// The labels that were opened.
+#[derive(Drop)]
+pub struct Echo {
+    labels: Vec<u32>,
+}
+
+impl Echo {
+    pub fn new(alloc: Global) -> Echo {
+        Echo {
+            labels: Vec::new(alloc),
+        }
+    }
+
+    fn open(&mut self, label: u32) -> Result<(), PerformFault> {
+        if self.labels.contains(&label) {
+            return Err(PerformFault::Label);
+        }
+        match self.labels.push(label) {
+            Ok(()) => Ok(()),
+            Err(_) => Err(PerformFault::OutOfMemory),
+        }
+    }
+
+    fn check(&self, label: u32) -> Result<(), PerformFault> {
+        if self.labels.contains(&label) {
+            Ok(())
+        } else {
+            Err(PerformFault::Label)
+        }
+    }
+}
+
+impl Performer for Echo {
+    // The tests compare what is written; the relation claims only that lines are added at the
+    // end.
+    ghost performs = { λ _ _ _ _. Unit {0} };
+
+    fn perform(
+        &mut self,
+        alloc: Global,
+        delivery: &Delivery,
+        lines: &mut Vec<u8>,
+    ) -> Result<(), PerformFault> {
+        match delivery {
+            Delivery::Open { label, .. } => self.open(*label),
+            Delivery::In { label, bytes } => {
+                self.check(*label)?;
+                answer(alloc, lines, *label, bytes.as_slice(), None)
+            }
+            Delivery::Room { label, .. } => self.check(*label),
+            Delivery::End { label } => {
+                self.check(*label)?;
+                answer(alloc, lines, *label, &[], Some("done"))
+            }
+        }
+    }
+}
+
+// At most one line for the bytes, and then at most one for the end.
+fn answer(
+    alloc: Global,
+    lines: &mut Vec<u8>,
+    label: u32,
+    bytes: &[u8],
+    word: Option<&str>,
+) -> Result<(), PerformFault>
+    ensures { OnOk result ((text : List ℕ) × (lines.new.items ≡ lines.old.items ++ text)) }
+{
+    match push_answer(alloc, lines, label, bytes, word) {
+        Ok(()) => Ok(()),
+        Err(_) => Err(PerformFault::OutOfMemory),
+    }
+}

@@ -1,0 +1,299 @@
+//! Every key given once and read back, and every default.
+
+use super::*;
+use radio_settings::{
+    AccessSettings, Field, LimitSettings, Login, MountOptions, RelaySetting, SlaveSetting, Text,
+};
+
+const EVERY_KEY: &str = "
+source-password = \"sp\"
+admin-user = \"au\"
+admin-password = \"ap\"
+relay-user = \"ru\"
+relay-password = \"rp\"
+deny-ip = \"d\"
+allow-ip = \"a\"
+[listen]
+address = \"::\"
+port = 1
+workers = 2
+[limits]
+clients = 3
+sources = 4
+queue-size = 5
+burst-size = 6
+source-timeout = 7
+header-timeout = 8
+[[mount]]
+mount-name = \"/a\"
+username = \"mu\"
+password = \"mp\"
+max-listeners = 9
+max-listener-duration = 10
+fallback-mount = \"/b\"
+fallback-override = true
+fallback-when-full = true
+hidden = true
+burst-size = 11
+mp3-metadata-interval = 12
+stream-name = \"N\\tight\"
+genre = \"Talk\"
+htpasswd = \"h\"
+allow_duplicate_users = false
+[[relay]]
+server = \"s\\n\"
+port = 13
+mount = \"/c\"
+local-mount = \"/e\"
+username = \"u\"
+password = \"p\"
+on-demand = false
+[slave]
+master-server = \"m\\u007f\"
+master-port = 14
+master-username = \"su\"
+master-password = \"spw\"
+master-update-interval = 15
+";
+
+/// What only two texts are set to: the passwords, a mount, a relay and a slave, each with the keys that it needs.
+const NEEDED_KEYS: &str = "
+source-password = \"sp\"
+admin-password = \"ap\"
+[[mount]]
+mount-name = \"/a\"
+[[relay]]
+server = \"s\"
+mount = \"/e\"
+[slave]
+master-server = \"m\"
+master-password = \"spw\"
+";
+
+/// What a text sets, with `-` for what is absent and 0 for no limit: of the mount `/a`, of the mount `/b`, which has no
+/// table, and of the relay that feeds `/e`.
+struct Station {
+    access: &'static [&'static str],
+    address: &'static str,
+    listen: &'static [u32],
+    limits: &'static [u32],
+    mount: &'static [&'static str],
+    mount_numbers: &'static [u32],
+    mount_flags: &'static [bool],
+    other_mount: &'static [&'static str],
+    other_numbers: &'static [u32],
+    relay: &'static [&'static str],
+    slave: &'static [&'static str],
+    relay_port: u32,
+    slave_numbers: &'static [u32],
+}
+
+const EVERY_KEY_SET: Station = Station {
+    access: &["sp", "au", "ap", "ru", "rp", "d", "a"],
+    address: "::",
+    listen: &[1, 2],
+    limits: &[3, 4, 5, 6, 7, 8],
+    mount: &["mu", "mp", "/b", "Night", "Talk", "h"],
+    mount_numbers: &[9, 10, 11, 12],
+    mount_flags: &[true, true, true, false],
+    other_mount: &["source", "sp", "-", "-", "-", "-"],
+    other_numbers: &[0, 0, 6, 16000],
+    relay: &["s", "/c", "/e", "u", "p"],
+    slave: &["m", "su", "spw"],
+    relay_port: 13,
+    slave_numbers: &[14, 15],
+};
+
+const DEFAULTS: Station = Station {
+    access: &["sp", "admin", "ap", "relay", "-", "-", "-"],
+    address: "127.0.0.1",
+    listen: &[8000, 4],
+    limits: &[100, 2, 524_288, 65_536, 10, 15],
+    mount: &["source", "sp", "-", "-", "-", "-"],
+    mount_numbers: &[0, 0, 65_536, 16000],
+    mount_flags: &[false, false, false, true],
+    other_mount: &["source", "sp", "-", "-", "-", "-"],
+    other_numbers: &[0, 0, 65_536, 16000],
+    relay: &["s", "/e", "/e", "-", "-"],
+    slave: &["m", "relay", "spw"],
+    relay_port: 8000,
+    slave_numbers: &[8000, 120],
+};
+
+fn access_texts(access: &AccessSettings) -> [&str; 7] {
+    [
+        access.source_password.as_str(),
+        access.admin.username.as_str(),
+        access.admin.password.as_str(),
+        access.relays.username.as_str(),
+        or_dash(&access.relays.password),
+        or_dash(&access.addresses.deny_ip),
+        or_dash(&access.addresses.allow_ip),
+    ]
+}
+
+fn limit_numbers(limits: &LimitSettings) -> [u32; 6] {
+    [
+        limits.clients.get(),
+        limits.sources.get(),
+        limits.queue_size.get(),
+        limits.burst_size.get(),
+        limits.source_timeout.get(),
+        limits.header_timeout.get(),
+    ]
+}
+
+fn mount_texts(options: &MountOptions) -> [&str; 6] {
+    [
+        options.source.username.as_str(),
+        options.source.password.as_str(),
+        name_or_dash(&options.listeners.fallback_mount),
+        field_or_dash(&options.stream.stream_name),
+        field_or_dash(&options.stream.genre),
+        or_dash(&options.users.htpasswd),
+    ]
+}
+
+fn mount_numbers(options: &MountOptions) -> [u32; 4] {
+    [
+        options.listeners.max_listeners.map_or(0, |most| most.get()),
+        options
+            .listeners
+            .max_listener_duration
+            .map_or(0, |longest| longest.get()),
+        options.stream.burst_size.get(),
+        options.stream.mp3_metadata_interval.get(),
+    ]
+}
+
+fn mount_flags(options: &MountOptions) -> [bool; 4] {
+    [
+        options.listeners.fallback_override,
+        options.listeners.fallback_when_full,
+        options.stream.hidden,
+        options.users.allow_duplicate_users,
+    ]
+}
+
+fn relay_texts(relay: &RelaySetting) -> [&str; 5] {
+    let (username, password) = login_texts(&relay.login);
+    [
+        relay.master.server.as_str(),
+        relay.mount.as_str(),
+        relay.local_mount.as_str(),
+        username,
+        password,
+    ]
+}
+
+fn login_texts(login: &Option<Login>) -> (&str, &str) {
+    match login {
+        Some(login) => (login.username.as_str(), login.password.as_str()),
+        None => ("-", "-"),
+    }
+}
+
+fn or_dash(text: &Option<Text>) -> &str {
+    match text {
+        Some(text) => text.as_str(),
+        None => "-",
+    }
+}
+
+fn field_or_dash(field: &Option<Field>) -> &str {
+    match field {
+        Some(field) => field.as_str(),
+        None => "-",
+    }
+}
+
+fn name_or_dash(name: &Option<MountName>) -> &str {
+    match name {
+        Some(name) => name.as_str(),
+        None => "-",
+    }
+}
+
+/// Whether the keys above all tables, `[listen]` and `[limits]` are as wanted.
+fn has_basics(settings: &Settings, want: &Station) -> bool {
+    access_texts(&settings.access).as_slice() == want.access
+        && settings.listen.address.as_str() == want.address
+        && [settings.listen.port.get(), settings.listen.workers.get()].as_slice() == want.listen
+        && limit_numbers(&settings.limits).as_slice() == want.limits
+}
+
+fn has_mount(settings: &Settings, want: &Station) -> bool {
+    let Some(name) = MountName::read(b"/a") else {
+        return false;
+    };
+    let options = settings.options(&name);
+    mount_texts(options).as_slice() == want.mount
+        && mount_numbers(options).as_slice() == want.mount_numbers
+        && mount_flags(options).as_slice() == want.mount_flags
+}
+
+fn has_other_mount(settings: &Settings, want: &Station) -> bool {
+    let Some(name) = MountName::read(b"/b") else {
+        return false;
+    };
+    let options = settings.options(&name);
+    mount_texts(options).as_slice() == want.other_mount
+        && mount_numbers(options).as_slice() == want.other_numbers
+        && mount_flags(options) == [false, false, false, true]
+}
+
+fn has_relay(settings: &Settings, want: &Station) -> bool {
+    let Some(name) = MountName::read(b"/e") else {
+        return false;
+    };
+    let Some(relay) = settings.relays.get(&name) else {
+        return false;
+    };
+    relay_texts(relay).as_slice() == want.relay
+        && !relay.on_demand
+        && relay.master.port.get() == want.relay_port
+}
+
+fn has_slave(settings: &Settings, want: &Station) -> bool {
+    let Some(slave) = &settings.slave else {
+        return false;
+    };
+    slave_texts(slave).as_slice() == want.slave
+        && [slave.master.port.get(), slave.master_update_interval.get()].as_slice()
+            == want.slave_numbers
+}
+
+fn slave_texts(slave: &SlaveSetting) -> [&str; 3] {
+    [
+        slave.master.server.as_str(),
+        slave.login.username.as_str(),
+        slave.login.password.as_str(),
+    ]
+}
+
+/// Whether the settings are those of a station.
+fn is_station(settings: &Settings, want: &Station) -> bool {
+    has_basics(settings, want)
+        && has_mount(settings, want)
+        && has_other_mount(settings, want)
+        && has_relay(settings, want)
+        && has_slave(settings, want)
+}
+
+/// Whether a text sets this station.
+fn sets(alloc: Global, text: &str, want: &Station) -> bool {
+    match &Settings::read(alloc, text) {
+        Ok(settings) => is_station(settings, want),
+        Err(_) => false,
+    }
+}
+
+/// Texts, and what they set.
+const STATIONS: &[(&str, Station)] = &[(EVERY_KEY, EVERY_KEY_SET), (NEEDED_KEYS, DEFAULTS)];
+
+#[test]
+fn every_key_and_its_default(rt: HostRuntime) {
+    for (text, want) in STATIONS {
+        assert!(rt; sets(rt.alloc(), text, want), "{text}");
+    }
+}
