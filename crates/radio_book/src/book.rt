@@ -10,6 +10,7 @@ use crate::accounts::Accounts;
 use crate::debt::Debt;
 use crate::story::Story;
 use crate::{Chronicle, Entry, House, Kept, OutOfMemory, Pass, Receipt};
+use radio_access::Lists;
 use radio_core::{Core, Event};
 use radio_settings::Settings;
 use std::alloc::Global;
@@ -37,15 +38,15 @@ impl<C: Chronicle, H: House> Model for Book<C, H> {
 
 impl<C: Chronicle, H: House> Book<C, H> {
     /// A book in which nothing has happened yet. It takes no memory.
-    pub fn new(alloc: Global, settings: Settings, blank: Blank) -> Book<C, H>
-        requires opening { H.opening ≡ opening settings }
+    pub fn new(alloc: Global, settings: Settings, lists: Lists, blank: Blank) -> Book<C, H>
+        requires opening { H.opening ≡ opening settings lists }
         requires ledger { (blank.name ≡ H.name) × (blank.parts ≡ H.parts) × (blank.parts ≡ 2 ^ 32) }
-        // its core stands for the opening state of these settings
-        ensures core { Represents result.core (opening settings) }
+        // its core stands for the opening state of these settings and lists
+        ensures core { Represents result.core (opening settings lists) }
         ensures history { result.history ≡ [] }
     {
         let (book, spare) = blank.open::<H>();
-        let story = Story::new(Core::new(alloc, settings), C::new(alloc));
+        let story = Story::new(Core::new(alloc, settings, lists), C::new(alloc));
         Book {
             alloc,
             accounts: Accounts::new(story, Debt::new(book), spare, PASSES),

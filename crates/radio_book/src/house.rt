@@ -14,8 +14,9 @@ pub trait House: Ledger {
 
 impl House for Brand {
     ghost use Rattle.toml.specs.Data.{no_members};
+    ghost use Rattle.radio_access.specs.Lists.{no_lists};
     ghost use Rattle.radio_core.specs.World.{opening as opening_of};
     ghost use Rattle.radio_settings.specs.Document.{settings_of};
 
-    ghost opening = { opening_of (settings_of no_members) };
+    ghost opening = { opening_of (settings_of no_members) no_lists };
 }

@@ -2,9 +2,8 @@
 //! which may be refused memory, and then committed, whole or not at all.
 
 ghost use Rattle.std.specs.Prelude.{◌≡◌, [], ◌∷◌, IsOk, IfOk, OnOk, OnErr};
-ghost use Rattle.std.specs.Option.{option_copied};
 ghost use Rattle.radio_core.specs.declared.reply.Reply.{Reply as ReplyOf};
-ghost use Rattle.radio_core.specs.Seats.{listener_of, seat_of};
+ghost use Rattle.radio_core.specs.Seats.{listener_of};
 ghost use Rattle.radio_core.specs.World.{World, opening, standing_of, standing_of_listener};
 ghost use Rattle.radio_core.specs.Changes.{changed};
 ghost use Rattle.radio_core.specs.Replies.{HoldsNoText};
@@ -13,7 +12,7 @@ ghost use Rattle.radio_core.specs.Step.{outcome, Step, Represents, NeedsNoMemory
 use crate::clients::ClientState;
 use crate::house::House;
 use crate::outcome::{Change, Outcome};
-use crate::seats::{Listener, Seat, Seating};
+use crate::seats::{Listener, Seating};
 use crate::standing::Standing;
 use crate::{Event, OutOfMemory, Reply};
 use radio_access::Lists;
@@ -163,17 +162,6 @@ impl Core {
         match &listener.seating {
             Seating::Sits(_) => Standing::Sits,
             Seating::Finished(rule) => Standing::Finished(*rule),
-        }
-    }
-
-    /// The seat of the listener of this number, if he has one.
-    fn seat(&self, id: u64) -> Option<&Seat>
-        ensures { option_copied result ≡ seat_of self.now.seats id }
-    {
-        let listener = self.seats.get(id)?;
-        match &listener.seating {
-            Seating::Sits(seat) => Some(seat),
-            Seating::Finished(_) => None,
         }
     }
 }

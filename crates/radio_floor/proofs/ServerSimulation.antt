@@ -3,6 +3,7 @@ use Rattle.std.proofs.Common.{◌≡◌, ℕ, List, [], Option, None, Some, Resu
 use Rattle.radio_core.specs.World.{World, opening}
 use Rattle.radio_core.specs.Step.{Represents}
 use Rattle.radio_settings.specs.declared.settings.Settings.{Settings}
+use Rattle.radio_access.specs.Lists.{Lists}
 use Rattle.radio_script.specs.declared.delivery.Delivery.{Delivery}
 use Rattle.radio_floor.specs.declared.script_server.ScriptServer.{ScriptServer}
 use Rattle.radio_script.specs.declared.faults.PlayFault.{PlayFault}
@@ -29,17 +30,17 @@ does server server' state delivery lines same performs =
     (state', (d.0, d.1, refl), subst (λ (f : ScriptState). conduct f delivery lines state') (sym same.2) d.2)
 
 -- a new server stands for the opening state
-opens : (server : ScriptServer) (settings : Settings) → Represents server.core (opening settings) → server.connections ≡ [] → Same server (opening_script settings)
-opens server settings stands none = (opening settings, stands, ap (script_state_of (opening settings)) (sym none))
+opens : (server : ScriptServer) (settings : Settings) (lists : Lists) → Represents server.core (opening settings lists) → server.connections ≡ [] → Same server (opening_script settings lists)
+opens server settings lists stands none = (opening settings lists, stands, ap (script_state_of (opening settings lists)) (sym none))
 
-pub server_runs : (server last : ScriptServer) (settings : Settings) (deliveries : List Delivery) (text : List ℕ) (stop : Option ℕ) → Represents server.core (opening settings) → server.connections ≡ [] → Runs server_conduct server 1 deliveries text stop last → IsTranscriptOf settings deliveries text stop
-server_runs server last settings deliveries text stop stands none r =
-    let t = runs server_conduct conduct Same does deliveries server last (opening_script settings) 1 text stop (opens server settings stands none) r in
+pub server_runs : (server last : ScriptServer) (settings : Settings) (lists : Lists) (deliveries : List Delivery) (text : List ℕ) (stop : Option ℕ) → Represents server.core (opening settings lists) → server.connections ≡ [] → Runs server_conduct server 1 deliveries text stop last → IsTranscriptOf settings lists deliveries text stop
+server_runs server last settings lists deliveries text stop stands none r =
+    let t = runs server_conduct conduct Same does deliveries server last (opening_script settings lists) 1 text stop (opens server settings lists stands none) r in
     (t.0, t.2)
 
-pub server_plays : (server last : ScriptServer) (settings : Settings) (script left : List ℕ) (result : Result (Unit {0}) PlayFault) (written : List ℕ) (turns : ℕ) → Represents server.core (opening settings) → server.connections ≡ [] → Plays server_conduct server 1 script left result written turns last → PlaysScript settings script left result written turns
-server_plays server last settings script left result written turns stands none h =
-    plays server_conduct conduct Same does server last (opening_script settings) 1 script left result written turns (opens server settings stands none) h
+pub server_plays : (server last : ScriptServer) (settings : Settings) (lists : Lists) (script left : List ℕ) (result : Result (Unit {0}) PlayFault) (written : List ℕ) (turns : ℕ) → Represents server.core (opening settings lists) → server.connections ≡ [] → Plays server_conduct server 1 script left result written turns last → PlaysScript settings lists script left result written turns
+server_plays server last settings lists script left result written turns stands none h =
+    plays server_conduct conduct Same does server last (opening_script settings lists) 1 script left result written turns (opens server settings lists stands none) h
 
 -- what holds of known bytes may be weakened
 pub known-weaker : (old new : Option (List ℕ)) (P Q : List ℕ → List ℕ → Type 0) → ((script left : List ℕ) → P script left → Q script left) → IfKnown old new P → IfKnown old new Q

@@ -7,6 +7,7 @@ use Rattle.radio_core.specs.declared.reply.Reply.{Reply}
 use Rattle.radio_core.specs.declared.reply.Reply.TheVariants.{Arrived}
 use Rattle.radio_addr.specs.declared.peer.Peer.{Peer}
 use Rattle.radio_settings.specs.declared.settings.Settings.{Settings}
+use Rattle.radio_access.specs.Lists.{Lists}
 use Rattle.radio_core.specs.World.{World, opening}
 use Rattle.radio_tables.specs.Lists.{update_first, placed}
 use Rattle.std.specs.declared.cmp.Ordering.{Ordering}
@@ -30,8 +31,8 @@ pub record ScriptState : Type 0 where
   pub connections : List Labelled
 
 -- no label was opened yet
-abbrev pub opening_script : Settings → ScriptState
-opening_script settings = record { world = opening settings; connections = [] }
+abbrev pub opening_script : Settings → Lists → ScriptState
+opening_script settings lists = record { world = opening settings lists; connections = [] }
 
 abbrev pub has_label : ℕ → Labelled → Bool
 has_label label connection = connection.label == label

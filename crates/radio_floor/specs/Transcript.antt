@@ -1,6 +1,7 @@
 -- The transcript of deliveries and of scripts, of a server of some settings to which nothing has happened yet.
 use Rattle.std.specs.Prelude.{ℕ, List, Option, Result}
 use Rattle.radio_settings.specs.declared.settings.Settings.{Settings}
+use Rattle.radio_access.specs.Lists.{Lists}
 use Rattle.radio_script.specs.declared.delivery.Delivery.{Delivery}
 use Rattle.radio_script.specs.declared.faults.PlayFault.{PlayFault}
 use Rattle.radio_floor.specs.ScriptState.{ScriptState, opening_script, IsPerformed}
@@ -12,9 +13,9 @@ abbrev pub conduct : Conduct ScriptState
 conduct old delivery lines new = IsPerformed old delivery (record { lines = lines; state = new })
 
 -- the text is the transcript of the deliveries, up to the number of the first whose label is at fault, if there is one
-abbrev pub IsTranscriptOf : Settings → List Delivery → List ℕ → Option ℕ → Type 0
-IsTranscriptOf settings deliveries text stop = (last : ScriptState) × Runs conduct (opening_script settings) 1 deliveries text stop last
+abbrev pub IsTranscriptOf : Settings → Lists → List Delivery → List ℕ → Option ℕ → Type 0
+IsTranscriptOf settings lists deliveries text stop = (last : ScriptState) × Runs conduct (opening_script settings lists) 1 deliveries text stop last
 
 -- a script was played so: what was left unread, the result, what was written, and in how many turns
-abbrev pub PlaysScript : Settings → List ℕ → List ℕ → Result (Unit {0}) PlayFault → List ℕ → ℕ → Type 0
-PlaysScript settings script left result written turns = (last : ScriptState) × Plays conduct (opening_script settings) 1 script left result written turns last
+abbrev pub PlaysScript : Settings → Lists → List ℕ → List ℕ → Result (Unit {0}) PlayFault → List ℕ → ℕ → Type 0
+PlaysScript settings lists script left result written turns = (last : ScriptState) × Plays conduct (opening_script settings lists) 1 script left result written turns last

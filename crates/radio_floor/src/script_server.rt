@@ -14,6 +14,7 @@ use radio_addr::Peer;
 use radio_core::{Core, Event, Reply};
 use radio_script::push_answer;
 use radio_session::{Session, State, cores_exchange_as_their_states, exchange};
+use radio_access::Lists;
 use radio_settings::Settings;
 use radio_tables::{Row, Swap, Table};
 use std::alloc::Global;
@@ -74,14 +75,14 @@ pub(crate) struct ScriptServer {
 }
 
 impl ScriptServer {
-    /// A server of these settings, to which no connection has come. It takes no memory.
-    pub(crate) fn new(alloc: Global, settings: Settings) -> ScriptServer
-        ensures core { Represents result.core (opening settings) }
+    /// A server of these settings and lists, to which no connection has come. It takes no memory.
+    pub(crate) fn new(alloc: Global, settings: Settings, lists: Lists) -> ScriptServer
+        ensures core { Represents result.core (opening settings lists) }
         ensures connections { result.connections ≡ [] }
     {
         ScriptServer {
             alloc,
-            core: Core::new(alloc, settings),
+            core: Core::new(alloc, settings, lists),
             connections: Table::new(alloc),
         }
     }

@@ -7,13 +7,14 @@ ghost use Rattle.radio_floor.specs.Transcript.{IsTranscriptOf, PlaysScript};
 
 use crate::script_server::ScriptServer;
 use radio_script::{CountedRead, CountedWrite, Delivery, PlayFault, RunFault, play_with, run_with};
+use radio_access::Lists;
 use radio_settings::Settings;
 use std::alloc::Global;
 
 /// The lines `out` and `shut` that deliveries come to.
 pub type Transcript = Vec<u8>;
 
-/// Runs deliveries through a server of these settings, to which nothing has happened yet, and
+/// Runs deliveries through a server of these settings and lists, to which nothing has happened yet, and
 /// answers their transcript.
 ///
 /// - `Delivery`: at the first delivery, counted from 1, whose label was not opened or is opened
@@ -22,18 +23,19 @@ pub type Transcript = Vec<u8>;
 pub fn run(
     alloc: Global,
     settings: Settings,
+    lists: Lists,
     deliveries: &[Delivery],
 ) -> Result<Transcript, RunFault>
     // the transcript is that of all deliveries
-    ensures ok { IfOk result (λ transcript. IsTranscriptOf settings deliveries.now transcript.items None) }
+    ensures ok { IfOk result (λ transcript. IsTranscriptOf settings lists deliveries.now transcript.items None) }
     // the fault comes only at a delivery whose label is at fault
-    ensures delivery { (number : ℕ) → result ≡ Err (RunFault.Delivery number) → (text : List ℕ) × IsTranscriptOf settings deliveries.now text (Some number) }
+    ensures delivery { (number : ℕ) → result ≡ Err (RunFault.Delivery number) → (text : List ℕ) × IsTranscriptOf settings lists deliveries.now text (Some number) }
 {
-    let mut server = ScriptServer::new(alloc, settings);
+    let mut server = ScriptServer::new(alloc, settings, lists);
     run_with(alloc, &mut server, deliveries)
 }
 
-/// Plays a script: reads it line by line, runs each delivery through a server of these settings,
+/// Plays a script: reads it line by line, runs each delivery through a server of these settings and lists,
 /// and writes what it comes to before it reads on.
 ///
 /// - `Read`, `Write`: that device failed; an interrupted call, and a write that takes nothing, are
@@ -44,13 +46,14 @@ pub fn run(
 pub fn play<R: CountedRead, W: CountedWrite>(
     alloc: Global,
     settings: Settings,
+    lists: Lists,
     reader: &mut R,
     writer: &mut W,
 ) -> Result<(), PlayFault>
     // what was written is what the script's lines come to, as far as the result says
     ensures plays { IfKnown (R.remaining reader.old) (R.remaining reader.new) (λ script left.
         Writes (W.contents writer.old) (W.contents writer.new) (W.calls writer.old) (W.calls writer.new) (λ written turns.
-        PlaysScript settings script left result written turns)) }
+        PlaysScript settings lists script left result written turns)) }
     // 1,000,000 lines of 65,536 bytes with their line feeds, a byte a call, and one call more
     ensures reader_calls { R.calls reader.new ≤ R.calls reader.old + 65537000001 }
     // a fault of a device comes with its first failure, and only with one
@@ -59,6 +62,6 @@ pub fn play<R: CountedRead, W: CountedWrite>(
     // nothing that was written is kept back
     ensures flushed { result ≢ Err PlayFault.Write → W.is_flushed writer.old ≡ true → W.is_flushed writer.new ≡ true }
 {
-    let mut server = ScriptServer::new(alloc, settings);
+    let mut server = ScriptServer::new(alloc, settings, lists);
     play_with(alloc, &mut server, reader, writer)
 }

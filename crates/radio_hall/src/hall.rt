@@ -8,6 +8,7 @@ ghost use Rattle.radio_book.specs.History.{IsRun, StandsIn};
 ghost use Rattle.radio_book.specs.Settling.{Rises, all_serials, serials};
 
 use radio_book::{Book, Chronicle, Entry, House, Kept, OutOfMemory, Pass, Receipt, SettleFault};
+use radio_access::Lists;
 use radio_core::Event;
 use radio_settings::Settings;
 use std::alloc::Global;
@@ -21,13 +22,13 @@ pub struct Hall<C: Chronicle, H: House> {
 }
 
 impl<C: Chronicle, H: House> Hall<C, H> {
-    /// A house of these settings, in which nothing has happened yet. It takes no memory.
-    pub fn new(alloc: Global, settings: Settings, blank: Blank) -> Hall<C, H>
-        requires opening { H.opening ≡ opening settings }
+    /// A house of these settings and lists, in which nothing has happened yet. It takes no memory.
+    pub fn new(alloc: Global, settings: Settings, lists: Lists, blank: Blank) -> Hall<C, H>
+        requires opening { H.opening ≡ opening settings lists }
         requires ledger { (blank.name ≡ H.name) × (blank.parts ≡ H.parts) × (blank.parts ≡ 2 ^ 32) }
     {
         Hall {
-            book: Mutex::new(Book::new(alloc, settings, blank)),
+            book: Mutex::new(Book::new(alloc, settings, lists, blank)),
         }
     }
 

@@ -17,7 +17,8 @@ use Rattle.radio_session.specs.declared.session.Hears.{Hears}
 use Rattle.radio_session.specs.declared.session.Hears.TheVariants.{Head, Body, Nothing}
 use Rattle.radio_session.specs.Conversation.{Conversation}
 use Rattle.radio_session.specs.Pushes.{pushes}
-use Rattle.radio_session.specs.Hearing.{asks_to_feed, asks_to_hear, Heard, HearsAs, IsHeard, head_heard, request_heard, source_heard, refuses, going_on}
+use Rattle.radio_session.specs.Asking.{asks_to_feed, asks_to_hear}
+use Rattle.radio_session.specs.Hearing.{Heard, HearsAs, IsHeard, head_heard, request_heard, source_heard, refuses, going_on}
 use Rattle.radio_policy.specs.declared.rule.Rule.TheVariants.{BadHead, BadMethod}
 use Rattle.radio_session.proofs.HearingLemmas.{heard-alike}
 use Rattle.radio_session.specs.Cuts.{Atom, datum, other, atoms_of, atoms, CutsDoNotMatter}
@@ -66,18 +67,18 @@ by_parts X Y Z two whole e f g h = (
 -- what a request is heard as, by the tests of its method
 request_by : Bool → Bool → Conversation → RequestParts → List ℕ → Heard
 request_by source get conversation request behind =
-    if source then source_heard conversation request.path behind
-    else if get then record { events = asks_to_hear conversation.id request.path ∷ []; conversation = going_on conversation Nothing }
+    if source then source_heard conversation request behind
+    else if get then record { events = asks_to_hear conversation.id request ∷ []; conversation = going_on conversation Nothing }
     else refuses conversation BadMethod
 
 -- a request, and more bytes behind it
 request-cut : (joined : AreJoined) (source get : Bool) (conversation : Conversation) (request : RequestParts) (behind second : List ℕ) (two whole : Heard) → IsHeard (request_by source get conversation request behind).conversation second two → whole ≡ request_by source get conversation request (behind ++ second) → (atoms ((request_by source get conversation request behind).events ++ two.events) ≡ atoms whole.events) × (two.conversation ≡ whole.conversation)
 unfolding request_by
 request-cut joined true get conversation request behind second two whole h w =
-    by_parts (source_heard conversation request.path behind) (record { events = pushes conversation.id second; conversation = going_on conversation Body }) (source_heard conversation request.path (behind ++ second)) two whole h w
-    (ap (λ (zs : List Atom). other (asks_to_feed conversation.id request.path) ∷ zs) (pushes-cut joined conversation.id behind second)) refl
+    by_parts (source_heard conversation request behind) (record { events = pushes conversation.id second; conversation = going_on conversation Body }) (source_heard conversation request (behind ++ second)) two whole h w
+    (ap (λ (zs : List Atom). other (asks_to_feed conversation.id request) ∷ zs) (pushes-cut joined conversation.id behind second)) refl
 request-cut joined false true conversation request behind second two whole h w =
-    let heard : Heard = record { events = asks_to_hear conversation.id request.path ∷ []; conversation = going_on conversation Nothing } in
+    let heard : Heard = record { events = asks_to_hear conversation.id request ∷ []; conversation = going_on conversation Nothing } in
     by_parts heard (record { events = []; conversation = going_on conversation Nothing }) heard two whole h w refl refl
 request-cut joined false false conversation request behind second two whole h w =
     by_parts (refuses conversation BadMethod) (record { events = []; conversation = (refuses conversation BadMethod).conversation }) (refuses conversation BadMethod) two whole h w refl refl

@@ -3,8 +3,6 @@ use Rattle.std.specs.Prelude.{◌≡◌, ℕ, false, List, [], ◌∷◌, ◌++�
 use Rattle.std.specs.Str.{bytes_eq}
 use Rattle.radio_policy.specs.declared.rule.Rule.{Rule}
 use Rattle.radio_policy.specs.declared.rule.Rule.TheVariants.{BadHead, BadMethod}
-use Rattle.radio_settings.specs.declared.field.Shown.{Shown}
-use Rattle.radio_settings.specs.Shown.{shown_of}
 use Rattle.radio_core.specs.declared.event.Event.{Event}
 use Rattle.radio_core.specs.declared.event.Event.TheVariants.{Source, Listen, Leave}
 use Rattle.radio_heads.specs.declared.outcome.Progress.{Progress}
@@ -15,6 +13,7 @@ use Rattle.radio_heads.specs.Reading.{IsReading}
 use Rattle.radio_session.specs.declared.session.Hears.{Hears}
 use Rattle.radio_session.specs.declared.session.Hears.TheVariants.{Head, Body, Nothing}
 use Rattle.radio_session.specs.declared.session.Says.TheVariants.{Refusing}
+use Rattle.radio_session.specs.Asking.{asks_to_feed, asks_to_hear}
 use Rattle.radio_session.specs.Conversation.{Conversation}
 use Rattle.radio_session.specs.Pushes.{pushes}
 
@@ -31,27 +30,16 @@ going_on conversation hears = record conversation { held = []; hears = hears }
 abbrev pub refuses : Conversation → Rule → Heard
 refuses conversation rule = record { events = Leave conversation.id ∷ []; conversation = record (going_on conversation Nothing) { says = Refusing rule } }
 
--- what a session shows whose source tells nothing: the content type that Icecast takes then, and no name or genre
-abbrev pub nothing_told : Shown
-nothing_told = shown_of (codes "audio/mpeg") [] []
-
--- a client asks to feed the mount of this path, or to hear it; no header counts yet but the request's line
-abbrev pub asks_to_feed : ℕ → List ℕ → Event
-asks_to_feed id path = Source (record { id = id; mount = path; pair = None; shown = nothing_told })
-
-abbrev pub asks_to_hear : ℕ → List ℕ → Event
-asks_to_hear id path = Listen (record { id = id; mount = path; pair = None; wants_metadata = false })
-
 -- a source's head has come, and the first of its data
-abbrev pub source_heard : Conversation → List ℕ → List ℕ → Heard
-source_heard conversation path behind = record { events = asks_to_feed conversation.id path ∷ pushes conversation.id behind; conversation = going_on conversation Body }
+abbrev pub source_heard : Conversation → RequestParts → List ℕ → Heard
+source_heard conversation request behind = record { events = asks_to_feed conversation.id request ∷ pushes conversation.id behind; conversation = going_on conversation Body }
 
 -- a head has come, with these bytes behind it: SOURCE feeds the mount of its path, GET hears it
 abbrev pub request_heard : Conversation → RequestParts → List ℕ → Heard
 request_heard conversation request behind =
-    if bytes_eq request.method (codes "SOURCE") then source_heard conversation request.path behind
+    if bytes_eq request.method (codes "SOURCE") then source_heard conversation request behind
     else if bytes_eq request.method (codes "GET") then
-    record { events = asks_to_hear conversation.id request.path ∷ []; conversation = going_on conversation Nothing }
+    record { events = asks_to_hear conversation.id request ∷ []; conversation = going_on conversation Nothing }
     else refuses conversation BadMethod
 
 -- what these bytes, all that have come, are read as

@@ -8,6 +8,7 @@ use radio_policy::Rule;
 use std::alloc::Global;
 use std::marker::Model;
 
+mod asking;
 mod blocks;
 mod hearing;
 mod saying;

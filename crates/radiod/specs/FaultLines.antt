@@ -1,15 +1,34 @@
--- What the line on standard error says of a fault, after `radiod: `.
+-- What the line on standard error says of a fault, after `radiod: `, and the status with which the program ends.
 use Rattle.std.specs.Prelude.{ℕ, List, ◌++◌, codes}
+use Rattle.std.specs.Fmt.{decimal}
 use Rattle.std.specs.String.{string_bytes}
+use Rattle.radio_settings.specs.declared.fault.SettingsFault.{SettingsFault}
+use Rattle.radio_settings.specs.declared.fault.SettingsFault.TheVariants.{OutOfMemory as NoMemoryForSettings}
 use Rattle.radio_settings.specs.Words.{fault_text}
 use Rattle.radio_script.specs.Words.{play_fault_text}
 use Rattle.radiod.specs.declared.fault.Fault.{Fault}
-use Rattle.radiod.specs.declared.fault.Fault.TheVariants.{Usage, CannotRead, NotText, Settings, Play, OutOfMemory}
+use Rattle.radiod.specs.declared.fault.Fault.TheVariants.{Usage, CannotRead, Line, NotText, Settings, Play, OutOfMemory}
 
 abbrev pub fault_line : Fault → List ℕ
 fault_line Usage = codes "usage: radiod play SETTINGS"
 fault_line (CannotRead path) = codes "cannot read " ++ string_bytes path
+fault_line (Line path line) = string_bytes path ++ (codes " line " ++ decimal line)
 fault_line NotText = codes "not toml"
 fault_line (Settings fault) = fault_text fault
 fault_line (Play fault) = play_fault_text fault
 fault_line OutOfMemory = codes "out of memory"
+
+-- want of memory is no fault of the settings
+abbrev pub settings_status : SettingsFault → ℕ
+settings_status NoMemoryForSettings = 1
+settings_status fault = 3
+
+-- 2 for the words of the call, 3 for the settings and the files that they name, and else 1
+abbrev pub exit_status : Fault → ℕ
+exit_status Usage = 2
+exit_status (CannotRead path) = 3
+exit_status (Line path line) = 3
+exit_status NotText = 3
+exit_status (Settings fault) = settings_status fault
+exit_status (Play fault) = 1
+exit_status OutOfMemory = 1

@@ -1,14 +1,19 @@
+ghost use Rattle.std.specs.Prelude.{◌≡◌};
+ghost use Rattle.radiod.specs.FaultLines.{exit_status, settings_status};
+
 use radio_floor::PlayFault;
 use radio_settings::SettingsFault;
 use std::fmt;
 
-/// Why `radiod` ends with status 1. Its text is the line on standard error, after `radiod: `.
+/// Why `radiod` ends. Its text is the line on standard error, after `radiod: `.
 #[derive(Debug, Drop)]
 pub enum Fault {
     /// The words are none that the program knows.
     Usage,
-    /// The settings file of this path cannot be read.
+    /// The settings file, or one that it names, of this path cannot be read.
     CannotRead(String),
+    /// This line of a list of addresses, counted from 1, is no address.
+    Line { path: String, line: usize },
     /// The settings file is not UTF-8, which TOML is.
     NotText,
     /// The settings have this fault.
@@ -17,6 +22,33 @@ pub enum Fault {
     Play(PlayFault),
     /// Memory was refused.
     OutOfMemory,
+}
+
+impl Fault {
+    /// The status with which the program ends: 2 for its words, 3 for the settings and the files
+    /// that they name, and else 1.
+    pub fn status(&self) -> u8
+        ensures { result ≡ exit_status self.now }
+    {
+        match self {
+            Fault::Usage => 2,
+            Fault::CannotRead(_)
+            | Fault::Line { .. }
+            | Fault::NotText => 3,
+            Fault::Settings(fault) => settings_status(fault),
+            Fault::Play(_) | Fault::OutOfMemory => 1,
+        }
+    }
+}
+
+/// Want of memory is no fault of the settings.
+fn settings_status(fault: &SettingsFault) -> u8
+    ensures { result ≡ settings_status fault.now }
+{
+    match fault {
+        SettingsFault::OutOfMemory => 1,
+        _ => 3,
+    }
 }
 
 impl fmt::Display for Fault {
@@ -29,6 +61,7 @@ impl fmt::Display for Fault {
         match self {
             Fault::Usage => f.write_str("usage: radiod play SETTINGS"),
             Fault::CannotRead(path) => write!(f, "cannot read {path}"),
+            Fault::Line { path, line } => write!(f, "{path} line {line}"),
             Fault::NotText => f.write_str("not toml"),
             Fault::Settings(fault) => write!(f, "{fault}"),
             Fault::Play(fault) => write!(f, "{fault}"),

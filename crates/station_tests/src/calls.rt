@@ -1,9 +1,11 @@
 //! Events in tables, and replies in words.
 
 use bytes::Bytes;
+use radio_access::Lists;
 use radio_addr::Peer;
 use radio_blocks::{Block, Pieces};
 use radio_core::{Core, Event, ListenRequest, OutOfMemory, Reply, SourceRequest};
+use radio_creds::basic;
 use radio_settings::{Settings, SettingsFault, Shown};
 use std::alloc::Global;
 use std::process::Abort;
@@ -12,11 +14,14 @@ use std::test::Fail;
 /// The settings of a station, up to the limits that it sets.
 const STATION: &str = "source-password = \"hackme\"\nadmin-password = \"letmein\"\n[limits]\n";
 
+/// What its sources send: the user `source` and that password.
+const SOURCE_PAIR: &[u8] = b"Basic c291cmNlOmhhY2ttZQ==";
+
 /// An event of a table, by its client's number, and the mount, the data or the room.
 #[derive(Clone, Copy, Debug)]
 pub enum Call {
     Arrive,
-    /// A source that tells of its stream: `audio/ogg`, the name `Night`.
+    /// A source that tells of its stream: `audio/aac`, the name `Night`.
     Source(u64, &'static str),
     /// A source that tells nothing.
     PlainSource(u64, &'static str),
@@ -33,7 +38,7 @@ impl Call {
             Call::Arrive => Ok(Event::Arrive {
                 peer: Peer::of_v4(0x0a00_0001),
             }),
-            Call::Source(id, path) => source_event(alloc, *id, path, b"audio/ogg", b"Night"),
+            Call::Source(id, path) => source_event(alloc, *id, path, b"audio/aac", b"Night"),
             Call::PlainSource(id, path) => source_event(alloc, *id, path, b"audio/mpeg", b""),
             Call::Push(id, text) => push_event(alloc, *id, text),
             Call::SourceEnd(id) => Ok(Event::SourceEnd { id: *id }),
@@ -57,7 +62,7 @@ fn source_event(
     Ok(Event::Source(SourceRequest {
         id,
         mount: Bytes::copy_from_slice(alloc, path.as_bytes())?,
-        pair: None,
+        pair: basic(alloc, SOURCE_PAIR)?,
         shown: Shown::clean(alloc, content_type, name, b"")?,
     }))
 }
@@ -83,7 +88,7 @@ fn push_event(alloc: Global, id: u64, text: &str) -> Result<Event, OutOfMemory> 
 pub fn core_with_burst(alloc: Global, burst: u32) -> Result<Core, SettingsFault> {
     let text = format!(in alloc; "{STATION}burst-size = {burst}\n")?;
     let settings = Settings::read(alloc, text.as_str())?;
-    Ok(Core::new(alloc, settings))
+    Ok(Core::new(alloc, settings, Lists::new(alloc)))
 }
 
 /// A core with this burst-size replies as one table says, and then as the next.

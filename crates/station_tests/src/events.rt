@@ -12,7 +12,7 @@ const THREE_CLIENTS: &[(Call, &str)] = &[
     (Call::Arrive, "arrived 3"),
     (Call::Source(1, "/a"), "feeding"),
     (Call::Push(1, "abcd"), "noted"),
-    (Call::Listen(2, "/a"), "seated audio/ogg,Night,"),
+    (Call::Listen(2, "/a"), "seated audio/aac,Night,"),
 ];
 
 /// What follows upon them.
@@ -61,7 +61,7 @@ const EACH_REPLY: &[(Call, &str)] = &[
     (Call::Source(1, "/a"), "feeding"),
     (Call::Push(1, "abcd"), "noted"),
     (Call::Arrive, "arrived 2"),
-    (Call::Listen(2, "/a"), "seated audio/ogg,Night,"),
+    (Call::Listen(2, "/a"), "seated audio/aac,Night,"),
     (Call::Draw(2, 3), "drawn abc"),
     (Call::Arrive, "arrived 3"),
     (Call::Listen(3, "/b"), "deny no-mount"),
@@ -81,7 +81,7 @@ fn three_equal_replies(rt: HostRuntime) -> Result<(), Fail> {
 const SOURCE_ENDS: &[(Call, &str)] = &[
     (Call::Source(3, "/b"), "feeding"),
     (Call::Arrive, "arrived 4"),
-    (Call::Listen(4, "/b"), "seated audio/ogg,Night,"),
+    (Call::Listen(4, "/b"), "seated audio/aac,Night,"),
     (Call::SourceEnd(1), "noted"),
     (Call::Draw(2, 9), "finished not-live"),
     (Call::Listen(2, "/b"), "finished not-live"),
@@ -104,7 +104,7 @@ const SOURCE_LEAVES: &[(Call, &str)] = &[
     (Call::Push(3, "new"), "noted"),
     (Call::Draw(2, 9), "finished not-live"),
     (Call::Arrive, "arrived 4"),
-    (Call::Listen(4, "/a"), "seated audio/ogg,Night,"),
+    (Call::Listen(4, "/a"), "seated audio/aac,Night,"),
     (Call::Draw(4, 9), "drawn new"),
 ];
 

@@ -15,7 +15,7 @@ const TABLE: &[(Call, &str)] = &[
     (Call::Arrive, "arrived 2"),
     (Call::Source(1, "/a"), "feeding"),
     (Call::Push(1, "abcd"), "noted"),
-    (Call::Listen(2, "/a"), "seated audio/ogg,Night,"),
+    (Call::Listen(2, "/a"), "seated audio/aac,Night,"),
     (Call::Push(1, "efgh"), "noted"),
     (Call::Draw(2, 6), "drawn abcdef"),
     (Call::SourceEnd(1), "noted"),

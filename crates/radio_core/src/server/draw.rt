@@ -1,9 +1,13 @@
 ghost use Rattle.std.specs.Prelude.{◌≡◌, IfOk};
-ghost use Rattle.radio_core.specs.Draw.{draws, hands_out_at};
-ghost use Rattle.radio_core.specs.Seats.{seat_of};
+ghost use Rattle.radio_core.specs.Draw.{draws, hands_out, hands_out_at};
+ghost use Rattle.radio_core.specs.Outcomes.{if_sitting};
+ghost use Rattle.radio_core.specs.Seats.{listener_of, seat_of};
+ghost use Rattle.radio_core.specs.Sessions.{session_of};
+ghost use Rattle.radio_core.specs.World.{standing_of_listener};
 
+use crate::clients::ClientState;
 use crate::outcome::{Change, Outcome};
-use crate::standing::Standing;
+use crate::seats::{Seat, Seating};
 use crate::{Core, OutOfMemory, Reply};
 use radio_blocks::Pieces;
 
@@ -12,20 +16,34 @@ impl Core {
     pub(super) fn draw(&self, id: u64, room: u32) -> Result<Outcome, OutOfMemory>
         ensures { IfOk result (λ o. o ≡ draws self.now id room) }
     {
-        match self.standing(id) {
-            Standing::Sits => self.hand_out(id, room),
-            Standing::Finished(rule) => Ok(Outcome::finished(rule)),
+        let Some(client) = self.house.clients.get(id) else {
+            return Ok(Outcome::stray());
+        };
+        let state = client.state;
+        match state {
+            ClientState::Listens => self.draw_listener(id, room),
+            ClientState::Ended(rule) => Ok(Outcome::finished(rule)),
             _ => Ok(Outcome::stray()),
         }
     }
 
-    /// He is handed what stands at his place.
-    fn hand_out(&self, id: u64, room: u32) -> Result<Outcome, OutOfMemory>
-        ensures { IfOk result (λ o. o ≡ hands_out_at self.now.house id room (seat_of self.now.seats id)) }
+    /// One who was admitted as a listener has room for so many bytes. His row is looked up once.
+    fn draw_listener(&self, id: u64, room: u32) -> Result<Outcome, OutOfMemory>
+        ensures { IfOk result (λ o. o ≡ if_sitting (standing_of_listener (listener_of self.now.seats id)) (hands_out_at self.now.house id room (seat_of self.now.seats id))) }
     {
-        let Some(seat) = self.seat(id) else {
+        let Some(listener) = self.seats.get(id) else {
             return Ok(Outcome::stray());
         };
+        match &listener.seating {
+            Seating::Sits(seat) => self.hand_out(id, seat, room),
+            Seating::Finished(rule) => Ok(Outcome::finished(*rule)),
+        }
+    }
+
+    /// He is handed what stands at his place.
+    fn hand_out(&self, id: u64, seat: &Seat, room: u32) -> Result<Outcome, OutOfMemory>
+        ensures { IfOk result (λ o. o ≡ hands_out id seat.now room (session_of self.now.house.live seat.now.mount)) }
+    {
         let Some(session) = self.house.session(&seat.mount) else {
             return Ok(Outcome::stray());
         };

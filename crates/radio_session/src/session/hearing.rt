@@ -1,15 +1,14 @@
 ghost use Rattle.std.specs.Prelude.{◌≡◌, [], ◌∷◌, ◌++◌, drop, length, take, true, IfOk, IsErr, OnErr};
-ghost use Rattle.radio_session.specs.Hearing.{IsHeard, HearsAs, request_heard, source_heard, refuses, going_on, asks_to_feed, asks_to_hear};
+ghost use Rattle.radio_session.specs.Hearing.{IsHeard, HearsAs, request_heard, source_heard, refuses, going_on};
 ghost use Rattle.radio_session.specs.Pushes.{pushes};
 
 use crate::OutOfMemory;
+use crate::session::asking::{asks_to_feed, asks_to_hear};
 use crate::session::blocks::push_blocks;
 use crate::session::{Hears, Says, Session};
-use bytes::Bytes;
-use radio_core::{Event, ListenRequest, SourceRequest};
+use radio_core::Event;
 use radio_heads::{Head, Progress, read_request_from};
 use radio_policy::Rule;
-use radio_settings::Shown;
 use std::alloc::{AllocError, Global};
 use std::mem;
 
@@ -83,7 +82,7 @@ impl Session {
         if method == b"SOURCE".as_slice() {
             self.take_source(head, behind)
         } else if method == b"GET".as_slice() {
-            let event = asks_to_hear(self.alloc, id, head.path())?;
+            let event = asks_to_hear(self.alloc, id, head)?;
             let mut events = Vec::new(self.alloc);
             events.push(event)?;
             self.go_on(Hears::Nothing);
@@ -95,10 +94,10 @@ impl Session {
 
     /// A source's head, and the first of its data.
     fn take_source(&mut self, head: &Head, behind: &[u8]) -> Result<Vec<Event>, OutOfMemory>
-        ensures { IfOk result (λ events. source_heard self.old head.now.path behind.now ≡ record { events = events.items; conversation = self.new }) }
+        ensures { IfOk result (λ events. source_heard self.old head.now behind.now ≡ record { events = events.items; conversation = self.new }) }
     {
         let id = self.id;
-        let event = asks_to_feed(self.alloc, id, head.path())?;
+        let event = asks_to_feed(self.alloc, id, head)?;
         let mut events = Vec::new(self.alloc);
         events.push(event)?;
         push_blocks(self.alloc, id, behind, &mut events)?;
@@ -124,33 +123,4 @@ impl Session {
         self.held.clear();
         self.hears = hears;
     }
-}
-
-/// What a session shows whose source names no content type (Icecast 2.4 documentation).
-const DEFAULT_CONTENT_TYPE: &[u8] = b"audio/mpeg";
-
-/// The event of a client who asks to feed the mount of this path. No header of his counts yet.
-/// `OutOfMemory` where memory was refused.
-fn asks_to_feed(alloc: Global, id: u64, path: &[u8]) -> Result<Event, OutOfMemory>
-    ensures { IfOk result (λ event. event ≡ asks_to_feed id path.now) }
-{
-    Ok(Event::Source(SourceRequest {
-        id,
-        mount: Bytes::copy_from_slice(alloc, path)?,
-        pair: None,
-        shown: Shown::clean(alloc, DEFAULT_CONTENT_TYPE, b"", b"")?,
-    }))
-}
-
-/// The event of a client who asks to hear the mount of this path. No header of his counts yet.
-/// `OutOfMemory` where memory was refused.
-fn asks_to_hear(alloc: Global, id: u64, path: &[u8]) -> Result<Event, OutOfMemory>
-    ensures { IfOk result (λ event. event ≡ asks_to_hear id path.now) }
-{
-    Ok(Event::Listen(ListenRequest {
-        id,
-        mount: Bytes::copy_from_slice(alloc, path)?,
-        pair: None,
-        wants_metadata: false,
-    }))
 }
