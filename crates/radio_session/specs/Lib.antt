@@ -6,3 +6,4 @@ pub mod Exchanges
 pub mod Cuts
 pub mod Laws
 pub mod LastWords
+pub mod Framing
