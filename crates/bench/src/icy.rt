@@ -39,15 +39,21 @@ fn weave_and_unweave(
 {
     let woven = weave_draws(rt, interval, sound)?;
     let unwoven = unweave_pieces(rt, interval, sound)?;
-    println!(rt;
-        "interval {interval}: {} bytes of sound, {} woven, {} unwoven",
-        sound.len(),
-        woven.count,
-        unwoven.count
-    )?;
+    write_sizes(rt, interval, sound.len(), (woven.count, unwoven.count))?;
     if is_full {
         write_beside_copies(rt, sound, woven.time, unwoven.time)?;
     }
+    Ok(())
+}
+
+fn write_sizes(
+    rt: &impl Print,
+    interval: usize,
+    sound: usize,
+    sizes: (usize, usize),
+) -> Result<()> {
+    let (woven, unwoven) = sizes;
+    println!(rt; "interval {interval}: {sound} bytes of sound, {woven} woven, {unwoven} unwoven")?;
     Ok(())
 }
 

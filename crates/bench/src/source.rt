@@ -5,7 +5,6 @@ ghost use Rattle.std.specs.Prelude.{◌≤◌};
 
 use crate::times::{Measured, copy_pieces, write_speeds};
 use anyhow::Result;
-use radio_blocks::Block;
 use radio_source::{Body, OutOfMemory};
 use std::alloc::Global;
 use std::rt::Clock;
@@ -74,10 +73,15 @@ fn feed(
 ) -> Result<()> {
     let copied = copy_pieces(rt, bytes, PIECE)?;
     let fed = feed_pieces(rt, body, bytes)?;
-    println!(rt; "{name}: {} bytes fed, {} of data", copied.count, fed.count)?;
+    write_counts(rt, name, copied.count, fed.count)?;
     if is_full {
         write_speeds(rt, ("copy", "feed"), &copied, fed.time)?;
     }
+    Ok(())
+}
+
+fn write_counts(rt: &impl Print, name: &str, bytes: usize, data: usize) -> Result<()> {
+    println!(rt; "{name}: {bytes} bytes fed, {data} of data")?;
     Ok(())
 }
 
@@ -95,7 +99,11 @@ fn feed_pieces(rt: &impl Clock, body: &mut Body, bytes: &[u8]) -> Result<Measure
 /// How many bytes of data one feed of a body brings.
 fn fed_size(body: &mut Body, piece: &[u8]) -> Result<usize> {
     let fed = body.feed(piece)?;
-    Ok(fed.blocks.iter().map(Block::len).sum())
+    let mut size = 0usize;
+    for block in &fed.blocks {
+        size = size.saturating_add(block.len());
+    }
+    Ok(size)
 }
 
 /// A chunked body of this data, in chunks of one size.

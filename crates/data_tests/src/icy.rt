@@ -12,6 +12,9 @@ use std::process::Abort;
 /// A title between sound, with a block after each four bytes.
 const X_STREAM: &[u8] = b"abcd\x01StreamTitle='X';efgh\x00";
 
+/// The longest title.
+const LONGEST: &[u8] = &[b'a'; 4065];
+
 /// A title with these bytes before it and behind it.
 fn enclosed(
     alloc: Global,

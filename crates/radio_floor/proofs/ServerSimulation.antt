@@ -49,4 +49,4 @@ known-weaker (Some script) None P Q h k = k
 known-weaker (Some script) (Some left) P Q h k = h script left k
 
 pub writes-weaker : (old new : Option (List ℕ)) (before after : ℕ) (P Q : List ℕ → ℕ → Type 0) → ((written : List ℕ) (turns : ℕ) → P written turns → Q written turns) → Writes old new before after P → Writes old new before after Q
-writes-weaker old new before after P Q h w = record { written = w.written; most_calls = w.most_calls; appends = w.appends; called = w.called; holds = h w.written w.turns w.holds }
+writes-weaker old new before after P Q h w = record { written = w.written; most_calls = w.most_calls; appends = w.appends; called = w.called; holds = h w.written w.most_calls w.holds }

@@ -1,12 +1,12 @@
 -- What comes in two pieces is heard as if it had come in one.
-use Rattle.std.proofs.Common.{◌≡◌, ℕ, zero, suc, ◌≤◌, Bool, true, false, List, [], ◌∷◌, ◌++◌, length, take, drop, map, ap, sym, ◌∙◌, refl, subst, inl, inr, Result, Ok, Err, IsErr, arith, append_assoc, length-drop}
+use Rattle.std.proofs.Common.{◌≡◌, ℕ, zero, suc, ◌≤◌, Bool, true, false, List, [], ◌∷◌, ◌++◌, length, take, drop, map, ap, sym, ◌∙◌, refl, subst, inl, inr, Result, Ok, Err, IsErr, arith, append_assoc, length-drop, Option, None, Some, append-nil}
 use Rattle.std.specs.Prelude.{codes, if◌then◌else◌}
 use Rattle.std.specs.Str.{bytes_eq}
 use Rattle.std.proofs.lemmas.List.{drop-append-le, take-append-drop, map-append}
 use Rattle.std.specs.List.{concat}
 use Rattle.radio_blocks.specs.Cutting.{blocks_of}
 use Rattle.radio_core.specs.declared.event.Event.{Event}
-use Rattle.radio_core.specs.declared.event.Event.TheVariants.{Push}
+use Rattle.radio_core.specs.declared.event.Event.TheVariants.{Push, SourceEnd}
 use Rattle.radio_heads.specs.declared.outcome.Progress.{Progress}
 use Rattle.radio_heads.specs.declared.outcome.Progress.TheVariants.{More, Whole}
 use Rattle.radio_heads.specs.declared.outcome.HeadFault.{HeadFault}
@@ -15,13 +15,19 @@ use Rattle.radio_heads.specs.Reading.{IsReading}
 use Rattle.radio_heads.specs.Laws.{ReadingsAgree, IsSettled, HeadsLieWithin}
 use Rattle.radio_session.specs.declared.session.Hears.{Hears}
 use Rattle.radio_session.specs.declared.session.Hears.TheVariants.{Head, Body, Nothing}
+use Rattle.radio_session.specs.declared.session.LastWord.{LastWord}
+use Rattle.radio_session.specs.declared.session.framing.Framing.{Framing}
+use Rattle.radio_session.specs.Framing.{is_source, framing_of, start_of}
+use Rattle.radio_session.proofs.BodyLemmas.{closes_at, stays_closed, StaysClosed}
+use Rattle.radio_source.specs.Place.{Place, after, data_of, has_ended, fault_at}
+use Rattle.radio_source.specs.Feeding.{unfed}
 use Rattle.radio_session.specs.Conversation.{Conversation}
 use Rattle.radio_session.specs.Pushes.{pushes}
 use Rattle.radio_session.specs.Asking.{asks_to_feed, asks_to_hear}
-use Rattle.radio_session.specs.Hearing.{Heard, HearsAs, IsHeard, head_heard, request_heard, source_heard, refuses, going_on}
+use Rattle.radio_session.specs.Hearing.{Heard, HearsAs, IsHeard, head_heard, request_heard, source_heard, listener_heard, body_heard, delivered, closes_with, greeted, refuses, nothing_held, going_on}
 use Rattle.radio_policy.specs.declared.rule.Rule.TheVariants.{BadHead, BadMethod}
 use Rattle.radio_session.proofs.HearingLemmas.{heard-alike}
-use Rattle.radio_session.specs.Cuts.{Atom, datum, other, atoms_of, atoms, CutsDoNotMatter}
+use Rattle.radio_session.specs.Cuts.{Atom, datum, other, atoms_of, atoms, answered, CutsDoNotMatter}
 
 -- lists of atoms joined
 atoms-append : (xs ys : List Event) → atoms (xs ++ ys) ≡ atoms xs ++ atoms ys
@@ -38,6 +44,13 @@ atoms-blocks id (block ∷ blocks) =
 abbrev AreJoined : Type 0
 AreJoined = (bytes : List ℕ) → concat (blocks_of bytes) ≡ bytes
 
+-- the places of bytes in two pieces, and the data among them
+abbrev PlacesJoin : Type 0
+PlacesJoin = (place : Place) (first second : List ℕ) → after place (first ++ second) ≡ after (after place first) second
+
+abbrev DataJoin : Type 0
+DataJoin = (place : Place) (first second : List ℕ) → data_of place (first ++ second) ≡ data_of place first ++ data_of (after place first) second
+
 module _ (joined : AreJoined) where
   atoms-pushes : (id : ℕ) (bytes : List ℕ) → atoms (pushes id bytes) ≡ map (datum id) bytes
   atoms-pushes id bytes = atoms-blocks id (blocks_of bytes) ∙ ap (map (datum id)) (joined bytes)
@@ -51,41 +64,114 @@ module _ (joined : AreJoined) where
       ∙ sym (map-append (datum id) first second)
       ∙ sym (atoms-pushes id (first ++ second))
 
+-- two pieces come to what the whole does
+abbrev Alike : Heard → Heard → Heard → Type 0
+Alike one two whole = (atoms (one.events ++ two.events) ≡ atoms whole.events) × (answered two.conversation ≡ answered whole.conversation)
+
+-- two pieces and the whole, each by what it is heard as
+by_parts : (X Y Z two whole : Heard) → two ≡ Y → whole ≡ Z → atoms (X.events ++ Y.events) ≡ atoms Z.events → answered Y.conversation ≡ answered Z.conversation → Alike X two whole
+by_parts X Y Z two whole e f g h = (
+  ap (λ (y : Heard). atoms (X.events ++ y.events)) e ∙ g ∙ sym (ap (λ (z : Heard). atoms z.events) f),
+  ap (λ (y : Heard). answered y.conversation) e ∙ h ∙ sym (ap (λ (z : Heard). answered z.conversation) f),
+)
+
+-- the same where the conversation is closed by the first piece
+by_closed : (X Z two whole : Heard) → two ≡ record { events = []; conversation = X.conversation } → whole ≡ Z → atoms X.events ≡ atoms Z.events → answered X.conversation ≡ answered Z.conversation → Alike X two whole
+by_closed X Z two whole e f g h =
+    by_parts X (record { events = []; conversation = X.conversation }) Z two whole e f (ap atoms (append-nil X.events) ∙ g) h
+
+module _ (joined : AreJoined) (places : PlacesJoin) (found : DataJoin) where
+  -- the events of data in two pieces
+  delivered-cut : (id : ℕ) (before : List Event) (place : Place) (first second : List ℕ) → atoms ((before ++ pushes id (data_of place first)) ++ pushes id (data_of (after place first) second)) ≡ atoms (before ++ pushes id (data_of place (first ++ second)))
+  delivered-cut id before place first second =
+      let one = data_of place first in
+      let two = data_of (after place first) second in
+      ap atoms (append_assoc before (pushes id one) (pushes id two))
+      ∙ atoms-append before (pushes id one ++ pushes id two)
+      ∙ ap (λ (zs : List Atom). atoms before ++ zs) (pushes-cut joined id one two ∙ ap (λ (bytes : List ℕ). atoms (pushes id bytes)) (sym (found place first second)))
+      ∙ sym (atoms-append before (pushes id (data_of place (first ++ second))))
+
+  -- and an event behind them
+  ended-cut : (id : ℕ) (before : List Event) (last : Event) (place : Place) (first second : List ℕ) → atoms ((before ++ pushes id (data_of place first)) ++ (pushes id (data_of (after place first) second) ++ last ∷ [])) ≡ atoms ((before ++ pushes id (data_of place (first ++ second))) ++ last ∷ [])
+  ended-cut id before last place first second =
+      let one = before ++ pushes id (data_of place first) in
+      let two = pushes id (data_of (after place first) second) in
+      let all = before ++ pushes id (data_of place (first ++ second)) in
+      ap atoms (sym (append_assoc one two (last ∷ [])))
+      ∙ atoms-append (one ++ two) (last ∷ [])
+      ∙ ap (λ (zs : List Atom). zs ++ atoms (last ∷ [])) (delivered-cut id before place first second)
+      ∙ sym (atoms-append all (last ∷ []))
+
+  module _ (conversation : Conversation) (before : List Event) (place : Place) (first second : List ℕ) where
+    -- the second piece, by how it closes
+    second-cut : (word : Option LastWord) → Alike (delivered conversation (before ++ pushes conversation.id (data_of place first)) (after place first) None)
+        (delivered (going_on conversation (Body (unfed (after place first)))) (pushes conversation.id (data_of (after place first) second)) (after (after place first) second) word)
+        (delivered conversation (before ++ pushes conversation.id (data_of place (first ++ second))) (after (after place first) second) word)
+    second-cut None = (delivered-cut conversation.id before place first second, refl)
+    second-cut (Some word) = (ended-cut conversation.id before (SourceEnd conversation.id) place first second, refl)
+
+    -- the first piece, by how it closes
+    body-cut : (two whole : Heard) (word : Option LastWord) → closes_at (after place first) ≡ word
+        → IsHeard (delivered conversation (before ++ pushes conversation.id (data_of place first)) (after place first) word).conversation second two
+        → whole ≡ body_heard conversation before place (first ++ second)
+        → Alike (delivered conversation (before ++ pushes conversation.id (data_of place first)) (after place first) word) two whole
+    body-cut two whole None e h w =
+        let id = conversation.id in
+        let all = before ++ pushes id (data_of place (first ++ second)) in
+        let one = delivered conversation (before ++ pushes id (data_of place first)) (after place first) None in
+        let last = after (after place first) second in
+        let Z = delivered conversation all last (closes_at last) in
+        let same : whole ≡ Z = w ∙ ap (λ (p : Place). delivered conversation all p (closes_at p)) (places place first second) in
+        let cut = second-cut (closes_at last) in
+        by_parts one (delivered (going_on conversation (Body (unfed (after place first)))) (pushes id (data_of (after place first) second)) last (closes_at last)) Z two whole h same cut.0 cut.1
+    body-cut two whole (Some word) e h w =
+        let id = conversation.id in
+        let one = before ++ pushes id (data_of place first) in
+        let all = before ++ pushes id (data_of place (first ++ second)) in
+        let stays = stays_closed (after place first) second word e in
+        let same : all ≡ one =
+        ap (λ (bytes : List ℕ). before ++ pushes id bytes) (found place first second ∙ ap (λ (more : List ℕ). data_of place first ++ more) stays.dataless ∙ append-nil (data_of place first)) in
+        let closed : closes_at (after place (first ++ second)) ≡ Some word = ap closes_at (places place first second) ∙ stays.closed in
+        let Z = closes_with conversation one (SourceEnd id) word in
+        let alike : whole ≡ Z =
+        w
+        ∙ ap (λ (c : Option LastWord). delivered conversation all (after place (first ++ second)) c) closed
+        ∙ ap (λ (events : List Event). closes_with conversation events (SourceEnd id) word) same in
+        by_closed Z Z two whole h alike refl refl
+
+-- what a request is heard as, by the tests of its method
+request_by : Bool → Bool → Conversation → RequestParts → List ℕ → Heard
+request_by source get conversation request behind =
+    if source then source_heard conversation request behind (framing_of request)
+    else if get then listener_heard conversation request
+    else refuses conversation BadMethod
+
 -- what was held before a head is heard as does not matter
 held-alike : (conversation : Conversation) (held bytes : List ℕ) (r : Result (Progress RequestParts) HeadFault) → head_heard (record conversation { held = held }) bytes r ≡ head_heard conversation bytes r
 held-alike conversation held bytes (Ok More) = refl
 held-alike conversation held bytes (Ok (Whole request n)) = refl
 held-alike conversation held bytes (Err e) = refl
 
--- two pieces and the whole, each by what it is heard as
-by_parts : (X Y Z two whole : Heard) → two ≡ Y → whole ≡ Z → atoms (X.events ++ Y.events) ≡ atoms Z.events → Y.conversation ≡ Z.conversation → (atoms (X.events ++ two.events) ≡ atoms whole.events) × (two.conversation ≡ whole.conversation)
-by_parts X Y Z two whole e f g h = (
-  ap (λ (y : Heard). atoms (X.events ++ y.events)) e ∙ g ∙ sym (ap (λ (z : Heard). atoms z.events) f),
-  ap (λ (y : Heard). y.conversation) e ∙ h ∙ sym (ap (λ (z : Heard). z.conversation) f),
-)
-
--- what a request is heard as, by the tests of its method
-request_by : Bool → Bool → Conversation → RequestParts → List ℕ → Heard
-request_by source get conversation request behind =
-    if source then source_heard conversation request behind
-    else if get then record { events = asks_to_hear conversation.id request ∷ []; conversation = going_on conversation Nothing }
-    else refuses conversation BadMethod
+-- a source's request, and more bytes behind it
+source-cut : (joined : AreJoined) (places : PlacesJoin) (found : DataJoin) (framing : Option Framing) (conversation : Conversation) (request : RequestParts) (behind second : List ℕ) (two whole : Heard) → IsHeard (source_heard conversation request behind framing).conversation second two → whole ≡ source_heard conversation request (behind ++ second) framing → Alike (source_heard conversation request behind framing) two whole
+source-cut joined places found None conversation request behind second two whole h w =
+    by_closed (refuses conversation BadHead) (refuses conversation BadHead) two whole h w refl refl
+source-cut joined places found (Some framing) conversation request behind second two whole h w =
+    body-cut joined places found (greeted conversation request) (asks_to_feed conversation.id request ∷ []) (start_of framing) behind second two whole (closes_at (after (start_of framing) behind)) refl h w
 
 -- a request, and more bytes behind it
-request-cut : (joined : AreJoined) (source get : Bool) (conversation : Conversation) (request : RequestParts) (behind second : List ℕ) (two whole : Heard) → IsHeard (request_by source get conversation request behind).conversation second two → whole ≡ request_by source get conversation request (behind ++ second) → (atoms ((request_by source get conversation request behind).events ++ two.events) ≡ atoms whole.events) × (two.conversation ≡ whole.conversation)
+request-cut : (joined : AreJoined) (places : PlacesJoin) (found : DataJoin) (source get : Bool) (conversation : Conversation) (request : RequestParts) (behind second : List ℕ) (two whole : Heard) → IsHeard (request_by source get conversation request behind).conversation second two → whole ≡ request_by source get conversation request (behind ++ second) → Alike (request_by source get conversation request behind) two whole
 unfolding request_by
-request-cut joined true get conversation request behind second two whole h w =
-    by_parts (source_heard conversation request behind) (record { events = pushes conversation.id second; conversation = going_on conversation Body }) (source_heard conversation request (behind ++ second)) two whole h w
-    (ap (λ (zs : List Atom). other (asks_to_feed conversation.id request) ∷ zs) (pushes-cut joined conversation.id behind second)) refl
-request-cut joined false true conversation request behind second two whole h w =
-    let heard : Heard = record { events = asks_to_hear conversation.id request ∷ []; conversation = going_on conversation Nothing } in
-    by_parts heard (record { events = []; conversation = going_on conversation Nothing }) heard two whole h w refl refl
-request-cut joined false false conversation request behind second two whole h w =
-    by_parts (refuses conversation BadMethod) (record { events = []; conversation = (refuses conversation BadMethod).conversation }) (refuses conversation BadMethod) two whole h w refl refl
+request-cut joined places found true get conversation request behind second two whole h w =
+    source-cut joined places found (framing_of request) conversation request behind second two whole h w
+request-cut joined places found false true conversation request behind second two whole h w =
+    by_closed (listener_heard conversation request) (listener_heard conversation request) two whole h w refl refl
+request-cut joined places found false false conversation request behind second two whole h w =
+    by_closed (refuses conversation BadMethod) (refuses conversation BadMethod) two whole h w refl refl
 
-module _ (joined : AreJoined) (agree : ReadingsAgree ShowsRequest) (settled : IsSettled ShowsRequest) (fits : HeadsLieWithin ShowsRequest) where
+module _ (joined : AreJoined) (places : PlacesJoin) (found : DataJoin) (agree : ReadingsAgree ShowsRequest) (settled : IsSettled ShowsRequest) (fits : HeadsLieWithin ShowsRequest) where
   -- a head in two pieces, by what the first piece is read as
-  head-cut : (conversation : Conversation) (first second : List ℕ) (two whole : Heard) (r s : Result (Progress RequestParts) HeadFault) → conversation.hears ≡ Head → IsReading ShowsRequest (conversation.held ++ first) r → IsHeard (head_heard conversation (conversation.held ++ first) r).conversation second two → IsReading ShowsRequest (conversation.held ++ (first ++ second)) s → whole ≡ head_heard conversation (conversation.held ++ (first ++ second)) s → (atoms ((head_heard conversation (conversation.held ++ first) r).events ++ two.events) ≡ atoms whole.events) × (two.conversation ≡ whole.conversation)
+  head-cut : (conversation : Conversation) (first second : List ℕ) (two whole : Heard) (r s : Result (Progress RequestParts) HeadFault) → conversation.hears ≡ Head → IsReading ShowsRequest (conversation.held ++ first) r → IsHeard (head_heard conversation (conversation.held ++ first) r).conversation second two → IsReading ShowsRequest (conversation.held ++ (first ++ second)) s → whole ≡ head_heard conversation (conversation.held ++ (first ++ second)) s → Alike (head_heard conversation (conversation.held ++ first) r) two whole
   unfolding request_by
   head-cut conversation first second two whole (Ok More) s hears read h again w =
       let held = conversation.held ++ first in
@@ -99,41 +185,39 @@ module _ (joined : AreJoined) (agree : ReadingsAgree ShowsRequest) (settled : Is
       ∙ ap (λ (xs : List ℕ). head_heard conversation xs as_head.0) same
       ∙ heard-alike agree conversation (conversation.held ++ (first ++ second)) as_head.0 s reading again
       ∙ sym w in
-      (ap (λ (y : Heard). atoms y.events) alike, ap (λ (y : Heard). y.conversation) alike)
+      (ap (λ (y : Heard). atoms y.events) alike, ap (λ (y : Heard). answered y.conversation) alike)
   head-cut conversation first second two whole (Ok (Whole request n)) s hears read h again w =
       let bytes = conversation.held ++ first in
       let same : bytes ++ second ≡ conversation.held ++ (first ++ second) = append_assoc conversation.held first second in
       let longer : IsReading ShowsRequest (bytes ++ second) (Ok (Whole request n)) = settled bytes second (Ok (Whole request n)) read (λ e. cc) in
       let reading : IsReading ShowsRequest (conversation.held ++ (first ++ second)) (Ok (Whole request n)) = subst (λ (xs : List ℕ). IsReading ShowsRequest xs (Ok (Whole request n))) same longer in
       let behind : drop n (conversation.held ++ (first ++ second)) ≡ drop n bytes ++ second = ap (drop n) (sym same) ∙ drop-append-le n bytes second (fits bytes request n read) in
-      let alike : whole ≡ request_heard conversation request (drop n bytes ++ second) =
-      w ∙ heard-alike agree conversation (conversation.held ++ (first ++ second)) s (Ok (Whole request n)) again reading ∙ ap (request_heard conversation request) behind in
-      request-cut joined (bytes_eq request.method (codes "SOURCE")) (bytes_eq request.method (codes "GET")) conversation request (drop n bytes) second two whole h alike
+      let alike : whole ≡ request_heard (nothing_held conversation) request (drop n bytes ++ second) =
+      w ∙ heard-alike agree conversation (conversation.held ++ (first ++ second)) s (Ok (Whole request n)) again reading ∙ ap (request_heard (nothing_held conversation) request) behind in
+      request-cut joined places found (is_source request) (bytes_eq request.method (codes "GET")) (nothing_held conversation) request (drop n bytes) second two whole h alike
   head-cut conversation first second two whole (Err e) s hears read h again w =
       let bytes = conversation.held ++ first in
       let same : bytes ++ second ≡ conversation.held ++ (first ++ second) = append_assoc conversation.held first second in
       let longer : IsReading ShowsRequest (bytes ++ second) (Err e) = settled bytes second (Err e) read (λ x. cc) in
       let reading : IsReading ShowsRequest (conversation.held ++ (first ++ second)) (Err e) = subst (λ (xs : List ℕ). IsReading ShowsRequest xs (Err e)) same longer in
       let alike : whole ≡ refuses conversation BadHead = w ∙ heard-alike agree conversation (conversation.held ++ (first ++ second)) s (Err e) again reading in
-      by_parts (refuses conversation BadHead) (record { events = []; conversation = (refuses conversation BadHead).conversation }) (refuses conversation BadHead) two whole h alike refl refl
+      by_closed (refuses conversation BadHead) (refuses conversation BadHead) two whole h alike refl refl
 
   -- any two pieces, by what the conversation hears
-  cuts : (hears : Hears) (conversation : Conversation) (first second : List ℕ) (one two whole : Heard) → conversation.hears ≡ hears → HearsAs hears conversation first one → IsHeard one.conversation second two → HearsAs hears conversation (first ++ second) whole → (atoms (one.events ++ two.events) ≡ atoms whole.events) × (two.conversation ≡ whole.conversation)
+  cuts : (hears : Hears) (conversation : Conversation) (first second : List ℕ) (one two whole : Heard) → conversation.hears ≡ hears → HearsAs hears conversation first one → IsHeard one.conversation second two → HearsAs hears conversation (first ++ second) whole → Alike one two whole
   cuts Nothing conversation first second one two whole hears h k w =
       let X : Heard = record { events = []; conversation = conversation } in
       let later : two ≡ X = subst (λ (x : Hears). HearsAs x conversation second two) hears (subst (λ (x : Heard). IsHeard x.conversation second two) h k) in
-      subst (λ (x : Heard). (atoms (x.events ++ two.events) ≡ atoms whole.events) × (two.conversation ≡ whole.conversation)) (sym h) (by_parts X X X two whole later w refl refl)
-  cuts Body conversation first second one two whole hears h k w =
-      let X : Heard = record { events = pushes conversation.id first; conversation = conversation } in
-      let Y : Heard = record { events = pushes conversation.id second; conversation = conversation } in
-      let Z : Heard = record { events = pushes conversation.id (first ++ second); conversation = conversation } in
-      let later : two ≡ Y = subst (λ (x : Hears). HearsAs x conversation second two) hears (subst (λ (x : Heard). IsHeard x.conversation second two) h k) in
-      subst (λ (x : Heard). (atoms (x.events ++ two.events) ≡ atoms whole.events) × (two.conversation ≡ whole.conversation)) (sym h) (by_parts X Y Z two whole later w (pushes-cut joined conversation.id first second) refl)
+      subst (λ (x : Heard). Alike x two whole) (sym h) (by_closed X X two whole later w refl refl)
+  cuts (Body body) conversation first second one two whole hears h k w =
+      let X = body_heard (nothing_held conversation) [] body.place first in
+      let later : IsHeard X.conversation second two = subst (λ (x : Heard). IsHeard x.conversation second two) h k in
+      subst (λ (x : Heard). Alike x two whole) (sym h)
+      (body-cut joined places found (nothing_held conversation) [] body.place first second two whole (closes_at (after body.place first)) refl later w)
   cuts Head conversation first second one two whole hears h k w =
       let X = head_heard conversation (conversation.held ++ first) h.0 in
       let later : IsHeard X.conversation second two = subst (λ (x : Heard). IsHeard x.conversation second two) h.2 k in
-      subst (λ (x : Heard). (atoms (x.events ++ two.events) ≡ atoms whole.events) × (two.conversation ≡ whole.conversation)) (sym h.2)
-      (head-cut conversation first second two whole h.0 w.0 hears h.1 later w.1 w.2)
+      subst (λ (x : Heard). Alike x two whole) (sym h.2) (head-cut conversation first second two whole h.0 w.0 hears h.1 later w.1 w.2)
 
   pub cuts_do_not_matter : CutsDoNotMatter
   cuts_do_not_matter conversation first second one two whole h k w = cuts conversation.hears conversation first second one two whole refl h k w

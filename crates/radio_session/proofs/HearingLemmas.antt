@@ -1,5 +1,5 @@
 -- What bytes are heard as is one thing.
-use Rattle.std.proofs.Common.{◌≡◌, ℕ, List, ◌++◌, ap, sym, ◌∙◌, refl, inl, inr, Result, Ok, Err, IsErr}
+use Rattle.std.proofs.Common.{◌≡◌, ℕ, List, ◌++◌, drop, subst, ap, sym, ◌∙◌, refl, inl, inr, Result, Ok, Err, IsErr}
 use Rattle.radio_heads.specs.declared.outcome.Progress.{Progress}
 use Rattle.radio_heads.specs.declared.outcome.Progress.TheVariants.{More, Whole}
 use Rattle.radio_heads.specs.declared.outcome.HeadFault.{HeadFault}
@@ -9,7 +9,7 @@ use Rattle.radio_heads.specs.Laws.{ReadingsAgree}
 use Rattle.radio_session.specs.declared.session.Hears.{Hears}
 use Rattle.radio_session.specs.declared.session.Hears.TheVariants.{Head, Body, Nothing}
 use Rattle.radio_session.specs.Conversation.{Conversation}
-use Rattle.radio_session.specs.Hearing.{Heard, HearsAs, IsHeard, head_heard}
+use Rattle.radio_session.specs.Hearing.{Heard, HearsAs, IsHeard, head_heard, request_heard, nothing_held}
 use Rattle.radio_session.specs.Laws.{HearingIsOne}
 
 -- two faults are heard alike
@@ -17,6 +17,16 @@ pub faults-alike : (conversation : Conversation) (bytes : List ℕ) (r s : Resul
 faults-alike conversation bytes (Err e) (Err f) h k = refl
 faults-alike conversation bytes (Err e) (Ok p) h k = cc
 faults-alike conversation bytes (Ok p) s h k = cc
+
+-- a whole head, with bytes behind it, is heard as a request
+pub heard_whole : (conversation start : Conversation) (bytes all behind : List ℕ) (request : RequestParts) (n : ℕ) (heard : Heard) → request_heard start request behind ≡ heard → all ≡ conversation.held ++ bytes → IsReading ShowsRequest all (Ok (Whole request n)) → start ≡ nothing_held conversation → behind ≡ drop n all → HearsAs Head conversation bytes heard
+heard_whole conversation start bytes all behind request n heard e together reading same rest = (
+  Ok (Whole request n),
+  subst (λ (xs : List ℕ). IsReading ShowsRequest xs (Ok (Whole request n))) together reading,
+  sym e
+      ∙ ap (λ (c : Conversation). request_heard c request behind) same
+      ∙ ap (request_heard (nothing_held conversation) request) (rest ∙ ap (drop n) together),
+)
 
 module _ (agree : ReadingsAgree ShowsRequest) where
   -- what two readings of the same bytes are heard as is one thing
@@ -28,7 +38,7 @@ module _ (agree : ReadingsAgree ShowsRequest) where
 
   heard_as_one : (hears : Hears) (conversation : Conversation) (bytes : List ℕ) (h k : Heard) → HearsAs hears conversation bytes h → HearsAs hears conversation bytes k → h ≡ k
   heard_as_one Nothing conversation bytes h k e f = e ∙ sym f
-  heard_as_one Body conversation bytes h k e f = e ∙ sym f
+  heard_as_one (Body body) conversation bytes h k e f = e ∙ sym f
   heard_as_one Head conversation bytes h k e f =
       e.2 ∙ heard-alike conversation (conversation.held ++ bytes) e.0 f.0 e.1 f.1 ∙ sym f.2
 

@@ -1,35 +1,68 @@
 -- What a connection is told last names its rule.
-use Rattle.std.proofs.Common.{◌≡◌, ℕ, List, [], Option, None, Some, refl, ap}
+use Rattle.std.proofs.Common.{◌≡◌, ℕ, Bool, true, false, List, [], Option, None, Some, refl, ap, sym, subst, ◌∙◌}
+use Rattle.std.specs.Prelude.{codes, if◌then◌else◌}
 use Rattle.radio_policy.specs.declared.rule.Rule.{Rule}
 use Rattle.radio_policy.specs.declared.rule.Status.{Status}
 use Rattle.radio_policy.specs.Words.{word_of, status_of}
-use Rattle.radio_core.specs.declared.reply.Reply.TheVariants.{Noted, Deny}
-use Rattle.radio_heads.specs.Answer.{denial_text}
+use Rattle.radio_heads.specs.Answer.{denial_text, source_text}
 use Rattle.radio_session.specs.declared.session.Says.{Says}
-use Rattle.radio_session.specs.declared.session.Says.TheVariants.{Asking, Admitted, Refusing}
-use Rattle.radio_session.specs.declared.state.Ending.TheVariants.{By}
-use Rattle.radio_session.specs.Saying.{denial_with, said}
-use Rattle.radio_session.specs.LastWords.{EndsWith, DenialsNameTheirRule, RulesWithoutStatusAreSilent, LateDenialsAreSilent, FinishesAreSilent, RefusalsNameTheirRule}
+use Rattle.radio_session.specs.declared.session.Closing.{Closing}
+use Rattle.radio_session.specs.declared.session.LastWord.{LastWord}
+use Rattle.radio_session.specs.declared.session.LastWord.TheVariants.{Refusal, Complete, Faulty}
+use Rattle.radio_session.specs.declared.session.Greeting.{Greeting}
+use Rattle.radio_session.specs.declared.session.Greeting.TheVariants.{Welcome, Continue}
+use Rattle.radio_session.specs.declared.state.Ending.TheVariants.{By, Done, BadBody}
+use Rattle.radio_session.specs.Saying.{Said, denial, denial_with, body_text, last_text, noted}
+use Rattle.radio_session.specs.LastWords.{EndsWith, IsAbout, DenialsNameTheirRule, RulesWithoutStatusAreSilent, LateDenialsAreSilent, FinishesAreSilent, RefusalsNameTheirRule, WholeBodiesAreDone, FaultyBodiesAreSilent}
+
+-- the text of a denial, by the rule's status
+denial_is : (rule : Rule) (status : Option Status) → status_of rule ≡ status → denial rule ≡ denial_with status rule
+denial_is rule status e = ap (λ (s : Option Status). denial_with s rule) e
 
 pub denials_name_their_rule : DenialsNameTheirRule
-denials_name_their_rule Asking rule status asks e =
-    record { ending = By rule; bytes_told = ap (λ (s : Option Status). denial_with s rule) e; shut = refl; last_word = refl }
-denials_name_their_rule Admitted rule status asks e = cc
-denials_name_their_rule (Refusing own) rule status asks e = cc
+denials_name_their_rule says rule status early e = record {
+  ending = By rule;
+  bytes_told = ap (λ (b : Bool). if b then [] else denial rule) early ∙ denial_is rule (Some status) e;
+  shut = refl;
+  last_word = refl;
+}
+
+silent_by : (is_admitted : Bool) (rule : Rule) → status_of rule ≡ None → (if is_admitted then [] else denial rule) ≡ []
+silent_by true rule e = refl
+silent_by false rule e = denial_is rule None e
 
 pub rules_without_status_are_silent : RulesWithoutStatusAreSilent
-rules_without_status_are_silent Asking rule e =
-    record { ending = By rule; bytes_told = ap (λ (s : Option Status). denial_with s rule) e; shut = refl; last_word = refl }
-rules_without_status_are_silent Admitted rule e = record { ending = By rule; bytes_told = refl; shut = refl; last_word = refl }
-rules_without_status_are_silent (Refusing own) rule e =
-    record { ending = By rule; bytes_told = refl; shut = refl; last_word = refl }
+rules_without_status_are_silent says rule e =
+    record { ending = By rule; bytes_told = silent_by says.is_admitted rule e; shut = refl; last_word = refl }
 
 pub late_denials_are_silent : LateDenialsAreSilent
-late_denials_are_silent rule = record { ending = By rule; bytes_told = refl; shut = refl; last_word = refl }
+late_denials_are_silent says rule late = record {
+  ending = By rule;
+  bytes_told = ap (λ (b : Bool). if b then [] else denial rule) late;
+  shut = refl;
+  last_word = refl;
+}
 
 pub finishes_are_silent : FinishesAreSilent
 finishes_are_silent says rule = record { ending = By rule; bytes_told = refl; shut = refl; last_word = refl }
 
+-- the last word itself
+module _ (says : Says) (word : LastWord) (about : IsAbout says word) where
+  by_closing : (bytes text : List ℕ) → EndsWith (noted says (Some (record { awaits = 0; word = word }))) bytes text → EndsWith (noted says says.closing) bytes text
+  by_closing bytes text h = subst (λ (c : Option Closing). EndsWith (noted says c) bytes text) (sym about) h
+
 pub refusals_name_their_rule : RefusalsNameTheirRule
-refusals_name_their_rule rule status e =
-    record { ending = By rule; bytes_told = ap (λ (s : Option Status). denial_with s rule) e; shut = refl; last_word = refl }
+refusals_name_their_rule says rule status about e =
+    by_closing says (Refusal rule) about (denial_text status (word_of rule)) (word_of rule)
+    (record { ending = By rule; bytes_told = denial_is rule (Some status) e; shut = refl; last_word = refl })
+
+done_with : (says : Says) (greeting : Greeting) → IsAbout says Complete → says.greeting ≡ greeting → EndsWith (noted says says.closing) (body_text greeting) (codes "done")
+done_with says greeting about e =
+    by_closing says Complete about (body_text greeting) (codes "done") (record { ending = Done; bytes_told = ap body_text e; shut = refl; last_word = refl })
+
+pub whole_bodies_are_done : WholeBodiesAreDone
+whole_bodies_are_done says about = (done_with says Welcome about, done_with says Continue about)
+
+pub faulty_bodies_are_silent : FaultyBodiesAreSilent
+faulty_bodies_are_silent says about =
+    by_closing says Faulty about [] (codes "bad-body") (record { ending = BadBody; bytes_told = refl; shut = refl; last_word = refl })

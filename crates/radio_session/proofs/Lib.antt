@@ -1,4 +1,7 @@
+mod FeedLemmas
 mod HearingLemmas
+mod BodyLemmas
 mod CutLemmas
 mod ExchangeLemmas
 mod LastWordLemmas
+mod NumberLemmas

@@ -1,13 +1,14 @@
 -- One connection's conversation with the server.
-use Rattle.std.specs.Prelude.{ℕ, Bool, true, false, List, [], codes}
+use Rattle.std.specs.Prelude.{◌≡◌, ℕ, Bool, true, false, List, [], Option, None, codes}
 use Rattle.radio_policy.specs.Words.{word_of}
 use Rattle.radio_addr.specs.declared.peer.Peer.{Peer}
+use Rattle.radio_source.specs.Feeding.{unfed}
 use Rattle.radio_session.specs.declared.session.Hears.{Hears}
-use Rattle.radio_session.specs.declared.session.Hears.TheVariants.{Head}
+use Rattle.radio_session.specs.declared.session.Hears.TheVariants.{Head, Body, Nothing}
 use Rattle.radio_session.specs.declared.session.Says.{Says}
-use Rattle.radio_session.specs.declared.session.Says.TheVariants.{Asking}
+use Rattle.radio_session.specs.declared.session.Greeting.TheVariants.{Welcome}
 use Rattle.radio_session.specs.declared.state.Ending.{Ending}
-use Rattle.radio_session.specs.declared.state.Ending.TheVariants.{Done, By}
+use Rattle.radio_session.specs.declared.state.Ending.TheVariants.{Done, By, BadBody}
 
 -- the number of its client and its peer, the bytes of an unfinished head, how it goes on in both directions, and whether a call was refused for want of memory
 pub record Conversation : Type 0 where
@@ -18,9 +19,15 @@ pub record Conversation : Type 0 where
   pub says : Says
   pub has_failed : Bool
 
+-- a body that is heard has told neither its end nor a fault
+abbrev pub IsOpen : Hears → Type 0
+IsOpen Head = Unit {0}
+IsOpen (Body body) = body ≡ unfed body.place
+IsOpen Nothing = Unit {0}
+
 -- nothing was admitted yet
 abbrev pub asking : Says
-asking = Asking
+asking = record { is_admitted = false; greeting = Welcome; closing = None }
 
 -- a conversation in which nothing was said yet
 abbrev pub fresh : ℕ → Peer → Conversation
@@ -34,3 +41,4 @@ saying_now conversation says = record conversation { says = says }
 abbrev pub ending_word : Ending → List ℕ
 ending_word Done = codes "done"
 ending_word (By rule) = word_of rule
+ending_word BadBody = codes "bad-body"

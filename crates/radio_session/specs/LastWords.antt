@@ -1,12 +1,14 @@
 -- What a connection is told last, and the word by which it is shut.
-use Rattle.std.specs.Prelude.{◌≡◌, ℕ, List, [], None, Some}
+use Rattle.std.specs.Prelude.{◌≡◌, ℕ, true, false, List, [], codes, None, Some}
 use Rattle.radio_policy.specs.declared.rule.Rule.{Rule}
 use Rattle.radio_policy.specs.declared.rule.Status.{Status}
 use Rattle.radio_policy.specs.Words.{word_of, status_of}
 use Rattle.radio_core.specs.declared.reply.Reply.TheVariants.{Noted, Deny, Finished}
-use Rattle.radio_heads.specs.Answer.{denial_text}
+use Rattle.radio_heads.specs.Answer.{denial_text, source_text}
 use Rattle.radio_session.specs.declared.session.Says.{Says}
-use Rattle.radio_session.specs.declared.session.Says.TheVariants.{Asking, Admitted, Refusing}
+use Rattle.radio_session.specs.declared.session.LastWord.{LastWord}
+use Rattle.radio_session.specs.declared.session.LastWord.TheVariants.{Refusal, Complete, Faulty}
+use Rattle.radio_session.specs.declared.session.Greeting.TheVariants.{Welcome, Continue}
 use Rattle.radio_session.specs.declared.state.State.TheVariants.{Shut}
 use Rattle.radio_session.specs.declared.state.Ending.{Ending}
 use Rattle.radio_session.specs.Conversation.{ending_word}
@@ -21,7 +23,7 @@ pub record EndsWith (told : Said) (bytes word : List ℕ) : Type 0 where
 
 -- nothing was admitted yet
 abbrev pub IsAsking : Says → Type 0
-IsAsking says = says ≡ Asking
+IsAsking says = says.is_admitted ≡ false
 
 -- The denial of what was asked is told in an answer of the rule's status that names the rule, and the word is the rule's.
 abbrev pub DenialsNameTheirRule : Type 0
@@ -33,12 +35,25 @@ RulesWithoutStatusAreSilent = (says : Says) (rule : Rule) → status_of rule ≡
 
 -- nor has a denial after an admission
 abbrev pub LateDenialsAreSilent : Type 0
-LateDenialsAreSilent = (rule : Rule) → EndsWith (said Admitted (Deny rule)) [] (word_of rule)
+LateDenialsAreSilent = (says : Says) (rule : Rule) → says.is_admitted ≡ true → EndsWith (said says (Deny rule)) [] (word_of rule)
 
 -- who was finished by a rule is told nothing, and the word is the rule's
 abbrev pub FinishesAreSilent : Type 0
 FinishesAreSilent = (says : Says) (rule : Rule) → EndsWith (said says (Finished rule)) [] (word_of rule)
 
+-- no other reply is awaited before the connection's own last word
+abbrev pub IsAbout : Says → LastWord → Type 0
+IsAbout says word = says.closing ≡ Some (record { awaits = 0; word = word })
+
 -- the connection's own refusal is told as a denial, once the client has left
 abbrev pub RefusalsNameTheirRule : Type 0
-RefusalsNameTheirRule = (rule : Rule) (status : Status) → status_of rule ≡ Some status → EndsWith (said (Refusing rule) Noted) (denial_text status (word_of rule)) (word_of rule)
+RefusalsNameTheirRule = (says : Says) (rule : Rule) (status : Status) → IsAbout says (Refusal rule) → status_of rule ≡ Some status → EndsWith (said says Noted) (denial_text status (word_of rule)) (word_of rule)
+
+-- a source whose body is whole is told that it was admitted, if it was not told before; then it is done
+abbrev pub WholeBodiesAreDone : Type 0
+WholeBodiesAreDone = (says : Says) → IsAbout says Complete →
+    (says.greeting ≡ Welcome → EndsWith (said says Noted) [] (codes "done")) × (says.greeting ≡ Continue → EndsWith (said says Noted) source_text (codes "done"))
+
+-- a source in whose body there is a fault is told nothing
+abbrev pub FaultyBodiesAreSilent : Type 0
+FaultyBodiesAreSilent = (says : Says) → IsAbout says Faulty → EndsWith (said says Noted) [] (codes "bad-body")

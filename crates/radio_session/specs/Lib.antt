@@ -7,3 +7,4 @@ pub mod Exchanges
 pub mod Cuts
 pub mod Laws
 pub mod LastWords
+pub mod Framing

@@ -1,16 +1,21 @@
 -- From replies to the bytes that go out on a connection.
-use Rattle.std.specs.Prelude.{ℕ, List, [], Option, None, Some}
+use Rattle.std.specs.Prelude.{ℕ, ◌-◌, ◌==◌, true, List, [], Option, None, Some, option_map, if◌then◌else◌}
 use Rattle.radio_policy.specs.declared.rule.Rule.{Rule}
 use Rattle.radio_policy.specs.declared.rule.Status.{Status}
 use Rattle.radio_policy.specs.Words.{word_of, status_of}
 use Rattle.radio_core.specs.declared.reply.Reply.{Reply}
 use Rattle.radio_core.specs.declared.reply.Reply.TheVariants.{Arrived, Feeding, Seated, Drawn, Noted, Deny, Finished, Stray}
-use Rattle.radio_heads.specs.Answer.{listener_head, source_text, denial_text}
+use Rattle.radio_heads.specs.Answer.{listener_head, source_text, continue_text, denial_text}
 use Rattle.radio_session.specs.declared.session.Says.{Says}
-use Rattle.radio_session.specs.declared.session.Says.TheVariants.{Asking, Admitted, Refusing}
+use Rattle.radio_session.specs.declared.session.Closing.{Closing}
+use Rattle.radio_session.specs.declared.session.LastWord.{LastWord}
+use Rattle.radio_session.specs.declared.session.LastWord.TheVariants.{Refusal, Complete, Faulty}
+use Rattle.radio_session.specs.declared.session.Greeting.{Greeting}
+use Rattle.radio_session.specs.declared.session.Greeting.TheVariants.{Welcome, Continue}
 use Rattle.radio_session.specs.declared.state.State.{State}
 use Rattle.radio_session.specs.declared.state.State.TheVariants.{Running, Shut}
-use Rattle.radio_session.specs.declared.state.Ending.TheVariants.{By}
+use Rattle.radio_session.specs.declared.state.Ending.{Ending}
+use Rattle.radio_session.specs.declared.state.Ending.TheVariants.{Done, By, BadBody}
 
 -- what a reply comes to: bytes that go out, how replies are told from then on, and whether the connection goes on
 pub record Said : Type 0 where
@@ -30,29 +35,58 @@ denial rule = denial_with (status_of rule) rule
 abbrev pub tells : List ℕ → Says → Said
 tells bytes says = record { bytes = bytes; says = says; state = Running }
 
--- these bytes, and it ends by the rule
-abbrev pub ends : List ℕ → Says → Rule → Said
-ends bytes says rule = record { bytes = bytes; says = says; state = Shut (By rule) }
+-- these bytes, and it ends
+abbrev pub ends : List ℕ → Says → Ending → Said
+ends bytes says ending = record { bytes = bytes; says = says; state = Shut ending }
+
+-- one reply less is awaited before that which tells the last word
+abbrev pub one_less : Closing → Closing
+one_less closing = record closing { awaits = closing.awaits - 1 }
+
+abbrev pub counted : Says → Says
+counted says = record says { closing = option_map one_less says.closing }
+
+-- a source or a listener is admitted
+abbrev pub admitted : Says → Says
+admitted says = counted (record says { is_admitted = true })
+
+-- what a source is told that is admitted
+abbrev pub greeting_text : Greeting → List ℕ
+greeting_text Welcome = source_text
+greeting_text Continue = continue_text
+
+-- what a source is told whose body has come to its end: the answer, if it was only asked to go on before
+abbrev pub body_text : Greeting → List ℕ
+body_text Welcome = []
+body_text Continue = source_text
 
 -- the policy denies: in an answer where nothing was admitted, else by closing alone
 abbrev pub denied : Says → Rule → Said
-denied Asking rule = ends (denial rule) Asking rule
-denied Admitted rule = ends [] Admitted rule
-denied (Refusing own) rule = ends [] (Refusing own) rule
+denied says rule = ends (if says.is_admitted then [] else denial rule) says (By rule)
 
--- nothing to say, but for the connection's own refusal
-abbrev pub noted : Says → Said
-noted Asking = tells [] Asking
-noted Admitted = tells [] Admitted
-noted (Refusing rule) = ends (denial rule) (Refusing rule) rule
+-- the last word of the connection itself: its bytes, and how the connection ends
+abbrev pub last_text : Greeting → LastWord → List ℕ
+last_text greeting (Refusal rule) = denial rule
+last_text greeting Complete = body_text greeting
+last_text greeting Faulty = []
+
+abbrev pub last_ending : LastWord → Ending
+last_ending (Refusal rule) = By rule
+last_ending Complete = Done
+last_ending Faulty = BadBody
+
+-- nothing to say, but for the connection's own last word where no other reply is awaited before it
+abbrev pub noted : Says → Option Closing → Said
+noted says None = tells [] says
+noted says (Some closing) = if closing.awaits == 0 then ends (last_text says.greeting closing.word) says (last_ending closing.word) else tells [] (counted says)
 
 -- what is told of a reply
 abbrev pub said : Says → Reply → Said
-said says (Arrived id) = tells [] says
-said says Feeding = tells source_text Admitted
-said says (Seated interval shown) = tells (listener_head shown.content_type shown.name shown.genre None) Admitted
-said says (Drawn pieces title) = tells pieces says
-said says Noted = noted says
+said says (Arrived id) = tells [] (counted says)
+said says Feeding = tells (greeting_text says.greeting) (admitted says)
+said says (Seated interval shown) = tells (listener_head shown.content_type shown.name shown.genre None) (admitted says)
+said says (Drawn pieces title) = tells pieces (counted says)
+said says Noted = noted says says.closing
 said says (Deny rule) = denied says rule
-said says (Finished rule) = ends [] says rule
-said says Stray = tells [] says
+said says (Finished rule) = ends [] says (By rule)
+said says Stray = tells [] (counted says)

@@ -3,12 +3,13 @@
 ghost use Rattle.std.specs.Prelude.{◌≡◌, codes};
 ghost use Rattle.radio_session.specs.Conversation.{ending_word};
 ghost use Rattle.radio_session.specs.declared.state.Ending.TheVariants.{Done};
-ghost use Rattle.radio_session.specs.LastWords.{DenialsNameTheirRule, RulesWithoutStatusAreSilent, LateDenialsAreSilent, FinishesAreSilent, RefusalsNameTheirRule};
+ghost use Rattle.radio_session.specs.LastWords.{DenialsNameTheirRule, RulesWithoutStatusAreSilent, LateDenialsAreSilent, FinishesAreSilent, RefusalsNameTheirRule, WholeBodiesAreDone, FaultyBodiesAreSilent};
 ghost use Rattle.radio_session.specs.Cuts.{CutsDoNotMatter};
 ghost use Rattle.radio_session.specs.Laws.{HearingIsOne, CoresExchangeAsTheirStates};
 
 use radio_blocks::laws::blocks_are_the_data;
 use radio_heads::{heads_lie_within, readings_agree, settled};
+use radio_source::laws::pieces_are_joined;
 
 /// What comes on a connection in two pieces is heard as if it had come in one: the same head, the
 /// same data and the same events, but for where blocks are cut, and what follows is heard alike.
@@ -19,6 +20,7 @@ pub fn cuts_do_not_matter()
     settled();
     heads_lie_within();
     blocks_are_the_data();
+    pieces_are_joined();
 }
 
 /// Bytes that come on a connection are heard as one thing.
@@ -47,6 +49,9 @@ pub fn last_words_name_the_rule()
     ensures finished { FinishesAreSilent }
     // the connection's own refusal: an answer that names the rule
     ensures refused { RefusalsNameTheirRule }
+    // the body is whole, or there is a fault in it
+    ensures whole { WholeBodiesAreDone }
+    ensures faulty { FaultyBodiesAreSilent }
     // and where no rule ended it
     ensures done { ending_word Done ≡ codes "done" }
 {}

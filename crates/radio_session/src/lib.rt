@@ -19,7 +19,7 @@ pub use exchanging::{Applies, exchange};
 pub use laws::{
     cores_exchange_as_their_states, cuts_do_not_matter, hearing_is_one, last_words_name_the_rule,
 };
-pub use session::{Hears, Says, Session};
+pub use session::Session;
 pub use state::{Ending, State};
 
 /// What a call answers where memory was refused.

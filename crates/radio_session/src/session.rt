@@ -5,34 +5,62 @@ ghost use Rattle.radio_session.specs.Conversation.{Conversation, fresh};
 
 use radio_addr::Peer;
 use radio_policy::Rule;
+use radio_source::Body;
 use std::alloc::Global;
 use std::marker::Model;
 
 mod asking;
-mod blocks;
+mod feeding;
+mod framing;
 mod hearing;
 mod saying;
 
 /// What the bytes that come on a connection are read as.
-#[derive(Clone, Copy, Debug, PartialEq, Eq)]
-pub enum Hears {
+#[derive(Drop)]
+pub(crate) enum Hears {
     /// The head of a request, of which a part may have come.
     Head,
-    /// A source's data.
-    Body,
+    /// A source's body.
+    Body(Body),
     /// Nothing: they are passed over.
     Nothing,
 }
 
+/// What a source is told that is admitted.
+#[derive(Clone, Copy, Debug, PartialEq, Eq)]
+pub(crate) enum Greeting {
+    /// That it is admitted.
+    Welcome,
+    /// That it may go on (RFC 9110, section 15.2.1); that it was admitted once its body has come.
+    Continue,
+}
+
+/// What a connection tells last of itself.
+#[derive(Clone, Copy, Debug, PartialEq, Eq)]
+pub(crate) enum LastWord {
+    /// What came is refused by the connection's own rule.
+    Refusal(Rule),
+    /// The body is whole.
+    Complete,
+    /// There is a fault in the body.
+    Faulty,
+}
+
+/// How a connection closes by itself.
+#[derive(Clone, Copy, Debug, PartialEq, Eq)]
+pub(crate) struct Closing {
+    /// How many replies come before that with which it tells its last word.
+    pub(crate) awaits: usize,
+    pub(crate) word: LastWord,
+}
+
 /// How replies are told.
 #[derive(Clone, Copy, Debug, PartialEq, Eq)]
-pub enum Says {
-    /// Nothing was admitted yet: a denial is told in an answer.
-    Asking,
-    /// A source or a listener was admitted: an end is told by closing alone.
-    Admitted,
-    /// What came is refused by the connection's own rule, which is told when the client has left.
-    Refusing(Rule),
+pub(crate) struct Says {
+    /// A source or a listener was admitted: a denial is told by closing alone.
+    pub(crate) is_admitted: bool,
+    pub(crate) greeting: Greeting,
+    pub(crate) closing: Option<Closing>,
 }
 
 /// One connection: the number of its client, its peer, the bytes of an unfinished head, and how it
@@ -60,6 +88,7 @@ pub struct Session {
 impl Model for Session {
     ghost use Rattle.radio_session.specs.Conversation.{Conversation};
     ghost use Rattle.radio_heads.specs.Search.{HasNoEnd};
+    ghost use Rattle.radio_session.specs.Conversation.{IsOpen};
 
     ghost Value = { Conversation };
 
@@ -72,7 +101,7 @@ impl Model for Session {
       has_failed = s.has_failed;
     } };
 
-    ghost invariant = { λ s. HasNoEnd s.held.items };
+    ghost invariant = { λ s. HasNoEnd s.held.items × IsOpen s.hears };
 }
 
 impl Session {
@@ -88,7 +117,11 @@ impl Session {
             peer,
             held: Vec::new(alloc),
             hears: Hears::Head,
-            says: Says::Asking,
+            says: Says {
+                is_admitted: false,
+                greeting: Greeting::Welcome,
+                closing: None,
+            },
             has_failed: false,
         }
     }

@@ -21,6 +21,8 @@ pub enum Ending {
     Done,
     /// By this rule.
     By(Rule),
+    /// The body of its request is not framed as it should be (RFC 9112, section 7.1).
+    BadBody,
 }
 
 impl Ending {
@@ -31,6 +33,7 @@ impl Ending {
         match self {
             Ending::Done => "done",
             Ending::By(rule) => rule.word(),
+            Ending::BadBody => "bad-body",
         }
     }
 }

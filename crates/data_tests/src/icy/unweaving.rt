@@ -23,6 +23,27 @@ fn gather(items: &[Item], told: &mut Vec<u8>) -> Result<(), OutOfMemory> {
     Ok(())
 }
 
+/// Feeds a piece, and gathers what it brings.
+fn feed(unweaver: &mut Unweaver, piece: &[u8], told: &mut Vec<u8>) -> Result<(), OutOfMemory> {
+    let items = unweaver.feed(piece)?;
+    gather(items.as_slice(), told)
+}
+
+/// Feeds a stream in pieces of so many bytes.
+fn feed_pieces(
+    unweaver: &mut Unweaver,
+    stream: &[u8],
+    size: usize,
+    told: &mut Vec<u8>,
+) -> Result<(), OutOfMemory>
+    requires { 1 ≤ size }
+{
+    for piece in stream.chunks(size) {
+        feed(unweaver, piece, told)?;
+    }
+    Ok(())
+}
+
 /// Whether this is told of a stream that is fed in pieces of so many bytes.
 fn is_told(
     alloc: Global,
@@ -36,9 +57,7 @@ fn is_told(
 {
     let mut told = Vec::new(alloc);
     let mut unweaver = Unweaver::new(alloc, interval);
-    for piece in stream.chunks(piece) {
-        gather(unweaver.feed(piece)?.as_slice(), &mut told)?;
-    }
+    feed_pieces(&mut unweaver, stream, piece, &mut told)?;
     Ok(told.as_slice() == want)
 }
 
@@ -73,28 +92,41 @@ fn runs_of_sound_are_joined(rt: HostRuntime) -> Result<(), OutOfMemory> {
     Ok(())
 }
 
-/// The longest block, cut at each of its bytes.
+/// Feeds two pieces.
+fn feed_two(
+    unweaver: &mut Unweaver,
+    pieces: (&[u8], &[u8]),
+    told: &mut Vec<u8>,
+) -> Result<(), OutOfMemory> {
+    feed(unweaver, pieces.0, told)?;
+    feed(unweaver, pieces.1, told)
+}
+
+/// Whether this is told of a stream that is cut there.
 fn is_told_cut(alloc: Global, stream: &[u8], cut: usize, want: &[u8]) -> Result<bool, OutOfMemory>
     requires { cut ≤ length stream.now }
 {
     let mut told = Vec::new(alloc);
     let mut unweaver = Unweaver::new(alloc, 4);
-    let (front, rest) = stream.split_at(cut);
-    gather(unweaver.feed(front)?.as_slice(), &mut told)?;
-    gather(unweaver.feed(rest)?.as_slice(), &mut told)?;
+    feed_two(&mut unweaver, stream.split_at(cut), &mut told)?;
     Ok(told.as_slice() == want)
+}
+
+/// Whether it is told of a stream that is cut at any of its bytes.
+fn is_told_at_each_cut(alloc: Global, stream: &[u8], want: &[u8]) -> Result<bool, OutOfMemory> {
+    for cut in 0..=stream.len() {
+        if !is_told_cut(alloc, stream, cut, want)? {
+            return Ok(false);
+        }
+    }
+    Ok(true)
 }
 
 #[test]
 fn longest_block_cut_at_each_byte(rt: HostRuntime) -> Result<(), OutOfMemory> {
-    let stream = enclosed(rt.alloc(), b"abcd\xffStreamTitle='", &[b'a'; 4065], b"';ef")?;
-    let want = enclosed(rt.alloc(), b"abcd<StreamTitle='", &[b'a'; 4065], b"';>ef")?;
-    for cut in 0..=stream.len() {
-        assert!(rt;
-            is_told_cut(rt.alloc(), stream.as_slice(), cut, want.as_slice())?,
-            "{cut}"
-        );
-    }
+    let stream = enclosed(rt.alloc(), b"abcd\xffStreamTitle='", LONGEST, b"';ef")?;
+    let want = enclosed(rt.alloc(), b"abcd<StreamTitle='", LONGEST, b"';>ef")?;
+    assert!(rt; is_told_at_each_cut(rt.alloc(), stream.as_slice(), want.as_slice())?);
     Ok(())
 }
 
@@ -119,13 +151,21 @@ fn room(alloc: Global) -> Result<Vec<u8>, OutOfMemory> {
     }
 }
 
+/// The stream of a title between sound, in pieces.
+const X_PIECES: &[&[u8]] = &[b"abcd\x01Stream", b"Title='X", b"';efgh\0"];
+
+fn feed_x(unweaver: &mut Unweaver, told: &mut Vec<u8>) -> Result<(), OutOfMemory> {
+    for piece in X_PIECES {
+        feed_or_repeat(unweaver, piece, told)?;
+    }
+    Ok(())
+}
+
 #[test]
 fn refused_unweaving_changes_nothing(rt: HostRuntime) -> Result<(), OutOfMemory> {
-    let mut unweaver = Unweaver::new(rt.alloc(), 4);
     let mut told = room(rt.alloc())?;
-    for piece in [b"abcd\x01Stream".as_slice(), b"Title='X", b"';efgh\0"] {
-        feed_or_repeat(&mut unweaver, piece, &mut told)?;
-    }
+    let mut unweaver = Unweaver::new(rt.alloc(), 4);
+    feed_x(&mut unweaver, &mut told)?;
     assert!(rt; told.as_slice() == X_TOLD);
     Ok(())
 }

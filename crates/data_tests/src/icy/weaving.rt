@@ -86,7 +86,7 @@ fn long_block(alloc: Global, letters: usize) -> Result<Vec<u8>, OutOfMemory> {
 /// Whether that is the longest title in a block of 255 rows.
 fn is_longest(alloc: Global, letters: usize) -> Result<bool, OutOfMemory> {
     let out = long_block(alloc, letters)?;
-    let want = enclosed(alloc, b"s\xffStreamTitle='", &[b'a'; 4065], b"';")?;
+    let want = enclosed(alloc, b"s\xffStreamTitle='", LONGEST, b"';")?;
     Ok(out.as_slice() == want.as_slice())
 }
 

@@ -1,14 +1,18 @@
-ghost use Rattle.std.specs.Prelude.{◌≡◌, [], ◌∷◌, ◌++◌, drop, length, take, true, IfOk, IsErr, OnErr};
-ghost use Rattle.radio_session.specs.Hearing.{IsHeard, HearsAs, request_heard, source_heard, refuses, going_on};
-ghost use Rattle.radio_session.specs.Pushes.{pushes};
+ghost use Rattle.std.specs.Prelude.{◌≡◌, ◌≤◌, [], ◌∷◌, ◌++◌, drop, length, take, true, IfOk, IsErr, OnErr};
+ghost use Rattle.radio_session.specs.Hearing.{IsHeard, HearsAs, request_heard, source_heard, listener_heard, body_heard, closes_with, refuses, nothing_held, going_on};
+ghost use Rattle.radio_session.specs.Conversation.{IsOpen};
+ghost use Rattle.radio_session.specs.Framing.{framing_of};
+ghost use Rattle.radio_source.specs.Feeding.{unfed};
 
 use crate::OutOfMemory;
 use crate::session::asking::{asks_to_feed, asks_to_hear};
-use crate::session::blocks::push_blocks;
-use crate::session::{Hears, Says, Session};
+use crate::session::feeding::{push_blocks, read};
+use crate::session::framing::{body, framing_of, greeting, is_source};
+use crate::session::{Closing, Hears, LastWord, Session};
 use radio_core::Event;
 use radio_heads::{Head, Progress, read_request_from};
 use radio_policy::Rule;
+use radio_source::Body;
 use std::alloc::{AllocError, Global};
 use std::mem;
 
@@ -40,20 +44,37 @@ impl Session {
     fn hear(&mut self, bytes: &[u8]) -> Result<Vec<Event>, OutOfMemory>
         ensures { IfOk result (λ events. IsHeard self.old bytes.now (record { events = events.items; conversation = self.new })) }
     {
-        match self.hears {
-            Hears::Head => self.take_head(bytes),
-            Hears::Body => self.take_body(bytes),
+        match mem::replace(&mut self.hears, Hears::Nothing) {
+            Hears::Head => {
+                self.hears = Hears::Head;
+                self.take_head(bytes)
+            }
+            Hears::Body(body) => self.take_body(body, Vec::new(self.alloc), bytes),
             Hears::Nothing => Ok(Vec::new(self.alloc)),
         }
     }
 
-    /// A source's data.
-    fn take_body(&self, bytes: &[u8]) -> Result<Vec<Event>, OutOfMemory>
-        ensures { IfOk result (λ events. events.items ≡ pushes self.now.id bytes.now) }
+    /// Bytes of a body, whose events come behind these.
+    fn take_body(
+        &mut self,
+        body: Body,
+        events: Vec<Event>,
+        bytes: &[u8],
+    ) -> Result<Vec<Event>, OutOfMemory>
+        requires { body ≡ unfed body.place }
+        ensures { IfOk result (λ all. body_heard (nothing_held self.old) events.items body.place bytes.now ≡ record { events = all.items; conversation = self.new }) }
     {
-        let mut events = Vec::new(self.alloc);
-        push_blocks(self.alloc, self.id, bytes, &mut events)?;
-        Ok(events)
+        let mut body = body;
+        let mut events = events;
+        let (blocks, word) = read(self.alloc, &mut body, bytes)?;
+        push_blocks(self.id, blocks, &mut events)?;
+        match word {
+            None => {
+                self.go_on(Hears::Body(body));
+                Ok(events)
+            }
+            Some(word) => self.close(events, Event::SourceEnd { id: self.id }, word),
+        }
     }
 
     /// A part of a head.
@@ -68,59 +89,92 @@ impl Session {
                 self.held = held;
                 Ok(Vec::new(self.alloc))
             }
-            Ok(Progress::Whole(head, length)) => self.take_request(&head, &held[length..]),
+            Ok(Progress::Whole(head, length)) => self.take_request(&head, behind(&held, length)),
             Err(_) => self.refuse(Rule::BadHead),
         }
     }
 
     /// A whole head, and the bytes behind it.
     fn take_request(&mut self, head: &Head, behind: &[u8]) -> Result<Vec<Event>, OutOfMemory>
-        ensures { IfOk result (λ events. request_heard self.old head.now behind.now ≡ record { events = events.items; conversation = self.new }) }
+        ensures { IfOk result (λ events. request_heard (nothing_held self.old) head.now behind.now ≡ record { events = events.items; conversation = self.new }) }
     {
-        let id = self.id;
-        let method = head.method();
-        if method == b"SOURCE".as_slice() {
+        if is_source(head) {
             self.take_source(head, behind)
-        } else if method == b"GET".as_slice() {
-            let event = asks_to_hear(self.alloc, id, head)?;
-            let mut events = Vec::new(self.alloc);
-            events.push(event)?;
-            self.go_on(Hears::Nothing);
-            Ok(events)
+        } else if head.method() == b"GET".as_slice() {
+            self.take_listener(head)
         } else {
             self.refuse(Rule::BadMethod)
         }
     }
 
-    /// A source's head, and the first of its data.
-    fn take_source(&mut self, head: &Head, behind: &[u8]) -> Result<Vec<Event>, OutOfMemory>
-        ensures { IfOk result (λ events. source_heard self.old head.now behind.now ≡ record { events = events.items; conversation = self.new }) }
+    /// A listener's head.
+    fn take_listener(&mut self, head: &Head) -> Result<Vec<Event>, OutOfMemory>
+        ensures { IfOk result (λ events. listener_heard self.old head.now ≡ record { events = events.items; conversation = self.new }) }
     {
-        let id = self.id;
-        let event = asks_to_feed(self.alloc, id, head)?;
+        let event = asks_to_hear(self.alloc, self.id, head)?;
         let mut events = Vec::new(self.alloc);
         events.push(event)?;
-        push_blocks(self.alloc, id, behind, &mut events)?;
-        self.go_on(Hears::Body);
+        self.go_on(Hears::Nothing);
         Ok(events)
+    }
+
+    /// A source's head, and the first of its data.
+    fn take_source(&mut self, head: &Head, behind: &[u8]) -> Result<Vec<Event>, OutOfMemory>
+        ensures { IfOk result (λ events. source_heard (nothing_held self.old) head.now behind.now (framing_of head.now) ≡ record { events = events.items; conversation = self.new }) }
+    {
+        let Some(framing) = framing_of(head) else {
+            return self.refuse(Rule::BadHead);
+        };
+        let event = asks_to_feed(self.alloc, self.id, head)?;
+        let mut events = Vec::new(self.alloc);
+        events.push(event)?;
+        self.says.greeting = greeting(head);
+        self.take_body(body(self.alloc, framing), events, behind)
     }
 
     /// The connection refuses by its own rule: the client leaves, and is told then.
     fn refuse(&mut self, rule: Rule) -> Result<Vec<Event>, OutOfMemory>
         ensures { IfOk result (λ events. refuses self.old rule ≡ record { events = events.items; conversation = self.new }) }
     {
-        let mut events = Vec::new(self.alloc);
-        events.push(Event::Leave { id: self.id })?;
+        let events = Vec::new(self.alloc);
+        self.close(
+            events,
+            Event::Leave { id: self.id },
+            LastWord::Refusal(rule),
+        )
+    }
+
+    /// After these events the last is applied, which closes the conversation.
+    fn close(
+        &mut self,
+        events: Vec<Event>,
+        last: Event,
+        word: LastWord,
+    ) -> Result<Vec<Event>, OutOfMemory>
+        ensures { IfOk result (λ all. closes_with self.old events.items last word ≡ record { events = all.items; conversation = self.new }) }
+    {
+        let mut events = events;
+        let awaits = events.len();
+        events.push(last)?;
         self.go_on(Hears::Nothing);
-        self.says = Says::Refusing(rule);
+        self.says.closing = Some(Closing { awaits, word });
         Ok(events)
     }
 
     /// The head is over.
     fn go_on(&mut self, hears: Hears)
+        requires { IsOpen hears }
         ensures { self.new ≡ going_on self.old hears }
     {
         self.held.clear();
         self.hears = hears;
     }
+}
+
+/// What stands behind so many bytes.
+fn behind(bytes: &[u8], end: usize) -> &[u8]
+    requires { end ≤ length bytes.now }
+    ensures { result.now ≡ drop end bytes.now }
+{
+    &bytes[end..]
 }

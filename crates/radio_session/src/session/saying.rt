@@ -1,13 +1,13 @@
-ghost use Rattle.std.specs.Prelude.{◌≡◌, ◌++◌, true, IfOk, IsErr, OnOk, OnErr};
-ghost use Rattle.radio_heads.specs.Answer.{answer_text, listener_head, source_text};
-ghost use Rattle.radio_session.specs.declared.session.Says.TheVariants.{Admitted};
-ghost use Rattle.radio_session.specs.declared.state.State.TheVariants.{Running};
+ghost use Rattle.std.specs.Prelude.{◌≡◌, ◌++◌, true, None, Some, IfOk, IsErr, OnOk, OnErr};
+ghost use Rattle.radio_heads.specs.Answer.{answer_text, listener_head};
 ghost use Rattle.radio_session.specs.Conversation.{saying_now};
-ghost use Rattle.radio_session.specs.Saying.{said, denied, noted, denial};
+ghost use Rattle.radio_session.specs.Saying.{said, denied, noted, counted, admitted, last_text, last_ending, greeting_text, denial};
+ghost use Rattle.radio_session.specs.declared.state.State.TheVariants.{Running, Shut};
 
 use crate::OutOfMemory;
-use crate::session::{Says, Session};
+use crate::session::{Closing, Greeting, LastWord, Says, Session};
 use crate::state::{Ending, State};
+use radio_blocks::Pieces;
 use radio_core::Reply;
 use radio_heads::{Answer, Welcome, write_answer};
 use radio_policy::Rule;
@@ -62,26 +62,26 @@ impl Session {
         match reply {
             Reply::Feeding => self.admit_source(out),
             Reply::Seated { shown, .. } => self.admit_listener(shown, out),
-            Reply::Drawn { pieces, .. } => {
-                pieces.write_to(out)?;
-                Ok(State::Running)
-            }
+            Reply::Drawn { pieces, .. } => self.tell_pieces(pieces, out),
             Reply::Noted => self.note(out),
             Reply::Deny(rule) => self.deny(*rule, out),
             Reply::Finished(rule) => Ok(State::Shut(Ending::By(*rule))),
-            Reply::Arrived(_) | Reply::Stray => Ok(State::Running),
+            Reply::Arrived(_) | Reply::Stray => {
+                self.says = counted(self.says);
+                Ok(State::Running)
+            }
         }
     }
 
     /// A source is admitted.
     fn admit_source(&mut self, out: &mut Vec<u8>) -> Result<State, OutOfMemory>
-        ensures bytes { IfOk result (λ _. out.new.items ≡ out.old.items ++ source_text) }
+        ensures bytes { IfOk result (λ _. out.new.items ≡ out.old.items ++ greeting_text self.old.says.greeting) }
         ensures state { IfOk result (λ state. state ≡ Running) }
-        ensures says { IfOk result (λ _. self.new ≡ saying_now self.old Admitted) }
+        ensures says { IfOk result (λ _. self.new ≡ saying_now self.old (admitted self.old.says)) }
         ensures silent { OnErr result (out.new.items ≡ out.old.items) }
     {
-        tell(self.alloc, &Answer::Source, out)?;
-        self.says = Says::Admitted;
+        greet(self.alloc, self.says.greeting, out)?;
+        self.says = admitted(self.says);
         Ok(State::Running)
     }
 
@@ -89,11 +89,23 @@ impl Session {
     fn admit_listener(&mut self, shown: &Shown, out: &mut Vec<u8>) -> Result<State, OutOfMemory>
         ensures bytes { IfOk result (λ _. out.new.items ≡ out.old.items ++ listener_head shown.now.content_type shown.now.name shown.now.genre None) }
         ensures state { IfOk result (λ state. state ≡ Running) }
-        ensures says { IfOk result (λ _. self.new ≡ saying_now self.old Admitted) }
+        ensures says { IfOk result (λ _. self.new ≡ saying_now self.old (admitted self.old.says)) }
         ensures silent { OnErr result (out.new.items ≡ out.old.items) }
     {
         welcome(self.alloc, shown, out)?;
-        self.says = Says::Admitted;
+        self.says = admitted(self.says);
+        Ok(State::Running)
+    }
+
+    /// A listener's data.
+    fn tell_pieces(&mut self, pieces: &Pieces, out: &mut Vec<u8>) -> Result<State, OutOfMemory>
+        ensures bytes { IfOk result (λ _. out.new.items ≡ out.old.items ++ pieces.now) }
+        ensures state { IfOk result (λ state. state ≡ Running) }
+        ensures says { IfOk result (λ _. self.new ≡ saying_now self.old (counted self.old.says)) }
+        ensures silent { OnErr result (out.new.items ≡ out.old.items) }
+    {
+        pieces.write_to(out)?;
+        self.says = counted(self.says);
         Ok(State::Running)
     }
 
@@ -103,25 +115,98 @@ impl Session {
         ensures state { IfOk result (λ state. state ≡ (denied self.now.says rule).state) }
         ensures silent { OnErr result (out.new.items ≡ out.old.items) }
     {
-        if self.says == Says::Asking {
+        if !self.says.is_admitted {
             tell_denial(self.alloc, rule, out)?;
         }
         Ok(State::Shut(Ending::By(rule)))
     }
 
-    /// Something was done: the connection's own refusal may be told now.
-    fn note(&self, out: &mut Vec<u8>) -> Result<State, OutOfMemory>
-        ensures bytes { IfOk result (λ _. out.new.items ≡ out.old.items ++ (noted self.now.says).bytes) }
-        ensures state { IfOk result (λ state. state ≡ (noted self.now.says).state) }
+    /// Something was done: the connection's own last word may be told now.
+    fn note(&mut self, out: &mut Vec<u8>) -> Result<State, OutOfMemory>
+        ensures bytes { IfOk result (λ _. out.new.items ≡ out.old.items ++ (noted self.old.says self.old.says.closing).bytes) }
+        ensures state { IfOk result (λ state. state ≡ (noted self.old.says self.old.says.closing).state) }
+        ensures says { IfOk result (λ _. self.new ≡ saying_now self.old (noted self.old.says self.old.says.closing).says) }
         ensures silent { OnErr result (out.new.items ≡ out.old.items) }
     {
-        match self.says {
-            Says::Refusing(rule) => {
-                tell_denial(self.alloc, rule, out)?;
-                Ok(State::Shut(Ending::By(rule)))
-            }
-            Says::Asking | Says::Admitted => Ok(State::Running),
+        match self.says.closing {
+            None => Ok(State::Running),
+            Some(closing) => self.note_closing(closing, out),
         }
+    }
+
+    /// One reply more before the connection's own last word, or that word.
+    fn note_closing(&mut self, closing: Closing, out: &mut Vec<u8>) -> Result<State, OutOfMemory>
+        ensures bytes { IfOk result (λ _. out.new.items ≡ out.old.items ++ (noted self.old.says (Some closing)).bytes) }
+        ensures state { IfOk result (λ state. state ≡ (noted self.old.says (Some closing)).state) }
+        ensures says { IfOk result (λ _. self.new ≡ saying_now self.old (noted self.old.says (Some closing)).says) }
+        ensures silent { OnErr result (out.new.items ≡ out.old.items) }
+    {
+        if closing.awaits == 0 {
+            return tell_last(self.alloc, self.says.greeting, closing.word, out);
+        }
+        self.says = counted(self.says);
+        Ok(State::Running)
+    }
+}
+
+/// How replies are told once a source or a listener was admitted.
+fn admitted(says: Says) -> Says
+    ensures { result ≡ admitted says }
+{
+    counted(Says {
+        is_admitted: true,
+        ..says
+    })
+}
+
+/// One reply less is awaited before that which tells the last word.
+fn counted(says: Says) -> Says
+    ensures { result ≡ counted says }
+{
+    let closing = match says.closing {
+        Some(Closing { awaits, word }) => Some(Closing {
+            awaits: awaits.saturating_sub(1),
+            word,
+        }),
+        None => None,
+    };
+    Says { closing, ..says }
+}
+
+/// The last word of the connection itself.
+fn tell_last(
+    alloc: Global,
+    greeting: Greeting,
+    word: LastWord,
+    out: &mut Vec<u8>,
+) -> Result<State, OutOfMemory>
+    ensures bytes { IfOk result (λ _. out.new.items ≡ out.old.items ++ last_text greeting word) }
+    ensures state { IfOk result (λ state. state ≡ Shut (last_ending word)) }
+    ensures silent { OnErr result (out.new.items ≡ out.old.items) }
+{
+    match word {
+        LastWord::Refusal(rule) => {
+            tell_denial(alloc, rule, out)?;
+            Ok(State::Shut(Ending::By(rule)))
+        }
+        LastWord::Complete => {
+            if greeting == Greeting::Continue {
+                tell(alloc, &Answer::Source, out)?;
+            }
+            Ok(State::Shut(Ending::Done))
+        }
+        LastWord::Faulty => Ok(State::Shut(Ending::BadBody)),
+    }
+}
+
+/// Appends what a source is told that is admitted.
+fn greet(alloc: Global, greeting: Greeting, out: &mut Vec<u8>) -> Result<(), OutOfMemory>
+    ensures ok { OnOk result (out.new.items ≡ out.old.items ++ greeting_text greeting) }
+    ensures err { OnErr result (out.new.items ≡ out.old.items) }
+{
+    match greeting {
+        Greeting::Welcome => tell(alloc, &Answer::Source, out),
+        Greeting::Continue => tell(alloc, &Answer::Continue, out),
     }
 }
 

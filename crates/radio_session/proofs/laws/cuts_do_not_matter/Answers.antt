@@ -3,4 +3,4 @@ use Rattle.radio_session.proofs.laws.cuts_do_not_matter.Goals as goal
 
 pub returns : goal.returns
 returns c =
-    lemmas.cuts_do_not_matter c.blocks_are_the_data.ensures.joined c.readings_agree.ensures.requests c.settled.ensures.requests c.heads_lie_within.ensures.requests
+    lemmas.cuts_do_not_matter c.blocks_are_the_data.ensures.joined c.pieces_are_joined.ensures.place c.pieces_are_joined.ensures.found c.readings_agree.ensures.requests c.settled.ensures.requests c.heads_lie_within.ensures.requests

@@ -9,5 +9,7 @@ returns c = record {
   denied_late = lemmas.late_denials_are_silent;
   finished = lemmas.finishes_are_silent;
   refused = lemmas.refusals_name_their_rule;
+  whole = lemmas.whole_bodies_are_done;
+  faulty = lemmas.faulty_bodies_are_silent;
   done = refl;
 }

@@ -1,0 +1,89 @@
+//! A source's body, read into events.
+
+ghost use Rattle.std.specs.Prelude.{◌≡◌, ◌≢◌, ◌++◌, map, false, None, IfOk, OnOk};
+ghost use Rattle.radio_core.specs.declared.event.Event.TheVariants.{Push};
+ghost use Rattle.radio_blocks.specs.Cutting.{blocks_of};
+ghost use Rattle.radio_source.specs.Place.{after, data_of, has_ended, fault_at};
+ghost use Rattle.radio_source.specs.Feeding.{unfed};
+ghost use Rattle.radio_session.specs.Hearing.{body_closes};
+ghost use Rattle.radio_session.specs.declared.session.LastWord.TheVariants.{Faulty};
+ghost use Rattle.radio_source.specs.declared.fault.BodyFault.TheVariants.{OutOfMemory as NoMemory};
+
+use crate::OutOfMemory;
+use crate::session::LastWord;
+use radio_blocks::Block;
+use radio_core::Event;
+use radio_source::{Blocks, Body, BodyFault};
+use std::alloc::{AllocError, Global};
+
+/// Feeds a body what comes next, and answers its data in blocks, and how it closes the connection,
+/// if it does. `OutOfMemory` where memory was refused.
+pub(super) fn read(
+    alloc: Global,
+    body: &mut Body,
+    bytes: &[u8],
+) -> Result<(Vec<Block>, Option<LastWord>), OutOfMemory>
+    requires { body.old ≡ unfed body.old.place }
+    ensures blocks { IfOk result (λ found. found.0.items ≡ blocks_of (data_of body.old.place bytes.now)) }
+    ensures word { IfOk result (λ found. found.1 ≡ body_closes (has_ended (after body.old.place bytes.now)) (fault_at (after body.old.place bytes.now))) }
+    ensures body { IfOk result (λ found. found.1 ≡ None → body.new ≡ unfed (after body.old.place bytes.now)) }
+{
+    match body.feed(bytes) {
+        Ok(
+            Blocks {
+                blocks,
+                is_complete,
+            },
+        ) => {
+            if is_complete {
+                return Ok((blocks, Some(LastWord::Complete)));
+            }
+            let word = fault(body)?;
+            Ok((blocks, word))
+        }
+        Err(told) => {
+            let word = faulty(told)?;
+            Ok((Vec::new(alloc), Some(word)))
+        }
+    }
+}
+
+/// The fault that stands in a body behind its data.
+fn fault(body: &mut Body) -> Result<Option<LastWord>, OutOfMemory>
+    requires open { body.old ≡ unfed body.old.place }
+    requires unfinished { has_ended body.old.place ≡ false }
+    ensures word { IfOk result (λ word. word ≡ body_closes false (fault_at body.old.place)) }
+    ensures body { IfOk result (λ word. word ≡ None → body.new ≡ body.old) }
+{
+    let Err(told) = body.feed(&[]) else {
+        return Ok(None);
+    };
+    let word = faulty(told)?;
+    Ok(Some(word))
+}
+
+/// The word for a fault, unless it is that memory was refused.
+fn faulty(fault: BodyFault) -> Result<LastWord, OutOfMemory>
+    ensures word { IfOk result (λ word. word ≡ Faulty) }
+    ensures memory { IfOk result (λ _. fault ≢ NoMemory) }
+{
+    match fault {
+        BodyFault::OutOfMemory => Err(AllocError),
+        _ => Ok(LastWord::Faulty),
+    }
+}
+
+/// Appends an event for each block of a source's data. `OutOfMemory` where memory was refused; some
+/// of the events may have been appended then.
+pub(super) fn push_blocks(
+    id: u64,
+    blocks: Vec<Block>,
+    events: &mut Vec<Event>,
+) -> Result<(), OutOfMemory>
+    ensures { OnOk result (events.new.items ≡ events.old.items ++ map (Push id) blocks.items) }
+{
+    for block in blocks {
+        events.push(Event::Push { id, block })?;
+    }
+    Ok(())
+}

@@ -1,0 +1,152 @@
+//! How the data of a source come.
+
+ghost use Rattle.std.specs.Prelude.{◌≡◌, option_copied};
+ghost use Rattle.std.specs.List.{list_all};
+ghost use Rattle.std.specs.Char.{is_digit};
+ghost use Rattle.radio_texts.specs.Numbers.{number_of};
+ghost use Rattle.radio_source.specs.Feeding.{unfed};
+ghost use Rattle.radio_heads.specs.Headers.{is_same_name};
+ghost use Rattle.radio_session.specs.Framing.{framing_of, framed_by, unless_identity, coded, sized, start_of, is_put, is_source, is_word, greeting_of};
+
+use crate::session::Greeting;
+use radio_heads::Head;
+use radio_source::Body;
+use std::alloc::Global;
+use std::str;
+
+/// How the data of a source come (RFC 9112, section 6).
+#[derive(Clone, Copy, Debug, PartialEq, Eq)]
+pub(crate) enum Framing {
+    /// They are all that comes, and have no end.
+    Plain,
+    /// They are so many bytes.
+    Sized(u64),
+    /// They come in chunks.
+    Chunked,
+}
+
+/// The body in which they come.
+pub(super) fn body(alloc: Global, framing: Framing) -> Body
+    ensures { result ≡ unfed (start_of framing) }
+{
+    match framing {
+        Framing::Plain => Body::plain(alloc),
+        Framing::Sized(length) => Body::sized(alloc, length),
+        Framing::Chunked => Body::chunked(alloc),
+    }
+}
+
+/// Whether by this method a source feeds a mount.
+pub(super) fn is_source(head: &Head) -> bool
+    ensures { result ≡ is_source head.now }
+{
+    head.method() == b"SOURCE".as_slice() || is_put(head)
+}
+
+fn is_put(head: &Head) -> bool
+    ensures { result ≡ is_put head.now }
+{
+    head.method() == b"PUT".as_slice()
+}
+
+/// How the data come behind the head of a source; `None` where its headers do not say it as they
+/// should.
+pub(super) fn framing_of(head: &Head) -> Option<Framing>
+    ensures { result ≡ framing_of head.now }
+{
+    if !is_put(head) {
+        return Some(Framing::Plain);
+    }
+    framed_by(
+        unless_identity(head.value("Transfer-Encoding")),
+        head.value("Content-Length"),
+    )
+}
+
+/// What a source is told that is admitted.
+pub(super) fn greeting(head: &Head) -> Greeting
+    ensures { result ≡ greeting_of head.now }
+{
+    if is_put(head) && is_word(head.value("Expect"), b"100-continue") {
+        Greeting::Continue
+    } else {
+        Greeting::Welcome
+    }
+}
+
+fn framed_by(coding: Option<&[u8]>, length: Option<&[u8]>) -> Option<Framing>
+    ensures { result ≡ framed_by (option_copied coding.entry) (option_copied length.entry) }
+{
+    match (coding, length) {
+        (None, None) => Some(Framing::Plain),
+        (None, Some(length)) => sized(length),
+        (Some(coding), None) => coded(coding),
+        (Some(_), Some(_)) => None,
+    }
+}
+
+/// The coding, but for `identity`, which is none.
+fn unless_identity(coding: Option<&[u8]>) -> Option<&[u8]>
+    ensures { option_copied result ≡ unless_identity (option_copied coding.entry) }
+{
+    let coding = coding?;
+    if is_same_word(coding, b"identity") {
+        None
+    } else {
+        Some(coding)
+    }
+}
+
+fn coded(coding: &[u8]) -> Option<Framing>
+    ensures { result ≡ coded coding.now }
+{
+    if is_same_word(coding, b"chunked") {
+        Some(Framing::Chunked)
+    } else {
+        None
+    }
+}
+
+fn sized(length: &[u8]) -> Option<Framing>
+    ensures { result ≡ sized length.now }
+{
+    Some(Framing::Sized(number(length)?))
+}
+
+/// Whether the value of a header is this word, in any case of letters.
+fn is_word(value: Option<&[u8]>, word: &[u8]) -> bool
+    ensures { result ≡ is_word word.now (option_copied value.entry) }
+{
+    match value {
+        Some(value) => is_same_word(value, word),
+        None => false,
+    }
+}
+
+fn is_same_word(a: &[u8], b: &[u8]) -> bool
+    ensures { result ≡ is_same_name a.now b.now }
+{
+    a.eq_ignore_ascii_case(b)
+}
+
+/// The number of 64 bits that decimal digits alone write.
+fn number(text: &[u8]) -> Option<u64>
+    ensures { result ≡ number_of 10 18446744073709551615 text.now }
+{
+    if text.is_empty() {
+        return None;
+    }
+    if !are_digits(text) {
+        return None;
+    }
+    match str::from_utf8(text) {
+        Ok(digits) => digits.parse::<u64>().ok(),
+        Err(_) => None,
+    }
+}
+
+fn are_digits(text: &[u8]) -> bool
+    ensures { result ≡ list_all (λ b. is_digit b 10) text.now }
+{
+    text.iter().all(|b| (*b as char).is_digit(10))
+}
