@@ -47,6 +47,27 @@ nothing_held conversation = record conversation { held = [] }
 abbrev pub refuses : Conversation → Rule → Heard
 refuses conversation rule = closes_with conversation [] (Leave conversation.id) (Refusal rule)
 
+-- how a body closes the conversation: it is whole, or there is a fault in it
+abbrev pub body_closes : Bool → Option BodyFault → Option LastWord
+body_closes true fault = Some Complete
+body_closes false (Some fault) = Some Faulty
+body_closes false None = None
+
+-- the data of a body are delivered after the events before; where the body closes, the source has come to its end
+abbrev pub delivered : Conversation → List Event → Place → Option LastWord → Heard
+delivered conversation events place None = record { events = events; conversation = going_on conversation (Body (unfed place)) }
+delivered conversation events place (Some word) = closes_with conversation events (SourceEnd conversation.id) word
+
+-- these bytes of a body, that come at a place in it
+abbrev pub body_heard : Conversation → List Event → Place → List ℕ → Heard
+body_heard conversation before place bytes =
+    delivered conversation (before ++ pushes conversation.id (data_of place bytes)) (after place bytes)
+    (body_closes (has_ended (after place bytes)) (fault_at (after place bytes)))
+
+-- what the client is told where it is admitted as a source
+abbrev pub greeted : Conversation → RequestParts → Conversation
+greeted conversation request = record conversation { says = record conversation.says { greeting = greeting_of request } }
+
 -- a source's head has come, whose data come so, and the first of them
 abbrev pub source_heard : Conversation → RequestParts → List ℕ → Option Framing → Heard
 source_heard conversation request behind None = refuses conversation BadHead
