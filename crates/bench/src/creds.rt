@@ -81,8 +81,18 @@ fn time_accepted(
     rounds: u32,
 ) -> Result<Measured> {
     let pair = basic(rt.alloc(), VALUE)?.context("the value has no pair")?;
+    time_pair(rt, users, &pair, times, rounds)
+}
+
+fn time_pair(
+    rt: &impl Clock,
+    users: &Users,
+    pair: &Pair,
+    times: usize,
+    rounds: u32,
+) -> Result<Measured> {
     let start = Instant::now(rt)?;
-    let count = count_accepted(users, &pair, times, rounds);
+    let count = count_accepted(users, pair, times, rounds);
     let time = start.elapsed(rt)?;
     Ok(Measured { count, time })
 }

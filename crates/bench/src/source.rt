@@ -110,17 +110,30 @@ fn fed_size(body: &mut Body, piece: &[u8]) -> Result<usize> {
 fn chunked(alloc: Global, chunk_size: usize, data: &[u8]) -> Result<Vec<u8>, OutOfMemory>
     requires { 1 ≤ chunk_size }
 {
-    let line = chunk_line(alloc, chunk_size)?;
     let mut bytes = Vec::new(alloc);
-    for chunk in data.chunks(chunk_size) {
-        if chunk.len() == chunk_size {
-            push_chunk(&mut bytes, line.as_bytes(), chunk)?;
-        } else {
-            push_last_chunk(alloc, &mut bytes, chunk)?;
-        }
-    }
+    push_chunks(alloc, &mut bytes, chunk_size, data)?;
     bytes.extend_from_slice(b"0\r\n\r\n")?;
     Ok(bytes)
+}
+
+/// Appends the chunks of this data.
+fn push_chunks(
+    alloc: Global,
+    bytes: &mut Vec<u8>,
+    chunk_size: usize,
+    data: &[u8],
+) -> Result<(), OutOfMemory>
+    requires { 1 ≤ chunk_size }
+{
+    let line = chunk_line(alloc, chunk_size)?;
+    for chunk in data.chunks(chunk_size) {
+        if chunk.len() == chunk_size {
+            push_chunk(bytes, line.as_bytes(), chunk)?;
+        } else {
+            push_last_chunk(alloc, bytes, chunk)?;
+        }
+    }
+    Ok(())
 }
 
 /// Appends a chunk behind its line.

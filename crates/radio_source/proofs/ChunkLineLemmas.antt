@@ -53,7 +53,7 @@ read_digits count size [] pad e rest all few some ows valid = read_after_digits 
 read_digits count size (b ∷ digits) pad e rest all few some ows valid =
     rw (All-head (λ v. is_ascii_hexdigit v ≡ true) b digits all, lt-ltb count 16 (omega arith))
     (read_digits (count + 1) (size * 16 + digit_value b) digits pad e rest (All-tail (λ v. is_ascii_hexdigit v ≡ true) b digits all) (omega arith)
-        (omega arith) ows valid)
+    (omega arith) ows valid)
 
 pub print_chunk_line-append : (l : ChunkLine) (rest : List ℕ)
     → print_chunk_line l ++ rest ≡ l.digits ++ (l.pad ++ (print_extension l.extension ++ (crlf_bytes ++ rest)))
@@ -334,7 +334,7 @@ refused_digits count size (b ∷ bytes) more h =
     (if eqb count 0 then Refused else padding_in size (b ∷ bytes))
     (λ (t : is_ascii_hexdigit b ≡ true).
     by_test (nat_lt count 16) (λ r. r ≡ Refused → digits_in count size (b ∷ (bytes ++ more)) ≡ Refused)
-        (digits_in (count + 1) (size * 16 + digit_value b) bytes) Refused
+    (digits_in (count + 1) (size * 16 + digit_value b) bytes) Refused
     (λ (s : nat_lt count 16 ≡ true) (e : digits_in (count + 1) (size * 16 + digit_value b) bytes ≡ Refused).
     rw (t, s) (refused_digits (count + 1) (size * 16 + digit_value b) bytes more e))
     (λ (s : nat_lt count 16 ≡ false) _. rw (t, s) refl))

@@ -98,9 +98,9 @@ chunk_leads c valid =
     let n = length c.content in
     let at : after_size (chunk_size c.line) ≡ InChunk n = ap after_size valid.2 ∙ size_some n valid.1 in
     let line : Leads (InLine []) (print_chunk_line c.line) [] (InChunk n) =
-        subst (λ (p : Place). Leads (InLine []) (print_chunk_line c.line) [] p) at (line_leads c.line valid.0) in
+    subst (λ (p : Place). Leads (InLine []) (print_chunk_line c.line) [] p) at (line_leads c.line valid.0) in
     let content : Leads (InChunk n) c.content c.content (InChunk 0) =
-        record { goes = after_chunk n 0 c.content (omega arith); brings = data_of_chunk n 0 c.content (omega arith) } in
+    record { goes = after_chunk n 0 c.content (omega arith); brings = data_of_chunk n 0 c.content (omega arith) } in
     let end : Leads (InChunk 0) crlf_bytes [] (InLine []) = computes in
     subst (λ (t : List ℕ). Leads (InLine []) (print_chunk c) t (InLine [])) (append-nil c.content) (Leads-append line (Leads-append content end))
 
@@ -115,9 +115,9 @@ pub front_leads : (chunks : List Chunk) (line : ChunkLine) (front : List ℕ) �
 front_leads chunks line front valid short some fits =
     let n = chunk_size line in
     let begun : Leads (InLine []) (print_chunk_line line) [] (InChunk n) =
-        subst (λ (p : Place). Leads (InLine []) (print_chunk_line line) [] p) (size_some n some) (line_leads line short) in
+    subst (λ (p : Place). Leads (InLine []) (print_chunk_line line) [] p) (size_some n some) (line_leads line short) in
     let content : Leads (InChunk n) front front (InChunk (n - length front)) =
-        record { goes = after_chunk n (n - length front) front (omega arith); brings = data_of_chunk n (n - length front) front (omega arith) } in
+    record { goes = after_chunk n (n - length front) front (omega arith); brings = data_of_chunk n (n - length front) front (omega arith) } in
     Leads-append (chunks_lead chunks valid) (Leads-append begun content)
 
 -- ---- trailers
@@ -146,7 +146,7 @@ plain_trailer left b line valid no_return fits =
     let other : b ≢ line_feed = All-head (λ (b : ℕ). b ≢ line_feed) b line valid in
     let less : left - 1 - (length line + 1) ≡ left - (length (b ∷ line) + 1) = omega arith in
     let at : after_byte (AtTrailer left) b ≡ InTrailer (left - 1) =
-        rw (ne_eqb b line_feed other, ne_eqb b carriage_return no_return) (in_trailer-room left 1 (omega arith)) in
+    rw (ne_eqb b line_feed other, ne_eqb b carriage_return no_return) (in_trailer-room left 1 (omega arith)) in
     Leads-byte {p = AtTrailer left} {q = InTrailer (left - 1)} at refl
     (subst (λ (n : ℕ). Leads (InTrailer (left - 1)) (line ++ line_feed ∷ []) [] (AtTrailer n)) less
     (rest_leads (left - 1) line (All-tail (λ (b : ℕ). b ≢ line_feed) b line valid) (omega arith)))
@@ -201,7 +201,7 @@ end_leads left lf = computes
 pub body_leads : (b : ChunkedBody) → IsBody b → Leads (InLine []) (print_body b) (content_of b.chunks) AtEnd
 body_leads b valid =
     let line : Leads (InLine []) (print_chunk_line b.last) [] (AtTrailer 4096) =
-        subst (λ (p : Place). Leads (InLine []) (print_chunk_line b.last) [] p) (ap after_size valid.is_last) (line_leads b.last valid.last) in
+    subst (λ (p : Place). Leads (InLine []) (print_chunk_line b.last) [] p) (ap after_size valid.is_last) (line_leads b.last valid.last) in
     let trailers = trailers_lead 4096 b.trailers valid.trailers valid.fits in
     let end = end_leads (4096 - length (print_trailers b.trailers)) b.end in
     subst (λ (t : List ℕ). Leads (InLine []) (print_body b) t AtEnd) (append-nil (content_of b.chunks))
@@ -228,7 +228,7 @@ pub broken_begins_none : (bytes more rest : List ℕ) (b : ChunkedBody) → afte
 broken_begins_none bytes more rest b broken valid same =
     let first : after (InLine []) (bytes ++ more) ≡ Broken = after-append (InLine []) bytes more ∙ (ap (λ p. after p more) broken ∙ stays_broken more) in
     let second : after (InLine []) (print_body b ++ rest) ≡ after AtEnd rest =
-        after-append (InLine []) (print_body b) rest ∙ ap (λ p. after p rest) (body_leads b valid).goes in
+    after-append (InLine []) (print_body b) rest ∙ ap (λ p. after p rest) (body_leads b valid).goes in
     ended_is_sound rest (sym second ∙ (ap (after (InLine [])) (sym same) ∙ first))
 
 -- ---- sized bodies

@@ -98,12 +98,12 @@ step_on : (found : List ℕ) (place : Place) (told : Bool) (more : List ℕ) (en
     ≡ byte_outputs (found ++ data_of place more) ++ (end_outputs (has_ended (after place more) && not told) ++ fault_outputs (fault_at (after place more)))
 step_on found place told more true h =
     rw (ended_data place more h, ended_stays place more h, append-nil found)
-        (step_ended (byte_outputs found) (fault_outputs (fault_at (after place more))) told)
+    (step_ended (byte_outputs found) (fault_outputs (fault_at (after place more))) told)
 step_on found place told more false h =
     let f = fault_outputs (fault_at (after place more)) in
     let e = end_outputs (has_ended (after place more) && not told) in
     ap (λ (t : Bool). (byte_outputs found ++ []) ++ (byte_outputs (data_of place more) ++ (end_outputs (has_ended (after place more) && not t) ++ f)))
-        (or_false told)
+    (or_false told)
     ∙ (ap (λ t. t ++ (byte_outputs (data_of place more) ++ (e ++ f))) (append-nil (byte_outputs found))
     ∙ (sym (append_assoc (byte_outputs found) (byte_outputs (data_of place more)) (e ++ f))
     ∙ ap (λ t. t ++ (e ++ f)) (sym (map-append (λ (b : ℕ). OutputByte b) found (data_of place more)))))
@@ -123,7 +123,7 @@ left_of fault false = OutputFault fault ∷ []
 step_fault : (blocks : List (List ℕ)) (found : List ℕ) (ends : Bool) (fault : BodyFault) → outputs_of (Refuses fault) ≡ OutputFault fault ∷ []
     → concat blocks ≡ found
     → outputs_of (answer_with blocks ends (Some fault)) ++ left_of fault (is_refusal (answer_with blocks ends (Some fault)))
-        ≡ byte_outputs found ++ (end_outputs ends ++ OutputFault fault ∷ [])
+    ≡ byte_outputs found ++ (end_outputs ends ++ OutputFault fault ∷ [])
 step_fault [] found false fault tells joined = append-nil (outputs_of (Refuses fault)) ∙ (tells ∙ ap (λ t. byte_outputs t ++ OutputFault fault ∷ []) joined)
 step_fault [] found true fault tells joined = ap (λ t. byte_outputs t ++ OutputEnd ∷ OutputFault fault ∷ []) joined
 step_fault (block ∷ blocks) found ends fault tells joined =
@@ -140,9 +140,9 @@ rest_broken false told more = rw (broken_data more, broken_stays more) refl
 
 step_past_end : (blocks : List (List ℕ)) (found : List ℕ) (told : Bool) (more : List ℕ) → concat blocks ≡ found
     → outputs_of (answer_with blocks (not told) (Some PastEnd))
-        ++ rest_from (is_refusal (answer_with blocks (not told) (Some PastEnd))) PastTheEnd (told || true) more
+    ++ rest_from (is_refusal (answer_with blocks (not told) (Some PastEnd))) PastTheEnd (told || true) more
     ≡ byte_outputs (found ++ data_of PastTheEnd more) ++
-        (end_outputs (has_ended (after PastTheEnd more) && not told) ++ fault_outputs (fault_at (after PastTheEnd more)))
+    (end_outputs (has_ended (after PastTheEnd more) && not told) ++ fault_outputs (fault_at (after PastTheEnd more)))
 step_past_end blocks found told more joined =
     let a = answer_with blocks (not told) (Some PastEnd) in
     ap (λ t. outputs_of a ++ t) (rest_past_end (is_refusal a) told more)
@@ -159,7 +159,7 @@ step_broken blocks found told more joined =
 -- what a feed tells at this place, and what is left, make all
 step_at : (blocks : List (List ℕ)) (found : List ℕ) (place : Place) (told : Bool) (more : List ℕ) → concat blocks ≡ found
     → outputs_of (answer_with blocks (has_ended place && not told) (fault_at place))
-        ++ rest_from (is_refusal (answer_with blocks (has_ended place && not told) (fault_at place))) place (told || has_ended place) more
+    ++ rest_from (is_refusal (answer_with blocks (has_ended place && not told) (fault_at place))) place (told || has_ended place) more
     ≡ byte_outputs (found ++ data_of place more) ++ (end_outputs (has_ended (after place more) && not told) ++ fault_outputs (fault_at (after place more)))
 step_at blocks found InPlain told more joined = step_none blocks found InPlain told more joined
 step_at blocks found (InSized left) told more joined = step_none blocks found (InSized left) told more joined
@@ -189,13 +189,13 @@ unfolding answer_to after_feed
 step_sound joined body piece more sound =
     rw (sound, after-append body.place piece more, data_of-append body.place piece more)
     (step_at (blocks_of (data_of body.place piece)) (data_of body.place piece) (after body.place piece) body.is_end_told more
-        (joined (data_of body.place piece)))
+    (joined (data_of body.place piece)))
 
 step : Joined → (body : Feeding) (piece more : List ℕ)
     → outputs_of (answer_to body piece) ++ rest_of (after_feed body piece) more ≡ rest_of body (piece ++ more)
 step joined body piece more =
     ⊎_elim (λ (h : body.has_failed ≡ true). step_failed body piece more h) (λ (h : body.has_failed ≡ false). step_sound joined body piece more h)
-        (cases_Bool body.has_failed)
+    (cases_Bool body.has_failed)
 
 -- a body whose empty feed tells all that is left: where a fault stands, the end is told
 abbrev Settles : Feeding → Type 0
@@ -262,4 +262,4 @@ pub cuts : Joined → blocks_of [] ≡ [] → (place : Place) (pieces : List (Li
 cuts joined none place pieces h =
     outputs_at_last joined none (unfed place) pieces (Settles-unfed none place h)
     ∙ ap (λ (e : Bool). byte_outputs (data_of place (concat pieces)) ++ (end_outputs e ++ fault_outputs (fault_at (after place (concat pieces)))))
-        (and_true (has_ended (after place (concat pieces))))
+    (and_true (has_ended (after place (concat pieces))))

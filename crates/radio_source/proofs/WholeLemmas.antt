@@ -282,9 +282,11 @@ trailer_case left b bytes e later =
     subst (λ (c : ℕ). HasTrailers left (c ∷ bytes)) (sym (eqb-true b carriage_return r)) (later (AfterTrailerReturn left) tt k))
     (λ (r : eqb b carriage_return ≡ false) (k : after (in_trailer left 1) bytes ≡ AtEnd).
     let x = trailer_goes_on left 1 bytes k later in
-    as_trailers left 1 (b ∷ []) bytes refl x.0 x.1
-    (All-cons (λ (c : ℕ). c ≢ line_feed) b x.1.line (other_byte b line_feed t) x.1.one, not_empty b x.1.line,
-        not_return_alone b x.1.line (other_byte b carriage_return r))))
+    as_trailers left 1 (b ∷ []) bytes refl x.0 x.1 (
+      All-cons (λ (c : ℕ). c ≢ line_feed) b x.1.line (other_byte b line_feed t) x.1.one,
+      not_empty b x.1.line,
+      not_return_alone b x.1.line (other_byte b carriage_return r),
+    )))
 
 after_return_case : (left b : ℕ) (bytes : List ℕ) → after (if eqb b line_feed then AtEnd else in_trailer left 2) bytes ≡ AtEnd → Follows bytes
     → HasTrailers left (carriage_return ∷ b ∷ bytes)
@@ -292,13 +294,15 @@ after_return_case left b bytes e later =
     by_test (eqb b line_feed) AtEnd (in_trailer left 2) bytes (HasTrailers left (carriage_return ∷ b ∷ bytes)) e
     (λ (t : eqb b line_feed ≡ true) (h : after AtEnd bytes ≡ AtEnd).
     no_more left crlf (carriage_return ∷ b ∷ bytes)
-        (ap (λ (c : ℕ). carriage_return ∷ c ∷ bytes) (eqb-true b line_feed t) ∙ ap (λ s. carriage_return ∷ line_feed ∷ s) (end_is_last bytes h)))
+    (ap (λ (c : ℕ). carriage_return ∷ c ∷ bytes) (eqb-true b line_feed t) ∙ ap (λ s. carriage_return ∷ line_feed ∷ s) (end_is_last bytes h)))
     (λ (t : eqb b line_feed ≡ false) (h : after (in_trailer left 2) bytes ≡ AtEnd).
     let x = trailer_goes_on left 2 bytes h later in
     let no_feed = All-cons (λ (c : ℕ). c ≢ line_feed) b x.1.line (other_byte b line_feed t) x.1.one in
-    as_trailers left 2 (carriage_return ∷ b ∷ []) bytes refl x.0 x.1
-    (All-cons (λ (c : ℕ). c ≢ line_feed) carriage_return (b ∷ x.1.line) (λ z. omega arith) no_feed, not_empty carriage_return (b ∷ x.1.line),
-        not_one carriage_return b x.1.line))
+    as_trailers left 2 (carriage_return ∷ b ∷ []) bytes refl x.0 x.1 (
+      All-cons (λ (c : ℕ). c ≢ line_feed) carriage_return (b ∷ x.1.line) (λ z. omega arith) no_feed,
+      not_empty carriage_return (b ∷ x.1.line),
+      not_one carriage_return b x.1.line,
+    ))
 
 rest_case : (left b : ℕ) (bytes : List ℕ) → 0 < left → after (if eqb b line_feed then AtTrailer (left - 1) else in_trailer left 1) bytes ≡ AtEnd
     → Follows bytes → HasTrailerRest left (b ∷ bytes)

@@ -282,8 +282,8 @@ fn is_station(settings: &Settings, want: &Station) -> bool {
 
 /// Whether a text sets this station.
 fn sets(alloc: Global, text: &str, want: &Station) -> bool {
-    match &Settings::read(alloc, text) {
-        Ok(settings) => is_station(settings, want),
+    match Settings::read(alloc, text) {
+        Ok(settings) => is_station(&settings, want),
         Err(_) => false,
     }
 }

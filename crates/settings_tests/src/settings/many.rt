@@ -39,8 +39,8 @@ fn has_all(settings: &Settings, size: usize) -> bool {
 
 /// Whether a text sets so many mounts and relays.
 fn sets(alloc: Global, text: &str, size: usize) -> bool {
-    match &Settings::read(alloc, text) {
-        Ok(settings) => has_all(settings, size),
+    match Settings::read(alloc, text) {
+        Ok(settings) => has_all(&settings, size),
         Err(_) => false,
     }
 }

@@ -28,7 +28,7 @@ returns-clause-place c =
       | in-Unfinished-2 w ↦
           ap (λ s. place_of s empty) w.stage-is
           ∙ (sym (after_line_too_long line (read ∙ w.in-Unfinished.is) (omega (arith, w.if-len-lt-MAX_CHUNK_LINE.false, w.len.ensures.value)))
-              ∙ ap after_line c.push.ensures.items)
+          ∙ ap after_line c.push.ensures.items)
       | in-Refused w ↦
           ap (λ s. place_of s empty) w.stage-is
           ∙ (sym (after_line_refused line (read ∙ w.in-Refused.is)) ∙ ap after_line c.push.ensures.items)

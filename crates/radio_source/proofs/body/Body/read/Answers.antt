@@ -23,7 +23,7 @@ the_answer c =
     c.requires
     (c.in_ok-pass.ensures.place ∙ ap (λ (b : Feeding). after b.place bytes) c.self.view_is)
     (c.in_ok-pass.ensures.found
-        ∙ (ap (λ t. t ++ data_of c.self.inside.position bytes) c.new-gathering.ensures ∙ ap (λ (b : Feeding). data_of b.place bytes) c.self.view_is))
+    ∙ (ap (λ t. t ++ data_of c.self.inside.position bytes) c.new-gathering.ensures ∙ ap (λ (b : Feeding). data_of b.place bytes) c.self.view_is))
     c.in_ok-blocks.ensures
     ends
     c.fault.ensures
@@ -35,4 +35,4 @@ returns-clause-ok c =
 pub returns-clause-fault : goal.returns-clause-fault
 returns-clause-fault c =
     subst (λ (a : Answer). IfErr c.answered.result (λ e. e ≢ NoMemory → a ≡ Refuses e)) (sym (the_answer c))
-        (unless_memory c.answered.result _ c.answered.ensures.fault)
+    (unless_memory c.answered.result _ c.answered.ensures.fault)

@@ -26,4 +26,4 @@ returns-then-ahead-gt0-clause-found c =
     ∙ (append_assoc before front (data_of c.pass_data.new.self rest)
     ∙ (ap (λ p. before ++ (front ++ data_of p rest)) (c.pass_data.ensures ∙ ap (past_data place) (sym size))
     ∙ (ap (λ t. before ++ t) (data_of_run place front rest (length c.args.bytes.now) ahead)
-        ∙ ap (λ t. before ++ data_of place t) (sym c.split_at.ensures.by_index.0))))
+    ∙ ap (λ t. before ++ data_of place t) (sym c.split_at.ensures.by_index.0))))

@@ -13,16 +13,16 @@ returns-in_default g c =
     let es = c.self.inside.rows.entries in
     let none : lookup (is_at (g.R.Key.Ord.cmp c.args.key)) es ≡ None = sym c.in_default.ensures.value in
     let found = sym (lookup_finds g.R.Key.Ord.cmp g.met.R.Key.Ord.total g.R.Row.key g.R.Row.has_key g.met.R.Row.has_key_is c.args.key es
-        c.self.invariant.own) ∙ none in
+    c.self.invariant.own) ∙ none in
     record {
       row =
           ap values_of (ap (λ m. m.entries) c.get_mut.follows.holds-at-none)
           ∙ values-unchanged g.R.Key.Ord.cmp g.met.R.Key.Ord.total g.R.Row.key g.R.Row.has_key g.met.R.Row.has_key_is c.args.key
-              (g.S.Swap.gives c.args.swap.now) es c.self.invariant.own none
+          (g.S.Swap.gives c.args.swap.now) es c.self.invariant.own none
           ∙ ap (update_first (g.R.Row.has_key c.args.key) (g.S.Swap.gives c.args.swap.now)) c.self.view_is;
       taken =
           sym (ap (λ o. option_map_or (g.S.Swap.takes c.args.swap.now) o c.args.swap.now)
-              (ap (find (g.R.Row.has_key c.args.key)) (sym c.self.view_is) ∙ found));
+          (ap (find (g.R.Row.has_key c.args.key)) (sym c.self.view_is) ∙ found));
     }
 
 pub invariant_of-self-2 : goal.invariant_of-self-2
@@ -43,15 +43,15 @@ returns g c =
     let test = is_at (g.R.Key.Ord.cmp c.args.key) in
     let es = c.self.inside.rows.entries in
     let found = sym (lookup_finds g.R.Key.Ord.cmp g.met.R.Key.Ord.total g.R.Row.key g.R.Row.has_key g.met.R.Row.has_key_is c.args.key es
-        c.self.invariant.own) ∙ sym c.in-Some.ensures.value in
+    c.self.invariant.own) ∙ sym c.in-Some.ensures.value in
     record {
       row =
           ap values_of ((c.get_mut.follows.holds c.swap.new.row).0 ∙ ap (set_value test es) c.swap.ensures.given)
           ∙ values-changed g.R.Key.Ord.cmp g.met.R.Key.Ord.total g.R.Row.key g.R.Row.has_key g.met.R.Row.has_key_is c.args.key
-              (g.S.Swap.gives c.args.swap.now) c.in-Some.row.now es c.self.invariant.own (sym c.in-Some.ensures.value)
+          (g.S.Swap.gives c.args.swap.now) c.in-Some.row.now es c.self.invariant.own (sym c.in-Some.ensures.value)
           ∙ ap (update_first (g.R.Row.has_key c.args.key) (g.S.Swap.gives c.args.swap.now)) c.self.view_is;
       taken =
           c.swap.ensures.taken
           ∙ sym (ap (λ o. option_map_or (g.S.Swap.takes c.args.swap.now) o c.args.swap.now)
-              (ap (find (g.R.Row.has_key c.args.key)) (sym c.self.view_is) ∙ found));
+          (ap (find (g.R.Row.has_key c.args.key)) (sym c.self.view_is) ∙ found));
     }
