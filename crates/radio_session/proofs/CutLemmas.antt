@@ -1,8 +1,8 @@
 -- What comes in two pieces is heard as if it had come in one.
-use Rattle.std.proofs.Common.{◌≡◌, ℕ, zero, suc, ◌≤◌, Bool, true, false, List, [], ◌∷◌, ◌++◌, length, take, drop, map, ap, sym, ◌∙◌, refl, subst, inl, inr, Result, Ok, Err, IsErr, arith, append_assoc, length-drop, Option, None, Some, append-nil}
+use Rattle.std.proofs.Common.{◌≡◌, ℕ, Bool, true, false, List, [], ◌∷◌, ◌++◌, drop, map, ap, sym, ◌∙◌, refl, subst, Result, Ok, Err, append_assoc, Option, None, Some, append-nil}
 use Rattle.std.specs.Prelude.{codes, if◌then◌else◌}
 use Rattle.std.specs.Str.{bytes_eq}
-use Rattle.std.proofs.lemmas.List.{drop-append-le, take-append-drop, map-append}
+use Rattle.std.proofs.lemmas.List.{drop-append-le, map-append}
 use Rattle.std.specs.List.{concat}
 use Rattle.radio_blocks.specs.Cutting.{blocks_of}
 use Rattle.radio_core.specs.declared.event.Event.{Event}
@@ -18,16 +18,16 @@ use Rattle.radio_session.specs.declared.session.Hears.TheVariants.{Head, Body, N
 use Rattle.radio_session.specs.declared.session.LastWord.{LastWord}
 use Rattle.radio_session.specs.declared.session.framing.Framing.{Framing}
 use Rattle.radio_session.specs.Framing.{is_source, framing_of, start_of}
-use Rattle.radio_session.proofs.BodyLemmas.{closes_at, stays_closed, StaysClosed}
-use Rattle.radio_source.specs.Place.{Place, after, data_of, has_ended, fault_at}
+use Rattle.radio_session.proofs.BodyLemmas.{closes_at, stays_closed}
+use Rattle.radio_source.specs.Place.{Place, after, data_of}
 use Rattle.radio_source.specs.Feeding.{unfed}
 use Rattle.radio_session.specs.Conversation.{Conversation}
 use Rattle.radio_session.specs.Pushes.{pushes}
-use Rattle.radio_session.specs.Asking.{asks_to_feed, asks_to_hear}
+use Rattle.radio_session.specs.Asking.{asks_to_feed}
 use Rattle.radio_session.specs.Hearing.{Heard, HearsAs, IsHeard, head_heard, request_heard, source_heard, listener_heard, body_heard, delivered, closes_with, greeted, refuses, nothing_held, going_on}
 use Rattle.radio_policy.specs.declared.rule.Rule.TheVariants.{BadHead, BadMethod}
 use Rattle.radio_session.proofs.HearingLemmas.{heard-alike}
-use Rattle.radio_session.specs.Cuts.{Atom, datum, other, atoms_of, atoms, answered, CutsDoNotMatter}
+use Rattle.radio_session.specs.Cuts.{Atom, datum, atoms_of, atoms, answered, CutsDoNotMatter}
 
 -- lists of atoms joined
 atoms-append : (xs ys : List Event) → atoms (xs ++ ys) ≡ atoms xs ++ atoms ys

@@ -1,18 +1,16 @@
 -- what a core's exchanges come to, whatever state it stands for
-use Rattle.std.proofs.Common.{◌≡◌, ℕ, Bool, true, false, List, [], ◌∷◌, ◌++◌, refl, ap, sym, subst, ◌∙◌, append_assoc, append-nil}
+use Rattle.std.proofs.Common.{◌≡◌, ℕ, Bool, true, false, List, [], ◌∷◌, ◌++◌, refl, ap, sym, subst, ◌∙◌, append_assoc}
 use Rattle.radio_core.specs.declared.event.Event.{Event}
-use Rattle.radio_core.specs.declared.event.Event.TheVariants.{Leave}
 use Rattle.radio_core.specs.declared.reply.Reply.{Reply}
 use Rattle.radio_core.specs.World.{World}
-use Rattle.radio_core.specs.Step.{Step, Represents, reply_to, world_after}
+use Rattle.radio_core.specs.Step.{Represents, reply_to, world_after}
 use Rattle.radio_session.specs.declared.session.Says.{Says}
 use Rattle.radio_session.specs.declared.state.State.{State}
 use Rattle.radio_session.specs.declared.state.State.TheVariants.{Running, Shut}
 use Rattle.radio_session.specs.declared.state.Ending.{Ending}
-use Rattle.radio_session.specs.Conversation.{Conversation}
 use Rattle.radio_session.specs.Saying.{Said, said}
 use Rattle.radio_session.specs.Laws.{CoresExchangeAsTheirStates}
-use Rattle.radio_session.specs.Exchanges.{Steps, Exchange, nothing_exchanged, prefixed, ended_with, is_leave, LeavesAfter, GoesOn, Exchanges, core_steps, WorldExchange, left_after, then_exchanged, ExchangesAs, exchanged}
+use Rattle.radio_session.specs.Exchanges.{Steps, Exchange, prefixed, ended_with, is_leave, LeavesAfter, GoesOn, Exchanges, core_steps, WorldExchange, left_after, then_exchanged, ExchangesAs, exchanged}
 
 left_by : (w mid core' : World) (id : ℕ) (b : Bool) (event : Event) → is_leave event ≡ b → Represents mid w → LeavesAfter core_steps id b mid core' → Represents core' (left_after w id event)
 left_by w mid core' id true event e stands same = rw e (subst (λ (c : World). Represents c w) (sym same) stands)

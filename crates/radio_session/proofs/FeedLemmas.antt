@@ -1,11 +1,10 @@
 -- What a feed of a body tells of its place.
-use Rattle.std.proofs.Common.{◌≡◌, ℕ, Bool, true, false, ◌&&◌, ◌||◌, List, [], ◌∷◌, Option, None, Some, refl, ap, sym, ◌∙◌}
+use Rattle.std.proofs.Common.{◌≡◌, ℕ, Bool, true, false, List, [], ◌∷◌, Option, None, Some, refl, ap, sym, ◌∙◌}
 use Rattle.std.proofs.Math.Bool.{and-true, false-or}
 use Rattle.radio_blocks.specs.Cutting.{blocks_of}
 use Rattle.radio_source.specs.declared.fault.BodyFault.{BodyFault}
 use Rattle.radio_source.specs.Place.{Place, after, data_of, has_ended, fault_at}
 use Rattle.radio_source.specs.Feeding.{Feeding, unfed, Answer, Brings, Refuses, answer_with, answer_to, after_feed, is_refusal}
-use Rattle.radio_session.specs.declared.session.LastWord.{LastWord}
 use Rattle.radio_session.specs.declared.session.LastWord.TheVariants.{Complete, Faulty}
 use Rattle.radio_session.specs.Hearing.{body_closes}
 

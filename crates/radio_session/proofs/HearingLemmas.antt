@@ -1,7 +1,7 @@
 -- What bytes are heard as is one thing.
 use Rattle.std.proofs.Common.{◌≡◌, ℕ, List, ◌++◌, drop, subst, ap, sym, ◌∙◌, refl, inl, inr, Result, Ok, Err, IsErr}
 use Rattle.radio_heads.specs.declared.outcome.Progress.{Progress}
-use Rattle.radio_heads.specs.declared.outcome.Progress.TheVariants.{More, Whole}
+use Rattle.radio_heads.specs.declared.outcome.Progress.TheVariants.{Whole}
 use Rattle.radio_heads.specs.declared.outcome.HeadFault.{HeadFault}
 use Rattle.radio_heads.specs.Head.{RequestParts, ShowsRequest}
 use Rattle.radio_heads.specs.Reading.{IsReading}
@@ -9,7 +9,7 @@ use Rattle.radio_heads.specs.Laws.{ReadingsAgree}
 use Rattle.radio_session.specs.declared.session.Hears.{Hears}
 use Rattle.radio_session.specs.declared.session.Hears.TheVariants.{Head, Body, Nothing}
 use Rattle.radio_session.specs.Conversation.{Conversation}
-use Rattle.radio_session.specs.Hearing.{Heard, HearsAs, IsHeard, head_heard, request_heard, nothing_held}
+use Rattle.radio_session.specs.Hearing.{Heard, HearsAs, head_heard, request_heard, nothing_held}
 use Rattle.radio_session.specs.Laws.{HearingIsOne}
 
 -- two faults are heard alike

@@ -4,7 +4,7 @@ use Rattle.std.specs.Prelude.{codes, if◌then◌else◌}
 use Rattle.radio_policy.specs.declared.rule.Rule.{Rule}
 use Rattle.radio_policy.specs.declared.rule.Status.{Status}
 use Rattle.radio_policy.specs.Words.{word_of, status_of}
-use Rattle.radio_heads.specs.Answer.{denial_text, source_text}
+use Rattle.radio_heads.specs.Answer.{denial_text}
 use Rattle.radio_session.specs.declared.session.Says.{Says}
 use Rattle.radio_session.specs.declared.session.Closing.{Closing}
 use Rattle.radio_session.specs.declared.session.LastWord.{LastWord}
@@ -12,7 +12,7 @@ use Rattle.radio_session.specs.declared.session.LastWord.TheVariants.{Refusal, C
 use Rattle.radio_session.specs.declared.session.Greeting.{Greeting}
 use Rattle.radio_session.specs.declared.session.Greeting.TheVariants.{Welcome, Continue}
 use Rattle.radio_session.specs.declared.state.Ending.TheVariants.{By, Done, BadBody}
-use Rattle.radio_session.specs.Saying.{Said, denial, denial_with, body_text, last_text, noted}
+use Rattle.radio_session.specs.Saying.{denial, denial_with, body_text, noted}
 use Rattle.radio_session.specs.LastWords.{EndsWith, IsAbout, DenialsNameTheirRule, RulesWithoutStatusAreSilent, LateDenialsAreSilent, FinishesAreSilent, RefusalsNameTheirRule, WholeBodiesAreDone, FaultyBodiesAreSilent}
 
 -- the text of a denial, by the rule's status

@@ -1,5 +1,5 @@
 -- One connection's conversation with the server.
-use Rattle.std.specs.Prelude.{◌≡◌, ℕ, Bool, true, false, List, [], Option, None, codes}
+use Rattle.std.specs.Prelude.{◌≡◌, ℕ, Bool, false, List, [], None, codes}
 use Rattle.radio_policy.specs.Words.{word_of}
 use Rattle.radio_addr.specs.declared.peer.Peer.{Peer}
 use Rattle.radio_source.specs.Feeding.{unfed}

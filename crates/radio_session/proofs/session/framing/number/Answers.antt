@@ -1,7 +1,7 @@
 use Rattle.std.proofs.Common.{◌≡◌, ℕ, ◌<◌, List, true, false, eqb, length, sym, ◌∙◌, subst, arith}
 use Rattle.std.specs.Str.Parse.{ParsesUnsigned}
 use Rattle.std.proofs.lemmas.Bool.Decides.{nat_tests}
-use Rattle.radio_session.proofs.NumberLemmas.{are_digits, digits-utf8, number_of-none, number_of-no_digits, number_parsed}
+use Rattle.radio_session.proofs.NumberLemmas.{digits-utf8, number_of-none, number_of-no_digits, number_parsed}
 use Rattle.radio_session.proofs.session.framing.number.Goals as goal
 
 is_none : (n : ℕ) → true ≡ eqb n 0 → n ≡ 0
