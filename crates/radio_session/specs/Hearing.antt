@@ -20,7 +20,6 @@ use Rattle.radio_source.specs.declared.fault.BodyFault.{BodyFault}
 use Rattle.radio_source.specs.Place.{Place, after, data_of, has_ended, fault_at}
 use Rattle.radio_source.specs.Feeding.{unfed}
 use Rattle.radio_session.specs.Asking.{asks_to_feed, asks_to_hear}
-use Rattle.radio_session.specs.Asking.{asks_to_feed, asks_to_hear}
 use Rattle.radio_session.specs.Conversation.{Conversation}
 use Rattle.radio_session.specs.Pushes.{pushes}
 

@@ -6,7 +6,6 @@ ghost use Rattle.radio_source.specs.Feeding.{unfed};
 
 use crate::OutOfMemory;
 use crate::session::asking::{asks_to_feed, asks_to_hear};
-use crate::session::asking::{asks_to_feed, asks_to_hear};
 use crate::session::feeding::{push_blocks, read};
 use crate::session::framing::{body, framing_of, greeting, is_source};
 use crate::session::{Closing, Hears, LastWord, Session};
