@@ -1,10 +1,12 @@
 //! A caller who feeds a mount and listens to it: 100 calls.
 
 use bytes::Bytes;
+use radio_access::Lists;
 use radio_addr::Peer;
 use radio_blocks::Block;
 use radio_book::OutOfMemory;
 use radio_core::{Core, Event, ListenRequest, SourceRequest};
+use radio_creds::basic;
 use radio_settings::{Settings, SettingsFault, Shown};
 use std::alloc::Global;
 
@@ -18,6 +20,9 @@ pub const CALLS: usize = 100;
 /// What is delivered each time, and drawn.
 pub const DATA: &[u8] = b"abcd";
 
+/// What its sources send: the user `source` and that password.
+const SOURCE_PAIR: &[u8] = b"Basic c291cmNlOmhhY2ttZQ==";
+
 /// The settings of a small station.
 pub fn station(alloc: Global) -> Result<Settings, SettingsFault> {
     Settings::read(
@@ -28,7 +33,7 @@ pub fn station(alloc: Global) -> Result<Settings, SettingsFault> {
 
 /// A core of that station.
 pub fn core_of_station(alloc: Global) -> Result<Core, SettingsFault> {
-    Ok(Core::new(alloc, station(alloc)?))
+    Ok(Core::new(alloc, station(alloc)?, Lists::new(alloc)))
 }
 
 /// A connection comes.
@@ -64,7 +69,7 @@ fn source_event(alloc: Global, id: u64, path: &str) -> Result<Event, OutOfMemory
     Ok(Event::Source(SourceRequest {
         id,
         mount: Bytes::copy_from_slice(alloc, path.as_bytes())?,
-        pair: None,
+        pair: basic(alloc, SOURCE_PAIR)?,
         shown: Shown::clean(alloc, b"audio/mpeg", b"Night", b"")?,
     }))
 }

@@ -1,9 +1,11 @@
 //! Two threads over one hall, with a pass and a mount each, and then all passes settled.
 
 ghost use Rattle.std.specs.Prelude.{◌≡◌, ◌^◌};
+ghost use Rattle.radio_access.specs.Lists.{no_lists};
 ghost use Rattle.radio_core.specs.World.{opening};
 
 use crate::calls::*;
+use radio_access::Lists;
 use radio_book::{Entry, House, Kept, OutOfMemory, PASSES, Pass, SettleFault};
 use radio_core::{Core, Event, Reply};
 use radio_hall::{Hall, settle};
@@ -120,10 +122,10 @@ fn history_of_two<H: House + Send + Sync, R: Threads + Wait + Sync>(
     blank: Blank,
     given: usize,
 ) -> Result<Vec<Entry>, SettleFault>
-    requires opening { H.opening ≡ opening settings }
+    requires opening { H.opening ≡ opening settings no_lists }
     requires ledger { (blank.name ≡ H.name) × (blank.parts ≡ H.parts) × (blank.parts ≡ 2 ^ 32) }
 {
-    let hall: Hall<Kept, H> = Hall::new(alloc, settings, blank);
+    let hall: Hall<Kept, H> = Hall::new(alloc, settings, Lists::new(alloc), blank);
     let mut passes = passes_of_two(rt, alloc, &hall)?;
     passes.truncate(given);
     settle(alloc, hall, passes)
@@ -172,10 +174,10 @@ fn history_of_none<H: House, R: Wait>(
     settings: Settings,
     blank: Blank,
 ) -> Result<Vec<Entry>, SettleFault>
-    requires opening { H.opening ≡ opening settings }
+    requires opening { H.opening ≡ opening settings no_lists }
     requires ledger { (blank.name ≡ H.name) × (blank.parts ≡ H.parts) × (blank.parts ≡ 2 ^ 32) }
 {
-    let hall: Hall<Kept, H> = Hall::new(alloc, settings, blank);
+    let hall: Hall<Kept, H> = Hall::new(alloc, settings, Lists::new(alloc), blank);
     let passes = passes_of(alloc, hall.pass(rt))?;
     settle(alloc, hall, passes)
 }

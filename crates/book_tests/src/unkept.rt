@@ -1,9 +1,11 @@
 //! A hall that stores nothing answers what a core answers.
 
 ghost use Rattle.std.specs.Prelude.{◌≡◌, ◌^◌};
+ghost use Rattle.radio_access.specs.Lists.{no_lists};
 ghost use Rattle.radio_core.specs.World.{opening};
 
 use crate::calls::*;
+use radio_access::Lists;
 use radio_book::{House, OutOfMemory, PASSES, Pass, Receipt, Unkept};
 use radio_core::{Core, Event, Reply};
 use radio_hall::Hall;
@@ -74,10 +76,10 @@ fn count_alike<H: House, R: Wait>(
     blank: Blank,
     events: Vec<Event>,
 ) -> Result<usize, OutOfMemory>
-    requires opening { H.opening ≡ opening settings }
+    requires opening { H.opening ≡ opening settings no_lists }
     requires ledger { (blank.name ≡ H.name) × (blank.parts ≡ H.parts) × (blank.parts ≡ 2 ^ 32) }
 {
-    let hall: Hall<Unkept, H> = Hall::new(alloc, settings, blank);
+    let hall: Hall<Unkept, H> = Hall::new(alloc, settings, Lists::new(alloc), blank);
     match hall.pass(rt) {
         Some(mut pass) => count_through(rt, core, &hall, &mut pass, events),
         None => Ok(0),

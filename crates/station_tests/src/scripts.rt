@@ -130,7 +130,12 @@ pub fn deliveries(alloc: Global, script: &[u8]) -> Result<Vec<Delivery>, OutOfMe
 // What a list of deliveries comes to: a transcript, or a fault.
 fn run_all(alloc: Global, script: &[u8]) -> Result<Result<Vec<u8>, RunFault>, SettingsFault> {
     let all = deliveries(alloc, script)?;
-    Ok(run(alloc, settings(alloc, 8)?, Lists::new(alloc), all.as_slice()))
+    Ok(run(
+        alloc,
+        settings(alloc, 8)?,
+        Lists::new(alloc),
+        all.as_slice(),
+    ))
 }
 
 // Whether the deliveries of the script's lines come to that transcript.
