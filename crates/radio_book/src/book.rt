@@ -29,9 +29,13 @@ pub struct Book<C: Chronicle, H: House> {
 }
 
 impl<C: Chronicle, H: House> Model for Book<C, H> {
+    ghost use Rattle.std.specs.Coded.{codes};
+    ghost use Rattle.radio_core.specs.contracts.server.Core as the_core;
     ghost use Rattle.radio_book.specs.Books.{BookState};
 
     ghost Value = { BookState };
+
+    ghost coded = { Prim.hlevel (codes, the_core.the_row.coded) };
 
     ghost view = { λ b. record { core = b.accounts.story.core; history = C.entries b.accounts.story.chronicle } };
 }
