@@ -1,7 +1,13 @@
 -- Loops over passes and their receipts.
-use Rattle.std.proofs.Common.{◌≡◌, ℕ, ◌+◌, ◌<◌, ◌≤◌, List, [], ◌∷◌, ◌++◌, All, length, get_or, take, sym, ap, subst, ◌∙◌, append-nil}
+use Rattle.std.proofs.Common.{◌≡◌, ℕ, ◌+◌, ◌<◌, ◌≤◌, List, [], ◌∷◌, ◌++◌, All, length, get_or, take, sum_by, sym, ap, subst, ◌∙◌, append-nil}
+use Rattle.std.specs.List.{range_with_len}
+use Rattle.std.specs.List.Sorted.{IsPermutation}
+use Rattle.std.proofs.lemmas.List.{length-map}
+use Rattle.std.proofs.lemmas.List.FromFn.{length-range_with_len}
+use Rattle.std.proofs.lemmas.List.Sorted.{length_permutation}
 use Rattle.std.proofs.lemmas.List.{take_all, take_more}
-use Rattle.std.proofs.lemmas.List.Concat.{flat_map-append}
+use Rattle.std.proofs.lemmas.List.Concat.{flat_map-append, length-flat_map}
+use Rattle.std.proofs.Math.Path.{fun_ext}
 use Rattle.radio_book.specs.Stamp.{Stamp}
 use Rattle.radio_book.specs.Settling.{all_serials, serials}
 
@@ -15,3 +21,11 @@ serials_more passes i d before after below are more =
     more ∙ ap (λ (xs : List ℕ). xs ++ serials (get_or passes i d)) are
     ∙ ap (λ (xs : List ℕ). all_serials (take i passes) ++ xs) (sym (append-nil (serials (get_or passes i d))))
     ∙ sym (ap all_serials (take_more passes i d below) ∙ flat_map-append serials (take i passes) (get_or passes i d ∷ []))
+
+receipts_of_all : (passes : List (List Stamp)) → length (all_serials passes) ≡ sum_by length passes
+receipts_of_all passes =
+    length-flat_map serials passes ∙ ap (λ (f : List Stamp → ℕ). sum_by f passes) (fun_ext (λ (pass : List Stamp). length-map pass (λ (s : Stamp). s.serial)))
+
+-- where each place has one receipt, there are as many places as receipts
+pub totals : (n : ℕ) (passes : List (List Stamp)) → IsPermutation (range_with_len 1 n) (all_serials passes) → n ≡ sum_by length passes
+totals n passes once = sym (length-range_with_len 1 n) ∙ sym (length_permutation (range_with_len 1 n) (all_serials passes) once) ∙ receipts_of_all passes

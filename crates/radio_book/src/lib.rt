@@ -18,6 +18,8 @@ mod pass;
 mod receipt;
 mod settling;
 mod story;
+#[cfg(test)]
+mod tests;
 
 pub use book::{Book, PASSES};
 pub use chronicle::{Chronicle, Kept, Unkept};

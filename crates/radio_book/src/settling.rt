@@ -1,27 +1,31 @@
 //! All passes held against the book.
 
-ghost use Rattle.std.specs.Prelude.{◌≡◌, ◌↔◌, ◌<◌, ◌^◌, ◌∷◌, [], ◌++◌, ℕ, length, IsTrue, IfOk, OnOk, IsPermutation, All};
+ghost use Rattle.std.specs.Prelude.{◌≡◌, ◌↔◌, ◌<◌, ◌^◌, ◌∷◌, [], ◌++◌, ℕ, length, IsTrue, IfOk, OnOk, IsPermutation, All, sum_by};
 ghost use Rattle.std.specs.List.{range_with_len};
 ghost use Rattle.radio_book.specs.History.{IsRun, StandsIn};
 ghost use Rattle.radio_book.specs.Settling.{Rises, all_serials, serials};
 
 use crate::{Book, Entry, House, Kept, OutOfMemory, Pass, Receipt};
 use std::alloc::Global;
-use std::cmp::Ordering;
-use std::fmt;
+use thiserror::Error;
 
 /// What is wrong with the passes of a book.
-#[derive(Clone, Copy, Debug, PartialEq, Eq)]
+#[derive(Clone, Copy, Debug, PartialEq, Eq, Error)]
 pub enum SettleFault {
     /// The entry of the receipt of this serial does not stand there in the book's history.
+    #[error("strange receipt {serial}")]
     Strange { serial: u64 },
     /// Two receipts have this serial.
+    #[error("receipt {serial} twice")]
     Twice { serial: u64 },
     /// In one pass a receipt of the serial `got` comes after one of `seen`, and is not above it.
+    #[error("receipt {got} after {seen}")]
     OutOfOrder { seen: u64, got: u64 },
     /// The book has so many entries, and the passes have so many receipts.
+    #[error("{book} entries, {passes} receipts")]
     Count { book: u64, passes: u64 },
     /// Memory ran out.
+    #[error("out of memory")]
     OutOfMemory,
 }
 
@@ -49,6 +53,7 @@ pub fn settle<H: House>(
     ensures rise { IfOk result (λ history. All (λ pass. Rises 0 (serials pass)) passes.items) }
     // and nothing else stands there: each place has one receipt in all passes together
     ensures once { IfOk result (λ history. IsPermutation (range_with_len 1 (length history.items)) (all_serials passes.items)) }
+    ensures total { IfOk result (λ history. length history.items ≡ sum_by length passes.items) }
 {
     let history = book.into_history();
     let checked = check(alloc, history.as_slice(), passes.as_slice());
@@ -71,6 +76,7 @@ fn check<H: House>(
     ensures stand { OnOk result (All (λ pass. All (StandsIn history.now) pass) passes.now) }
     ensures rise { OnOk result (All (λ pass. Rises 0 (serials pass)) passes.now) }
     ensures once { OnOk result (IsPermutation (range_with_len 1 (length history.now)) (all_serials passes.now)) }
+    ensures total { OnOk result (length history.now ≡ sum_by length passes.now) }
 {
     check_strange(history, passes)?;
     let sorted = sorted_serials(alloc, passes)?;
@@ -91,7 +97,7 @@ fn check_strange<H: House>(history: &[Entry], passes: &[Pass<Kept, H>]) -> Resul
 }
 
 /// Each receipt stands in the history.
-fn check_receipts(history: &[Entry], receipts: &[Receipt]) -> Result<(), SettleFault>
+pub(crate) fn check_receipts(history: &[Entry], receipts: &[Receipt]) -> Result<(), SettleFault>
     ensures { OnOk result (All (StandsIn history.now) receipts.now) }
 {
     for receipt in receipts {
@@ -150,7 +156,7 @@ fn add_serials(all: &mut Vec<u64>, receipts: &[Receipt]) -> Result<(), OutOfMemo
 }
 
 /// No serial stands beside itself.
-fn check_twice(sorted: &[u64]) -> Result<(), SettleFault> {
+pub(crate) fn check_twice(sorted: &[u64]) -> Result<(), SettleFault> {
     for pair in sorted.windows(2) {
         if pair[0] == pair[1] {
             return Err(SettleFault::Twice { serial: pair[0] });
@@ -170,7 +176,7 @@ fn check_order<H: House>(passes: &[Pass<Kept, H>]) -> Result<(), SettleFault>
 }
 
 /// The serials of the receipts rise.
-fn check_rise(receipts: &[Receipt]) -> Result<(), SettleFault>
+pub(crate) fn check_rise(receipts: &[Receipt]) -> Result<(), SettleFault>
     ensures { OnOk result (Rises 0 (serials receipts.now)) }
 {
     let mut seen = 0;

@@ -1,6 +1,6 @@
 //! The lock round a book.
 
-ghost use Rattle.std.specs.Prelude.{◌≡◌, ◌^◌, ◌∷◌, [], ◌++◌, ℕ, length, true, false, IsOk, IfOk, IfSome, OnErr, All, IsPermutation};
+ghost use Rattle.std.specs.Prelude.{◌≡◌, ◌^◌, ◌∷◌, [], ◌++◌, ℕ, length, true, false, IsOk, IfOk, IfSome, OnErr, All, IsPermutation, sum_by};
 ghost use Rattle.std.specs.List.{range_with_len};
 ghost use Rattle.radio_core.specs.World.{opening};
 ghost use Rattle.radio_book.specs.Clients.{is_here};
@@ -79,6 +79,7 @@ pub fn settle<H: House>(
     ensures rise { IfOk result (λ history. All (λ pass. Rises 0 (serials pass)) passes.items) }
     // and nothing else stands there: each place has one receipt in all passes together
     ensures once { IfOk result (λ history. IsPermutation (range_with_len 1 (length history.items)) (all_serials passes.items)) }
+    ensures total { IfOk result (λ history. length history.items ≡ sum_by length passes.items) }
 {
     radio_book::settle(alloc, hall.into_book(), passes)
 }

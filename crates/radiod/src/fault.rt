@@ -1,4 +1,5 @@
-ghost use Rattle.std.specs.Prelude.{◌≡◌};
+ghost use Rattle.std.specs.Prelude.{◌≡◌, ◌++◌, codes};
+ghost use Rattle.std.specs.Fmt.{IsPlainFormatter, WritesOnOk, decimal};
 ghost use Rattle.radiod.specs.FaultLines.{exit_status, settings_status};
 
 use radio_floor::PlayFault;
@@ -32,13 +33,19 @@ impl Fault {
     {
         match self {
             Fault::Usage => 2,
-            Fault::CannotRead(_)
-            | Fault::Line { .. }
-            | Fault::NotText => 3,
+            Fault::CannotRead(_) | Fault::Line { .. } | Fault::NotText => 3,
             Fault::Settings(fault) => settings_status(fault),
             Fault::Play(_) | Fault::OutOfMemory => 1,
         }
     }
+}
+
+/// Writes which line of which file is at fault.
+fn write_line<W: fmt::Write>(f: &mut fmt::Formatter<W>, path: &str, line: usize) -> fmt::Result
+    ensures { IsPlainFormatter f.old → WritesOnOk W.write_str_gives f.old result (path.now ++ (codes " line " ++ decimal line)) f.new }
+{
+    f.write_str(path)?;
+    write!(f, " line {line}")
 }
 
 /// Want of memory is no fault of the settings.
@@ -61,7 +68,7 @@ impl fmt::Display for Fault {
         match self {
             Fault::Usage => f.write_str("usage: radiod play SETTINGS"),
             Fault::CannotRead(path) => write!(f, "cannot read {path}"),
-            Fault::Line { path, line } => write!(f, "{path} line {line}"),
+            Fault::Line { path, line } => write_line(f, path.as_str(), *line),
             Fault::NotText => f.write_str("not toml"),
             Fault::Settings(fault) => write!(f, "{fault}"),
             Fault::Play(fault) => write!(f, "{fault}"),
