@@ -1,5 +1,5 @@
 -- Histories: events with their replies, in the order in which they happened.
-use Rattle.std.specs.Prelude.{◌≡◌, ℕ, ◌-◌, ◌<◌, Bool, true, List, [], ◌∷◌, Some, map, slice_get}
+use Rattle.std.specs.Prelude.{◌≡◌, ◌-◌, ◌<◌, Bool, true, List, [], ◌∷◌, Some, map, slice_get}
 use Rattle.radio_core.specs.declared.event.Event.{Event}
 use Rattle.radio_core.specs.declared.reply.Reply.{Reply}
 use Rattle.radio_core.specs.World.{World}

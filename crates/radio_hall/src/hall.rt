@@ -7,8 +7,8 @@ ghost use Rattle.radio_book.specs.Clients.{is_here};
 ghost use Rattle.radio_book.specs.History.{IsRun, StandsIn};
 ghost use Rattle.radio_book.specs.Settling.{Rises, all_serials, serials};
 
-use radio_book::{Book, Chronicle, Entry, House, Kept, OutOfMemory, Pass, Receipt, SettleFault};
 use radio_access::Lists;
+use radio_book::{Book, Chronicle, Entry, House, Kept, OutOfMemory, Pass, Receipt, SettleFault};
 use radio_core::Event;
 use radio_settings::Settings;
 use std::alloc::Global;

@@ -1,4 +1,4 @@
-use Rattle.std.proofs.Common.{length, sym, subst, rules, ◌≡◌}
+use Rattle.std.proofs.Common.{length, subst, rules, ◌≡◌}
 use Rattle.std.specs.List.{range_with_len}
 use Rattle.std.specs.List.Sorted.{IsPermutation}
 use Rattle.std.proofs.lemmas.List.Sorted.{IsPermutation-sym}

@@ -1,4 +1,4 @@
-use Rattle.std.proofs.Common.{List, sym, ap, ◌∙◌, ◌++◌}
+use Rattle.std.proofs.Common.{List, ap, ◌∙◌, ◌++◌}
 use Rattle.radio_book.specs.Stamp.{Stamp}
 use Rattle.radio_book.specs.Settling.{serials}
 use Rattle.radio_book.proofs.Settled.{serials_more}

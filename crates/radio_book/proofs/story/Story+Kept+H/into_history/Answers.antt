@@ -1,4 +1,3 @@
-use Rattle.std.proofs.Common.{subst, sym}
 use Rattle.radio_book.proofs.Telling.{stored_run}
 use Rattle.radio_book.proofs.story.Story+Kept+H.into_history.Goals as goal
 
