@@ -17,7 +17,7 @@ pub enum State {
 /// How a connection ends.
 #[derive(Clone, Copy, Debug, PartialEq, Eq)]
 pub enum Ending {
-    /// The peer has closed, or has had all that he asked for.
+    /// The peer has closed, or the body that it sent is whole.
     Done,
     /// By this rule.
     By(Rule),
