@@ -2,13 +2,19 @@
 //! memory, and the definitions mean what the rules say, on rows that were worked out by hand.
 //!
 //! - `events`, `rows`, `memory`: events and replies of the core.
-//! - `scripts`: whole scripts, over sound and failing devices; `many`: large ones.
+//! - `scripts`: whole scripts, over sound and failing devices; `cuts`: with a delivery cut in two;
+//!   `many`: large ones.
+//! - `finished`: what a source is told whom a rule has finished.
 #![tactic(auto)]
 
 #[cfg(test)]
 mod calls;
 #[cfg(test)]
+mod cuts;
+#[cfg(test)]
 mod events;
+#[cfg(test)]
+mod finished;
 #[cfg(test)]
 mod many;
 #[cfg(test)]
