@@ -10,11 +10,11 @@ ghost use Rattle.radio_floor.specs.ScriptState.{connection_of, with_connection, 
 ghost use Rattle.radio_floor.specs.ScriptServer.{script_state_of, DoesAs};
 
 use crate::OutOfMemory;
+use radio_access::Lists;
 use radio_addr::Peer;
 use radio_core::{Core, Event, Reply};
 use radio_script::push_answer;
 use radio_session::{Session, State, cores_exchange_as_their_states, exchange};
-use radio_access::Lists;
 use radio_settings::Settings;
 use radio_tables::{Row, Swap, Table};
 use std::alloc::Global;

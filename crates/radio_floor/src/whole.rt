@@ -6,8 +6,8 @@ ghost use Rattle.radio_script.specs.Reading.{reader_failures, writer_failures};
 ghost use Rattle.radio_floor.specs.Transcript.{IsTranscriptOf, PlaysScript};
 
 use crate::script_server::ScriptServer;
-use radio_script::{CountedRead, CountedWrite, Delivery, PlayFault, RunFault, play_with, run_with};
 use radio_access::Lists;
+use radio_script::{CountedRead, CountedWrite, Delivery, PlayFault, RunFault, play_with, run_with};
 use radio_settings::Settings;
 use std::alloc::Global;
 
