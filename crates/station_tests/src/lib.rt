@@ -4,9 +4,12 @@
 //! - `events`, `rows`, `memory`: events and replies of the core.
 //! - `scripts`: whole scripts, over sound and failing devices; `cuts`: with a delivery cut in two;
 //!   `many`: large ones.
+//! - `access`: who is let in, by lists, pairs, types and limits.
 //! - `finished`: what a source is told whom a rule has finished.
 #![tactic(auto)]
 
+#[cfg(test)]
+mod access;
 #[cfg(test)]
 mod calls;
 #[cfg(test)]

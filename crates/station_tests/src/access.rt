@@ -1,0 +1,166 @@
+//! Who is let in: lists, pairs, content types, and how many.
+
+use crate::calls::{Call, core_with_burst};
+use radio_access::{Lists, is_refused_type, is_source_pair};
+use radio_addr::{AddressList, ListFault, read_peer};
+use radio_core::{Core, OutOfMemory, Reply};
+use radio_creds::{Pair, Users, basic};
+use radio_policy::Rule;
+use radio_settings::{MountName, Settings, SettingsFault};
+use std::alloc::Global;
+
+/// The users of `/a`, what a listener sends, and whether he is let in there.
+type UserRow = (&'static [u8], &'static [u8], bool);
+
+const ANN: &[u8] = b"ann:900150983cd24fb0d6963f7d28e17f72\n";
+
+const USERS: &[UserRow] = &[
+    (ANN, b"Basic YW5uOmFiYw==", true),
+    (ANN, b"Basic YW5uOmFiZA==", false),
+    (ANN, b"", false),
+    (b"", b"Basic YW5uOmFiYw==", false),
+    (b"", b"", false),
+];
+
+fn lists_of(alloc: Global, text: &[u8]) -> Result<Lists, OutOfMemory> {
+    let users = Users::read(alloc, text)?;
+    let mut lists = Lists::new(alloc);
+    if let Some(mount) = MountName::read(b"/a") {
+        lists.set_users(mount, users)?;
+    }
+    Ok(lists)
+}
+
+fn lets_in(lists: &Lists, path: &[u8], pair: Option<&Pair>) -> bool {
+    match MountName::read(path) {
+        Some(mount) => lists.lets_in(&mount, pair),
+        None => false,
+    }
+}
+
+/// As the row says at `/a`, and at `/b`, which has no users, whatever he sends.
+fn is_let_in(alloc: Global, row: &UserRow) -> Result<bool, OutOfMemory> {
+    let (text, value, wanted) = *row;
+    let lists = lists_of(alloc, text)?;
+    let pair = basic(alloc, value)?;
+    let there = lets_in(&lists, b"/a", pair.as_ref());
+    Ok(there == wanted && lets_in(&lists, b"/b", pair.as_ref()))
+}
+
+#[test]
+fn users_are_let_in(rt: HostRuntime) -> Result<(), OutOfMemory> {
+    for row in USERS {
+        assert!(rt; is_let_in(rt.alloc(), row)?);
+    }
+    Ok(())
+}
+
+/// A list of addresses, a peer, and whether it has him.
+type AddressRow = (&'static [u8], &'static [u8], bool);
+
+const ADDRESSES: &[AddressRow] = &[
+    (b"10.0.0.0/8", b"::ffff:10.0.0.9", true),
+    (b"10.0.0.0/8", b"11.0.0.1", false),
+    (b"2001:db8::/32", b"2001:db8::1", true),
+    (b"::ffff:10.0.0.0/104", b"10.0.0.9", false),
+    (b"", b"10.0.0.9", false),
+];
+
+/// Denied where the list is the deny list, and allowed where it is the allow list.
+fn is_listed(alloc: Global, row: &AddressRow) -> Result<bool, ListFault> {
+    let (text, peer, wanted) = *row;
+    let mut denies = Lists::new(alloc);
+    denies.deny(AddressList::read(alloc, text)?);
+    let mut allows = Lists::new(alloc);
+    allows.allow(AddressList::read(alloc, text)?);
+    match read_peer(peer) {
+        Some(peer) => Ok(
+            denies.is_denied(peer) == wanted
+                && denies.is_allowed(peer)
+                && allows.is_allowed(peer) == wanted
+                && !allows.is_denied(peer),
+        ),
+        None => Ok(false),
+    }
+}
+
+#[test]
+fn addresses_are_denied_and_allowed(rt: HostRuntime) -> Result<(), ListFault> {
+    for row in ADDRESSES {
+        assert!(rt; is_listed(rt.alloc(), row)?);
+    }
+    Ok(())
+}
+
+const STATION: &str =
+    "source-password = \"hackme\"\nadmin-password = \"letmein\"\n[[mount]]\nmount-name = \"/b\"\npassword = \"bee\"\n";
+
+/// What a source sends, and whether it is the pair of `/a` and of `/b`.
+const PAIRS: &[(&[u8], bool, bool)] = &[
+    (b"Basic c291cmNlOmhhY2ttZQ==", true, false),
+    (b"Basic c291cmNlOmJlZQ==", false, true),
+    (b"Basic YWRtaW46bGV0bWVpbg==", false, false),
+    (b"", false, false),
+];
+
+fn is_pair_at(settings: &Settings, path: &[u8], pair: Option<&Pair>) -> bool {
+    match MountName::read(path) {
+        Some(mount) => is_source_pair(settings, &mount, pair),
+        None => false,
+    }
+}
+
+fn are_pairs(alloc: Global, settings: &Settings) -> Result<bool, OutOfMemory> {
+    for (value, first, second) in PAIRS {
+        let pair = basic(alloc, value)?;
+        if is_pair_at(settings, b"/a", pair.as_ref()) != *first
+            || is_pair_at(settings, b"/b", pair.as_ref()) != *second
+        {
+            return Ok(false);
+        }
+    }
+    Ok(true)
+}
+
+#[test]
+fn sources_send_the_pair_of_their_mount(rt: HostRuntime) -> Result<(), SettingsFault> {
+    let settings = Settings::read(rt.alloc(), STATION)?;
+    assert!(rt; are_pairs(rt.alloc(), &settings)?);
+    Ok(())
+}
+
+const TYPES: &[(&[u8], bool)] = &[
+    (b"Audio/OGG ; x", true),
+    (b"video/webm", true),
+    (b"\taudio/x-matroska;", true),
+    (b"audio/mpeg", false),
+    (b"audio/oggx", false),
+    (b"x;audio/ogg", false),
+    (b"", false),
+];
+
+#[test]
+fn content_types_are_refused(rt: HostRuntime) {
+    for (content_type, refused) in TYPES {
+        assert!(rt; is_refused_type(content_type) == *refused);
+    }
+}
+
+/// How many connections a core of default limits takes in.
+fn admitted(alloc: Global, core: &mut Core) -> Result<Option<u32>, OutOfMemory> {
+    for count in 0..200u32 {
+        match core.step(Call::Arrive.event(alloc)?)? {
+            Reply::Arrived(_) => {}
+            Reply::Deny(Rule::TooManyClients) => return Ok(Some(count)),
+            _ => return Ok(None),
+        }
+    }
+    Ok(None)
+}
+
+#[test]
+fn a_hundred_clients_and_one(rt: HostRuntime) -> Result<(), SettingsFault> {
+    let mut core = core_with_burst(rt.alloc(), 8)?;
+    assert!(rt; admitted(rt.alloc(), &mut core)? == Some(100));
+    Ok(())
+}
