@@ -2,7 +2,7 @@
 
 use crate::calls::{Call, core_with_burst};
 use radio_access::{Lists, is_refused_type, is_source_pair};
-use radio_addr::{AddressList, ListFault, read_peer};
+use radio_addr::{AddressList, ListFault, Peer, read_peer};
 use radio_core::{Core, OutOfMemory, Reply};
 use radio_creds::{Pair, Users, basic};
 use radio_policy::Rule;
@@ -66,22 +66,41 @@ const ADDRESSES: &[AddressRow] = &[
     (b"", b"10.0.0.9", false),
 ];
 
-/// Denied where the list is the deny list, and allowed where it is the allow list.
+fn deny_list(alloc: Global, text: &[u8]) -> Result<Lists, ListFault> {
+    let list = AddressList::read(alloc, text)?;
+    let mut lists = Lists::new(alloc);
+    lists.deny(list);
+    Ok(lists)
+}
+
+fn allow_list(alloc: Global, text: &[u8]) -> Result<Lists, ListFault> {
+    let list = AddressList::read(alloc, text)?;
+    let mut lists = Lists::new(alloc);
+    lists.allow(list);
+    Ok(lists)
+}
+
+/// Denied where the list is the deny list, which allows everybody.
+fn is_denied(alloc: Global, text: &[u8], peer: Peer) -> Result<bool, ListFault> {
+    let lists = deny_list(alloc, text)?;
+    Ok(lists.is_denied(peer) && lists.is_allowed(peer))
+}
+
+/// Allowed where the list is the allow list, which denies nobody.
+fn is_allowed(alloc: Global, text: &[u8], peer: Peer) -> Result<bool, ListFault> {
+    let lists = allow_list(alloc, text)?;
+    Ok(lists.is_allowed(peer) && !lists.is_denied(peer))
+}
+
+/// As the row says, of both kinds of lists.
 fn is_listed(alloc: Global, row: &AddressRow) -> Result<bool, ListFault> {
     let (text, peer, wanted) = *row;
-    let mut denies = Lists::new(alloc);
-    denies.deny(AddressList::read(alloc, text)?);
-    let mut allows = Lists::new(alloc);
-    allows.allow(AddressList::read(alloc, text)?);
-    match read_peer(peer) {
-        Some(peer) => Ok(
-            denies.is_denied(peer) == wanted
-                && denies.is_allowed(peer)
-                && allows.is_allowed(peer) == wanted
-                && !allows.is_denied(peer),
-        ),
-        None => Ok(false),
-    }
+    let Some(peer) = read_peer(peer) else {
+        return Ok(false);
+    };
+    let denied = is_denied(alloc, text, peer)?;
+    let allowed = is_allowed(alloc, text, peer)?;
+    Ok(denied == wanted && allowed == wanted)
 }
 
 #[test]
@@ -96,7 +115,9 @@ const STATION: &str =
     "source-password = \"hackme\"\nadmin-password = \"letmein\"\n[[mount]]\nmount-name = \"/b\"\npassword = \"bee\"\n";
 
 /// What a source sends, and whether it is the pair of `/a` and of `/b`.
-const PAIRS: &[(&[u8], bool, bool)] = &[
+type PairRow = (&'static [u8], bool, bool);
+
+const PAIRS: &[PairRow] = &[
     (b"Basic c291cmNlOmhhY2ttZQ==", true, false),
     (b"Basic c291cmNlOmJlZQ==", false, true),
     (b"Basic YWRtaW46bGV0bWVpbg==", false, false),
@@ -110,22 +131,33 @@ fn is_pair_at(settings: &Settings, path: &[u8], pair: Option<&Pair>) -> bool {
     }
 }
 
-fn are_pairs(alloc: Global, settings: &Settings) -> Result<bool, OutOfMemory> {
-    for (value, first, second) in PAIRS {
-        let pair = basic(alloc, value)?;
-        if is_pair_at(settings, b"/a", pair.as_ref()) != *first
-            || is_pair_at(settings, b"/b", pair.as_ref()) != *second
-        {
-            return Ok(false);
+/// As the row says; a pair that memory does not suffice for is none.
+fn is_pair(alloc: Global, settings: &Settings, row: &PairRow) -> bool {
+    let (value, first, second) = *row;
+    let Ok(pair) = basic(alloc, value) else {
+        return false;
+    };
+    is_pair_at(settings, b"/a", pair.as_ref()) == first
+        && is_pair_at(settings, b"/b", pair.as_ref()) == second
+}
+
+fn are_pairs(alloc: Global, settings: &Settings) -> bool {
+    for row in PAIRS {
+        if !is_pair(alloc, settings, row) {
+            return false;
         }
     }
-    Ok(true)
+    true
+}
+
+fn station_has_its_pairs(alloc: Global) -> Result<bool, SettingsFault> {
+    let settings = Settings::read(alloc, STATION)?;
+    Ok(are_pairs(alloc, &settings))
 }
 
 #[test]
 fn sources_send_the_pair_of_their_mount(rt: HostRuntime) -> Result<(), SettingsFault> {
-    let settings = Settings::read(rt.alloc(), STATION)?;
-    assert!(rt; are_pairs(rt.alloc(), &settings)?);
+    assert!(rt; station_has_its_pairs(rt.alloc())?);
     Ok(())
 }
 
@@ -146,21 +178,32 @@ fn content_types_are_refused(rt: HostRuntime) {
     }
 }
 
-/// How many connections a core of default limits takes in.
-fn admitted(alloc: Global, core: &mut Core) -> Result<Option<u32>, OutOfMemory> {
+/// Whether one more connection is taken in; `None` where memory was refused, or it is denied by another rule.
+fn takes_in(alloc: Global, core: &mut Core) -> Option<bool> {
+    match core.step(Call::Arrive.event(alloc).ok()?).ok()? {
+        Reply::Arrived(_) => Some(true),
+        Reply::Deny(Rule::TooManyClients) => Some(false),
+        _ => None,
+    }
+}
+
+/// How many connections a core takes in before it denies one; `None` where it denies none of 200.
+fn admitted(alloc: Global, core: &mut Core) -> Option<u32> {
     for count in 0..200u32 {
-        match core.step(Call::Arrive.event(alloc)?)? {
-            Reply::Arrived(_) => {}
-            Reply::Deny(Rule::TooManyClients) => return Ok(Some(count)),
-            _ => return Ok(None),
+        if !takes_in(alloc, core)? {
+            return Some(count);
         }
     }
-    Ok(None)
+    None
+}
+
+fn admits_a_hundred(alloc: Global) -> Result<bool, SettingsFault> {
+    let mut core = core_with_burst(alloc, 8)?;
+    Ok(admitted(alloc, &mut core) == Some(100))
 }
 
 #[test]
 fn a_hundred_clients_and_one(rt: HostRuntime) -> Result<(), SettingsFault> {
-    let mut core = core_with_burst(rt.alloc(), 8)?;
-    assert!(rt; admitted(rt.alloc(), &mut core)? == Some(100));
+    assert!(rt; admits_a_hundred(rt.alloc())?);
     Ok(())
 }
