@@ -68,9 +68,10 @@ impl<C: Chronicle, H: House> Book<C, H> {
 
     /// One event, noted with its reply where entries are stored; its receipt.
     ///
-    /// `OutOfMemory` where memory was refused; book and pass are unchanged then. The end of a client
-    /// who was let in through this pass, and has not left through it, is never refused: its entry
-    /// was reserved when he was let in.
+    /// `OutOfMemory` where memory was refused; book and pass are unchanged then. Where entries are
+    /// stored, the end of a client who was let in through this pass, and has not left through it, is
+    /// never refused: its entry was reserved when he was let in. Where they are not, a pass does not
+    /// know whom it let in, and nothing is promised of it.
     pub fn apply(&mut self, pass: &mut Pass<C, H>, event: Event) -> Result<Receipt, OutOfMemory>
         // whatever state the core stands for, the reply is that of a step from it, and the core stands for the state after it
         ensures step { (w : World) → Represents self.old.core w → IfOk result (λ receipt. (receipt.reply ≡ reply_to w event) × Represents self.new.core (world_after w event)) }
@@ -83,7 +84,7 @@ impl<C: Chronicle, H: House> Book<C, H> {
         // where they are not, nothing is noted
         ensures unkept { C.KEEPS ≡ false → (self.new.history ≡ self.old.history) × (pass.new ≡ pass.old) × IfOk result (λ receipt. receipt.serial ≡ 0) }
         ensures err { OnErr result ((self.new ≡ self.old) × (pass.new ≡ pass.old)) }
-        // the end of who was let in through this pass, and has not left through it, is never refused
+        // the end of who was let in by the receipts of this pass, and has not left by them, is never refused
         ensures leave { (id : ℕ) → event ≡ Event.Leave id → is_here id pass.old ≡ true → IsOk result }
     {
         if C::KEEPS {

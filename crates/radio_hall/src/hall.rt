@@ -41,8 +41,9 @@ impl<C: Chronicle, H: House> Hall<C, H> {
 
     /// One event, by [`Book::apply`] under the lock; its receipt.
     ///
-    /// `OutOfMemory` where memory was refused; the book and the pass are unchanged then. The end of
-    /// a client who was let in through this pass, and has not left through it, is never refused.
+    /// `OutOfMemory` where memory was refused; the book and the pass are unchanged then. Where
+    /// entries are stored, the end of a client who was let in through this pass, and has not left
+    /// through it, is never refused.
     pub fn apply<R: Wait>(
         &self,
         rt: &R,
