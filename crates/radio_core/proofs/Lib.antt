@@ -15,3 +15,5 @@ pub mod SeatSteps
 pub mod StretchLemmas
 pub mod StepLemmas
 pub mod ListsLemmas
+pub mod LimitLemmas
+pub mod LimitDenials

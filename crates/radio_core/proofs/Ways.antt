@@ -133,7 +133,7 @@ pub record IsWelcome (found : Found) : Type 0 where
   pub accepts : found.users_accept ≡ true
   pub once : found.user_is_twice ≡ false
 
-abbrev facts_from : Bool → Found → Facts
+abbrev pub facts_from : Bool → Found → Facts
 facts_from known found = record NONE {
   mount_is_known = known;
   users_accept = found.users_accept;
@@ -141,7 +141,7 @@ facts_from known found = record NONE {
   walk_stops = stop_of found;
 }
 
-abbrev rows_by : Bool → Bool → Found → List Row
+abbrev pub rows_by : Bool → Bool → Found → List Row
 rows_by named known found = listen_rows (if named then facts_from known found else NONE) (record { names_a_mount = named })
 
 hears_by : (named known live full accepted twice : Bool)
