@@ -2,6 +2,7 @@
 use Rattle.std.proofs.Common.{◌≡◌, ◌⊎◌, inl, inr, true, false, ℕ, ◌+◌, ◌<◌, ◌≤◌, ◌==◌, Bool, Option, Some, None, List, [], ◌∷◌, ◌++◌, refl, ap, sym, subst, ◌∙◌, arith}
 use Rattle.std.specs.Prelude.{if◌then◌else◌}
 use Rattle.std.proofs.lemmas.Bool.Decides.{nat_tests}
+use Rattle.std.proofs.lemmas.List.{append-nil}
 use Rattle.radio_settings.specs.declared.settings.Settings.{Settings}
 use Rattle.radio_access.specs.Lists.{Lists}
 use Rattle.radio_tables.specs.KeyLaws.{by_number}
@@ -100,14 +101,21 @@ by_own {A} event id own other = by_client (client_in event) refl where
       (λ apart. other (λ h. let both : Some him ≡ Some id = sym e ∙ h in let one : him ≡ id = cc in let itself : (him == id) ≡ true =
       grind (arith, nat_tests) in cc) (ap (is_number id) e ∙ apart))
 
-pub not_of : (event : Event) (id : ℕ) (bytes : List ℕ) → is_number id (client_in event) ≡ false → of_client event id bytes ≡ []
-not_of event id bytes e = rw e refl
+pub not_of : {A : Type 0} (event : Event) (id : ℕ) (brought : List A) → is_number id (client_in event) ≡ false → of_client event id brought ≡ []
+not_of event id brought e = rw e refl
 
-pub nothing_of : (event : Event) (id : ℕ) (bytes : List ℕ) → bytes ≡ [] → of_client event id bytes ≡ []
-nothing_of event id bytes e = either (is_number id (client_in event)) bytes e where
-  either : (b : Bool) (xs : List ℕ) → xs ≡ [] → (if b then xs else []) ≡ []
+pub nothing_of : {A : Type 0} (event : Event) (id : ℕ) (brought : List A) → brought ≡ [] → of_client event id brought ≡ []
+nothing_of {A} event id brought e = either (is_number id (client_in event)) brought e where
+  either : (b : Bool) (xs : List A) → xs ≡ [] → (if b then xs else []) ≡ []
   either true xs none = none
   either false xs none = refl
+
+pub his_own : {A : Type 0} (b : Bool) (brought : List A) → b ≡ true → brought ≡ (if b then brought else [])
+his_own true brought e = refl
+his_own false brought e = cc
+
+pub with_nothing : {A : Type 0} (xs ys : List A) → ys ≡ [] → xs ≡ xs ++ ys
+with_nothing xs ys e = sym (ap (λ zs. xs ++ zs) e ∙ append-nil xs)
 
 module _ (w : World) (s : IsSound w) (event : Event) (id : ℕ) (left : HasLeft w id) where
   still_left : HasLeft (world_after w event) id

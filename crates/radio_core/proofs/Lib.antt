@@ -14,5 +14,6 @@ pub mod ServiceLemmas
 pub mod GoneLemmas
 pub mod SeatSteps
 pub mod StretchLemmas
+pub mod TitleLemmas
 pub mod StepLemmas
 pub mod ListsLemmas

@@ -27,7 +27,7 @@ use Rattle.radio_core.specs.Stream.{data_at, end_of}
 use Rattle.radio_core.specs.Stretches.{between, Sitting, sitting_in, begun_sittings, sittings, AreStretches, StretchesAreWhole}
 use Rattle.radio_core.specs.Ways.{Way, Misplaced, IsFinished, IsDenied, IsRefused, IsAdmitted, Begins, Receives, SetsTitle, TakesSeat, HandsOut, Ends, EndsAndLeaves, Leaves, client_in, IsUndecided}
 use Rattle.radio_core.proofs.FinishLemmas.{undecided_before}
-use Rattle.radio_core.proofs.GoneLemmas.{not_of, nothing_of, last_rises}
+use Rattle.radio_core.proofs.GoneLemmas.{not_of, nothing_of, his_own, with_nothing, last_rises}
 use Rattle.radio_core.proofs.Lookups.{beside_ended, is_over}
 use Rattle.radio_core.proofs.SeatSteps.{SeatStep, Stays, IsHanded, SitsIn, LosesIt, seat_step}
 use Rattle.radio_core.proofs.SoundSessions.{begun_cases, grown_cases}
@@ -195,13 +195,6 @@ record Sent (w : World) (sent : ℕ → List ℕ) : Type 0 where
   pub whole : (mount : List ℕ) (session : Session) → session_of w.house.live mount ≡ Some session → session.stream.bytes ≡ sent session.number
   pub none_yet : (id : ℕ) (peer : Peer) → standing_of w id ≡ Undecided peer → sent id ≡ []
   pub none_above : (id : ℕ) → w.house.last_id < id → sent id ≡ []
-
-with_nothing : (xs ys : List ℕ) → ys ≡ [] → xs ≡ xs ++ ys
-with_nothing xs ys e = sym (ap (λ zs. xs ++ zs) e ∙ append-nil xs)
-
-his_own : (b : Bool) (bytes : List ℕ) → b ≡ true → bytes ≡ (if b then bytes else [])
-his_own true bytes e = refl
-his_own false bytes e = cc
 
 module _ (w : World) (s : IsSound w) (sent : ℕ → List ℕ) (h : Sent w sent) where
   -- only a source brings something

@@ -26,6 +26,7 @@ pub mod Access
 pub mod Admission
 pub mod Handing
 pub mod Stretches
+pub mod TitlesTold
 pub mod Gone
 pub mod Service
 pub mod Others

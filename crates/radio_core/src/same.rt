@@ -19,11 +19,11 @@ impl Event {
             (Event::Arrive { peer: a }, Event::Arrive { peer: b }) => is_same_peer(*a, *b),
             (Event::Source(a), Event::Source(b)) => is_same_source(a, b),
             (Event::Push { id: a, block: x }, Event::Push { id: b, block: y }) => {
-                *a == *b && is_same_bytes(x.as_bytes(), y.as_bytes())
+                are_same(*a, x.as_bytes(), *b, y.as_bytes())
             }
             (Event::SourceEnd { id: a }, Event::SourceEnd { id: b }) => *a == *b,
             (Event::Title { id: a, text: x }, Event::Title { id: b, text: y }) => {
-                *a == *b && is_same_bytes(x.as_slice(), y.as_slice())
+                are_same(*a, x.as_slice(), *b, y.as_slice())
             }
             (Event::Listen(a), Event::Listen(b)) => is_same_listener(a, b),
             (Event::Draw { id: a, room: x }, Event::Draw { id: b, room: y }) => {
@@ -88,6 +88,13 @@ fn is_same_listener(a: &ListenRequest, b: &ListenRequest) -> bool
         && a.wants_metadata == b.wants_metadata
         && is_same_bytes(a.mount.as_slice(), b.mount.as_slice())
         && is_same_pair(&a.pair, &b.pair)
+}
+
+/// Whether the numbers and the bytes are the same.
+fn are_same(a: u64, x: &[u8], b: u64, y: &[u8]) -> bool
+    ensures { IsTrue result ↔ (a ≡ b) × (x.now ≡ y.now) }
+{
+    a == b && is_same_bytes(x, y)
 }
 
 fn is_same_bytes(a: &[u8], b: &[u8]) -> bool
