@@ -4,4 +4,3 @@ mod BodyLemmas
 mod CutLemmas
 mod ExchangeLemmas
 mod LastWordLemmas
-mod NumberLemmas
