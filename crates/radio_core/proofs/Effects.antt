@@ -17,7 +17,7 @@ use Rattle.radio_core.specs.Seats.{seat_of, seat_in}
 use Rattle.radio_core.specs.Sessions.{session_of}
 use Rattle.radio_core.specs.Sound.{IsSound}
 use Rattle.radio_core.specs.Step.{outcome, reply_to, world_after}
-use Rattle.radio_core.specs.Ways.{Way, Misplaced, IsFinished, IsDenied, IsRefused, IsAdmitted, Begins, Receives, TakesSeat, HandsOut, Ends, EndsAndLeaves, Leaves, client_in}
+use Rattle.radio_core.specs.Ways.{Way, Misplaced, IsFinished, IsDenied, IsRefused, IsAdmitted, Begins, Receives, SetsTitle, TakesSeat, HandsOut, Ends, EndsAndLeaves, Leaves, client_in}
 use Rattle.radio_core.proofs.Lookups.{is_over, is_no_listener, beside_left}
 use Rattle.radio_core.proofs.Standings.{Turns, turns_answered, turns_feeding, turns_sitting, turns_forgotten, turns_admitted, listener_seated, stays_hearing}
 use Rattle.radio_core.proofs.SoundEnds.{turns_ended, turns_ended_and_left}
@@ -59,6 +59,7 @@ module _ (w : World) (s : IsSound w) where
   effect_by event o (Begins asked undecided none) = let at = undecided.1 in Acts asked.id (Feeds asked.mount) refl tt
       (turns_feeding w asked.id asked.mount asked.shown (λ u. cc))
   effect_by event o (Receives him mount block feeding) = Same (λ id. refl)
+  effect_by event o (SetsTitle him mount text feeding) = Same (λ id. refl)
   effect_by event o (TakesSeat asked peer session undecided live allowed) =
       Acts asked.id Sits refl tt (turns_sitting w asked.id (first_seat w.house asked peer session) (λ u. cc))
   effect_by event o (HandsOut him room seat session sits has live) =

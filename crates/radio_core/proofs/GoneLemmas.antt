@@ -6,7 +6,7 @@ use Rattle.radio_settings.specs.declared.settings.Settings.{Settings}
 use Rattle.radio_access.specs.Lists.{Lists}
 use Rattle.radio_tables.specs.KeyLaws.{by_number}
 use Rattle.radio_core.specs.declared.event.Event.{Event}
-use Rattle.radio_core.specs.declared.event.Event.TheVariants.{Arrive, Source, Push, SourceEnd, Listen, Draw, Leave}
+use Rattle.radio_core.specs.declared.event.Event.TheVariants.{Arrive, Source, Push, SourceEnd, Title, Listen, Draw, Leave}
 use Rattle.radio_core.specs.declared.outcome.Change.TheVariants.{Nothing, Forget, EndAndLeave}
 use Rattle.radio_core.specs.declared.outcome.Outcome.{Outcome}
 use Rattle.radio_core.specs.declared.reply.Reply.TheVariants.{Stray}
@@ -22,7 +22,7 @@ use Rattle.radio_core.specs.Outcomes.{says}
 use Rattle.radio_core.specs.Run.{world_after_all, run_after}
 use Rattle.radio_core.specs.Sound.{IsSound}
 use Rattle.radio_core.specs.Step.{outcome, reply_to, world_after}
-use Rattle.radio_core.specs.Ways.{Way, Misplaced, IsFinished, IsDenied, IsRefused, IsAdmitted, Begins, Receives, TakesSeat, HandsOut, Ends, EndsAndLeaves, Leaves, client_in}
+use Rattle.radio_core.specs.Ways.{Way, Misplaced, IsFinished, IsDenied, IsRefused, IsAdmitted, Begins, Receives, SetsTitle, TakesSeat, HandsOut, Ends, EndsAndLeaves, Leaves, client_in}
 use Rattle.radio_core.proofs.FinishLemmas.{others_hold}
 use Rattle.radio_core.proofs.ServiceLemmas.{replies_fit}
 use Rattle.radio_core.proofs.SoundRuns.{sound_after, sound_run}
@@ -63,6 +63,7 @@ module _ (w : World) (id : ℕ) (unknown : standing_of w id ≡ Unknown) where
   strays (Source asked) e = rw (his_standing asked.id e) refl
   strays (Push him block) e = rw (his_standing him e) refl
   strays (SourceEnd him) e = rw (his_standing him e) refl
+  strays (Title him text) e = rw (his_standing him e) refl
   strays (Listen asked) e = rw (his_standing asked.id e) refl
   strays (Draw him room) e = rw (his_standing him e) refl
   strays (Leave him) e = rw (his_standing him e) refl
@@ -76,6 +77,7 @@ low_by w event o (IsDenied _ by v nobody) = omega arith
 low_by w event o (IsRefused _ him by v its undecided) = omega arith
 low_by w event o (Begins asked undecided none) = omega arith
 low_by w event o (Receives him mount block feeding) = omega arith
+low_by w event o (SetsTitle him mount text feeding) = omega arith
 low_by w event o (TakesSeat asked peer session undecided live allowed) = omega arith
 low_by w event o (HandsOut him room seat session sits has live) = omega arith
 low_by w event o (Ends him mount feeding) = omega arith

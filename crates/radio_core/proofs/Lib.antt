@@ -3,6 +3,7 @@ pub mod Standings
 pub mod Ways
 pub mod Soundness
 pub mod SoundSessions
+pub mod SoundTitles
 pub mod SoundEnds
 pub mod SoundRuns
 pub mod Effects

@@ -40,7 +40,7 @@ use Rattle.radio_core.specs.Service.{IsTakenIn, IsHanded, Serves}
 use Rattle.radio_core.specs.Sessions.{Session, session_of}
 use Rattle.radio_core.specs.Sound.{IsSound}
 use Rattle.radio_core.specs.Step.{outcome, reply_to, world_after}
-use Rattle.radio_core.specs.Ways.{Way, Misplaced, IsFinished, IsDenied, IsRefused, IsAdmitted, Begins, Receives, TakesSeat, HandsOut, Ends, EndsAndLeaves, Leaves, IsUndecided}
+use Rattle.radio_core.specs.Ways.{Way, Misplaced, IsFinished, IsDenied, IsRefused, IsAdmitted, Begins, Receives, SetsTitle, TakesSeat, HandsOut, Ends, EndsAndLeaves, Leaves, IsUndecided}
 use Rattle.radio_core.proofs.FinishLemmas.{finished_told}
 use Rattle.radio_core.proofs.Standings.{turns_answered, turns_feeding, turns_sitting, turns_admitted}
 use Rattle.radio_core.proofs.Ways.{way_of, found_at_path, may_listen}
@@ -223,6 +223,7 @@ module _ (w : World) (s : IsSound w) where
   fits_by event o (IsDenied _ by v nobody) = record { arrived = λ id d. cc; feeding = λ d. cc; seated = λ interval shown d. cc }
   fits_by event o (IsRefused _ him by v its undecided) = record { arrived = λ id d. cc; feeding = λ d. cc; seated = λ interval shown d. cc }
   fits_by event o (Receives him mount block feeding) = record { arrived = λ id d. cc; feeding = λ d. cc; seated = λ interval shown d. cc }
+  fits_by event o (SetsTitle him mount text feeding) = record { arrived = λ id d. cc; feeding = λ d. cc; seated = λ interval shown d. cc }
   fits_by event o (HandsOut him room seat session sits has live) = record { arrived = λ id d. cc; feeding = λ d. cc; seated = λ interval shown d. cc }
   fits_by event o (Ends him mount feeding) = record { arrived = λ id d. cc; feeding = λ d. cc; seated = λ interval shown d. cc }
   fits_by event o (EndsAndLeaves him mount feeding) = record { arrived = λ id d. cc; feeding = λ d. cc; seated = λ interval shown d. cc }

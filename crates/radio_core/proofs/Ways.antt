@@ -15,7 +15,7 @@ use Rattle.radio_access.specs.Lists.{is_denied, is_allowed, passes, lets_in}
 use Rattle.radio_core.specs.declared.event.SourceRequest.{SourceRequest}
 use Rattle.radio_core.specs.declared.event.ListenRequest.{ListenRequest}
 use Rattle.radio_core.specs.declared.event.Event.{Event}
-use Rattle.radio_core.specs.declared.event.Event.TheVariants.{Arrive, Source, Push, SourceEnd, Listen, Draw, Leave}
+use Rattle.radio_core.specs.declared.event.Event.TheVariants.{Arrive, Source, Push, SourceEnd, Title, Listen, Draw, Leave}
 use Rattle.radio_core.specs.declared.house.House.{House}
 use Rattle.radio_core.specs.declared.outcome.Change.{Change}
 use Rattle.radio_core.specs.declared.outcome.Change.TheVariants.{Nothing, Answer}
@@ -31,13 +31,14 @@ use Rattle.radio_core.specs.Arrive.{arrives, admits_client}
 use Rattle.radio_core.specs.Source.{asks_to_feed, begins}
 use Rattle.radio_core.specs.Push.{delivers, takes_in}
 use Rattle.radio_core.specs.SourceEnd.{stops_feeding}
+use Rattle.radio_core.specs.Title.{sets_title}
 use Rattle.radio_core.specs.Listen.{asks_to_hear, takes_seat}
 use Rattle.radio_core.specs.Draw.{draws, hands_out, hands_out_at}
 use Rattle.radio_core.specs.Leave.{leaves, leaves_from}
 use Rattle.radio_core.specs.Seats.{seat_of}
 use Rattle.radio_core.specs.Sessions.{Session, session_of}
 use Rattle.radio_core.specs.Step.{outcome}
-use Rattle.radio_core.specs.Ways.{Way, Misplaced, IsFinished, IsDenied, IsRefused, IsAdmitted, Begins, Receives, TakesSeat, HandsOut, Ends, EndsAndLeaves, Leaves, client_in, rows_for, IsUndecided}
+use Rattle.radio_core.specs.Ways.{Way, Misplaced, IsFinished, IsDenied, IsRefused, IsAdmitted, Begins, Receives, SetsTitle, TakesSeat, HandsOut, Ends, EndsAndLeaves, Leaves, client_in, rows_for, IsUndecided}
 
 module _ (w : World) (event : Event) where
   by_verdict : (denied : Change) (allowed : Outcome) (v : Verdict) → ((rule : Rule) → v ≡ Denied rule → Way w event (says (Deny rule) denied))
@@ -195,6 +196,7 @@ way_of w (Push id block) =
       feeds_and_asks : (mount : List ℕ) → standing_of w id ≡ Feeds mount → (him : ℕ) → Some id ≡ Some him → IsUndecided w him → ⊥
       feeds_and_asks mount e him h u = let same : id ≡ him = cc in let also : standing_of w id ≡ Undecided u.0 = ap (standing_of w) same ∙ u.1 in cc
 way_of w (SourceEnd id) = by_feeding w (SourceEnd id) id refl _ (λ mount e. Ends id mount e) (standing_of w id) refl
+way_of w (Title id text) = by_feeding w (Title id text) id refl _ (λ mount e. SetsTitle id mount text e) (standing_of w id) refl
 way_of w (Listen asked) =
     by_undecided w (Listen asked) asked.id refl _
     (λ peer e. by_verdict w (Listen asked) (Answer asked.id) (takes_seat w.house asked peer (session_at w.house asked.mount))

@@ -9,6 +9,7 @@ pub mod Arrive
 pub mod Source
 pub mod Push
 pub mod SourceEnd
+pub mod Title
 pub mod Listen
 pub mod Draw
 pub mod Leave

@@ -4,15 +4,16 @@ ghost use Rattle.std.specs.Prelude.{◌≡◌, OnOk, OnErr};
 ghost use Rattle.std.specs.Option.{option_copied};
 ghost use Rattle.radio_core.specs.Sessions.{session_of};
 ghost use Rattle.radio_core.specs.Facts.{session_at, live_end};
-ghost use Rattle.radio_core.specs.Changes.{now_in_state, admitted, begun, received};
+ghost use Rattle.radio_core.specs.Changes.{now_in_state, admitted, begun, received, retitled};
 
 use crate::OutOfMemory;
 use crate::clients::{Client, ClientState, SetState};
-use crate::sessions::{Delivers, Session};
+use crate::sessions::{Delivers, NewTitle, Session};
 use crate::stream::Stream;
 use radio_access::Lists;
 use radio_addr::Peer;
 use radio_blocks::Block;
+use radio_icy::Title;
 use radio_settings::{MountName, Settings, Shown};
 use radio_tables::Table;
 use std::alloc::Global;
@@ -116,5 +117,13 @@ impl House {
     {
         let moment = self.time;
         self.live.try_change(*mount, &Delivers { block, moment })
+    }
+
+    /// The mount's session has this title from now on. It takes no memory.
+    pub(crate) fn set_title(&mut self, mount: &MountName, title: Title)
+        ensures { self.new ≡ retitled self.old mount.now title }
+    {
+        let mut new = NewTitle { title: Some(title) };
+        self.live.swap(*mount, &mut new);
     }
 }

@@ -4,9 +4,9 @@ ghost use Rattle.std.specs.Prelude.{◌≡◌, ◌↔◌, IsTrue};
 
 use crate::data::is_same_data;
 use crate::{Event, ListenRequest, Reply, SourceRequest};
-use bytes::Bytes;
 use radio_addr::Peer;
 use radio_creds::Pair;
+use radio_icy::Title;
 use radio_policy::Rule;
 use radio_settings::Shown;
 
@@ -22,6 +22,9 @@ impl Event {
                 *a == *b && is_same_bytes(x.as_bytes(), y.as_bytes())
             }
             (Event::SourceEnd { id: a }, Event::SourceEnd { id: b }) => *a == *b,
+            (Event::Title { id: a, text: x }, Event::Title { id: b, text: y }) => {
+                *a == *b && is_same_bytes(x.as_slice(), y.as_slice())
+            }
             (Event::Listen(a), Event::Listen(b)) => is_same_listener(a, b),
             (Event::Draw { id: a, room: x }, Event::Draw { id: b, room: y }) => {
                 *a == *b && *x == *y
@@ -125,7 +128,7 @@ fn is_same_shown(a: &Shown, b: &Shown) -> bool
         && is_same_bytes(a.genre.as_bytes(), b.genre.as_bytes())
 }
 
-fn is_same_title(a: &Option<Bytes>, b: &Option<Bytes>) -> bool
+fn is_same_title(a: &Option<Title>, b: &Option<Title>) -> bool
     ensures { IsTrue result ↔ a.now ≡ b.now }
 {
     match (a, b) {
