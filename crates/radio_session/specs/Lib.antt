@@ -2,6 +2,7 @@ pub mod Conversation
 pub mod Pushes
 pub mod Asking
 pub mod Hearing
+pub mod Draws
 pub mod Saying
 pub mod Exchanges
 pub mod Cuts

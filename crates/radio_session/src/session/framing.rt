@@ -111,7 +111,7 @@ fn sized(length: &[u8]) -> Option<Framing>
 }
 
 /// Whether the value of a header is this word, in any case of letters.
-fn is_word(value: Option<&[u8]>, word: &[u8]) -> bool
+pub(super) fn is_word(value: Option<&[u8]>, word: &[u8]) -> bool
     ensures { result ≡ is_word word.now (option_copied value.entry) }
 {
     match value {
