@@ -5,3 +5,4 @@ mod CutLemmas
 mod ExchangeLemmas
 mod LastWordLemmas
 mod NumberLemmas
+mod ToldLemmas

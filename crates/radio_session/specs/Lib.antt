@@ -8,4 +8,5 @@ pub mod Exchanges
 pub mod Cuts
 pub mod Laws
 pub mod LastWords
+pub mod Told
 pub mod Framing
