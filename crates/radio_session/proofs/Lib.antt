@@ -6,3 +6,4 @@ mod ExchangeLemmas
 mod LastWordLemmas
 mod NumberLemmas
 mod ToldLemmas
+mod SentTitleLemmas

@@ -9,4 +9,5 @@ pub mod Cuts
 pub mod Laws
 pub mod LastWords
 pub mod Told
+pub mod SentTitles
 pub mod Framing

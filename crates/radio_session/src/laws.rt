@@ -6,6 +6,7 @@ ghost use Rattle.radio_session.specs.declared.state.Ending.TheVariants.{Done};
 ghost use Rattle.radio_session.specs.LastWords.{DenialsNameTheirRule, RulesWithoutStatusAreSilent, LateDenialsAreSilent, FinishesAreSilent, RefusalsNameTheirRule, WholeBodiesAreDone, FaultyBodiesAreSilent};
 ghost use Rattle.radio_session.specs.Cuts.{CutsDoNotMatter};
 ghost use Rattle.radio_session.specs.Told.{DrawsFollowTheHead, PlainDrawsAreTheirData, JoinedDrawsAreWoven, DrawsAreTakenOutAgain, ExchangesTellReplies};
+ghost use Rattle.radio_session.specs.SentTitles.{TitlesAreSentInTime, NoTitleIsRepeated};
 ghost use Rattle.radio_session.specs.Laws.{HearingIsOne, CoresExchangeAsTheirStates};
 
 use radio_blocks::laws::blocks_are_the_data;
@@ -67,6 +68,9 @@ pub fn listeners_are_told_what_they_draw()
     ensures plain { PlainDrawsAreTheirData }
     // and are woven where one was, each block with the title of the draw that ended its interval
     ensures woven { JoinedDrawsAreWoven }
+    // that title is then the last one sent, and none is sent twice in a row
+    ensures in_time { TitlesAreSentInTime }
+    ensures not_repeated { NoTitleIsRepeated }
     // who takes the metadata out again has the data, and the texts of the titles sent
     ensures taken_out { DrawsAreTakenOutAgain }
     // what goes out for events of the server is what is told of their replies
