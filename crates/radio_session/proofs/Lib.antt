@@ -4,3 +4,5 @@ mod BodyLemmas
 mod CutLemmas
 mod ExchangeLemmas
 mod LastWordLemmas
+mod ToldLemmas
+mod SentTitleLemmas

@@ -8,4 +8,6 @@ pub mod Exchanges
 pub mod Cuts
 pub mod Laws
 pub mod LastWords
+pub mod Told
+pub mod SentTitles
 pub mod Framing
