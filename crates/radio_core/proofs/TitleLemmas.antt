@@ -21,6 +21,7 @@ use Rattle.radio_core.specs.Handing.{of_client}
 use Rattle.radio_core.specs.Run.{world_after_all, run_after}
 use Rattle.radio_core.specs.Sessions.{Session, session_of, without_session}
 use Rattle.radio_core.specs.Sound.{IsSound}
+use Rattle.radio_core.specs.Source.{shown_for}
 use Rattle.radio_core.specs.Step.{outcome, reply_to, world_after}
 use Rattle.radio_core.specs.TitlesTold.{title_in, if_noted, set_at, titles_set, last_title, TitlesAreTold}
 use Rattle.radio_core.specs.Ways.{Way, Misplaced, IsFinished, IsDenied, IsRefused, IsAdmitted, Begins, Receives, SetsTitle, TakesSeat, HandsOut, Ends, EndsAndLeaves, Leaves}
@@ -131,7 +132,7 @@ module _ (w : World) (s : IsSound w) (told : ℕ → List (List ℕ)) (h : Told 
   last_by event o (SetsTitle him mount text feeding) = new_title him mount text feeding
   last_by event o (Receives him mount block feeding) = grown_title him mount block feeding
   last_by event o (Begins asked undecided none) = λ mount session e.
-      begun_cases w s asked.id asked.mount asked.shown undecided.0 undecided.1 none mount session e
+      begun_cases w s asked.id asked.mount (shown_for w.house asked.mount asked.shown) undecided.0 undecided.1 none mount session e
       (λ same one. subst (λ (x : Session). x.title ≡ last_or None (told x.number ++ of_client event x.number [])) one
       (ap (λ xs. last_or None xs) (sym (h.none_yet asked.id undecided.0 undecided.1)
       ∙ with_nothing (told asked.id) (of_client event asked.id []) (nothing_of event asked.id [] refl))))

@@ -183,7 +183,7 @@ way_of w (Arrive peer) =
     (λ rule v. IsDenied (Arrive peer) rule v (λ id e u. cc)) (λ v. IsAdmitted peer v)
 way_of w (Source asked) =
     by_undecided w (Source asked) asked.id refl _
-    (λ peer e. by_verdict w (Source asked) (Answer asked.id) (begins asked) (verdict_in (rows_for w (Source asked)))
+    (λ peer e. by_verdict w (Source asked) (Answer asked.id) (begins w.house asked) (verdict_in (rows_for w (Source asked)))
     (λ rule v. IsRefused (Source asked) asked.id rule v refl (peer, e))
     (λ v. Begins asked (peer, e) (may_begin w asked v)))
     (standing_of w asked.id) refl
