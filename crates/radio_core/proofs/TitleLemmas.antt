@@ -29,6 +29,7 @@ use Rattle.radio_core.proofs.AccessLemmas.{access_holds}
 use Rattle.radio_core.proofs.FinishLemmas.{undecided_before}
 use Rattle.radio_core.proofs.GoneLemmas.{not_of, nothing_of, his_own, with_nothing, last_rises}
 use Rattle.radio_core.proofs.ListsLemmas.{lists_run}
+use Rattle.radio_core.proofs.LimitLemmas.{limits_run}
 use Rattle.radio_core.proofs.Lookups.{beside_ended, is_over}
 use Rattle.radio_core.proofs.SoundRuns.{sound_after, sound_opening, sound_run}
 use Rattle.radio_core.proofs.SoundSessions.{begun_cases, grown_cases}
@@ -186,7 +187,7 @@ pub titles_hold : (settings : Settings) (lists : Lists) (events : List Event) (e
 titles_hold settings lists events event bytes title d =
     let w = run_after settings lists events in
     let sound = sound_run settings lists events in
-    let his = access_holds w sound (lists_run settings lists events) event bytes title d in
+    let his = access_holds w sound (lists_run settings lists events) (limits_run settings lists events) event bytes title d in
     let old = sound.seated his.id his.seat his.has_the_seat in
     let both : Some old.session ≡ Some his.session = sym old.is_live ∙ his.is_live in
     let one : old.session ≡ his.session = cc in

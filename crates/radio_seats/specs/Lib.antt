@@ -1,2 +1,4 @@
 pub mod Seats
 pub mod SeatLaws
+pub mod CountLaws
+pub mod Walk
