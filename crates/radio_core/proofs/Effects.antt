@@ -16,8 +16,9 @@ use Rattle.radio_core.specs.Listen.{first_seat}
 use Rattle.radio_seats.specs.Seats.{seat_of, seat_in}
 use Rattle.radio_core.specs.Sessions.{session_of}
 use Rattle.radio_core.specs.Sound.{IsSound}
+use Rattle.radio_core.specs.Source.{shown_for}
 use Rattle.radio_core.specs.Step.{outcome, reply_to, world_after}
-use Rattle.radio_core.specs.Ways.{Way, Misplaced, IsFinished, IsDenied, IsRefused, IsAdmitted, Begins, Receives, TakesSeat, HandsOut, Ends, EndsAndLeaves, Leaves, client_in}
+use Rattle.radio_core.specs.Ways.{Way, Misplaced, IsFinished, IsDenied, IsRefused, IsAdmitted, Begins, Receives, SetsTitle, TakesSeat, HandsOut, Ends, EndsAndLeaves, Leaves, client_in}
 use Rattle.radio_seats.specs.SeatLaws.{is_no_listener, beside_left}
 use Rattle.radio_core.proofs.Lookups.{is_over}
 use Rattle.radio_seats.specs.SeatLaws.{listener_seated}
@@ -59,8 +60,9 @@ module _ (w : World) (s : IsSound w) where
   effect_by event o (IsRefused _ him by v its undecided) = let at = undecided.1 in Acts him Answered its tt (turns_answered w him (λ u. cc))
   effect_by event o (IsAdmitted peer allowed) = Joins peer (may_arrive w peer allowed) refl (turns_admitted w (w.house.last_id + 1) peer)
   effect_by event o (Begins asked undecided none) = let at = undecided.1 in Acts asked.id (Feeds asked.mount) refl tt
-      (turns_feeding w asked.id asked.mount asked.shown (λ u. cc))
+      (turns_feeding w asked.id asked.mount (shown_for w.house asked.mount asked.shown) (λ u. cc))
   effect_by event o (Receives him mount block feeding) = Same (λ id. refl)
+  effect_by event o (SetsTitle him mount text feeding) = Same (λ id. refl)
   effect_by event o (TakesSeat asked peer session undecided live allowed) =
       Acts asked.id Sits refl tt (turns_sitting w asked.id (first_seat w.house asked peer session) (λ u. cc))
   effect_by event o (HandsOut him room seat session sits has live) =

@@ -26,7 +26,7 @@ use Rattle.radio_seats.specs.Walk.{found_at, stop_of}
 use Rattle.radio_core.specs.Sessions.{Session, session_of}
 use Rattle.radio_core.specs.Sound.{IsSound}
 use Rattle.radio_core.specs.Step.{outcome, reply_to, world_after}
-use Rattle.radio_core.specs.Ways.{Way, Misplaced, IsFinished, IsDenied, IsRefused, IsAdmitted, Begins, Receives, TakesSeat, HandsOut, Ends, EndsAndLeaves, Leaves, client_in}
+use Rattle.radio_core.specs.Ways.{Way, Misplaced, IsFinished, IsDenied, IsRefused, IsAdmitted, Begins, Receives, SetsTitle, TakesSeat, HandsOut, Ends, EndsAndLeaves, Leaves, client_in}
 use Rattle.radio_core.proofs.Effects.{Effect, Same, Joins, Acts, Silences, HasActed, effect_of}
 use Rattle.radio_core.proofs.Standings.{Loses, silenced}
 use Rattle.radio_core.proofs.SoundEnds.{sits_no_more}
@@ -208,6 +208,7 @@ told_by w event o (IsRefused _ him by v its undecided) rule d = cc
 told_by w event o (IsAdmitted peer allowed) rule d = cc
 told_by w event o (Begins asked undecided none) rule d = cc
 told_by w event o (Receives him mount block feeding) rule d = cc
+told_by w event o (SetsTitle him mount text feeding) rule d = cc
 told_by w event o (TakesSeat asked peer session undecided live allowed) rule d = cc
 told_by w event o (HandsOut him room seat session sits has live) rule d = cc
 told_by w event o (Ends him mount feeding) rule d = cc

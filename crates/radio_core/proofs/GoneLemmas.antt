@@ -2,11 +2,12 @@
 use Rattle.std.proofs.Common.{◌≡◌, ◌⊎◌, inl, inr, true, false, ℕ, ◌+◌, ◌<◌, ◌≤◌, ◌==◌, Bool, Option, Some, None, List, [], ◌∷◌, ◌++◌, refl, ap, sym, subst, ◌∙◌, arith}
 use Rattle.std.specs.Prelude.{if◌then◌else◌}
 use Rattle.std.proofs.lemmas.Bool.Decides.{nat_tests}
+use Rattle.std.proofs.lemmas.List.{append-nil}
 use Rattle.radio_settings.specs.declared.settings.Settings.{Settings}
 use Rattle.radio_access.specs.Lists.{Lists}
 use Rattle.radio_tables.specs.KeyLaws.{by_number}
 use Rattle.radio_core.specs.declared.event.Event.{Event}
-use Rattle.radio_core.specs.declared.event.Event.TheVariants.{Arrive, Source, Push, SourceEnd, Listen, Draw, Leave}
+use Rattle.radio_core.specs.declared.event.Event.TheVariants.{Arrive, Source, Push, SourceEnd, Title, Listen, Draw, Leave}
 use Rattle.radio_core.specs.declared.outcome.Change.TheVariants.{Nothing, Forget, EndAndLeave}
 use Rattle.radio_core.specs.declared.outcome.Outcome.{Outcome}
 use Rattle.radio_core.specs.declared.reply.Reply.TheVariants.{Stray}
@@ -22,7 +23,7 @@ use Rattle.radio_core.specs.Outcomes.{says}
 use Rattle.radio_core.specs.Run.{world_after_all, run_after}
 use Rattle.radio_core.specs.Sound.{IsSound}
 use Rattle.radio_core.specs.Step.{outcome, reply_to, world_after}
-use Rattle.radio_core.specs.Ways.{Way, Misplaced, IsFinished, IsDenied, IsRefused, IsAdmitted, Begins, Receives, TakesSeat, HandsOut, Ends, EndsAndLeaves, Leaves, client_in}
+use Rattle.radio_core.specs.Ways.{Way, Misplaced, IsFinished, IsDenied, IsRefused, IsAdmitted, Begins, Receives, SetsTitle, TakesSeat, HandsOut, Ends, EndsAndLeaves, Leaves, client_in}
 use Rattle.radio_core.proofs.FinishLemmas.{others_hold}
 use Rattle.radio_core.proofs.ServiceLemmas.{replies_fit}
 use Rattle.radio_core.proofs.SoundRuns.{sound_after, sound_run}
@@ -63,6 +64,7 @@ module _ (w : World) (id : ℕ) (unknown : standing_of w id ≡ Unknown) where
   strays (Source asked) e = rw (his_standing asked.id e) refl
   strays (Push him block) e = rw (his_standing him e) refl
   strays (SourceEnd him) e = rw (his_standing him e) refl
+  strays (Title him text) e = rw (his_standing him e) refl
   strays (Listen asked) e = rw (his_standing asked.id e) refl
   strays (Draw him room) e = rw (his_standing him e) refl
   strays (Leave him) e = rw (his_standing him e) refl
@@ -76,6 +78,7 @@ low_by w event o (IsDenied _ by v nobody) = omega arith
 low_by w event o (IsRefused _ him by v its undecided) = omega arith
 low_by w event o (Begins asked undecided none) = omega arith
 low_by w event o (Receives him mount block feeding) = omega arith
+low_by w event o (SetsTitle him mount text feeding) = omega arith
 low_by w event o (TakesSeat asked peer session undecided live allowed) = omega arith
 low_by w event o (HandsOut him room seat session sits has live) = omega arith
 low_by w event o (Ends him mount feeding) = omega arith
@@ -98,14 +101,21 @@ by_own {A} event id own other = by_client (client_in event) refl where
       (λ apart. other (λ h. let both : Some him ≡ Some id = sym e ∙ h in let one : him ≡ id = cc in let itself : (him == id) ≡ true =
       grind (arith, nat_tests) in cc) (ap (is_number id) e ∙ apart))
 
-pub not_of : (event : Event) (id : ℕ) (bytes : List ℕ) → is_number id (client_in event) ≡ false → of_client event id bytes ≡ []
-not_of event id bytes e = rw e refl
+pub not_of : {A : Type 0} (event : Event) (id : ℕ) (brought : List A) → is_number id (client_in event) ≡ false → of_client event id brought ≡ []
+not_of event id brought e = rw e refl
 
-pub nothing_of : (event : Event) (id : ℕ) (bytes : List ℕ) → bytes ≡ [] → of_client event id bytes ≡ []
-nothing_of event id bytes e = either (is_number id (client_in event)) bytes e where
-  either : (b : Bool) (xs : List ℕ) → xs ≡ [] → (if b then xs else []) ≡ []
+pub nothing_of : {A : Type 0} (event : Event) (id : ℕ) (brought : List A) → brought ≡ [] → of_client event id brought ≡ []
+nothing_of {A} event id brought e = either (is_number id (client_in event)) brought e where
+  either : (b : Bool) (xs : List A) → xs ≡ [] → (if b then xs else []) ≡ []
   either true xs none = none
   either false xs none = refl
+
+pub his_own : {A : Type 0} (b : Bool) (brought : List A) → b ≡ true → brought ≡ (if b then brought else [])
+his_own true brought e = refl
+his_own false brought e = cc
+
+pub with_nothing : {A : Type 0} (xs ys : List A) → ys ≡ [] → xs ≡ xs ++ ys
+with_nothing xs ys e = sym (ap (λ zs. xs ++ zs) e ∙ append-nil xs)
 
 module _ (w : World) (s : IsSound w) (event : Event) (id : ℕ) (left : HasLeft w id) where
   still_left : HasLeft (world_after w event) id

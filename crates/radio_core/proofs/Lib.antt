@@ -3,6 +3,7 @@ pub mod Standings
 pub mod Ways
 pub mod Soundness
 pub mod SoundSessions
+pub mod SoundTitles
 pub mod SoundEnds
 pub mod SoundRuns
 pub mod Effects
@@ -13,6 +14,7 @@ pub mod ServiceLemmas
 pub mod GoneLemmas
 pub mod SeatSteps
 pub mod StretchLemmas
+pub mod TitleLemmas
 pub mod StepLemmas
 pub mod ListsLemmas
 pub mod LimitLemmas

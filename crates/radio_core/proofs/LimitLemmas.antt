@@ -36,7 +36,7 @@ use Rattle.radio_core.specs.Run.{world_after_all, run_after}
 use Rattle.radio_core.specs.Sessions.{Session, session_of}
 use Rattle.radio_core.specs.Sound.{IsSound}
 use Rattle.radio_core.specs.Step.{outcome, world_after}
-use Rattle.radio_core.specs.Ways.{Way, Misplaced, IsFinished, IsDenied, IsRefused, IsAdmitted, Begins, Receives, TakesSeat, HandsOut, Ends, EndsAndLeaves, Leaves}
+use Rattle.radio_core.specs.Ways.{Way, Misplaced, IsFinished, IsDenied, IsRefused, IsAdmitted, Begins, Receives, SetsTitle, TakesSeat, HandsOut, Ends, EndsAndLeaves, Leaves}
 use Rattle.radio_core.specs.World.{World, opening, standing_of}
 use Rattle.radio_core.proofs.Lookups.{found_named}
 use Rattle.radio_core.proofs.SoundRuns.{sound_after, sound_opening}
@@ -135,6 +135,7 @@ module _ (w : World) (s : IsSound w) (l : IsWithinLimits w) where
   within_by event o (IsAdmitted peer allowed) = within_still (changed w o.change) refl (nobody_came w.seats)
   within_by event o (Begins asked undecided none) = within_still (changed w o.change) refl (nobody_came w.seats)
   within_by event o (Receives him mount block feeding) = within_still (changed w o.change) refl (nobody_came w.seats)
+  within_by event o (SetsTitle him mount text feeding) = within_still (changed w o.change) refl (nobody_came w.seats)
   within_by event o (TakesSeat asked peer session undecided live allowed) = within_seated asked peer session undecided live (may_listen w asked allowed).1
   within_by event o (HandsOut him room old session sits has live) = within_still (changed w o.change) refl (nobody_came_hearing w.seats him _ old has)
   within_by event o (Ends him mount feeding) = within_still (changed w o.change) refl (nobody_came_finishing w.seats mount _)

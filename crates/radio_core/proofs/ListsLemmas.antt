@@ -18,7 +18,7 @@ use Rattle.radio_core.specs.Sessions.{Session, session_of}
 use Rattle.radio_core.specs.Sound.{IsSound}
 use Rattle.radio_core.specs.Step.{outcome, world_after}
 use Rattle.radio_core.specs.Stream.{data_at}
-use Rattle.radio_core.specs.Ways.{Way, Misplaced, IsFinished, IsDenied, IsRefused, IsAdmitted, Begins, Receives, TakesSeat, HandsOut, Ends, EndsAndLeaves, Leaves}
+use Rattle.radio_core.specs.Ways.{Way, Misplaced, IsFinished, IsDenied, IsRefused, IsAdmitted, Begins, Receives, SetsTitle, TakesSeat, HandsOut, Ends, EndsAndLeaves, Leaves}
 use Rattle.radio_core.specs.World.{World, opening, standing_of}
 use Rattle.radio_core.proofs.FinishLemmas.{undecided_before}
 use Rattle.radio_seats.specs.SeatLaws.{beside_left, is_no_listener}
@@ -90,6 +90,7 @@ module _ (w : World) (s : IsSound w) (k : KeepsLists w) where
   seated_by event o (IsAdmitted peer allowed) id seat h = k.seated id seat h
   seated_by event o (Begins asked undecided none) id seat h = k.seated id seat h
   seated_by event o (Receives him mount block feeding) id seat h = k.seated id seat h
+  seated_by event o (SetsTitle him mount text feeding) id seat h = k.seated id seat h
   seated_by event o (TakesSeat asked peer session undecided live allowed) id seat h =
       seated_new asked peer session undecided live (may_listen w asked allowed).1.accepts id seat h
   seated_by event o (HandsOut him room old session sits has live) id seat h = seated_further him room old session sits has live id seat h
@@ -107,6 +108,7 @@ module _ (w : World) (s : IsSound w) (k : KeepsLists w) where
   same_lists event o (IsAdmitted peer allowed) = refl
   same_lists event o (Begins asked undecided none) = refl
   same_lists event o (Receives him mount block feeding) = refl
+  same_lists event o (SetsTitle him mount text feeding) = refl
   same_lists event o (TakesSeat asked peer session undecided live allowed) = refl
   same_lists event o (HandsOut him room old session sits has live) = refl
   same_lists event o (Ends him mount feeding) = refl

@@ -12,7 +12,7 @@ use Rattle.radio_tables.specs.KeyLaws.{number_is, name_is, find_placed}
 use Rattle.radio_core.specs.declared.clients.Client.{Client}
 use Rattle.radio_core.specs.declared.clients.ClientState.{ClientState}
 use Rattle.radio_core.specs.Clients.{is_client, client_of, with_client, with_state, in_state, without_client}
-use Rattle.radio_core.specs.Sessions.{Session, is_of, session_of, with_session, longer, fed, without_session}
+use Rattle.radio_core.specs.Sessions.{Session, is_of, session_of, with_session, longer, fed, with_title, titled, without_session}
 
 -- a choice whose test is known
 chosen : {X : Type 0} {b : _} (x y : X) → b ≡ true → (if b then x else y) ≡ x
@@ -66,12 +66,19 @@ module _ (live : List Session) (mount other : List ℕ) (apart : bytes_eq mount 
   pub beside_fed : (block : List ℕ) (moment : ℕ) → session_of (fed live mount block moment) other ≡ session_of live other
   beside_fed block moment = find_apart (is_of other) (is_of mount) (longer block moment) (λ x e. (not_named x e, not_named x e)) live
 
+  pub beside_titled : (text : List ℕ) → session_of (titled live mount text) other ≡ session_of live other
+  beside_titled text = find_apart (is_of other) (is_of mount) (with_title (Some text)) (λ x e. (not_named x e, not_named x e)) live
+
   pub beside_ended : session_of (without_session live mount) other ≡ session_of live other
   beside_ended = find_others (is_of other) (is_of mount) not_named live
 
 pub is_longer : (live : List Session) (mount block : List ℕ) (moment : ℕ) (session : Session) → session_of live mount ≡ Some session
     → session_of (fed live mount block moment) mount ≡ Some (longer block moment session)
 is_longer live mount block moment session e = find_same (is_of mount) (longer block moment) (λ x. refl) live session e
+
+pub is_titled : (live : List Session) (mount text : List ℕ) (session : Session) → session_of live mount ≡ Some session
+    → session_of (titled live mount text) mount ≡ Some (with_title (Some text) session)
+is_titled live mount text session e = find_same (is_of mount) (with_title (Some text)) (λ x. refl) live session e
 
 pub is_over : (live : List Session) (mount : List ℕ) → session_of (without_session live mount) mount ≡ None
 is_over live mount = find_removed (is_of mount) (is_of mount) live

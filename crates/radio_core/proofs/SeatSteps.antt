@@ -22,7 +22,7 @@ use Rattle.radio_core.specs.Sound.{IsSound}
 use Rattle.radio_core.specs.Step.{outcome, reply_to, world_after}
 use Rattle.radio_core.specs.Stream.{data_at, end_of}
 use Rattle.radio_core.specs.Stretches.{KeepsItsMount, SeatsKeepTheirMounts}
-use Rattle.radio_core.specs.Ways.{Way, Misplaced, IsFinished, IsDenied, IsRefused, IsAdmitted, Begins, Receives, TakesSeat, HandsOut, Ends, EndsAndLeaves, Leaves, client_in}
+use Rattle.radio_core.specs.Ways.{Way, Misplaced, IsFinished, IsDenied, IsRefused, IsAdmitted, Begins, Receives, SetsTitle, TakesSeat, HandsOut, Ends, EndsAndLeaves, Leaves, client_in}
 use Rattle.radio_core.proofs.GoneLemmas.{not_of, nothing_of}
 use Rattle.radio_seats.specs.SeatLaws.{is_no_listener, beside_left}
 use Rattle.radio_core.proofs.Lookups.{found_named}
@@ -122,6 +122,7 @@ module _ (w : World) (s : IsSound w) (id : ℕ) where
   step_by event o (IsAdmitted peer allowed) = stays [] mine refl refl
   step_by event o (Begins asked undecided none) = stays (of_client event id []) mine (nothing_of event id [] refl) refl
   step_by event o (Receives him mount block feeding) = stays (of_client event id []) mine (nothing_of event id [] refl) refl
+  step_by event o (SetsTitle him mount text feeding) = stays (of_client event id []) mine (nothing_of event id [] refl) refl
   step_by event o (TakesSeat asked peer session undecided live allowed) =
       takes_seat_at asked peer session undecided live (of_client event id []) (nothing_of event id [] refl)
   step_by event o (HandsOut him room seat session sits has live) = hands_at him room seat session sits has live

@@ -32,7 +32,7 @@ use Rattle.radio_core.specs.Sound.{AreRising, IsSeatedIn, IsSound}
 use Rattle.radio_core.specs.Step.{outcome, world_after}
 use Rattle.radio_core.specs.Run.{world_after_all, run_after}
 use Rattle.radio_core.specs.Stream.{end_of, burst_start, data_at}
-use Rattle.radio_core.specs.Ways.{Way, Misplaced, IsFinished, IsDenied, IsRefused, IsAdmitted, Begins, Receives, TakesSeat, HandsOut, Ends, EndsAndLeaves, Leaves}
+use Rattle.radio_core.specs.Ways.{Way, Misplaced, IsFinished, IsDenied, IsRefused, IsAdmitted, Begins, Receives, SetsTitle, TakesSeat, HandsOut, Ends, EndsAndLeaves, Leaves}
 use Rattle.radio_seats.specs.SeatLaws.{beside_left, beside_seated, is_no_listener, has_sat_down}
 use Rattle.radio_core.proofs.Lookups.{found_named, beside_fed, beside_ended, is_longer, is_over, is_new_session, beside_begun}
 use Rattle.radio_core.proofs.Standings.{Turns, Loses, turns_answered, turns_feeding, turns_sitting, turns_forgotten, turns_admitted, stays_hearing, silenced, ended_feeds, feeds_ended}

@@ -1,7 +1,7 @@
 -- one step of the core; the end of a session and of a connection need no memory
 use Rattle.std.proofs.Common.{◌≡◌, ℕ, List, [], ◌∷◌, Result, Ok, Err, OnOk, IfOk, refl, ap, sym, subst, ◌∙◌}
 use Rattle.radio_core.specs.declared.event.Event.{Event}
-use Rattle.radio_core.specs.declared.event.Event.TheVariants.{Arrive, Source, Push, SourceEnd, Listen, Draw, Leave}
+use Rattle.radio_core.specs.declared.event.Event.TheVariants.{Arrive, Source, Push, SourceEnd, Title, Listen, Draw, Leave}
 use Rattle.radio_core.specs.declared.outcome.Outcome.{Outcome}
 use Rattle.radio_core.specs.declared.standing.Standing.{Standing}
 use Rattle.radio_core.specs.declared.standing.Standing.TheVariants.{Unknown, Undecided, Feeds, Sits, Answered, Finished}
@@ -42,6 +42,7 @@ small_outcome w (Leave id) small = leave_by id (standing_of w id)
 small_outcome w (Arrive peer) small = absurd small
 small_outcome w (Source asked) small = absurd small
 small_outcome w (Push id block) small = absurd small
+small_outcome w (Title id text) small = absurd small
 small_outcome w (Listen asked) small = absurd small
 small_outcome w (Draw id room) small = absurd small
 

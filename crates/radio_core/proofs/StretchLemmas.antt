@@ -11,8 +11,8 @@ use Rattle.radio_settings.specs.declared.settings.Settings.{Settings}
 use Rattle.radio_access.specs.Lists.{Lists, passes}
 use Rattle.radio_tables.specs.KeyLaws.{by_number, by_name}
 use Rattle.radio_core.specs.declared.event.Event.{Event}
-use Rattle.radio_core.specs.declared.event.Event.TheVariants.{Push}
-use Rattle.radio_core.specs.declared.outcome.Change.TheVariants.{Receive}
+use Rattle.radio_core.specs.declared.event.Event.TheVariants.{Push, Title}
+use Rattle.radio_core.specs.declared.outcome.Change.TheVariants.{Receive, SetTitle}
 use Rattle.radio_core.specs.declared.outcome.Outcome.{Outcome}
 use Rattle.radio_seats.specs.declared.seat.Seat.{Seat}
 use Rattle.radio_core.specs.declared.standing.Standing.TheVariants.{Unknown, Undecided, Feeds}
@@ -22,15 +22,17 @@ use Rattle.radio_core.specs.Handing.{block_in, is_number, of_client, handed_at, 
 use Rattle.radio_seats.specs.Seats.{seat_of}
 use Rattle.radio_core.specs.Sessions.{Session, session_of, opened, longer, without_session}
 use Rattle.radio_core.specs.Sound.{IsSound}
+use Rattle.radio_core.specs.Source.{shown_for}
 use Rattle.radio_core.specs.Step.{outcome, world_after}
 use Rattle.radio_core.specs.Stream.{data_at, end_of}
 use Rattle.radio_core.specs.Stretches.{between, Sitting, sitting_in, begun_sittings, sittings, AreStretches, StretchesAreWhole}
-use Rattle.radio_core.specs.Ways.{Way, Misplaced, IsFinished, IsDenied, IsRefused, IsAdmitted, Begins, Receives, TakesSeat, HandsOut, Ends, EndsAndLeaves, Leaves, client_in, IsUndecided}
+use Rattle.radio_core.specs.Ways.{Way, Misplaced, IsFinished, IsDenied, IsRefused, IsAdmitted, Begins, Receives, SetsTitle, TakesSeat, HandsOut, Ends, EndsAndLeaves, Leaves, client_in, IsUndecided}
 use Rattle.radio_core.proofs.FinishLemmas.{undecided_before}
-use Rattle.radio_core.proofs.GoneLemmas.{not_of, nothing_of, last_rises}
+use Rattle.radio_core.proofs.GoneLemmas.{not_of, nothing_of, his_own, with_nothing, last_rises}
 use Rattle.radio_core.proofs.Lookups.{beside_ended, is_over}
 use Rattle.radio_core.proofs.SeatSteps.{SeatStep, Stays, IsHanded, SitsIn, LosesIt, seat_step}
 use Rattle.radio_core.proofs.SoundSessions.{begun_cases, grown_cases}
+use Rattle.radio_core.proofs.SoundTitles.{titled_cases}
 use Rattle.radio_core.proofs.SoundRuns.{sound_after, sound_opening}
 use Rattle.radio_core.proofs.Ways.{way_of}
 
@@ -195,13 +197,6 @@ record Sent (w : World) (sent : ℕ → List ℕ) : Type 0 where
   pub none_yet : (id : ℕ) (peer : Peer) → standing_of w id ≡ Undecided peer → sent id ≡ []
   pub none_above : (id : ℕ) → w.house.last_id < id → sent id ≡ []
 
-with_nothing : (xs ys : List ℕ) → ys ≡ [] → xs ≡ xs ++ ys
-with_nothing xs ys e = sym (ap (λ zs. xs ++ zs) e ∙ append-nil xs)
-
-his_own : (b : Bool) (bytes : List ℕ) → b ≡ true → bytes ≡ (if b then bytes else [])
-his_own true bytes e = refl
-his_own false bytes e = cc
-
 module _ (w : World) (s : IsSound w) (sent : ℕ → List ℕ) (h : Sent w sent) where
   -- only a source brings something
   brings_nothing : (event : Event) (o : Outcome) → Way w event o → (id : ℕ) → ((mount : List ℕ) → standing_of w id ≡ Feeds mount → ⊥)
@@ -213,6 +208,7 @@ module _ (w : World) (s : IsSound w) (sent : ℕ → List ℕ) (h : Sent w sent)
   brings_nothing event o (IsDenied _ by v nobody) id not = nothing_of event id [] refl
   brings_nothing event o (IsRefused _ him by v its undecided) id not = nothing_of event id [] refl
   brings_nothing event o (IsAdmitted peer allowed) id not = refl
+  brings_nothing event o (SetsTitle him mount text feeding) id not = nothing_of event id [] refl
   brings_nothing event o (Begins asked undecided none) id not = nothing_of event id [] refl
   brings_nothing event o (TakesSeat asked peer session undecided live allowed) id not = nothing_of event id [] refl
   brings_nothing event o (HandsOut him room seat session sits has live) id not = nothing_of event id [] refl
@@ -262,11 +258,20 @@ module _ (w : World) (s : IsSound w) (sent : ℕ → List ℕ) (h : Sent w sent)
             let itself : (him == session.number) ≡ true = grind (arith, nat_tests) in
             ap (λ xs. xs ++ block) (h.whole mount session found) ∙ ap (λ xs. sent session.number ++ xs) (his_own (him == session.number) block itself)
 
+  titled_whole : (him : ℕ) (mount text : List ℕ) → standing_of w him ≡ Feeds mount → (other : List ℕ) (now : Session)
+      → session_of (changed w (SetTitle mount text)).house.live other ≡ Some now → now.stream.bytes ≡ sent now.number ++ of_client (Title him text) now.number []
+  titled_whole him mount text feeding other now e =
+      titled_cases w s mount text him feeding other now e
+      (λ session same found number one. subst (λ (x : Session). x.stream.bytes ≡ sent x.number ++ of_client (Title him text) x.number []) one
+      (as_it_was (Title him text) other session found))
+      (λ apart found. as_it_was (Title him text) other now found)
+
   whole_by : (event : Event) (o : Outcome) → Way w event o → whole_now event o
   unfolding whole_now
   whole_by event o (Receives him mount block feeding) = grown_whole him mount block feeding
+  whole_by event o (SetsTitle him mount text feeding) = titled_whole him mount text feeding
   whole_by event o (Begins asked undecided none) = λ mount session e.
-      begun_cases w s asked.id asked.mount asked.shown undecided.0 undecided.1 none mount session e
+      begun_cases w s asked.id asked.mount (shown_for w.house asked.mount asked.shown) undecided.0 undecided.1 none mount session e
       (λ same one. subst (λ (x : Session). x.stream.bytes ≡ sent x.number ++ of_client event x.number []) one
       (sym (h.none_yet asked.id undecided.0 undecided.1) ∙ with_nothing (sent asked.id) (of_client event asked.id []) (nothing_of event asked.id [] refl)))
       (λ old. as_it_was event mount session old)

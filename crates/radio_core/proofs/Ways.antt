@@ -16,7 +16,7 @@ use Rattle.radio_access.specs.Lists.{passes}
 use Rattle.radio_core.specs.declared.event.SourceRequest.{SourceRequest}
 use Rattle.radio_core.specs.declared.event.ListenRequest.{ListenRequest}
 use Rattle.radio_core.specs.declared.event.Event.{Event}
-use Rattle.radio_core.specs.declared.event.Event.TheVariants.{Arrive, Source, Push, SourceEnd, Listen, Draw, Leave}
+use Rattle.radio_core.specs.declared.event.Event.TheVariants.{Arrive, Source, Push, SourceEnd, Title, Listen, Draw, Leave}
 use Rattle.radio_core.specs.declared.house.House.{House}
 use Rattle.radio_core.specs.declared.outcome.Change.{Change}
 use Rattle.radio_core.specs.declared.outcome.Change.TheVariants.{Nothing, Answer}
@@ -34,13 +34,14 @@ use Rattle.radio_core.specs.Arrive.{arrives, admits_client}
 use Rattle.radio_core.specs.Source.{asks_to_feed, begins}
 use Rattle.radio_core.specs.Push.{delivers, takes_in}
 use Rattle.radio_core.specs.SourceEnd.{stops_feeding}
+use Rattle.radio_core.specs.Title.{sets_title}
 use Rattle.radio_core.specs.Listen.{asks_to_hear, takes_seat}
 use Rattle.radio_core.specs.Draw.{draws, hands_out, hands_out_at}
 use Rattle.radio_core.specs.Leave.{leaves, leaves_from}
 use Rattle.radio_seats.specs.Seats.{seat_of}
 use Rattle.radio_core.specs.Sessions.{Session, session_of}
 use Rattle.radio_core.specs.Step.{outcome}
-use Rattle.radio_core.specs.Ways.{Way, Misplaced, IsFinished, IsDenied, IsRefused, IsAdmitted, Begins, Receives, TakesSeat, HandsOut, Ends, EndsAndLeaves, Leaves, client_in, rows_for, IsUndecided}
+use Rattle.radio_core.specs.Ways.{Way, Misplaced, IsFinished, IsDenied, IsRefused, IsAdmitted, Begins, Receives, SetsTitle, TakesSeat, HandsOut, Ends, EndsAndLeaves, Leaves, client_in, rows_for, IsUndecided}
 
 module _ (w : World) (event : Event) where
   by_verdict : (denied : Change) (allowed : Outcome) (v : Verdict) → ((rule : Rule) → v ≡ Denied rule → Way w event (says (Deny rule) denied))
@@ -204,7 +205,7 @@ way_of w (Arrive peer) =
     (λ rule v. IsDenied (Arrive peer) rule v (λ id e u. cc)) (λ v. IsAdmitted peer v)
 way_of w (Source asked) =
     by_undecided w (Source asked) asked.id refl _
-    (λ peer e. by_verdict w (Source asked) (Answer asked.id) (begins asked) (verdict_in (rows_for w (Source asked)))
+    (λ peer e. by_verdict w (Source asked) (Answer asked.id) (begins w.house asked) (verdict_in (rows_for w (Source asked)))
     (λ rule v. IsRefused (Source asked) asked.id rule v refl (peer, e))
     (λ v. Begins asked (peer, e) (may_begin w asked v)))
     (standing_of w asked.id) refl
@@ -217,6 +218,7 @@ way_of w (Push id block) =
       feeds_and_asks : (mount : List ℕ) → standing_of w id ≡ Feeds mount → (him : ℕ) → Some id ≡ Some him → IsUndecided w him → ⊥
       feeds_and_asks mount e him h u = let same : id ≡ him = cc in let also : standing_of w id ≡ Undecided u.0 = ap (standing_of w) same ∙ u.1 in cc
 way_of w (SourceEnd id) = by_feeding w (SourceEnd id) id refl _ (λ mount e. Ends id mount e) (standing_of w id) refl
+way_of w (Title id text) = by_feeding w (Title id text) id refl _ (λ mount e. SetsTitle id mount text e) (standing_of w id) refl
 way_of w (Listen asked) =
     by_undecided w (Listen asked) asked.id refl _
     (λ peer e. by_verdict w (Listen asked) (Answer asked.id) (takes_seat w.house asked peer (session_at w.house asked.mount))

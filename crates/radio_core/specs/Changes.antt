@@ -8,9 +8,9 @@ use Rattle.radio_core.specs.declared.clients.ClientState.TheVariants.{Feeds, Lis
 use Rattle.radio_core.specs.declared.house.House.{House}
 use Rattle.radio_seats.specs.declared.seat.Seat.{Seat}
 use Rattle.radio_core.specs.declared.outcome.Change.{Change}
-use Rattle.radio_core.specs.declared.outcome.Change.TheVariants.{Nothing, Answer, Admit, Begin, Receive, TakeSeat, Advance, End, EndAndLeave, Forget}
+use Rattle.radio_core.specs.declared.outcome.Change.TheVariants.{Nothing, Answer, Admit, Begin, Receive, SetTitle, TakeSeat, Advance, End, EndAndLeave, Forget}
 use Rattle.radio_core.specs.Clients.{newcomer, with_client, in_state, without_client}
-use Rattle.radio_core.specs.Sessions.{opened, with_session, fed, without_session}
+use Rattle.radio_core.specs.Sessions.{opened, with_session, fed, titled, without_session}
 use Rattle.radio_seats.specs.Seats.{with_seat, with_place, finished_at, without_listener}
 use Rattle.radio_core.specs.World.{World}
 
@@ -34,6 +34,10 @@ begun house id mount shown = record house {
 abbrev pub received : House → List ℕ → List ℕ → House
 received house mount block = record house { live = fed house.live mount block house.time }
 
+-- the mount's session has this title
+abbrev pub retitled : House → List ℕ → List ℕ → House
+retitled house mount title = record house { live = titled house.live mount title }
+
 -- the mount's session has ended; its listeners have finished, since the mount is not live any more
 abbrev pub session_ended : World → List ℕ → World
 session_ended w mount = record { house = record w.house { live = without_session w.house.live mount }; seats = finished_at w.seats mount NotLive }
@@ -48,6 +52,7 @@ changed w (Answer id) = record w { house = now_in_state w.house id Answered }
 changed w (Admit id peer) = record w { house = admitted w.house id peer }
 changed w (Begin id mount shown) = record w { house = begun w.house id mount shown }
 changed w (Receive mount block) = record w { house = received w.house mount block }
+changed w (SetTitle mount title) = record w { house = retitled w.house mount title }
 changed w (TakeSeat id seat) = record { house = now_in_state w.house id Listens; seats = with_seat w.seats id seat }
 changed w (Advance id place) = record w { seats = with_place w.seats id place }
 changed w (End id mount) = let after = session_ended w mount in record after { house = now_in_state after.house id Answered }

@@ -23,9 +23,9 @@ abbrev pub is_number : ℕ → Option ℕ → Bool
 is_number id None = false
 is_number id (Some him) = him == id
 
--- the bytes, where the event is of the client of this number
-abbrev pub of_client : Event → ℕ → List ℕ → List ℕ
-of_client event id bytes = (if is_number id (client_in event) then bytes else [])
+-- what an event brings, where it is of the client of this number
+abbrev pub of_client : {A : Type 0} → Event → ℕ → List A → List A
+of_client event id brought = (if is_number id (client_in event) then brought else [])
 
 -- what an event hands to the listener
 abbrev pub handed_at : World → Event → ℕ → List ℕ

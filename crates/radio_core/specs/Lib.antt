@@ -8,6 +8,7 @@ pub mod Arrive
 pub mod Source
 pub mod Push
 pub mod SourceEnd
+pub mod Title
 pub mod Listen
 pub mod Draw
 pub mod Leave
@@ -25,6 +26,7 @@ pub mod Access
 pub mod Admission
 pub mod Handing
 pub mod Stretches
+pub mod TitlesTold
 pub mod Gone
 pub mod Service
 pub mod Others

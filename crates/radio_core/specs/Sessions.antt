@@ -1,5 +1,5 @@
 -- The live mounts' sessions.
-use Rattle.std.specs.Prelude.{ℕ, Bool, List, Option, None, find, filter, not}
+use Rattle.std.specs.Prelude.{ℕ, Bool, List, Option, Some, None, find, filter, not}
 use Rattle.std.specs.declared.cmp.Ordering.{Ordering}
 use Rattle.std.specs.Cmp.Lexicographic.{slice_cmp}
 use Rattle.std.specs.Ordering.{nat_cmp}
@@ -47,6 +47,14 @@ longer block moment session = record session { stream = with_block session.strea
 -- the mount's session has delivered it
 abbrev pub fed : List Session → List ℕ → List ℕ → ℕ → List Session
 fed live mount block moment = update_first (is_of mount) (longer block moment) live
+
+-- a session that has this title, or none
+abbrev pub with_title : Option (List ℕ) → Session → Session
+with_title title session = record session { title = title }
+
+-- the mount's session has this title
+abbrev pub titled : List Session → List ℕ → List ℕ → List Session
+titled live mount title = update_first (is_of mount) (with_title (Some title)) live
 
 -- the mount's session has ended
 abbrev pub without_session : List Session → List ℕ → List Session

@@ -1,16 +1,17 @@
 -- One event of the server.
 use Rattle.std.specs.Prelude.{◌≡◌}
 use Rattle.radio_core.specs.declared.event.Event.{Event}
-use Rattle.radio_core.specs.declared.event.Event.TheVariants.{Arrive, Source, Push, SourceEnd, Listen, Draw, Leave}
+use Rattle.radio_core.specs.declared.event.Event.TheVariants.{Arrive, Source, Push, SourceEnd, Title, Listen, Draw, Leave}
 use Rattle.radio_core.specs.declared.reply.Reply.{Reply}
 use Rattle.radio_core.specs.declared.outcome.Change.{Change}
-use Rattle.radio_core.specs.declared.outcome.Change.TheVariants.{Nothing, Answer, Advance, End, EndAndLeave, Forget}
+use Rattle.radio_core.specs.declared.outcome.Change.TheVariants.{Nothing, Answer, SetTitle, Advance, End, EndAndLeave, Forget}
 use Rattle.radio_core.specs.declared.outcome.Outcome.{Outcome}
 use Rattle.radio_core.specs.World.{World}
 use Rattle.radio_core.specs.Arrive.{arrives}
 use Rattle.radio_core.specs.Source.{asks_to_feed}
 use Rattle.radio_core.specs.Push.{delivers}
 use Rattle.radio_core.specs.SourceEnd.{stops_feeding}
+use Rattle.radio_core.specs.Title.{sets_title}
 use Rattle.radio_core.specs.Listen.{asks_to_hear}
 use Rattle.radio_core.specs.Draw.{draws}
 use Rattle.radio_core.specs.Leave.{leaves}
@@ -22,6 +23,7 @@ outcome w (Arrive peer) = arrives w peer
 outcome w (Source asked) = asks_to_feed w asked
 outcome w (Push id block) = delivers w id block
 outcome w (SourceEnd id) = stops_feeding w id
+outcome w (Title id text) = sets_title w id text
 outcome w (Listen asked) = asks_to_hear w asked
 outcome w (Draw id room) = draws w id room
 outcome w (Leave id) = leaves w id
@@ -45,6 +47,7 @@ Represents core w = core ≡ w
 abbrev pub NeedsNoMemory : Change → Type 0
 NeedsNoMemory Nothing = Unit {0}
 NeedsNoMemory (Answer id) = Unit {0}
+NeedsNoMemory (SetTitle mount title) = Unit {0}
 NeedsNoMemory (Advance id place) = Unit {0}
 NeedsNoMemory (End id mount) = Unit {0}
 NeedsNoMemory (EndAndLeave id mount) = Unit {0}

@@ -8,9 +8,9 @@ use Rattle.radio_addr.specs.declared.peer.Peer.{Peer}
 use Rattle.radio_core.specs.declared.event.SourceRequest.{SourceRequest}
 use Rattle.radio_core.specs.declared.event.ListenRequest.{ListenRequest}
 use Rattle.radio_core.specs.declared.event.Event.{Event}
-use Rattle.radio_core.specs.declared.event.Event.TheVariants.{Arrive, Source, Push, SourceEnd, Listen, Draw, Leave}
+use Rattle.radio_core.specs.declared.event.Event.TheVariants.{Arrive, Source, Push, SourceEnd, Title, Listen, Draw, Leave}
 use Rattle.radio_core.specs.declared.house.House.{House}
-use Rattle.radio_core.specs.declared.outcome.Change.TheVariants.{Nothing, Answer, Admit, Receive, TakeSeat, Advance, End, EndAndLeave, Forget}
+use Rattle.radio_core.specs.declared.outcome.Change.TheVariants.{Nothing, Answer, Admit, Receive, SetTitle, TakeSeat, Advance, End, EndAndLeave, Forget}
 use Rattle.radio_core.specs.declared.outcome.Outcome.{Outcome}
 use Rattle.radio_core.specs.declared.reply.Reply.TheVariants.{Arrived, Seated, Drawn, Noted, Deny, Finished, Stray}
 use Rattle.radio_seats.specs.declared.seat.Seat.{Seat}
@@ -31,6 +31,7 @@ client_in (Arrive peer) = None
 client_in (Source asked) = Some asked.id
 client_in (Push id block) = Some id
 client_in (SourceEnd id) = Some id
+client_in (Title id text) = Some id
 client_in (Listen asked) = Some asked.id
 client_in (Draw id room) = Some id
 client_in (Leave id) = Some id
@@ -65,8 +66,9 @@ pub data Way (w : World) : Event → Outcome → Type 0 where
   IsRefused : (event : Event) (id : ℕ) (rule : Rule) → verdict_in (rows_for w event) ≡ Denied rule → client_in event ≡ Some id → IsUndecided w id
       → Way w event (says (Deny rule) (Answer id))
   IsAdmitted : (peer : Peer) → verdict_in (rows_to_arrive w.house peer) ≡ Allow → Way w (Arrive peer) (says (Arrived (w.house.last_id + 1)) (Admit (w.house.last_id + 1) peer))
-  Begins : (asked : SourceRequest) → IsUndecided w asked.id → (session_of w.house.live asked.mount ≡ None) → Way w (Source asked) (begins asked)
+  Begins : (asked : SourceRequest) → IsUndecided w asked.id → (session_of w.house.live asked.mount ≡ None) → Way w (Source asked) (begins w.house asked)
   Receives : (id : ℕ) (mount block : List ℕ) → standing_of w id ≡ Feeds mount → Way w (Push id block) (says Noted (Receive mount block))
+  SetsTitle : (id : ℕ) (mount text : List ℕ) → standing_of w id ≡ Feeds mount → Way w (Title id text) (says Noted (SetTitle mount text))
   TakesSeat : (asked : ListenRequest) (peer : Peer) (session : Session) → standing_of w asked.id ≡ Undecided peer
       → session_of w.house.live asked.mount ≡ Some session → verdict_in (rows_to_listen w asked) ≡ Allow
       → Way w (Listen asked)

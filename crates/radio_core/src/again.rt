@@ -21,6 +21,10 @@ impl Event {
                 block: block.share()?,
             }),
             Event::SourceEnd { id } => Ok(Event::SourceEnd { id: *id }),
+            Event::Title { id, text } => Ok(Event::Title {
+                id: *id,
+                text: text.clone()?,
+            }),
             Event::Listen(asked) => Ok(Event::Listen(listen_again(asked)?)),
             Event::Draw { id, room } => Ok(Event::Draw {
                 id: *id,

@@ -4,6 +4,7 @@ use bytes::Bytes;
 use radio_addr::Peer;
 use radio_blocks::Block;
 use radio_creds::Pair;
+use radio_icy::Title;
 use radio_settings::Shown;
 
 /// What a client sends who wants to feed a mount.
@@ -43,6 +44,8 @@ pub enum Event {
     Push { id: u64, block: Block },
     /// The source has come to the end of its data.
     SourceEnd { id: u64 },
+    /// The source tells what is on the air from now on.
+    Title { id: u64, text: Title },
     /// A client wants to hear a mount.
     Listen(ListenRequest),
     /// The listener has room for so many bytes of data.

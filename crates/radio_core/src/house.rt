@@ -1,19 +1,21 @@
 //! All of the server's state but the table of listeners.
 
-ghost use Rattle.std.specs.Prelude.{◌≡◌, OnOk, OnErr};
+ghost use Rattle.std.specs.Prelude.{◌≡◌, unwrap_or, IfOk, OnOk, OnErr};
 ghost use Rattle.std.specs.Option.{option_copied};
 ghost use Rattle.radio_core.specs.Sessions.{session_of};
 ghost use Rattle.radio_core.specs.Facts.{session_at, live_end};
-ghost use Rattle.radio_core.specs.Changes.{now_in_state, admitted, begun, received};
+ghost use Rattle.radio_core.specs.Source.{shown_for};
+ghost use Rattle.radio_core.specs.Changes.{now_in_state, admitted, begun, received, retitled};
 
 use crate::OutOfMemory;
 use crate::clients::{Client, ClientState, SetState};
-use crate::sessions::{Delivers, Session};
+use crate::sessions::{Delivers, NewTitle, Session};
 use crate::stream::Stream;
 use radio_access::Lists;
 use radio_addr::Peer;
 use radio_blocks::Block;
-use radio_settings::{MountName, Settings, Shown};
+use radio_icy::Title;
+use radio_settings::{Field, MountName, Settings, Shown};
 use radio_tables::Table;
 use std::alloc::Global;
 
@@ -59,6 +61,19 @@ impl House {
             Some(session) => session.stream.end(),
             None => 0,
         }
+    }
+
+    /// What a stream on the mount shows, which itself shows this. `OutOfMemory` where memory was
+    /// refused.
+    pub(crate) fn shown_for(&self, mount: &MountName, shown: &Shown) -> Result<Shown, OutOfMemory>
+        ensures { IfOk result (λ set. set ≡ shown_for self.now mount.now shown.now) }
+    {
+        let stream = &self.settings.options(mount).stream;
+        Ok(Shown {
+            content_type: shown.content_type.clone()?,
+            name: field_or(&stream.stream_name, &shown.name)?,
+            genre: field_or(&stream.genre, &shown.genre)?,
+        })
     }
 
     /// The client of this number does something else from now on.
@@ -116,5 +131,23 @@ impl House {
     {
         let moment = self.time;
         self.live.try_change(*mount, &Delivers { block, moment })
+    }
+
+    /// The mount's session has this title from now on. It takes no memory.
+    pub(crate) fn set_title(&mut self, mount: &MountName, title: Title)
+        ensures { self.new ≡ retitled self.old mount.now title }
+    {
+        let mut new = NewTitle { title: Some(title) };
+        self.live.swap(*mount, &mut new);
+    }
+}
+
+/// The field that is set, or else the other. `OutOfMemory` where memory was refused.
+fn field_or(set: &Option<Field>, other: &Field) -> Result<Field, OutOfMemory>
+    ensures { IfOk result (λ field. field ≡ unwrap_or set.now other.now) }
+{
+    match set {
+        Some(field) => field.clone(),
+        None => other.clone(),
     }
 }

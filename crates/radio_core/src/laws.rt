@@ -15,6 +15,7 @@ ghost use Rattle.radio_core.specs.Limits.{IsWithinLimits, DeniesByLimits};
 ghost use Rattle.radio_core.specs.Admission.{BeginsAtABlock};
 ghost use Rattle.radio_core.specs.Service.{Serves};
 ghost use Rattle.radio_core.specs.Stretches.{StretchesAreWhole, SeatsKeepTheirMounts};
+ghost use Rattle.radio_core.specs.TitlesTold.{TitlesAreTold};
 ghost use Rattle.radio_core.specs.Others.{OthersStandOn, RepliesFit};
 ghost use Rattle.radio_core.specs.Gone.{HasLeft, IsOutOfPlace, StaysGone};
 
@@ -68,6 +69,12 @@ pub fn stretches_are_whole()
     ensures stretches { (settings : Settings) (lists : Lists) (events : List Event) → StretchesAreWhole settings lists events }
     // and through each event a listener who keeps his seat keeps its mount and session, and does not go back
     ensures mounts { (settings : Settings) (lists : Lists) (events : List Event) (event : Event) → SeatsKeepTheirMounts (run_after settings lists events) event }
+{}
+
+/// The law of titles.
+pub fn listeners_are_told_titles()
+    // over every run, whoever is handed data is told the last title that the source has set in whose session he sits, by a title that was noted, or none where it has set none
+    ensures told { (settings : Settings) (lists : Lists) (events : List Event) (event : Event) → TitlesAreTold settings lists events event }
 {}
 
 /// What an event does to its own client, and to others.

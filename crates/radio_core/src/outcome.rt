@@ -3,6 +3,7 @@
 use crate::Reply;
 use radio_addr::Peer;
 use radio_blocks::{Block, Place};
+use radio_icy::Title;
 use radio_policy::Rule;
 use radio_seats::Seat;
 use radio_settings::{MountName, Shown};
@@ -31,6 +32,11 @@ pub(crate) enum Change {
     Receive {
         mount: MountName,
         block: Block,
+    },
+    /// The mount's session has this title from now on.
+    SetTitle {
+        mount: MountName,
+        title: Title,
     },
     /// The client has this seat from now on.
     TakeSeat {

@@ -1,8 +1,8 @@
 //! What the server replies.
 
 use crate::OutOfMemory;
-use bytes::Bytes;
 use radio_blocks::Pieces;
+use radio_icy::Title;
 use radio_policy::Rule;
 use radio_settings::Shown;
 
@@ -24,8 +24,8 @@ pub enum Reply {
     Drawn {
         /// The data.
         pieces: Pieces,
-        /// The title that his mount has now, if it has one.
-        title: Option<Bytes>,
+        /// The title that the source of his mount has set last, if it has set one.
+        title: Option<Title>,
     },
     /// It was done, and there is nothing to say.
     Noted,

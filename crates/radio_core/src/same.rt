@@ -4,9 +4,9 @@ ghost use Rattle.std.specs.Prelude.{◌≡◌, ◌↔◌, IsTrue};
 
 use crate::data::is_same_data;
 use crate::{Event, ListenRequest, Reply, SourceRequest};
-use bytes::Bytes;
 use radio_addr::Peer;
 use radio_creds::Pair;
+use radio_icy::Title;
 use radio_policy::Rule;
 use radio_settings::Shown;
 
@@ -19,9 +19,12 @@ impl Event {
             (Event::Arrive { peer: a }, Event::Arrive { peer: b }) => is_same_peer(*a, *b),
             (Event::Source(a), Event::Source(b)) => is_same_source(a, b),
             (Event::Push { id: a, block: x }, Event::Push { id: b, block: y }) => {
-                *a == *b && is_same_bytes(x.as_bytes(), y.as_bytes())
+                are_same(*a, x.as_bytes(), *b, y.as_bytes())
             }
             (Event::SourceEnd { id: a }, Event::SourceEnd { id: b }) => *a == *b,
+            (Event::Title { id: a, text: x }, Event::Title { id: b, text: y }) => {
+                are_same(*a, x.as_slice(), *b, y.as_slice())
+            }
             (Event::Listen(a), Event::Listen(b)) => is_same_listener(a, b),
             (Event::Draw { id: a, room: x }, Event::Draw { id: b, room: y }) => {
                 *a == *b && *x == *y
@@ -87,6 +90,13 @@ fn is_same_listener(a: &ListenRequest, b: &ListenRequest) -> bool
         && is_same_pair(&a.pair, &b.pair)
 }
 
+/// Whether the numbers and the bytes are the same.
+fn are_same(a: u64, x: &[u8], b: u64, y: &[u8]) -> bool
+    ensures { IsTrue result ↔ (a ≡ b) × (x.now ≡ y.now) }
+{
+    a == b && is_same_bytes(x, y)
+}
+
 fn is_same_bytes(a: &[u8], b: &[u8]) -> bool
     ensures { IsTrue result ↔ a.now ≡ b.now }
 {
@@ -125,7 +135,7 @@ fn is_same_shown(a: &Shown, b: &Shown) -> bool
         && is_same_bytes(a.genre.as_bytes(), b.genre.as_bytes())
 }
 
-fn is_same_title(a: &Option<Bytes>, b: &Option<Bytes>) -> bool
+fn is_same_title(a: &Option<Title>, b: &Option<Title>) -> bool
     ensures { IsTrue result ↔ a.now ≡ b.now }
 {
     match (a, b) {

@@ -29,6 +29,7 @@ mod listen;
 mod push;
 mod source;
 mod source_end;
+mod title;
 
 /// The server's state, seen as a `World`.
 #[derive(Drop)]
@@ -111,9 +112,10 @@ impl Core {
     {
         match event {
             Event::Arrive { peer } => Ok(self.arrive(peer)),
-            Event::Source(asked) => Ok(self.source(asked)),
+            Event::Source(asked) => self.source(asked),
             Event::Push { id, block } => Ok(self.push(id, block)),
             Event::SourceEnd { id } => Ok(self.source_end(id)),
+            Event::Title { id, text } => Ok(self.title(id, text)),
             Event::Listen(asked) => self.listen(asked),
             Event::Draw { id, room } => self.draw(id, room),
             Event::Leave { id } => Ok(self.leave(id)),

@@ -2,11 +2,12 @@
 
 use crate::OutOfMemory;
 use crate::stream::Stream;
-use bytes::Bytes;
 use radio_blocks::Block;
+use radio_icy::Title;
 use radio_settings::{MountName, Shown};
-use radio_tables::{Row, TryChange};
+use radio_tables::{Row, Swap, TryChange};
 use std::marker::Model;
+use std::mem;
 
 /// What a source feeds to a mount, from its admission on.
 #[derive(Drop)]
@@ -16,7 +17,7 @@ pub(crate) struct Session {
     pub(crate) number: u64,
     pub(crate) stream: Stream,
     /// The title of what is on the air, if one was set.
-    pub(crate) title: Option<Bytes>,
+    pub(crate) title: Option<Title>,
     /// What the heads of its listeners show.
     pub(crate) shown: Shown,
     /// The moment of its last block, or of its admission before there is one, in milliseconds.
@@ -67,5 +68,26 @@ impl TryChange<Session> for Delivers {
         row.stream.push(&self.block)?;
         row.last_block = self.moment;
         Ok(())
+    }
+}
+
+/// The session has this title from now on; then it is the title that it had.
+#[derive(Drop)]
+pub(crate) struct NewTitle {
+    pub(crate) title: Option<Title>,
+}
+
+impl Swap<Session> for NewTitle {
+    ghost use Rattle.std.specs.Prelude.{refl};
+    ghost use Rattle.radio_core.specs.Sessions.{with_title};
+
+    ghost gives = { λ swap session. with_title swap.title session };
+
+    ghost takes = { λ swap session. record { title = session.title } };
+
+    ghost keeps_key = { λ swap session. refl };
+
+    fn swap(&mut self, row: &mut Session) {
+        mem::swap(&mut self.title, &mut row.title);
     }
 }

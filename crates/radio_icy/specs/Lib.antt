@@ -7,3 +7,4 @@ pub mod Bare
 pub mod Items
 pub mod Titles
 pub mod Cleaning
+pub mod Sendable

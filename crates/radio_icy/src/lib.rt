@@ -7,7 +7,7 @@
 //! - [`Weaver`] puts a stream's titles into its sound, for one listener.
 //! - [`Unweaver`] takes sound and texts out of such a stream, as [`Item`]s, however the stream is cut.
 //! - [`title_of`] finds the title in a block's text.
-//! - [`clean_title`] and [`clean_field`] make texts from outside fit to be sent.
+//! - [`clean_title`] and [`clean_field`] make texts from outside fit to be sent; a [`Title`] is one that was.
 //! - [`laws`] says what is true of all streams and texts.
 #![tactic(auto)]
 
@@ -15,6 +15,7 @@ mod block;
 mod clean;
 mod items;
 pub mod laws;
+mod sendable;
 mod texts;
 mod title;
 mod unweaver;
@@ -22,6 +23,7 @@ mod weaver;
 
 pub use clean::{clean_field, clean_title};
 pub use items::Item;
+pub use sendable::Title;
 pub use title::title_of;
 pub use unweaver::Unweaver;
 pub use weaver::Weaver;

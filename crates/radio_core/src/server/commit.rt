@@ -25,6 +25,10 @@ impl Core {
             Change::Admit { id, peer } => self.house.admit(id, peer),
             Change::Begin { id, mount, shown } => self.house.begin(self.alloc, id, mount, shown),
             Change::Receive { mount, block } => self.house.receive(&mount, block),
+            Change::SetTitle { mount, title } => {
+                self.house.set_title(&mount, title);
+                Ok(())
+            }
             Change::TakeSeat { id, seat } => self.seat_listener(id, seat),
             Change::Advance { id, place } => {
                 self.seats.advance(id, place);

@@ -1,0 +1,81 @@
+-- what holds of every state of a run holds still when a source has set a title
+use Rattle.std.proofs.Common.{◌≡◌, ◌≤◌, false, ℕ, Option, Some, None, List, refl, ap, sym, subst, ◌∙◌}
+use Rattle.std.specs.Str.{bytes_eq}
+use Rattle.radio_tables.specs.KeyLaws.{by_name}
+use Rattle.radio_core.specs.declared.outcome.Change.TheVariants.{SetTitle}
+use Rattle.radio_core.specs.declared.standing.Standing.TheVariants.{Feeds}
+use Rattle.radio_core.specs.World.{World, standing_of}
+use Rattle.radio_core.specs.Changes.{changed}
+use Rattle.radio_core.specs.Sessions.{Session, session_of, with_title}
+use Rattle.radio_core.specs.Sound.{AreRising, IsSound}
+use Rattle.radio_core.specs.Stream.{WholeStream, end_of}
+use Rattle.radio_core.proofs.Lookups.{beside_titled, is_titled}
+
+-- a session is as it was, but that it may have another title
+pub record IsBut (session now : Session) : Type 0 where
+  pub number : session.number ≡ now.number
+  pub stream : session.stream ≡ now.stream
+
+module _ (w : World) (s : IsSound w) (mount text : List ℕ) (him : ℕ) (feeding : standing_of w him ≡ Feeds mount) where
+  abbrev after_title : World
+  after_title = changed w (SetTitle mount text)
+
+  -- what is live now is the session of the source with this title, or was live as it is
+  pub titled_cases : {A : Type 0} (other : List ℕ) (now : Session) → session_of after_title.house.live other ≡ Some now
+      → ((session : Session) → mount ≡ other → session_of w.house.live other ≡ Some session → session.number ≡ him → with_title (Some text) session ≡ now → A)
+      → (bytes_eq mount other ≡ false → session_of w.house.live other ≡ Some now → A) → A
+  titled_cases {A} other now e new old =
+      by_name mount other here (λ apart. old apart (sym (beside_titled w.house.live mount other apart text) ∙ e)) where
+        here : mount ≡ other → A
+        here same =
+            let ours = s.feeds him mount feeding in
+            let titled_here : session_of after_title.house.live mount ≡ Some (with_title (Some text) ours.0) = is_titled w.house.live mount text ours.0 ours.1 in
+            let both : Some (with_title (Some text) ours.0) ≡ Some now = sym titled_here ∙ ap (session_of after_title.house.live) same ∙ e in
+            let one : with_title (Some text) ours.0 ≡ now = cc in
+            new ours.0 same (ap (session_of w.house.live) (sym same) ∙ ours.1) ours.2 one
+
+  -- what was live is live still
+  live_still : (other : List ℕ) (session : Session) → session_of w.house.live other ≡ Some session
+      → (now : Session) × (session_of after_title.house.live other ≡ Some now) × IsBut session now
+  live_still other session e =
+      by_name mount other
+      (λ same.
+      let here : session_of w.house.live mount ≡ Some session = ap (session_of w.house.live) same ∙ e in (
+        with_title (Some text) session,
+        ap (session_of after_title.house.live) (sym same) ∙ is_titled w.house.live mount text session here,
+        record { number = refl; stream = refl },
+      ))
+      (λ apart. (session, beside_titled w.house.live mount other apart text ∙ e, record { number = refl; stream = refl }))
+
+  -- and what is live now was
+  was_live : (other : List ℕ) (now : Session) → session_of after_title.house.live other ≡ Some now
+      → (session : Session) × (session_of w.house.live other ≡ Some session) × IsBut session now
+  was_live other now e =
+      titled_cases other now e
+      (λ session same found number one. (session, found, record { number = ap (λ (x : Session). x.number) one; stream = ap (λ (x : Session). x.stream) one }))
+      (λ apart found. (now, found, record { number = refl; stream = refl }))
+
+  pub sound_titled : IsSound after_title
+  sound_titled = record {
+    numbered = λ id h. s.numbered id h;
+    feeds = λ id other e.
+        let old = s.feeds id other e in
+        let now = live_still other old.0 old.1 in
+        (now.0, now.1, sym now.2.number ∙ old.2);
+    fed = λ other now e.
+        let old = was_live other now e in
+        ap (standing_of w) (sym old.2.number) ∙ s.fed other old.0 old.1;
+    starts = λ other now e.
+        let old = was_live other now e in
+        subst (λ (x : WholeStream). AreRising x.starts (end_of x)) old.2.stream (s.starts other old.0 old.1);
+    sitting = λ id seat e. s.sitting id seat e;
+    seated = λ id seat e.
+        let old = s.seated id seat e in
+        let now = live_still seat.mount old.session old.is_live in
+        record {
+          session = now.0;
+          is_live = now.1;
+          his_session = sym now.2.number ∙ old.his_session;
+          within = subst (λ (x : WholeStream). seat.place ≤ end_of x) now.2.stream old.within;
+        };
+  }

@@ -1,0 +1,10 @@
+use Rattle.std.specs.Prelude.{ℕ, List}
+use Rattle.radio_core.specs.declared.reply.Reply.TheVariants.{Noted}
+use Rattle.radio_core.specs.declared.outcome.Change.TheVariants.{SetTitle}
+use Rattle.radio_core.specs.declared.outcome.Outcome.{Outcome}
+use Rattle.radio_core.specs.World.{World, standing_of}
+use Rattle.radio_core.specs.Outcomes.{says, if_feeding}
+
+-- a source tells what is on the air: its mount has this title
+abbrev pub sets_title : World → ℕ → List ℕ → Outcome
+sets_title w id text = if_feeding (standing_of w id) (λ mount. says Noted (SetTitle mount text))

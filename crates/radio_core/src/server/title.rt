@@ -1,0 +1,23 @@
+ghost use Rattle.std.specs.Prelude.{◌≡◌};
+ghost use Rattle.radio_core.specs.Title.{sets_title};
+
+use crate::outcome::{Change, Outcome};
+use crate::standing::Standing;
+use crate::{Core, Reply};
+use radio_icy::Title;
+
+impl Core {
+    /// A source tells what is on the air.
+    pub(super) fn title(&self, id: u64, text: Title) -> Outcome
+        ensures { result ≡ sets_title self.now id text }
+    {
+        match self.standing(id) {
+            Standing::Feeds(mount) => Outcome {
+                reply: Reply::Noted,
+                change: Change::SetTitle { mount, title: text },
+            },
+            Standing::Finished(rule) => Outcome::finished(rule),
+            _ => Outcome::stray(),
+        }
+    }
+}
