@@ -6,4 +6,8 @@ mod ExchangeLemmas
 mod LastWordLemmas
 mod NumberLemmas
 mod ToldLemmas
+mod ExchangeParts
+mod AwaitLemmas
+mod DataLemmas
+mod CutTellingLemmas
 mod SentTitleLemmas

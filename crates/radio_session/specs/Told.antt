@@ -1,5 +1,5 @@
 -- What is told on a listener's connection: his head, and then the data of his draws, with metadata between them where he asked for it.
-use Rattle.std.specs.Prelude.{◌≡◌, ℕ, ◌<◌, List, [], ◌∷◌, ◌++◌, map, Option, None, Some}
+use Rattle.std.specs.Prelude.{◌≡◌, ℕ, List, [], ◌∷◌, ◌++◌, map, Option, None, Some}
 use Rattle.radio_icy.specs.Block.{title_text}
 use Rattle.radio_icy.specs.Weaving.{Call}
 use Rattle.radio_icy.specs.Stream.{IsWoven, sound_of_calls, titles_sent, parts_of}
