@@ -9,7 +9,8 @@ use Rattle.radio_session.specs.DataServers.{GoesByData}
 use Rattle.radio_session.specs.Told.{while_open}
 
 -- bytes come on a connection, and their events are exchanged
-pub record IsTold {S : Type 0} (steps : Steps S) (conversation : Conversation) (bytes : List ℕ) (from : S) (x : Exchange) (after : Conversation) (to : S) : Type 0 where
+pub record IsTold {S : Type 0} (steps : Steps S) (conversation : Conversation) (bytes : List ℕ) (from : S)
+    (x : Exchange) (after : Conversation) (to : S) : Type 0 where
   pub heard : Heard
   pub is_heard : IsHeard conversation bytes heard
   pub is_exchanged : Exchanges steps conversation.id heard.conversation.says heard.events from x to
@@ -22,7 +23,8 @@ state_after (Shut ending) later = Shut ending
 
 -- Bytes that come in two pieces are told, and shut the connection, as if they had come in one. The second is not taken where the first has shut it.
 abbrev pub CutsAreToldAlike : {S : Type 0} → Steps S → Type 0
-CutsAreToldAlike {S} steps = (conversation between after all : Conversation) → GoesByData steps conversation.id → conversation.says.closing ≡ None →
+CutsAreToldAlike {S} steps = (conversation between after all : Conversation) →
+    GoesByData steps conversation.id → conversation.says.closing ≡ None →
     (first second : List ℕ) (from mid to end : S) (x y whole : Exchange) →
     IsTold steps conversation first from x between mid →
     (x.state ≡ Running → IsTold steps between second mid y after to) →
