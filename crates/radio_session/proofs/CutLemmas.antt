@@ -41,14 +41,14 @@ atoms-blocks id (block ∷ blocks) =
     ap (λ (zs : List Atom). map (datum id) block ++ zs) (atoms-blocks id blocks) ∙ sym (map-append (datum id) block (concat blocks))
 
 -- the blocks of some data are the data
-abbrev AreJoined : Type 0
+abbrev pub AreJoined : Type 0
 AreJoined = (bytes : List ℕ) → concat (blocks_of bytes) ≡ bytes
 
 -- the places of bytes in two pieces, and the data among them
-abbrev PlacesJoin : Type 0
+abbrev pub PlacesJoin : Type 0
 PlacesJoin = (place : Place) (first second : List ℕ) → after place (first ++ second) ≡ after (after place first) second
 
-abbrev DataJoin : Type 0
+abbrev pub DataJoin : Type 0
 DataJoin = (place : Place) (first second : List ℕ) → data_of place (first ++ second) ≡ data_of place first ++ data_of (after place first) second
 
 module _ (joined : AreJoined) where
@@ -140,14 +140,14 @@ module _ (joined : AreJoined) (places : PlacesJoin) (found : DataJoin) where
         by_closed Z Z two whole h alike refl refl
 
 -- what a request is heard as, by the tests of its method
-request_by : Bool → Bool → Conversation → RequestParts → List ℕ → Heard
+unfoldable pub request_by : Bool → Bool → Conversation → RequestParts → List ℕ → Heard
 request_by source get conversation request behind =
     if source then source_heard conversation request behind (framing_of request)
     else if get then listener_heard conversation request
     else refuses conversation BadMethod
 
 -- what was held before a head is heard as does not matter
-held-alike : (conversation : Conversation) (held bytes : List ℕ) (r : Result (Progress RequestParts) HeadFault) → head_heard (record conversation { held = held }) bytes r ≡ head_heard conversation bytes r
+pub held-alike : (conversation : Conversation) (held bytes : List ℕ) (r : Result (Progress RequestParts) HeadFault) → head_heard (record conversation { held = held }) bytes r ≡ head_heard conversation bytes r
 held-alike conversation held bytes (Ok More) = refl
 held-alike conversation held bytes (Ok (Whole request n)) = refl
 held-alike conversation held bytes (Err e) = refl

@@ -5,4 +5,8 @@ mod CutLemmas
 mod ExchangeLemmas
 mod LastWordLemmas
 mod ToldLemmas
+mod ExchangeParts
+mod AwaitLemmas
+mod DataLemmas
+mod CutTellingLemmas
 mod SentTitleLemmas

@@ -1,12 +1,11 @@
 -- what is told on a listener's connection
-use Rattle.std.proofs.Common.{◌≡◌, ℕ, zero, suc, ◌<◌, Bool, true, false, List, [], ◌∷◌, ◌++◌, Option, None, Some, refl, ap, sym, subst, ◌∙◌, append-nil, arith, map}
+use Rattle.std.proofs.Common.{◌≡◌, ℕ, zero, suc, ◌<◌, true, List, [], ◌∷◌, ◌++◌, Option, None, Some, refl, ap, sym, subst, ◌∙◌, append-nil, arith, map}
 use Rattle.std.specs.Option.{option_map}
 use Rattle.radio_icy.specs.Weaving.{Call, Weaving, new_weaving, woven_by_calls}
 use Rattle.radio_icy.specs.Stream.{IsWoven, sound_of_calls, titles_sent, parts_of}
 use Rattle.radio_icy.specs.Block.{title_text}
 use Rattle.radio_icy.specs.Unweaving.{new_unweaving, heard}
 use Rattle.radio_icy.specs.Bare.{bare, block_texts, sound_in, texts_in}
-use Rattle.radio_settings.specs.declared.field.Shown.{Shown}
 use Rattle.radio_heads.specs.Answer.{listener_head}
 use Rattle.radio_core.specs.declared.event.Event.{Event}
 use Rattle.radio_core.specs.declared.reply.Reply.{Reply}
@@ -21,7 +20,7 @@ use Rattle.radio_session.specs.declared.state.State.TheVariants.{Running, Shut}
 use Rattle.radio_session.specs.Draws.{draw, drawn, after_draw, drawn_by, interval_told, joined_draws}
 use Rattle.radio_session.specs.Exchanges.{WorldExchange, exchanged, then_exchanged}
 use Rattle.radio_session.specs.Saying.{Said, said, denied, noted, one_less, seated}
-use Rattle.radio_session.specs.Told.{told, while_open, draws_of, AdmitNobody, DrawsFollowTheHead, PlainDrawsAreTheirData, JoinedDrawsAreWoven, taken_out, DrawsAreTakenOutAgain, replies_to, ExchangesTellReplies}
+use Rattle.radio_session.specs.Told.{told, while_open, draws_of, AdmitNobody, DrawsFollowTheHead, PlainDrawsAreTheirData, JoinedDrawsAreWoven, DrawsAreTakenOutAgain, replies_to, ExchangesTellReplies}
 
 no_draws : (w : Option Weaving) → drawn_by w [] ≡ []
 no_draws None = refl

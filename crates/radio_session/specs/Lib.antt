@@ -11,3 +11,5 @@ pub mod LastWords
 pub mod Told
 pub mod SentTitles
 pub mod Framing
+pub mod DataServers
+pub mod CutTelling

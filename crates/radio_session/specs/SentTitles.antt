@@ -17,7 +17,8 @@ AreChanges (title ∷ next ∷ titles) = (title ≡ next → ⊥) × AreChanges 
 
 -- With the block of each interval, the title of the draw that ended the interval, if it has one, is the last that was sent.
 abbrev pub TitlesAreSentInTime : Type 0
-TitlesAreSentInTime = (n : ℕ) (draws : List Call) (k : ℕ) (title : List ℕ) → title_at n draws k ≡ Some title → last_title (titles_sent n draws (suc k)) ≡ Some title
+TitlesAreSentInTime = (n : ℕ) (draws : List Call) (k : ℕ) (title : List ℕ) →
+    title_at n draws k ≡ Some title → last_title (titles_sent n draws (suc k)) ≡ Some title
 
 -- No title is sent twice in a row.
 abbrev pub NoTitleIsRepeated : Type 0

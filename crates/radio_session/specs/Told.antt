@@ -1,5 +1,5 @@
 -- What is told on a listener's connection: his head, and then the data of his draws, with metadata between them where he asked for it.
-use Rattle.std.specs.Prelude.{◌≡◌, ℕ, ◌<◌, List, [], ◌∷◌, ◌++◌, map, Option, None, Some}
+use Rattle.std.specs.Prelude.{◌≡◌, ℕ, List, [], ◌∷◌, ◌++◌, map, Option, None, Some}
 use Rattle.radio_icy.specs.Block.{title_text}
 use Rattle.radio_icy.specs.Weaving.{Call}
 use Rattle.radio_icy.specs.Stream.{IsWoven, sound_of_calls, titles_sent, parts_of}
@@ -46,17 +46,21 @@ AdmitNobody (reply ∷ replies) = AdmitNobody replies
 
 -- What follows a listener's head on his connection are the joined data of his draws, woven at the interval that the head tells.
 abbrev pub DrawsFollowTheHead : Type 0
-DrawsFollowTheHead = (says : Says) (interval : Option ℕ) (shown : Shown) (replies : List Reply) → says.closing ≡ None → AdmitNobody replies →
+DrawsFollowTheHead = (says : Says) (interval : Option ℕ) (shown : Shown) (replies : List Reply) →
+    says.closing ≡ None → AdmitNobody replies →
     told says (Seated interval shown ∷ replies)
     ≡ listener_head shown.content_type shown.name shown.genre (interval_told interval) ++ joined_draws interval (draws_of replies)
 
 -- where it tells none, they are the data alone
 abbrev pub PlainDrawsAreTheirData : Type 0
-PlainDrawsAreTheirData = (interval : Option ℕ) (draws : List Call) → interval_told interval ≡ None → joined_draws interval draws ≡ sound_of_calls draws
+PlainDrawsAreTheirData = (interval : Option ℕ) (draws : List Call) →
+    interval_told interval ≡ None → joined_draws interval draws ≡ sound_of_calls draws
 
--- Where it tells one, a block stands after each interval of the data. It has the title of the draw that brought the interval's last byte, where another was sent last, or none; else it is a zero byte.
+-- Where it tells one, a block stands after each interval of the data.
+-- It has the title of the draw that brought the interval's last byte, where another was sent last, or none; else it is a zero byte.
 abbrev pub JoinedDrawsAreWoven : Type 0
-JoinedDrawsAreWoven = (interval : Option ℕ) (n : ℕ) (draws : List Call) → interval_told interval ≡ Some n → IsWoven n draws (joined_draws interval draws)
+JoinedDrawsAreWoven = (interval : Option ℕ) (n : ℕ) (draws : List Call) →
+    interval_told interval ≡ Some n → IsWoven n draws (joined_draws interval draws)
 
 -- what is taken out of these bytes
 abbrev pub taken_out : ℕ → List ℕ → List Atom
@@ -75,4 +79,5 @@ replies_to w (event ∷ events) = reply_to w event ∷ replies_to (world_after w
 
 -- What goes out for a connection's events is what is told of their replies.
 abbrev pub ExchangesTellReplies : Type 0
-ExchangesTellReplies = (w : World) (id : ℕ) (says : Says) (events : List Event) → (exchanged w id says events).exchange.bytes ≡ told says (replies_to w events)
+ExchangesTellReplies = (w : World) (id : ℕ) (says : Says) (events : List Event) →
+    (exchanged w id says events).exchange.bytes ≡ told says (replies_to w events)

@@ -5,10 +5,12 @@ ghost use Rattle.radio_session.specs.Conversation.{ending_word};
 ghost use Rattle.radio_session.specs.declared.state.Ending.TheVariants.{Done};
 ghost use Rattle.radio_session.specs.LastWords.{DenialsNameTheirRule, RulesWithoutStatusAreSilent, LateDenialsAreSilent, FinishesAreSilent, RefusalsNameTheirRule, WholeBodiesAreDone, FaultyBodiesAreSilent};
 ghost use Rattle.radio_session.specs.Cuts.{CutsDoNotMatter};
+ghost use Rattle.radio_session.specs.CutTelling.{CutsAreToldAlike};
 ghost use Rattle.radio_session.specs.Told.{DrawsFollowTheHead, PlainDrawsAreTheirData, JoinedDrawsAreWoven, DrawsAreTakenOutAgain, ExchangesTellReplies};
 ghost use Rattle.radio_session.specs.SentTitles.{TitlesAreSentInTime, NoTitleIsRepeated};
 ghost use Rattle.radio_session.specs.Laws.{HearingIsOne, CoresExchangeAsTheirStates};
 
+use crate::exchanging::Applies;
 use radio_blocks::laws::blocks_are_the_data;
 use radio_heads::{heads_lie_within, readings_agree, settled};
 use radio_icy::laws::{bare_of_woven, unwoven_streams, woven_streams};
@@ -18,6 +20,18 @@ use radio_source::laws::pieces_are_joined;
 /// same data and the same events, but for where blocks are cut, and what follows is heard alike.
 pub fn cuts_do_not_matter()
     ensures { CutsDoNotMatter }
+{
+    readings_agree();
+    settled();
+    heads_lie_within();
+    blocks_are_the_data();
+    pieces_are_joined();
+}
+
+/// What is told on a connection, and how it is shut, do not depend on how the bytes were cut that
+/// came on it, where the server goes by a source's data and not by how they are cut into blocks.
+pub fn cuts_are_told_alike<S: Applies>()
+    ensures { CutsAreToldAlike S.steps }
 {
     readings_agree();
     settled();

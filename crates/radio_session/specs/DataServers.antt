@@ -1,0 +1,42 @@
+-- Servers that go by a source's data, and not by how they were cut into blocks.
+use Rattle.std.specs.Prelude.{◌≡◌, ℕ, List, [], ◌++◌, ◌⊎◌}
+use Rattle.radio_core.specs.declared.event.Event.{Event}
+use Rattle.radio_core.specs.declared.event.Event.TheVariants.{Push, SourceEnd}
+use Rattle.radio_core.specs.declared.reply.Reply.{Reply}
+use Rattle.radio_core.specs.declared.reply.Reply.TheVariants.{Noted, Deny, Finished, Stray}
+use Rattle.radio_session.specs.Exchanges.{Steps}
+
+-- nothing is told of it, and the connection goes on
+abbrev pub IsQuiet : Reply → Type 0
+IsQuiet Noted = Unit {0}
+IsQuiet Stray = Unit {0}
+IsQuiet _ = ⊥
+
+-- the connection ends by a rule
+abbrev pub EndsByRule : Reply → Type 0
+EndsByRule (Deny rule) = Unit {0}
+EndsByRule (Finished rule) = Unit {0}
+EndsByRule _ = ⊥
+
+-- from each state an event has one reply, and leaves one state
+abbrev pub HasOneReply : {S : Type 0} → Steps S → Type 0
+HasOneReply {S} steps = (from to other : S) (event : Event) (reply again : Reply) →
+    steps from event reply to → steps from event again other → (reply ≡ again) × (to ≡ other)
+
+module _ {S : Type 0} (steps : Steps S) (id : ℕ) where
+  -- What the client of this number is replied, as a source, goes by his data alone.
+  pub record GoesByData : Type 0 where
+    -- in a state, the reply to some data, and to their end once they have come
+    pub to_data : S → List ℕ → Reply
+    pub to_end : S → List ℕ → Reply
+    pub is_one : HasOneReply steps
+    -- a block is replied to as its data are: quietly, or by a rule that ends the connection
+    pub at_block : (from to : S) (block : List ℕ) (reply : Reply) → steps from (Push id block) reply to
+        → (reply ≡ to_data from block) × (IsQuiet reply ⊎ EndsByRule reply)
+    -- after a quiet reply, more data are replied to as if all had come at once
+    pub after_block : (from to : S) (block rest : List ℕ) (reply : Reply) → steps from (Push id block) reply to → IsQuiet reply
+        → (to_data from (block ++ rest) ≡ to_data to rest) × (to_end from (block ++ rest) ≡ to_end to rest)
+    -- a rule that ends the connection ends it with more data too
+    pub at_rule : (from to : S) (block rest : List ℕ) (reply : Reply) → steps from (Push id block) reply to → EndsByRule reply
+        → to_data from (block ++ rest) ≡ reply
+    pub at_end : (from to : S) (reply : Reply) → steps from (SourceEnd id) reply to → reply ≡ to_end from []
