@@ -9,19 +9,20 @@ use Rattle.radio_core.specs.declared.event.Event.{Event}
 use Rattle.radio_core.specs.declared.event.ListenRequest.{ListenRequest}
 use Rattle.radio_core.specs.declared.outcome.Outcome.{Outcome}
 use Rattle.radio_core.specs.declared.reply.Reply.TheVariants.{Drawn, Seated}
-use Rattle.radio_core.specs.declared.seats.Seat.{Seat}
+use Rattle.radio_seats.specs.declared.seat.Seat.{Seat}
 use Rattle.radio_core.specs.World.{World}
 use Rattle.radio_core.specs.Access.{IsHis, AccessIsKept}
 use Rattle.radio_core.specs.Admission.{IsBlockStart, IsEarliestStart, IsSeated, BeginsAtABlock}
 use Rattle.radio_core.specs.Changes.{changed}
 use Rattle.radio_core.specs.Listen.{first_seat, burst_of}
-use Rattle.radio_core.specs.Seats.{seat_of, seat_in}
+use Rattle.radio_seats.specs.Seats.{seat_of, seat_in}
 use Rattle.radio_core.specs.Sessions.{Session, session_of}
 use Rattle.radio_core.specs.Sound.{AreRising, IsSound}
 use Rattle.radio_core.specs.Step.{outcome, reply_to, world_after}
 use Rattle.radio_core.specs.Stream.{WholeStream, end_of, burst_start, data_at}
 use Rattle.radio_core.specs.Ways.{Way, Misplaced, IsFinished, IsDenied, IsRefused, IsAdmitted, Begins, Receives, SetsTitle, TakesSeat, HandsOut, Ends, EndsAndLeaves, Leaves}
-use Rattle.radio_core.proofs.Lookups.{found_named, has_sat_down}
+use Rattle.radio_seats.specs.SeatLaws.{has_sat_down}
+use Rattle.radio_core.proofs.Lookups.{found_named}
 use Rattle.radio_core.proofs.Soundness.{burst_within}
 use Rattle.radio_core.proofs.ListsLemmas.{KeepsLists}
 use Rattle.radio_core.proofs.Ways.{way_of}

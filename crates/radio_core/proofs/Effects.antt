@@ -13,13 +13,15 @@ use Rattle.radio_access.specs.Lists.{passes}
 use Rattle.radio_core.specs.World.{World, standing_of}
 use Rattle.radio_core.specs.Changes.{changed, session_ended}
 use Rattle.radio_core.specs.Listen.{first_seat}
-use Rattle.radio_core.specs.Seats.{seat_of, seat_in}
+use Rattle.radio_seats.specs.Seats.{seat_of, seat_in}
 use Rattle.radio_core.specs.Sessions.{session_of}
 use Rattle.radio_core.specs.Sound.{IsSound}
 use Rattle.radio_core.specs.Step.{outcome, reply_to, world_after}
 use Rattle.radio_core.specs.Ways.{Way, Misplaced, IsFinished, IsDenied, IsRefused, IsAdmitted, Begins, Receives, SetsTitle, TakesSeat, HandsOut, Ends, EndsAndLeaves, Leaves, client_in}
-use Rattle.radio_core.proofs.Lookups.{is_over, is_no_listener, beside_left}
-use Rattle.radio_core.proofs.Standings.{Turns, turns_answered, turns_feeding, turns_sitting, turns_forgotten, turns_admitted, listener_seated, stays_hearing}
+use Rattle.radio_seats.specs.SeatLaws.{is_no_listener, beside_left}
+use Rattle.radio_core.proofs.Lookups.{is_over}
+use Rattle.radio_seats.specs.SeatLaws.{listener_seated}
+use Rattle.radio_core.proofs.Standings.{Turns, turns_answered, turns_feeding, turns_sitting, turns_forgotten, turns_admitted, stays_hearing}
 use Rattle.radio_core.proofs.SoundEnds.{turns_ended, turns_ended_and_left}
 use Rattle.radio_core.proofs.Ways.{way_of, may_arrive}
 

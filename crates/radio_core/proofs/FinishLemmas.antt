@@ -20,7 +20,7 @@ use Rattle.radio_core.specs.Facts.{is_live, is_let_in}
 use Rattle.radio_core.specs.Finishes.{Finishes, WasFinished, FinishedAreTold}
 use Rattle.radio_core.specs.Others.{StandsOn, OthersStandOn}
 use Rattle.radio_core.specs.Run.{world_after_all, run_after}
-use Rattle.radio_core.specs.Seats.{listener_of, seat_of}
+use Rattle.radio_seats.specs.Seats.{listener_of, seat_of}
 use Rattle.radio_core.specs.Sessions.{Session, session_of}
 use Rattle.radio_core.specs.Sound.{IsSound}
 use Rattle.radio_core.specs.Step.{outcome, reply_to, world_after}

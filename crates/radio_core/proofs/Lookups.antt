@@ -1,22 +1,17 @@
--- what is found in the three tables after each change of one of them
+-- what is found among clients and among sessions after each change
 use Rattle.std.proofs.Common.{◌≡◌, true, false, ℕ, ◌==◌, Option, Some, None, List, refl, ap, sym, ◌∙◌}
 use Rattle.std.specs.Prelude.{find, if◌then◌else◌}
-use Rattle.std.specs.Option.{option_map}
 use Rattle.std.specs.Ordering.{nat_cmp}
 use Rattle.std.specs.Cmp.Lexicographic.{slice_cmp}
 use Rattle.std.specs.Str.{bytes_eq}
 use Rattle.std.proofs.lemmas.Bool.{eqb-true}
 use Rattle.std.proofs.lemmas.Cmp.{nat_cmp_total, nat_list_cmp_total}
 use Rattle.std.proofs.lemmas.Slice.Eq.{bytes_eq-Decides}
-use Rattle.radio_policy.specs.declared.rule.Rule.{Rule}
-use Rattle.radio_tables.specs.FindLaws.{find_same, find_apart, find_removed, find_others, find_mapped, found_passes}
+use Rattle.radio_tables.specs.FindLaws.{find_same, find_apart, find_removed, find_others, found_passes}
 use Rattle.radio_tables.specs.KeyLaws.{number_is, name_is, find_placed}
 use Rattle.radio_core.specs.declared.clients.Client.{Client}
 use Rattle.radio_core.specs.declared.clients.ClientState.{ClientState}
-use Rattle.radio_core.specs.declared.seats.Listener.{Listener}
-use Rattle.radio_core.specs.declared.seats.Seat.{Seat}
 use Rattle.radio_core.specs.Clients.{is_client, client_of, with_client, with_state, in_state, without_client}
-use Rattle.radio_core.specs.Seats.{is_listener, listener_of, seated, with_seat, advanced, with_place, finished_from, finished_at, without_listener}
 use Rattle.radio_core.specs.Sessions.{Session, is_of, session_of, with_session, longer, fed, with_title, titled, without_session}
 
 -- a choice whose test is known
@@ -54,39 +49,6 @@ module _ (clients : List Client) (new : Client) (id : ℕ) where
 
   pub beside_new : (new.id == id) ≡ false → client_of (with_client clients new) id ≡ client_of clients id
   beside_new e = looked_up ∙ passed (Some new) (client_of clients id) e
-
--- listeners
-
-module _ (seats : List Listener) (him id : ℕ) (other : (him == id) ≡ false) where
-  not_his_seat : (x : Listener) → is_listener him x ≡ true → is_listener id x ≡ false
-  not_his_seat x e = ap (λ n. n == id) (eqb-true x.id him e) ∙ other
-
-  pub beside_moved : (place : ℕ) → listener_of (with_place seats him place) id ≡ listener_of seats id
-  beside_moved place = find_apart (is_listener id) (is_listener him) (advanced place) (λ x e. (not_his_seat x e, not_his_seat x e)) seats
-
-  pub beside_left : listener_of (without_listener seats him) id ≡ listener_of seats id
-  beside_left = find_others (is_listener id) (is_listener him) not_his_seat seats
-
-  pub beside_seated : (seat : Seat) → listener_of (with_seat seats him seat) id ≡ listener_of seats id
-  beside_seated seat =
-      find_placed nat_cmp nat_cmp_total (λ (listener : Listener). listener.id) is_listener (λ k listener. number_is k listener.id) id (seated him seat) seats
-      ∙ passed (Some (seated him seat)) (listener_of seats id) other
-
-pub has_moved : (seats : List Listener) (id place : ℕ) (listener : Listener) → listener_of seats id ≡ Some listener
-    → listener_of (with_place seats id place) id ≡ Some (advanced place listener)
-has_moved seats id place listener e = find_same (is_listener id) (advanced place) (λ x. refl) seats listener e
-
-pub is_no_listener : (seats : List Listener) (id : ℕ) → listener_of (without_listener seats id) id ≡ None
-is_no_listener seats id = find_removed (is_listener id) (is_listener id) seats
-
-pub has_sat_down : (seats : List Listener) (id : ℕ) (seat : Seat) → (id == id) ≡ true → listener_of (with_seat seats id seat) id ≡ Some (seated id seat)
-has_sat_down seats id seat e =
-    find_placed nat_cmp nat_cmp_total (λ (listener : Listener). listener.id) is_listener (λ k listener. number_is k listener.id) id (seated id seat) seats
-    ∙ chosen (Some (seated id seat)) (listener_of seats id) e
-
-pub have_finished : (seats : List Listener) (mount : List ℕ) (rule : Rule) (id : ℕ)
-    → listener_of (finished_at seats mount rule) id ≡ option_map (finished_from mount rule) (listener_of seats id)
-have_finished seats mount rule id = find_mapped (is_listener id) (finished_from mount rule) (λ x. refl) seats
 
 -- sessions
 

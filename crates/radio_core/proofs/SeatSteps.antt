@@ -10,13 +10,13 @@ use Rattle.radio_core.specs.declared.event.Event.TheVariants.{Draw}
 use Rattle.radio_core.specs.declared.event.ListenRequest.{ListenRequest}
 use Rattle.radio_core.specs.declared.outcome.Change.TheVariants.{TakeSeat, Advance}
 use Rattle.radio_core.specs.declared.outcome.Outcome.{Outcome}
-use Rattle.radio_core.specs.declared.seats.Seat.{Seat}
+use Rattle.radio_seats.specs.declared.seat.Seat.{Seat}
 use Rattle.radio_core.specs.declared.standing.Standing.TheVariants.{Undecided, Sits}
 use Rattle.radio_core.specs.World.{World, standing_of}
 use Rattle.radio_core.specs.Changes.{changed, session_ended}
 use Rattle.radio_core.specs.Handing.{data_in, of_client, handed_at}
 use Rattle.radio_core.specs.Listen.{first_seat, burst_of}
-use Rattle.radio_core.specs.Seats.{seat_of, seat_in}
+use Rattle.radio_seats.specs.Seats.{seat_of, seat_in}
 use Rattle.radio_core.specs.Sessions.{Session, session_of}
 use Rattle.radio_core.specs.Sound.{IsSound}
 use Rattle.radio_core.specs.Step.{outcome, reply_to, world_after}
@@ -24,7 +24,8 @@ use Rattle.radio_core.specs.Stream.{data_at, end_of}
 use Rattle.radio_core.specs.Stretches.{KeepsItsMount, SeatsKeepTheirMounts}
 use Rattle.radio_core.specs.Ways.{Way, Misplaced, IsFinished, IsDenied, IsRefused, IsAdmitted, Begins, Receives, SetsTitle, TakesSeat, HandsOut, Ends, EndsAndLeaves, Leaves, client_in}
 use Rattle.radio_core.proofs.GoneLemmas.{not_of, nothing_of}
-use Rattle.radio_core.proofs.Lookups.{found_named, is_no_listener, beside_left}
+use Rattle.radio_seats.specs.SeatLaws.{is_no_listener, beside_left}
+use Rattle.radio_core.proofs.Lookups.{found_named}
 use Rattle.radio_core.proofs.Soundness.{has_new_seat, had_no_seat, beside_new_seat, burst_within}
 use Rattle.radio_core.proofs.SoundSessions.{has_advanced, others_seats, behind_within}
 use Rattle.radio_core.proofs.SoundEnds.{still_sits, sits_on, sits_no_more}

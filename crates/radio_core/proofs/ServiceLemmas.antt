@@ -15,10 +15,10 @@ use Rattle.radio_core.specs.declared.event.ListenRequest.{ListenRequest}
 use Rattle.radio_core.specs.declared.outcome.Change.{Change}
 use Rattle.radio_core.specs.declared.outcome.Outcome.{Outcome}
 use Rattle.radio_core.specs.declared.reply.Reply.TheVariants.{Arrived, Feeding, Seated, Finished}
-use Rattle.radio_core.specs.declared.seats.Listener.{Listener}
-use Rattle.radio_core.specs.declared.seats.Seat.{Seat}
-use Rattle.radio_core.specs.declared.seats.Seating.{Seating}
-use Rattle.radio_core.specs.declared.seats.Seating.TheVariants.{Sits as HasSeat, Finished as HasFinished}
+use Rattle.radio_seats.specs.declared.seat.Listener.{Listener}
+use Rattle.radio_seats.specs.declared.seat.Seat.{Seat}
+use Rattle.radio_seats.specs.declared.seat.Seating.{Seating}
+use Rattle.radio_seats.specs.declared.seat.Seating.TheVariants.{Sits as HasSeat, Finished as HasFinished}
 use Rattle.radio_core.specs.declared.clients.Client.{Client}
 use Rattle.radio_core.specs.declared.clients.ClientState.{ClientState}
 use Rattle.radio_core.specs.declared.clients.ClientState.TheVariants.{Undecided as IsNew, Feeds as IsSource, Listens, Answered, Ended}
@@ -35,7 +35,7 @@ use Rattle.radio_core.specs.Push.{takes_in}
 use Rattle.radio_core.specs.Listen.{first_seat, takes_seat}
 use Rattle.radio_core.specs.Draw.{hands_out, hands_out_at}
 use Rattle.radio_core.specs.Others.{RepliesFit}
-use Rattle.radio_core.specs.Seats.{listener_of, seat_of, seat_in, seat_held}
+use Rattle.radio_seats.specs.Seats.{listener_of, seat_of, seat_in, seat_held}
 use Rattle.radio_core.specs.Service.{IsTakenIn, IsHanded, Serves}
 use Rattle.radio_core.specs.Sessions.{Session, session_of}
 use Rattle.radio_core.specs.Sound.{IsSound}

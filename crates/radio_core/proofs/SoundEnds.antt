@@ -8,92 +8,34 @@ use Rattle.std.proofs.lemmas.Slice.Eq.{bytes_eq-Decides}
 use Rattle.radio_policy.specs.declared.rule.Rule.TheVariants.{NotLive}
 use Rattle.radio_tables.specs.KeyLaws.{by_number, by_name}
 use Rattle.radio_core.specs.declared.outcome.Change.TheVariants.{Answer, Forget, End, EndAndLeave}
-use Rattle.radio_core.specs.declared.seats.Listener.{Listener}
-use Rattle.radio_core.specs.declared.seats.Seat.{Seat}
-use Rattle.radio_core.specs.declared.seats.Seating.{Seating}
-use Rattle.radio_core.specs.declared.seats.Seating.TheVariants.{Sits as HasSeat, Finished as HasFinished}
+use Rattle.radio_seats.specs.declared.seat.Listener.{Listener}
+use Rattle.radio_seats.specs.declared.seat.Seat.{Seat}
+use Rattle.radio_seats.specs.declared.seat.Seating.{Seating}
+use Rattle.radio_seats.specs.declared.seat.Seating.TheVariants.{Sits as HasSeat, Finished as HasFinished}
 use Rattle.radio_core.specs.declared.standing.Standing.{Standing}
 use Rattle.radio_core.specs.declared.standing.Standing.TheVariants.{Unknown, Feeds, Sits, Answered}
 use Rattle.radio_core.specs.World.{World, standing_of}
 use Rattle.radio_core.specs.Changes.{changed, session_ended}
-use Rattle.radio_core.specs.Seats.{listener_of, seat_of, seat_in, seat_held, ended_at, finished_from, finished_at, without_listener}
+use Rattle.radio_seats.specs.Seats.{listener_of, seat_of, seat_in, seat_held, ended_at, finished_from, finished_at, without_listener}
 use Rattle.radio_core.specs.Sessions.{Session, session_of, without_session}
 use Rattle.radio_core.specs.Sound.{AreRising, IsSeatedIn, IsSound}
-use Rattle.radio_core.proofs.Lookups.{beside_left, is_no_listener, have_finished, beside_ended, is_over}
+use Rattle.radio_seats.specs.SeatLaws.{StillSits, sits_still, sits_on_elsewhere, has_lost_it, beside_left, is_no_listener}
+use Rattle.radio_core.proofs.Lookups.{beside_ended, is_over}
 use Rattle.radio_core.proofs.Standings.{Turns, Loses, turns_answered, turns_forgotten, silenced, ended_feeds, feeds_ended}
 
 -- who has a seat after the end of a mount's session had it before, and elsewhere
-pub record StillSits (seats : List Listener) (mount : List ℕ) (id : ℕ) (seat : Seat) : Type 0 where
-  pub had_a_seat : seat_of seats id ≡ Some seat
-  pub elsewhere : bytes_eq seat.mount mount ≡ false
-
-held_still : (mount : List ℕ) (old seat : Seat) (b : _) → bytes_eq old.mount mount ≡ b
-    → seat_held (if b then HasFinished NotLive else HasSeat old) ≡ Some seat → (old ≡ seat) × (b ≡ false)
-held_still mount old seat true e h = cc
-held_still mount old seat false e h = let same : old ≡ seat = cc in (same, refl)
-
-held_seating : (mount : List ℕ) (seating : Seating) (seat : Seat) → seat_held (ended_at mount NotLive seating) ≡ Some seat
-    → (seat_held seating ≡ Some seat) × (bytes_eq seat.mount mount ≡ false)
-held_seating mount (HasSeat old) seat h =
-    let kept = held_still mount old seat (bytes_eq old.mount mount) refl h in
-    (ap (λ (x : Seat). Some x) kept.0, ap (λ (x : Seat). bytes_eq x.mount mount) (sym kept.0) ∙ kept.1)
-held_seating mount (HasFinished rule) seat h = cc
-
-held_listener : (mount : List ℕ) (listener : Option Listener) (seat : Seat) → seat_in (option_map (finished_from mount NotLive) listener) ≡ Some seat
-    → (seat_in listener ≡ Some seat) × (bytes_eq seat.mount mount ≡ false)
-held_listener mount None seat h = cc
-held_listener mount (Some listener) seat h = held_seating mount listener.seating seat h
-
 pub still_sits : (w : World) (mount : List ℕ) (id : ℕ) (seat : Seat) → seat_of (session_ended w mount).seats id ≡ Some seat → StillSits w.seats mount id seat
-still_sits w mount id seat e =
-    let kept = held_listener mount (listener_of w.seats id) seat (sym (ap seat_in (have_finished w.seats mount NotLive id)) ∙ e) in
-    record { had_a_seat = kept.0; elsewhere = kept.1 }
+still_sits w mount id seat e = sits_still mount NotLive w.seats id seat e
 
 -- and who sits at another mount keeps his seat
-held_elsewhere : (mount : List ℕ) (seat : Seat) (b : _) → bytes_eq seat.mount mount ≡ b → b ≡ false
-    → seat_held (if b then HasFinished NotLive else HasSeat seat) ≡ Some seat
-held_elsewhere mount seat true e h = cc
-held_elsewhere mount seat false e h = refl
-
-sits_elsewhere : (mount : List ℕ) (seating : Seating) (seat : Seat) → seat_held seating ≡ Some seat → bytes_eq seat.mount mount ≡ false
-    → seat_held (ended_at mount NotLive seating) ≡ Some seat
-sits_elsewhere mount (HasSeat old) seat h apart =
-    let same : old ≡ seat = cc in
-    let away : bytes_eq old.mount mount ≡ false = ap (λ (x : Seat). bytes_eq x.mount mount) same ∙ apart in
-    held_elsewhere mount old (bytes_eq old.mount mount) refl away ∙ h
-sits_elsewhere mount (HasFinished rule) seat h apart = cc
-
-keeps_seat : (mount : List ℕ) (listener : Option Listener) (seat : Seat) → seat_in listener ≡ Some seat → bytes_eq seat.mount mount ≡ false
-    → seat_in (option_map (finished_from mount NotLive) listener) ≡ Some seat
-keeps_seat mount None seat h apart = cc
-keeps_seat mount (Some listener) seat h apart = sits_elsewhere mount listener.seating seat h apart
-
 pub sits_on : (w : World) (mount : List ℕ) (id : ℕ) (seat : Seat) → seat_of w.seats id ≡ Some seat → bytes_eq seat.mount mount ≡ false
     → seat_of (session_ended w mount).seats id ≡ Some seat
-sits_on w mount id seat has apart = ap seat_in (have_finished w.seats mount NotLive id) ∙ keeps_seat mount (listener_of w.seats id) seat has apart
+sits_on w mount id seat has apart = sits_on_elsewhere mount NotLive w.seats id seat has apart
 
 -- who sat at the mount has no seat
-held_no_more : (mount : List ℕ) (seat : Seat) (b : _) → bytes_eq seat.mount mount ≡ b → b ≡ true
-    → seat_held (if b then HasFinished NotLive else HasSeat seat) ≡ None
-held_no_more mount seat true e h = refl
-held_no_more mount seat false e h = cc
-
-seating_lost : (mount : List ℕ) (seating : Seating) (seat : Seat) → seat_held seating ≡ Some seat → bytes_eq seat.mount mount ≡ true
-    → seat_held (ended_at mount NotLive seating) ≡ None
-seating_lost mount (HasSeat old) seat h there =
-    let same : old ≡ seat = cc in
-    let here : bytes_eq old.mount mount ≡ true = ap (λ (x : Seat). bytes_eq x.mount mount) same ∙ there in
-    held_no_more mount old (bytes_eq old.mount mount) refl here
-seating_lost mount (HasFinished rule) seat h there = cc
-
-listener_lost : (mount : List ℕ) (listener : Option Listener) (seat : Seat) → seat_in listener ≡ Some seat → bytes_eq seat.mount mount ≡ true
-    → seat_in (option_map (finished_from mount NotLive) listener) ≡ None
-listener_lost mount None seat h there = cc
-listener_lost mount (Some listener) seat h there = seating_lost mount listener.seating seat h there
-
 pub sits_no_more : (w : World) (mount : List ℕ) (id : ℕ) (seat : Seat) → seat_of w.seats id ≡ Some seat → bytes_eq seat.mount mount ≡ true
     → seat_of (session_ended w mount).seats id ≡ None
-sits_no_more w mount id seat has there = ap seat_in (have_finished w.seats mount NotLive id) ∙ listener_lost mount (listener_of w.seats id) seat has there
+sits_no_more w mount id seat has there = has_lost_it mount NotLive w.seats id seat has there
 
 -- the source of a mount stops feeding it, and its session is over
 module _ (w : World) (s : IsSound w) (him : ℕ) (mount : List ℕ) (feeding : standing_of w him ≡ Feeds mount) (later : World) (now : Standing)

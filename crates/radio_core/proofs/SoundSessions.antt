@@ -10,20 +10,22 @@ use Rattle.radio_addr.specs.declared.peer.Peer.{Peer}
 use Rattle.radio_settings.specs.declared.field.Shown.{Shown}
 use Rattle.radio_tables.specs.KeyLaws.{by_number, by_name}
 use Rattle.radio_core.specs.declared.outcome.Change.TheVariants.{Begin, Receive, Advance, End, EndAndLeave}
-use Rattle.radio_core.specs.declared.seats.Listener.{Listener}
-use Rattle.radio_core.specs.declared.seats.Seat.{Seat}
-use Rattle.radio_core.specs.declared.seats.Seating.{Seating}
-use Rattle.radio_core.specs.declared.seats.Seating.TheVariants.{Sits as HasSeat, Finished as HasFinished}
+use Rattle.radio_seats.specs.declared.seat.Listener.{Listener}
+use Rattle.radio_seats.specs.declared.seat.Seat.{Seat}
+use Rattle.radio_seats.specs.declared.seat.Seating.{Seating}
+use Rattle.radio_seats.specs.declared.seat.Seating.TheVariants.{Sits as HasSeat, Finished as HasFinished}
 use Rattle.radio_core.specs.declared.standing.Standing.{Standing}
 use Rattle.radio_core.specs.declared.standing.Standing.TheVariants.{Unknown, Undecided, Feeds, Sits, Answered, Finished}
 use Rattle.radio_core.specs.World.{World, standing_of}
 use Rattle.radio_core.specs.Changes.{changed, session_ended}
-use Rattle.radio_core.specs.Seats.{listener_of, seat_of, seat_in, seat_held, heard_to}
+use Rattle.radio_seats.specs.Seats.{listener_of, seat_of, seat_in, seat_held, heard_to}
 use Rattle.radio_core.specs.Sessions.{Session, session_of, opened, longer, fed, without_session}
 use Rattle.radio_core.specs.Sound.{AreRising, IsSeatedIn, IsSound}
 use Rattle.radio_core.specs.Stream.{end_of, data_at}
-use Rattle.radio_core.proofs.Lookups.{beside_moved, beside_left, has_moved, is_no_listener, have_finished, found_named, beside_fed, beside_ended, is_longer, is_over, is_new_session, beside_begun}
-use Rattle.radio_core.proofs.Standings.{Turns, Loses, turns_answered, turns_feeding, turns_forgotten, listener_seated, stays_hearing, silenced, ended_feeds, feeds_ended}
+use Rattle.radio_seats.specs.SeatLaws.{beside_moved, has_moved}
+use Rattle.radio_core.proofs.Lookups.{found_named, beside_fed, beside_ended, is_longer, is_over, is_new_session, beside_begun}
+use Rattle.radio_seats.specs.SeatLaws.{listener_seated}
+use Rattle.radio_core.proofs.Standings.{Turns, Loses, turns_answered, turns_feeding, turns_forgotten, stays_hearing, silenced, ended_feeds, feeds_ended}
 use Rattle.radio_core.proofs.Soundness.{rising_more, sound_turned, seated_still}
 
 -- the names of the mount are the same

@@ -13,17 +13,18 @@ use Rattle.radio_core.specs.declared.clients.Client.{Client}
 use Rattle.radio_core.specs.declared.clients.ClientState.{ClientState}
 use Rattle.radio_core.specs.declared.clients.ClientState.TheVariants.{Undecided, Feeds, Listens, Answered, Ended}
 use Rattle.radio_core.specs.declared.outcome.Change.TheVariants.{Answer, Admit, Begin, Receive, TakeSeat, Advance, Forget}
-use Rattle.radio_core.specs.declared.seats.Listener.{Listener}
-use Rattle.radio_core.specs.declared.seats.Seat.{Seat}
-use Rattle.radio_core.specs.declared.seats.Seating.{Seating}
-use Rattle.radio_core.specs.declared.seats.Seating.TheVariants.{Sits as HasSeat, Finished as HasFinished}
+use Rattle.radio_seats.specs.declared.seat.Listener.{Listener}
+use Rattle.radio_seats.specs.declared.seat.Seat.{Seat}
+use Rattle.radio_seats.specs.declared.seat.Seating.{Seating}
+use Rattle.radio_seats.specs.declared.seat.Seating.TheVariants.{Sits as HasSeat, Finished as HasFinished}
 use Rattle.radio_core.specs.declared.standing.Standing.{Standing}
 use Rattle.radio_core.specs.declared.standing.Standing.TheVariants.{Unknown, Undecided as IsUndecided, Feeds as IsFeeding, Sits, Answered as IsAnswered, Finished}
 use Rattle.radio_core.specs.Clients.{client_of, in_state, with_state}
-use Rattle.radio_core.specs.Seats.{listener_of, seat_of, seat_held, seat_in, ended_at, finished_from, advanced, heard_to}
+use Rattle.radio_seats.specs.Seats.{listener_of, seat_of, seat_held, seat_in, ended_at, finished_from, advanced, heard_to}
 use Rattle.radio_core.specs.World.{World, standing_of, standing_in, standing_by, standing_seated, standing_of_listener}
 use Rattle.radio_core.specs.Changes.{changed, session_ended}
-use Rattle.radio_core.proofs.Lookups.{beside_state, beside_forgotten, does, is_no_client, is_new_client, beside_new, beside_moved, beside_left, beside_seated, has_moved, is_no_listener, has_sat_down, have_finished}
+use Rattle.radio_seats.specs.SeatLaws.{beside_moved, beside_left, beside_seated, has_moved, is_no_listener, has_sat_down, have_finished}
+use Rattle.radio_core.proofs.Lookups.{beside_state, beside_forgotten, does, is_no_client, is_new_client, beside_new}
 
 -- one client stands so from now on, and the others as before
 pub record Turns (w later : World) (him : ℕ) (now : Standing) : Type 0 where
@@ -109,15 +110,6 @@ heard_in : (place : ℕ) (listener : Listener) (client : Option Client)
     → standing_in (Some (advanced place listener)) client ≡ standing_in (Some listener) client
 heard_in place listener None = refl
 heard_in place listener (Some client) = heard_by place listener client.peer client.state
-
--- who has a seat is one of the listeners
-pub listener_seated : (seats : List Listener) (id : ℕ) (seat : Seat) → seat_of seats id ≡ Some seat
-    → (listener : Listener) × (listener_of seats id ≡ Some listener) × (seat_held listener.seating ≡ Some seat)
-listener_seated seats id seat e = by_found (listener_of seats id) refl where
-  by_found : (found : Option Listener) → listener_of seats id ≡ found
-      → (listener : Listener) × (listener_of seats id ≡ Some listener) × (seat_held listener.seating ≡ Some seat)
-  by_found None none = let is_none : seat_of seats id ≡ None = ap seat_in none in cc
-  by_found (Some listener) found = (listener, found, sym (ap seat_in found) ∙ e)
 
 pub stays_hearing : (w : World) (him place : ℕ) (listener : Listener) → listener_of w.seats him ≡ Some listener → (id : ℕ)
     → standing_of (changed w (Advance him place)) id ≡ standing_of w id

@@ -2,10 +2,10 @@ use Rattle.std.specs.Prelude.{◌≡◌, ℕ, List, Option, Some}
 use Rattle.radio_core.specs.declared.event.Event.{Event}
 use Rattle.radio_core.specs.declared.event.Event.TheVariants.{Draw}
 use Rattle.radio_core.specs.declared.reply.Reply.TheVariants.{Drawn}
-use Rattle.radio_core.specs.declared.seats.Seat.{Seat}
+use Rattle.radio_seats.specs.declared.seat.Seat.{Seat}
 use Rattle.radio_core.specs.declared.standing.Standing.TheVariants.{Sits}
 use Rattle.radio_core.specs.Open.{IsOpenTo}
-use Rattle.radio_core.specs.Seats.{seat_of}
+use Rattle.radio_seats.specs.Seats.{seat_of}
 use Rattle.radio_core.specs.Sessions.{Session, session_of}
 use Rattle.radio_core.specs.Step.{reply_to}
 use Rattle.radio_core.specs.Stream.{data_at}

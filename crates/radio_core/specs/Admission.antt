@@ -5,9 +5,9 @@ use Rattle.radio_core.specs.declared.event.Event.{Event}
 use Rattle.radio_core.specs.declared.event.Event.TheVariants.{Listen}
 use Rattle.radio_core.specs.declared.event.ListenRequest.{ListenRequest}
 use Rattle.radio_core.specs.declared.reply.Reply.TheVariants.{Seated}
-use Rattle.radio_core.specs.declared.seats.Seat.{Seat}
+use Rattle.radio_seats.specs.declared.seat.Seat.{Seat}
 use Rattle.radio_core.specs.Listen.{burst_of}
-use Rattle.radio_core.specs.Seats.{seat_of}
+use Rattle.radio_seats.specs.Seats.{seat_of}
 use Rattle.radio_core.specs.Sessions.{Session, session_of}
 use Rattle.radio_core.specs.Step.{reply_to, world_after}
 use Rattle.radio_core.specs.Stream.{WholeStream, end_of}

@@ -6,12 +6,12 @@ use Rattle.radio_settings.specs.declared.field.Shown.{Shown}
 use Rattle.radio_core.specs.declared.clients.ClientState.{ClientState}
 use Rattle.radio_core.specs.declared.clients.ClientState.TheVariants.{Feeds, Listens, Answered}
 use Rattle.radio_core.specs.declared.house.House.{House}
-use Rattle.radio_core.specs.declared.seats.Seat.{Seat}
+use Rattle.radio_seats.specs.declared.seat.Seat.{Seat}
 use Rattle.radio_core.specs.declared.outcome.Change.{Change}
 use Rattle.radio_core.specs.declared.outcome.Change.TheVariants.{Nothing, Answer, Admit, Begin, Receive, SetTitle, TakeSeat, Advance, End, EndAndLeave, Forget}
 use Rattle.radio_core.specs.Clients.{newcomer, with_client, in_state, without_client}
 use Rattle.radio_core.specs.Sessions.{opened, with_session, fed, titled, without_session}
-use Rattle.radio_core.specs.Seats.{with_seat, with_place, finished_at, without_listener}
+use Rattle.radio_seats.specs.Seats.{with_seat, with_place, finished_at, without_listener}
 use Rattle.radio_core.specs.World.{World}
 
 -- the client of this number does something else from now on

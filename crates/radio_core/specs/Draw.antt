@@ -3,10 +3,10 @@ use Rattle.radio_core.specs.declared.house.House.{House}
 use Rattle.radio_core.specs.declared.reply.Reply.TheVariants.{Drawn, Stray}
 use Rattle.radio_core.specs.declared.outcome.Change.TheVariants.{Nothing, Advance}
 use Rattle.radio_core.specs.declared.outcome.Outcome.{Outcome}
-use Rattle.radio_core.specs.declared.seats.Seat.{Seat}
+use Rattle.radio_seats.specs.declared.seat.Seat.{Seat}
 use Rattle.radio_core.specs.Sessions.{Session, session_of}
 use Rattle.radio_core.specs.Stream.{data_at}
-use Rattle.radio_core.specs.Seats.{seat_of}
+use Rattle.radio_seats.specs.Seats.{seat_of}
 use Rattle.radio_core.specs.World.{World, standing_of}
 use Rattle.radio_core.specs.Outcomes.{says, if_sitting}
 

@@ -4,10 +4,10 @@ use Rattle.radio_settings.specs.declared.settings.Settings.{Settings}
 use Rattle.radio_access.specs.Lists.{Lists}
 use Rattle.radio_core.specs.declared.event.Event.{Event}
 use Rattle.radio_core.specs.declared.reply.Reply.TheVariants.{Finished}
-use Rattle.radio_core.specs.declared.seats.Seat.{Seat}
+use Rattle.radio_seats.specs.declared.seat.Seat.{Seat}
 use Rattle.radio_core.specs.Facts.{is_live, walk_stops}
 use Rattle.radio_core.specs.Run.{run_after}
-use Rattle.radio_core.specs.Seats.{seat_of}
+use Rattle.radio_seats.specs.Seats.{seat_of}
 use Rattle.radio_core.specs.Sessions.{Session, session_of}
 use Rattle.radio_core.specs.Step.{reply_to, world_after}
 use Rattle.radio_core.specs.Ways.{client_in}

@@ -1,7 +1,6 @@
 pub mod Stream
 pub mod Sessions
 pub mod Clients
-pub mod Seats
 pub mod World
 pub mod Facts
 pub mod Outcomes

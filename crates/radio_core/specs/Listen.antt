@@ -7,7 +7,7 @@ use Rattle.radio_core.specs.declared.house.House.{House}
 use Rattle.radio_core.specs.declared.reply.Reply.TheVariants.{Seated, Stray}
 use Rattle.radio_core.specs.declared.outcome.Change.TheVariants.{Nothing, Answer, TakeSeat}
 use Rattle.radio_core.specs.declared.outcome.Outcome.{Outcome}
-use Rattle.radio_core.specs.declared.seats.Seat.{Seat}
+use Rattle.radio_seats.specs.declared.seat.Seat.{Seat}
 use Rattle.radio_core.specs.Sessions.{Session}
 use Rattle.radio_core.specs.Stream.{burst_start}
 use Rattle.radio_core.specs.World.{World, standing_of}

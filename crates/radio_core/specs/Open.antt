@@ -1,6 +1,6 @@
 use Rattle.std.specs.Prelude.{◌≡◌, true, Some}
 use Rattle.radio_access.specs.Lists.{passes, lets_in}
-use Rattle.radio_core.specs.declared.seats.Seat.{Seat}
+use Rattle.radio_seats.specs.declared.seat.Seat.{Seat}
 use Rattle.radio_core.specs.Sessions.{Session, session_of}
 use Rattle.radio_core.specs.World.{World}
 

@@ -1,9 +1,9 @@
 -- What holds of every state of a run.
 use Rattle.std.specs.Prelude.{◌≡◌, ℕ, ◌<◌, ◌≤◌, List, [], ◌∷◌, Some}
 use Rattle.radio_tables.specs.Lists.{Each}
-use Rattle.radio_core.specs.declared.seats.Seat.{Seat}
+use Rattle.radio_seats.specs.declared.seat.Seat.{Seat}
 use Rattle.radio_core.specs.declared.standing.Standing.TheVariants.{Unknown, Feeds, Sits}
-use Rattle.radio_core.specs.Seats.{seat_of}
+use Rattle.radio_seats.specs.Seats.{seat_of}
 use Rattle.radio_core.specs.Sessions.{Session, session_of}
 use Rattle.radio_core.specs.Stream.{WholeStream, end_of}
 use Rattle.radio_core.specs.World.{World, standing_of}

@@ -19,7 +19,6 @@ mod laws;
 mod outcome;
 mod reply;
 mod same;
-mod seats;
 mod server;
 mod sessions;
 mod standing;

@@ -1,11 +1,11 @@
 //! What comes of an event: worked out first, and then committed.
 
 use crate::Reply;
-use crate::seats::Seat;
 use radio_addr::Peer;
 use radio_blocks::{Block, Place};
 use radio_icy::Title;
 use radio_policy::Rule;
+use radio_seats::Seat;
 use radio_settings::{MountName, Shown};
 
 /// What an event changes.

@@ -3,7 +3,7 @@
 
 ghost use Rattle.std.specs.Prelude.{◌≡◌, [], ◌∷◌, IsOk, IfOk, OnOk, OnErr};
 ghost use Rattle.radio_core.specs.declared.reply.Reply.{Reply as ReplyOf};
-ghost use Rattle.radio_core.specs.Seats.{listener_of};
+ghost use Rattle.radio_seats.specs.Seats.{listener_of};
 ghost use Rattle.radio_core.specs.World.{World, opening, standing_of, standing_of_listener};
 ghost use Rattle.radio_core.specs.Changes.{changed};
 ghost use Rattle.radio_core.specs.Replies.{HoldsNoText};
@@ -12,10 +12,10 @@ ghost use Rattle.radio_core.specs.Step.{outcome, Step, Represents, NeedsNoMemory
 use crate::clients::ClientState;
 use crate::house::House;
 use crate::outcome::{Change, Outcome};
-use crate::seats::{Listener, Seating};
 use crate::standing::Standing;
 use crate::{Event, OutOfMemory, Reply};
 use radio_access::Lists;
+use radio_seats::{Seating, Seats};
 use radio_settings::Settings;
 use radio_tables::Table;
 use std::alloc::Global;
@@ -36,8 +36,7 @@ mod title;
 pub struct Core {
     alloc: Global,
     house: House,
-    /// The listeners, in the order of their numbers.
-    seats: Table<Listener>,
+    seats: Seats,
 }
 
 impl Model for Core {
@@ -70,7 +69,7 @@ impl Core {
         Core {
             alloc,
             house,
-            seats: Table::new(alloc),
+            seats: Seats::new(alloc),
         }
     }
 

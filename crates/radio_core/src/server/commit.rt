@@ -4,9 +4,9 @@ ghost use Rattle.radio_core.specs.Step.{NeedsNoMemory};
 
 use crate::clients::ClientState;
 use crate::outcome::Change;
-use crate::seats::{Advances, FinishesFrom, Listener, Seat, Seating};
 use crate::{Core, OutOfMemory};
 use radio_policy::Rule;
+use radio_seats::Seat;
 use radio_settings::MountName;
 
 impl Core {
@@ -31,7 +31,7 @@ impl Core {
             }
             Change::TakeSeat { id, seat } => self.seat_listener(id, seat),
             Change::Advance { id, place } => {
-                self.seats.change(id, &Advances { place });
+                self.seats.advance(id, place);
                 Ok(())
             }
             Change::End { id, mount } => {
@@ -56,8 +56,7 @@ impl Core {
         ensures ok { OnOk result (self.new ≡ changed self.old (Change.TakeSeat id seat)) }
         ensures err { OnErr result (self.new ≡ self.old) }
     {
-        let seating = Seating::Sits(seat);
-        self.seats.insert(Listener { id, seating })?;
+        self.seats.add(id, seat)?;
         self.house.set_state(id, ClientState::Listens);
         Ok(())
     }
@@ -67,8 +66,7 @@ impl Core {
         ensures { self.new ≡ session_ended self.old mount }
     {
         self.house.live.remove(mount);
-        let rule = Rule::NotLive;
-        self.seats.change_all(&FinishesFrom { mount, rule });
+        self.seats.finish_at(mount, Rule::NotLive);
     }
 
     /// Nothing is left of the client. It takes no memory.

@@ -1,15 +1,15 @@
 ghost use Rattle.std.specs.Prelude.{◌≡◌, IfOk};
 ghost use Rattle.radio_core.specs.Draw.{draws, hands_out, hands_out_at};
 ghost use Rattle.radio_core.specs.Outcomes.{if_sitting};
-ghost use Rattle.radio_core.specs.Seats.{listener_of, seat_of};
+ghost use Rattle.radio_seats.specs.Seats.{listener_of, seat_of};
 ghost use Rattle.radio_core.specs.Sessions.{session_of};
 ghost use Rattle.radio_core.specs.World.{standing_of_listener};
 
 use crate::clients::ClientState;
 use crate::outcome::{Change, Outcome};
-use crate::seats::{Seat, Seating};
 use crate::{Core, OutOfMemory, Reply};
 use radio_blocks::Pieces;
+use radio_seats::{Seat, Seating};
 
 impl Core {
     /// A listener has room for so many bytes. `OutOfMemory` where memory was refused.

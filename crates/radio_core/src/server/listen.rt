@@ -5,12 +5,12 @@ ghost use Rattle.radio_core.specs.Listen.{asks_to_hear, takes_seat, burst_of, in
 use crate::facts::asker_of;
 use crate::house::House;
 use crate::outcome::{Change, Outcome};
-use crate::seats::Seat;
 use crate::sessions::Session;
 use crate::standing::Standing;
 use crate::{Core, ListenRequest, OutOfMemory, Reply};
 use radio_addr::Peer;
 use radio_policy::{Action, Verdict, judge};
+use radio_seats::Seat;
 use radio_settings::MountName;
 
 impl Core {

@@ -1,13 +1,16 @@
 -- The listeners, each with his seat, or with the rule by which he has lost it.
-use Rattle.std.specs.Prelude.{ℕ, Bool, false, ◌==◌, not, if◌then◌else◌, List, Option, Some, None, find, filter, map}
+use Rattle.std.specs.Prelude.{ℕ, Bool, false, ◌==◌, ◌&&◌, not, if◌then◌else◌, List, length, Option, Some, None, find, filter, map}
 use Rattle.std.specs.declared.cmp.Ordering.{Ordering}
+use Rattle.std.specs.List.{list_any}
+use Rattle.std.specs.List.Sorted.{IsStrictlySortedBy}
 use Rattle.std.specs.Ordering.{nat_cmp}
 use Rattle.std.specs.Str.{bytes_eq}
+use Rattle.radio_creds.specs.Credentials.{Credentials}
 use Rattle.radio_policy.specs.declared.rule.Rule.{Rule}
-use Rattle.radio_core.specs.declared.seats.Seat.{Seat}
-use Rattle.radio_core.specs.declared.seats.Seating.{Seating}
-use Rattle.radio_core.specs.declared.seats.Seating.TheVariants.{Sits, Finished}
-use Rattle.radio_core.specs.declared.seats.Listener.{Listener}
+use Rattle.radio_seats.specs.declared.seat.Seat.{Seat}
+use Rattle.radio_seats.specs.declared.seat.Seating.{Seating}
+use Rattle.radio_seats.specs.declared.seat.Seating.TheVariants.{Sits, Finished}
+use Rattle.radio_seats.specs.declared.seat.Listener.{Listener}
 use Rattle.radio_tables.specs.Lists.{update_first, placed}
 
 abbrev pub is_listener : ℕ → Listener → Bool
@@ -33,6 +36,10 @@ seat_of seats id = seat_in (listener_of seats id)
 -- listeners stand in the order of their numbers
 abbrev pub by_listener : Listener → Listener → Ordering
 by_listener a b = nat_cmp a.id b.id
+
+-- the listeners stand in rising order of their numbers, so that no number comes twice
+abbrev pub AreByNumber : List Listener → Type 0
+AreByNumber seats = IsStrictlySortedBy nat_cmp (map (λ listener. listener.id) seats)
 
 -- a listener who sits down
 abbrev pub seated : ℕ → Seat → Listener
@@ -72,3 +79,21 @@ finished_at seats mount rule = map (finished_from mount rule) seats
 -- nothing is left of the listener
 abbrev pub without_listener : List Listener → ℕ → List Listener
 without_listener seats id = filter (λ listener. not (is_listener id listener)) seats
+
+-- how many sit at the mount; who has finished does not count
+abbrev pub count_at : List Listener → List ℕ → ℕ
+count_at seats mount = length (filter (λ listener. is_seat_at mount listener.seating) seats)
+
+-- the pair that was sent has this user; without a pair there is none
+abbrev pub has_user : List ℕ → Option Credentials → Bool
+has_user user None = false
+has_user user (Some pair) = bytes_eq pair.user user
+
+-- it is a seat at the mount, of one who sent this user
+abbrev pub is_user_at : List ℕ → List ℕ → Seating → Bool
+is_user_at mount user (Sits seat) = bytes_eq seat.mount mount && has_user user seat.pair
+is_user_at mount user (Finished rule) = false
+
+-- somebody sits at the mount who sent this user
+abbrev pub sits_there : List Listener → List ℕ → List ℕ → Bool
+sits_there seats mount user = list_any (λ listener. is_user_at mount user listener.seating) seats
