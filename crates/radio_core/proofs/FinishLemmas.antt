@@ -3,7 +3,7 @@ use Rattle.std.proofs.Common.{Bool, ◌≡◌, ◌⊎◌, inl, inr, true, false,
 use Rattle.std.specs.Prelude.{if◌then◌else◌}
 use Rattle.std.proofs.lemmas.Slice.Eq.{bytes_eq-Decides}
 use Rattle.radio_policy.specs.declared.rule.Rule.{Rule}
-use Rattle.radio_policy.specs.declared.rule.Rule.TheVariants.{ListenerPassword, NotLive}
+use Rattle.radio_policy.specs.declared.rule.Rule.TheVariants.{NotLive}
 use Rattle.radio_addr.specs.declared.peer.Peer.{Peer}
 use Rattle.radio_settings.specs.declared.settings.Settings.{Settings}
 use Rattle.radio_access.specs.Lists.{Lists, passes}
@@ -16,11 +16,13 @@ use Rattle.radio_core.specs.declared.standing.Standing.{Standing}
 use Rattle.radio_core.specs.declared.standing.Standing.TheVariants.{Unknown, Undecided, Feeds, Sits, Answered, Finished as HasFinished}
 use Rattle.radio_core.specs.World.{World, opening, standing_of}
 use Rattle.radio_core.specs.Changes.{session_ended}
-use Rattle.radio_core.specs.Facts.{is_live, is_let_in}
+use Rattle.radio_core.specs.Facts.{is_live, sight_of}
 use Rattle.radio_core.specs.Finishes.{Finishes, WasFinished, FinishedAreTold}
 use Rattle.radio_core.specs.Others.{StandsOn, OthersStandOn}
 use Rattle.radio_core.specs.Run.{world_after_all, run_after}
+use Rattle.radio_seats.specs.declared.walk.Found.{Found}
 use Rattle.radio_seats.specs.Seats.{listener_of, seat_of}
+use Rattle.radio_seats.specs.Walk.{found_at, stop_of}
 use Rattle.radio_core.specs.Sessions.{Session, session_of}
 use Rattle.radio_core.specs.Sound.{IsSound}
 use Rattle.radio_core.specs.Step.{outcome, reply_to, world_after}
@@ -36,9 +38,8 @@ not_live : (b : _) (found : Option Session) → found ≡ None → is_some (if b
 not_live true found e = ap is_some e
 not_live false found e = refl
 
-stopped : (b accepted : Bool) → b ≡ false → (if b then (if accepted then None else Some ListenerPassword) else Some NotLive) ≡ Some NotLive
-stopped true accepted e = cc
-stopped false accepted e = refl
+stopped : (found : Found) → found.is_live ≡ false → stop_of found ≡ Some NotLive
+stopped found e = rw e refl
 
 -- what the end of a session does to whoever sits at its mount: he is finished by it
 module _ (w : World) (s : IsSound w) (event : Event) (mount : List ℕ) (over : session_of (world_after w event).house.live mount ≡ None)
@@ -58,7 +59,7 @@ module _ (w : World) (s : IsSound w) (event : Event) (mount : List ℕ) (over : 
         session = old.session;
         was_live = old.is_live;
         is_over = dead;
-        stopped_by = stopped (is_live (world_after w event).house seat.mount) (is_let_in (world_after w event).house seat.mount seat.pair) dead;
+        stopped_by = stopped (found_at (sight_of (world_after w event).house) (world_after w event).seats seat.mount seat.pair) (ap is_some forgotten);
         has_none = lost id (sits_no_more w mount id seat loses.had_a_seat loses.there);
       }
 

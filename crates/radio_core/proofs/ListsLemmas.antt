@@ -92,7 +92,7 @@ module _ (w : World) (s : IsSound w) (k : KeepsLists w) where
   seated_by event o (Receives him mount block feeding) id seat h = k.seated id seat h
   seated_by event o (SetsTitle him mount text feeding) id seat h = k.seated id seat h
   seated_by event o (TakesSeat asked peer session undecided live allowed) id seat h =
-      seated_new asked peer session undecided live (may_listen w asked allowed).1 id seat h
+      seated_new asked peer session undecided live (may_listen w asked allowed).1.accepts id seat h
   seated_by event o (HandsOut him room old session sits has live) id seat h = seated_further him room old session sits has live id seat h
   seated_by event o (Ends him mount feeding) id seat h = k.seated id seat (still_sits w mount id seat h).had_a_seat
   seated_by event o (EndsAndLeaves him mount feeding) id seat h =

@@ -107,12 +107,12 @@ module _ (allows : (rows : List Row) → (verdict_in rows ≡ Allow) ↔ Allows 
       ∙ is_allowed (verdict_in (rows_to_push w.house mount block)) _ (takes_in mount block) ((allows (rows_to_push w.house mount block)).1 a)
 
   outcome_listen : (asked : ListenRequest) (peer : Peer) (session : Session) → standing_of w asked.id ≡ Undecided peer
-      → verdict_in (rows_to_listen w.house asked) ≡ Allow → session_at w.house asked.mount ≡ Some session
+      → verdict_in (rows_to_listen w asked) ≡ Allow → session_at w.house asked.mount ≡ Some session
       → outcome w (Listen asked) ≡ takes_seat w.house asked peer (Some session)
   unfolding outcome
   outcome_listen asked peer session e v found =
       goes_undecided (standing_of w asked.id) peer _ e
-      ∙ is_allowed (verdict_in (rows_to_listen w.house asked)) _ (takes_seat w.house asked peer (session_at w.house asked.mount)) v
+      ∙ is_allowed (verdict_in (rows_to_listen w asked)) _ (takes_seat w.house asked peer (session_at w.house asked.mount)) v
       ∙ ap (takes_seat w.house asked peer) found
 
   outcome_draw : (id room : ℕ) (seat : Seat) (session : Session) → standing_of w id ≡ Sits → seat_of w.seats id ≡ Some seat
@@ -132,9 +132,9 @@ module _ (allows : (rows : List Row) → (verdict_in rows ≡ Allow) ↔ Allows 
   unfolding reply_to
   reply_is event o e = ap (λ (x : Outcome). x.reply) e
 
-  received : (asked : ListenRequest) (peer : Peer) → standing_of w asked.id ≡ Undecided peer → Allows (rows_to_listen w.house asked) → IsTakenIn w asked
+  received : (asked : ListenRequest) (peer : Peer) → standing_of w asked.id ≡ Undecided peer → Allows (rows_to_listen w asked) → IsTakenIn w asked
   received asked peer e a =
-      let v = (allows (rows_to_listen w.house asked)).1 a in
+      let v = (allows (rows_to_listen w asked)).1 a in
       let there = found_there (session_at w.house asked.mount) (may_listen w asked v).0 in
       let o = outcome_listen asked peer there.0 e v there.1 in
       record {

@@ -3,15 +3,16 @@ use Rattle.std.proofs.Common.{◌≡◌, true, false, ℕ, Bool, ◌==◌, not, 
 use Rattle.std.specs.Prelude.{if◌then◌else◌}
 use Rattle.radio_policy.specs.declared.rule.Rule.{Rule}
 use Rattle.radio_policy.specs.declared.rule.Rule.TheVariants.{AddressDenied, AddressNotAllowed, TooManyClients, BadMount, SourcePassword, TooManySources, MountInUse}
-use Rattle.radio_policy.specs.declared.rule.Rule.TheVariants.{ContentType, NoMount, ListenerPassword, NotLive, NumbersSpent}
+use Rattle.radio_policy.specs.declared.rule.Rule.TheVariants.{ContentType, NumbersSpent}
 use Rattle.radio_policy.specs.declared.judgement.Verdict.{Verdict}
 use Rattle.radio_policy.specs.declared.judgement.Verdict.TheVariants.{Allow, Deny as Denied}
-use Rattle.radio_policy.specs.Table.{Row, row, walk_rows}
+use Rattle.radio_policy.specs.declared.facts.Facts.{Facts}
+use Rattle.radio_policy.specs.declared.facts.TheConstants.Facts.{NONE}
+use Rattle.radio_policy.specs.Table.{Row, row, listen_rows}
 use Rattle.radio_policy.specs.Verdicts.{verdict_in}
 use Rattle.radio_addr.specs.declared.peer.Peer.{Peer}
-use Rattle.radio_creds.specs.Credentials.{Credentials}
 use Rattle.radio_settings.specs.MountName.{is_mount_name}
-use Rattle.radio_access.specs.Lists.{is_denied, is_allowed, passes, lets_in}
+use Rattle.radio_access.specs.Lists.{passes}
 use Rattle.radio_core.specs.declared.event.SourceRequest.{SourceRequest}
 use Rattle.radio_core.specs.declared.event.ListenRequest.{ListenRequest}
 use Rattle.radio_core.specs.declared.event.Event.{Event}
@@ -22,10 +23,12 @@ use Rattle.radio_core.specs.declared.outcome.Change.TheVariants.{Nothing, Answer
 use Rattle.radio_core.specs.declared.outcome.Outcome.{Outcome}
 use Rattle.radio_core.specs.declared.reply.Reply.TheVariants.{Deny}
 use Rattle.radio_seats.specs.declared.seat.Seat.{Seat}
+use Rattle.radio_seats.specs.declared.walk.Found.{Found}
+use Rattle.radio_seats.specs.Walk.{found_at, stop_of}
 use Rattle.radio_core.specs.declared.standing.Standing.{Standing}
 use Rattle.radio_core.specs.declared.standing.Standing.TheVariants.{Unknown, Undecided, Feeds, Sits, Answered, Finished}
 use Rattle.radio_core.specs.World.{World, standing_of}
-use Rattle.radio_core.specs.Facts.{largest_number, session_at, is_live, is_let_in, arrive_facts, source_facts, listen_facts, rows_to_arrive, rows_to_feed, rows_to_push, rows_to_listen}
+use Rattle.radio_core.specs.Facts.{largest_number, session_at, is_live, is_known, sight_of, arrive_facts, source_facts, rows_to_arrive, rows_to_feed, rows_to_push, rows_to_listen}
 use Rattle.radio_core.specs.Outcomes.{says, on_verdict, out_of_place, if_undecided, if_feeding, if_sitting}
 use Rattle.radio_core.specs.Arrive.{arrives, admits_client}
 use Rattle.radio_core.specs.Source.{asks_to_feed, begins}
@@ -124,26 +127,45 @@ has_number_left house peer v =
     let facts = arrive_facts house peer in
     (passes_by facts.address_is_denied facts.address_is_allowed facts.clients_are_full facts.number_is_spent v).1
 
--- the mount that a listener may hear is live, and lets him in
-hears_by : (named known accepted live : Bool)
-    → verdict_in (row BadMount (not named) ∷ row NoMount (not known) ∷ row ListenerPassword (not accepted)
-    ∷ walk_rows (if live then (if accepted then None else Some ListenerPassword) else Some NotLive)) ≡ Allow
-    → (named ≡ true) × (accepted ≡ true) × (live ≡ true)
-hears_by true true true true v = (refl, refl, refl)
-hears_by true true true false v = cc
-hears_by true true false live v = cc
-hears_by true false accepted live v = cc
-hears_by false known accepted live v = cc
+-- what a listener finds at the mount that he may hear: it is live, has room, lets him in, and is not his to sit at already
+pub record IsWelcome (found : Found) : Type 0 where
+  pub lives : found.is_live ≡ true
+  pub has_room : found.is_full ≡ false
+  pub accepts : found.users_accept ≡ true
+  pub once : found.user_is_twice ≡ false
 
-let_in_at_name : (w : World) (path : List ℕ) (pair : Option Credentials) → is_mount_name path ≡ true → is_let_in w.house path pair ≡ lets_in w.house.lists path pair
-let_in_at_name w path pair name = rw name refl
+abbrev facts_from : Bool → Found → Facts
+facts_from known found = record NONE {
+  mount_is_known = known;
+  users_accept = found.users_accept;
+  user_is_twice = found.user_is_twice;
+  walk_stops = stop_of found;
+}
 
-pub may_listen : (w : World) (asked : ListenRequest) → verdict_in (rows_to_listen w.house asked) ≡ Allow
-    → (is_live w.house asked.mount ≡ true) × (lets_in w.house.lists asked.mount asked.pair ≡ true)
+abbrev rows_by : Bool → Bool → Found → List Row
+rows_by named known found = listen_rows (if named then facts_from known found else NONE) (record { names_a_mount = named })
+
+hears_by : (named known live full accepted twice : Bool)
+    → verdict_in (rows_by named known (record { is_live = live; is_full = full; users_accept = accepted; user_is_twice = twice })) ≡ Allow
+    → (named ≡ true) × IsWelcome (record { is_live = live; is_full = full; users_accept = accepted; user_is_twice = twice })
+hears_by true true true false true false v = (refl, record { lives = refl; has_room = refl; accepts = refl; once = refl })
+hears_by true true true true true false v = cc
+hears_by true true false full true false v = cc
+hears_by true true live full true true v = cc
+hears_by true true live full false twice v = cc
+hears_by true false live full accepted twice v = cc
+hears_by false known live full accepted twice v = cc
+
+-- what one who asks finds at the mount of his path
+abbrev pub found_by : World → ListenRequest → Found
+found_by w asked = found_at (sight_of w.house) w.seats asked.mount asked.pair
+
+pub may_listen : (w : World) (asked : ListenRequest) → verdict_in (rows_to_listen w asked) ≡ Allow
+    → (is_live w.house asked.mount ≡ true) × IsWelcome (found_by w asked)
 may_listen w asked v =
-    let facts = listen_facts w.house asked in
-    let hears = hears_by (is_mount_name asked.mount) facts.mount_is_known facts.users_accept (is_live w.house asked.mount) v in
-    (hears.2, sym (let_in_at_name w asked.mount asked.pair hears.0) ∙ hears.1)
+    let found = found_by w asked in
+    let hears = hears_by (is_mount_name asked.mount) (is_known w.house asked.mount) found.is_live found.is_full found.users_accept found.user_is_twice v in
+    (ap is_some (at_name w asked.mount (is_mount_name asked.mount) refl hears.0) ∙ hears.1.lives, hears.1)
 
 -- what is at a path is the session of that mount
 pub found_at_path : (w : World) (path : List ℕ) (session : Session) → session_at w.house path ≡ Some session → session_of w.house.live path ≡ Some session
@@ -152,7 +174,7 @@ found_at_path w path session e = by_name (is_mount_name path) e where
   by_name true f = f
   by_name false f = cc
 
-sits : (w : World) (asked : ListenRequest) (peer : Peer) → standing_of w asked.id ≡ Undecided peer → verdict_in (rows_to_listen w.house asked) ≡ Allow
+sits : (w : World) (asked : ListenRequest) (peer : Peer) → standing_of w asked.id ≡ Undecided peer → verdict_in (rows_to_listen w asked) ≡ Allow
     → (found : Option Session)
     → session_at w.house asked.mount ≡ found → Way w (Listen asked) (takes_seat w.house asked peer found)
 sits w asked peer e v None none = Misplaced (Listen asked)

@@ -1,9 +1,8 @@
 -- What is looked up in the server for the policy.
-use Rattle.std.specs.Prelude.{ℕ, ◌+◌, ◌-◌, ◌^◌, ◌==◌, nat_lt, Bool, false, not, ◌||◌, if◌then◌else◌, List, [], length, Option, Some, None, is_some, find}
+use Rattle.std.specs.Prelude.{ℕ, ◌+◌, ◌-◌, ◌^◌, ◌==◌, nat_lt, Bool, false, not, ◌||◌, if◌then◌else◌, List, [], length, Option, None, is_some, find}
 use Rattle.std.specs.Option.{option_map_or}
 use Rattle.std.specs.Str.{bytes_eq}
 use Rattle.radio_policy.specs.declared.rule.Rule.{Rule}
-use Rattle.radio_policy.specs.declared.rule.Rule.TheVariants.{ListenerPassword, NotLive}
 use Rattle.radio_policy.specs.declared.facts.Facts.{Facts}
 use Rattle.radio_policy.specs.declared.facts.Subject.{Subject}
 use Rattle.radio_policy.specs.declared.facts.TheConstants.Facts.{NONE}
@@ -12,14 +11,18 @@ use Rattle.radio_addr.specs.declared.peer.Peer.{Peer}
 use Rattle.radio_creds.specs.Credentials.{Credentials}
 use Rattle.radio_settings.specs.declared.settings.Settings.{Settings}
 use Rattle.radio_settings.specs.MountName.{is_mount_name}
+use Rattle.radio_settings.specs.Options.{options_for}
 use Rattle.radio_access.specs.Lists.{is_denied, is_allowed, lets_in}
 use Rattle.radio_access.specs.SourcePair.{is_source_pair}
 use Rattle.radio_access.specs.ContentTypes.{is_refused_type}
+use Rattle.radio_seats.specs.declared.seat.Listener.{Listener}
+use Rattle.radio_seats.specs.Walk.{Sight, found_at, stop_of}
 use Rattle.radio_core.specs.declared.event.SourceRequest.{SourceRequest}
 use Rattle.radio_core.specs.declared.event.ListenRequest.{ListenRequest}
 use Rattle.radio_core.specs.declared.house.House.{House}
 use Rattle.radio_core.specs.Stream.{end_of}
 use Rattle.radio_core.specs.Sessions.{Session, session_of}
+use Rattle.radio_core.specs.World.{World}
 
 -- the largest number that a client's number or a place in a stream can be
 abbrev pub largest_number : ℕ
@@ -45,21 +48,26 @@ abbrev pub is_in_settings : Settings → List ℕ → Bool
 is_in_settings settings mount =
     is_some (find (λ set. bytes_eq set.name mount) settings.mounts) || is_some (find (λ relay. bytes_eq relay.local_mount mount) settings.relays)
 
--- the path names a mount that the settings know, or that is live
+-- the settings know the mount, or it is live
 abbrev pub is_known : House → List ℕ → Bool
-is_known house path = (if is_mount_name path then is_in_settings house.settings path || is_live house path else false)
+is_known house mount = is_in_settings house.settings mount || is_some (session_of house.live mount)
 
 -- the path names a mount, and its source sends this pair
 abbrev pub is_source_of : House → List ℕ → Option Credentials → Bool
 is_source_of house path pair = (if is_mount_name path then is_source_pair house.settings path pair else false)
 
--- the path names a mount that is open to one who sends this pair: it has no users, or they accept him
-abbrev pub is_let_in : House → List ℕ → Option Credentials → Bool
-is_let_in house path pair = (if is_mount_name path then lets_in house.lists path pair else false)
+-- what a walk sees of the house
+abbrev pub sight_of : House → Sight
+sight_of house = record {
+  is_live = λ mount. is_some (session_of house.live mount);
+  limit = λ mount. (options_for house.settings mount).listeners.max_listeners;
+  lets_in = lets_in house.lists;
+  allows_duplicates = λ mount. (options_for house.settings mount).users.allow_duplicate_users;
+}
 
 -- the rule that stops a walk from the mount, if one does: it looks at that mount alone
-abbrev pub walk_stops : House → List ℕ → Option Credentials → Option Rule
-walk_stops house path pair = (if is_live house path then (if is_let_in house path pair then None else Some ListenerPassword) else Some NotLive)
+abbrev pub walk_stops : House → List Listener → List ℕ → Option Credentials → Option Rule
+walk_stops house seats mount pair = stop_of (found_at (sight_of house) seats mount pair)
 
 -- how far the stream of the mount's session goes
 abbrev pub live_end : House → List ℕ → ℕ
@@ -85,12 +93,17 @@ source_facts house asked = record NONE {
 abbrev pub push_facts : House → List ℕ → List ℕ → Facts
 push_facts house mount block = record NONE { number_is_spent = nat_lt largest_number (live_end house mount + length block) }
 
-abbrev pub listen_facts : House → ListenRequest → Facts
-listen_facts house asked = record NONE {
-  mount_is_known = is_known house asked.mount;
-  users_accept = is_let_in house asked.mount asked.pair;
-  walk_stops = walk_stops house asked.mount asked.pair;
+abbrev pub facts_at : House → List Listener → List ℕ → Option Credentials → Facts
+facts_at house seats mount pair = let found = found_at (sight_of house) seats mount pair in record NONE {
+  mount_is_known = is_known house mount;
+  users_accept = found.users_accept;
+  user_is_twice = found.user_is_twice;
+  walk_stops = walk_stops house seats mount pair;
 }
+
+-- for a path that names no mount, nothing is looked up
+abbrev pub listen_facts : House → List Listener → ListenRequest → Facts
+listen_facts house seats asked = (if is_mount_name asked.mount then facts_at house seats asked.mount asked.pair else NONE)
 
 -- the policy's rows for each action, as things stand
 abbrev pub rows_to_arrive : House → Peer → List Row
@@ -102,5 +115,5 @@ rows_to_feed house asked = source_rows (source_facts house asked) (asker_of aske
 abbrev pub rows_to_push : House → List ℕ → List ℕ → List Row
 rows_to_push house mount block = push_rows (push_facts house mount block)
 
-abbrev pub rows_to_listen : House → ListenRequest → List Row
-rows_to_listen house asked = listen_rows (listen_facts house asked) (asker_of asked.mount)
+abbrev pub rows_to_listen : World → ListenRequest → List Row
+rows_to_listen w asked = listen_rows (listen_facts w.house w.seats asked) (asker_of asked.mount)

@@ -21,7 +21,7 @@ pub record Finishes (w : World) (event : Event) (id : ℕ) (rule : Rule) : Type 
   pub session : Session
   pub was_live : session_of w.house.live seat.mount ≡ Some session
   pub is_over : is_live (world_after w event).house seat.mount ≡ false
-  pub stopped_by : walk_stops (world_after w event).house seat.mount seat.pair ≡ Some rule
+  pub stopped_by : walk_stops (world_after w event).house (world_after w event).seats seat.mount seat.pair ≡ Some rule
   pub has_none : seat_of (world_after w event).seats id ≡ None
 
 -- one of the events of a run finished the listener by the rule

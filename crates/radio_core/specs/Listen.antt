@@ -44,4 +44,4 @@ takes_seat house asked peer (Some session) =
 -- a client wants to hear the mount of this path
 abbrev pub asks_to_hear : World → ListenRequest → Outcome
 asks_to_hear w asked = if_undecided (standing_of w asked.id) (λ peer.
-    on_verdict (verdict_in (rows_to_listen w.house asked)) (Answer asked.id) (takes_seat w.house asked peer (session_at w.house asked.mount)))
+    on_verdict (verdict_in (rows_to_listen w asked)) (Answer asked.id) (takes_seat w.house asked peer (session_at w.house asked.mount)))

@@ -38,6 +38,6 @@ pub record Serves (w : World) : Type 0 where
       → (reply_to w (Source asked) ≡ Feeding) × (standing_of (world_after w (Source asked)) asked.id ≡ Feeds asked.mount)
   pub takes_in : (id : ℕ) (mount block : List ℕ) → standing_of w id ≡ Feeds mount → Allows (rows_to_push w.house mount block)
       → reply_to w (Push id block) ≡ Noted
-  pub seats : (asked : ListenRequest) (peer : Peer) → standing_of w asked.id ≡ Undecided peer → Allows (rows_to_listen w.house asked)
+  pub seats : (asked : ListenRequest) (peer : Peer) → standing_of w asked.id ≡ Undecided peer → Allows (rows_to_listen w asked)
       → IsTakenIn w asked
   pub hands_out : (id room : ℕ) → standing_of w id ≡ Sits → IsHanded w id room

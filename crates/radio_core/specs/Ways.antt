@@ -50,7 +50,7 @@ abbrev pub rows_for : World → Event → List Row
 rows_for w (Arrive peer) = rows_to_arrive w.house peer
 rows_for w (Source asked) = rows_to_feed w.house asked
 rows_for w (Push id block) = rows_from w.house block (standing_of w id)
-rows_for w (Listen asked) = rows_to_listen w.house asked
+rows_for w (Listen asked) = rows_to_listen w asked
 rows_for w event = []
 
 pub data Way (w : World) : Event → Outcome → Type 0 where
@@ -70,7 +70,7 @@ pub data Way (w : World) : Event → Outcome → Type 0 where
   Receives : (id : ℕ) (mount block : List ℕ) → standing_of w id ≡ Feeds mount → Way w (Push id block) (says Noted (Receive mount block))
   SetsTitle : (id : ℕ) (mount text : List ℕ) → standing_of w id ≡ Feeds mount → Way w (Title id text) (says Noted (SetTitle mount text))
   TakesSeat : (asked : ListenRequest) (peer : Peer) (session : Session) → standing_of w asked.id ≡ Undecided peer
-      → session_of w.house.live asked.mount ≡ Some session → verdict_in (rows_to_listen w.house asked) ≡ Allow
+      → session_of w.house.live asked.mount ≡ Some session → verdict_in (rows_to_listen w asked) ≡ Allow
       → Way w (Listen asked)
       (says (Seated (interval_for w.house session.mount asked.wants_metadata) session.shown) (TakeSeat asked.id (first_seat w.house asked peer session)))
   HandsOut : (id room : ℕ) (seat : Seat) (session : Session) → standing_of w id ≡ Sits → seat_of w.seats id ≡ Some seat

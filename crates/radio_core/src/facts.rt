@@ -1,16 +1,17 @@
 //! What is looked up in the house for the policy.
 
-ghost use Rattle.std.specs.Prelude.{◌≡◌, if◌then◌else◌, Some, None};
+ghost use Rattle.std.specs.Prelude.{◌≡◌};
 ghost use Rattle.std.specs.Option.{option_copied};
-ghost use Rattle.radio_policy.specs.declared.rule.Rule.TheVariants.{ListenerPassword, NotLive};
-ghost use Rattle.radio_core.specs.Facts.{arrive_facts, source_facts, listen_facts, asker_of, is_full, is_live, is_in_settings, is_known, is_source_of, is_let_in};
+ghost use Rattle.radio_settings.specs.Options.{options_for};
+ghost use Rattle.radio_core.specs.Facts.{arrive_facts, source_facts, facts_at, listen_facts, asker_of, is_full, is_live, is_in_settings, is_known, is_source_of};
 
 use crate::house::House;
 use crate::{ListenRequest, SourceRequest};
 use radio_access::{is_refused_type, is_source_pair};
 use radio_addr::Peer;
 use radio_creds::Pair;
-use radio_policy::{Facts, Rule, Subject};
+use radio_policy::{Facts, Subject};
+use radio_seats::{Seats, View};
 use radio_settings::{MountName, Settings};
 
 impl House {
@@ -42,16 +43,24 @@ impl House {
     }
 
     /// What is looked up for a listener who wants to hear a mount. At most one digest is made.
-    pub(crate) fn listen_facts(&self, asked: &ListenRequest) -> Facts
-        ensures { result ≡ listen_facts self.now asked.now }
+    pub(crate) fn listen_facts(&self, seats: &Seats, asked: &ListenRequest) -> Facts
+        ensures { result ≡ listen_facts self.now seats.now asked.now }
     {
-        let path = asked.mount.as_slice();
-        let is_live = self.is_live(path);
-        let is_let_in = self.is_let_in(path, asked.pair.as_ref());
+        match MountName::read(asked.mount.as_slice()) {
+            Some(mount) => self.facts_at(seats, &mount, asked.pair.as_ref()),
+            None => Facts::NONE,
+        }
+    }
+
+    fn facts_at(&self, seats: &Seats, mount: &MountName, pair: Option<&Pair>) -> Facts
+        ensures { result ≡ facts_at self.now seats.now mount.now (option_copied pair.entry) }
+    {
+        let found = seats.found_at(self, mount, pair);
         Facts {
-            mount_is_known: self.is_known(path),
-            users_accept: is_let_in,
-            walk_stops: walk_stops(is_live, is_let_in),
+            mount_is_known: self.is_known(mount),
+            users_accept: found.users_accept,
+            user_is_twice: found.user_is_twice,
+            walk_stops: found.stop(),
             ..Facts::NONE
         }
     }
@@ -63,14 +72,11 @@ impl House {
         self.session_at(path).is_some()
     }
 
-    /// Whether the path names a mount that the settings know, or that is live.
-    fn is_known(&self, path: &[u8]) -> bool
-        ensures { result ≡ is_known self.now path.now }
+    /// Whether the settings know the mount, or it is live.
+    fn is_known(&self, mount: &MountName) -> bool
+        ensures { result ≡ is_known self.now mount.now }
     {
-        match MountName::read(path) {
-            Some(mount) => is_in_settings(&self.settings, &mount) || self.session(&mount).is_some(),
-            None => false,
-        }
+        is_in_settings(&self.settings, mount) || self.session(mount).is_some()
     }
 
     /// Whether the path names a mount, and its source sends this pair.
@@ -82,15 +88,27 @@ impl House {
             None => false,
         }
     }
+}
 
-    /// Whether the path names a mount that is open to one who sends this pair.
-    fn is_let_in(&self, path: &[u8], pair: Option<&Pair>) -> bool
-        ensures { result ≡ is_let_in self.now path.now (option_copied pair.entry) }
-    {
-        match MountName::read(path) {
-            Some(mount) => self.lists.lets_in(&mount, pair),
-            None => false,
-        }
+impl View for House {
+    ghost use Rattle.radio_core.specs.Facts.{sight_of};
+
+    ghost sight = { sight_of };
+
+    fn is_live(&self, mount: &MountName) -> bool {
+        self.session(mount).is_some()
+    }
+
+    fn limit(&self, mount: &MountName) -> Option<u32> {
+        limit_of(&self.settings, mount)
+    }
+
+    fn lets_in(&self, mount: &MountName, pair: Option<&Pair>) -> bool {
+        self.lists.lets_in(mount, pair)
+    }
+
+    fn allows_duplicates(&self, mount: &MountName) -> bool {
+        self.settings.options(mount).users.allow_duplicate_users
     }
 }
 
@@ -117,15 +135,12 @@ fn is_in_settings(settings: &Settings, mount: &MountName) -> bool
     settings.mounts.get(mount).is_some() || settings.relays.get(mount).is_some()
 }
 
-/// The rule that stops a walk at a mount, if one does.
-fn walk_stops(is_live: bool, is_let_in: bool) -> Option<Rule>
-    ensures { result ≡ (if is_live then (if is_let_in then None else Some ListenerPassword) else Some NotLive) }
+/// How many may sit at the mount; `None` for no limit.
+fn limit_of(settings: &Settings, mount: &MountName) -> Option<u32>
+    ensures { result ≡ (options_for settings.now mount.now).listeners.max_listeners }
 {
-    if !is_live {
-        Some(Rule::NotLive)
-    } else if is_let_in {
-        None
-    } else {
-        Some(Rule::ListenerPassword)
+    match settings.options(mount).listeners.max_listeners {
+        Some(most) => Some(most.get()),
+        None => None,
     }
 }

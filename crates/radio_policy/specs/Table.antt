@@ -1,7 +1,7 @@
 use Rattle.std.specs.Prelude.{Bool, true, not, List, [], ◌∷◌, Option, Some, None}
 use Rattle.radio_policy.specs.declared.rule.Rule.{Rule}
 use Rattle.radio_policy.specs.declared.rule.Rule.TheVariants.{AddressDenied, AddressNotAllowed, TooManyClients, BadMount, SourcePassword, TooManySources, MountInUse}
-use Rattle.radio_policy.specs.declared.rule.Rule.TheVariants.{ContentType, NoMount, ListenerPassword, NumbersSpent}
+use Rattle.radio_policy.specs.declared.rule.Rule.TheVariants.{ContentType, NoMount, ListenerPassword, UserTwice, NumbersSpent}
 use Rattle.radio_policy.specs.declared.facts.Facts.{Facts}
 use Rattle.radio_policy.specs.declared.facts.Subject.{Subject}
 use Rattle.radio_policy.specs.declared.facts.Action.{Action}
@@ -51,6 +51,7 @@ listen_rows facts subject =
     row BadMount (not subject.names_a_mount) ∷
     row NoMount (not facts.mount_is_known) ∷
     row ListenerPassword (not facts.users_accept) ∷
+    row UserTwice facts.user_is_twice ∷
     walk_rows facts.walk_stops
 
 -- the rows of an action, in the order in which they are asked

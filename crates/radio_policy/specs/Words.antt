@@ -1,7 +1,7 @@
 use Rattle.std.specs.Prelude.{ℕ, List, codes, Option, Some, None}
 use Rattle.radio_policy.specs.declared.rule.Rule.{Rule}
 use Rattle.radio_policy.specs.declared.rule.Rule.TheVariants.{AddressDenied, AddressNotAllowed, TooManyClients, BadMount, SourcePassword, TooManySources, MountInUse}
-use Rattle.radio_policy.specs.declared.rule.Rule.TheVariants.{ContentType, NoMount, ListenerPassword, NotLive, NumbersSpent, BadHead, BadMethod}
+use Rattle.radio_policy.specs.declared.rule.Rule.TheVariants.{ContentType, NoMount, ListenerPassword, UserTwice, NotLive, MountFull, NumbersSpent, BadHead, BadMethod}
 use Rattle.radio_policy.specs.declared.rule.Status.{Status}
 use Rattle.radio_policy.specs.declared.rule.Status.TheVariants.{BadRequest, Unauthorized, Forbidden, NotFound}
 
@@ -17,7 +17,9 @@ word_of MountInUse = codes "mount-in-use"
 word_of ContentType = codes "content-type"
 word_of NoMount = codes "no-mount"
 word_of ListenerPassword = codes "listener-password"
+word_of UserTwice = codes "user-twice"
 word_of NotLive = codes "not-live"
+word_of MountFull = codes "mount-full"
 word_of NumbersSpent = codes "numbers-spent"
 word_of BadHead = codes "bad-head"
 word_of BadMethod = codes "bad-method"
@@ -34,7 +36,9 @@ status_of MountInUse = Some Forbidden
 status_of ContentType = Some Forbidden
 status_of NoMount = Some NotFound
 status_of ListenerPassword = Some Unauthorized
+status_of UserTwice = Some Forbidden
 status_of NotLive = Some NotFound
+status_of MountFull = Some Forbidden
 status_of NumbersSpent = Some Forbidden
 status_of BadHead = Some BadRequest
 status_of BadMethod = Some BadRequest

@@ -35,6 +35,8 @@ pub struct Facts {
     pub mount_is_known: bool,
     /// The mount has no users, or they accept the pair that was sent.
     pub users_accept: bool,
+    /// The mount lets each user sit there once, and one who sits there sent the user that was sent.
+    pub user_is_twice: bool,
     /// The rule that stops the walk from the mount asked for, if one does.
     pub walk_stops: Option<Rule>,
     /// The next number, of a client or of a byte, would pass the largest of 64 bits.
@@ -53,6 +55,7 @@ impl Facts {
         type_is_refused: false,
         mount_is_known: true,
         users_accept: true,
+        user_is_twice: false,
         walk_stops: None,
         number_is_spent: false,
     };

@@ -81,6 +81,9 @@ fn judge_listen(facts: &Facts, subject: &Subject) -> Verdict
     if !facts.users_accept {
         return Verdict::Deny(Rule::ListenerPassword);
     }
+    if facts.user_is_twice {
+        return Verdict::Deny(Rule::UserTwice);
+    }
     match facts.walk_stops {
         Some(rule) => Verdict::Deny(rule),
         None => Verdict::Allow,

@@ -38,8 +38,12 @@ pub enum Rule {
     ListenerPassword,
     /// The server does not know the mount.
     NoMount,
+    /// The user that was sent sits at the mount, where each may sit once.
+    UserTwice,
     /// The mount has no live source.
     NotLive,
+    /// As many sit at the mount as may.
+    MountFull,
     /// A count would pass the largest number of 64 bits.
     NumbersSpent,
     /// What came is no head of a request.
@@ -66,7 +70,9 @@ impl Rule {
             Rule::ContentType => "content-type",
             Rule::ListenerPassword => "listener-password",
             Rule::NoMount => "no-mount",
+            Rule::UserTwice => "user-twice",
             Rule::NotLive => "not-live",
+            Rule::MountFull => "mount-full",
             Rule::NumbersSpent => "numbers-spent",
             Rule::BadHead => "bad-head",
             Rule::BadMethod => "bad-method",
@@ -85,6 +91,8 @@ impl Rule {
             | Rule::TooManySources
             | Rule::MountInUse
             | Rule::ContentType
+            | Rule::UserTwice
+            | Rule::MountFull
             | Rule::NumbersSpent => Some(Status::Forbidden),
             Rule::NoMount | Rule::NotLive => Some(Status::NotFound),
         }

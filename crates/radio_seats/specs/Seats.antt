@@ -80,9 +80,13 @@ finished_at seats mount rule = map (finished_from mount rule) seats
 abbrev pub without_listener : List Listener → ℕ → List Listener
 without_listener seats id = filter (λ listener. not (is_listener id listener)) seats
 
--- how many sit at the mount; who has finished does not count
+-- who sits at the mount
+abbrev pub seats_at : List Listener → List ℕ → List Listener
+seats_at seats mount = filter (λ listener. is_seat_at mount listener.seating) seats
+
+-- how many sit there; who has finished does not count
 abbrev pub count_at : List Listener → List ℕ → ℕ
-count_at seats mount = length (filter (λ listener. is_seat_at mount listener.seating) seats)
+count_at seats mount = length (seats_at seats mount)
 
 -- the pair that was sent has this user; without a pair there is none
 abbrev pub has_user : List ℕ → Option Credentials → Bool

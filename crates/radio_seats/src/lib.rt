@@ -2,15 +2,18 @@
 //!
 //! - [`Seats`]: the table. Contracts see the list of its listeners, in the order of their numbers.
 //! - [`Listener`], [`Seating`], [`Seat`]: its rows.
-//! - What is found after each change, for proofs: `specs/SeatLaws.antt`.
+//! - [`View`], [`Found`]: what a walk asks of the server, and what it finds at a mount.
+//! - What is found after each change, for proofs: `specs/SeatLaws.antt` and `specs/CountLaws.antt`.
 #![tactic(auto)]
 
 mod changes;
 mod seat;
 mod seats;
+mod walk;
 
 pub use seat::{Listener, Seat, Seating};
 pub use seats::Seats;
+pub use walk::{Found, View};
 
 /// What a call answers where memory was refused. Nothing has changed then.
 pub type OutOfMemory = std::alloc::AllocError;

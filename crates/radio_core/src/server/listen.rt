@@ -33,7 +33,7 @@ impl Core {
             Standing::Finished(rule) => return Err(Outcome::finished(rule)),
             _ => return Err(Outcome::stray()),
         };
-        let facts = self.house.listen_facts(asked);
+        let facts = self.house.listen_facts(&self.seats, asked);
         let asker = asker_of(asked.mount.as_slice());
         match judge(&facts, &asker, &Action::Listen) {
             Verdict::Deny(rule) => Err(Outcome::refused(rule, asked.id)),
