@@ -1,3 +1,4 @@
 pub mod Seats
 pub mod SeatLaws
+pub mod EndLaws
 pub mod Walk
