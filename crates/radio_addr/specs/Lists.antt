@@ -1,9 +1,9 @@
 -- Address lists: the lines of a text, and what they list.
-use Rattle.std.specs.Prelude.{◌≡◌, ℕ, Bool, false, ◌+◌, ◌-◌, ◌/◌, ◌^◌, ◌==◌, ◌||◌, List, [], ◌∷◌, ◌++◌, length, take, drop, slice_index, Option, None, Some}
+use Rattle.std.specs.Prelude.{◌≡◌, ℕ, Bool, false, ◌+◌, ◌-◌, ◌/◌, ◌^◌, ◌==◌, ◌||◌, List, [], ◌∷◌, ◌++◌, length, slice_index, Option, None, Some}
 use Rattle.std.specs.Prelude.{Result, Ok, Err, codes, if◌then◌else◌}
 use Rattle.std.specs.Fmt.{decimal}
 use Rattle.std.specs.Option.{option_map, option_and_then}
-use Rattle.std.specs.List.{prefix_len, suffix_len, list_any}
+use Rattle.std.specs.List.{list_any}
 use Rattle.radio_texts.specs.Blanks.{without_blanks}
 use Rattle.radio_texts.specs.Cuts.{cut, fields_at}
 use Rattle.radio_texts.specs.Lines.{without_return}

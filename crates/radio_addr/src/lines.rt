@@ -53,8 +53,11 @@ fn read_range(text: &[u8]) -> Option<AddressRange>
         }
         Some((front, back)) => {
             let address = read_address(front)?;
-            let bits = read_number(back, 10, width(address))?;
-            Some(AddressRange { address, bits })
+            let bits = read_number(back, 10, u64::from(width(address)))?;
+            Some(AddressRange {
+                address,
+                bits: bits as u32,
+            })
         }
     }
 }

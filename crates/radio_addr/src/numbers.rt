@@ -14,7 +14,8 @@ pub fn read_octet(text: &[u8]) -> Option<u32>
     if text.len() > 1 && text[0] == b'0' {
         return None;
     }
-    read_number(text, 10, 255)
+    let number = read_number(text, 10, 255)?;
+    Some(number as u32)
 }
 
 /// One to four hexadecimal digits.
@@ -26,5 +27,6 @@ pub fn read_group(text: &[u8]) -> Option<u32>
     if text.len() > 4 {
         return None;
     }
-    read_number(text, 16, 65535)
+    let number = read_number(text, 16, 65535)?;
+    Some(number as u32)
 }

@@ -14,6 +14,7 @@ use Rattle.radio_core.specs.World.{World}
 use Rattle.radio_core.specs.Access.{IsHis, AccessIsKept}
 use Rattle.radio_core.specs.Admission.{IsBlockStart, IsEarliestStart, IsSeated, BeginsAtABlock}
 use Rattle.radio_core.specs.Changes.{changed}
+use Rattle.radio_core.specs.Limits.{IsWithinLimits}
 use Rattle.radio_core.specs.Listen.{first_seat, burst_of}
 use Rattle.radio_seats.specs.Seats.{seat_of, seat_in}
 use Rattle.radio_core.specs.Sessions.{Session, session_of}
@@ -27,7 +28,7 @@ use Rattle.radio_core.proofs.Soundness.{burst_within}
 use Rattle.radio_core.proofs.ListsLemmas.{KeepsLists}
 use Rattle.radio_core.proofs.Ways.{way_of}
 
-module _ (w : World) (s : IsSound w) (k : KeepsLists w) where
+module _ (w : World) (s : IsSound w) (k : KeepsLists w) (l : IsWithinLimits w) where
   his_by : (event : Event) (o : Outcome) → Way w event o → (bytes : List ℕ) (title : Option (List ℕ)) → o.reply ≡ Drawn bytes title
       → IsHis w event bytes title
   his_by event o (HandsOut id room seat session sits has live) bytes title d =
@@ -50,6 +51,7 @@ module _ (w : World) (s : IsSound w) (k : KeepsLists w) where
           his_session = old.his_session;
           passes_lists = let_in.passing;
           is_let_in = let_in.accepted;
+          is_alone = λ user other once his theirs. l.none_twice seat.mount user other id once theirs (seat, has, refl, his);
         };
       } where
         drawn_bytes : {a b : List ℕ} {t u : Option (List ℕ)} → Drawn a t ≡ Drawn b u → a ≡ b

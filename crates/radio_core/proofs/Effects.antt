@@ -19,6 +19,7 @@ use Rattle.radio_core.specs.Listen.{first_seat}
 use Rattle.radio_seats.specs.Seats.{seat_of, seat_in}
 use Rattle.radio_core.specs.Sessions.{session_of}
 use Rattle.radio_core.specs.Sound.{IsSound}
+use Rattle.radio_core.specs.Source.{shown_for}
 use Rattle.radio_core.specs.Step.{outcome, reply_to, world_after}
 use Rattle.radio_core.specs.Ways.{Way, Misplaced, IsFinished, IsDenied, IsRefused, IsAdmitted, Begins, Receives, SetsTitle, TakesSeat, HandsOut, Ends, EndsAndLeaves, Leaves, HasPassed, Ticks, client_in}
 use Rattle.radio_seats.specs.SeatLaws.{is_no_listener, beside_left}
@@ -93,7 +94,7 @@ module _ (w : World) (s : IsSound w) where
   effect_by event o (IsRefused _ him by v its undecided) = let at = undecided.1 in Acts him Answered its tt (turns_answered w him (λ u. cc))
   effect_by event o (IsAdmitted peer allowed) = Joins peer (may_arrive w peer allowed) refl (turns_admitted w (w.house.last_id + 1) peer)
   effect_by event o (Begins asked undecided none) = let at = undecided.1 in Acts asked.id (Feeds asked.mount) refl tt
-      (turns_feeding w asked.id asked.mount asked.shown (λ u. cc))
+      (turns_feeding w asked.id asked.mount (shown_for w.house asked.mount asked.shown) (λ u. cc))
   effect_by event o (Receives him mount block feeding) = Sweeps (λ id. lag_swept w s mount block him feeding id)
   effect_by event o (HasPassed ms e) = Same (λ id. refl)
   effect_by event o (Ticks ms e) = Sweeps (λ id. swept w (ticked w ms) (Clock ms) id ((ticked_fates w s ms).fate id))

@@ -22,3 +22,5 @@ pub mod StretchLemmas
 pub mod TitleLemmas
 pub mod StepLemmas
 pub mod ListsLemmas
+pub mod LimitLemmas
+pub mod LimitDenials

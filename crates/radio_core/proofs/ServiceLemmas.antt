@@ -30,7 +30,7 @@ use Rattle.radio_core.specs.Changes.{changed}
 use Rattle.radio_core.specs.Facts.{session_at, rows_to_arrive, rows_to_feed, rows_to_push, rows_to_listen}
 use Rattle.radio_core.specs.Outcomes.{on_verdict, if_undecided, if_feeding, if_sitting}
 use Rattle.radio_core.specs.Arrive.{admits_client}
-use Rattle.radio_core.specs.Source.{begins}
+use Rattle.radio_core.specs.Source.{shown_for, begins}
 use Rattle.radio_core.specs.Push.{takes_in}
 use Rattle.radio_core.specs.Listen.{first_seat, takes_seat}
 use Rattle.radio_core.specs.Draw.{hands_out, hands_out_at}
@@ -70,11 +70,11 @@ module _ (allows : (rows : List Row) → (verdict_in rows ≡ Allow) ↔ Allows 
   outcome_arrive peer a = is_allowed (verdict_in (rows_to_arrive w.house peer)) _ (admits_client w peer) ((allows (rows_to_arrive w.house peer)).1 a)
 
   outcome_source : (asked : SourceRequest) (peer : Peer) → standing_of w asked.id ≡ Undecided peer → Allows (rows_to_feed w.house asked)
-      → outcome w (Source asked) ≡ begins asked
+      → outcome w (Source asked) ≡ begins w.house asked
   unfolding outcome
   outcome_source asked peer e a =
       goes_undecided (standing_of w asked.id) peer _ e
-      ∙ is_allowed (verdict_in (rows_to_feed w.house asked)) _ (begins asked) ((allows (rows_to_feed w.house asked)).1 a)
+      ∙ is_allowed (verdict_in (rows_to_feed w.house asked)) _ (begins w.house asked) ((allows (rows_to_feed w.house asked)).1 a)
 
   outcome_push : (id : ℕ) (mount block : List ℕ) → standing_of w id ≡ Feeds mount → Allows (rows_to_push w.house mount block)
       → outcome w (Push id block) ≡ takes_in mount block
@@ -145,9 +145,9 @@ module _ (allows : (rows : List Row) → (verdict_in rows ≡ Allow) ↔ Allows 
         );
     begins = λ asked peer e a.
         let o = outcome_source asked peer e a in (
-          reply_is (Source asked) (begins asked) o,
-          after_outcome (Source asked) (begins asked) asked.id (Feeds asked.mount) o
-              (turns_feeding w asked.id asked.mount asked.shown (λ u. cc)).his,
+          reply_is (Source asked) (begins w.house asked) o,
+          after_outcome (Source asked) (begins w.house asked) asked.id (Feeds asked.mount) o
+              (turns_feeding w asked.id asked.mount (shown_for w.house asked.mount asked.shown) (λ u. cc)).his,
         );
     takes_in = λ id mount block e a. reply_is (Push id block) (takes_in mount block) (outcome_push id mount block e a);
     seats = received;
@@ -184,7 +184,7 @@ module _ (w : World) (s : IsSound w) where
       let at = undecided.1 in
       record {
         arrived = λ id d. cc;
-        feeding = λ d. (asked, refl, undecided, (turns_feeding w asked.id asked.mount asked.shown (λ u. cc)).his);
+        feeding = λ d. (asked, refl, undecided, (turns_feeding w asked.id asked.mount (shown_for w.house asked.mount asked.shown) (λ u. cc)).his);
         seated =
             λ interval shown d. cc;
       }

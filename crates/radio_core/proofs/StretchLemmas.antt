@@ -22,6 +22,7 @@ use Rattle.radio_core.specs.Handing.{block_in, is_number, of_client, handed_at, 
 use Rattle.radio_seats.specs.Seats.{seat_of}
 use Rattle.radio_core.specs.Sessions.{Session, session_of, opened, longer, without_session}
 use Rattle.radio_core.specs.Sound.{IsSound}
+use Rattle.radio_core.specs.Source.{shown_for}
 use Rattle.radio_core.specs.Step.{outcome, world_after}
 use Rattle.radio_core.specs.Stream.{data_at, end_of}
 use Rattle.radio_core.specs.Stretches.{between, Sitting, sitting_in, begun_sittings, sittings, AreStretches, StretchesAreWhole}
@@ -275,7 +276,7 @@ module _ (w : World) (s : IsSound w) (sent : ℕ → List ℕ) (h : Sent w sent)
   whole_by event o (HasPassed ms e) = as_it_was event
   whole_by event o (Ticks ms e) = λ mount session h. as_it_was event mount session ((ticked_fates w s ms).live mount session h)
   whole_by event o (Begins asked undecided none) = λ mount session e.
-      begun_cases w s asked.id asked.mount asked.shown undecided.0 undecided.1 none mount session e
+      begun_cases w s asked.id asked.mount (shown_for w.house asked.mount asked.shown) undecided.0 undecided.1 none mount session e
       (λ same one. subst (λ (x : Session). x.stream.bytes ≡ sent x.number ++ of_client event x.number []) one
       (sym (h.none_yet asked.id undecided.0 undecided.1) ∙ with_nothing (sent asked.id) (of_client event asked.id []) (nothing_of event asked.id [] refl)))
       (λ old. as_it_was event mount session old)

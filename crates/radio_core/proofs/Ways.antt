@@ -135,7 +135,7 @@ pub record IsWelcome (found : Found) : Type 0 where
   pub accepts : found.users_accept ≡ true
   pub once : found.user_is_twice ≡ false
 
-abbrev facts_from : Bool → Found → Facts
+abbrev pub facts_from : Bool → Found → Facts
 facts_from known found = record NONE {
   mount_is_known = known;
   users_accept = found.users_accept;
@@ -143,7 +143,7 @@ facts_from known found = record NONE {
   walk_stops = stop_of found;
 }
 
-abbrev rows_by : Bool → Bool → Found → List Row
+abbrev pub rows_by : Bool → Bool → Found → List Row
 rows_by named known found = listen_rows (if named then facts_from known found else NONE) (record { names_a_mount = named })
 
 hears_by : (named known live full accepted twice : Bool)
@@ -210,7 +210,7 @@ way_of w (Arrive peer) =
     (λ rule v. IsDenied (Arrive peer) rule v (λ id e u. cc)) (λ v. IsAdmitted peer v)
 way_of w (Source asked) =
     by_undecided w (Source asked) asked.id refl _
-    (λ peer e. by_verdict w (Source asked) (Answer asked.id) (begins asked) (verdict_in (rows_for w (Source asked)))
+    (λ peer e. by_verdict w (Source asked) (Answer asked.id) (begins w.house asked) (verdict_in (rows_for w (Source asked)))
     (λ rule v. IsRefused (Source asked) asked.id rule v refl (peer, e))
     (λ v. Begins asked (peer, e) (may_begin w asked v)))
     (standing_of w asked.id) refl

@@ -24,7 +24,7 @@ pub record IsHis (w : World) (event : Event) (bytes : List ℕ) (title : Option 
   pub is_live : session_of w.house.live seat.mount ≡ Some session
   pub is_data : bytes ≡ data_at session.stream seat.place room
   pub is_title : title ≡ session.title
-  pub is_open : IsOpenTo w seat
+  pub is_open : IsOpenTo w id seat
 
 -- what is handed out is the listener's to hear who asked for it
 abbrev pub AccessIsKept : World → Event → Type 0

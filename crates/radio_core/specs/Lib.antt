@@ -22,6 +22,7 @@ pub mod Ways
 pub mod Sound
 pub mod Denials
 pub mod Finishes
+pub mod Limits
 pub mod Open
 pub mod Access
 pub mod Admission

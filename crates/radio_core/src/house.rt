@@ -1,9 +1,10 @@
 //! All of the server's state but the table of listeners.
 
-ghost use Rattle.std.specs.Prelude.{◌≡◌, find, OnOk, OnErr};
+ghost use Rattle.std.specs.Prelude.{◌≡◌, find, unwrap_or, IfOk, OnOk, OnErr};
 ghost use Rattle.std.specs.Option.{option_copied};
 ghost use Rattle.radio_core.specs.Sessions.{session_of};
 ghost use Rattle.radio_core.specs.Facts.{session_at, live_end};
+ghost use Rattle.radio_core.specs.Source.{shown_for};
 ghost use Rattle.radio_core.specs.Changes.{now_in_state, admitted, begun, received, retitled, timed_out_by};
 ghost use Rattle.radio_core.specs.Timeouts.{is_silent};
 
@@ -16,7 +17,7 @@ use radio_access::Lists;
 use radio_addr::Peer;
 use radio_blocks::Block;
 use radio_icy::Title;
-use radio_settings::{MountName, Settings, Shown};
+use radio_settings::{Field, MountName, Settings, Shown};
 use radio_tables::Table;
 use std::alloc::Global;
 
@@ -62,6 +63,19 @@ impl House {
             Some(session) => session.stream.end(),
             None => 0,
         }
+    }
+
+    /// What a stream on the mount shows, which itself shows this. `OutOfMemory` where memory was
+    /// refused.
+    pub(crate) fn shown_for(&self, mount: &MountName, shown: &Shown) -> Result<Shown, OutOfMemory>
+        ensures { IfOk result (λ set. set ≡ shown_for self.now mount.now shown.now) }
+    {
+        let stream = &self.settings.options(mount).stream;
+        Ok(Shown {
+            content_type: shown.content_type.clone()?,
+            name: field_or(&stream.stream_name, &shown.name)?,
+            genre: field_or(&stream.genre, &shown.genre)?,
+        })
     }
 
     /// The client of this number does something else from now on.
@@ -145,5 +159,15 @@ impl House {
     {
         let seconds = self.settings.limits.source_timeout.get();
         self.live.iter().find(|session| lies_back(seconds, session.last_block, self.time))
+    }
+}
+
+/// The field that is set, or else the other. `OutOfMemory` where memory was refused.
+fn field_or(set: &Option<Field>, other: &Field) -> Result<Field, OutOfMemory>
+    ensures { IfOk result (λ field. field ≡ unwrap_or set.now other.now) }
+{
+    match set {
+        Some(field) => field.clone(),
+        None => other.clone(),
     }
 }

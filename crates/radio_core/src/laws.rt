@@ -11,6 +11,7 @@ ghost use Rattle.radio_core.specs.Ways.{client_in};
 ghost use Rattle.radio_core.specs.Denials.{DenialsAreThePolicys};
 ghost use Rattle.radio_core.specs.Finishes.{FinishedAreTold};
 ghost use Rattle.radio_core.specs.Access.{AccessIsKept};
+ghost use Rattle.radio_core.specs.Limits.{IsWithinLimits, DeniesByLimits};
 ghost use Rattle.radio_core.specs.Admission.{BeginsAtABlock};
 ghost use Rattle.radio_core.specs.Service.{Serves};
 ghost use Rattle.radio_core.specs.Stretches.{StretchesAreWhole, SeatsKeepTheirMounts};
@@ -39,6 +40,14 @@ pub fn finished_are_told()
 pub fn access_is_kept()
     // whatever has happened, data is handed out to a draw alone, and it stands at the listener's place in the stream of the mount where his seat is, which is open to him
     ensures access { (settings : Settings) (lists : Lists) (events : List Event) (event : Event) → AccessIsKept (run_after settings lists events) event }
+{}
+
+/// The law of limits.
+pub fn limits_are_kept()
+    // whatever has happened, no more sit at a mount than its settings let, and nobody sits twice where its settings let each user sit once
+    ensures within { (settings : Settings) (lists : Lists) (events : List Event) → IsWithinLimits (run_after settings lists events) }
+    // and a listener is denied by a limit only where it is reached, by those who sit at the mount then
+    ensures denied { (settings : Settings) (lists : Lists) (events : List Event) (event : Event) → DeniesByLimits (run_after settings lists events) event }
 {}
 
 /// The law of admission.

@@ -114,7 +114,7 @@ impl Core {
     {
         match event {
             Event::Arrive { peer } => Ok(self.arrive(peer)),
-            Event::Source(asked) => Ok(self.source(asked)),
+            Event::Source(asked) => self.source(asked),
             Event::Push { id, block } => Ok(self.push(id, block)),
             Event::SourceEnd { id } => Ok(self.source_end(id)),
             Event::Title { id, text } => Ok(self.title(id, text)),

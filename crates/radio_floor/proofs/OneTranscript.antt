@@ -1,12 +1,13 @@
 -- Each delivery comes to one thing.
 use Rattle.std.proofs.Common.{◌≡◌, ℕ, List, [], ◌∷◌, Option, None, Some, ap, sym, ◌∙◌}
-use Rattle.radio_core.specs.declared.event.Event.TheVariants.{Draw}
 use Rattle.radio_script.specs.declared.delivery.Delivery.{Delivery}
-use Rattle.radio_script.specs.declared.delivery.Delivery.TheVariants.{Open, In, Room, End}
+use Rattle.radio_script.specs.declared.delivery.Delivery.TheVariants.{Open, To}
+use Rattle.radio_script.specs.declared.delivery.Input.{Input}
+use Rattle.radio_script.specs.declared.delivery.Input.TheVariants.{Data, Room, Title, End}
 use Rattle.radio_session.specs.Conversation.{Conversation}
 use Rattle.radio_session.specs.Hearing.{Heard, IsHeard}
 use Rattle.radio_session.specs.Laws.{HearingIsOne}
-use Rattle.radio_floor.specs.ScriptState.{ScriptState, Performed, IsPerformed, on_connection, connection_of, exchanges, closes}
+use Rattle.radio_floor.specs.ScriptState.{ScriptState, Performed, ComesTo, IsPerformed, on_connection, connection_of, exchanges}
 use Rattle.radio_floor.specs.Transcript.{conduct}
 use Rattle.radio_script.specs.Laws.{IsDetermined}
 
@@ -17,19 +18,21 @@ one_on_connection state On one (Some None) p q h k = h ∙ sym k
 one_on_connection state On one (Some (Some conversation)) p q h k = one conversation p q h k
 
 module _ (heard_as_one : HearingIsOne) where
+  -- so does what comes to a connection
+  comes_to_once : (state : ScriptState) (label : ℕ) (conversation : Conversation) (input : Input) (p q : Performed)
+      → ComesTo state label conversation input p → ComesTo state label conversation input q → p ≡ q
+  comes_to_once state label conversation (Data bytes) p q h k =
+      sym h.2 ∙ ap (λ (heard : Heard). exchanges state label heard.conversation heard.events) (heard_as_one conversation bytes h.0 k.0 h.1 k.1) ∙ k.2
+  comes_to_once state label conversation (Room room) p q h k = sym h ∙ k
+  comes_to_once state label conversation (Title text) p q h k = sym h ∙ k
+  comes_to_once state label conversation End p q h k = sym h ∙ k
+
   -- a delivery comes to one thing
   performed_once : (state : ScriptState) (delivery : Delivery) (p q : Performed) → IsPerformed state delivery p → IsPerformed state delivery q → p ≡ q
   performed_once state (Open label peer) p q h k = h ∙ sym k
-  performed_once state (In label bytes) p q h k =
-      one_on_connection state (λ conversation done. (heard : Heard) × IsHeard conversation bytes heard × (done ≡ exchanges state label heard.conversation heard.events))
-      (λ conversation a b x y. x.2 ∙ ap (λ (heard : Heard). exchanges state label heard.conversation heard.events) (heard_as_one conversation bytes x.0 y.0 x.1 y.1) ∙ sym y.2)
+  performed_once state (To label input) p q h k =
+      one_on_connection state (λ conversation done. ComesTo state label conversation input done) (λ conversation. comes_to_once state label conversation input)
       (connection_of state.connections label) p q h k
-  performed_once state (Room label room) p q h k =
-      let comes_to = λ (conversation : Conversation). exchanges state label conversation (Draw conversation.id room ∷ []) in
-      one_on_connection state (λ conversation done. done ≡ comes_to conversation) (λ conversation a b x y. let e : a ≡ comes_to conversation = x in e ∙ sym y) (connection_of state.connections label) p q h k
-  performed_once state (End label) p q h k =
-      let comes_to = λ (conversation : Conversation). closes state label conversation in
-      one_on_connection state (λ conversation done. done ≡ comes_to conversation) (λ conversation a b x y. let e : a ≡ comes_to conversation = x in e ∙ sym y) (connection_of state.connections label) p q h k
 
   pub is_determined : IsDetermined conduct
   is_determined old delivery said told new next h k =

@@ -1,18 +1,27 @@
 use Rattle.std.proofs.Common.{◌≡◌, ℕ, Bool, true, false, cond, List, [], ◌∷◌, ◌++◌, Option, None, Some, is_some, Result, Ok, Err, sym, ap, ◌∙◌, subst, refl, OnOk}
 use Rattle.std.specs.Prelude.{find}
-use Rattle.std.specs.Option.{option_map}
+use Rattle.std.specs.Option.{option_map, option_map_or}
 use Rattle.radio_core.specs.World.{World}
 use Rattle.radio_core.specs.declared.event.Event.{Event}
+use Rattle.radio_core.specs.declared.event.Event.TheVariants.{Draw, Title}
+use Rattle.radio_icy.specs.Cleaning.{cleaned}
+use Rattle.radio_icy.specs.Limits.{max_title}
 use Rattle.radio_tables.specs.FindLaws.{update_first-twice}
 use Rattle.radio_script.specs.declared.delivery.Delivery.{Delivery}
+use Rattle.radio_script.specs.declared.delivery.Input.{Input}
+use Rattle.radio_script.specs.declared.delivery.Input.TheVariants.{Data, Room, Title as Named, End}
 use Rattle.radio_floor.specs.declared.script_server.Labelled.{Labelled}
+use Rattle.radio_floor.specs.declared.script_server.PutsIn.{PutsIn}
 use Rattle.radio_script.specs.declared.faults.PerformFault.{PerformFault}
 use Rattle.radio_script.specs.declared.faults.PerformFault.TheVariants.{Label}
 use Rattle.radio_session.specs.Conversation.{Conversation, saying_now}
 use Rattle.radio_session.specs.Exchanges.{exchanged}
-use Rattle.radio_floor.specs.ScriptState.{ScriptState, Performed, has_label, connection_of, holding, with_connection, on_connection, for_label, for_new_label, exchanges, closes, conversation_unless, told_lines}
+use Rattle.radio_floor.specs.ScriptState.{ScriptState, Performed, has_label, connection_of, holding, with_connection, on_connection, for_label, for_new_label, exchanges, closes, conversation_unless, told_lines, ComesTo}
 use Rattle.radio_floor.specs.ScriptServer.{script_state_of, performed_as}
 use Rattle.radio_floor.specs.Performing.{Performs, PerformsAs}
+
+abbrev put : Option (Option Conversation) → Option Conversation → PutsIn
+put found connection = record { connection = connection; found = found }
 
 -- of two settings of a label the second stands
 pub with_connection-twice : (connections : List Labelled) (label : ℕ) (first second : Option Conversation) → with_connection (with_connection connections label first) label second ≡ with_connection connections label second
@@ -93,13 +102,20 @@ pub performs-label : (r : Result (Unit {0}) PerformFault) (core : World) (connec
 performs-label r core connections delivery lines lines' core' connections' h e =
     subst (λ (s : Result (Unit {0}) PerformFault). PerformsAs s core connections delivery lines lines' core' connections') e h
 
--- nothing becomes of a label that was not opened
-unopened_at : (label : ℕ) (conversation : Option Conversation) (l : Labelled) (ls : List Labelled) (b : Bool) → has_label label l ≡ b
-    → is_some (option_map (λ (x : Labelled). x.connection) (cond b (Some l) (find (has_label label) ls))) ≡ false
-    → (is_some (connection_of ls label) ≡ false → with_connection ls label conversation ≡ ls) → cond b (holding conversation l ∷ ls) (l ∷ with_connection ls label conversation) ≡ l ∷ ls
-unopened_at label conversation l ls true e h rest = cc
-unopened_at label conversation l ls false e h rest = ap (λ (xs : List Labelled). l ∷ xs) (rest h)
+-- what is found under a label is its connection
+pub found-connection : (o : Option Labelled) (connection : Option Conversation)
+    → (option_map_or (λ (l : Labelled). put (Some l.connection) None) o (put None connection)).found ≡ option_map (λ (l : Labelled). l.connection) o
+found-connection None connection = refl
+found-connection (Some l) connection = refl
 
-pub unopened : (label : ℕ) (conversation : Option Conversation) (connections : List Labelled) → is_some (connection_of connections label) ≡ false → with_connection connections label conversation ≡ connections
-unopened label conversation [] h = refl
-unopened label conversation (l ∷ ls) h = unopened_at label conversation l ls (has_label label l) refl h (unopened label conversation ls)
+-- what comes to a connection that was taken out comes to the same as if it was there
+pub comes_to-mid : (w : World) (mid connections : List Labelled) (label : ℕ) (conversation : Conversation) (input : Input) (done : Performed)
+    → mid ≡ with_connection connections label None → ComesTo (script_state_of w mid) label conversation input done
+    → ComesTo (script_state_of w connections) label conversation input done
+comes_to-mid w mid connections label conversation (Data bytes) done e h =
+    (h.0, h.1, sym (exchanges-mid w mid connections label h.0.conversation h.0.events e) ∙ h.2)
+comes_to-mid w mid connections label conversation (Room room) done e h =
+    sym (exchanges-mid w mid connections label conversation (Draw conversation.id room ∷ []) e) ∙ h
+comes_to-mid w mid connections label conversation (Named text) done e h =
+    sym (exchanges-mid w mid connections label conversation (Title conversation.id (cleaned max_title text) ∷ []) e) ∙ h
+comes_to-mid w mid connections label conversation End done e h = sym (closes-mid w mid connections label conversation e) ∙ h

@@ -2,10 +2,12 @@
 use Rattle.std.specs.Prelude.{◌≡◌, ℕ, Bool, ◌==◌, List, [], ◌∷◌, Option, None, Some, find}
 use Rattle.std.specs.Option.{option_map}
 use Rattle.radio_core.specs.declared.event.Event.{Event}
-use Rattle.radio_core.specs.declared.event.Event.TheVariants.{Arrive, Draw, Leave}
+use Rattle.radio_core.specs.declared.event.Event.TheVariants.{Arrive, Draw, Title, Leave}
 use Rattle.radio_core.specs.declared.reply.Reply.{Reply}
 use Rattle.radio_core.specs.declared.reply.Reply.TheVariants.{Arrived}
 use Rattle.radio_addr.specs.declared.peer.Peer.{Peer}
+use Rattle.radio_icy.specs.Cleaning.{cleaned}
+use Rattle.radio_icy.specs.Limits.{max_title}
 use Rattle.radio_settings.specs.declared.settings.Settings.{Settings}
 use Rattle.radio_access.specs.Lists.{Lists}
 use Rattle.radio_core.specs.World.{World, opening}
@@ -17,7 +19,9 @@ use Rattle.radio_session.specs.declared.state.State.{State}
 use Rattle.radio_session.specs.declared.state.State.TheVariants.{Running, Shut}
 use Rattle.radio_session.specs.declared.state.Ending.TheVariants.{Done}
 use Rattle.radio_script.specs.declared.delivery.Delivery.{Delivery}
-use Rattle.radio_script.specs.declared.delivery.Delivery.TheVariants.{Open, In, Room, End}
+use Rattle.radio_script.specs.declared.delivery.Delivery.TheVariants.{Open, To}
+use Rattle.radio_script.specs.declared.delivery.Input.{Input}
+use Rattle.radio_script.specs.declared.delivery.Input.TheVariants.{Data, Room, Title as Named, End}
 use Rattle.radio_floor.specs.declared.script_server.Labelled.{Labelled}
 use Rattle.radio_script.specs.TranscriptLines.{answer_lines}
 use Rattle.radio_session.specs.Conversation.{asking, Conversation, fresh, saying_now, ending_word}
@@ -111,6 +115,14 @@ closes state label conversation =
       state = record { world = world_after state.world (Leave conversation.id); connections = with_connection state.connections label None };
     }
 
+-- what comes to a connection comes to that (a relation, since the grammar of heads is one; there is one answer)
+abbrev pub ComesTo : ScriptState → ℕ → Conversation → Input → Performed → Type 0
+ComesTo state label conversation (Data bytes) done =
+    (heard : Heard) × IsHeard conversation bytes heard × (exchanges state label heard.conversation heard.events ≡ done)
+ComesTo state label conversation (Room room) done = exchanges state label conversation (Draw conversation.id room ∷ []) ≡ done
+ComesTo state label conversation (Named text) done = exchanges state label conversation (Title conversation.id (cleaned max_title text) ∷ []) ≡ done
+ComesTo state label conversation End done = closes state label conversation ≡ done
+
 -- a delivery for a connection, by what became of it
 abbrev pub on_connection : ScriptState → (Conversation → Performed → Type 0) → Performed → Option (Option Conversation) → Type 0
 on_connection state OnConversation performed None = performed ≡ at_fault state
@@ -126,10 +138,7 @@ abbrev pub for_new_label : ScriptState → Performed → Option (Option Conversa
 for_new_label state performed None = performed
 for_new_label state performed (Some connection) = at_fault state
 
--- from this state the delivery comes to that (a relation, since the grammar of heads is one; there is one answer)
+-- from this state the delivery comes to that
 abbrev pub IsPerformed : ScriptState → Delivery → Performed → Type 0
 IsPerformed state (Open label peer) performed = performed ≡ for_new_label state (opens state label peer) (connection_of state.connections label)
-IsPerformed state (In label bytes) performed = for_label state label (λ conversation done.
-    (heard : Heard) × IsHeard conversation bytes heard × (done ≡ exchanges state label heard.conversation heard.events)) performed
-IsPerformed state (Room label room) performed = for_label state label (λ conversation done. done ≡ exchanges state label conversation (Draw conversation.id room ∷ [])) performed
-IsPerformed state (End label) performed = for_label state label (λ conversation done. done ≡ closes state label conversation) performed
+IsPerformed state (To label input) performed = for_label state label (λ conversation done. ComesTo state label conversation input done) performed

@@ -15,7 +15,9 @@ mod script_server;
 mod whole;
 
 pub use laws::{last_words_are_told, the_transcript_is_one};
-pub use radio_script::{Counted, CountedRead, CountedWrite, Delivery, PlayFault, RunFault, Tally};
+pub use radio_script::{
+    Counted, CountedRead, CountedWrite, Delivery, Input, PlayFault, RunFault, Tally,
+};
 pub use whole::{Transcript, play, run};
 
 /// Memory ran out.

@@ -1,25 +1,46 @@
 //! The server as the performer of a script's deliveries.
 
-ghost use Rattle.radio_core.specs.declared.event.Event.TheVariants.{Draw};
 ghost use Rattle.std.specs.Prelude.{◌≡◌, ℕ, List, [], ◌∷◌, ◌++◌, None, Some, Err, OnOk};
+ghost use Rattle.radio_icy.specs.Cleaning.{cleaned};
+ghost use Rattle.radio_icy.specs.Limits.{max_title};
 ghost use Rattle.radio_core.specs.World.{World};
 ghost use Rattle.radio_core.specs.Step.{Represents};
 ghost use Rattle.radio_session.specs.Hearing.{Heard, IsHeard};
-ghost use Rattle.radio_floor.specs.ScriptState.{exchanges, closes};
+ghost use Rattle.radio_floor.specs.ScriptState.{exchanges, closes, ComesTo};
 ghost use Rattle.radio_floor.specs.ScriptServer.{script_state_of, DoesAs};
 ghost use Rattle.radio_floor.specs.Performing.{PerformsAs};
-ghost use Rattle.radio_script.specs.declared.delivery.Delivery.TheVariants.{Open, In, Room, End};
+ghost use Rattle.radio_script.specs.declared.delivery.Delivery.TheVariants.{Open, To};
 
 use crate::OutOfMemory;
 use crate::script_server::{ScriptServer, has_label, leave, push_told, swap_connection};
 use radio_addr::Peer;
 use radio_core::Event;
-use radio_script::{Delivery, PerformFault, Performer};
+use radio_icy::Title;
+use radio_script::{Delivery, Input, PerformFault, Performer};
 use radio_session::{Ending, Session, State};
 use std::alloc::Global;
 
 impl ScriptServer {
-    /// Bytes come on a connection that was taken out.
+    /// Something comes to a connection that was taken out.
+    fn input_on(
+        &mut self,
+        label: u32,
+        connection: Session,
+        input: &Input,
+        lines: &mut Vec<u8>,
+    ) -> Result<(), OutOfMemory>
+        ensures { OnOk result (DoesAs self.old.core self.new.core self.new.connections lines.old.items lines.new.items
+            (λ w done. ComesTo (script_state_of w self.old.connections) label connection input.now done)) }
+    {
+        match input {
+            Input::Data(bytes) => self.hear_on(label, connection, bytes.as_slice(), lines),
+            Input::Room(room) => self.draw_on(label, connection, *room, lines),
+            Input::Title(text) => self.title_on(label, connection, text.as_slice(), lines),
+            Input::End => self.close(label, connection, lines),
+        }
+    }
+
+    /// Bytes come on it.
     fn hear_on(
         &mut self,
         label: u32,
@@ -28,7 +49,8 @@ impl ScriptServer {
         lines: &mut Vec<u8>,
     ) -> Result<(), OutOfMemory>
         ensures { OnOk result (DoesAs self.old.core self.new.core self.new.connections lines.old.items lines.new.items
-            (λ w done. (heard : Heard) × IsHeard connection bytes.now heard × (exchanges (script_state_of w self.old.connections) label heard.conversation heard.events ≡ done))) }
+            (λ w done. (heard : Heard) × IsHeard connection bytes.now heard
+                × (exchanges (script_state_of w self.old.connections) label heard.conversation heard.events ≡ done))) }
     {
         let mut connection = connection;
         let events = connection.take(bytes)?;
@@ -36,7 +58,7 @@ impl ScriptServer {
         Ok(())
     }
 
-    /// There is room for so many bytes on a connection that was taken out.
+    /// There is room for so many bytes on it.
     fn draw_on(
         &mut self,
         label: u32,
@@ -45,18 +67,45 @@ impl ScriptServer {
         lines: &mut Vec<u8>,
     ) -> Result<(), OutOfMemory>
         ensures { OnOk result (DoesAs self.old.core self.new.core self.new.connections lines.old.items lines.new.items
-            (λ w done. exchanges (script_state_of w self.old.connections) label connection (Draw connection.id room ∷ []) ≡ done)) }
+            (λ w done. exchanges (script_state_of w self.old.connections) label connection (Event.Draw connection.id room ∷ []) ≡ done)) }
     {
-        let mut events = Vec::new(self.alloc);
-        events.push(Event::Draw {
-            id: connection.id(),
-            room,
-        })?;
-        self.exchange_on(label, connection, events, lines)?;
-        Ok(())
+        let id = connection.id();
+        self.event_on(label, connection, Event::Draw { id, room }, lines)
     }
 
-    /// The peer has closed a connection that was taken out.
+    /// Its source names what is on the air.
+    fn title_on(
+        &mut self,
+        label: u32,
+        connection: Session,
+        text: &[u8],
+        lines: &mut Vec<u8>,
+    ) -> Result<(), OutOfMemory>
+        ensures { OnOk result (DoesAs self.old.core self.new.core self.new.connections lines.old.items lines.new.items
+            (λ w done. exchanges (script_state_of w self.old.connections) label connection (Event.Title connection.id (cleaned max_title text.now) ∷ []) ≡ done)) }
+    {
+        let id = connection.id();
+        let text = Title::clean(self.alloc, text)?;
+        self.event_on(label, connection, Event::Title { id, text }, lines)
+    }
+
+    /// One event is exchanged on it.
+    fn event_on(
+        &mut self,
+        label: u32,
+        connection: Session,
+        event: Event,
+        lines: &mut Vec<u8>,
+    ) -> Result<(), OutOfMemory>
+        ensures { OnOk result (DoesAs self.old.core self.new.core self.new.connections lines.old.items lines.new.items
+            (λ w done. exchanges (script_state_of w self.old.connections) label connection (event ∷ []) ≡ done)) }
+    {
+        let mut events = Vec::new(self.alloc);
+        events.push(event)?;
+        self.exchange_on(label, connection, events, lines)
+    }
+
+    /// The peer has closed it.
     fn close(
         &mut self,
         label: u32,
@@ -83,9 +132,7 @@ impl ScriptServer {
     {
         match delivery {
             Delivery::Open { label, peer } => self.perform_open(*label, *peer, lines),
-            Delivery::In { label, bytes } => self.perform_in(*label, bytes.as_slice(), lines),
-            Delivery::Room { label, room } => self.perform_room(*label, *room, lines),
-            Delivery::End { label } => self.perform_end(*label, lines),
+            Delivery::To { label, input } => self.perform_input(*label, input, lines),
         }
     }
 
@@ -106,49 +153,18 @@ impl ScriptServer {
         }
     }
 
-    fn perform_in(
+    fn perform_input(
         &mut self,
         label: u32,
-        bytes: &[u8],
+        input: &Input,
         lines: &mut Vec<u8>,
     ) -> Result<(), PerformFault>
-        ensures { PerformsAs result self.old.core self.old.connections (In label bytes.now) lines.old.items lines.new.items self.new.core self.new.connections }
+        ensures { PerformsAs result self.old.core self.old.connections (To label input.now) lines.old.items lines.new.items self.new.core self.new.connections }
     {
         match swap_connection(&mut self.connections, label, None) {
             None => Err(PerformFault::Label),
             Some(None) => Ok(()),
-            Some(Some(connection)) => match self.hear_on(label, connection, bytes, lines) {
-                Ok(()) => Ok(()),
-                Err(_) => Err(PerformFault::OutOfMemory),
-            },
-        }
-    }
-
-    fn perform_room(
-        &mut self,
-        label: u32,
-        room: u32,
-        lines: &mut Vec<u8>,
-    ) -> Result<(), PerformFault>
-        ensures { PerformsAs result self.old.core self.old.connections (Room label room) lines.old.items lines.new.items self.new.core self.new.connections }
-    {
-        match swap_connection(&mut self.connections, label, None) {
-            None => Err(PerformFault::Label),
-            Some(None) => Ok(()),
-            Some(Some(connection)) => match self.draw_on(label, connection, room, lines) {
-                Ok(()) => Ok(()),
-                Err(_) => Err(PerformFault::OutOfMemory),
-            },
-        }
-    }
-
-    fn perform_end(&mut self, label: u32, lines: &mut Vec<u8>) -> Result<(), PerformFault>
-        ensures { PerformsAs result self.old.core self.old.connections (End label) lines.old.items lines.new.items self.new.core self.new.connections }
-    {
-        match swap_connection(&mut self.connections, label, None) {
-            None => Err(PerformFault::Label),
-            Some(None) => Ok(()),
-            Some(Some(connection)) => match self.close(label, connection, lines) {
+            Some(Some(connection)) => match self.input_on(label, connection, input, lines) {
                 Ok(()) => Ok(()),
                 Err(_) => Err(PerformFault::OutOfMemory),
             },

@@ -44,24 +44,27 @@ impl Row for Labelled {
     }
 }
 
-/// What is to become of a label, or has become of it before.
+/// Puts something else under a label, and takes out what was there.
 #[derive(Drop)]
-struct Holds {
+struct PutsIn {
     connection: Option<Session>,
+    /// What was under the label, once it is found.
+    found: Option<Option<Session>>,
 }
 
-impl Swap<Labelled> for Holds {
-    ghost use Rattle.std.specs.Prelude.{refl};
+impl Swap<Labelled> for PutsIn {
+    ghost use Rattle.std.specs.Prelude.{refl, None, Some};
     ghost use Rattle.radio_floor.specs.ScriptState.{holding};
 
-    ghost gives = { λ holds labelled. holding holds.connection labelled };
+    ghost gives = { λ puts labelled. holding puts.connection labelled };
 
-    ghost takes = { λ holds labelled. record holds { connection = labelled.connection } };
+    ghost takes = { λ puts labelled. record puts { connection = None; found = Some labelled.connection } };
 
-    ghost keeps_key = { λ holds labelled. refl };
+    ghost keeps_key = { λ puts labelled. refl };
 
     fn swap(&mut self, row: &mut Labelled) {
-        mem::swap(&mut self.connection, &mut row.connection);
+        let connection = self.connection.take();
+        self.found = Some(mem::replace(&mut row.connection, connection));
     }
 }
 
@@ -154,12 +157,12 @@ pub(crate) fn swap_connection(
     ensures was { result ≡ connection_of connections.old label }
     ensures set { connections.new ≡ with_connection connections.old label connection }
 {
-    if !has_label(connections, label) {
-        return None;
-    }
-    let mut holds = Holds { connection };
-    connections.swap(label, &mut holds);
-    Some(holds.connection)
+    let mut puts = PutsIn {
+        connection,
+        found: None,
+    };
+    connections.swap(label, &mut puts);
+    puts.found
 }
 
 /// A connection arrives at the server: the connection, if it is taken in, and whether it goes

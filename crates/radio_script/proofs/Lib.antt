@@ -2,7 +2,6 @@ mod EscapeLemmas
 mod FeedLemmas
 mod SpellingLemmas
 pub mod LineReadings
-pub mod LabelLemmas
 mod TranscriptLemmas
 mod LinePlays
 mod ScriptPlays

@@ -3,7 +3,9 @@ use Rattle.std.specs.Prelude.{ℕ, nat_lt, List, Option, Some, None, if◌then�
 use Rattle.std.specs.Str.{bytes_eq}
 use Rattle.std.specs.Prelude.{codes}
 use Rattle.radio_script.specs.declared.delivery.Delivery.{Delivery}
-use Rattle.radio_script.specs.declared.delivery.Delivery.TheVariants.{Open, In, Room, End}
+use Rattle.radio_script.specs.declared.delivery.Delivery.TheVariants.{Open, To}
+use Rattle.radio_script.specs.declared.delivery.Input.{Input}
+use Rattle.radio_script.specs.declared.delivery.Input.TheVariants.{Data, Room, Title, End}
 use Rattle.radio_script.specs.Steps.{◌>>=◌}
 use Rattle.radio_texts.specs.Cuts.{cut}
 use Rattle.radio_texts.specs.Numbers.{number_of}
@@ -28,13 +30,25 @@ open_of fields = do
   peer ← peer_of field.1
   Some (Open label peer)
 
--- `in C TEXT`
-unfoldable pub in_of : List ℕ → Option Delivery
-in_of fields = do
+-- a label, and the bytes that a text writes
+unfoldable pub text_fields : List ℕ → Option (ℕ × List ℕ)
+text_fields fields = do
   field ← cut 32 fields
   label ← label_of field.0
   bytes ← unescaped field.1
-  Some (In label bytes)
+  Some (label, bytes)
+
+-- `in C TEXT`
+unfoldable pub in_of : List ℕ → Option Delivery
+in_of fields = do
+  field ← text_fields fields
+  Some (To field.0 (Data field.1))
+
+-- `title C TEXT`
+unfoldable pub title_of : List ℕ → Option Delivery
+title_of fields = do
+  field ← text_fields fields
+  Some (To field.0 (Title field.1))
 
 -- `room C N`
 unfoldable pub room_of : List ℕ → Option Delivery
@@ -42,13 +56,13 @@ room_of fields = do
   field ← cut 32 fields
   label ← label_of field.0
   room ← decimal_of field.1
-  Some (Room label room)
+  Some (To label (Room room))
 
 -- `end C`
 unfoldable pub end_of : List ℕ → Option Delivery
 end_of fields = do
   label ← label_of fields
-  Some (End label)
+  Some (To label End)
 
 -- the delivery that a line stands for, if it is one
 unfoldable pub delivery_of : List ℕ → Option Delivery
@@ -57,4 +71,5 @@ delivery_of line = do
   if bytes_eq parts.0 (codes "open") then open_of parts.1 else
       (if bytes_eq parts.0 (codes "in") then in_of parts.1 else
       (if bytes_eq parts.0 (codes "room") then room_of parts.1 else
-      (if bytes_eq parts.0 (codes "end") then end_of parts.1 else None)))
+      (if bytes_eq parts.0 (codes "title") then title_of parts.1 else
+      (if bytes_eq parts.0 (codes "end") then end_of parts.1 else None))))

@@ -1,7 +1,7 @@
 //! What a script delivers, a line each.
 
 ghost use Rattle.std.specs.Prelude.{◌≡◌, IfOk};
-ghost use Rattle.radio_script.specs.Delivery.{decimal_of, delivery_of, end_of, in_of, label_of, open_of, room_of};
+ghost use Rattle.radio_script.specs.Delivery.{decimal_of, delivery_of, end_of, in_of, label_of, open_of, room_of, text_fields, title_of};
 
 use crate::OutOfMemory;
 use crate::escapes::unescape;
@@ -10,17 +10,26 @@ use radio_addr::{Peer, read_peer};
 use radio_texts::{cut, read_number};
 use std::alloc::Global;
 
-/// What happens to one connection. Connections are named by labels, from 1 on.
+/// What comes to a connection that has arrived.
+#[derive(Drop)]
+pub enum Input {
+    /// Bytes arrive on it.
+    Data(Bytes),
+    /// There is room for so many bytes of data on it.
+    Room(u32),
+    /// Its source names what is on the air.
+    Title(Bytes),
+    /// The peer has closed it.
+    End,
+}
+
+/// What happens, a line of a script each. Connections are named by labels, from 1 on.
 #[derive(Drop)]
 pub enum Delivery {
     /// The connection arrives.
     Open { label: u32, peer: Peer },
-    /// Bytes arrive on it.
-    In { label: u32, bytes: Bytes },
-    /// There is room for so many bytes of data on it.
-    Room { label: u32, room: u32 },
-    /// The peer has closed it.
-    End { label: u32 },
+    /// Something comes to a connection.
+    To { label: u32, input: Input },
 }
 
 /// The delivery that a line of a script stands for; `None` where it stands for none. The line is
@@ -40,6 +49,9 @@ pub fn read_delivery(alloc: Global, line: &[u8]) -> Result<Option<Delivery>, Out
     }
     if word == b"room".as_slice() {
         return Ok(read_room(fields));
+    }
+    if word == b"title".as_slice() {
+        return read_title(alloc, fields);
     }
     if word == b"end".as_slice() {
         return Ok(read_end(fields));
@@ -61,6 +73,33 @@ fn read_open(fields: &[u8]) -> Option<Delivery>
 fn read_in(alloc: Global, fields: &[u8]) -> Result<Option<Delivery>, OutOfMemory>
     ensures { IfOk result (λ delivery. delivery ≡ in_of fields.now) }
 {
+    match read_text(alloc, fields)? {
+        Some((label, bytes)) => Ok(Some(Delivery::To {
+            label,
+            input: Input::Data(bytes),
+        })),
+        None => Ok(None),
+    }
+}
+
+#[tactic(auto, unfolding(crate::specs::Delivery::title_of))]
+fn read_title(alloc: Global, fields: &[u8]) -> Result<Option<Delivery>, OutOfMemory>
+    ensures { IfOk result (λ delivery. delivery ≡ title_of fields.now) }
+{
+    match read_text(alloc, fields)? {
+        Some((label, text)) => Ok(Some(Delivery::To {
+            label,
+            input: Input::Title(text),
+        })),
+        None => Ok(None),
+    }
+}
+
+/// A label and the bytes that a text writes.
+#[tactic(auto, unfolding(crate::specs::Delivery::text_fields))]
+fn read_text(alloc: Global, fields: &[u8]) -> Result<Option<(u32, Bytes)>, OutOfMemory>
+    ensures { IfOk result (λ read. read ≡ text_fields fields.now) }
+{
     let Some((label, text)) = cut(fields, b' ') else {
         return Ok(None);
     };
@@ -68,7 +107,7 @@ fn read_in(alloc: Global, fields: &[u8]) -> Result<Option<Delivery>, OutOfMemory
         return Ok(None);
     };
     match unescape(alloc, text)? {
-        Some(bytes) => Ok(Some(Delivery::In { label, bytes })),
+        Some(bytes) => Ok(Some((label, bytes))),
         None => Ok(None),
     }
 }
@@ -80,7 +119,10 @@ fn read_room(fields: &[u8]) -> Option<Delivery>
     let (label, room) = cut(fields, b' ')?;
     let label = read_label(label)?;
     let room = read_decimal(room)?;
-    Some(Delivery::Room { label, room })
+    Some(Delivery::To {
+        label,
+        input: Input::Room(room),
+    })
 }
 
 #[tactic(auto, unfolding(crate::specs::Delivery::end_of))]
@@ -88,7 +130,10 @@ fn read_end(fields: &[u8]) -> Option<Delivery>
     ensures { result ≡ end_of fields.now }
 {
     let label = read_label(fields)?;
-    Some(Delivery::End { label })
+    Some(Delivery::To {
+        label,
+        input: Input::End,
+    })
 }
 
 #[tactic(auto, unfolding(crate::specs::Delivery::label_of))]
@@ -103,5 +148,6 @@ fn read_label(text: &[u8]) -> Option<u32>
 fn read_decimal(text: &[u8]) -> Option<u32>
     ensures { result ≡ decimal_of text.now }
 {
-    read_number(text, 10, u32::MAX)
+    let number = read_number(text, 10, u64::from(u32::MAX))?;
+    Some(number as u32)
 }

@@ -24,7 +24,7 @@ mod tally;
 mod transcript_lines;
 mod writing;
 
-pub use delivery::{Delivery, read_delivery};
+pub use delivery::{Delivery, Input, read_delivery};
 pub use devices::{Counted, CountedRead, CountedWrite};
 pub use escapes::{push_escaped, unescape};
 pub use faults::{PerformFault, PlayFault, RunFault};

@@ -8,7 +8,8 @@ use Rattle.radio_seats.specs.declared.seat.Listener.{Listener}
 use Rattle.radio_seats.specs.declared.seat.Seat.{Seat}
 use Rattle.radio_seats.specs.declared.seat.Seating.{Seating}
 use Rattle.radio_seats.specs.declared.seat.Seating.TheVariants.{Sits, Finished}
-use Rattle.radio_seats.specs.Seats.{is_listener, listener_of, seat_held, seat_in, seat_of, ended_if, finished_if, with_ended}
+use Rattle.radio_seats.specs.Seats.{is_listener, listener_of, seat_held, seat_in, seat_of, is_seat_at, holds_of, ended_if, finished_if, with_ended}
+use Rattle.radio_seats.specs.CountLaws.{NobodyCame, no_more_mapped}
 
 -- the listener had a seat of which it holds, and has finished
 pub record LosesSeat (p : Seat → Bool) (rule : Rule) (before later : Option Listener) : Type 0 where
@@ -42,6 +43,25 @@ module _ (p : Seat → Bool) (rule : Rule) where
 
   pub same_or_loses : (seats : List Listener) (id : ℕ) → IsSameOrLoses (listener_of seats id) (listener_of (with_ended seats p rule) id)
   same_or_loses seats id = rw (have_ended seats id) (same_or_loses_in (listener_of seats id))
+
+  -- whose seat is left had it before
+  pub had_seat : (seats : List Listener) (id : ℕ) (seat : Seat) → seat_of (with_ended seats p rule) id ≡ Some seat → seat_of seats id ≡ Some seat
+  had_seat seats id seat e = by_loss (same_or_loses seats id) where
+    by_loss : IsSameOrLoses (listener_of seats id) (listener_of (with_ended seats p rule) id) → seat_of seats id ≡ Some seat
+    by_loss (inl same) = sym (ap seat_in same) ∙ e
+    by_loss (inr loses) = let none : seat_of (with_ended seats p rule) id ≡ None = ap seat_in loses.finished in cc
+
+  -- so nobody has come
+  not_ended : (mount : List ℕ) (seating : Seating) (b : Bool) → is_seat_at mount (if b then Finished rule else seating) ≡ true → is_seat_at mount seating ≡ true
+  not_ended mount seating true h = cc
+  not_ended mount seating false h = h
+
+  pub nobody_came_ending : (seats : List Listener) → NobodyCame seats (with_ended seats p rule)
+  nobody_came_ending seats = record {
+    no_more = λ mount. no_more_mapped (λ listener. is_seat_at mount listener.seating) (finished_if p rule)
+        (λ listener e. not_ended mount listener.seating (holds_of p listener.seating) e) seats;
+    sat = λ id mount user sits. (sits.0, had_seat seats id sits.0 sits.1, sits.2, sits.3);
+  }
 
   -- of whose seat is left, it does not hold
   kept_at : (old seat : Seat) (b : Bool) → p old ≡ b → seat_held (if b then Finished rule else Sits old) ≡ Some seat → p seat ≡ false

@@ -13,7 +13,7 @@ use Rattle.radio_seats.specs.declared.seat.Listener.{Listener}
 use Rattle.radio_seats.specs.declared.seat.Seat.{Seat}
 use Rattle.radio_seats.specs.declared.seat.Seating.{Seating}
 use Rattle.radio_seats.specs.declared.seat.Seating.TheVariants.{Sits, Finished}
-use Rattle.radio_seats.specs.Seats.{is_listener, listener_of, seat_held, seat_in, seat_of, seated, with_seat, advanced, with_place}
+use Rattle.radio_seats.specs.Seats.{is_listener, listener_of, seat_held, seat_in, seat_of, seated, with_seat, heard_to, advanced, with_place}
 use Rattle.radio_seats.specs.Seats.{ended_at, finished_from, finished_at, without_listener}
 
 -- any other listener is found as before
@@ -57,6 +57,16 @@ listener_seated seats id seat e = by_found (listener_of seats id) refl where
       → (listener : Listener) × (listener_of seats id ≡ Some listener) × (seat_held listener.seating ≡ Some seat)
   by_found None none = let is_none : seat_of seats id ≡ None = ap seat_in none in cc
   by_found (Some listener) found = (listener, found, sym (ap seat_in found) ∙ e)
+
+-- and his seat is the same, further on
+pub has_heard : (seats : List Listener) (id place : ℕ) (seat : Seat) → seat_of seats id ≡ Some seat
+    → seat_of (with_place seats id place) id ≡ Some (record seat { place = place })
+has_heard seats id place seat has =
+    let listener = listener_seated seats id seat has in
+    ap seat_in (has_moved seats id place listener.0 listener.1) ∙ held listener.0.seating listener.2 where
+      held : (seating : Seating) → seat_held seating ≡ Some seat → seat_held (heard_to place seating) ≡ Some (record seat { place = place })
+      held (Sits old) e = let same : old ≡ seat = cc in ap (λ (x : Seat). Some (record x { place = place })) same
+      held (Finished rule) e = cc
 
 -- who has a seat after all seats at a mount have ended had it before, and elsewhere
 pub record StillSits (seats : List Listener) (mount : List ℕ) (id : ℕ) (seat : Seat) : Type 0 where

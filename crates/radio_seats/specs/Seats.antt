@@ -1,5 +1,5 @@
 -- The listeners, each with his seat, or with the rule by which he has lost it.
-use Rattle.std.specs.Prelude.{ℕ, Bool, false, ◌==◌, ◌&&◌, not, if◌then◌else◌, List, length, Option, Some, None, find, filter, map}
+use Rattle.std.specs.Prelude.{◌≡◌, ℕ, Bool, true, false, ◌==◌, ◌&&◌, not, if◌then◌else◌, List, length, Option, Some, None, find, filter, map}
 use Rattle.std.specs.declared.cmp.Ordering.{Ordering}
 use Rattle.std.specs.List.{list_any}
 use Rattle.std.specs.List.Sorted.{IsStrictlySortedBy}
@@ -108,6 +108,10 @@ count_at seats mount = length (seats_at seats mount)
 abbrev pub has_user : List ℕ → Option Credentials → Bool
 has_user user None = false
 has_user user (Some pair) = bytes_eq pair.user user
+
+-- the listener of this number sits at the mount, and sent this user
+abbrev pub SitsAs : List Listener → ℕ → List ℕ → List ℕ → Type 0
+SitsAs seats id mount user = (seat : Seat) × (seat_of seats id ≡ Some seat) × (seat.mount ≡ mount) × (has_user user seat.pair ≡ true)
 
 -- it is a seat at the mount, of one who sent this user
 abbrev pub is_user_at : List ℕ → List ℕ → Seating → Bool

@@ -1,6 +1,6 @@
 -- What a walk finds at a mount, and the rule that stops it there.
 use Rattle.std.specs.Prelude.{ℕ, Bool, false, not, ◌&&◌, nat_lt, if◌then◌else◌, List, Option, Some, None}
-use Rattle.std.specs.Option.{option_map, option_map_or}
+use Rattle.std.specs.Option.{option_map_or}
 use Rattle.radio_creds.specs.Credentials.{Credentials}
 use Rattle.radio_policy.specs.declared.rule.Rule.{Rule}
 use Rattle.radio_policy.specs.declared.rule.Rule.TheVariants.{NotLive, MountFull, ListenerPassword, UserTwice}

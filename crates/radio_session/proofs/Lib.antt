@@ -4,4 +4,5 @@ mod BodyLemmas
 mod CutLemmas
 mod ExchangeLemmas
 mod LastWordLemmas
-mod NumberLemmas
+mod ToldLemmas
+mod SentTitleLemmas

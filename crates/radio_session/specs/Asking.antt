@@ -1,11 +1,13 @@
 -- What a request asks of the server.
-use Rattle.std.specs.Prelude.{ℕ, List, [], false, codes, Option, unwrap_or}
+use Rattle.std.specs.Prelude.{ℕ, Bool, List, [], codes, Option, unwrap_or}
 use Rattle.std.specs.Option.{option_and_then}
 use Rattle.radio_creds.specs.Authorization.{basic_pair}
 use Rattle.radio_creds.specs.Credentials.{Credentials}
+use Rattle.radio_settings.specs.declared.field.Shown.{Shown}
 use Rattle.radio_settings.specs.Shown.{shown_of}
 use Rattle.radio_heads.specs.Head.{RequestParts}
 use Rattle.radio_heads.specs.Headers.{value_of}
+use Rattle.radio_session.specs.Framing.{is_word}
 use Rattle.radio_core.specs.declared.event.Event.{Event}
 use Rattle.radio_core.specs.declared.event.Event.TheVariants.{Source, Listen}
 
@@ -13,14 +15,25 @@ use Rattle.radio_core.specs.declared.event.Event.TheVariants.{Source, Listen}
 abbrev pub pair_of : RequestParts → Option Credentials
 pair_of request = option_and_then basic_pair (value_of (codes "Authorization") request.headers)
 
--- the content type that a source names; where it names none, the one that Icecast takes then
-abbrev pub content_type_of : RequestParts → List ℕ
-content_type_of request = unwrap_or (value_of (codes "Content-Type") request.headers) (codes "audio/mpeg")
+-- the value of a header, or the other where there is no such header; an empty value is one
+abbrev pub value_or : List ℕ → List ℕ → RequestParts → List ℕ
+value_or other name request = unwrap_or (value_of name request.headers) other
+
+-- what a source tells of its stream: a type, a name and a genre; where it names no type, the one that Icecast takes then
+abbrev pub shown_by : RequestParts → Shown
+shown_by request = shown_of
+    (value_or (codes "audio/mpeg") (codes "Content-Type") request)
+    (value_or [] (codes "ice-name") request)
+    (value_or [] (codes "ice-genre") request)
+
+-- a listener wants metadata between the data (ICY convention)
+abbrev pub wants_metadata : RequestParts → Bool
+wants_metadata request = is_word (codes "1") (value_of (codes "Icy-MetaData") request.headers)
 
 -- a client asks to feed the mount of his path
 abbrev pub asks_to_feed : ℕ → RequestParts → Event
-asks_to_feed id request = Source (record { id = id; mount = request.path; pair = pair_of request; shown = shown_of (content_type_of request) [] [] })
+asks_to_feed id request = Source (record { id = id; mount = request.path; pair = pair_of request; shown = shown_by request })
 
 -- a client asks to hear the mount of his path
 abbrev pub asks_to_hear : ℕ → RequestParts → Event
-asks_to_hear id request = Listen (record { id = id; mount = request.path; pair = pair_of request; wants_metadata = false })
+asks_to_hear id request = Listen (record { id = id; mount = request.path; pair = pair_of request; wants_metadata = wants_metadata request })

@@ -27,7 +27,7 @@ IsOpen Nothing = Unit {0}
 
 -- nothing was admitted yet
 abbrev pub asking : Says
-asking = record { is_admitted = false; greeting = Welcome; closing = None }
+asking = record { is_admitted = false; greeting = Welcome; closing = None; weaver = None }
 
 -- a conversation in which nothing was said yet
 abbrev pub fresh : ℕ → Peer → Conversation

@@ -2,9 +2,12 @@ pub mod Conversation
 pub mod Pushes
 pub mod Asking
 pub mod Hearing
+pub mod Draws
 pub mod Saying
 pub mod Exchanges
 pub mod Cuts
 pub mod Laws
 pub mod LastWords
+pub mod Told
+pub mod SentTitles
 pub mod Framing

@@ -6,6 +6,8 @@ use Rattle.radio_policy.specs.Words.{word_of, status_of}
 use Rattle.radio_core.specs.declared.reply.Reply.{Reply}
 use Rattle.radio_core.specs.declared.reply.Reply.TheVariants.{Arrived, Feeding, Seated, Drawn, Noted, Deny, Finished, Stray}
 use Rattle.radio_heads.specs.Answer.{listener_head, source_text, continue_text, denial_text}
+use Rattle.radio_icy.specs.Weaving.{Call}
+use Rattle.radio_session.specs.Draws.{draw, interval_told, weaver_at, drawn, after_draw}
 use Rattle.radio_session.specs.declared.session.Says.{Says}
 use Rattle.radio_session.specs.declared.session.Closing.{Closing}
 use Rattle.radio_session.specs.declared.session.LastWord.{LastWord}
@@ -50,6 +52,14 @@ counted says = record says { closing = option_map one_less says.closing }
 abbrev pub admitted : Says → Says
 admitted says = counted (record says { is_admitted = true })
 
+-- a listener is admitted, with metadata blocks at this interval
+abbrev pub seated : Says → Option ℕ → Says
+seated says interval = admitted (record says { weaver = weaver_at interval })
+
+-- he has drawn
+abbrev pub drew : Says → Call → Says
+drew says draw = counted (record says { weaver = after_draw says.weaver draw })
+
 -- what a source is told that is admitted
 abbrev pub greeting_text : Greeting → List ℕ
 greeting_text Welcome = source_text
@@ -84,8 +94,8 @@ noted says (Some closing) = if closing.awaits == 0 then ends (last_text says.gre
 abbrev pub said : Says → Reply → Said
 said says (Arrived id) = tells [] (counted says)
 said says Feeding = tells (greeting_text says.greeting) (admitted says)
-said says (Seated interval shown) = tells (listener_head shown.content_type shown.name shown.genre None) (admitted says)
-said says (Drawn pieces title) = tells pieces (counted says)
+said says (Seated interval shown) = tells (listener_head shown.content_type shown.name shown.genre (interval_told interval)) (seated says interval)
+said says (Drawn bytes title) = tells (drawn says.weaver (draw bytes title)) (drew says (draw bytes title))
 said says Noted = noted says says.closing
 said says (Deny rule) = denied says rule
 said says (Finished rule) = ends [] says (By rule)

@@ -5,10 +5,13 @@ ghost use Rattle.radio_session.specs.Conversation.{ending_word};
 ghost use Rattle.radio_session.specs.declared.state.Ending.TheVariants.{Done};
 ghost use Rattle.radio_session.specs.LastWords.{DenialsNameTheirRule, RulesWithoutStatusAreSilent, LateDenialsAreSilent, FinishesAreSilent, RefusalsNameTheirRule, WholeBodiesAreDone, FaultyBodiesAreSilent};
 ghost use Rattle.radio_session.specs.Cuts.{CutsDoNotMatter};
+ghost use Rattle.radio_session.specs.Told.{DrawsFollowTheHead, PlainDrawsAreTheirData, JoinedDrawsAreWoven, DrawsAreTakenOutAgain, ExchangesTellReplies};
+ghost use Rattle.radio_session.specs.SentTitles.{TitlesAreSentInTime, NoTitleIsRepeated};
 ghost use Rattle.radio_session.specs.Laws.{HearingIsOne, CoresExchangeAsTheirStates};
 
 use radio_blocks::laws::blocks_are_the_data;
 use radio_heads::{heads_lie_within, readings_agree, settled};
+use radio_icy::laws::{bare_of_woven, unwoven_streams, woven_streams};
 use radio_source::laws::pieces_are_joined;
 
 /// What comes on a connection in two pieces is heard as if it had come in one: the same head, the
@@ -55,3 +58,25 @@ pub fn last_words_name_the_rule()
     // and where no rule ended it
     ensures done { ending_word Done ≡ codes "done" }
 {}
+
+/// What follows a listener's head on his connection is what he has drawn: the data alone, or, where
+/// the head tells an interval, the data with a metadata block after each interval of them.
+pub fn listeners_are_told_what_they_draw()
+    // the joined data of the draws follow the head
+    ensures joined { DrawsFollowTheHead }
+    // they stand alone where no interval was told
+    ensures plain { PlainDrawsAreTheirData }
+    // and are woven where one was, each block with the title of the draw that ended its interval
+    ensures woven { JoinedDrawsAreWoven }
+    // that title is then the last one sent, and none is sent twice in a row
+    ensures in_time { TitlesAreSentInTime }
+    ensures not_repeated { NoTitleIsRepeated }
+    // who takes the metadata out again has the data, and the texts of the titles sent
+    ensures taken_out { DrawsAreTakenOutAgain }
+    // what goes out for events of the server is what is told of their replies
+    ensures exchanged { ExchangesTellReplies }
+{
+    woven_streams();
+    bare_of_woven();
+    unwoven_streams();
+}

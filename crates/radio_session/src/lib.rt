@@ -7,7 +7,8 @@
 //! - [`exchange`]: the events of a connection, applied one after another by whoever [`Applies`]
 //!   them, each reply told, up to the end of the connection.
 //! - Laws, which run no code: [`cuts_do_not_matter`], [`hearing_is_one`],
-//!   [`cores_exchange_as_their_states`], [`last_words_name_the_rule`].
+//!   [`cores_exchange_as_their_states`], [`last_words_name_the_rule`],
+//!   [`listeners_are_told_what_they_draw`].
 #![tactic(auto)]
 
 mod exchanging;
@@ -18,6 +19,7 @@ mod state;
 pub use exchanging::{Applies, exchange};
 pub use laws::{
     cores_exchange_as_their_states, cuts_do_not_matter, hearing_is_one, last_words_name_the_rule,
+    listeners_are_told_what_they_draw,
 };
 pub use session::Session;
 pub use state::{Ending, State};

@@ -4,6 +4,7 @@ ghost use Rattle.std.specs.Prelude.{◌≡◌};
 ghost use Rattle.radio_session.specs.Conversation.{Conversation, fresh};
 
 use radio_addr::Peer;
+use radio_icy::Weaver;
 use radio_policy::Rule;
 use radio_source::Body;
 use std::alloc::Global;
@@ -14,6 +15,7 @@ mod feeding;
 mod framing;
 mod hearing;
 mod saying;
+mod weaving;
 
 /// What the bytes that come on a connection are read as.
 #[derive(Drop)]
@@ -55,12 +57,14 @@ pub(crate) struct Closing {
 }
 
 /// How replies are told.
-#[derive(Clone, Copy, Debug, PartialEq, Eq)]
+#[derive(Drop)]
 pub(crate) struct Says {
     /// A source or a listener was admitted: a denial is told by closing alone.
     pub(crate) is_admitted: bool,
     pub(crate) greeting: Greeting,
     pub(crate) closing: Option<Closing>,
+    /// What puts metadata between a listener's data, if he is sent any.
+    pub(crate) weaver: Option<Weaver>,
 }
 
 /// One connection: the number of its client, its peer, the bytes of an unfinished head, and how it
@@ -121,6 +125,7 @@ impl Session {
                 is_admitted: false,
                 greeting: Greeting::Welcome,
                 closing: None,
+                weaver: None,
             },
             has_failed: false,
         }

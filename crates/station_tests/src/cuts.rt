@@ -6,7 +6,7 @@ use crate::scripts::{
 use bytes::Bytes;
 use radio_access::Lists;
 use radio_core::OutOfMemory;
-use radio_floor::{Delivery, run};
+use radio_floor::{Delivery, Input, run};
 use radio_settings::SettingsFault;
 use std::alloc::Global;
 use std::process::Abort;
@@ -14,7 +14,10 @@ use std::process::Abort;
 // How many bytes the delivery of that place brings; none where it brings no bytes.
 fn length_of(all: &[Delivery], place: usize) -> usize {
     match all.get(place) {
-        Some(Delivery::In { bytes, .. }) => bytes.len(),
+        Some(Delivery::To {
+            input: Input::Data(bytes),
+            ..
+        }) => bytes.len(),
         _ => 0,
     }
 }
@@ -22,22 +25,26 @@ fn length_of(all: &[Delivery], place: usize) -> usize {
 // The delivery of that place comes in two, of which the first has so many bytes at most; one that
 // brings no bytes is left whole.
 fn cut(alloc: Global, all: &mut Vec<Delivery>, place: usize, at: usize) -> Result<(), OutOfMemory> {
-    let Some(Delivery::In { label, bytes }) = all.get(place) else {
+    let Some(Delivery::To {
+        label,
+        input: Input::Data(bytes),
+    }) = all.get(place)
+    else {
         return Ok(());
     };
     let label = *label;
     let at = at.min(bytes.len());
     let first = Bytes::copy_from_slice(alloc, &bytes[..at])?;
     let second = Bytes::copy_from_slice(alloc, &bytes[at..])?;
-    all[place] = Delivery::In {
+    all[place] = Delivery::To {
         label,
-        bytes: first,
+        input: Input::Data(first),
     };
     all.insert(
         place + 1,
-        Delivery::In {
+        Delivery::To {
             label,
-            bytes: second,
+            input: Input::Data(second),
         },
     )?;
     Ok(())

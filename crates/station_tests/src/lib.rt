@@ -5,6 +5,7 @@
 //! - `scripts`: whole scripts, over sound and failing devices; `cuts`: with a delivery cut in two;
 //!   `many`: large ones.
 //! - `access`: who is let in, by lists, pairs, types and limits.
+//! - `metadata`: metadata between a listener's data, and who asks for them.
 //! - `finished`: what a source is told whom a rule has finished.
 #![tactic(auto)]
 
@@ -22,6 +23,8 @@ mod finished;
 mod many;
 #[cfg(test)]
 mod memory;
+#[cfg(test)]
+mod metadata;
 #[cfg(test)]
 mod rows;
 #[cfg(test)]

@@ -4,7 +4,7 @@ use crate::scripts::{deliveries, played, settings};
 use bytes::Bytes;
 use radio_access::Lists;
 use radio_core::OutOfMemory;
-use radio_floor::{Delivery, run};
+use radio_floor::{Delivery, Input, run};
 use radio_settings::SettingsFault;
 use std::alloc::Global;
 
@@ -64,11 +64,14 @@ const MEBIBYTES_16: usize = 16 * 1024 * 1024;
 fn large_delivery(alloc: Global) -> Result<Vec<Delivery>, OutOfMemory> {
     let mut all = deliveries(alloc, BOTH)?;
     let brought = vec![in alloc; b'x'; MEBIBYTES_16]?;
-    all.push(Delivery::In {
+    all.push(Delivery::To {
         label: 1,
-        bytes: Bytes::from_vec(brought)?,
+        input: Input::Data(Bytes::from_vec(brought)?),
     })?;
-    all.push(Delivery::Room { label: 2, room: 4 })?;
+    all.push(Delivery::To {
+        label: 2,
+        input: Input::Room(4),
+    })?;
     Ok(all)
 }
 

@@ -1,6 +1,6 @@
 use radio_texts::{cut, cut_at_two, read_number, without_return};
 
-type Row = (&'static [u8], u32, u32, Option<u32>);
+type Row = (&'static [u8], u32, u64, Option<u64>);
 
 /// Texts, each with a base, the most that it may write, and the number.
 const NUMBERS: &[Row] = &[
@@ -10,6 +10,13 @@ const NUMBERS: &[Row] = &[
     (b"256", 10, 255, None),
     (b"4294967295", 10, 4_294_967_295, Some(4_294_967_295)),
     (b"4294967296", 10, 4_294_967_295, None),
+    (
+        b"18446744073709551615",
+        10,
+        18_446_744_073_709_551_615,
+        Some(18_446_744_073_709_551_615),
+    ),
+    (b"18446744073709551616", 10, 18_446_744_073_709_551_615, None),
     (b"fFfF", 16, 65535, Some(65535)),
     (b"+1", 10, 255, None),
     (b"-0", 10, 255, None),

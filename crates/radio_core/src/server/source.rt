@@ -1,34 +1,46 @@
-ghost use Rattle.std.specs.Prelude.{◌≡◌, MatchResult};
-ghost use Rattle.radio_core.specs.Source.{asks_to_feed, begins};
+ghost use Rattle.std.specs.Prelude.{◌≡◌, MatchResult, IfOk};
+ghost use Rattle.radio_core.specs.declared.outcome.Change.TheVariants.{Begin};
+ghost use Rattle.radio_core.specs.declared.reply.Reply.TheVariants.{Feeding};
+ghost use Rattle.radio_core.specs.Outcomes.{says};
+ghost use Rattle.radio_core.specs.Source.{asks_to_feed, begins, shown_for};
 
 use crate::facts::asker_of;
 use crate::outcome::{Change, Outcome};
 use crate::standing::Standing;
-use crate::{Core, Reply, SourceRequest};
+use crate::{Core, OutOfMemory, Reply, SourceRequest};
 use radio_policy::{Action, Verdict, judge};
-use radio_settings::MountName;
+use radio_settings::{MountName, Shown};
 
 impl Core {
-    /// A client wants to feed a mount.
-    pub(super) fn source(&self, asked: SourceRequest) -> Outcome
-        ensures { result ≡ asks_to_feed self.now asked }
+    /// A client wants to feed a mount. `OutOfMemory` where memory was refused.
+    pub(super) fn source(&self, asked: SourceRequest) -> Result<Outcome, OutOfMemory>
+        ensures { IfOk result (λ o. o ≡ asks_to_feed self.now asked) }
     {
         match self.may_feed(&asked) {
-            Ok(mount) => Outcome {
-                reply: Reply::Feeding,
-                change: Change::Begin {
-                    id: asked.id,
-                    mount,
-                    shown: asked.shown,
-                },
-            },
-            Err(other) => other,
+            Ok(mount) => self.begin_session(asked.id, mount, &asked.shown),
+            Err(other) => Ok(other),
         }
+    }
+
+    /// A session begins on the mount.
+    fn begin_session(
+        &self,
+        id: u64,
+        mount: MountName,
+        shown: &Shown,
+    ) -> Result<Outcome, OutOfMemory>
+        ensures { IfOk result (λ o. o ≡ says Feeding (Begin id mount (shown_for self.now.house mount shown.now))) }
+    {
+        let shown = self.house.shown_for(&mount, shown)?;
+        Ok(Outcome {
+            reply: Reply::Feeding,
+            change: Change::Begin { id, mount, shown },
+        })
     }
 
     /// The mount that the client may feed, or what else comes of his asking.
     fn may_feed(&self, asked: &SourceRequest) -> Result<MountName, Outcome>
-        ensures { MatchResult result (λ mount. (mount ≡ asked.now.mount) × (asks_to_feed self.now asked.now ≡ begins asked.now)) (λ other. other ≡ asks_to_feed self.now asked.now) }
+        ensures { MatchResult result (λ mount. (mount ≡ asked.now.mount) × (asks_to_feed self.now asked.now ≡ begins self.now.house asked.now)) (λ other. other ≡ asks_to_feed self.now asked.now) }
     {
         match self.standing(asked.id) {
             Standing::Undecided(_) => {}

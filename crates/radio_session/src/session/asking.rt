@@ -1,9 +1,10 @@
 //! What a request asks of the server.
 
 ghost use Rattle.std.specs.Prelude.{◌≡◌, IfOk};
-ghost use Rattle.radio_session.specs.Asking.{pair_of, content_type_of, asks_to_feed, asks_to_hear};
+ghost use Rattle.radio_session.specs.Asking.{pair_of, value_or, shown_by, wants_metadata, asks_to_feed, asks_to_hear};
 
 use crate::OutOfMemory;
+use crate::session::framing::is_word;
 use bytes::Bytes;
 use radio_core::{Event, ListenRequest, SourceRequest};
 use radio_creds::{Pair, basic};
@@ -19,7 +20,7 @@ const DEFAULT_CONTENT_TYPE: &[u8] = b"audio/mpeg";
 pub(crate) fn asks_to_feed(alloc: Global, id: u64, head: &Head) -> Result<Event, OutOfMemory>
     ensures { IfOk result (λ event. event ≡ asks_to_feed id head.now) }
 {
-    let shown = Shown::clean(alloc, content_type_of(head), b"", b"")?;
+    let shown = shown_by(alloc, head)?;
     let pair = pair_of(alloc, head)?;
     let mount = Bytes::copy_from_slice(alloc, head.path())?;
     Ok(Event::Source(SourceRequest {
@@ -41,7 +42,7 @@ pub(crate) fn asks_to_hear(alloc: Global, id: u64, head: &Head) -> Result<Event,
         id,
         mount,
         pair,
-        wants_metadata: false,
+        wants_metadata: wants_metadata(head),
     }))
 }
 
@@ -56,12 +57,29 @@ fn pair_of(alloc: Global, head: &Head) -> Result<Option<Pair>, OutOfMemory>
     }
 }
 
-/// The content type that a source names; one that is empty is named too.
-fn content_type_of<'b>(head: &Head<'b>) -> &'b [u8]
-    ensures { result.now ≡ content_type_of head.now }
+/// What a source tells of its stream, cleaned. `OutOfMemory` where memory was refused.
+fn shown_by(alloc: Global, head: &Head) -> Result<Shown, OutOfMemory>
+    ensures { IfOk result (λ shown. shown ≡ shown_by head.now) }
 {
-    match head.value("Content-Type") {
+    let content_type = value_or(DEFAULT_CONTENT_TYPE, "Content-Type", head);
+    let name = value_or(b"", "ice-name", head);
+    let genre = value_or(b"", "ice-genre", head);
+    Shown::clean(alloc, content_type, name, genre)
+}
+
+/// Whether a listener wants metadata between the data (ICY convention).
+fn wants_metadata(head: &Head) -> bool
+    ensures { result ≡ wants_metadata head.now }
+{
+    is_word(head.value("Icy-MetaData"), b"1")
+}
+
+/// The value of a header, or the other where there is no such header; an empty value is one.
+fn value_or<'b>(other: &'static [u8], name: &str, head: &Head<'b>) -> &'b [u8]
+    ensures { result.now ≡ value_or other.now name.now head.now }
+{
+    match head.value(name) {
         Some(value) => value,
-        None => DEFAULT_CONTENT_TYPE,
+        None => other,
     }
 }

@@ -1,9 +1,6 @@
 //! How the data of a source come.
 
 ghost use Rattle.std.specs.Prelude.{◌≡◌, option_copied};
-ghost use Rattle.std.specs.List.{list_all};
-ghost use Rattle.std.specs.Char.{is_digit};
-ghost use Rattle.radio_texts.specs.Numbers.{number_of};
 ghost use Rattle.radio_source.specs.Feeding.{unfed};
 ghost use Rattle.radio_heads.specs.Headers.{is_same_name};
 ghost use Rattle.radio_session.specs.Framing.{framing_of, framed_by, unless_identity, coded, sized, start_of, is_put, is_source, is_word, greeting_of};
@@ -11,8 +8,8 @@ ghost use Rattle.radio_session.specs.Framing.{framing_of, framed_by, unless_iden
 use crate::session::Greeting;
 use radio_heads::Head;
 use radio_source::Body;
+use radio_texts::read_number;
 use std::alloc::Global;
-use std::str;
 
 /// How the data of a source come (RFC 9112, section 6).
 #[derive(Clone, Copy, Debug, PartialEq, Eq)]
@@ -110,11 +107,11 @@ fn coded(coding: &[u8]) -> Option<Framing>
 fn sized(length: &[u8]) -> Option<Framing>
     ensures { result ≡ sized length.now }
 {
-    Some(Framing::Sized(number(length)?))
+    Some(Framing::Sized(read_number(length, 10, u64::MAX)?))
 }
 
 /// Whether the value of a header is this word, in any case of letters.
-fn is_word(value: Option<&[u8]>, word: &[u8]) -> bool
+pub(super) fn is_word(value: Option<&[u8]>, word: &[u8]) -> bool
     ensures { result ≡ is_word word.now (option_copied value.entry) }
 {
     match value {
@@ -127,26 +124,4 @@ fn is_same_word(a: &[u8], b: &[u8]) -> bool
     ensures { result ≡ is_same_name a.now b.now }
 {
     a.eq_ignore_ascii_case(b)
-}
-
-/// The number of 64 bits that decimal digits alone write.
-fn number(text: &[u8]) -> Option<u64>
-    ensures { result ≡ number_of 10 18446744073709551615 text.now }
-{
-    if text.is_empty() {
-        return None;
-    }
-    if !are_digits(text) {
-        return None;
-    }
-    match str::from_utf8(text) {
-        Ok(digits) => digits.parse::<u64>().ok(),
-        Err(_) => None,
-    }
-}
-
-fn are_digits(text: &[u8]) -> bool
-    ensures { result ≡ list_all (λ b. is_digit b 10) text.now }
-{
-    text.iter().all(|b| (*b as char).is_digit(10))
 }

@@ -1,11 +1,14 @@
-ghost use Rattle.std.specs.Prelude.{◌≡◌, ◌++◌, true, None, Some, IfOk, IsErr, OnOk, OnErr};
+ghost use Rattle.std.specs.Prelude.{◌≡◌, ◌≤◌, ◌++◌, length, true, Some, option_copied, option_map, IfOk, IfSome, IsErr, OnOk, OnErr};
 ghost use Rattle.radio_heads.specs.Answer.{answer_text, listener_head};
 ghost use Rattle.radio_session.specs.Conversation.{saying_now};
-ghost use Rattle.radio_session.specs.Saying.{said, denied, noted, counted, admitted, last_text, last_ending, greeting_text, denial};
+ghost use Rattle.radio_session.specs.Saying.{said, denied, noted, counted, one_less, admitted, seated, drew, last_text, last_ending, greeting_text, denial};
+ghost use Rattle.radio_session.specs.Draws.{draw, drawn, interval_told, weaver_at};
+ghost use Rattle.radio_icy.specs.Limits.{max_title};
 ghost use Rattle.radio_session.specs.declared.state.State.TheVariants.{Running, Shut};
 
 use crate::OutOfMemory;
-use crate::session::{Closing, Greeting, LastWord, Says, Session};
+use crate::session::weaving::{interval_told, tell_draw, text_of, weaver_at};
+use crate::session::{Closing, Greeting, LastWord, Session};
 use crate::state::{Ending, State};
 use radio_blocks::Pieces;
 use radio_core::Reply;
@@ -61,13 +64,13 @@ impl Session {
     {
         match reply {
             Reply::Feeding => self.admit_source(out),
-            Reply::Seated { shown, .. } => self.admit_listener(shown, out),
-            Reply::Drawn { pieces, .. } => self.tell_pieces(pieces, out),
+            Reply::Seated { interval, shown } => self.admit_listener(*interval, shown, out),
+            Reply::Drawn { pieces, title } => self.tell_pieces(pieces, text_of(title), out),
             Reply::Noted => self.note(out),
             Reply::Deny(rule) => self.deny(*rule, out),
             Reply::Finished(rule) => Ok(State::Shut(Ending::By(*rule))),
             Reply::Arrived(_) | Reply::Stray => {
-                self.says = counted(self.says);
+                self.count();
                 Ok(State::Running)
             }
         }
@@ -81,31 +84,43 @@ impl Session {
         ensures silent { OnErr result (out.new.items ≡ out.old.items) }
     {
         greet(self.alloc, self.says.greeting, out)?;
-        self.says = admitted(self.says);
+        self.admit();
         Ok(State::Running)
     }
 
     /// A listener is admitted.
-    fn admit_listener(&mut self, shown: &Shown, out: &mut Vec<u8>) -> Result<State, OutOfMemory>
-        ensures bytes { IfOk result (λ _. out.new.items ≡ out.old.items ++ listener_head shown.now.content_type shown.now.name shown.now.genre None) }
+    fn admit_listener(
+        &mut self,
+        interval: Option<u32>,
+        shown: &Shown,
+        out: &mut Vec<u8>,
+    ) -> Result<State, OutOfMemory>
+        ensures bytes { IfOk result (λ _. out.new.items ≡ out.old.items ++ listener_head shown.now.content_type shown.now.name shown.now.genre (interval_told interval)) }
         ensures state { IfOk result (λ state. state ≡ Running) }
-        ensures says { IfOk result (λ _. self.new ≡ saying_now self.old (admitted self.old.says)) }
+        ensures says { IfOk result (λ _. self.new ≡ saying_now self.old (seated self.old.says interval)) }
         ensures silent { OnErr result (out.new.items ≡ out.old.items) }
     {
-        welcome(self.alloc, shown, out)?;
-        self.says = admitted(self.says);
+        welcome(self.alloc, interval_told(interval), shown, out)?;
+        self.says.weaver = weaver_at(self.alloc, interval);
+        self.admit();
         Ok(State::Running)
     }
 
-    /// A listener's data.
-    fn tell_pieces(&mut self, pieces: &Pieces, out: &mut Vec<u8>) -> Result<State, OutOfMemory>
-        ensures bytes { IfOk result (λ _. out.new.items ≡ out.old.items ++ pieces.now) }
+    /// A listener's data, drawn while their mount has this title.
+    fn tell_pieces(
+        &mut self,
+        pieces: &Pieces,
+        title: Option<&[u8]>,
+        out: &mut Vec<u8>,
+    ) -> Result<State, OutOfMemory>
+        requires { IfSome title (λ text. length text.now ≤ max_title) }
+        ensures bytes { IfOk result (λ _. out.new.items ≡ out.old.items ++ drawn self.old.says.weaver (draw pieces.now (option_copied title.entry))) }
         ensures state { IfOk result (λ state. state ≡ Running) }
-        ensures says { IfOk result (λ _. self.new ≡ saying_now self.old (counted self.old.says)) }
+        ensures says { IfOk result (λ _. self.new ≡ saying_now self.old (drew self.old.says (draw pieces.now (option_copied title.entry)))) }
         ensures silent { OnErr result (out.new.items ≡ out.old.items) }
     {
-        pieces.write_to(out)?;
-        self.says = counted(self.says);
+        tell_draw(&mut self.says.weaver, pieces, title, out)?;
+        self.count();
         Ok(State::Running)
     }
 
@@ -144,33 +159,35 @@ impl Session {
         if closing.awaits == 0 {
             return tell_last(self.alloc, self.says.greeting, closing.word, out);
         }
-        self.says = counted(self.says);
+        self.count();
         Ok(State::Running)
+    }
+
+    /// A source or a listener was admitted.
+    fn admit(&mut self)
+        ensures { self.new ≡ saying_now self.old (admitted self.old.says) }
+    {
+        self.says.is_admitted = true;
+        self.count();
+    }
+
+    /// One reply less is awaited before that which tells the last word.
+    fn count(&mut self)
+        ensures { self.new ≡ saying_now self.old (counted self.old.says) }
+    {
+        self.says.closing = counted(self.says.closing);
     }
 }
 
-/// How replies are told once a source or a listener was admitted.
-fn admitted(says: Says) -> Says
-    ensures { result ≡ admitted says }
+/// The closing, with one reply less before that which tells the last word.
+fn counted(closing: Option<Closing>) -> Option<Closing>
+    ensures { result ≡ option_map one_less closing }
 {
-    counted(Says {
-        is_admitted: true,
-        ..says
+    let Closing { awaits, word } = closing?;
+    Some(Closing {
+        awaits: awaits.saturating_sub(1),
+        word,
     })
-}
-
-/// One reply less is awaited before that which tells the last word.
-fn counted(says: Says) -> Says
-    ensures { result ≡ counted says }
-{
-    let closing = match says.closing {
-        Some(Closing { awaits, word }) => Some(Closing {
-            awaits: awaits.saturating_sub(1),
-            word,
-        }),
-        None => None,
-    };
-    Says { closing, ..says }
 }
 
 /// The last word of the connection itself.
@@ -219,16 +236,21 @@ fn tell(alloc: Global, answer: &Answer, out: &mut Vec<u8>) -> Result<(), OutOfMe
     out.extend_from_slice(text.as_slice())
 }
 
-/// Appends the head that a listener gets who is admitted.
-fn welcome(alloc: Global, shown: &Shown, out: &mut Vec<u8>) -> Result<(), OutOfMemory>
-    ensures ok { OnOk result (out.new.items ≡ out.old.items ++ listener_head shown.now.content_type shown.now.name shown.now.genre None) }
+/// Appends the head that a listener gets who is admitted, and is sent metadata at this interval.
+fn welcome(
+    alloc: Global,
+    interval: Option<u32>,
+    shown: &Shown,
+    out: &mut Vec<u8>,
+) -> Result<(), OutOfMemory>
+    ensures ok { OnOk result (out.new.items ≡ out.old.items ++ listener_head shown.now.content_type shown.now.name shown.now.genre interval) }
     ensures err { OnErr result (out.new.items ≡ out.old.items) }
 {
     let answer = Answer::Listener(Welcome {
         content_type: shown.content_type.as_bytes(),
         name: shown.name.as_bytes(),
         genre: shown.genre.as_bytes(),
-        interval: None,
+        interval,
     });
     tell(alloc, &answer, out)
 }

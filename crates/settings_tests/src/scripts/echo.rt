@@ -3,7 +3,7 @@
 
 ghost use Rattle.std.specs.Prelude.{◌≡◌, ◌++◌, ℕ, List, OnOk};
 
-use radio_script::{Delivery, PerformFault, Performer, push_answer};
+use radio_script::{Delivery, Input, PerformFault, Performer, push_answer};
 use std::alloc::Global;
 
 /// The labels that were opened.
@@ -51,16 +51,27 @@ impl Performer for Echo {
     ) -> Result<(), PerformFault> {
         match delivery {
             Delivery::Open { label, .. } => self.open(*label),
-            Delivery::In { label, bytes } => {
+            Delivery::To { label, input } => {
                 self.check(*label)?;
-                answer(alloc, lines, *label, bytes.as_slice(), None)
-            }
-            Delivery::Room { label, .. } => self.check(*label),
-            Delivery::End { label } => {
-                self.check(*label)?;
-                answer(alloc, lines, *label, &[], Some("done"))
+                answer_input(alloc, lines, *label, input)
             }
         }
+    }
+}
+
+// Bytes come back, and the end is answered.
+fn answer_input(
+    alloc: Global,
+    lines: &mut Vec<u8>,
+    label: u32,
+    input: &Input,
+) -> Result<(), PerformFault>
+    ensures { OnOk result ((text : List ℕ) × (lines.new.items ≡ lines.old.items ++ text)) }
+{
+    match input {
+        Input::Data(bytes) => answer(alloc, lines, label, bytes.as_slice(), None),
+        Input::Room(_) | Input::Title(_) => Ok(()),
+        Input::End => answer(alloc, lines, label, &[], Some("done")),
     }
 }
 

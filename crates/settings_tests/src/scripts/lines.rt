@@ -2,15 +2,16 @@
 //! scripts too, many more of them.
 
 use radio_addr::Address;
-use radio_script::{Delivery, push_answer, push_escaped, read_delivery, unescape};
+use radio_script::{Delivery, Input, push_answer, push_escaped, read_delivery, unescape};
 use std::alloc::{AllocError, Global};
 
 // The parts of a delivery, as a table holds them.
 #[derive(Clone, Copy, PartialEq, Eq)]
 enum Parts<'a> {
     Open { label: u32, address: Address },
-    In { label: u32, bytes: &'a [u8] },
+    Data { label: u32, bytes: &'a [u8] },
     Room { label: u32, room: u32 },
+    Title { label: u32, text: &'a [u8] },
     End { label: u32 },
 }
 
@@ -20,15 +21,22 @@ fn parts_of(delivery: &Delivery) -> Parts<'_> {
             label: *label,
             address: peer.address(),
         },
-        Delivery::In { label, bytes } => Parts::In {
-            label: *label,
+        Delivery::To { label, input } => parts_of_input(*label, input),
+    }
+}
+
+fn parts_of_input(label: u32, input: &Input) -> Parts<'_> {
+    match input {
+        Input::Data(bytes) => Parts::Data {
+            label,
             bytes: bytes.as_slice(),
         },
-        Delivery::Room { label, room } => Parts::Room {
-            label: *label,
-            room: *room,
+        Input::Room(room) => Parts::Room { label, room: *room },
+        Input::Title(text) => Parts::Title {
+            label,
+            text: text.as_slice(),
         },
-        Delivery::End { label } => Parts::End { label: *label },
+        Input::End => Parts::End { label },
     }
 }
 
@@ -56,14 +64,14 @@ const DELIVERIES: &[(&[u8], Parts<'static>)] = &[
     ),
     (
         b"in 007  a\\x4B\\r\\n\\\\~",
-        Parts::In {
+        Parts::Data {
             label: 7,
             bytes: b" aK\r\n\\~",
         },
     ),
     (
         b"in 1 ",
-        Parts::In {
+        Parts::Data {
             label: 1,
             bytes: b"",
         },
@@ -76,6 +84,14 @@ const DELIVERIES: &[(&[u8], Parts<'static>)] = &[
         },
     ),
     (b"room 2 0", Parts::Room { label: 2, room: 0 }),
+    (
+        b"title 3 A \\x26 B",
+        Parts::Title {
+            label: 3,
+            text: b"A & B",
+        },
+    ),
+    (b"title 3 ", Parts::Title { label: 3, text: b"" }),
     (b"end 12", Parts::End { label: 12 }),
 ];
 
@@ -90,6 +106,7 @@ const NO_DELIVERIES: &[&[u8]] = &[
     b"in 1 \\x4",
     b"in 1 \xc3\xa4",
     b"room 1 4294967296",
+    b"title 3",
     b"quit 1",
 ];
 

@@ -1,0 +1,181 @@
+-- a listener is denied by a limit only where the limit is reached
+use Rattle.std.proofs.Common.{◌≡◌, ◌⊎◌, inl, inr, Bool, true, false, ℕ, ◌≤◌, ◌||◌, ◌&&◌, not, Option, Some, None, List, [], ◌∷◌, length, refl, ap, sym, ◌∙◌, arith}
+use Rattle.std.specs.Prelude.{map}
+use Rattle.std.specs.List.{list_any}
+use Rattle.std.proofs.lemmas.Bool.Decides.{nat_tests}
+use Rattle.std.proofs.lemmas.Slice.Eq.{bytes_eq-Decides}
+use Rattle.radio_creds.specs.Credentials.{Credentials}
+use Rattle.radio_policy.specs.declared.judgement.Verdict.TheVariants.{Deny as Denied}
+use Rattle.radio_policy.specs.declared.rule.Rule.{Rule}
+use Rattle.radio_policy.specs.declared.rule.Rule.TheVariants.{MountFull, UserTwice}
+use Rattle.radio_policy.specs.Table.{Row}
+use Rattle.radio_policy.specs.Verdicts.{verdict_in}
+use Rattle.radio_settings.specs.MountName.{is_mount_name}
+use Rattle.radio_tables.specs.Lists.{Has}
+use Rattle.radio_seats.specs.declared.seat.Listener.{Listener}
+use Rattle.radio_seats.specs.Seats.{seats_at, has_user, is_user_at, sits_there}
+use Rattle.radio_seats.specs.Walk.{is_full, sits_already}
+use Rattle.radio_core.specs.declared.event.Event.{Event}
+use Rattle.radio_core.specs.declared.event.Event.TheVariants.{Arrive, Source, Push, SourceEnd, Title, Listen, Draw, Leave, Clock}
+use Rattle.radio_core.specs.declared.event.ListenRequest.{ListenRequest}
+use Rattle.radio_core.specs.declared.outcome.Outcome.{Outcome}
+use Rattle.radio_core.specs.declared.reply.Reply.TheVariants.{Deny}
+use Rattle.radio_core.specs.declared.standing.Standing.{Standing}
+use Rattle.radio_core.specs.declared.standing.Standing.TheVariants.{Unknown, Undecided, Feeds, Sits, Answered, Finished}
+use Rattle.radio_core.specs.Facts.{is_known}
+use Rattle.radio_core.specs.Limits.{IsFullAt, HasUserAt, DeniesByLimits, most_at, allows_duplicates_at}
+use Rattle.radio_core.specs.Step.{outcome, reply_to}
+use Rattle.radio_core.specs.Ways.{Way, Misplaced, IsFinished, IsDenied, IsRefused, IsAdmitted, Begins, Receives, SetsTitle, TakesSeat, HandsOut, Ends, EndsAndLeaves, Leaves, HasPassed, Ticks, rows_for, rows_from}
+use Rattle.radio_core.specs.World.{World, standing_of}
+use Rattle.radio_core.proofs.Ways.{way_of, rows_by, found_by}
+
+-- a rule that denies is one of the rows'
+names_at : (x : Row) (xs : List Row) (rule : Rule) (b : Bool) → x.holds ≡ b → verdict_in (x ∷ xs) ≡ Denied rule → (verdict_in xs ≡ Denied rule → Has rule (map (λ row. row.rule) xs))
+    → Has rule (map (λ row. row.rule) (x ∷ xs))
+names_at x xs rule true e v later = let here : verdict_in (x ∷ xs) ≡ Denied x.rule = rw e refl in let same : rule ≡ x.rule = cc in inl same
+names_at x xs rule false e v later = let past : verdict_in (x ∷ xs) ≡ verdict_in xs = rw e refl in inr (later (sym past ∙ v))
+
+names_a_row : (rows : List Row) (rule : Rule) → verdict_in rows ≡ Denied rule → Has rule (map (λ row. row.rule) rows)
+names_a_row [] rule v = cc
+names_a_row (x ∷ xs) rule v = names_at x xs rule x.holds refl v (names_a_row xs rule)
+
+-- a listener finds it so whom the limits deny
+full_by : (named known live full accepted twice : Bool)
+    → verdict_in (rows_by named known (record { is_live = live; is_full = full; users_accept = accepted; user_is_twice = twice })) ≡ Denied MountFull → full ≡ true
+full_by named known live true accepted twice v = refl
+full_by false known live false accepted twice v = cc
+full_by true false live false accepted twice v = cc
+full_by true true live false false twice v = cc
+full_by true true live false true true v = cc
+full_by true true false false true false v = cc
+full_by true true true false true false v = cc
+
+twice_by : (named known live full accepted twice : Bool)
+    → verdict_in (rows_by named known (record { is_live = live; is_full = full; users_accept = accepted; user_is_twice = twice })) ≡ Denied UserTwice → twice ≡ true
+twice_by named known live full accepted true v = refl
+twice_by false known live full accepted false v = cc
+twice_by true false live full accepted false v = cc
+twice_by true true live full false false v = cc
+twice_by true true false full true false v = cc
+twice_by true true true true true false v = cc
+twice_by true true true false true false v = cc
+
+-- as many sit there as may
+full_at : (w : World) (mount : List ℕ) (limit : Option ℕ) → most_at w mount ≡ limit → is_full (length (seats_at w.seats mount)) limit ≡ true → IsFullAt w mount
+full_at w mount None limited full = cc
+full_at w mount (Some most) limited full = record { most = most; limited = limited; reached = grind (arith, nat_tests) }
+
+-- somebody sits there who sent the user
+any_at : {X : Type 0} (p : X → Bool) (x : X) (xs : List X) (b : Bool) → p x ≡ b → (b || list_any p xs) ≡ true
+    → (list_any p xs ≡ true → (y : X) × Has y xs × (p y ≡ true)) → (y : X) × Has y (x ∷ xs) × (p y ≡ true)
+any_at p x xs true e some later = (x, inl refl, e)
+any_at p x xs false e some later = let found = later some in (found.0, inr found.1, found.2)
+
+some_one : {X : Type 0} (p : X → Bool) (xs : List X) → list_any p xs ≡ true → (y : X) × Has y xs × (p y ≡ true)
+some_one p [] some = cc
+some_one p (x ∷ xs) some = any_at p x xs (p x) refl some (some_one p xs)
+
+there_already : (w : World) (mount : List ℕ) (pair : Option Credentials) (allows : Bool) → allows_duplicates_at w mount ≡ allows
+    → (not allows && sits_already w.seats mount pair) ≡ true → HasUserAt w mount pair
+there_already w mount pair true once is = cc
+there_already w mount None false once is = cc
+there_already w mount (Some sent) false once is =
+    let found = some_one (λ (x : Listener). is_user_at mount sent.user x.seating) w.seats is in
+    record {
+      once = once;
+      user = sent.user;
+      sent = (bytes_eq-Decides sent.user sent.user).1 refl;
+      listener = found.0;
+      is_one = found.1;
+      sits = found.2;
+    }
+
+module _ (w : World) where
+  -- a source is denied its blocks by no limit
+  no_limit_from : (rule : Rule) (block : List ℕ) (s : Standing) → (rule ≡ MountFull) ⊎ (rule ≡ UserTwice) → Has rule (map (λ row. row.rule) (rows_from w.house block s)) → ⊥
+  no_limit_from rule block (Feeds mount) (inl limit) (inl e) = cc
+  no_limit_from rule block (Feeds mount) (inr limit) (inl e) = cc
+  no_limit_from rule block (Feeds mount) limit (inr e) = e
+  no_limit_from rule block Unknown limit e = e
+  no_limit_from rule block (Undecided peer) limit e = e
+  no_limit_from rule block Sits limit e = e
+  no_limit_from rule block Answered limit e = e
+  no_limit_from rule block (Finished by) limit e = e
+
+  -- the limits deny only who wants to hear a mount
+  only_listeners : {A : Type 0} (rule : Rule) → (rule ≡ MountFull) ⊎ (rule ≡ UserTwice) → (event : Event) → verdict_in (rows_for w event) ≡ Denied rule
+      → ((asked : ListenRequest) → event ≡ Listen asked → A) → A
+  only_listeners rule limit (Listen asked) v then = then asked refl
+  only_listeners rule limit (Push id block) v then =
+      absurd (no_limit_from rule block (standing_of w id) limit (names_a_row (rows_from w.house block (standing_of w id)) rule v))
+  only_listeners rule limit (Arrive peer) v then = absurd (not_arriving limit (names_a_row (rows_for w (Arrive peer)) rule v)) where
+    not_arriving : (rule ≡ MountFull) ⊎ (rule ≡ UserTwice) → Has rule (map (λ row. row.rule) (rows_for w (Arrive peer))) → ⊥
+    not_arriving (inl e) (inl h) = cc
+    not_arriving (inl e) (inr (inl h)) = cc
+    not_arriving (inl e) (inr (inr (inl h))) = cc
+    not_arriving (inl e) (inr (inr (inr (inl h)))) = cc
+    not_arriving (inr e) (inl h) = cc
+    not_arriving (inr e) (inr (inl h)) = cc
+    not_arriving (inr e) (inr (inr (inl h))) = cc
+    not_arriving (inr e) (inr (inr (inr (inl h)))) = cc
+    not_arriving e (inr (inr (inr (inr h)))) = h
+  only_listeners rule limit (Source asked) v then = absurd (not_feeding limit (names_a_row (rows_for w (Source asked)) rule v)) where
+    not_feeding : (rule ≡ MountFull) ⊎ (rule ≡ UserTwice) → Has rule (map (λ row. row.rule) (rows_for w (Source asked))) → ⊥
+    not_feeding (inl e) (inl h) = cc
+    not_feeding (inl e) (inr (inl h)) = cc
+    not_feeding (inl e) (inr (inr (inl h))) = cc
+    not_feeding (inl e) (inr (inr (inr (inl h)))) = cc
+    not_feeding (inl e) (inr (inr (inr (inr (inl h))))) = cc
+    not_feeding (inr e) (inl h) = cc
+    not_feeding (inr e) (inr (inl h)) = cc
+    not_feeding (inr e) (inr (inr (inl h))) = cc
+    not_feeding (inr e) (inr (inr (inr (inl h)))) = cc
+    not_feeding (inr e) (inr (inr (inr (inr (inl h))))) = cc
+    not_feeding e (inr (inr (inr (inr (inr h))))) = h
+  only_listeners rule limit (SourceEnd id) v then = cc
+  only_listeners rule limit (Title id text) v then = cc
+  only_listeners rule limit (Draw id room) v then = cc
+  only_listeners rule limit (Leave id) v then = cc
+  only_listeners rule limit (Clock ms) v then = cc
+
+  full_there : (event : Event) → verdict_in (rows_for w event) ≡ Denied MountFull → (asked : ListenRequest) × (event ≡ Listen asked) × IsFullAt w asked.mount
+  full_there event v = only_listeners MountFull (inl refl) event v (λ asked same. (asked, same, at asked (sym (ap (λ (x : Event). verdict_in (rows_for w x)) same) ∙ v))) where
+    at : (asked : ListenRequest) → verdict_in (rows_for w (Listen asked)) ≡ Denied MountFull → IsFullAt w asked.mount
+    at asked denied =
+        let found = found_by w asked in
+        full_at w asked.mount (most_at w asked.mount) refl
+        (full_by (is_mount_name asked.mount) (is_known w.house asked.mount) found.is_live found.is_full found.users_accept found.user_is_twice denied)
+
+  twice_there : (event : Event) → verdict_in (rows_for w event) ≡ Denied UserTwice
+      → (asked : ListenRequest) × (event ≡ Listen asked) × HasUserAt w asked.mount asked.pair
+  twice_there event v = only_listeners UserTwice (inr refl) event v (λ asked same. (asked, same, at asked (sym (ap (λ (x : Event). verdict_in (rows_for w x)) same) ∙ v))) where
+    at : (asked : ListenRequest) → verdict_in (rows_for w (Listen asked)) ≡ Denied UserTwice → HasUserAt w asked.mount asked.pair
+    at asked denied =
+        let found = found_by w asked in
+        there_already w asked.mount asked.pair (allows_duplicates_at w asked.mount) refl
+        (twice_by (is_mount_name asked.mount) (is_known w.house asked.mount) found.is_live found.is_full found.users_accept found.user_is_twice denied)
+
+  -- only a verdict of the policy denies
+  denied_by : {A : Type 0} (rule : Rule) (event : Event) (o : Outcome) → Way w event o → o.reply ≡ Deny rule → (verdict_in (rows_for w event) ≡ Denied rule → A) → A
+  denied_by rule event o (IsDenied _ by v nobody) d then = let same : by ≡ rule = cc in then (v ∙ ap (λ (r : Rule). Denied r) same)
+  denied_by rule event o (IsRefused _ him by v his undecided) d then = let same : by ≡ rule = cc in then (v ∙ ap (λ (r : Rule). Denied r) same)
+  denied_by rule event o (Misplaced _) d then = cc
+  denied_by rule event o (IsFinished _ him by his told) d then = cc
+  denied_by rule event o (IsAdmitted peer allowed) d then = cc
+  denied_by rule event o (Begins asked undecided none) d then = cc
+  denied_by rule event o (Receives him mount block feeding) d then = cc
+  denied_by rule event o (SetsTitle him mount text feeding) d then = cc
+  denied_by rule event o (HasPassed ms e) d then = cc
+  denied_by rule event o (Ticks ms e) d then = cc
+  denied_by rule event o (TakesSeat asked peer session undecided live allowed) d then = cc
+  denied_by rule event o (HandsOut him room seat session sits has live) d then = cc
+  denied_by rule event o (Ends him mount feeding) d then = cc
+  denied_by rule event o (EndsAndLeaves him mount feeding) d then = cc
+  denied_by rule event o (Leaves him other) d then = cc
+
+  pub limits_deny : (event : Event) → DeniesByLimits w event
+  unfolding reply_to
+  limits_deny event = record {
+    full = λ d. denied_by MountFull event (outcome w event) (way_of w event) d (full_there event);
+    twice = λ d. denied_by UserTwice event (outcome w event) (way_of w event) d (twice_there event);
+  }

@@ -1,0 +1,10 @@
+use Rattle.radio_core.specs.Run.{run_after}
+use Rattle.radio_core.proofs.LimitDenials.{limits_deny}
+use Rattle.radio_core.proofs.LimitLemmas.{limits_run}
+use Rattle.radio_core.proofs.laws.limits_are_kept.Goals as goal
+
+pub returns-clause-within : goal.returns-clause-within
+returns-clause-within c settings lists events = limits_run settings lists events
+
+pub returns-clause-denied : goal.returns-clause-denied
+returns-clause-denied c settings lists events event = limits_deny (run_after settings lists events) event

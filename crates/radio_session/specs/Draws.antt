@@ -1,0 +1,37 @@
+-- What a listener draws, as it goes out: with metadata blocks between the data, where he asked for them (ICY convention).
+use Rattle.std.specs.Prelude.{ℕ, zero, suc, List, Option, None, Some, option_map}
+use Rattle.radio_icy.specs.Weaving.{Call, Weaving, new_weaving, woven, after_weaving, woven_by_calls}
+use Rattle.radio_icy.specs.Stream.{sound_of_calls}
+
+-- data, and the title that their mount had when they were drawn
+abbrev pub draw : List ℕ → Option (List ℕ) → Call
+draw bytes title = record { sound = bytes; title = title }
+
+-- after how many bytes of data a block is sent, if any is; an interval of none has no blocks
+abbrev pub interval_told : Option ℕ → Option ℕ
+interval_told None = None
+interval_told (Some zero) = None
+interval_told (Some (suc n)) = Some (suc n)
+
+-- how his data are woven, before the first of them
+abbrev pub weaver_at : Option ℕ → Option Weaving
+weaver_at interval = option_map new_weaving (interval_told interval)
+
+-- one draw, as it goes out
+abbrev pub drawn : Option Weaving → Call → List ℕ
+drawn None draw = draw.sound
+drawn (Some w) draw = woven w draw.title draw.sound
+
+-- how the data behind it are woven
+abbrev pub after_draw : Option Weaving → Call → Option Weaving
+after_draw None draw = None
+after_draw (Some w) draw = Some (after_weaving w draw.title draw.sound)
+
+-- draws, one after another
+abbrev pub drawn_by : Option Weaving → List Call → List ℕ
+drawn_by None draws = sound_of_calls draws
+drawn_by (Some w) draws = woven_by_calls w draws
+
+-- the joined draws of a connection with this interval
+abbrev pub joined_draws : Option ℕ → List Call → List ℕ
+joined_draws interval draws = drawn_by (weaver_at interval) draws

@@ -1,0 +1,78 @@
+-- What is told on a listener's connection: his head, and then the data of his draws, with metadata between them where he asked for it.
+use Rattle.std.specs.Prelude.{◌≡◌, ℕ, ◌<◌, List, [], ◌∷◌, ◌++◌, map, Option, None, Some}
+use Rattle.radio_icy.specs.Block.{title_text}
+use Rattle.radio_icy.specs.Weaving.{Call}
+use Rattle.radio_icy.specs.Stream.{IsWoven, sound_of_calls, titles_sent, parts_of}
+use Rattle.radio_icy.specs.Unweaving.{Atom, new_unweaving, heard}
+use Rattle.radio_icy.specs.Bare.{sound_in, texts_in}
+use Rattle.radio_settings.specs.declared.field.Shown.{Shown}
+use Rattle.radio_heads.specs.Answer.{listener_head}
+use Rattle.radio_core.specs.declared.event.Event.{Event}
+use Rattle.radio_core.specs.declared.reply.Reply.{Reply}
+use Rattle.radio_core.specs.declared.reply.Reply.TheVariants.{Feeding, Seated, Drawn, Deny, Finished}
+use Rattle.radio_core.specs.World.{World}
+use Rattle.radio_core.specs.Step.{reply_to, world_after}
+use Rattle.radio_session.specs.declared.session.Says.{Says}
+use Rattle.radio_session.specs.declared.state.State.{State}
+use Rattle.radio_session.specs.declared.state.State.TheVariants.{Running, Shut}
+use Rattle.radio_session.specs.Draws.{draw, interval_told, joined_draws}
+use Rattle.radio_session.specs.Exchanges.{exchanged}
+use Rattle.radio_session.specs.Saying.{said}
+
+-- what is told later, while the connection goes on
+abbrev pub while_open : State → List ℕ → List ℕ
+while_open Running later = later
+while_open (Shut ending) later = []
+
+-- all that is told of replies, one after another, up to the end of the connection
+abbrev pub told : Says → List Reply → List ℕ
+told says [] = []
+told says (reply ∷ replies) = (said says reply).bytes ++ while_open (said says reply).state (told (said says reply).says replies)
+
+-- the draws among replies, up to the end of the connection
+abbrev pub draws_of : List Reply → List Call
+draws_of [] = []
+draws_of (Drawn bytes title ∷ replies) = draw bytes title ∷ draws_of replies
+draws_of (Deny rule ∷ replies) = []
+draws_of (Finished rule ∷ replies) = []
+draws_of (reply ∷ replies) = draws_of replies
+
+-- none of the replies admits: who is admitted is not admitted again
+abbrev pub AdmitNobody : List Reply → Type 0
+AdmitNobody [] = Unit {0}
+AdmitNobody (Feeding ∷ replies) = ⊥
+AdmitNobody (Seated interval shown ∷ replies) = ⊥
+AdmitNobody (reply ∷ replies) = AdmitNobody replies
+
+-- What follows a listener's head on his connection are the joined data of his draws, woven at the interval that the head tells.
+abbrev pub DrawsFollowTheHead : Type 0
+DrawsFollowTheHead = (says : Says) (interval : Option ℕ) (shown : Shown) (replies : List Reply) → says.closing ≡ None → AdmitNobody replies →
+    told says (Seated interval shown ∷ replies)
+    ≡ listener_head shown.content_type shown.name shown.genre (interval_told interval) ++ joined_draws interval (draws_of replies)
+
+-- where it tells none, they are the data alone
+abbrev pub PlainDrawsAreTheirData : Type 0
+PlainDrawsAreTheirData = (interval : Option ℕ) (draws : List Call) → interval_told interval ≡ None → joined_draws interval draws ≡ sound_of_calls draws
+
+-- Where it tells one, a block stands after each interval of the data. It has the title of the draw that brought the interval's last byte, where another was sent last, or none; else it is a zero byte.
+abbrev pub JoinedDrawsAreWoven : Type 0
+JoinedDrawsAreWoven = (interval : Option ℕ) (n : ℕ) (draws : List Call) → interval_told interval ≡ Some n → IsWoven n draws (joined_draws interval draws)
+
+-- what is taken out of these bytes
+abbrev pub taken_out : ℕ → List ℕ → List Atom
+taken_out n bytes = heard (new_unweaving n) bytes
+
+-- Taken out again, they are the data of the draws and the texts of the titles that were sent.
+abbrev pub DrawsAreTakenOutAgain : Type 0
+DrawsAreTakenOutAgain = (interval : Option ℕ) (n : ℕ) (draws : List Call) → interval_told interval ≡ Some n →
+    (sound_in (taken_out n (joined_draws interval draws)) ≡ sound_of_calls draws)
+    × (texts_in (taken_out n (joined_draws interval draws)) ≡ map title_text (titles_sent n draws (parts_of n draws)))
+
+-- the replies to events, one after another, from this state
+abbrev pub replies_to : World → List Event → List Reply
+replies_to w [] = []
+replies_to w (event ∷ events) = reply_to w event ∷ replies_to (world_after w event) events
+
+-- What goes out for a connection's events is what is told of their replies.
+abbrev pub ExchangesTellReplies : Type 0
+ExchangesTellReplies = (w : World) (id : ℕ) (says : Says) (events : List Event) → (exchanged w id says events).exchange.bytes ≡ told says (replies_to w events)

@@ -1,0 +1,87 @@
+//! A listener's data, with metadata between them.
+
+ghost use Rattle.std.specs.Prelude.{◌≡◌, ◌≤◌, ◌++◌, length, option_copied, IfSome, OnOk, OnErr};
+ghost use Rattle.std.specs.List.{concat};
+ghost use Rattle.radio_icy.specs.Weaving.{woven, after_weaving};
+ghost use Rattle.radio_icy.specs.Limits.{max_title};
+ghost use Rattle.radio_session.specs.Draws.{draw, drawn, after_draw, interval_told, weaver_at};
+
+use crate::OutOfMemory;
+use bytes::Bytes;
+use radio_blocks::Pieces;
+use radio_icy::laws::joined_weaving;
+use radio_icy::{Title, Weaver};
+use std::alloc::Global;
+
+/// After how many bytes of data a metadata block is sent, if any is; an interval of none has no
+/// blocks.
+pub(super) fn interval_told(interval: Option<u32>) -> Option<u32>
+    ensures told { result ≡ interval_told interval }
+    ensures some { IfSome result (λ n. 1 ≤ n) }
+{
+    match interval {
+        None => None,
+        Some(0) => None,
+        Some(n) => Some(n),
+    }
+}
+
+/// What puts metadata between the data of a listener with this interval, if he is sent any.
+pub(super) fn weaver_at(alloc: Global, interval: Option<u32>) -> Option<Weaver>
+    ensures { result ≡ weaver_at interval }
+{
+    let interval = interval_told(interval)?;
+    Some(Weaver::new(alloc, interval as usize))
+}
+
+/// The bytes of a title, if there is one.
+pub(super) fn text_of(title: &Option<Title>) -> Option<&[u8]>
+    ensures text { option_copied result ≡ title.now }
+    ensures fits { IfSome result (λ text. length text.now ≤ max_title) }
+{
+    match title {
+        Some(title) => Some(title.as_slice()),
+        None => None,
+    }
+}
+
+/// Appends data that were drawn while their mount had this title, with the metadata that are due
+/// between them. `OutOfMemory` where memory was refused: nothing was appended then.
+pub(super) fn tell_draw(
+    weaver: &mut Option<Weaver>,
+    pieces: &Pieces,
+    title: Option<&[u8]>,
+    out: &mut Vec<u8>,
+) -> Result<(), OutOfMemory>
+    requires { IfSome title (λ text. length text.now ≤ max_title) }
+    ensures bytes { OnOk result (out.new.items ≡ out.old.items ++ drawn weaver.old (draw pieces.now (option_copied title.entry))) }
+    ensures after { OnOk result (weaver.new ≡ after_draw weaver.old (draw pieces.now (option_copied title.entry))) }
+    ensures silent { OnErr result (out.new.items ≡ out.old.items) }
+{
+    match weaver {
+        Some(weaver) => weave_slices(weaver, pieces.slices(), title, out),
+        None => pieces.write_to(out),
+    }
+}
+
+fn weave_slices(
+    weaver: &mut Weaver,
+    slices: &[Bytes],
+    title: Option<&[u8]>,
+    out: &mut Vec<u8>,
+) -> Result<(), OutOfMemory>
+    requires { IfSome title (λ text. length text.now ≤ max_title) }
+    ensures bytes { OnOk result (out.new.items ≡ out.old.items ++ woven weaver.old (option_copied title.entry) (concat slices.now)) }
+    ensures after { OnOk result (weaver.new ≡ after_weaving weaver.old (option_copied title.entry) (concat slices.now)) }
+    ensures silent { OnErr result (out.new.items ≡ out.old.items) }
+{
+    joined_weaving();
+    let before = out.len();
+    for slice in slices {
+        if let Err(refused) = weaver.weave(slice.as_slice(), title, out) {
+            out.truncate(before);
+            return Err(refused);
+        }
+    }
+    Ok(())
+}
