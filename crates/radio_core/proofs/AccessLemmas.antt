@@ -21,7 +21,7 @@ use Rattle.radio_core.specs.Sessions.{Session, session_of}
 use Rattle.radio_core.specs.Sound.{AreRising, IsSound}
 use Rattle.radio_core.specs.Step.{outcome, reply_to, world_after}
 use Rattle.radio_core.specs.Stream.{WholeStream, end_of, burst_start, data_at}
-use Rattle.radio_core.specs.Ways.{Way, Misplaced, IsFinished, IsDenied, IsRefused, IsAdmitted, Begins, Receives, SetsTitle, TakesSeat, HandsOut, Ends, EndsAndLeaves, Leaves}
+use Rattle.radio_core.specs.Ways.{Way, Misplaced, IsFinished, IsDenied, IsRefused, IsAdmitted, Begins, Receives, SetsTitle, TakesSeat, HandsOut, Ends, EndsAndLeaves, Leaves, HasPassed, Ticks}
 use Rattle.radio_seats.specs.SeatLaws.{has_sat_down}
 use Rattle.radio_core.proofs.Lookups.{found_named}
 use Rattle.radio_core.proofs.Soundness.{burst_within}
@@ -67,6 +67,8 @@ module _ (w : World) (s : IsSound w) (k : KeepsLists w) (l : IsWithinLimits w) w
   his_by event o (Begins asked undecided none) bytes title d = cc
   his_by event o (Receives id mount block feeding) bytes title d = cc
   his_by event o (SetsTitle id mount text feeding) bytes title d = cc
+  his_by event o (HasPassed ms e) bytes title d = cc
+  his_by event o (Ticks ms e) bytes title d = cc
   his_by event o (TakesSeat asked peer session undecided live allowed) bytes title d = cc
   his_by event o (Ends id mount feeding) bytes title d = cc
   his_by event o (EndsAndLeaves id mount feeding) bytes title d = cc
@@ -183,6 +185,8 @@ module _ (w : World) (s : IsSound w) where
   seated_by event o (Begins asked undecided none) interval shown d after = cc
   seated_by event o (Receives id mount block feeding) interval shown d after = cc
   seated_by event o (SetsTitle id mount text feeding) interval shown d after = cc
+  seated_by event o (HasPassed ms e) interval shown d after = cc
+  seated_by event o (Ticks ms e) interval shown d after = cc
   seated_by event o (HandsOut id room seat session sits has live) interval shown d after = cc
   seated_by event o (Ends id mount feeding) interval shown d after = cc
   seated_by event o (EndsAndLeaves id mount feeding) interval shown d after = cc

@@ -14,7 +14,7 @@ use Rattle.radio_core.specs.World.{World, standing_of}
 use Rattle.radio_core.specs.Changes.{changed}
 use Rattle.radio_core.specs.Step.{outcome, reply_to, world_after}
 use Rattle.radio_core.specs.Denials.{answered_if, after_denial, DenialsAreThePolicys}
-use Rattle.radio_core.specs.Ways.{Way, Misplaced, IsFinished, IsDenied, IsRefused, IsAdmitted, Begins, Receives, SetsTitle, TakesSeat, HandsOut, Ends, EndsAndLeaves, Leaves, client_in, rows_for, IsUndecided}
+use Rattle.radio_core.specs.Ways.{Way, Misplaced, IsFinished, IsDenied, IsRefused, IsAdmitted, Begins, Receives, SetsTitle, TakesSeat, HandsOut, Ends, EndsAndLeaves, Leaves, HasPassed, Ticks, client_in, rows_for, IsUndecided}
 use Rattle.radio_core.proofs.Ways.{way_of}
 
 module _ (denies : (rows : List Row) (rule : Rule) → (verdict_in rows ≡ Denied rule) ↔ Denies rows rule) (w : World) where
@@ -49,6 +49,8 @@ module _ (denies : (rows : List Row) (rule : Rule) → (verdict_in rows ≡ Deni
   denial_by event o (Begins asked undecided none) = λ rule d. cc
   denial_by event o (Receives id mount block feeding) = λ rule d. cc
   denial_by event o (SetsTitle id mount text feeding) = λ rule d. cc
+  denial_by event o (HasPassed ms e) = λ rule d. cc
+  denial_by event o (Ticks ms e) = λ rule d. cc
   denial_by event o (TakesSeat asked peer session undecided live allowed) = λ rule d. cc
   denial_by event o (HandsOut id room seat session sits has live) = λ rule d. cc
   denial_by event o (Ends id mount feeding) = λ rule d. cc

@@ -2,7 +2,9 @@
 use Rattle.std.proofs.Common.{◌≡◌, ◌⊎◌, inl, inr, true, false, ℕ, ◌+◌, ◌<◌, ◌≤◌, ◌==◌, Option, Some, None, List, refl, ap, sym, subst, ◌∙◌, arith}
 use Rattle.radio_addr.specs.declared.peer.Peer.{Peer}
 use Rattle.radio_tables.specs.KeyLaws.{by_number}
+use Rattle.radio_policy.specs.declared.rule.Rule.{Rule}
 use Rattle.radio_core.specs.declared.event.Event.{Event}
+use Rattle.radio_core.specs.declared.event.Event.TheVariants.{Push, Clock}
 use Rattle.radio_core.specs.declared.outcome.Change.TheVariants.{EndAndLeave}
 use Rattle.radio_core.specs.declared.outcome.Outcome.{Outcome}
 use Rattle.radio_core.specs.declared.reply.Reply.{Reply}
@@ -11,19 +13,23 @@ use Rattle.radio_core.specs.declared.standing.Standing.{Standing}
 use Rattle.radio_core.specs.declared.standing.Standing.TheVariants.{Unknown, Undecided, Feeds, Sits, Answered, Finished}
 use Rattle.radio_access.specs.Lists.{passes}
 use Rattle.radio_core.specs.World.{World, standing_of}
-use Rattle.radio_core.specs.Changes.{changed, session_ended}
+use Rattle.radio_core.specs.Changes.{changed, session_ended, received, taken_in, ticked}
+use Rattle.radio_core.specs.Finishes.{Cause, SessionIsOver, IsFarBehind, HasSatOut, HasAskedNothing, HasSentNothing}
 use Rattle.radio_core.specs.Listen.{first_seat}
 use Rattle.radio_seats.specs.Seats.{seat_of, seat_in}
 use Rattle.radio_core.specs.Sessions.{session_of}
 use Rattle.radio_core.specs.Sound.{IsSound}
 use Rattle.radio_core.specs.Source.{shown_for}
 use Rattle.radio_core.specs.Step.{outcome, reply_to, world_after}
-use Rattle.radio_core.specs.Ways.{Way, Misplaced, IsFinished, IsDenied, IsRefused, IsAdmitted, Begins, Receives, SetsTitle, TakesSeat, HandsOut, Ends, EndsAndLeaves, Leaves, client_in}
+use Rattle.radio_core.specs.Ways.{Way, Misplaced, IsFinished, IsDenied, IsRefused, IsAdmitted, Begins, Receives, SetsTitle, TakesSeat, HandsOut, Ends, EndsAndLeaves, Leaves, HasPassed, Ticks, client_in}
 use Rattle.radio_seats.specs.SeatLaws.{is_no_listener, beside_left}
 use Rattle.radio_core.proofs.Lookups.{is_over}
 use Rattle.radio_seats.specs.SeatLaws.{listener_seated}
 use Rattle.radio_core.proofs.Standings.{Turns, turns_answered, turns_feeding, turns_sitting, turns_forgotten, turns_admitted, stays_hearing}
+use Rattle.radio_core.proofs.Fates.{Fate, GoesOn, IsEnded}
 use Rattle.radio_core.proofs.SoundEnds.{turns_ended, turns_ended_and_left}
+use Rattle.radio_core.proofs.SoundRuns.{lag_fates}
+use Rattle.radio_core.proofs.TickLemmas.{ticked_fates}
 use Rattle.radio_core.proofs.Ways.{way_of, may_arrive}
 
 -- by his own event nobody finishes, or comes to have asked for nothing
@@ -31,6 +37,15 @@ abbrev pub HasActed : Standing → Type 0
 HasActed (Undecided peer) = ⊥
 HasActed (Finished rule) = ⊥
 HasActed standing = Unit {0}
+
+-- a client stands as before, or is finished
+pub data IsSwept (w later : World) (event : Event) (id : ℕ) : Type 0 where
+  GoesOnAs : standing_of later id ≡ standing_of w id → IsSwept w later event id
+  IsOut : (rule : Rule) → Cause w later event id rule → standing_of later id ≡ Finished rule → seat_of later.seats id ≡ None → IsSwept w later event id
+
+swept : (w later : World) (event : Event) (id : ℕ) → Fate w later event id → IsSwept w later event id
+swept w later event id (GoesOn same seat feeds sits) = GoesOnAs same
+swept w later event id (IsEnded rule cause active ended none over) = IsOut rule cause ended none
 
 pub data Effect (w later : World) (event : Event) (reply : Reply) : Type 0 where
   -- everybody stands as before
@@ -43,6 +58,25 @@ pub data Effect (w later : World) (event : Event) (reply : Reply) : Type 0 where
   Silences : (him : ℕ) (mount : List ℕ) (now : Standing) → client_in event ≡ Some him → HasActed now → Turns (session_ended w mount) later him now
       → session_of later.house.live mount ≡ None → ((id : ℕ) → seat_of (session_ended w mount).seats id ≡ None → seat_of later.seats id ≡ None)
       → Effect w later event reply
+  -- some are finished, and the others stand as before
+  Sweeps : ((id : ℕ) → IsSwept w later event id) → Effect w later event reply
+
+-- a block comes: who is too far behind is finished
+module _ (w : World) (s : IsSound w) (mount block : List ℕ) (him : ℕ) (feeding : standing_of w him ≡ Feeds mount) where
+  lag_swept : (id : ℕ) → IsSwept w (taken_in w mount block) (Push him block) id
+  lag_swept id = by_fate ((lag_fates w s mount block him feeding).fate id) where
+    by_cause : (rule : Rule) → Cause (record w { house = received w.house mount block }) (taken_in w mount block) (Push him block) id rule
+        → Cause w (taken_in w mount block) (Push him block) id rule
+    by_cause rule (IsFarBehind he it seat e feeds has behind) = IsFarBehind he it seat e feeds has behind
+    by_cause rule (SessionIsOver _ seat session has live over stops) = cc
+    by_cause rule (HasSatOut moment seat e has out) = cc
+    by_cause rule (HasAskedNothing moment client e found late) = cc
+    by_cause rule (HasSentNothing moment session e feeds live silent) = cc
+
+    by_fate : Fate (record w { house = received w.house mount block }) (taken_in w mount block) (Push him block) id
+        → IsSwept w (taken_in w mount block) (Push him block) id
+    by_fate (GoesOn same seat feeds sits) = GoesOnAs same
+    by_fate (IsEnded rule cause active ended none over) = IsOut rule (by_cause rule cause) ended none
 
 module _ (w : World) (s : IsSound w) where
   -- who has no seat when a session has ended has none when its source is gone
@@ -61,7 +95,9 @@ module _ (w : World) (s : IsSound w) where
   effect_by event o (IsAdmitted peer allowed) = Joins peer (may_arrive w peer allowed) refl (turns_admitted w (w.house.last_id + 1) peer)
   effect_by event o (Begins asked undecided none) = let at = undecided.1 in Acts asked.id (Feeds asked.mount) refl tt
       (turns_feeding w asked.id asked.mount (shown_for w.house asked.mount asked.shown) (λ u. cc))
-  effect_by event o (Receives him mount block feeding) = Same (λ id. refl)
+  effect_by event o (Receives him mount block feeding) = Sweeps (λ id. lag_swept w s mount block him feeding id)
+  effect_by event o (HasPassed ms e) = Same (λ id. refl)
+  effect_by event o (Ticks ms e) = Sweeps (λ id. swept w (ticked w ms) (Clock ms) id ((ticked_fates w s ms).fate id))
   effect_by event o (SetsTitle him mount text feeding) = Same (λ id. refl)
   effect_by event o (TakesSeat asked peer session undecided live allowed) =
       Acts asked.id Sits refl tt (turns_sitting w asked.id (first_seat w.house asked peer session) (λ u. cc))

@@ -9,15 +9,19 @@ use Rattle.radio_settings.specs.declared.settings.Settings.{Settings}
 use Rattle.radio_access.specs.Lists.{Lists, passes}
 use Rattle.radio_settings.specs.MountName.{is_mount_name}
 use Rattle.radio_tables.specs.KeyLaws.{by_number}
+use Rattle.radio_core.specs.declared.clients.Client.{Client}
+use Rattle.radio_core.specs.declared.clients.ClientState.TheVariants.{Undecided as IsNew}
+use Rattle.radio_seats.specs.declared.seat.Listener.{Listener}
+use Rattle.radio_seats.specs.declared.seat.Seat.{Seat}
 use Rattle.radio_core.specs.declared.event.Event.{Event}
 use Rattle.radio_core.specs.declared.outcome.Outcome.{Outcome}
 use Rattle.radio_core.specs.declared.reply.Reply.TheVariants.{Arrived, Finished}
 use Rattle.radio_core.specs.declared.standing.Standing.{Standing}
 use Rattle.radio_core.specs.declared.standing.Standing.TheVariants.{Unknown, Undecided, Feeds, Sits, Answered, Finished as HasFinished}
-use Rattle.radio_core.specs.World.{World, opening, standing_of}
+use Rattle.radio_core.specs.World.{World, opening, standing_of, standing_in}
 use Rattle.radio_core.specs.Changes.{session_ended}
 use Rattle.radio_core.specs.Facts.{is_live, sight_of}
-use Rattle.radio_core.specs.Finishes.{Finishes, WasFinished, FinishedAreTold}
+use Rattle.radio_core.specs.Finishes.{Cause, SessionIsOver, IsFarBehind, HasSatOut, HasAskedNothing, HasSentNothing, Finishes, WasFinished, FinishedAreTold}
 use Rattle.radio_core.specs.Others.{StandsOn, OthersStandOn}
 use Rattle.radio_core.specs.Run.{world_after_all, run_after}
 use Rattle.radio_seats.specs.declared.walk.Found.{Found}
@@ -26,42 +30,48 @@ use Rattle.radio_seats.specs.Walk.{found_at, stop_of}
 use Rattle.radio_core.specs.Sessions.{Session, session_of}
 use Rattle.radio_core.specs.Sound.{IsSound}
 use Rattle.radio_core.specs.Step.{outcome, reply_to, world_after}
-use Rattle.radio_core.specs.Ways.{Way, Misplaced, IsFinished, IsDenied, IsRefused, IsAdmitted, Begins, Receives, SetsTitle, TakesSeat, HandsOut, Ends, EndsAndLeaves, Leaves, client_in}
-use Rattle.radio_core.proofs.Effects.{Effect, Same, Joins, Acts, Silences, HasActed, effect_of}
+use Rattle.radio_core.specs.Ways.{Way, Misplaced, IsFinished, IsDenied, IsRefused, IsAdmitted, Begins, Receives, SetsTitle, TakesSeat, HandsOut, Ends, EndsAndLeaves, Leaves, HasPassed, Ticks, client_in}
+use Rattle.radio_core.proofs.Effects.{Effect, Same, Joins, Acts, Silences, Sweeps, IsSwept, GoesOnAs, IsOut, HasActed, effect_of}
+use Rattle.radio_core.proofs.Fates.{stops_there}
+use Rattle.radio_core.proofs.TickLemmas.{asking_at}
 use Rattle.radio_core.proofs.Standings.{Loses, silenced}
 use Rattle.radio_core.proofs.SoundEnds.{sits_no_more}
 use Rattle.radio_core.proofs.SoundRuns.{sound_after, sound_opening}
 use Rattle.radio_core.proofs.Ways.{way_of}
 
--- a mount without a session is not live, and its walk stops
-not_live : (b : _) (found : Option Session) → found ≡ None → is_some (if b then found else None) ≡ false
-not_live true found e = ap is_some e
-not_live false found e = refl
-
-stopped : (found : Found) → found.is_live ≡ false → stop_of found ≡ Some NotLive
-stopped found e = rw e refl
-
 -- what the end of a session does to whoever sits at its mount: he is finished by it
 module _ (w : World) (s : IsSound w) (event : Event) (mount : List ℕ) (over : session_of (world_after w event).house.live mount ≡ None)
     (lost : (id : ℕ) → seat_of (session_ended w mount).seats id ≡ None → seat_of (world_after w event).seats id ≡ None) where
   pub finished_by_silence : (id : ℕ) → Loses (listener_of w.seats id) (standing_of w id) (standing_of (session_ended w mount) id) mount
-      → Finishes w event id NotLive
-  finished_by_silence id loses =
+      → standing_of (world_after w event) id ≡ HasFinished NotLive → Finishes w event id NotLive
+  finished_by_silence id loses finished =
       let seat = loses.seat in
       let old = s.seated id seat loses.had_a_seat in
       let same : seat.mount ≡ mount = (bytes_eq-Decides seat.mount mount).0 loses.there in
       let forgotten : session_of (world_after w event).house.live seat.mount ≡ None = ap (session_of (world_after w event).house.live) same ∙ over in
-      let dead : is_live (world_after w event).house seat.mount ≡ false =
-      not_live (is_mount_name seat.mount) (session_of (world_after w event).house.live seat.mount) forgotten in
       record {
-        seat = seat;
-        had_a_seat = loses.had_a_seat;
-        session = old.session;
-        was_live = old.is_live;
-        is_over = dead;
-        stopped_by = stopped (found_at (sight_of (world_after w event).house) (world_after w event).seats seat.mount seat.pair) (ap is_some forgotten);
+        cause = SessionIsOver NotLive seat old.session loses.had_a_seat old.is_live forgotten (stops_there (world_after w event) seat forgotten);
+        has_finished = finished;
         has_none = lost id (sits_no_more w mount id seat loses.had_a_seat loses.there);
       }
+
+-- whoever is finished by an event was there
+new_in : (listener : Option Listener) (client : Client) → client.state ≡ IsNew → standing_in listener (Some client) ≡ Unknown → ⊥
+new_in listener client e u = let undecided : standing_in listener (Some client) ≡ Undecided client.peer = rw e refl in cc
+
+pub known_before : (w : World) → IsSound w → (event : Event) (id : ℕ) (rule : Rule) → Finishes w event id rule → standing_of w id ≡ Unknown → ⊥
+known_before w s event id rule finishes unknown = by_cause finishes.cause where
+  no_seat : (seat : Seat) → seat_of w.seats id ≡ Some seat → ⊥
+  no_seat seat has = let sat : standing_of w id ≡ Sits = s.sitting id seat has in cc
+
+  by_cause : {by : Rule} → Cause w (world_after w event) event id by → ⊥
+  by_cause (SessionIsOver _ seat session has live over stops) = no_seat seat has
+  by_cause (IsFarBehind him block seat e feeds has behind) = no_seat seat has
+  by_cause (HasSatOut ms seat e has out) = no_seat seat has
+  by_cause (HasAskedNothing ms client e found late) =
+      new_in (listener_of w.seats id) client (asking_at w.house.settings.limits.header_timeout ms client.arrived client.state late)
+      (ap (standing_in (listener_of w.seats id)) (sym found) ∙ unknown)
+  by_cause (HasSentNothing ms session e feeds live silent) = cc
 
 -- two clients are one, or apart
 apart_from : (event : Event) (him id : ℕ) → client_in event ≡ Some him → (client_in event ≡ Some id → ⊥) → (him == id) ≡ false
@@ -97,7 +107,11 @@ module _ (w : World) (s : IsSound w) (event : Event) where
     by_end : (standing_of (session_ended w mount) id ≡ standing_of w id) ⊎ Lost mount id
         → standing_of (world_after w event) id ≡ standing_of (session_ended w mount) id → StandsOn w event id
     by_end (inl same) e = inl (e ∙ same)
-    by_end (inr loses) e = inr (inl (NotLive, loses.sat, e ∙ loses.finished, finished_by_silence w s event mount over lost id loses))
+    by_end (inr loses) e = inr (inl (NotLive, finished_by_silence w s event mount over lost id loses (e ∙ loses.finished)))
+  stands_by id not (Sweeps swept) = by_sweep (swept id) where
+    by_sweep : IsSwept w (world_after w event) event id → StandsOn w event id
+    by_sweep (GoesOnAs same) = inl same
+    by_sweep (IsOut rule cause finished none) = inr (inl (rule, record { cause = cause; has_finished = finished; has_none = none }))
 
   pub others_hold : OthersStandOn w event
   others_hold id not = stands_by id not (effect_of w s event)
@@ -124,7 +138,15 @@ module _ (w : World) (s : IsSound w) (event : Event) where
         by_end (inr loses) stood =
             let both : HasFinished NotLive ≡ HasFinished rule = sym loses.finished ∙ stood in
             let one : NotLive ≡ rule = cc in
-            inr (subst (λ (r : Rule). Finishes w event id r) one (finished_by_silence w s event mount over lost id loses))
+            inr (subst (λ (r : Rule). Finishes w event id r) one
+            (finished_by_silence w s event mount over lost id loses (e ∙ ap (λ (r : Rule). HasFinished r) (sym one))))
+  finished_by id rule e (Sweeps swept) = by_sweep (swept id) where
+    by_sweep : IsSwept w (world_after w event) event id → (standing_of w id ≡ HasFinished rule) ⊎ Finishes w event id rule
+    by_sweep (GoesOnAs same) = inl (sym same ∙ e)
+    by_sweep (IsOut by cause finished none) =
+        let both : HasFinished by ≡ HasFinished rule = sym finished ∙ e in
+        let one : by ≡ rule = cc in
+        inr (subst (λ (r : Rule). Finishes w event id r) one (record { cause = cause; has_finished = finished; has_none = none }))
 
   pub finish_step : (id : ℕ) (rule : Rule) → standing_of (world_after w event) id ≡ HasFinished rule
       → (standing_of w id ≡ HasFinished rule) ⊎ Finishes w event id rule
@@ -158,6 +180,10 @@ module _ (w : World) (s : IsSound w) (event : Event) where
             → (standing_of w id ≡ Undecided peer) ⊎ HasArrived id peer
         by_end (inl same) stood = inl (sym same ∙ stood)
         by_end (inr loses) stood = let finished : standing_of (session_ended w mount) id ≡ HasFinished NotLive = loses.finished in cc
+  undecided_by id peer e (Sweeps swept) = by_sweep (swept id) where
+    by_sweep : IsSwept w (world_after w event) event id → (standing_of w id ≡ Undecided peer) ⊎ HasArrived id peer
+    by_sweep (GoesOnAs same) = inl (sym same ∙ e)
+    by_sweep (IsOut by cause finished none) = cc
 
   pub undecided_before : (id : ℕ) (peer : Peer) → standing_of (world_after w event) id ≡ Undecided peer
       → (standing_of w id ≡ Undecided peer) ⊎ HasArrived id peer
@@ -209,6 +235,8 @@ told_by w event o (IsAdmitted peer allowed) rule d = cc
 told_by w event o (Begins asked undecided none) rule d = cc
 told_by w event o (Receives him mount block feeding) rule d = cc
 told_by w event o (SetsTitle him mount text feeding) rule d = cc
+told_by w event o (HasPassed ms e) rule d = cc
+told_by w event o (Ticks ms e) rule d = cc
 told_by w event o (TakesSeat asked peer session undecided live allowed) rule d = cc
 told_by w event o (HandsOut him room seat session sits has live) rule d = cc
 told_by w event o (Ends him mount feeding) rule d = cc

@@ -7,7 +7,7 @@ use Rattle.radio_settings.specs.declared.settings.Settings.{Settings}
 use Rattle.radio_access.specs.Lists.{Lists}
 use Rattle.radio_tables.specs.KeyLaws.{by_number}
 use Rattle.radio_core.specs.declared.event.Event.{Event}
-use Rattle.radio_core.specs.declared.event.Event.TheVariants.{Arrive, Source, Push, SourceEnd, Title, Listen, Draw, Leave}
+use Rattle.radio_core.specs.declared.event.Event.TheVariants.{Arrive, Source, Push, SourceEnd, Title, Listen, Draw, Leave, Clock}
 use Rattle.radio_core.specs.declared.outcome.Change.TheVariants.{Nothing, Forget, EndAndLeave}
 use Rattle.radio_core.specs.declared.outcome.Outcome.{Outcome}
 use Rattle.radio_core.specs.declared.reply.Reply.TheVariants.{Stray}
@@ -23,11 +23,12 @@ use Rattle.radio_core.specs.Outcomes.{says}
 use Rattle.radio_core.specs.Run.{world_after_all, run_after}
 use Rattle.radio_core.specs.Sound.{IsSound}
 use Rattle.radio_core.specs.Step.{outcome, reply_to, world_after}
-use Rattle.radio_core.specs.Ways.{Way, Misplaced, IsFinished, IsDenied, IsRefused, IsAdmitted, Begins, Receives, SetsTitle, TakesSeat, HandsOut, Ends, EndsAndLeaves, Leaves, client_in}
-use Rattle.radio_core.proofs.FinishLemmas.{others_hold}
+use Rattle.radio_core.specs.Ways.{Way, Misplaced, IsFinished, IsDenied, IsRefused, IsAdmitted, Begins, Receives, SetsTitle, TakesSeat, HandsOut, Ends, EndsAndLeaves, Leaves, HasPassed, Ticks, client_in}
+use Rattle.radio_core.proofs.FinishLemmas.{others_hold, known_before}
 use Rattle.radio_core.proofs.ServiceLemmas.{replies_fit}
 use Rattle.radio_core.proofs.SoundRuns.{sound_after, sound_run}
 use Rattle.radio_core.proofs.Standings.{turns_forgotten}
+use Rattle.radio_core.proofs.TickLemmas.{ticked_fates}
 use Rattle.radio_core.proofs.Ways.{way_of}
 
 -- runs are joined
@@ -68,26 +69,29 @@ module _ (w : World) (id : ℕ) (unknown : standing_of w id ≡ Unknown) where
   strays (Listen asked) e = rw (his_standing asked.id e) refl
   strays (Draw him room) e = rw (his_standing him e) refl
   strays (Leave him) e = rw (his_standing him e) refl
+  strays (Clock ms) e = cc
 
 -- numbers are not taken back
-low_by : (w : World) (event : Event) (o : Outcome) → Way w event o → w.house.last_id ≤ (changed w o.change).house.last_id
-low_by w event o (IsAdmitted peer allowed) = omega arith
-low_by w event o (Misplaced _) = omega arith
-low_by w event o (IsFinished _ him by its known) = omega arith
-low_by w event o (IsDenied _ by v nobody) = omega arith
-low_by w event o (IsRefused _ him by v its undecided) = omega arith
-low_by w event o (Begins asked undecided none) = omega arith
-low_by w event o (Receives him mount block feeding) = omega arith
-low_by w event o (SetsTitle him mount text feeding) = omega arith
-low_by w event o (TakesSeat asked peer session undecided live allowed) = omega arith
-low_by w event o (HandsOut him room seat session sits has live) = omega arith
-low_by w event o (Ends him mount feeding) = omega arith
-low_by w event o (EndsAndLeaves him mount feeding) = omega arith
-low_by w event o (Leaves him other) = omega arith
+low_by : (w : World) → IsSound w → (event : Event) (o : Outcome) → Way w event o → w.house.last_id ≤ (changed w o.change).house.last_id
+low_by w s event o (IsAdmitted peer allowed) = omega arith
+low_by w s event o (Misplaced _) = omega arith
+low_by w s event o (IsFinished _ him by its known) = omega arith
+low_by w s event o (IsDenied _ by v nobody) = omega arith
+low_by w s event o (IsRefused _ him by v its undecided) = omega arith
+low_by w s event o (Begins asked undecided none) = omega arith
+low_by w s event o (Receives him mount block feeding) = omega arith
+low_by w s event o (SetsTitle him mount text feeding) = omega arith
+low_by w s event o (HasPassed ms e) = omega arith
+low_by w s event o (Ticks ms e) = let last = (ticked_fates w s ms).last in omega (arith, last)
+low_by w s event o (TakesSeat asked peer session undecided live allowed) = omega arith
+low_by w s event o (HandsOut him room seat session sits has live) = omega arith
+low_by w s event o (Ends him mount feeding) = omega arith
+low_by w s event o (EndsAndLeaves him mount feeding) = omega arith
+low_by w s event o (Leaves him other) = omega arith
 
-pub last_rises : (w : World) (event : Event) → w.house.last_id ≤ (world_after w event).house.last_id
+pub last_rises : (w : World) → IsSound w → (event : Event) → w.house.last_id ≤ (world_after w event).house.last_id
 unfolding world_after
-last_rises w event = low_by w event (outcome w event) (way_of w event)
+last_rises w s event = low_by w s event (outcome w event) (way_of w event)
 
 -- an event is of this client, or not
 pub by_own : {A : Type 0} (event : Event) (id : ℕ) → (client_in event ≡ Some id → A)
@@ -125,8 +129,8 @@ module _ (w : World) (s : IsSound w) (event : Event) (id : ℕ) (left : HasLeft 
       (λ own. subst (λ (o : Outcome). HasLeft (changed w o.change) id) (sym (strays w id left.1 event own)) left)
       (λ other apart. beside (others_hold w s event id other)) where
         beside : StandsOn w event id → HasLeft (world_after w event) id
-        beside (inl same) = let low = last_rises w event in (omega (arith, low, left.0), same ∙ left.1)
-        beside (inr (inl (rule, sat, finished, finishes))) = let unknown : standing_of w id ≡ Unknown = left.1 in cc
+        beside (inl same) = let low = last_rises w s event in (omega (arith, low, left.0), same ∙ left.1)
+        beside (inr (inl (rule, finishes))) = absurd (known_before w s event id rule finishes left.1)
         beside (inr (inr arrived)) = let above = ((replies_fit w s event).arrived id arrived).2 in absurd (omega (arith, above, left.0))
 
   nothing_handed : handed_at w event id ≡ []

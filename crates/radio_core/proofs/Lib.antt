@@ -4,6 +4,10 @@ pub mod Ways
 pub mod Soundness
 pub mod SoundSessions
 pub mod SoundTitles
+pub mod ApartLemmas
+pub mod SeatedLemmas
+pub mod Fates
+pub mod TickLemmas
 pub mod SoundEnds
 pub mod SoundRuns
 pub mod Effects
@@ -12,6 +16,7 @@ pub mod AccessLemmas
 pub mod FinishLemmas
 pub mod ServiceLemmas
 pub mod GoneLemmas
+pub mod LostSeats
 pub mod SeatSteps
 pub mod StretchLemmas
 pub mod TitleLemmas

@@ -16,7 +16,7 @@ use Rattle.radio_seats.specs.declared.walk.Found.{Found}
 use Rattle.radio_seats.specs.Seats.{seats_at, is_user_at}
 use Rattle.radio_seats.specs.Walk.{is_full, sits_already}
 use Rattle.radio_core.specs.declared.event.Event.{Event}
-use Rattle.radio_core.specs.declared.event.Event.TheVariants.{Arrive, Source, Push, SourceEnd, Title, Listen, Draw, Leave}
+use Rattle.radio_core.specs.declared.event.Event.TheVariants.{Arrive, Source, Push, SourceEnd, Title, Listen, Draw, Leave, Clock}
 use Rattle.radio_core.specs.declared.event.ListenRequest.{ListenRequest}
 use Rattle.radio_core.specs.declared.outcome.Outcome.{Outcome}
 use Rattle.radio_core.specs.declared.reply.Reply.TheVariants.{Deny}
@@ -25,7 +25,7 @@ use Rattle.radio_core.specs.declared.standing.Standing.TheVariants.{Unknown, Und
 use Rattle.radio_core.specs.Facts.{is_known}
 use Rattle.radio_core.specs.Limits.{IsFullAt, HasUserAt, DeniesByLimits, most_at, allows_duplicates_at}
 use Rattle.radio_core.specs.Step.{outcome, reply_to}
-use Rattle.radio_core.specs.Ways.{Way, Misplaced, IsFinished, IsDenied, IsRefused, IsAdmitted, Begins, Receives, SetsTitle, TakesSeat, HandsOut, Ends, EndsAndLeaves, Leaves, rows_for, rows_from}
+use Rattle.radio_core.specs.Ways.{Way, Misplaced, IsFinished, IsDenied, IsRefused, IsAdmitted, Begins, Receives, SetsTitle, TakesSeat, HandsOut, Ends, EndsAndLeaves, Leaves, HasPassed, Ticks, rows_for, rows_from}
 use Rattle.radio_core.specs.World.{World, standing_of}
 use Rattle.radio_core.proofs.Ways.{way_of, rows_by, found_by}
 
@@ -124,6 +124,7 @@ module _ (w : World) where
   only_listeners rule limit (Title id text) v then = cc
   only_listeners rule limit (Draw id room) v then = cc
   only_listeners rule limit (Leave id) v then = cc
+  only_listeners rule limit (Clock ms) v then = cc
 
   abbrev DeniesWhere : Event → (ListenRequest → Type 0) → Type 0
   DeniesWhere event P = (asked : ListenRequest) × (event ≡ Listen asked) × P asked
@@ -155,6 +156,8 @@ module _ (w : World) where
   denied_by rule event o (Begins asked undecided none) d then = cc
   denied_by rule event o (Receives him mount block feeding) d then = cc
   denied_by rule event o (SetsTitle him mount text feeding) d then = cc
+  denied_by rule event o (HasPassed ms e) d then = cc
+  denied_by rule event o (Ticks ms e) d then = cc
   denied_by rule event o (TakesSeat asked peer session undecided live allowed) d then = cc
   denied_by rule event o (HandsOut him room seat session sits has live) d then = cc
   denied_by rule event o (Ends him mount feeding) d then = cc

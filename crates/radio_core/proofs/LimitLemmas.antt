@@ -1,5 +1,5 @@
 -- in every state of a run, no more sit at a mount than may, and nobody sits twice where each may sit once
-use Rattle.std.proofs.Common.{◌≡◌, ◌⊎◌, inl, inr, Bool, true, false, ℕ, ◌+◌, ◌<◌, ◌≤◌, ◌==◌, ◌||◌, ◌&&◌, not, Option, Some, None, List, [], ◌∷◌, length, refl, ap, sym, subst, ◌∙◌, arith}
+use Rattle.std.proofs.Common.{◌≡◌, ◌⊎◌, inl, inr, Bool, true, false, ℕ, zero, suc, ◌+◌, ◌<◌, ◌≤◌, ◌==◌, ◌||◌, ◌&&◌, not, Option, Some, None, List, [], ◌∷◌, length, refl, ap, sym, subst, ◌∙◌, arith}
 use Rattle.std.specs.Prelude.{map, nat_lt}
 use Rattle.std.specs.List.{list_any}
 use Rattle.std.specs.Str.{bytes_eq}
@@ -28,7 +28,7 @@ use Rattle.radio_core.specs.declared.event.ListenRequest.{ListenRequest}
 use Rattle.radio_core.specs.declared.outcome.Outcome.{Outcome}
 use Rattle.radio_core.specs.declared.outcome.Change.TheVariants.{TakeSeat}
 use Rattle.radio_core.specs.declared.standing.Standing.TheVariants.{Undecided}
-use Rattle.radio_core.specs.Changes.{changed, session_ended}
+use Rattle.radio_core.specs.Changes.{changed, session_ended, received, timed_out_by, durations_over, first_silent, session_silenced, on_silent, silence, ticked}
 use Rattle.radio_core.specs.Facts.{rows_to_listen}
 use Rattle.radio_core.specs.Limits.{IsWithinLimits, most_at, allows_duplicates_at}
 use Rattle.radio_core.specs.Listen.{first_seat}
@@ -36,10 +36,15 @@ use Rattle.radio_core.specs.Run.{world_after_all, run_after}
 use Rattle.radio_core.specs.Sessions.{Session, session_of}
 use Rattle.radio_core.specs.Sound.{IsSound}
 use Rattle.radio_core.specs.Step.{outcome, world_after}
-use Rattle.radio_core.specs.Ways.{Way, Misplaced, IsFinished, IsDenied, IsRefused, IsAdmitted, Begins, Receives, SetsTitle, TakesSeat, HandsOut, Ends, EndsAndLeaves, Leaves}
+use Rattle.radio_core.specs.Ways.{Way, Misplaced, IsFinished, IsDenied, IsRefused, IsAdmitted, Begins, Receives, SetsTitle, TakesSeat, HandsOut, Ends, EndsAndLeaves, Leaves, HasPassed, Ticks}
 use Rattle.radio_core.specs.World.{World, opening, standing_of}
 use Rattle.radio_core.proofs.Lookups.{found_named}
 use Rattle.radio_core.proofs.SoundRuns.{sound_after, sound_opening}
+use Rattle.radio_core.proofs.TickLemmas.{ticked_fates}
+use Rattle.radio_policy.specs.declared.rule.Rule.TheVariants.{NotLive, Lagged, TimeOver}
+use Rattle.radio_seats.specs.EndLaws.{nobody_came_ending}
+use Rattle.radio_core.specs.Facts.{live_end}
+use Rattle.radio_core.specs.Timeouts.{lags_behind, has_sat_out}
 use Rattle.radio_core.proofs.Soundness.{has_new_seat, beside_new_seat}
 use Rattle.radio_core.proofs.Ways.{way_of, may_listen, IsWelcome, found_by}
 
@@ -56,6 +61,24 @@ not_there true seats mount user pair once none his = cc
 not_there false seats mount user None once none his = cc
 not_there false seats mount user (Some sent) once none his =
     let same : sent.user ≡ user = (bytes_eq-Decides sent.user user).0 his in subst (λ (x : List ℕ). sits_there seats mount x ≡ false) same none
+
+-- by the clock nobody comes
+nobody_came_silencing : (n : ℕ) (w : World) → NobodyCame w.seats (silence n w).seats
+nobody_came_silencing zero w = nobody_came w.seats
+nobody_came_silencing (suc n) w = by_first (nobody_came_silencing n) (first_silent w) where
+  by_first : ((next : World) → NobodyCame next.seats (silence n next).seats) → (found : Option Session)
+      → NobodyCame w.seats (on_silent (silence n) w found).seats
+  by_first rest None = nobody_came w.seats
+  by_first rest (Some session) =
+      let next = session_silenced w session in
+      nobody_came_twice w.seats next.seats (silence n next).seats (nobody_came_finishing w.seats session.mount NotLive) (rest next)
+
+nobody_came_ticking : (w : World) (ms : ℕ) → NobodyCame w.seats (ticked w ms).seats
+nobody_came_ticking w ms =
+    let timed = record w { house = timed_out_by w.house ms } in
+    let later = durations_over timed in
+    nobody_came_twice w.seats later.seats (ticked w ms).seats (nobody_came_ending (has_sat_out w.house.settings ms) TimeOver w.seats)
+    (nobody_came_silencing (length later.house.live) later)
 
 module _ (w : World) (s : IsSound w) (l : IsWithinLimits w) where
   -- where nobody has come, the limits hold still
@@ -134,7 +157,11 @@ module _ (w : World) (s : IsSound w) (l : IsWithinLimits w) where
   within_by event o (IsRefused _ him rule v his undecided) = within_still (changed w o.change) refl (nobody_came w.seats)
   within_by event o (IsAdmitted peer allowed) = within_still (changed w o.change) refl (nobody_came w.seats)
   within_by event o (Begins asked undecided none) = within_still (changed w o.change) refl (nobody_came w.seats)
-  within_by event o (Receives him mount block feeding) = within_still (changed w o.change) refl (nobody_came w.seats)
+  within_by event o (Receives him mount block feeding) =
+      within_still (changed w o.change) refl
+      (nobody_came_ending (lags_behind mount (live_end (received w.house mount block) mount) w.house.settings.limits.queue_size) Lagged w.seats)
+  within_by event o (HasPassed ms e) = l
+  within_by event o (Ticks ms e) = within_still (changed w o.change) (ticked_fates w s ms).settings (nobody_came_ticking w ms)
   within_by event o (SetsTitle him mount text feeding) = within_still (changed w o.change) refl (nobody_came w.seats)
   within_by event o (TakesSeat asked peer session undecided live allowed) = within_seated asked peer session undecided live (may_listen w asked allowed).1
   within_by event o (HandsOut him room old session sits has live) = within_still (changed w o.change) refl (nobody_came_hearing w.seats him _ old has)

@@ -5,12 +5,13 @@ use Rattle.radio_settings.specs.declared.settings.Settings.{Settings}
 use Rattle.radio_access.specs.Lists.{Lists, passes, lets_in}
 use Rattle.radio_tables.specs.KeyLaws.{by_number}
 use Rattle.radio_core.specs.declared.event.Event.{Event}
+use Rattle.radio_core.specs.declared.event.Event.TheVariants.{Push, Clock}
 use Rattle.radio_core.specs.declared.event.ListenRequest.{ListenRequest}
 use Rattle.radio_core.specs.declared.outcome.Outcome.{Outcome}
 use Rattle.radio_core.specs.declared.outcome.Change.TheVariants.{TakeSeat, Advance, Forget}
 use Rattle.radio_seats.specs.declared.seat.Seat.{Seat}
 use Rattle.radio_core.specs.declared.standing.Standing.TheVariants.{Undecided, Sits}
-use Rattle.radio_core.specs.Changes.{changed}
+use Rattle.radio_core.specs.Changes.{changed, taken_in, ticked}
 use Rattle.radio_core.specs.Listen.{first_seat}
 use Rattle.radio_core.specs.Run.{world_after_all, run_after}
 use Rattle.radio_seats.specs.Seats.{seat_of, seat_in}
@@ -18,14 +19,16 @@ use Rattle.radio_core.specs.Sessions.{Session, session_of}
 use Rattle.radio_core.specs.Sound.{IsSound}
 use Rattle.radio_core.specs.Step.{outcome, world_after}
 use Rattle.radio_core.specs.Stream.{data_at}
-use Rattle.radio_core.specs.Ways.{Way, Misplaced, IsFinished, IsDenied, IsRefused, IsAdmitted, Begins, Receives, SetsTitle, TakesSeat, HandsOut, Ends, EndsAndLeaves, Leaves}
+use Rattle.radio_core.specs.Ways.{Way, Misplaced, IsFinished, IsDenied, IsRefused, IsAdmitted, Begins, Receives, SetsTitle, TakesSeat, HandsOut, Ends, EndsAndLeaves, Leaves, HasPassed, Ticks}
 use Rattle.radio_core.specs.World.{World, opening, standing_of}
 use Rattle.radio_core.proofs.FinishLemmas.{undecided_before}
 use Rattle.radio_seats.specs.SeatLaws.{beside_left, is_no_listener}
 use Rattle.radio_core.proofs.Lookups.{found_named}
 use Rattle.radio_core.proofs.SoundEnds.{still_sits, seats_left}
-use Rattle.radio_core.proofs.SoundRuns.{sound_after, sound_opening}
-use Rattle.radio_core.proofs.SoundSessions.{has_advanced, others_seats}
+use Rattle.radio_core.proofs.Fates.{sits_on_still}
+use Rattle.radio_core.proofs.TickLemmas.{ticked_fates}
+use Rattle.radio_core.proofs.SoundRuns.{sound_after, sound_opening, grown_world, lag_fates}
+use Rattle.radio_core.proofs.SoundSessions.{has_advanced, others_seats, sound_grown}
 use Rattle.radio_core.proofs.Soundness.{has_new_seat, beside_new_seat}
 use Rattle.radio_core.proofs.Ways.{way_of, may_listen}
 
@@ -89,7 +92,11 @@ module _ (w : World) (s : IsSound w) (k : KeepsLists w) where
   seated_by event o (IsRefused _ him rule v his undecided) id seat h = k.seated id seat h
   seated_by event o (IsAdmitted peer allowed) id seat h = k.seated id seat h
   seated_by event o (Begins asked undecided none) id seat h = k.seated id seat h
-  seated_by event o (Receives him mount block feeding) id seat h = k.seated id seat h
+  seated_by event o (Receives him mount block feeding) id seat h =
+      k.seated id seat (sits_on_still (grown_world w mount block) (taken_in w mount block) (Push him block) (sound_grown w s mount block him feeding)
+      (lag_fates w s mount block him feeding) id seat h).0
+  seated_by event o (HasPassed ms e) id seat h = k.seated id seat h
+  seated_by event o (Ticks ms e) id seat h = k.seated id seat (sits_on_still w (ticked w ms) (Clock ms) s (ticked_fates w s ms) id seat h).0
   seated_by event o (SetsTitle him mount text feeding) id seat h = k.seated id seat h
   seated_by event o (TakesSeat asked peer session undecided live allowed) id seat h =
       seated_new asked peer session undecided live (may_listen w asked allowed).1.accepts id seat h
@@ -108,6 +115,8 @@ module _ (w : World) (s : IsSound w) (k : KeepsLists w) where
   same_lists event o (IsAdmitted peer allowed) = refl
   same_lists event o (Begins asked undecided none) = refl
   same_lists event o (Receives him mount block feeding) = refl
+  same_lists event o (HasPassed ms e) = refl
+  same_lists event o (Ticks ms e) = (ticked_fates w s ms).lists
   same_lists event o (SetsTitle him mount text feeding) = refl
   same_lists event o (TakesSeat asked peer session undecided live allowed) = refl
   same_lists event o (HandsOut him room old session sits has live) = refl

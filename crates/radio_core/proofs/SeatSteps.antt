@@ -6,14 +6,14 @@ use Rattle.std.proofs.lemmas.Bool.Decides.{nat_tests}
 use Rattle.radio_addr.specs.declared.peer.Peer.{Peer}
 use Rattle.radio_tables.specs.KeyLaws.{by_number}
 use Rattle.radio_core.specs.declared.event.Event.{Event}
-use Rattle.radio_core.specs.declared.event.Event.TheVariants.{Draw}
+use Rattle.radio_core.specs.declared.event.Event.TheVariants.{Push, Draw, Clock}
 use Rattle.radio_core.specs.declared.event.ListenRequest.{ListenRequest}
 use Rattle.radio_core.specs.declared.outcome.Change.TheVariants.{TakeSeat, Advance}
 use Rattle.radio_core.specs.declared.outcome.Outcome.{Outcome}
 use Rattle.radio_seats.specs.declared.seat.Seat.{Seat}
 use Rattle.radio_core.specs.declared.standing.Standing.TheVariants.{Undecided, Sits}
 use Rattle.radio_core.specs.World.{World, standing_of}
-use Rattle.radio_core.specs.Changes.{changed, session_ended}
+use Rattle.radio_core.specs.Changes.{changed, session_ended, taken_in, ticked}
 use Rattle.radio_core.specs.Handing.{data_in, of_client, handed_at}
 use Rattle.radio_core.specs.Listen.{first_seat, burst_of}
 use Rattle.radio_seats.specs.Seats.{seat_of, seat_in}
@@ -22,14 +22,16 @@ use Rattle.radio_core.specs.Sound.{IsSound}
 use Rattle.radio_core.specs.Step.{outcome, reply_to, world_after}
 use Rattle.radio_core.specs.Stream.{data_at, end_of}
 use Rattle.radio_core.specs.Stretches.{KeepsItsMount, SeatsKeepTheirMounts}
-use Rattle.radio_core.specs.Ways.{Way, Misplaced, IsFinished, IsDenied, IsRefused, IsAdmitted, Begins, Receives, SetsTitle, TakesSeat, HandsOut, Ends, EndsAndLeaves, Leaves, client_in}
+use Rattle.radio_core.specs.Ways.{Way, Misplaced, IsFinished, IsDenied, IsRefused, IsAdmitted, Begins, Receives, SetsTitle, TakesSeat, HandsOut, Ends, EndsAndLeaves, Leaves, HasPassed, Ticks, client_in}
 use Rattle.radio_core.proofs.GoneLemmas.{not_of, nothing_of}
 use Rattle.radio_seats.specs.SeatLaws.{is_no_listener, beside_left}
 use Rattle.radio_core.proofs.Lookups.{found_named}
 use Rattle.radio_core.proofs.Soundness.{has_new_seat, had_no_seat, beside_new_seat, burst_within}
 use Rattle.radio_core.proofs.SoundSessions.{has_advanced, others_seats, behind_within}
 use Rattle.radio_core.proofs.SoundEnds.{still_sits, sits_on, sits_no_more}
-use Rattle.radio_core.proofs.SoundRuns.{sound_after}
+use Rattle.radio_core.proofs.Fates.{Fate, GoesOn, IsEnded}
+use Rattle.radio_core.proofs.TickLemmas.{ticked_fates}
+use Rattle.radio_core.proofs.SoundRuns.{sound_after, grown_world, lag_fates}
 use Rattle.radio_core.proofs.Ways.{way_of}
 
 -- all that an event can do to a seat: nothing, hand out what stands at its place, give one to who had none, take it away
@@ -114,6 +116,12 @@ module _ (w : World) (s : IsSound w) (id : ℕ) where
         his_bytes true bytes e = refl
         his_bytes false bytes e = cc
 
+  -- he goes on, or is ended
+  fares : (from later : World) (event : Event) → seat_of from.seats id ≡ mine → Fate from later event id → (bytes : List ℕ) → bytes ≡ []
+      → SeatStep w mine bytes (seat_of later.seats id)
+  fares from later event e (GoesOn same seats feeds sits) bytes none = stays bytes (seat_of later.seats id) none (seats ∙ e)
+  fares from later event e (IsEnded rule cause active ended gone over) bytes none = loses bytes (seat_of later.seats id) none gone
+
   step_by : (event : Event) (o : Outcome) → Way w event o → SeatStep w mine (of_client event id (data_in o.reply)) (seat_of (changed w o.change).seats id)
   step_by event o (Misplaced _) = stays (of_client event id []) mine (nothing_of event id [] refl) refl
   step_by event o (IsFinished _ him by its known) = stays (of_client event id []) mine (nothing_of event id [] refl) refl
@@ -121,7 +129,11 @@ module _ (w : World) (s : IsSound w) (id : ℕ) where
   step_by event o (IsRefused _ him by v its undecided) = stays (of_client event id []) mine (nothing_of event id [] refl) refl
   step_by event o (IsAdmitted peer allowed) = stays [] mine refl refl
   step_by event o (Begins asked undecided none) = stays (of_client event id []) mine (nothing_of event id [] refl) refl
-  step_by event o (Receives him mount block feeding) = stays (of_client event id []) mine (nothing_of event id [] refl) refl
+  step_by event o (Receives him mount block feeding) =
+      fares (grown_world w mount block) (taken_in w mount block) (Push him block) refl ((lag_fates w s mount block him feeding).fate id)
+      (of_client event id []) (nothing_of event id [] refl)
+  step_by event o (HasPassed ms e) = stays [] mine refl refl
+  step_by event o (Ticks ms e) = fares w (ticked w ms) (Clock ms) refl ((ticked_fates w s ms).fate id) [] refl
   step_by event o (SetsTitle him mount text feeding) = stays (of_client event id []) mine (nothing_of event id [] refl) refl
   step_by event o (TakesSeat asked peer session undecided live allowed) =
       takes_seat_at asked peer session undecided live (of_client event id []) (nothing_of event id [] refl)

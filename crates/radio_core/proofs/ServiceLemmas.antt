@@ -40,8 +40,9 @@ use Rattle.radio_core.specs.Service.{IsTakenIn, IsHanded, Serves}
 use Rattle.radio_core.specs.Sessions.{Session, session_of}
 use Rattle.radio_core.specs.Sound.{IsSound}
 use Rattle.radio_core.specs.Step.{outcome, reply_to, world_after}
-use Rattle.radio_core.specs.Ways.{Way, Misplaced, IsFinished, IsDenied, IsRefused, IsAdmitted, Begins, Receives, SetsTitle, TakesSeat, HandsOut, Ends, EndsAndLeaves, Leaves, IsUndecided}
+use Rattle.radio_core.specs.Ways.{Way, Misplaced, IsFinished, IsDenied, IsRefused, IsAdmitted, Begins, Receives, SetsTitle, TakesSeat, HandsOut, Ends, EndsAndLeaves, Leaves, HasPassed, Ticks, IsUndecided}
 use Rattle.radio_core.proofs.FinishLemmas.{finished_told}
+use Rattle.radio_core.proofs.SeatedLemmas.{seat_of_sitting}
 use Rattle.radio_core.proofs.Standings.{turns_answered, turns_feeding, turns_sitting, turns_admitted}
 use Rattle.radio_core.proofs.Ways.{way_of, found_at_path, may_listen}
 
@@ -62,30 +63,6 @@ goes_sitting s go e = rw e refl
 found_there : (found : Option Session) → is_some found ≡ true → (session : Session) × (found ≡ Some session)
 found_there None e = cc
 found_there (Some session) e = (session, refl)
-
--- who sits has a seat
-held_seat : (seating : Seating) → standing_seated seating ≡ Sits → (seat : Seat) × (seat_held seating ≡ Some seat)
-held_seat (HasSeat seat) e = (seat, refl)
-held_seat (HasFinished rule) e = cc
-
-listener_seat : (listener : Option Listener) → standing_of_listener listener ≡ Sits → (seat : Seat) × (seat_in listener ≡ Some seat)
-listener_seat None e = cc
-listener_seat (Some listener) e = held_seat listener.seating e
-
-by_state : (listener : Option Listener) (peer : Peer) (state : ClientState) → standing_by listener peer state ≡ Sits
-    → (seat : Seat) × (seat_in listener ≡ Some seat)
-by_state listener peer IsNew e = cc
-by_state listener peer (IsSource mount) e = cc
-by_state listener peer Listens e = listener_seat listener e
-by_state listener peer Answered e = cc
-by_state listener peer (Ended rule) e = cc
-
-by_client : (listener : Option Listener) (client : Option Client) → standing_in listener client ≡ Sits → (seat : Seat) × (seat_in listener ≡ Some seat)
-by_client listener None e = cc
-by_client listener (Some client) e = by_state listener client.peer client.state e
-
-pub seat_of_sitting : (w : World) (id : ℕ) → standing_of w id ≡ Sits → (seat : Seat) × (seat_of w.seats id ≡ Some seat)
-seat_of_sitting w id e = by_client (listener_of w.seats id) (client_of w.house.clients id) e
 
 module _ (allows : (rows : List Row) → (verdict_in rows ≡ Allow) ↔ Allows rows) (w : World) (s : IsSound w) where
   outcome_arrive : (peer : Peer) → Allows (rows_to_arrive w.house peer) → outcome w (Arrive peer) ≡ admits_client w peer
@@ -224,6 +201,8 @@ module _ (w : World) (s : IsSound w) where
   fits_by event o (IsRefused _ him by v its undecided) = record { arrived = λ id d. cc; feeding = λ d. cc; seated = λ interval shown d. cc }
   fits_by event o (Receives him mount block feeding) = record { arrived = λ id d. cc; feeding = λ d. cc; seated = λ interval shown d. cc }
   fits_by event o (SetsTitle him mount text feeding) = record { arrived = λ id d. cc; feeding = λ d. cc; seated = λ interval shown d. cc }
+  fits_by event o (HasPassed ms e) = record { arrived = λ id d. cc; feeding = λ d. cc; seated = λ interval shown d. cc }
+  fits_by event o (Ticks ms e) = record { arrived = λ id d. cc; feeding = λ d. cc; seated = λ interval shown d. cc }
   fits_by event o (HandsOut him room seat session sits has live) = record { arrived = λ id d. cc; feeding = λ d. cc; seated = λ interval shown d. cc }
   fits_by event o (Ends him mount feeding) = record { arrived = λ id d. cc; feeding = λ d. cc; seated = λ interval shown d. cc }
   fits_by event o (EndsAndLeaves him mount feeding) = record { arrived = λ id d. cc; feeding = λ d. cc; seated = λ interval shown d. cc }

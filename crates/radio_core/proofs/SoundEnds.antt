@@ -1,6 +1,6 @@
 -- what holds of every state of a run holds still after the end of a session
 use Rattle.std.proofs.Common.{◌≡◌, ◌⊎◌, inl, inr, true, false, ℕ, ◌<◌, ◌≤◌, ◌==◌, Option, Some, None, List, refl, ap, sym, subst, ◌∙◌, arith}
-use Rattle.std.specs.Prelude.{if◌then◌else◌}
+use Rattle.std.specs.Prelude.{if◌then◌else◌, not}
 use Rattle.std.specs.Option.{option_map}
 use Rattle.std.specs.Str.{bytes_eq}
 use Rattle.std.proofs.lemmas.Bool.Decides.{nat_tests}
@@ -17,9 +17,10 @@ use Rattle.radio_core.specs.declared.standing.Standing.TheVariants.{Unknown, Fee
 use Rattle.radio_core.specs.World.{World, standing_of}
 use Rattle.radio_core.specs.Changes.{changed, session_ended}
 use Rattle.radio_seats.specs.Seats.{listener_of, seat_of, seat_in, seat_held, ended_at, finished_from, finished_at, without_listener}
-use Rattle.radio_core.specs.Sessions.{Session, session_of, without_session}
-use Rattle.radio_core.specs.Sound.{AreRising, IsSeatedIn, IsSound}
+use Rattle.radio_core.specs.Sessions.{Session, is_of, session_of, without_session}
+use Rattle.radio_core.specs.Sound.{AreApart, AreRising, IsSeatedIn, IsSound}
 use Rattle.radio_seats.specs.SeatLaws.{StillSits, sits_still, sits_on_elsewhere, has_lost_it, beside_left, is_no_listener}
+use Rattle.radio_core.proofs.ApartLemmas.{kept_apart}
 use Rattle.radio_core.proofs.Lookups.{beside_ended, is_over}
 use Rattle.radio_core.proofs.Standings.{Turns, Loses, turns_answered, turns_forgotten, silenced, ended_feeds, feeds_ended}
 
@@ -39,7 +40,7 @@ sits_no_more w mount id seat has there = has_lost_it mount NotLive w.seats id se
 
 -- the source of a mount stops feeding it, and its session is over
 module _ (w : World) (s : IsSound w) (him : ℕ) (mount : List ℕ) (feeding : standing_of w him ≡ Feeds mount) (later : World) (now : Standing)
-    (t : Turns (session_ended w mount) later him now) (live : (other : List ℕ)
+    (t : Turns (session_ended w mount) later him now) (kept : AreApart later.house.live) (live : (other : List ℕ)
     → session_of later.house.live other ≡ session_of (without_session w.house.live mount) other)
     (seats : (id : ℕ) (seat : Seat) → seat_of later.seats id ≡ Some seat → seat_of (session_ended w mount).seats id ≡ Some seat)
     (last : w.house.last_id ≡ later.house.last_id) (not_now : (other : List ℕ) → now ≡ Feeds other → ⊥) where
@@ -100,6 +101,7 @@ module _ (w : World) (s : IsSound w) (him : ℕ) (mount : List ℕ) (feeding : s
         let there : bytes_eq mount other ≡ true = (bytes_eq-Decides mount other).1 one in
         cc)
         (λ apart. t.others session.number apart ∙ ended_feeds w mount session.number other was));
+    apart = kept;
     starts = λ other session e. was_live other session e (λ away old. s.starts other session old);
     sitting = λ id seat e.
         let still = still_sits w mount id seat (seats id seat e) in
@@ -129,6 +131,9 @@ module _ (w : World) (s : IsSound w) (him : ℕ) (mount : List ℕ) (feeding : s
     bytes_apart a b e = by_name b a (λ same. let there : bytes_eq a b ≡ true = (bytes_eq-Decides a b).1 (sym same) in cc) (λ apart. apart)
 
 module _ (w : World) (s : IsSound w) (him : ℕ) (mount : List ℕ) (feeding : standing_of w him ≡ Feeds mount) where
+  left_apart : AreApart (without_session w.house.live mount)
+  left_apart = kept_apart (λ session. not (is_of mount session)) w.house.live s.apart
+
   pub turns_ended : Turns (session_ended w mount) (changed w (End him mount)) him Answered
   turns_ended = turns_answered (session_ended w mount) him (λ u. let still : standing_of (session_ended w mount) him ≡ Feeds mount =
       ended_feeds w mount him mount feeding in cc)
@@ -137,7 +142,7 @@ module _ (w : World) (s : IsSound w) (him : ℕ) (mount : List ℕ) (feeding : s
   turns_ended_and_left = turns_forgotten (session_ended w mount) him
 
   pub sound_ended : IsSound (changed w (End him mount))
-  sound_ended = sound_over w s him mount feeding (changed w (End him mount)) Answered turns_ended (λ other. refl) (λ id seat e. e) refl (λ other f. cc)
+  sound_ended = sound_over w s him mount feeding (changed w (End him mount)) Answered turns_ended left_apart (λ other. refl) (λ id seat e. e) refl (λ other f. cc)
 
   -- nobody has a seat but who had one
   pub seats_left : (id : ℕ) (seat : Seat) → seat_of (changed w (EndAndLeave him mount)).seats id ≡ Some seat
@@ -149,4 +154,4 @@ module _ (w : World) (s : IsSound w) (him : ℕ) (mount : List ℕ) (feeding : s
       (λ apart. sym (ap seat_in (beside_left (session_ended w mount).seats him id apart)) ∙ e)
 
   pub sound_ended_and_left : IsSound (changed w (EndAndLeave him mount))
-  sound_ended_and_left = sound_over w s him mount feeding (changed w (EndAndLeave him mount)) Unknown turns_ended_and_left (λ other. refl) seats_left refl (λ other f. cc)
+  sound_ended_and_left = sound_over w s him mount feeding (changed w (EndAndLeave him mount)) Unknown turns_ended_and_left left_apart (λ other. refl) seats_left refl (λ other f. cc)

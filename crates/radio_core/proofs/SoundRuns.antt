@@ -1,21 +1,47 @@
 -- every state of a run is sound
-use Rattle.std.proofs.Common.{◌≡◌, Some, List, [], ◌∷◌, refl}
+use Rattle.std.proofs.Common.{◌≡◌, ℕ, Some, List, [], ◌∷◌, refl, ap, sym, ◌∙◌}
+use Rattle.std.specs.Str.{bytes_eq}
+use Rattle.std.proofs.lemmas.Bool.{and_parts}
+use Rattle.std.proofs.lemmas.Slice.Eq.{bytes_eq-Decides}
+use Rattle.radio_policy.specs.declared.rule.Rule.TheVariants.{Lagged}
 use Rattle.radio_settings.specs.declared.settings.Settings.{Settings}
 use Rattle.radio_access.specs.Lists.{Lists}
 use Rattle.radio_core.specs.declared.event.Event.{Event}
+use Rattle.radio_core.specs.declared.event.Event.TheVariants.{Push, Clock}
+use Rattle.radio_core.specs.declared.standing.Standing.TheVariants.{Feeds}
 use Rattle.radio_core.specs.declared.outcome.Outcome.{Outcome}
-use Rattle.radio_core.specs.World.{World, opening}
-use Rattle.radio_core.specs.Changes.{changed}
+use Rattle.radio_core.specs.World.{World, opening, standing_of}
+use Rattle.radio_core.specs.Changes.{changed, received, taken_in, ticked}
+use Rattle.radio_core.specs.Facts.{live_end}
+use Rattle.radio_core.specs.Finishes.{IsFarBehind}
+use Rattle.radio_core.specs.Timeouts.{lags_behind}
 use Rattle.radio_core.specs.Run.{world_after_all, run_after}
 use Rattle.radio_core.specs.Sound.{IsSound}
 use Rattle.radio_core.specs.Source.{shown_for}
 use Rattle.radio_core.specs.Step.{outcome, world_after}
-use Rattle.radio_core.specs.Ways.{Way, Misplaced, IsFinished, IsDenied, IsRefused, IsAdmitted, Begins, Receives, SetsTitle, TakesSeat, HandsOut, Ends, EndsAndLeaves, Leaves}
+use Rattle.radio_core.specs.Ways.{Way, Misplaced, IsFinished, IsDenied, IsRefused, IsAdmitted, Begins, Receives, SetsTitle, TakesSeat, HandsOut, Ends, EndsAndLeaves, Leaves, HasPassed, Ticks}
 use Rattle.radio_core.proofs.Soundness.{sound_answered, sound_forgotten, sound_admitted, sound_sits}
 use Rattle.radio_core.proofs.SoundSessions.{sound_begun, sound_grown, sound_heard}
 use Rattle.radio_core.proofs.SoundTitles.{sound_titled}
+use Rattle.radio_core.proofs.Fates.{Fates, sound_fates, seats_fates}
+use Rattle.radio_core.proofs.TickLemmas.{ticked_fates}
 use Rattle.radio_core.proofs.SoundEnds.{sound_ended, sound_ended_and_left}
 use Rattle.radio_core.proofs.Ways.{way_of}
+
+-- a block has come, and who is too far behind has lost his seat
+abbrev pub grown_world : World → List ℕ → List ℕ → World
+grown_world w mount block = record w { house = received w.house mount block }
+
+pub lag_fates : (w : World) → IsSound w → (mount block : List ℕ) (him : ℕ) → standing_of w him ≡ Feeds mount
+    → Fates (grown_world w mount block) (taken_in w mount block) (Push him block)
+lag_fates w s mount block him feeding =
+    let house = received w.house mount block in
+    let queue = w.house.settings.limits.queue_size in
+    seats_fates (grown_world w mount block) (sound_grown w s mount block him feeding) (lags_behind mount (live_end house mount) queue) Lagged (Push him block)
+    (λ id seat has behind.
+    let there : seat.mount ≡ mount = (bytes_eq-Decides seat.mount mount).0 (and_parts (bytes_eq seat.mount mount) _ behind).0 in
+    IsFarBehind him block seat refl (feeding ∙ ap (λ (m : List ℕ). Feeds m) (sym there)) has
+    (ap (λ (m : List ℕ). lags_behind m (live_end house m) queue seat) there ∙ behind))
 
 sound_by : (w : World) → IsSound w → (event : Event) (o : Outcome) → Way w event o → IsSound (changed w o.change)
 sound_by w s event o (Misplaced _) = s
@@ -24,7 +50,10 @@ sound_by w s event o (IsDenied _ rule v other) = s
 sound_by w s event o (IsRefused _ id rule v his undecided) = sound_answered w s id undecided.0 undecided.1
 sound_by w s event o (IsAdmitted peer allowed) = sound_admitted w s peer
 sound_by w s event o (Begins asked undecided none) = sound_begun w s asked.id asked.mount (shown_for w.house asked.mount asked.shown) undecided.0 undecided.1 none
-sound_by w s event o (Receives id mount block feeding) = sound_grown w s mount block id feeding
+sound_by w s event o (Receives id mount block feeding) = sound_fates (grown_world w mount block) (taken_in w mount block) (Push id block)
+    (sound_grown w s mount block id feeding) (lag_fates w s mount block id feeding)
+sound_by w s event o (HasPassed ms e) = s
+sound_by w s event o (Ticks ms e) = sound_fates w (ticked w ms) (Clock ms) s (ticked_fates w s ms)
 sound_by w s event o (SetsTitle id mount text feeding) = sound_titled w s mount text id feeding
 sound_by w s event o (TakesSeat asked peer session undecided live allowed) = sound_sits w s asked peer session undecided live
 sound_by w s event o (HandsOut id room seat session sits has live) = sound_heard w s id room seat session sits has live
@@ -45,6 +74,7 @@ sound_opening settings lists = record {
   numbered = λ id h. refl;
   feeds = λ id mount e. cc;
   fed = λ mount session e. cc;
+  apart = tt;
   starts = λ mount session e. cc;
   sitting = λ id seat e. cc;
   seated = λ id seat e. cc;

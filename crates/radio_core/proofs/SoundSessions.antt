@@ -17,12 +17,13 @@ use Rattle.radio_seats.specs.declared.seat.Seating.TheVariants.{Sits as HasSeat,
 use Rattle.radio_core.specs.declared.standing.Standing.{Standing}
 use Rattle.radio_core.specs.declared.standing.Standing.TheVariants.{Unknown, Undecided, Feeds, Sits, Answered, Finished}
 use Rattle.radio_core.specs.World.{World, standing_of}
-use Rattle.radio_core.specs.Changes.{changed, session_ended}
+use Rattle.radio_core.specs.Changes.{changed, session_ended, received}
 use Rattle.radio_seats.specs.Seats.{listener_of, seat_of, seat_in, seat_held, heard_to}
-use Rattle.radio_core.specs.Sessions.{Session, session_of, opened, longer, fed, without_session}
+use Rattle.radio_core.specs.Sessions.{Session, is_of, session_of, opened, longer, fed, without_session}
 use Rattle.radio_core.specs.Sound.{AreRising, IsSeatedIn, IsSound}
 use Rattle.radio_core.specs.Stream.{end_of, data_at}
 use Rattle.radio_seats.specs.SeatLaws.{beside_moved, has_moved}
+use Rattle.radio_core.proofs.ApartLemmas.{begun_apart, updated_apart}
 use Rattle.radio_core.proofs.Lookups.{found_named, beside_fed, beside_ended, is_longer, is_over, is_new_session, beside_begun}
 use Rattle.radio_seats.specs.SeatLaws.{listener_seated}
 use Rattle.radio_core.proofs.Standings.{Turns, Loses, turns_answered, turns_feeding, turns_forgotten, stays_hearing, silenced, ended_feeds, feeds_ended}
@@ -86,6 +87,7 @@ module _ (w : World) (s : IsSound w) (him : ℕ) (mount : List ℕ) (shown : Sho
         let was = s.fed other session old in
         by_number him session.number (λ same. let feeds : standing_of w him ≡ Feeds other = ap (standing_of w) same ∙ was in cc)
         (λ apart. begin_turns.others session.number apart ∙ was));
+    apart = begun_apart fresh w.house.live not_live s.apart;
     starts = λ other session e.
         begun_cases other session e
         (λ same one. subst (λ (x : Session). AreRising x.stream.starts (end_of x.stream)) one tt)
@@ -101,7 +103,7 @@ module _ (w : World) (s : IsSound w) (him : ℕ) (mount : List ℕ) (shown : Sho
 -- a source delivers a block
 module _ (w : World) (s : IsSound w) (mount block : List ℕ) where
   abbrev after_block : World
-  after_block = changed w (Receive mount block)
+  after_block = record w { house = received w.house mount block }
 
   pub grown : (other : List ℕ) (session : Session) → session_of w.house.live other ≡ Some session
       → (now : Session) × (session_of after_block.house.live other ≡ Some now) × (now.number ≡ session.number) × (end_of session.stream ≤ end_of now.stream)
@@ -144,6 +146,7 @@ module _ (w : World) (s : IsSound w) (mount block : List ℕ) where
         (λ session same found one. ap (λ (x : Session). standing_of w x.number) (sym one) ∙ s.fed mount session found ∙ ap (λ (m : List ℕ). Feeds m) same)
         (λ apart found. s.fed other now found)
         never;
+    apart = updated_apart (is_of mount) (longer block w.house.time) (λ x. refl) w.house.live s.apart;
     starts = λ other now e.
         grown_cases other now e
         (λ session same found one. subst (λ (x : Session). AreRising x.stream.starts (end_of x.stream)) one
@@ -202,6 +205,7 @@ module _ (w : World) (s : IsSound w) (him room : ℕ) (seat : Seat) (session : S
         numbered = λ id h. same id ∙ s.numbered id h;
         feeds = λ id other e. s.feeds id other (sym (same id) ∙ e);
         fed = λ other now e. same now.number ∙ s.fed other now e;
+        apart = s.apart;
         starts = λ other now e. s.starts other now e;
         sitting = λ id other e. same id ∙ sat_before id other e;
         seated = seated;

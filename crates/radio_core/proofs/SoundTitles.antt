@@ -6,9 +6,10 @@ use Rattle.radio_core.specs.declared.outcome.Change.TheVariants.{SetTitle}
 use Rattle.radio_core.specs.declared.standing.Standing.TheVariants.{Feeds}
 use Rattle.radio_core.specs.World.{World, standing_of}
 use Rattle.radio_core.specs.Changes.{changed}
-use Rattle.radio_core.specs.Sessions.{Session, session_of, with_title}
+use Rattle.radio_core.specs.Sessions.{Session, is_of, session_of, with_title}
 use Rattle.radio_core.specs.Sound.{AreRising, IsSound}
 use Rattle.radio_core.specs.Stream.{WholeStream, end_of}
+use Rattle.radio_core.proofs.ApartLemmas.{updated_apart}
 use Rattle.radio_core.proofs.Lookups.{beside_titled, is_titled}
 
 -- a session is as it was, but that it may have another title
@@ -65,6 +66,7 @@ module _ (w : World) (s : IsSound w) (mount text : List ℕ) (him : ℕ) (feedin
     fed = λ other now e.
         let old = was_live other now e in
         ap (standing_of w) (sym old.2.number) ∙ s.fed other old.0 old.1;
+    apart = updated_apart (is_of mount) (with_title (Some text)) (λ x. refl) w.house.live s.apart;
     starts = λ other now e.
         let old = was_live other now e in
         subst (λ (x : WholeStream). AreRising x.starts (end_of x)) old.2.stream (s.starts other old.0 old.1);

@@ -28,11 +28,11 @@ use Rattle.radio_core.specs.Changes.{changed, session_ended}
 use Rattle.radio_core.specs.Listen.{first_seat, burst_of}
 use Rattle.radio_seats.specs.Seats.{listener_of, seat_of, seat_in, seat_held, ended_at, finished_from, finished_at, without_listener}
 use Rattle.radio_core.specs.Sessions.{Session, session_of, opened, longer, fed, without_session}
-use Rattle.radio_core.specs.Sound.{AreRising, IsSeatedIn, IsSound}
+use Rattle.radio_core.specs.Sound.{AreApart, AreRising, IsSeatedIn, IsSound}
 use Rattle.radio_core.specs.Step.{outcome, world_after}
 use Rattle.radio_core.specs.Run.{world_after_all, run_after}
 use Rattle.radio_core.specs.Stream.{end_of, burst_start, data_at}
-use Rattle.radio_core.specs.Ways.{Way, Misplaced, IsFinished, IsDenied, IsRefused, IsAdmitted, Begins, Receives, SetsTitle, TakesSeat, HandsOut, Ends, EndsAndLeaves, Leaves}
+use Rattle.radio_core.specs.Ways.{Way, Misplaced, IsFinished, IsDenied, IsRefused, IsAdmitted, Begins, Receives, SetsTitle, TakesSeat, HandsOut, Ends, EndsAndLeaves, Leaves, HasPassed, Ticks}
 use Rattle.radio_seats.specs.SeatLaws.{beside_left, beside_seated, is_no_listener, has_sat_down}
 use Rattle.radio_core.proofs.Lookups.{found_named, beside_fed, beside_ended, is_longer, is_over, is_new_session, beside_begun}
 use Rattle.radio_core.proofs.Standings.{Turns, Loses, turns_answered, turns_feeding, turns_sitting, turns_forgotten, turns_admitted, stays_hearing, silenced, ended_feeds, feeds_ended}
@@ -87,7 +87,7 @@ module _ (w : World) (s : IsSound w) where
       by_number him id (λ same. absurd (not (ap (standing_of w) same ∙ sat))) (λ other. t.others id other ∙ sat)
 
   -- one client turns to something else, and neither fed a mount nor does now
-  module _ (later : World) (him : ℕ) (now : Standing) (t : Turns w later him now)
+  module _ (later : World) (him : ℕ) (now : Standing) (t : Turns w later him now) (apart : AreApart later.house.live)
       (sessions : (mount : List ℕ) → session_of later.house.live mount ≡ session_of w.house.live mount)
       (sitting : (id : ℕ) (seat : Seat) → seat_of later.seats id ≡ Some seat → standing_of later id ≡ Sits)
       (seated : (id : ℕ) (seat : Seat) → seat_of later.seats id ≡ Some seat → IsSeatedIn later seat) (last : w.house.last_id ≤ later.house.last_id)
@@ -106,6 +106,7 @@ module _ (w : World) (s : IsSound w) where
       fed = λ mount session e.
           let was = s.fed mount session (sym (sessions mount) ∙ e) in
           by_number him session.number (λ same. absurd (not_before mount (ap (standing_of w) same ∙ was))) (λ other. t.others session.number other ∙ was);
+      apart = apart;
       starts = λ mount session e. s.starts mount session (sym (sessions mount) ∙ e);
       sitting = sitting;
       seated = seated;
@@ -118,14 +119,14 @@ module _ (w : World) (s : IsSound w) where
   pub sound_answered : (id : ℕ) (peer : Peer) → standing_of w id ≡ Undecided peer → IsSound (changed w (Answer id))
   sound_answered id peer e =
       let t = turns_answered w id (λ u. cc) in
-      sound_turned (changed w (Answer id)) id Answered t (λ mount. refl)
+      sound_turned (changed w (Answer id)) id Answered t s.apart (λ mount. refl)
       (sits_still (changed w (Answer id)) id Answered t (λ him. refl) (λ u. cc))
       (λ him seat h. seated_still (changed w (Answer id)) (λ mount. refl) seat (s.seated him seat h))
       (omega arith) (λ high. known_low id (Undecided peer) e (λ u. cc) high) (λ mount f. cc) (λ mount f. cc)
 
   pub sound_forgotten : (id : ℕ) → ((mount : List ℕ) → standing_of w id ≡ Feeds mount → ⊥) → IsSound (changed w (Forget id))
   sound_forgotten id not_feeding =
-      sound_turned (changed w (Forget id)) id Unknown (turns_forgotten w id) (λ mount. refl) sitting seated
+      sound_turned (changed w (Forget id)) id Unknown (turns_forgotten w id) s.apart (λ mount. refl) sitting seated
       (omega arith) (λ high. refl) not_feeding (λ mount f. cc) where
         sitting : (him : ℕ) (seat : Seat) → seat_of (without_listener w.seats id) him ≡ Some seat → standing_of (changed w (Forget id)) him ≡ Sits
         sitting him seat h =
@@ -147,7 +148,7 @@ module _ (w : World) (s : IsSound w) where
       let id = w.house.last_id + 1 in
       let unknown : standing_of w id ≡ Unknown = s.numbered id (omega arith) in
       let t = turns_admitted w id peer in
-      sound_turned (changed w (Admit id peer)) id (Undecided peer) t (λ mount. refl)
+      sound_turned (changed w (Admit id peer)) id (Undecided peer) t s.apart (λ mount. refl)
       (sits_still (changed w (Admit id peer)) id (Undecided peer) t (λ him. refl) (λ u. cc))
       (λ him seat h. seated_still (changed w (Admit id peer)) (λ mount. refl) seat (s.seated him seat h))
       (omega arith) (λ high. absurd (omega arith)) (λ mount f. cc) (λ mount f. cc)
@@ -204,5 +205,5 @@ module _ (w : World) (s : IsSound w) where
 
     pub sound_sits : IsSound after_seat
     sound_sits =
-        sound_turned after_seat asked.id Sits turns_seated (λ mount. refl) all_sit all_seated
+        sound_turned after_seat asked.id Sits turns_seated s.apart (λ mount. refl) all_sit all_seated
         (omega arith) (λ high. known_low asked.id (Undecided peer) e (λ u. cc) high) (λ mount f. cc) (λ mount f. cc)

@@ -22,7 +22,7 @@ use Rattle.radio_core.specs.declared.standing.Standing.TheVariants.{Unknown, Und
 use Rattle.radio_core.specs.Clients.{client_of, in_state, with_state}
 use Rattle.radio_seats.specs.Seats.{listener_of, seat_of, seat_held, seat_in, ended_at, finished_from, advanced, heard_to}
 use Rattle.radio_core.specs.World.{World, standing_of, standing_in, standing_by, standing_seated, standing_of_listener}
-use Rattle.radio_core.specs.Changes.{changed, session_ended}
+use Rattle.radio_core.specs.Changes.{changed, session_ended, now_in_state}
 use Rattle.radio_seats.specs.SeatLaws.{beside_moved, beside_left, beside_seated, has_moved, is_no_listener, has_sat_down, have_finished}
 use Rattle.radio_core.proofs.Lookups.{beside_state, beside_forgotten, does, is_no_client, is_new_client, beside_new}
 
@@ -70,6 +70,10 @@ module _ (w : World) (id : ℕ) where
 
   pub turns_answered : (standing_of w id ≡ Unknown → ⊥) → Turns w (changed w (Answer id)) id IsAnswered
   turns_answered known = (turns_state Answered known (changed w (Answer id)) (listener_of w.seats id) refl refl (λ him other. refl)).1
+
+  pub turns_ended_by : (rule : Rule) → (standing_of w id ≡ Unknown → ⊥) → Turns w (record w { house = now_in_state w.house id (Ended rule) }) id (Finished rule)
+  turns_ended_by rule known =
+      (turns_state (Ended rule) known (record w { house = now_in_state w.house id (Ended rule) }) (listener_of w.seats id) refl refl (λ him other. refl)).1
 
   pub turns_feeding : (mount : List ℕ) (shown : Shown) → (standing_of w id ≡ Unknown → ⊥) → Turns w (changed w (Begin id mount shown)) id (IsFeeding mount)
   turns_feeding mount shown known =

@@ -1,13 +1,14 @@
 -- one step of the core; the end of a session and of a connection need no memory
-use Rattle.std.proofs.Common.{◌≡◌, ℕ, List, [], ◌∷◌, Result, Ok, Err, OnOk, IfOk, refl, ap, sym, subst, ◌∙◌}
+use Rattle.std.specs.Prelude.{if◌then◌else◌, nat_lt}
+use Rattle.std.proofs.Common.{◌≡◌, Bool, true, false, ℕ, List, [], ◌∷◌, Result, Ok, Err, OnOk, IfOk, refl, ap, sym, subst, ◌∙◌}
 use Rattle.radio_core.specs.declared.event.Event.{Event}
-use Rattle.radio_core.specs.declared.event.Event.TheVariants.{Arrive, Source, Push, SourceEnd, Title, Listen, Draw, Leave}
+use Rattle.radio_core.specs.declared.event.Event.TheVariants.{Arrive, Source, Push, SourceEnd, Title, Listen, Draw, Leave, Clock}
 use Rattle.radio_core.specs.declared.outcome.Outcome.{Outcome}
 use Rattle.radio_core.specs.declared.standing.Standing.{Standing}
 use Rattle.radio_core.specs.declared.standing.Standing.TheVariants.{Unknown, Undecided, Feeds, Sits, Answered, Finished}
 use Rattle.radio_core.specs.declared.reply.Reply.{Reply}
 use Rattle.radio_core.specs.declared.reply.Reply.TheVariants.{Noted}
-use Rattle.radio_core.specs.declared.outcome.Change.TheVariants.{End}
+use Rattle.radio_core.specs.declared.outcome.Change.TheVariants.{Nothing, End, Tick}
 use Rattle.radio_core.specs.Leave.{leaves_from}
 use Rattle.radio_core.specs.Outcomes.{says, if_feeding}
 use Rattle.radio_core.specs.Replies.{HoldsNoText}
@@ -35,10 +36,15 @@ leave_by id Sits = (tt, tt)
 leave_by id Answered = (tt, tt)
 leave_by id (Finished rule) = (tt, tt)
 
+clock_by : (ms : ℕ) (b : Bool) → IsSmall (says Noted (if b then Nothing else Tick ms))
+clock_by ms true = (tt, tt)
+clock_by ms false = (tt, tt)
+
 pub small_outcome : (w : World) (event : Event) → TakesNoMemory event → IsSmall (outcome w event)
 unfolding outcome
 small_outcome w (SourceEnd id) small = end_by id (standing_of w id)
 small_outcome w (Leave id) small = leave_by id (standing_of w id)
+small_outcome w (Clock ms) small = clock_by ms (nat_lt ms w.house.time)
 small_outcome w (Arrive peer) small = absurd small
 small_outcome w (Source asked) small = absurd small
 small_outcome w (Push id block) small = absurd small

@@ -26,13 +26,14 @@ use Rattle.radio_core.specs.Source.{shown_for}
 use Rattle.radio_core.specs.Step.{outcome, world_after}
 use Rattle.radio_core.specs.Stream.{data_at, end_of}
 use Rattle.radio_core.specs.Stretches.{between, Sitting, sitting_in, begun_sittings, sittings, AreStretches, StretchesAreWhole}
-use Rattle.radio_core.specs.Ways.{Way, Misplaced, IsFinished, IsDenied, IsRefused, IsAdmitted, Begins, Receives, SetsTitle, TakesSeat, HandsOut, Ends, EndsAndLeaves, Leaves, client_in, IsUndecided}
+use Rattle.radio_core.specs.Ways.{Way, Misplaced, IsFinished, IsDenied, IsRefused, IsAdmitted, Begins, Receives, SetsTitle, TakesSeat, HandsOut, Ends, EndsAndLeaves, Leaves, HasPassed, Ticks, client_in, IsUndecided}
 use Rattle.radio_core.proofs.FinishLemmas.{undecided_before}
 use Rattle.radio_core.proofs.GoneLemmas.{not_of, nothing_of, his_own, with_nothing, last_rises}
 use Rattle.radio_core.proofs.Lookups.{beside_ended, is_over}
 use Rattle.radio_core.proofs.SeatSteps.{SeatStep, Stays, IsHanded, SitsIn, LosesIt, seat_step}
 use Rattle.radio_core.proofs.SoundSessions.{begun_cases, grown_cases}
 use Rattle.radio_core.proofs.SoundTitles.{titled_cases}
+use Rattle.radio_core.proofs.TickLemmas.{ticked_fates}
 use Rattle.radio_core.proofs.SoundRuns.{sound_after, sound_opening}
 use Rattle.radio_core.proofs.Ways.{way_of}
 
@@ -209,6 +210,8 @@ module _ (w : World) (s : IsSound w) (sent : ℕ → List ℕ) (h : Sent w sent)
   brings_nothing event o (IsRefused _ him by v its undecided) id not = nothing_of event id [] refl
   brings_nothing event o (IsAdmitted peer allowed) id not = refl
   brings_nothing event o (SetsTitle him mount text feeding) id not = nothing_of event id [] refl
+  brings_nothing event o (HasPassed ms e) id not = refl
+  brings_nothing event o (Ticks ms e) id not = refl
   brings_nothing event o (Begins asked undecided none) id not = nothing_of event id [] refl
   brings_nothing event o (TakesSeat asked peer session undecided live allowed) id not = nothing_of event id [] refl
   brings_nothing event o (HandsOut him room seat session sits has live) id not = nothing_of event id [] refl
@@ -270,6 +273,8 @@ module _ (w : World) (s : IsSound w) (sent : ℕ → List ℕ) (h : Sent w sent)
   unfolding whole_now
   whole_by event o (Receives him mount block feeding) = grown_whole him mount block feeding
   whole_by event o (SetsTitle him mount text feeding) = titled_whole him mount text feeding
+  whole_by event o (HasPassed ms e) = as_it_was event
+  whole_by event o (Ticks ms e) = λ mount session h. as_it_was event mount session ((ticked_fates w s ms).live mount session h)
   whole_by event o (Begins asked undecided none) = λ mount session e.
       begun_cases w s asked.id asked.mount (shown_for w.house asked.mount asked.shown) undecided.0 undecided.1 none mount session e
       (λ same one. subst (λ (x : Session). x.stream.bytes ≡ sent x.number ++ of_client event x.number []) one
@@ -292,7 +297,7 @@ module _ (w : World) (s : IsSound w) (sent : ℕ → List ℕ) (h : Sent w sent)
     whole = whole_by event (outcome w event) (way_of w event);
     none_yet = none_yet;
     none_above = λ id high.
-        let low = last_rises w event in
+        let low = last_rises w s event in
         let above : w.house.last_id < id = omega (arith, low, high) in
         nothing id (h.none_above id above) (λ mount f. let unknown : standing_of w id ≡ Unknown = s.numbered id above in cc);
   } where

@@ -1,6 +1,6 @@
 -- each event ends in one of the ways
 use Rattle.std.proofs.Common.{◌≡◌, true, false, ℕ, Bool, ◌==◌, not, ◌&&◌, Option, Some, None, is_some, List, [], ◌∷◌, refl, ap, sym, ◌∙◌}
-use Rattle.std.specs.Prelude.{if◌then◌else◌}
+use Rattle.std.specs.Prelude.{if◌then◌else◌, nat_lt}
 use Rattle.radio_policy.specs.declared.rule.Rule.{Rule}
 use Rattle.radio_policy.specs.declared.rule.Rule.TheVariants.{AddressDenied, AddressNotAllowed, TooManyClients, BadMount, SourcePassword, TooManySources, MountInUse}
 use Rattle.radio_policy.specs.declared.rule.Rule.TheVariants.{ContentType, NumbersSpent}
@@ -16,12 +16,12 @@ use Rattle.radio_access.specs.Lists.{passes}
 use Rattle.radio_core.specs.declared.event.SourceRequest.{SourceRequest}
 use Rattle.radio_core.specs.declared.event.ListenRequest.{ListenRequest}
 use Rattle.radio_core.specs.declared.event.Event.{Event}
-use Rattle.radio_core.specs.declared.event.Event.TheVariants.{Arrive, Source, Push, SourceEnd, Title, Listen, Draw, Leave}
+use Rattle.radio_core.specs.declared.event.Event.TheVariants.{Arrive, Source, Push, SourceEnd, Title, Listen, Draw, Leave, Clock}
 use Rattle.radio_core.specs.declared.house.House.{House}
 use Rattle.radio_core.specs.declared.outcome.Change.{Change}
-use Rattle.radio_core.specs.declared.outcome.Change.TheVariants.{Nothing, Answer}
+use Rattle.radio_core.specs.declared.outcome.Change.TheVariants.{Nothing, Answer, Tick}
 use Rattle.radio_core.specs.declared.outcome.Outcome.{Outcome}
-use Rattle.radio_core.specs.declared.reply.Reply.TheVariants.{Deny}
+use Rattle.radio_core.specs.declared.reply.Reply.TheVariants.{Deny, Noted}
 use Rattle.radio_seats.specs.declared.seat.Seat.{Seat}
 use Rattle.radio_seats.specs.declared.walk.Found.{Found}
 use Rattle.radio_seats.specs.Walk.{found_at, stop_of}
@@ -38,10 +38,11 @@ use Rattle.radio_core.specs.Title.{sets_title}
 use Rattle.radio_core.specs.Listen.{asks_to_hear, takes_seat}
 use Rattle.radio_core.specs.Draw.{draws, hands_out, hands_out_at}
 use Rattle.radio_core.specs.Leave.{leaves, leaves_from}
+use Rattle.radio_core.specs.Clock.{hears_clock}
 use Rattle.radio_seats.specs.Seats.{seat_of}
 use Rattle.radio_core.specs.Sessions.{Session, session_of}
 use Rattle.radio_core.specs.Step.{outcome}
-use Rattle.radio_core.specs.Ways.{Way, Misplaced, IsFinished, IsDenied, IsRefused, IsAdmitted, Begins, Receives, SetsTitle, TakesSeat, HandsOut, Ends, EndsAndLeaves, Leaves, client_in, rows_for, IsUndecided}
+use Rattle.radio_core.specs.Ways.{Way, Misplaced, IsFinished, IsDenied, IsRefused, IsAdmitted, Begins, Receives, SetsTitle, TakesSeat, HandsOut, Ends, EndsAndLeaves, Leaves, HasPassed, Ticks, client_in, rows_for, IsUndecided}
 
 module _ (w : World) (event : Event) where
   by_verdict : (denied : Change) (allowed : Outcome) (v : Verdict) → ((rule : Rule) → v ≡ Denied rule → Way w event (says (Deny rule) denied))
@@ -198,6 +199,10 @@ by_leaving w id Sits e = Leaves id (λ mount f. cc)
 by_leaving w id Answered e = Leaves id (λ mount f. cc)
 by_leaving w id (Finished rule) e = Leaves id (λ mount f. cc)
 
+by_clock : (w : World) (ms : ℕ) (b : Bool) → nat_lt ms w.house.time ≡ b → Way w (Clock ms) (says Noted (if b then Nothing else Tick ms))
+by_clock w ms true e = HasPassed ms e
+by_clock w ms false e = Ticks ms e
+
 pub way_of : (w : World) (event : Event) → Way w event (outcome w event)
 unfolding outcome
 way_of w (Arrive peer) =
@@ -228,3 +233,4 @@ way_of w (Listen asked) =
     (standing_of w asked.id) refl
 way_of w (Draw id room) = by_sitting w (Draw id room) id refl _ (λ e. hands_at w id room e (seat_of w.seats id) refl) (standing_of w id) refl
 way_of w (Leave id) = by_leaving w id (standing_of w id) refl
+way_of w (Clock ms) = by_clock w ms (nat_lt ms w.house.time) refl

@@ -1,17 +1,19 @@
 -- What each change makes of the state.
-use Rattle.std.specs.Prelude.{ℕ, List}
-use Rattle.radio_policy.specs.declared.rule.Rule.TheVariants.{NotLive}
+use Rattle.std.specs.Prelude.{ℕ, zero, suc, List, length, map, find, Option, Some, None}
+use Rattle.radio_policy.specs.declared.rule.Rule.TheVariants.{NotLive, Lagged, TimeOver, SourceSilent}
 use Rattle.radio_addr.specs.declared.peer.Peer.{Peer}
 use Rattle.radio_settings.specs.declared.field.Shown.{Shown}
 use Rattle.radio_core.specs.declared.clients.ClientState.{ClientState}
-use Rattle.radio_core.specs.declared.clients.ClientState.TheVariants.{Feeds, Listens, Answered}
+use Rattle.radio_core.specs.declared.clients.ClientState.TheVariants.{Feeds, Listens, Answered, Ended}
 use Rattle.radio_core.specs.declared.house.House.{House}
 use Rattle.radio_seats.specs.declared.seat.Seat.{Seat}
 use Rattle.radio_core.specs.declared.outcome.Change.{Change}
-use Rattle.radio_core.specs.declared.outcome.Change.TheVariants.{Nothing, Answer, Admit, Begin, Receive, SetTitle, TakeSeat, Advance, End, EndAndLeave, Forget}
+use Rattle.radio_core.specs.declared.outcome.Change.TheVariants.{Nothing, Answer, Admit, Begin, Receive, SetTitle, TakeSeat, Advance, End, EndAndLeave, Forget, Tick}
 use Rattle.radio_core.specs.Clients.{newcomer, with_client, in_state, without_client}
-use Rattle.radio_core.specs.Sessions.{opened, with_session, fed, titled, without_session}
-use Rattle.radio_seats.specs.Seats.{with_seat, with_place, finished_at, without_listener}
+use Rattle.radio_core.specs.Sessions.{Session, opened, with_session, fed, titled, without_session}
+use Rattle.radio_seats.specs.Seats.{with_seat, with_place, finished_at, with_ended, without_listener}
+use Rattle.radio_core.specs.Facts.{live_end}
+use Rattle.radio_core.specs.Timeouts.{lags_behind, timed_out, has_sat_out, is_silent}
 use Rattle.radio_core.specs.World.{World}
 
 -- the client of this number does something else from now on
@@ -46,15 +48,57 @@ session_ended w mount = record { house = record w.house { live = without_session
 abbrev pub forgotten : World → ℕ → World
 forgotten w id = record { house = record w.house { clients = without_client w.house.clients id }; seats = without_listener w.seats id }
 
+-- the listeners of the mount who are further behind than a queue is long have lost their seats
+abbrev pub laggards_ended : World → List ℕ → World
+laggards_ended w mount =
+    record w { seats = with_ended w.seats (lags_behind mount (live_end w.house mount) w.house.settings.limits.queue_size) Lagged }
+
+-- the block has come, and the listeners who are too far behind then have lost their seats
+abbrev pub taken_in : World → List ℕ → List ℕ → World
+taken_in w mount block = laggards_ended (record w { house = received w.house mount block }) mount
+
+-- it is this moment, and the clients who have asked for nothing in their time are finished
+abbrev pub timed_out_by : House → ℕ → House
+timed_out_by house ms = record house { time = ms; clients = map (timed_out house.settings.limits.header_timeout ms) house.clients }
+
+-- the listeners who have had their time have lost their seats
+abbrev pub durations_over : World → World
+durations_over w = record w { seats = with_ended w.seats (has_sat_out w.house.settings w.house.time) TimeOver }
+
+-- the first session whose source has sent nothing in its time
+abbrev pub first_silent : World → Option Session
+first_silent w = find (is_silent w.house.settings.limits.source_timeout w.house.time) w.house.live
+
+-- it ends, and its source is finished
+abbrev pub session_silenced : World → Session → World
+session_silenced w session = let after = session_ended w session.mount in record after { house = now_in_state after.house session.number (Ended SourceSilent) }
+
+-- it ends, if there is one, and then what follows happens
+abbrev pub on_silent : (World → World) → World → Option Session → World
+on_silent next w None = w
+on_silent next w (Some session) = next (session_silenced w session)
+
+-- such sessions end one after another, in the order of their mounts, and at most so many
+abbrev pub silence : ℕ → World → World
+silence zero w = w
+silence (suc n) w = on_silent (silence n) w (first_silent w)
+
+-- it is this moment, and what has had its time ends
+abbrev pub ticked : World → ℕ → World
+ticked w ms =
+    let later = durations_over (record w { house = timed_out_by w.house ms }) in
+    silence (length later.house.live) later
+
 abbrev pub changed : World → Change → World
 changed w Nothing = w
 changed w (Answer id) = record w { house = now_in_state w.house id Answered }
 changed w (Admit id peer) = record w { house = admitted w.house id peer }
 changed w (Begin id mount shown) = record w { house = begun w.house id mount shown }
-changed w (Receive mount block) = record w { house = received w.house mount block }
+changed w (Receive mount block) = taken_in w mount block
 changed w (SetTitle mount title) = record w { house = retitled w.house mount title }
 changed w (TakeSeat id seat) = record { house = now_in_state w.house id Listens; seats = with_seat w.seats id seat }
 changed w (Advance id place) = record w { seats = with_place w.seats id place }
 changed w (End id mount) = let after = session_ended w mount in record after { house = now_in_state after.house id Answered }
 changed w (EndAndLeave id mount) = forgotten (session_ended w mount) id
 changed w (Forget id) = forgotten w id
+changed w (Tick ms) = ticked w ms

@@ -1,30 +1,50 @@
-use Rattle.std.specs.Prelude.{◌≡◌, ℕ, false, Some, None, List, ◌∷◌, ◌++◌}
+use Rattle.std.specs.Prelude.{◌≡◌, ℕ, true, Some, None, List, ◌∷◌, ◌++◌}
 use Rattle.radio_policy.specs.declared.rule.Rule.{Rule}
+use Rattle.radio_policy.specs.declared.rule.Rule.TheVariants.{Lagged, TimeOver, HeaderTimeout, SourceSilent}
 use Rattle.radio_settings.specs.declared.settings.Settings.{Settings}
 use Rattle.radio_access.specs.Lists.{Lists}
+use Rattle.radio_core.specs.declared.clients.Client.{Client}
 use Rattle.radio_core.specs.declared.event.Event.{Event}
+use Rattle.radio_core.specs.declared.event.Event.TheVariants.{Push, Clock}
 use Rattle.radio_core.specs.declared.reply.Reply.TheVariants.{Finished}
+use Rattle.radio_core.specs.declared.standing.Standing.TheVariants.{Feeds, Finished as HasFinished}
 use Rattle.radio_seats.specs.declared.seat.Seat.{Seat}
-use Rattle.radio_core.specs.Facts.{is_live, walk_stops}
+use Rattle.radio_core.specs.Clients.{client_of}
+use Rattle.radio_core.specs.Facts.{live_end, walk_stops}
+use Rattle.radio_core.specs.Timeouts.{lags_behind, has_sat_out, asks_too_late, is_silent}
 use Rattle.radio_core.specs.Run.{run_after}
 use Rattle.radio_seats.specs.Seats.{seat_of}
 use Rattle.radio_core.specs.Sessions.{Session, session_of}
 use Rattle.radio_core.specs.Step.{reply_to, world_after}
 use Rattle.radio_core.specs.Ways.{client_in}
-use Rattle.radio_core.specs.World.{World}
+use Rattle.radio_core.specs.World.{World, standing_of}
 
--- the event finishes the listener by the rule: he had a seat at a mount whose session it ends, his seat is gone, and the rule is the one that stops a walk
--- from that mount then
+-- what there is about the event by which it finishes the client by the rule, where the state was w and is `later`
+pub data Cause (w later : World) (event : Event) (id : ℕ) : Rule → Type 0 where
+  -- the session of the mount ends where he has a seat, and the rule is the one that stops a walk from that mount then
+  SessionIsOver : (rule : Rule) (seat : Seat) (session : Session) → seat_of w.seats id ≡ Some seat → session_of w.house.live seat.mount ≡ Some session
+      → session_of later.house.live seat.mount ≡ None → walk_stops later.house later.seats seat.mount seat.pair ≡ Some rule → Cause w later event id rule
+  -- the source of his mount delivers a block, and he is further behind its end than a queue is long
+  IsFarBehind : (him : ℕ) (block : List ℕ) (seat : Seat) → event ≡ Push him block → standing_of w him ≡ Feeds seat.mount → seat_of w.seats id ≡ Some seat
+      → lags_behind seat.mount (live_end later.house seat.mount) w.house.settings.limits.queue_size seat ≡ true → Cause w later event id Lagged
+  -- it is a moment at which he has sat as long as the mount allows that he asked for
+  HasSatOut : (ms : ℕ) (seat : Seat) → event ≡ Clock ms → seat_of w.seats id ≡ Some seat → has_sat_out w.house.settings ms seat ≡ true
+      → Cause w later event id TimeOver
+  -- it is a moment at which he has asked for nothing in the time that he has for it
+  HasAskedNothing : (ms : ℕ) (client : Client) → event ≡ Clock ms → client_of w.house.clients id ≡ Some client
+      → asks_too_late w.house.settings.limits.header_timeout ms client ≡ true → Cause w later event id HeaderTimeout
+  -- it is a moment at which he, a source, has sent nothing in the time that he has for it
+  HasSentNothing : (ms : ℕ) (session : Session) → event ≡ Clock ms → standing_of w id ≡ Feeds session.mount
+      → session_of w.house.live session.mount ≡ Some session → is_silent w.house.settings.limits.source_timeout ms session ≡ true
+      → Cause w later event id SourceSilent
+
+-- the event finishes the client by the rule: there is a cause, and he stands so, without a seat
 pub record Finishes (w : World) (event : Event) (id : ℕ) (rule : Rule) : Type 0 where
-  pub seat : Seat
-  pub had_a_seat : seat_of w.seats id ≡ Some seat
-  pub session : Session
-  pub was_live : session_of w.house.live seat.mount ≡ Some session
-  pub is_over : is_live (world_after w event).house seat.mount ≡ false
-  pub stopped_by : walk_stops (world_after w event).house (world_after w event).seats seat.mount seat.pair ≡ Some rule
+  pub cause : Cause w (world_after w event) event id rule
+  pub has_finished : standing_of (world_after w event) id ≡ HasFinished rule
   pub has_none : seat_of (world_after w event).seats id ≡ None
 
--- one of the events of a run finished the listener by the rule
+-- one of the events of a run finished the client by the rule
 pub record WasFinished (settings : Settings) (lists : Lists) (events : List Event) (id : ℕ) (rule : Rule) : Type 0 where
   pub before : List Event
   pub event : Event

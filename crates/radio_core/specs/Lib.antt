@@ -3,6 +3,7 @@ pub mod Sessions
 pub mod Clients
 pub mod World
 pub mod Facts
+pub mod Timeouts
 pub mod Outcomes
 pub mod Arrive
 pub mod Source
@@ -12,6 +13,7 @@ pub mod Title
 pub mod Listen
 pub mod Draw
 pub mod Leave
+pub mod Clock
 pub mod Changes
 pub mod Replies
 pub mod Step
@@ -30,3 +32,4 @@ pub mod TitlesTold
 pub mod Gone
 pub mod Service
 pub mod Others
+pub mod Outstaying

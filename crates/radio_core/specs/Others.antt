@@ -1,14 +1,16 @@
 -- What an event does to its own client, and to others.
-use Rattle.std.specs.Prelude.{◌≡◌, ◌⊎◌, ℕ, ◌<◌, List, Option, Some}
+use Rattle.std.specs.Prelude.{◌≡◌, ◌⊎◌, ℕ, ◌<◌, List, Option, Some, None}
 use Rattle.radio_policy.specs.declared.rule.Rule.{Rule}
 use Rattle.radio_settings.specs.declared.field.Shown.{Shown}
 use Rattle.radio_core.specs.declared.event.Event.{Event}
-use Rattle.radio_core.specs.declared.event.Event.TheVariants.{Arrive, Source, Listen, Draw}
+use Rattle.radio_core.specs.declared.event.Event.TheVariants.{Arrive, Source, Listen, Leave}
 use Rattle.radio_core.specs.declared.event.SourceRequest.{SourceRequest}
 use Rattle.radio_core.specs.declared.event.ListenRequest.{ListenRequest}
 use Rattle.radio_addr.specs.declared.peer.Peer.{Peer}
 use Rattle.radio_core.specs.declared.reply.Reply.TheVariants.{Arrived, Feeding, Seated, Drawn, Finished}
 use Rattle.radio_core.specs.declared.standing.Standing.TheVariants.{Unknown, Undecided, Feeds, Sits, Finished as HasFinished}
+use Rattle.radio_seats.specs.declared.seat.Seat.{Seat}
+use Rattle.radio_seats.specs.Seats.{seat_of}
 use Rattle.radio_core.specs.Finishes.{Finishes}
 use Rattle.radio_core.specs.Step.{reply_to, world_after}
 use Rattle.radio_core.specs.Ways.{client_in, IsUndecided}
@@ -17,7 +19,7 @@ use Rattle.radio_core.specs.World.{World, standing_of}
 -- another client's event leaves him as he stands, unless it finishes him, or he has only arrived by it
 abbrev pub StandsOn : World → Event → ℕ → Type 0
 StandsOn w event id = (standing_of (world_after w event) id ≡ standing_of w id) ⊎
-    ((rule : Rule) × (standing_of w id ≡ Sits) × (standing_of (world_after w event) id ≡ HasFinished rule) × Finishes w event id rule) ⊎
+    ((rule : Rule) × Finishes w event id rule) ⊎
     (reply_to w event ≡ Arrived id)
 
 abbrev pub OthersStandOn : World → Event → Type 0
@@ -32,3 +34,8 @@ pub record RepliesFit (w : World) (event : Event) : Type 0 where
   pub seated : (interval : Option ℕ) (shown : Shown) → reply_to w event ≡ Seated interval shown
       → (asked : ListenRequest) × (event ≡ Listen asked) × IsUndecided w asked.id × (standing_of (world_after w event) asked.id ≡ Sits)
   pub finished : (rule : Rule) → reply_to w event ≡ Finished rule → (id : ℕ) × (client_in event ≡ Some id) × (standing_of w id ≡ HasFinished rule)
+
+-- whoever has lost his seat by an event has left by it, or is finished by it
+abbrev pub LosesNoSeatElse : World → Event → Type 0
+LosesNoSeatElse w event = (id : ℕ) (seat : Seat) → seat_of w.seats id ≡ Some seat → seat_of (world_after w event).seats id ≡ None
+    → (event ≡ Leave id) ⊎ ((rule : Rule) × Finishes w event id rule)

@@ -1,5 +1,6 @@
 -- What holds of every state of a run.
-use Rattle.std.specs.Prelude.{◌≡◌, ℕ, ◌<◌, ◌≤◌, List, [], ◌∷◌, Some}
+use Rattle.std.specs.Prelude.{◌≡◌, ℕ, ◌<◌, ◌≤◌, false, List, [], ◌∷◌, Some}
+use Rattle.std.specs.Str.{bytes_eq}
 use Rattle.radio_tables.specs.Lists.{Each}
 use Rattle.radio_seats.specs.declared.seat.Seat.{Seat}
 use Rattle.radio_core.specs.declared.standing.Standing.TheVariants.{Unknown, Feeds, Sits}
@@ -20,6 +21,11 @@ pub record IsSeatedIn (w : World) (seat : Seat) : Type 0 where
   pub his_session : session.number ≡ seat.session
   pub within : seat.place ≤ end_of session.stream
 
+-- no two of the sessions are of one mount
+abbrev pub AreApart : List Session → Type 0
+AreApart [] = Unit {0}
+AreApart (session ∷ live) = Each (λ (other : Session). bytes_eq session.mount other.mount ≡ false) live × AreApart live
+
 pub record IsSound (w : World) : Type 0 where
   -- nobody has a number that was not given yet
   pub numbered : (id : ℕ) → w.house.last_id < id → standing_of w id ≡ Unknown
@@ -27,6 +33,8 @@ pub record IsSound (w : World) : Type 0 where
   pub feeds : (id : ℕ) (mount : List ℕ) → standing_of w id ≡ Feeds mount
       → (session : Session) × (session_of w.house.live mount ≡ Some session) × (session.number ≡ id)
   pub fed : (mount : List ℕ) (session : Session) → session_of w.house.live mount ≡ Some session → standing_of w session.number ≡ Feeds mount
+  -- no two sessions are of one mount
+  pub apart : AreApart w.house.live
   -- blocks start one after another
   pub starts : (mount : List ℕ) (session : Session) → session_of w.house.live mount ≡ Some session → AreRising session.stream.starts (end_of session.stream)
   -- whoever has a seat sits, in the session that his mount has

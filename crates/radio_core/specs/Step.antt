@@ -1,10 +1,10 @@
 -- One event of the server.
 use Rattle.std.specs.Prelude.{◌≡◌}
 use Rattle.radio_core.specs.declared.event.Event.{Event}
-use Rattle.radio_core.specs.declared.event.Event.TheVariants.{Arrive, Source, Push, SourceEnd, Title, Listen, Draw, Leave}
+use Rattle.radio_core.specs.declared.event.Event.TheVariants.{Arrive, Source, Push, SourceEnd, Title, Listen, Draw, Leave, Clock}
 use Rattle.radio_core.specs.declared.reply.Reply.{Reply}
 use Rattle.radio_core.specs.declared.outcome.Change.{Change}
-use Rattle.radio_core.specs.declared.outcome.Change.TheVariants.{Nothing, Answer, SetTitle, Advance, End, EndAndLeave, Forget}
+use Rattle.radio_core.specs.declared.outcome.Change.TheVariants.{Nothing, Answer, SetTitle, Advance, End, EndAndLeave, Forget, Tick}
 use Rattle.radio_core.specs.declared.outcome.Outcome.{Outcome}
 use Rattle.radio_core.specs.World.{World}
 use Rattle.radio_core.specs.Arrive.{arrives}
@@ -15,6 +15,7 @@ use Rattle.radio_core.specs.Title.{sets_title}
 use Rattle.radio_core.specs.Listen.{asks_to_hear}
 use Rattle.radio_core.specs.Draw.{draws}
 use Rattle.radio_core.specs.Leave.{leaves}
+use Rattle.radio_core.specs.Clock.{hears_clock}
 use Rattle.radio_core.specs.Changes.{changed}
 
 -- what comes of each event
@@ -27,6 +28,7 @@ outcome w (Title id text) = sets_title w id text
 outcome w (Listen asked) = asks_to_hear w asked
 outcome w (Draw id room) = draws w id room
 outcome w (Leave id) = leaves w id
+outcome w (Clock ms) = hears_clock w ms
 
 -- the reply to an event in this state, and the state after it
 unfoldable pub reply_to : World → Event → Reply
@@ -52,10 +54,12 @@ NeedsNoMemory (Advance id place) = Unit {0}
 NeedsNoMemory (End id mount) = Unit {0}
 NeedsNoMemory (EndAndLeave id mount) = Unit {0}
 NeedsNoMemory (Forget id) = Unit {0}
+NeedsNoMemory (Tick ms) = Unit {0}
 NeedsNoMemory _ = ⊥
 
--- and so the end of a session and of a connection
+-- and so the end of a session and of a connection, and the clock
 abbrev pub TakesNoMemory : Event → Type 0
 TakesNoMemory (SourceEnd id) = Unit {0}
 TakesNoMemory (Leave id) = Unit {0}
+TakesNoMemory (Clock ms) = Unit {0}
 TakesNoMemory _ = ⊥

@@ -1,5 +1,5 @@
 -- The ways in which an event can end.
-use Rattle.std.specs.Prelude.{◌≡◌, ℕ, ◌+◌, length, List, [], Option, Some, None}
+use Rattle.std.specs.Prelude.{◌≡◌, ℕ, ◌+◌, nat_lt, true, false, length, List, [], Option, Some, None}
 use Rattle.radio_policy.specs.declared.rule.Rule.{Rule}
 use Rattle.radio_policy.specs.declared.judgement.Verdict.TheVariants.{Allow, Deny as Denied}
 use Rattle.radio_policy.specs.Table.{Row}
@@ -8,9 +8,9 @@ use Rattle.radio_addr.specs.declared.peer.Peer.{Peer}
 use Rattle.radio_core.specs.declared.event.SourceRequest.{SourceRequest}
 use Rattle.radio_core.specs.declared.event.ListenRequest.{ListenRequest}
 use Rattle.radio_core.specs.declared.event.Event.{Event}
-use Rattle.radio_core.specs.declared.event.Event.TheVariants.{Arrive, Source, Push, SourceEnd, Title, Listen, Draw, Leave}
+use Rattle.radio_core.specs.declared.event.Event.TheVariants.{Arrive, Source, Push, SourceEnd, Title, Listen, Draw, Leave, Clock}
 use Rattle.radio_core.specs.declared.house.House.{House}
-use Rattle.radio_core.specs.declared.outcome.Change.TheVariants.{Nothing, Answer, Admit, Receive, SetTitle, TakeSeat, Advance, End, EndAndLeave, Forget}
+use Rattle.radio_core.specs.declared.outcome.Change.TheVariants.{Nothing, Answer, Admit, Receive, SetTitle, TakeSeat, Advance, End, EndAndLeave, Forget, Tick}
 use Rattle.radio_core.specs.declared.outcome.Outcome.{Outcome}
 use Rattle.radio_core.specs.declared.reply.Reply.TheVariants.{Arrived, Seated, Drawn, Noted, Deny, Finished, Stray}
 use Rattle.radio_seats.specs.declared.seat.Seat.{Seat}
@@ -25,7 +25,7 @@ use Rattle.radio_core.specs.Source.{begins}
 use Rattle.radio_core.specs.Stream.{data_at}
 use Rattle.radio_core.specs.World.{World, standing_of}
 
--- the client of an event, but for one that arrives
+-- the client of an event; an arrival and the clock have none
 abbrev pub client_in : Event → Option ℕ
 client_in (Arrive peer) = None
 client_in (Source asked) = Some asked.id
@@ -35,6 +35,7 @@ client_in (Title id text) = Some id
 client_in (Listen asked) = Some asked.id
 client_in (Draw id room) = Some id
 client_in (Leave id) = Some id
+client_in (Clock ms) = None
 
 -- the client has asked for nothing yet
 abbrev pub IsUndecided : World → ℕ → Type 0
@@ -79,3 +80,5 @@ pub data Way (w : World) : Event → Outcome → Type 0 where
   Ends : (id : ℕ) (mount : List ℕ) → standing_of w id ≡ Feeds mount → Way w (SourceEnd id) (says Noted (End id mount))
   EndsAndLeaves : (id : ℕ) (mount : List ℕ) → standing_of w id ≡ Feeds mount → Way w (Leave id) (says Noted (EndAndLeave id mount))
   Leaves : (id : ℕ) → ((mount : List ℕ) → standing_of w id ≡ Feeds mount → ⊥) → Way w (Leave id) (says Noted (Forget id))
+  HasPassed : (ms : ℕ) → nat_lt ms w.house.time ≡ true → Way w (Clock ms) (says Noted Nothing)
+  Ticks : (ms : ℕ) → nat_lt ms w.house.time ≡ false → Way w (Clock ms) (says Noted (Tick ms))

@@ -10,7 +10,7 @@ impl Event {
     /// An equal event. `OutOfMemory` where memory was refused.
     pub fn again(&self) -> Result<Event, OutOfMemory>
         ensures value { IfOk result (λ event. event ≡ self.now) }
-        // of the end of a session and of a connection it is never refused
+        // of the end of a session and of a connection, and of the clock, it is never refused
         ensures frees { TakesNoMemory self.now → IsOk result }
     {
         match self {
@@ -31,6 +31,7 @@ impl Event {
                 room: *room,
             }),
             Event::Leave { id } => Ok(Event::Leave { id: *id }),
+            Event::Clock { ms } => Ok(Event::Clock { ms: *ms }),
         }
     }
 }

@@ -52,4 +52,6 @@ pub enum Event {
     Draw { id: u64, room: u32 },
     /// The client's connection is closed.
     Leave { id: u64 },
+    /// It is this moment, in milliseconds; one that has passed does not count.
+    Clock { ms: u64 },
 }

@@ -1,16 +1,18 @@
 //! All of the server's state but the table of listeners.
 
-ghost use Rattle.std.specs.Prelude.{◌≡◌, unwrap_or, IfOk, OnOk, OnErr};
+ghost use Rattle.std.specs.Prelude.{◌≡◌, find, unwrap_or, IfOk, OnOk, OnErr};
 ghost use Rattle.std.specs.Option.{option_copied};
 ghost use Rattle.radio_core.specs.Sessions.{session_of};
 ghost use Rattle.radio_core.specs.Facts.{session_at, live_end};
 ghost use Rattle.radio_core.specs.Source.{shown_for};
-ghost use Rattle.radio_core.specs.Changes.{now_in_state, admitted, begun, received, retitled};
+ghost use Rattle.radio_core.specs.Changes.{now_in_state, admitted, begun, received, retitled, timed_out_by};
+ghost use Rattle.radio_core.specs.Timeouts.{is_silent};
 
 use crate::OutOfMemory;
 use crate::clients::{Client, ClientState, SetState};
 use crate::sessions::{Delivers, NewTitle, Session};
 use crate::stream::Stream;
+use crate::timeouts::{TimesOut, lies_back};
 use radio_access::Lists;
 use radio_addr::Peer;
 use radio_blocks::Block;
@@ -139,6 +141,24 @@ impl House {
     {
         let mut new = NewTitle { title: Some(title) };
         self.live.swap(*mount, &mut new);
+    }
+
+    /// It is this moment, and the clients who have asked for nothing in their time are finished. It
+    /// takes no memory.
+    pub(crate) fn time_out(&mut self, ms: u64)
+        ensures { self.new ≡ timed_out_by self.old ms }
+    {
+        self.time = ms;
+        let seconds = self.settings.limits.header_timeout.get();
+        self.clients.change_all(&TimesOut { seconds, now: ms });
+    }
+
+    /// The first session whose source has sent nothing in its time.
+    pub(crate) fn first_silent(&self) -> Option<&Session>
+        ensures { option_copied result ≡ find (is_silent self.now.settings.limits.source_timeout self.now.time) self.now.live }
+    {
+        let seconds = self.settings.limits.source_timeout.get();
+        self.live.iter().find(|session| lies_back(seconds, session.last_block, self.time))
     }
 }
 

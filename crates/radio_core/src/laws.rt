@@ -16,7 +16,8 @@ ghost use Rattle.radio_core.specs.Admission.{BeginsAtABlock};
 ghost use Rattle.radio_core.specs.Service.{Serves};
 ghost use Rattle.radio_core.specs.Stretches.{StretchesAreWhole, SeatsKeepTheirMounts};
 ghost use Rattle.radio_core.specs.TitlesTold.{TitlesAreTold};
-ghost use Rattle.radio_core.specs.Others.{OthersStandOn, RepliesFit};
+ghost use Rattle.radio_core.specs.Others.{OthersStandOn, RepliesFit, LosesNoSeatElse};
+ghost use Rattle.radio_core.specs.Outstaying.{NobodyOutstays};
 ghost use Rattle.radio_core.specs.Gone.{HasLeft, IsOutOfPlace, StaysGone};
 
 use radio_policy::denials_name_the_first_rule;
@@ -31,7 +32,7 @@ pub fn denials_are_the_policys()
 
 /// The law of denials, for those who are told that they were finished.
 pub fn finished_are_told()
-    // whoever is told that he was finished by a rule was finished by that rule: an earlier event ended the session of the mount where he had a seat, and the rule is the one that stops a walk from there
+    // whoever is told that he was finished by a rule was finished by that rule at an earlier event, at which its condition held: the end of his mount's session, a block that left him too far behind, or a moment at which his time was over
     ensures finished { (settings : Settings) (lists : Lists) (events : List Event) (event : Event) → FinishedAreTold settings lists events event }
 {}
 
@@ -83,6 +84,14 @@ pub fn events_are_of_their_clients()
     ensures own { (settings : Settings) (lists : Lists) (events : List Event) (event : Event) → RepliesFit (run_after settings lists events) event }
     // and everybody else stands as before, but who is finished by the event
     ensures others { (settings : Settings) (lists : Lists) (events : List Event) (event : Event) → OthersStandOn (run_after settings lists events) event }
+    // and whoever has lost his seat has left by the event, or it finishes him by a rule whose condition holds then
+    ensures seats { (settings : Settings) (lists : Lists) (events : List Event) (event : Event) → LosesNoSeatElse (run_after settings lists events) event }
+{}
+
+/// The law of time.
+pub fn nobody_outstays()
+    // whatever has happened, a moment that has passed changes nothing; and when any other was heard, no listener is there who has sat as long as his mount allows, no client who has asked for nothing in the time for it, and no source that has sent nothing in the time for it
+    ensures in_time { (settings : Settings) (lists : Lists) (events : List Event) (ms : ℕ) → NobodyOutstays (run_after settings lists events) ms }
 {}
 
 /// The law of those who have left.

@@ -28,7 +28,7 @@ pub(crate) enum Change {
         mount: MountName,
         shown: Shown,
     },
-    /// The mount's session has delivered a block.
+    /// The mount's session has delivered a block; listeners too far behind lose their seats.
     Receive {
         mount: MountName,
         block: Block,
@@ -61,6 +61,10 @@ pub(crate) enum Change {
     /// Nothing is left of the client.
     Forget {
         id: u64,
+    },
+    /// It is this moment, and what has had its time ends.
+    Tick {
+        ms: u64,
     },
 }
 

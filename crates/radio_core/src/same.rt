@@ -30,6 +30,7 @@ impl Event {
                 *a == *b && *x == *y
             }
             (Event::Leave { id: a }, Event::Leave { id: b }) => *a == *b,
+            (Event::Clock { ms: a }, Event::Clock { ms: b }) => *a == *b,
             _ => false,
         }
     }

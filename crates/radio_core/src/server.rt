@@ -22,6 +22,7 @@ use std::alloc::Global;
 use std::marker::Model;
 
 mod arrive;
+mod clock;
 mod commit;
 mod draw;
 mod leave;
@@ -29,6 +30,7 @@ mod listen;
 mod push;
 mod source;
 mod source_end;
+mod tick;
 mod title;
 
 /// The server's state, seen as a `World`.
@@ -77,7 +79,7 @@ impl Core {
     pub fn step(&mut self, event: Event) -> Result<Reply, OutOfMemory>
         // whatever state the core stands for, the reply is that of a step from it, and the core stands for the state after it
         ensures step { (w : World) → Represents self.old w → IfOk result (λ reply. (w' : World) × Step w event reply w' × Represents self.new w') }
-        // the end of a session and of a connection are never refused
+        // the end of a session and of a connection, and the clock, are never refused
         ensures frees { TakesNoMemory event → IsOk result }
         ensures err { OnErr result (self.new ≡ self.old) }
     {
@@ -90,7 +92,7 @@ impl Core {
     pub fn step3(&mut self, event: Event) -> Result<[Reply; 3], OutOfMemory>
         // whatever state the core stands for, the replies are that of a step from it, and the core stands for the state after it
         ensures step { (w : World) → Represents self.old w → IfOk result (λ replies. (reply : ReplyOf) × (w' : World) × Step w event reply w' × (replies ≡ reply ∷ reply ∷ reply ∷ []) × Represents self.new w') }
-        // the end of a session and of a connection are never refused
+        // the end of a session and of a connection, and the clock, are never refused
         ensures frees { TakesNoMemory event → IsOk result }
         ensures err { OnErr result (self.new ≡ self.old) }
     {
@@ -119,6 +121,7 @@ impl Core {
             Event::Listen(asked) => self.listen(asked),
             Event::Draw { id, room } => self.draw(id, room),
             Event::Leave { id } => Ok(self.leave(id)),
+            Event::Clock { ms } => Ok(self.clock(ms)),
         }
     }
 

@@ -2,6 +2,7 @@ use Rattle.std.specs.Prelude.{ℕ, List, codes, Option, Some, None}
 use Rattle.radio_policy.specs.declared.rule.Rule.{Rule}
 use Rattle.radio_policy.specs.declared.rule.Rule.TheVariants.{AddressDenied, AddressNotAllowed, TooManyClients, BadMount, SourcePassword, TooManySources, MountInUse}
 use Rattle.radio_policy.specs.declared.rule.Rule.TheVariants.{ContentType, NoMount, ListenerPassword, UserTwice, NotLive, MountFull, NumbersSpent, BadHead, BadMethod}
+use Rattle.radio_policy.specs.declared.rule.Rule.TheVariants.{Lagged, TimeOver, HeaderTimeout, SourceSilent}
 use Rattle.radio_policy.specs.declared.rule.Status.{Status}
 use Rattle.radio_policy.specs.declared.rule.Status.TheVariants.{BadRequest, Unauthorized, Forbidden, NotFound}
 
@@ -23,6 +24,10 @@ word_of MountFull = codes "mount-full"
 word_of NumbersSpent = codes "numbers-spent"
 word_of BadHead = codes "bad-head"
 word_of BadMethod = codes "bad-method"
+word_of Lagged = codes "lagged"
+word_of TimeOver = codes "time-over"
+word_of HeaderTimeout = codes "header-timeout"
+word_of SourceSilent = codes "source-silent"
 
 -- the status of the answer that tells a denial by the rule; a rule by which nothing is denied in an answer has none
 abbrev pub status_of : Rule → Option Status
@@ -42,3 +47,7 @@ status_of MountFull = Some Forbidden
 status_of NumbersSpent = Some Forbidden
 status_of BadHead = Some BadRequest
 status_of BadMethod = Some BadRequest
+status_of Lagged = None
+status_of TimeOver = None
+status_of HeaderTimeout = None
+status_of SourceSilent = None

@@ -50,6 +50,14 @@ pub enum Rule {
     BadHead,
     /// The method is none that the server serves.
     BadMethod,
+    /// A listener is more than the queue's size behind his stream.
+    Lagged,
+    /// A listener has sat as long as his mount allows.
+    TimeOver,
+    /// A client has asked for nothing in the time that he has for it.
+    HeaderTimeout,
+    /// A source has sent nothing in the time that it has for it.
+    SourceSilent,
 }
 
 impl Rule {
@@ -76,6 +84,10 @@ impl Rule {
             Rule::NumbersSpent => "numbers-spent",
             Rule::BadHead => "bad-head",
             Rule::BadMethod => "bad-method",
+            Rule::Lagged => "lagged",
+            Rule::TimeOver => "time-over",
+            Rule::HeaderTimeout => "header-timeout",
+            Rule::SourceSilent => "source-silent",
         }
     }
 
@@ -84,7 +96,12 @@ impl Rule {
         ensures { result ≡ status_of self }
     {
         match self {
-            Rule::AddressDenied | Rule::AddressNotAllowed => None,
+            Rule::AddressDenied
+            | Rule::AddressNotAllowed
+            | Rule::Lagged
+            | Rule::TimeOver
+            | Rule::HeaderTimeout
+            | Rule::SourceSilent => None,
             Rule::BadMount | Rule::BadHead | Rule::BadMethod => Some(Status::BadRequest),
             Rule::SourcePassword | Rule::ListenerPassword => Some(Status::Unauthorized),
             Rule::TooManyClients

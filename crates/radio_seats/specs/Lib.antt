@@ -1,4 +1,5 @@
 pub mod Seats
 pub mod SeatLaws
 pub mod CountLaws
+pub mod EndLaws
 pub mod Walk

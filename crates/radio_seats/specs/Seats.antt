@@ -61,6 +61,22 @@ advanced place listener = record listener { seating = heard_to place listener.se
 abbrev pub with_place : List Listener → ℕ → ℕ → List Listener
 with_place seats id place = update_first (is_listener id) (advanced place) seats
 
+-- it is a seat of which this holds
+abbrev pub holds_of : (Seat → Bool) → Seating → Bool
+holds_of p (Sits seat) = p seat
+holds_of p (Finished rule) = false
+
+-- such a seat ends by the rule; any other stays
+abbrev pub ended_if : (Seat → Bool) → Rule → Seating → Seating
+ended_if p rule seating = (if holds_of p seating then Finished rule else seating)
+
+abbrev pub finished_if : (Seat → Bool) → Rule → Listener → Listener
+finished_if p rule listener = record listener { seating = ended_if p rule listener.seating }
+
+-- all such seats have ended by the rule
+abbrev pub with_ended : List Listener → (Seat → Bool) → Rule → List Listener
+with_ended seats p rule = map (finished_if p rule) seats
+
 abbrev pub is_seat_at : List ℕ → Seating → Bool
 is_seat_at mount (Sits seat) = bytes_eq seat.mount mount
 is_seat_at mount (Finished rule) = false

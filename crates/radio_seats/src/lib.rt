@@ -1,9 +1,9 @@
 //! The table of listeners: who sits at which mount, and who has lost his seat by which rule.
 //!
 //! - [`Seats`]: the table. Contracts see the list of its listeners, in the order of their numbers.
-//! - [`Listener`], [`Seating`], [`Seat`]: its rows.
+//! - [`Listener`], [`Seating`], [`Seat`]: its rows. A [`SeatTest`] asks something of a seat.
 //! - [`View`], [`Found`]: what a walk asks of the server, and what it finds at a mount.
-//! - What is found after each change, for proofs: `specs/SeatLaws.antt` and `specs/CountLaws.antt`.
+//! - What is found after each change, for proofs: `specs/SeatLaws.antt`, `specs/EndLaws.antt` and `specs/CountLaws.antt`.
 #![tactic(auto)]
 
 mod changes;
@@ -11,6 +11,7 @@ mod seat;
 mod seats;
 mod walk;
 
+pub use changes::SeatTest;
 pub use seat::{Listener, Seat, Seating};
 pub use seats::Seats;
 pub use walk::{Found, View};

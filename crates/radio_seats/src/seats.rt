@@ -2,10 +2,10 @@
 
 ghost use Rattle.std.specs.Prelude.{◌≡◌, [], OnOk, OnErr};
 ghost use Rattle.std.specs.Option.{option_copied};
-ghost use Rattle.radio_seats.specs.Seats.{listener_of, with_seat, with_place, finished_at, without_listener, count_at, sits_there, AreByNumber};
+ghost use Rattle.radio_seats.specs.Seats.{listener_of, with_seat, with_place, finished_at, with_ended, without_listener, count_at, sits_there, AreByNumber};
 
-use crate::changes::{Advances, FinishesFrom};
-use crate::{Listener, OutOfMemory, Seat, Seating};
+use crate::changes::{Advances, FinishesFrom, FinishesIf};
+use crate::{Listener, OutOfMemory, Seat, SeatTest, Seating};
 use radio_blocks::Place;
 use radio_policy::Rule;
 use radio_settings::MountName;
@@ -68,6 +68,13 @@ impl Seats {
         ensures { self.new ≡ finished_at self.old mount rule }
     {
         self.rows.change_all(&FinishesFrom { mount, rule });
+    }
+
+    /// All who have a seat of which the test holds lose it by the rule. It takes no memory.
+    pub fn finish_if<T: SeatTest + Drop>(&mut self, test: T, rule: Rule)
+        ensures { self.new ≡ with_ended self.old (T.passes test) rule }
+    {
+        self.rows.change_all(&FinishesIf { test, rule });
     }
 
     /// Nothing is left of the listener. It takes no memory.

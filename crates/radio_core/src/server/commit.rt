@@ -1,10 +1,12 @@
 ghost use Rattle.std.specs.Prelude.{◌≡◌, IsOk, OnOk, OnErr};
-ghost use Rattle.radio_core.specs.Changes.{changed, session_ended, forgotten};
+ghost use Rattle.radio_core.specs.Changes.{changed, laggards_ended, session_ended, forgotten};
 ghost use Rattle.radio_core.specs.Step.{NeedsNoMemory};
 
 use crate::clients::ClientState;
 use crate::outcome::Change;
+use crate::timeouts::LagsBehind;
 use crate::{Core, OutOfMemory};
+use radio_blocks::{Block, Place};
 use radio_policy::Rule;
 use radio_seats::Seat;
 use radio_settings::MountName;
@@ -24,7 +26,7 @@ impl Core {
             }
             Change::Admit { id, peer } => self.house.admit(id, peer),
             Change::Begin { id, mount, shown } => self.house.begin(self.alloc, id, mount, shown),
-            Change::Receive { mount, block } => self.house.receive(&mount, block),
+            Change::Receive { mount, block } => self.take_in(mount, block),
             Change::SetTitle { mount, title } => {
                 self.house.set_title(&mount, title);
                 Ok(())
@@ -48,7 +50,32 @@ impl Core {
                 self.forget(id);
                 Ok(())
             }
+            Change::Tick { ms } => {
+                self.tick(ms);
+                Ok(())
+            }
         }
+    }
+
+    /// The mount's session has delivered a block, and the listeners of the mount lose their seats
+    /// who are further behind than a queue is long.
+    fn take_in(&mut self, mount: MountName, block: Block) -> Result<(), OutOfMemory>
+        ensures ok { OnOk result (self.new ≡ changed self.old (Change.Receive mount block)) }
+        ensures err { OnErr result (self.new ≡ self.old) }
+    {
+        self.house.receive(&mount, block)?;
+        self.end_laggards(mount);
+        Ok(())
+    }
+
+    /// The listeners of the mount lose their seats who are further behind than a queue is long.
+    fn end_laggards(&mut self, mount: MountName)
+        ensures { self.new ≡ laggards_ended self.old mount }
+    {
+        let end = Place::new(self.house.live_end(&mount));
+        let queue = self.house.settings.limits.queue_size.get() as u64;
+        self.seats
+            .finish_if(LagsBehind { mount, end, queue }, Rule::Lagged);
     }
 
     /// The client has this seat from now on.
@@ -62,7 +89,7 @@ impl Core {
     }
 
     /// The mount's session ends, and its listeners finish. It takes no memory.
-    fn end_session(&mut self, mount: MountName)
+    pub(super) fn end_session(&mut self, mount: MountName)
         ensures { self.new ≡ session_ended self.old mount }
     {
         self.house.live.remove(mount);

@@ -1,6 +1,7 @@
 use Rattle.radio_core.specs.Run.{run_after}
 use Rattle.radio_core.proofs.SoundRuns.{sound_run}
 use Rattle.radio_core.proofs.FinishLemmas.{others_hold}
+use Rattle.radio_core.proofs.LostSeats.{loses_no_seat_else}
 use Rattle.radio_core.proofs.ServiceLemmas.{replies_fit}
 use Rattle.radio_core.proofs.laws.events_are_of_their_clients.Goals as goal
 
@@ -9,3 +10,6 @@ returns-clause-own c settings lists events event = replies_fit (run_after settin
 
 pub returns-clause-others : goal.returns-clause-others
 returns-clause-others c settings lists events event = others_hold (run_after settings lists events) (sound_run settings lists events) event
+
+pub returns-clause-seats : goal.returns-clause-seats
+returns-clause-seats c settings lists events event = loses_no_seat_else (run_after settings lists events) (sound_run settings lists events) event

@@ -1,0 +1,68 @@
+-- whoever has lost his seat has left by it, or was finished
+use Rattle.std.proofs.Common.{◌≡◌, ◌⊎◌, inl, inr, ℕ, Option, Some, None, List, refl, ap, sym, ◌∙◌}
+use Rattle.radio_core.specs.declared.event.Event.{Event}
+use Rattle.radio_core.specs.declared.event.Event.TheVariants.{Leave}
+use Rattle.radio_core.specs.declared.outcome.Outcome.{Outcome}
+use Rattle.radio_core.specs.declared.standing.Standing.TheVariants.{Unknown, Undecided, Feeds, Sits}
+use Rattle.radio_policy.specs.declared.rule.Rule.{Rule}
+use Rattle.radio_seats.specs.declared.seat.Seat.{Seat}
+use Rattle.radio_seats.specs.Seats.{seat_of}
+use Rattle.radio_core.specs.Changes.{changed}
+use Rattle.radio_core.specs.Finishes.{Finishes}
+use Rattle.radio_core.specs.Others.{StandsOn, LosesNoSeatElse}
+use Rattle.radio_core.specs.Sound.{IsSound}
+use Rattle.radio_core.specs.Step.{outcome, world_after}
+use Rattle.radio_core.specs.Ways.{Way, Misplaced, IsFinished, IsDenied, IsRefused, IsAdmitted, Begins, Receives, SetsTitle, TakesSeat, HandsOut, Ends, EndsAndLeaves, Leaves, HasPassed, Ticks, client_in}
+use Rattle.radio_core.specs.World.{World, standing_of}
+use Rattle.radio_core.proofs.FinishLemmas.{others_hold}
+use Rattle.radio_core.proofs.GoneLemmas.{by_own}
+use Rattle.radio_core.proofs.SeatedLemmas.{seat_of_sitting}
+use Rattle.radio_core.proofs.ServiceLemmas.{replies_fit}
+use Rattle.radio_core.proofs.SoundSessions.{has_advanced}
+use Rattle.radio_core.proofs.Ways.{way_of}
+
+module _ (w : World) (s : IsSound w) (id : ℕ) (seat : Seat) (has : seat_of w.seats id ≡ Some seat) where
+  sits : standing_of w id ≡ Sits
+  sits = s.sitting id seat has
+
+  -- by his own events, he loses it by leaving alone
+  own_by : (event : Event) (o : Outcome) → Way w event o → client_in event ≡ Some id → seat_of (changed w o.change).seats id ≡ None → event ≡ Leave id
+  own_by event o (EndsAndLeaves him mount feeding) his none = let same : him ≡ id = cc in ap (λ n. Leave n) same
+  own_by event o (Leaves him other) his none = let same : him ≡ id = cc in ap (λ n. Leave n) same
+  own_by event o (HandsOut him room old session sitting had live) his none =
+      let same : him ≡ id = cc in
+      let still = has_advanced w s him room old session sitting had live in
+      let gone : seat_of (changed w o.change).seats him ≡ None = ap (seat_of (changed w o.change).seats) same ∙ none in
+      cc
+  own_by event o (Receives him mount block feeding) his none =
+      let same : him ≡ id = cc in let sat : standing_of w him ≡ Sits = ap (standing_of w) same ∙ sits in cc
+  own_by event o (Ends him mount feeding) his none =
+      let same : him ≡ id = cc in let sat : standing_of w him ≡ Sits = ap (standing_of w) same ∙ sits in cc
+  own_by event o (TakesSeat asked peer session undecided live allowed) his none =
+      let same : asked.id ≡ id = cc in let sat : standing_of w asked.id ≡ Sits = ap (standing_of w) same ∙ sits in cc
+  own_by event o (Misplaced _) his none = cc
+  own_by event o (IsFinished _ him by its known) his none = cc
+  own_by event o (IsDenied _ by v nobody) his none = cc
+  own_by event o (IsRefused _ him by v its undecided) his none = cc
+  own_by event o (IsAdmitted peer allowed) his none = cc
+  own_by event o (Begins asked undecided free) his none = cc
+  own_by event o (SetsTitle him mount text feeding) his none = cc
+  own_by event o (HasPassed ms e) his none = cc
+  own_by event o (Ticks ms e) his none = cc
+
+  own : (event : Event) → client_in event ≡ Some id → seat_of (world_after w event).seats id ≡ None → event ≡ Leave id
+  unfolding world_after
+  own event his none = own_by event (outcome w event) (way_of w event) his none
+
+  other_by : (event : Event) → StandsOn w event id → seat_of (world_after w event).seats id ≡ None → (rule : Rule) × Finishes w event id rule
+  other_by event (inl same) none =
+      let one = seat_of_sitting (world_after w event) id (same ∙ sits) in
+      let still : seat_of (world_after w event).seats id ≡ Some one.0 = one.1 in
+      cc
+  other_by event (inr (inl finished)) none = finished
+  other_by event (inr (inr arrived)) none = let unknown : standing_of w id ≡ Unknown = ((replies_fit w s event).arrived id arrived).3 in let sat : standing_of w id ≡ Sits = sits in cc
+
+pub loses_no_seat_else : (w : World) → IsSound w → (event : Event) → LosesNoSeatElse w event
+loses_no_seat_else w s event id seat has none =
+    by_own event id (λ his. inl (own w s id seat has event his none))
+    (λ other apart. inr (other_by w s id seat has event (others_hold w s event id other) none))

@@ -1,0 +1,21 @@
+ghost use Rattle.std.specs.Prelude.{◌≡◌};
+ghost use Rattle.radio_core.specs.Clock.{hears_clock};
+
+use crate::outcome::{Change, Outcome};
+use crate::{Core, Reply};
+
+impl Core {
+    /// It is this moment.
+    pub(super) fn clock(&self, ms: u64) -> Outcome
+        ensures { result ≡ hears_clock self.now ms }
+    {
+        Outcome {
+            reply: Reply::Noted,
+            change: if ms < self.house.time {
+                Change::Nothing
+            } else {
+                Change::Tick { ms }
+            },
+        }
+    }
+}
