@@ -1,7 +1,7 @@
 -- Each delivery comes to one thing.
 use Rattle.std.proofs.Common.{◌≡◌, ℕ, List, [], ◌∷◌, Option, None, Some, ap, sym, ◌∙◌}
 use Rattle.radio_script.specs.declared.delivery.Delivery.{Delivery}
-use Rattle.radio_script.specs.declared.delivery.Delivery.TheVariants.{Open, To}
+use Rattle.radio_script.specs.declared.delivery.Delivery.TheVariants.{Open, To, Clock}
 use Rattle.radio_script.specs.declared.delivery.Input.{Input}
 use Rattle.radio_script.specs.declared.delivery.Input.TheVariants.{Data, Room, Title, End}
 use Rattle.radio_session.specs.Conversation.{Conversation}
@@ -33,6 +33,7 @@ module _ (heard_as_one : HearingIsOne) where
   performed_once state (To label input) p q h k =
       one_on_connection state (λ conversation done. ComesTo state label conversation input done) (λ conversation. comes_to_once state label conversation input)
       (connection_of state.connections label) p q h k
+  performed_once state (Clock ms) p q h k = h ∙ sym k
 
   pub is_determined : IsDetermined conduct
   is_determined old delivery said told new next h k =

@@ -2,7 +2,7 @@
 use Rattle.std.specs.Prelude.{◌≡◌, ℕ, Bool, ◌==◌, List, [], ◌∷◌, Option, None, Some, find}
 use Rattle.std.specs.Option.{option_map}
 use Rattle.radio_core.specs.declared.event.Event.{Event}
-use Rattle.radio_core.specs.declared.event.Event.TheVariants.{Arrive, Draw, Title, Leave}
+use Rattle.radio_core.specs.declared.event.Event.TheVariants.{Arrive, Draw, Title, Leave, Clock}
 use Rattle.radio_core.specs.declared.reply.Reply.{Reply}
 use Rattle.radio_core.specs.declared.reply.Reply.TheVariants.{Arrived}
 use Rattle.radio_addr.specs.declared.peer.Peer.{Peer}
@@ -19,7 +19,7 @@ use Rattle.radio_session.specs.declared.state.State.{State}
 use Rattle.radio_session.specs.declared.state.State.TheVariants.{Running, Shut}
 use Rattle.radio_session.specs.declared.state.Ending.TheVariants.{Done}
 use Rattle.radio_script.specs.declared.delivery.Delivery.{Delivery}
-use Rattle.radio_script.specs.declared.delivery.Delivery.TheVariants.{Open, To}
+use Rattle.radio_script.specs.declared.delivery.Delivery.TheVariants.{Open, To, Clock as ClockIs}
 use Rattle.radio_script.specs.declared.delivery.Input.{Input}
 use Rattle.radio_script.specs.declared.delivery.Input.TheVariants.{Data, Room, Title as Named, End}
 use Rattle.radio_floor.specs.declared.script_server.Labelled.{Labelled}
@@ -123,6 +123,10 @@ ComesTo state label conversation (Room room) done = exchanges state label conver
 ComesTo state label conversation (Named text) done = exchanges state label conversation (Title conversation.id (cleaned max_title text) ∷ []) ≡ done
 ComesTo state label conversation End done = closes state label conversation ≡ done
 
+-- the moment is another
+abbrev pub ticks : ScriptState → ℕ → Performed
+ticks state ms = record { lines = Some []; state = record state { world = world_after state.world (Clock ms) } }
+
 -- a delivery for a connection, by what became of it
 abbrev pub on_connection : ScriptState → (Conversation → Performed → Type 0) → Performed → Option (Option Conversation) → Type 0
 on_connection state OnConversation performed None = performed ≡ at_fault state
@@ -142,3 +146,4 @@ for_new_label state performed (Some connection) = at_fault state
 abbrev pub IsPerformed : ScriptState → Delivery → Performed → Type 0
 IsPerformed state (Open label peer) performed = performed ≡ for_new_label state (opens state label peer) (connection_of state.connections label)
 IsPerformed state (To label input) performed = for_label state label (λ conversation done. ComesTo state label conversation input done) performed
+IsPerformed state (ClockIs ms) performed = performed ≡ ticks state ms

@@ -9,10 +9,10 @@ ghost use Rattle.radio_session.specs.Hearing.{Heard, IsHeard};
 ghost use Rattle.radio_floor.specs.ScriptState.{exchanges, closes, ComesTo};
 ghost use Rattle.radio_floor.specs.ScriptServer.{script_state_of, DoesAs};
 ghost use Rattle.radio_floor.specs.Performing.{PerformsAs};
-ghost use Rattle.radio_script.specs.declared.delivery.Delivery.TheVariants.{Open, To};
+ghost use Rattle.radio_script.specs.declared.delivery.Delivery.TheVariants.{Open, To, Clock};
 
 use crate::OutOfMemory;
-use crate::script_server::{ScriptServer, has_label, leave, push_told, swap_connection};
+use crate::script_server::{ScriptServer, has_label, leave, push_told, swap_connection, tick};
 use radio_addr::Peer;
 use radio_core::Event;
 use radio_icy::Title;
@@ -133,6 +133,7 @@ impl ScriptServer {
         match delivery {
             Delivery::Open { label, peer } => self.perform_open(*label, *peer, lines),
             Delivery::To { label, input } => self.perform_input(*label, input, lines),
+            Delivery::Clock { ms } => self.perform_clock(*ms, lines),
         }
     }
 
@@ -168,6 +169,15 @@ impl ScriptServer {
                 Ok(()) => Ok(()),
                 Err(_) => Err(PerformFault::OutOfMemory),
             },
+        }
+    }
+
+    fn perform_clock(&mut self, ms: u64, lines: &mut Vec<u8>) -> Result<(), PerformFault>
+        ensures { PerformsAs result self.old.core self.old.connections (Clock ms) lines.old.items lines.new.items self.new.core self.new.connections }
+    {
+        match tick(&mut self.core, ms) {
+            Ok(()) => Ok(()),
+            Err(_) => Err(PerformFault::OutOfMemory),
         }
     }
 }

@@ -2,7 +2,7 @@
 
 ghost use Rattle.std.specs.Prelude.{◌≡◌, ℕ, List, [], ◌∷◌, ◌++◌, true, Ok, Err, IfOk, OnOk, is_some, Some, None};
 ghost use Rattle.radio_core.specs.World.{World, opening};
-ghost use Rattle.radio_core.specs.declared.event.Event.TheVariants.{Arrive, Leave};
+ghost use Rattle.radio_core.specs.declared.event.Event.TheVariants.{Arrive, Leave, Clock};
 ghost use Rattle.radio_core.specs.Step.{Represents, reply_to, world_after};
 ghost use Rattle.radio_session.specs.Conversation.{asking};
 ghost use Rattle.radio_session.specs.Saying.{said};
@@ -216,5 +216,13 @@ pub(crate) fn leave(core: &mut Core, id: u64) -> Result<(), OutOfMemory>
     ensures { OnOk result ((w : World) → Represents core.old w → Represents core.new (world_after w (Leave id))) }
 {
     core.step(Event::Leave { id })?;
+    Ok(())
+}
+
+/// The server is told the moment.
+pub(crate) fn tick(core: &mut Core, ms: u64) -> Result<(), OutOfMemory>
+    ensures { OnOk result ((w : World) → Represents core.old w → Represents core.new (world_after w (Clock ms))) }
+{
+    core.step(Event::Clock { ms })?;
     Ok(())
 }

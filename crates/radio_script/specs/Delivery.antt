@@ -3,7 +3,7 @@ use Rattle.std.specs.Prelude.{ℕ, nat_lt, List, Option, Some, None, if◌then�
 use Rattle.std.specs.Str.{bytes_eq}
 use Rattle.std.specs.Prelude.{codes}
 use Rattle.radio_script.specs.declared.delivery.Delivery.{Delivery}
-use Rattle.radio_script.specs.declared.delivery.Delivery.TheVariants.{Open, To}
+use Rattle.radio_script.specs.declared.delivery.Delivery.TheVariants.{Open, To, Clock}
 use Rattle.radio_script.specs.declared.delivery.Input.{Input}
 use Rattle.radio_script.specs.declared.delivery.Input.TheVariants.{Data, Room, Title, End}
 use Rattle.radio_script.specs.Steps.{◌>>=◌}
@@ -64,6 +64,12 @@ end_of fields = do
   label ← label_of fields
   Some (To label End)
 
+-- `clock MS`: a number of 64 bits
+unfoldable pub clock_of : List ℕ → Option Delivery
+clock_of fields = do
+  ms ← number_of 10 18446744073709551615 fields
+  Some (Clock ms)
+
 -- the delivery that a line stands for, if it is one
 unfoldable pub delivery_of : List ℕ → Option Delivery
 delivery_of line = do
@@ -72,4 +78,5 @@ delivery_of line = do
       (if bytes_eq parts.0 (codes "in") then in_of parts.1 else
       (if bytes_eq parts.0 (codes "room") then room_of parts.1 else
       (if bytes_eq parts.0 (codes "title") then title_of parts.1 else
-      (if bytes_eq parts.0 (codes "end") then end_of parts.1 else None))))
+      (if bytes_eq parts.0 (codes "end") then end_of parts.1 else
+      (if bytes_eq parts.0 (codes "clock") then clock_of parts.1 else None)))))

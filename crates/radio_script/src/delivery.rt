@@ -1,7 +1,7 @@
 //! What a script delivers, a line each.
 
 ghost use Rattle.std.specs.Prelude.{◌≡◌, IfOk};
-ghost use Rattle.radio_script.specs.Delivery.{decimal_of, delivery_of, end_of, in_of, label_of, open_of, room_of, text_fields, title_of};
+ghost use Rattle.radio_script.specs.Delivery.{clock_of, decimal_of, delivery_of, end_of, in_of, label_of, open_of, room_of, text_fields, title_of};
 
 use crate::OutOfMemory;
 use crate::escapes::unescape;
@@ -30,6 +30,8 @@ pub enum Delivery {
     Open { label: u32, peer: Peer },
     /// Something comes to a connection.
     To { label: u32, input: Input },
+    /// It is so many milliseconds since the server's start.
+    Clock { ms: u64 },
 }
 
 /// The delivery that a line of a script stands for; `None` where it stands for none. The line is
@@ -55,6 +57,9 @@ pub fn read_delivery(alloc: Global, line: &[u8]) -> Result<Option<Delivery>, Out
     }
     if word == b"end".as_slice() {
         return Ok(read_end(fields));
+    }
+    if word == b"clock".as_slice() {
+        return Ok(read_clock(fields));
     }
     Ok(None)
 }
@@ -134,6 +139,14 @@ fn read_end(fields: &[u8]) -> Option<Delivery>
         label,
         input: Input::End,
     })
+}
+
+#[tactic(auto, unfolding(crate::specs::Delivery::clock_of))]
+fn read_clock(fields: &[u8]) -> Option<Delivery>
+    ensures { result ≡ clock_of fields.now }
+{
+    let ms = read_number(fields, 10, u64::MAX)?;
+    Some(Delivery::Clock { ms })
 }
 
 #[tactic(auto, unfolding(crate::specs::Delivery::label_of))]

@@ -55,6 +55,7 @@ impl Performer for Echo {
                 self.check(*label)?;
                 answer_input(alloc, lines, *label, input)
             }
+            Delivery::Clock { .. } => Ok(()),
         }
     }
 }

@@ -13,6 +13,7 @@ enum Parts<'a> {
     Room { label: u32, room: u32 },
     Title { label: u32, text: &'a [u8] },
     End { label: u32 },
+    Clock { ms: u64 },
 }
 
 fn parts_of(delivery: &Delivery) -> Parts<'_> {
@@ -22,6 +23,7 @@ fn parts_of(delivery: &Delivery) -> Parts<'_> {
             address: peer.address(),
         },
         Delivery::To { label, input } => parts_of_input(*label, input),
+        Delivery::Clock { ms } => Parts::Clock { ms: *ms },
     }
 }
 
@@ -93,6 +95,12 @@ const DELIVERIES: &[(&[u8], Parts<'static>)] = &[
     ),
     (b"title 3 ", Parts::Title { label: 3, text: b"" }),
     (b"end 12", Parts::End { label: 12 }),
+    (
+        b"clock 18446744073709551615",
+        Parts::Clock {
+            ms: 18_446_744_073_709_551_615,
+        },
+    ),
 ];
 
 const NO_DELIVERIES: &[&[u8]] = &[
@@ -107,6 +115,9 @@ const NO_DELIVERIES: &[&[u8]] = &[
     b"in 1 \xc3\xa4",
     b"room 1 4294967296",
     b"title 3",
+    b"clock",
+    b"clock -1",
+    b"clock 18446744073709551616",
     b"quit 1",
 ];
 

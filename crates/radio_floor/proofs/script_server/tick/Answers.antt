@@ -1,0 +1,9 @@
+use Rattle.std.proofs.Common.{subst}
+use Rattle.radio_core.specs.World.{World}
+use Rattle.radio_core.specs.Step.{Represents}
+use Rattle.radio_floor.proofs.script_server.tick.Goals as goal
+
+pub returns : goal.returns
+returns c w stands =
+    let s = c.in_ok-step.ensures.step w stands in
+    subst (λ (after : World). Represents c.step.new.self after) s.1.1 s.2
