@@ -1,6 +1,5 @@
 -- a listener is denied by a limit only where the limit is reached
-use Rattle.std.proofs.Common.{◌≡◌, ◌⊎◌, inl, inr, Bool, true, false, ℕ, ◌≤◌, ◌||◌, ◌&&◌, not, Option, Some, None, List, [], ◌∷◌, length, refl, ap, sym, ◌∙◌, arith}
-use Rattle.std.specs.Prelude.{map}
+use Rattle.std.proofs.Common.{◌≡◌, inl, inr, Bool, true, false, ℕ, ◌≤◌, ◌||◌, ◌&&◌, not, Option, Some, None, List, [], ◌∷◌, length, refl, ap, sym, ◌∙◌, arith}
 use Rattle.std.specs.List.{list_any}
 use Rattle.std.proofs.lemmas.Bool.Decides.{nat_tests}
 use Rattle.std.proofs.lemmas.Slice.Eq.{bytes_eq-Decides}
@@ -11,9 +10,10 @@ use Rattle.radio_policy.specs.declared.rule.Rule.TheVariants.{MountFull, UserTwi
 use Rattle.radio_policy.specs.Table.{Row}
 use Rattle.radio_policy.specs.Verdicts.{verdict_in}
 use Rattle.radio_settings.specs.MountName.{is_mount_name}
-use Rattle.radio_tables.specs.Lists.{Has}
+use Rattle.radio_tables.specs.Lists.{Each, Has}
 use Rattle.radio_seats.specs.declared.seat.Listener.{Listener}
-use Rattle.radio_seats.specs.Seats.{seats_at, has_user, is_user_at, sits_there}
+use Rattle.radio_seats.specs.declared.walk.Found.{Found}
+use Rattle.radio_seats.specs.Seats.{seats_at, is_user_at}
 use Rattle.radio_seats.specs.Walk.{is_full, sits_already}
 use Rattle.radio_core.specs.declared.event.Event.{Event}
 use Rattle.radio_core.specs.declared.event.Event.TheVariants.{Arrive, Source, Push, SourceEnd, Title, Listen, Draw, Leave, Clock}
@@ -29,19 +29,31 @@ use Rattle.radio_core.specs.Ways.{Way, Misplaced, IsFinished, IsDenied, IsRefuse
 use Rattle.radio_core.specs.World.{World, standing_of}
 use Rattle.radio_core.proofs.Ways.{way_of, rows_by, found_by}
 
--- a rule that denies is one of the rows'
-names_at : (x : Row) (xs : List Row) (rule : Rule) (b : Bool) → x.holds ≡ b → verdict_in (x ∷ xs) ≡ Denied rule → (verdict_in xs ≡ Denied rule → Has rule (map (λ row. row.rule) xs))
-    → Has rule (map (λ row. row.rule) (x ∷ xs))
-names_at x xs rule true e v later = let here : verdict_in (x ∷ xs) ≡ Denied x.rule = rw e refl in let same : rule ≡ x.rule = cc in inl same
-names_at x xs rule false e v later = let past : verdict_in (x ∷ xs) ≡ verdict_in xs = rw e refl in inr (later (sym past ∙ v))
+-- the rules of the limits, and rows that name neither
+abbrev is_limit : Rule → Bool
+is_limit MountFull = true
+is_limit UserTwice = true
+is_limit rule = false
 
-names_a_row : (rows : List Row) (rule : Rule) → verdict_in rows ≡ Denied rule → Has rule (map (λ row. row.rule) rows)
-names_a_row [] rule v = cc
-names_a_row (x ∷ xs) rule v = names_at x xs rule x.holds refl v (names_a_row xs rule)
+no_limit_at : (x : Row) (xs : List Row) (rule : Rule) (b : Bool) → x.holds ≡ b → is_limit x.rule ≡ false
+    → (verdict_in xs ≡ Denied rule → is_limit rule ≡ true → ⊥) → verdict_in (x ∷ xs) ≡ Denied rule → is_limit rule ≡ true → ⊥
+no_limit_at x xs rule true e not later v limit =
+    let here : verdict_in (x ∷ xs) ≡ Denied x.rule = rw e refl in
+    let same : x.rule ≡ rule = cc in
+    let also : is_limit rule ≡ false = ap is_limit (sym same) ∙ not in
+    cc
+no_limit_at x xs rule false e not later v limit = let past : verdict_in (x ∷ xs) ≡ verdict_in xs = rw e refl in later (sym past ∙ v) limit
+
+no_limit : (rows : List Row) → Each (λ row. is_limit row.rule ≡ false) rows → (rule : Rule) → verdict_in rows ≡ Denied rule → is_limit rule ≡ true → ⊥
+no_limit [] all rule v limit = cc
+no_limit (x ∷ xs) all rule v limit = no_limit_at x xs rule x.holds refl all.0 (no_limit xs all.1 rule) v limit
 
 -- a listener finds it so whom the limits deny
-full_by : (named known live full accepted twice : Bool)
-    → verdict_in (rows_by named known (record { is_live = live; is_full = full; users_accept = accepted; user_is_twice = twice })) ≡ Denied MountFull → full ≡ true
+abbrev finding : Bool → Bool → Bool → Bool → Found
+finding live full accepted twice = record { is_live = live; is_full = full; users_accept = accepted; user_is_twice = twice }
+
+full_by : (named known live full accepted twice : Bool) → verdict_in (rows_by named known (finding live full accepted twice)) ≡ Denied MountFull
+    → full ≡ true
 full_by named known live true accepted twice v = refl
 full_by false known live false accepted twice v = cc
 full_by true false live false accepted twice v = cc
@@ -50,8 +62,8 @@ full_by true true live false true true v = cc
 full_by true true false false true false v = cc
 full_by true true true false true false v = cc
 
-twice_by : (named known live full accepted twice : Bool)
-    → verdict_in (rows_by named known (record { is_live = live; is_full = full; users_accept = accepted; user_is_twice = twice })) ≡ Denied UserTwice → twice ≡ true
+twice_by : (named known live full accepted twice : Bool) → verdict_in (rows_by named known (finding live full accepted twice)) ≡ Denied UserTwice
+    → twice ≡ true
 twice_by named known live full accepted true v = refl
 twice_by false known live full accepted false v = cc
 twice_by true false live full accepted false v = cc
@@ -92,63 +104,41 @@ there_already w mount (Some sent) false once is =
 
 module _ (w : World) where
   -- a source is denied its blocks by no limit
-  no_limit_from : (rule : Rule) (block : List ℕ) (s : Standing) → (rule ≡ MountFull) ⊎ (rule ≡ UserTwice) → Has rule (map (λ row. row.rule) (rows_from w.house block s)) → ⊥
-  no_limit_from rule block (Feeds mount) (inl limit) (inl e) = cc
-  no_limit_from rule block (Feeds mount) (inr limit) (inl e) = cc
-  no_limit_from rule block (Feeds mount) limit (inr e) = e
-  no_limit_from rule block Unknown limit e = e
-  no_limit_from rule block (Undecided peer) limit e = e
-  no_limit_from rule block Sits limit e = e
-  no_limit_from rule block Answered limit e = e
-  no_limit_from rule block (Finished by) limit e = e
+  no_limit_from : (block : List ℕ) (s : Standing) → Each (λ row. is_limit row.rule ≡ false) (rows_from w.house block s)
+  no_limit_from block (Feeds mount) = (refl, tt)
+  no_limit_from block Unknown = tt
+  no_limit_from block (Undecided peer) = tt
+  no_limit_from block Sits = tt
+  no_limit_from block Answered = tt
+  no_limit_from block (Finished by) = tt
 
   -- the limits deny only who wants to hear a mount
-  only_listeners : {A : Type 0} (rule : Rule) → (rule ≡ MountFull) ⊎ (rule ≡ UserTwice) → (event : Event) → verdict_in (rows_for w event) ≡ Denied rule
-      → ((asked : ListenRequest) → event ≡ Listen asked → A) → A
-  only_listeners rule limit (Listen asked) v then = then asked refl
+  only_listeners : {A : Type 0} (rule : Rule) → is_limit rule ≡ true → (event : Event) → verdict_in (rows_for w event) ≡ Denied rule
+      → ((asked : ListenRequest) → event ≡ Listen asked → verdict_in (rows_for w (Listen asked)) ≡ Denied rule → A) → A
+  only_listeners rule limit (Listen asked) v then = then asked refl v
+  only_listeners rule limit (Arrive peer) v then = absurd (no_limit (rows_for w (Arrive peer)) (refl, (refl, (refl, (refl, tt)))) rule v limit)
+  only_listeners rule limit (Source asked) v then = absurd (no_limit (rows_for w (Source asked)) (refl, (refl, (refl, (refl, (refl, tt))))) rule v limit)
   only_listeners rule limit (Push id block) v then =
-      absurd (no_limit_from rule block (standing_of w id) limit (names_a_row (rows_from w.house block (standing_of w id)) rule v))
-  only_listeners rule limit (Arrive peer) v then = absurd (not_arriving limit (names_a_row (rows_for w (Arrive peer)) rule v)) where
-    not_arriving : (rule ≡ MountFull) ⊎ (rule ≡ UserTwice) → Has rule (map (λ row. row.rule) (rows_for w (Arrive peer))) → ⊥
-    not_arriving (inl e) (inl h) = cc
-    not_arriving (inl e) (inr (inl h)) = cc
-    not_arriving (inl e) (inr (inr (inl h))) = cc
-    not_arriving (inl e) (inr (inr (inr (inl h)))) = cc
-    not_arriving (inr e) (inl h) = cc
-    not_arriving (inr e) (inr (inl h)) = cc
-    not_arriving (inr e) (inr (inr (inl h))) = cc
-    not_arriving (inr e) (inr (inr (inr (inl h)))) = cc
-    not_arriving e (inr (inr (inr (inr h)))) = h
-  only_listeners rule limit (Source asked) v then = absurd (not_feeding limit (names_a_row (rows_for w (Source asked)) rule v)) where
-    not_feeding : (rule ≡ MountFull) ⊎ (rule ≡ UserTwice) → Has rule (map (λ row. row.rule) (rows_for w (Source asked))) → ⊥
-    not_feeding (inl e) (inl h) = cc
-    not_feeding (inl e) (inr (inl h)) = cc
-    not_feeding (inl e) (inr (inr (inl h))) = cc
-    not_feeding (inl e) (inr (inr (inr (inl h)))) = cc
-    not_feeding (inl e) (inr (inr (inr (inr (inl h))))) = cc
-    not_feeding (inr e) (inl h) = cc
-    not_feeding (inr e) (inr (inl h)) = cc
-    not_feeding (inr e) (inr (inr (inl h))) = cc
-    not_feeding (inr e) (inr (inr (inr (inl h)))) = cc
-    not_feeding (inr e) (inr (inr (inr (inr (inl h))))) = cc
-    not_feeding e (inr (inr (inr (inr (inr h))))) = h
+      absurd (no_limit (rows_from w.house block (standing_of w id)) (no_limit_from block (standing_of w id)) rule v limit)
   only_listeners rule limit (SourceEnd id) v then = cc
   only_listeners rule limit (Title id text) v then = cc
   only_listeners rule limit (Draw id room) v then = cc
   only_listeners rule limit (Leave id) v then = cc
   only_listeners rule limit (Clock ms) v then = cc
 
-  full_there : (event : Event) → verdict_in (rows_for w event) ≡ Denied MountFull → (asked : ListenRequest) × (event ≡ Listen asked) × IsFullAt w asked.mount
-  full_there event v = only_listeners MountFull (inl refl) event v (λ asked same. (asked, same, at asked (sym (ap (λ (x : Event). verdict_in (rows_for w x)) same) ∙ v))) where
+  abbrev DeniesWhere : Event → (ListenRequest → Type 0) → Type 0
+  DeniesWhere event P = (asked : ListenRequest) × (event ≡ Listen asked) × P asked
+
+  full_there : (event : Event) → verdict_in (rows_for w event) ≡ Denied MountFull → DeniesWhere event (λ asked. IsFullAt w asked.mount)
+  full_there event v = only_listeners MountFull refl event v (λ asked same denied. (asked, same, at asked denied)) where
     at : (asked : ListenRequest) → verdict_in (rows_for w (Listen asked)) ≡ Denied MountFull → IsFullAt w asked.mount
     at asked denied =
         let found = found_by w asked in
         full_at w asked.mount (most_at w asked.mount) refl
         (full_by (is_mount_name asked.mount) (is_known w.house asked.mount) found.is_live found.is_full found.users_accept found.user_is_twice denied)
 
-  twice_there : (event : Event) → verdict_in (rows_for w event) ≡ Denied UserTwice
-      → (asked : ListenRequest) × (event ≡ Listen asked) × HasUserAt w asked.mount asked.pair
-  twice_there event v = only_listeners UserTwice (inr refl) event v (λ asked same. (asked, same, at asked (sym (ap (λ (x : Event). verdict_in (rows_for w x)) same) ∙ v))) where
+  twice_there : (event : Event) → verdict_in (rows_for w event) ≡ Denied UserTwice → DeniesWhere event (λ asked. HasUserAt w asked.mount asked.pair)
+  twice_there event v = only_listeners UserTwice refl event v (λ asked same denied. (asked, same, at asked denied)) where
     at : (asked : ListenRequest) → verdict_in (rows_for w (Listen asked)) ≡ Denied UserTwice → HasUserAt w asked.mount asked.pair
     at asked denied =
         let found = found_by w asked in
@@ -156,7 +146,8 @@ module _ (w : World) where
         (twice_by (is_mount_name asked.mount) (is_known w.house asked.mount) found.is_live found.is_full found.users_accept found.user_is_twice denied)
 
   -- only a verdict of the policy denies
-  denied_by : {A : Type 0} (rule : Rule) (event : Event) (o : Outcome) → Way w event o → o.reply ≡ Deny rule → (verdict_in (rows_for w event) ≡ Denied rule → A) → A
+  denied_by : {A : Type 0} (rule : Rule) (event : Event) (o : Outcome) → Way w event o → o.reply ≡ Deny rule
+      → (verdict_in (rows_for w event) ≡ Denied rule → A) → A
   denied_by rule event o (IsDenied _ by v nobody) d then = let same : by ≡ rule = cc in then (v ∙ ap (λ (r : Rule). Denied r) same)
   denied_by rule event o (IsRefused _ him by v his undecided) d then = let same : by ≡ rule = cc in then (v ∙ ap (λ (r : Rule). Denied r) same)
   denied_by rule event o (Misplaced _) d then = cc

@@ -54,7 +54,8 @@ room_left count most (Some other) e room = let same : other ≡ most = cc in gri
 room_left count most None e room = cc
 
 -- who may sit down is no user who sits there
-not_there : (allows : Bool) (seats : List Listener) (mount user : List ℕ) (pair : Option Credentials) → allows ≡ false → (not allows && sits_already seats mount pair) ≡ false
+not_there : (allows : Bool) (seats : List Listener) (mount user : List ℕ) (pair : Option Credentials) → allows ≡ false
+    → (not allows && sits_already seats mount pair) ≡ false
     → has_user user pair ≡ true → sits_there seats mount user ≡ false
 not_there true seats mount user pair once none his = cc
 not_there false seats mount user None once none his = cc
@@ -119,14 +120,15 @@ module _ (w : World) (s : IsSound w) (l : IsWithinLimits w) where
         (λ apart. omega (arith, no_more_elsewhere w.seats asked.id new mount apart, l.not_too_many mount most limit))
 
     -- whoever sat there before did not send his user
-    nobody_else : (mount user : List ℕ) (other : ℕ) → allows_duplicates_at w mount ≡ false → SitsAs later.seats asked.id mount user → SitsAs w.seats other mount user
-        → ⊥
+    nobody_else : (mount user : List ℕ) (other : ℕ) → allows_duplicates_at w mount ≡ false → SitsAs later.seats asked.id mount user
+        → SitsAs w.seats other mount user → ⊥
     nobody_else mount user other once his theirs =
         let found : Some new ≡ Some his.0 = sym (has_new_seat w s asked peer session e live) ∙ his.1 in
         let one : new ≡ his.0 = cc in
         let here : asked.mount ≡ mount = sym at_the_mount ∙ ap (λ (x : Seat). x.mount) one ∙ his.2 in
         let sent : has_user user asked.pair ≡ true = ap (λ (x : Seat). has_user user x.pair) one ∙ his.3 in
-        let none = not_there (allows_duplicates_at w asked.mount) w.seats asked.mount user asked.pair (ap (allows_duplicates_at w) here ∙ once) welcome.once sent in
+        let off : allows_duplicates_at w asked.mount ≡ false = ap (allows_duplicates_at w) here ∙ once in
+        let none = not_there (allows_duplicates_at w asked.mount) w.seats asked.mount user asked.pair off welcome.once sent in
         nobody_sits_as w.seats other mount user (subst (λ (m : List ℕ). sits_there w.seats m user ≡ false) here none) theirs
 
     sat_before : (mount user : List ℕ) (id : ℕ) → (asked.id == id) ≡ false → SitsAs later.seats id mount user → SitsAs w.seats id mount user
@@ -135,8 +137,8 @@ module _ (w : World) (s : IsSound w) (l : IsWithinLimits w) where
     his_now : (mount user : List ℕ) (id : ℕ) → asked.id ≡ id → SitsAs later.seats id mount user → SitsAs later.seats asked.id mount user
     his_now mount user id same sits = subst (λ (n : ℕ). SitsAs later.seats n mount user) (sym same) sits
 
-    one_each : (mount user : List ℕ) (id other : ℕ) → allows_duplicates_at w mount ≡ false → SitsAs later.seats id mount user → SitsAs later.seats other mount user
-        → id ≡ other
+    one_each : (mount user : List ℕ) (id other : ℕ) → allows_duplicates_at w mount ≡ false → SitsAs later.seats id mount user
+        → SitsAs later.seats other mount user → id ≡ other
     one_each mount user id other once his theirs =
         by_number asked.id id
         (λ same. by_number asked.id other (λ also. sym same ∙ also)

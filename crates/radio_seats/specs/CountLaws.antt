@@ -148,7 +148,8 @@ nobody_came_leaving seats him = record {
 }
 
 -- one has come: one more at the most sits at his mount, and no more at any other
-pub one_more_at : (seats : List Listener) (id : ℕ) (seat : Seat) (mount : List ℕ) → length (seats_at (with_seat seats id seat) mount) ≤ length (seats_at seats mount) + 1
+pub one_more_at : (seats : List Listener) (id : ℕ) (seat : Seat) (mount : List ℕ)
+    → length (seats_at (with_seat seats id seat) mount) ≤ length (seats_at seats mount) + 1
 one_more_at seats id seat mount = one_more_placed (λ listener. is_seat_at mount listener.seating) by_listener (seated id seat) seats
 
 pub no_more_elsewhere : (seats : List Listener) (id : ℕ) (seat : Seat) (mount : List ℕ) → bytes_eq seat.mount mount ≡ false

@@ -35,7 +35,8 @@ pub returns-in-Deny : goal.returns-in-Deny
 returns-in-Deny c =
     let w = c.args.self.now in
     let asked = c.args.asked.now in
-    let looked_up = subst (λ (x : World). c.listen_facts-facts.result ≡ listen_facts x.house x.seats c.args.asked.now) c.self.view_is c.listen_facts-facts.ensures in
+    let looked_up =
+    subst (λ (x : World). c.listen_facts-facts.result ≡ listen_facts x.house x.seats c.args.asked.now) c.self.view_is c.listen_facts-facts.ensures in
     c.refused.ensures
     ∙ refused_by (standing_of w asked.id) (verdict_in (rows_to_listen w asked)) c.in-Undecided.peer c.in-Deny.rule (Answer asked.id)
     (λ peer. takes_seat w.house asked peer (session_at w.house asked.mount))
