@@ -3,7 +3,9 @@ use Rattle.std.proofs.Common.{◌≡◌, ℕ, Bool, true, false, List, [], ◌�
 use Rattle.std.specs.Prelude.{codes}
 use Rattle.std.specs.Str.{bytes_eq}
 use Rattle.std.proofs.lemmas.List.{drop-append-le, map-append}
-use Rattle.std.specs.List.{concat}
+use Rattle.std.specs.List.{concat, All}
+use Rattle.std.proofs.lemmas.List.Elements.{All-append}
+use Rattle.radio_blocks.specs.Block.{IsBlock}
 use Rattle.std.proofs.lemmas.List.Folds.{concat-append}
 use Rattle.radio_session.specs.declared.state.Ending.{Ending}
 use Rattle.radio_blocks.specs.Cutting.{blocks_of}
@@ -66,7 +68,10 @@ nothing_more x y whole says same none = by_state x.state refl where
 abbrev pub NoData : Type 0
 NoData = blocks_of [] ≡ []
 
-module _ (joined : AreJoined) (nothing : NoData) where
+abbrev pub AreValid : Type 0
+AreValid = (bytes : List ℕ) → All IsBlock (blocks_of bytes)
+
+module _ (joined : AreJoined) (valid : AreValid) (nothing : NoData) where
   no_blocks : (bytes : List ℕ) → blocks_of bytes ≡ [] → bytes ≡ []
   no_blocks bytes e = sym (joined bytes) ∙ ap concat e
 
@@ -98,6 +103,7 @@ module _ (joined : AreJoined) (nothing : NoData) where
         let events : (before ++ pushes id first) ++ pushes id second ≡ before ++ blocks_as id (blocks_of first ++ blocks_of second) =
         append_assoc before (pushes id first) (pushes id second) ∙ ap (λ (es : List Event). before ++ es) (sym (map-append (Push id) (blocks_of first) (blocks_of second))) in
         behind_alike steps id server before says (blocks_of first ++ blocks_of second) (blocks_of (first ++ second)) from x y to other
+        (All-append IsBlock (blocks_of first) (blocks_of second) (valid first) (valid second)) (valid (first ++ second))
         (cuttings_joined first second) (none_whole first second) (none_cut first second)
         (subst (λ (es : List Event). Exchanges steps id (free says) es from x to) events e) f
 
@@ -228,7 +234,7 @@ module _ {S : Type 0} (steps : Steps S) where
       let one = (exchanged_as_one steps conversation.id server.is_one whole.events whole.conversation.says from z y end to f here).0 in
       two_on x y z runs (ap (λ (w : Exchange). w.bytes) one ∙ ap (λ (w : Exchange). w.bytes ++ y.bytes) (sym e.0)) (ap (λ (w : Exchange). w.state) one)
 
-  module _ (joined : AreJoined) (nothing : NoData) (places : PlacesJoin) (found : DataJoin) where
+  module _ (joined : AreJoined) (valid : AreValid) (nothing : NoData) (places : PlacesJoin) (found : DataJoin) where
     -- the data behind a first piece, by how they close the conversation
     second_told : (conversation : Conversation) (server : GoesByData steps conversation.id) (is_free : conversation.says.closing ≡ None) (before : List Event) (first second : List ℕ) (here last : Place) (word : Option LastWord)
         (from mid to end : S) (x y z : Exchange)
@@ -240,12 +246,12 @@ module _ {S : Type 0} (steps : Steps S) where
         → TwoAsOne x y z
     second_told conversation server is_free before first second here last None from mid to end x y z e later f =
         let says = sym (free_says conversation.says is_free) in
-        data_on joined nothing steps conversation.id server before conversation.says first second from mid to end x y z
+        data_on joined valid nothing steps conversation.id server before conversation.says first second from mid to end x y z
         (subst (λ (s : Says). Exchanges steps conversation.id s (before ++ pushes conversation.id first) from x mid) says e)
         later
         (subst (λ (s : Says). Exchanges steps conversation.id s (before ++ pushes conversation.id (first ++ second)) from z end) says f)
     second_told conversation server is_free before first second here last (Some word) from mid to end x y z e later f =
-        data_ended joined nothing steps conversation.id server before conversation.says first second from mid to end x y z
+        data_ended joined valid nothing steps conversation.id server before conversation.says first second from mid to end x y z
         (subst (λ (s : Says). Exchanges steps conversation.id s (before ++ pushes conversation.id first) from x mid) (sym (free_says conversation.says is_free)) e)
         word later f
 

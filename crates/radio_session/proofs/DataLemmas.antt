@@ -1,6 +1,8 @@
 -- What a source is told does not depend on how its data were cut into blocks.
 use Rattle.std.proofs.Common.{◌≡◌, ◌⊎◌, inl, inr, ℕ, List, [], ◌∷◌, ◌++◌, map, refl, ap, sym, subst, ◌∙◌, append_assoc, append-nil, None}
-use Rattle.std.specs.List.{concat}
+use Rattle.std.specs.List.{concat, All}
+use Rattle.std.proofs.lemmas.List.Elements.{All-head, All-tail}
+use Rattle.radio_blocks.specs.Block.{IsBlock}
 use Rattle.radio_core.specs.declared.event.Event.{Event}
 use Rattle.radio_core.specs.declared.event.Event.TheVariants.{Push}
 use Rattle.radio_core.specs.declared.reply.Reply.{Reply}
@@ -69,22 +71,22 @@ module _ {S : Type 0} (steps : Steps S) (id : ℕ) (server : GoesByData steps id
   abbrev pub Fed : Says → List (List ℕ) → S → Exchange → S → Type 0
   Fed says blocks from x to = WentOn says blocks from x to ⊎ Stopped says blocks from x
 
-  module _ (says : Says) (block : List ℕ) (blocks : List (List ℕ)) (from mid to : S) (reply : Reply) (step : steps from (Push id block) reply mid) (x : Exchange) where
+  module _ (says : Says) (block : List ℕ) (blocks : List (List ℕ)) (from mid to : S) (reply : Reply) (valid : IsBlock block) (step : steps from (Push id block) reply mid) (x : Exchange) where
     -- the block is taken, and others come
     quiet_on : IsQuiet reply → reply ≡ server.to_data from block → Fed says blocks mid x to → Fed says (block ∷ blocks) from x to
     quiet_on q at (inl on) = inl (record {
       nothing = on.nothing;
-      data_on = λ rest. ap (server.to_data from) (append_assoc block (concat blocks) rest) ∙ (server.after_block from mid block (concat blocks ++ rest) reply step q).0 ∙ on.data_on rest;
-      end_on = λ rest. ap (server.to_end from) (append_assoc block (concat blocks) rest) ∙ (server.after_block from mid block (concat blocks ++ rest) reply step q).1 ∙ on.end_on rest;
+      data_on = λ rest. ap (server.to_data from) (append_assoc block (concat blocks) rest) ∙ (server.after_block from mid block (concat blocks ++ rest) reply valid step q).0 ∙ on.data_on rest;
+      end_on = λ rest. ap (server.to_end from) (append_assoc block (concat blocks) rest) ∙ (server.after_block from mid block (concat blocks ++ rest) reply valid step q).1 ∙ on.end_on rest;
       quiet = inr (elim on.quiet [
         | inl none ↦ subst IsQuiet (at ∙ ap (server.to_data from) (sym (append-nil block) ∙ ap (λ (bs : List (List ℕ)). block ++ concat bs) (sym none))) q
-        | inr later ↦ subst IsQuiet (sym (server.after_block from mid block (concat blocks) reply step q).0) later
+        | inr later ↦ subst IsQuiet (sym (server.after_block from mid block (concat blocks) reply valid step q).0) later
       ]);
     })
     quiet_on q at (inr stop) = inr (record {
       reply = stop.reply;
       by_rule = stop.by_rule;
-      data_on = λ rest. ap (server.to_data from) (append_assoc block (concat blocks) rest) ∙ (server.after_block from mid block (concat blocks ++ rest) reply step q).0 ∙ stop.data_on rest;
+      data_on = λ rest. ap (server.to_data from) (append_assoc block (concat blocks) rest) ∙ (server.after_block from mid block (concat blocks ++ rest) reply valid step q).0 ∙ stop.data_on rest;
       bytes = stop.bytes;
       state = stop.state;
       some = λ none. cc;
@@ -99,26 +101,27 @@ module _ {S : Type 0} (steps : Steps S) (id : ℕ) (server : GoesByData steps id
         inr (record {
           reply = reply;
           by_rule = ends;
-          data_on = λ rest. ap (server.to_data from) (append_assoc block (concat blocks) rest) ∙ server.at_rule from mid block (concat blocks ++ rest) reply step ends;
+          data_on = λ rest. ap (server.to_data from) (append_assoc block (concat blocks) rest) ∙ server.at_rule from mid block (concat blocks ++ rest) reply valid step ends;
           bytes = ap (λ (y : Exchange). y.bytes) g.1;
           state = ap (λ (y : Exchange). y.state) g.1 ∙ sym shut.1;
           some = λ none. cc;
         })
 
-  feeds : (blocks : List (List ℕ)) (says : Says) (from : S) (x : Exchange) (to : S) → Exchanges steps id (free says) (blocks_as id blocks) from x to → Fed says blocks from x to
-  feeds [] says from x to e = inl (record {
+  feeds : (blocks : List (List ℕ)) (says : Says) (from : S) (x : Exchange) (to : S) → All IsBlock blocks → Exchanges steps id (free says) (blocks_as id blocks) from x to → Fed says blocks from x to
+  feeds [] says from x to valid e = inl (record {
     nothing = e.0;
     data_on = λ rest. ap (λ (s : S). server.to_data s rest) (sym e.1);
     end_on = λ rest. ap (λ (s : S). server.to_end s rest) (sym e.1);
     quiet = inl refl;
   })
-  feeds (block ∷ blocks) says from x to e =
-      let at = server.at_block from e.1 block e.0 e.2 in
+  feeds (block ∷ blocks) says from x to valid e =
+      let here = All-head IsBlock block blocks valid in
+      let at = server.at_block from e.1 block e.0 here e.2 in
       elim at.1 [
         | inl q ↦
             let g = subst (λ (told : Said). GoesOn steps id told.state (Push id block) told e.1 (λ others. Exchanges steps id told.says (blocks_as id blocks) e.1 others to) x to) (quiet_told says e.0 q) e.3 in
-            quiet_on says block blocks from e.1 to e.0 e.2 x q at.0 (subst (λ (y : Exchange). Fed says blocks e.1 y to) (sym g.2) (feeds blocks says e.1 g.0 to g.1))
-        | inr ends ↦ rule_on says block blocks from e.1 to e.0 e.2 x ends (λ others. Exchanges steps id (said (free says) e.0).says (blocks_as id blocks) e.1 others to) e.3
+            quiet_on says block blocks from e.1 to e.0 here e.2 x q at.0 (subst (λ (y : Exchange). Fed says blocks e.1 y to) (sym g.2) (feeds blocks says e.1 g.0 to (All-tail IsBlock block blocks valid) g.1))
+        | inr ends ↦ rule_on says block blocks from e.1 to e.0 here e.2 x ends (λ others. Exchanges steps id (said (free says) e.0).says (blocks_as id blocks) e.1 others to) e.3
       ]
 
   -- two exchanges are told alike, and where the connection goes on, so is the end of the data
@@ -155,9 +158,9 @@ module _ {S : Type 0} (steps : Steps S) (id : ℕ) (server : GoesByData steps id
           at_end = λ e. let no : Shut shut.0 ≡ Running = sym (stop.state ∙ shut.1) ∙ e in cc;
         }
 
-  pub fed_alike : (says : Says) (one other : List (List ℕ)) (from : S) (x y : Exchange) (to to' : S) → concat one ≡ concat other → (one ≡ [] → other ≡ []) → (other ≡ [] → one ≡ [])
+  pub fed_alike : (says : Says) (one other : List (List ℕ)) (from : S) (x y : Exchange) (to to' : S) → All IsBlock one → All IsBlock other → concat one ≡ concat other → (one ≡ [] → other ≡ []) → (other ≡ [] → one ≡ [])
       → Exchanges steps id (free says) (blocks_as id one) from x to → Exchanges steps id (free says) (blocks_as id other) from y to' → ToldAlike x to y to'
-  fed_alike says one other from x y to to' same empty none e f = by_fed (feeds one says from x to e) (feeds other says from y to' f) where
+  fed_alike says one other from x y to to' valid valid' same empty none e f = by_fed (feeds one says from x to valid e) (feeds other says from y to' valid' f) where
     by_fed : Fed says one from x to → Fed says other from y to' → ToldAlike x to y to'
     by_fed (inl on) (inl again) = both_on says one other from x y to to' same none on again
     by_fed (inl on) (inr again) = absurd (clash says one other from x y to to' same none on again empty)
@@ -165,9 +168,9 @@ module _ {S : Type 0} (steps : Steps S) (id : ℕ) (server : GoesByData steps id
     by_fed (inr stop) (inr again) = both_stop says one other from x y to to' same none stop again
 
   -- the same behind other events
-  pub behind_alike : (before : List Event) (says : Says) (one other : List (List ℕ)) (from : S) (x y : Exchange) (to to' : S) → concat one ≡ concat other → (one ≡ [] → other ≡ []) → (other ≡ [] → one ≡ [])
+  pub behind_alike : (before : List Event) (says : Says) (one other : List (List ℕ)) (from : S) (x y : Exchange) (to to' : S) → All IsBlock one → All IsBlock other → concat one ≡ concat other → (one ≡ [] → other ≡ []) → (other ≡ [] → one ≡ [])
       → Exchanges steps id (free says) (before ++ blocks_as id one) from x to → Exchanges steps id (free says) (before ++ blocks_as id other) from y to' → ToldAlike x to y to'
-  behind_alike before says one other from x y to to' same empty none e f =
+  behind_alike before says one other from x y to to' valid valid' same empty none e f =
       let p = split steps id before (blocks_as id one) (free says) from x to e in
       let q = split steps id before (blocks_as id other) (free says) from y to' f in
       let first = exchanged_as_one steps id server.is_one before (free says) from p.x q.x p.mid q.mid p.begins q.begins in
@@ -178,7 +181,7 @@ module _ {S : Type 0} (steps : Steps S) (id : ℕ) (server : GoesByData steps id
         by_state z mid c Running runs g h =
             let e' = subst (λ (s : Says). Exchanges steps id s (blocks_as id one) mid g.0 to) (sym (free_says z.says c)) g.1 in
             let f' = subst (λ (s : Says). Exchanges steps id s (blocks_as id other) mid h.0 to') (sym (free_says z.says c)) h.1 in
-            let rest = fed_alike z.says one other mid g.0 h.0 to to' same empty none e' f' in
+            let rest = fed_alike z.says one other mid g.0 h.0 to to' valid valid' same empty none e' f' in
             let on = ap (λ (v : Exchange). v.state) g.2 in
             record {
               bytes = ap (λ (v : Exchange). v.bytes) g.2 ∙ ap (λ (bytes : List ℕ). z.bytes ++ bytes) rest.bytes ∙ sym (ap (λ (v : Exchange). v.bytes) h.2);

@@ -1,5 +1,6 @@
 -- Servers that go by a source's data, and not by how they were cut into blocks.
 use Rattle.std.specs.Prelude.{◌≡◌, ℕ, List, [], ◌++◌, ◌⊎◌}
+use Rattle.radio_blocks.specs.Block.{IsBlock}
 use Rattle.radio_core.specs.declared.event.Event.{Event}
 use Rattle.radio_core.specs.declared.event.Event.TheVariants.{Push, SourceEnd}
 use Rattle.radio_core.specs.declared.reply.Reply.{Reply}
@@ -31,12 +32,12 @@ module _ {S : Type 0} (steps : Steps S) (id : ℕ) where
     pub to_end : S → List ℕ → Reply
     pub is_one : HasOneReply steps
     -- a block is replied to as its data are: quietly, or by a rule that ends the connection
-    pub at_block : (from to : S) (block : List ℕ) (reply : Reply) → steps from (Push id block) reply to
+    pub at_block : (from to : S) (block : List ℕ) (reply : Reply) → IsBlock block → steps from (Push id block) reply to
         → (reply ≡ to_data from block) × (IsQuiet reply ⊎ EndsByRule reply)
     -- after a quiet reply, more data are replied to as if all had come at once
-    pub after_block : (from to : S) (block rest : List ℕ) (reply : Reply) → steps from (Push id block) reply to → IsQuiet reply
+    pub after_block : (from to : S) (block rest : List ℕ) (reply : Reply) → IsBlock block → steps from (Push id block) reply to → IsQuiet reply
         → (to_data from (block ++ rest) ≡ to_data to rest) × (to_end from (block ++ rest) ≡ to_end to rest)
     -- a rule that ends the connection ends it with more data too
-    pub at_rule : (from to : S) (block rest : List ℕ) (reply : Reply) → steps from (Push id block) reply to → EndsByRule reply
+    pub at_rule : (from to : S) (block rest : List ℕ) (reply : Reply) → IsBlock block → steps from (Push id block) reply to → EndsByRule reply
         → to_data from (block ++ rest) ≡ reply
     pub at_end : (from to : S) (reply : Reply) → steps from (SourceEnd id) reply to → reply ≡ to_end from []
