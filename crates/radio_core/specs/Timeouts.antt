@@ -1,5 +1,5 @@
 -- What has had its time.
-use Rattle.std.specs.Prelude.{ℕ, ◌-◌, ◌*◌, Bool, false, ◌&&◌, nat_le, nat_lt, if◌then◌else◌, List}
+use Rattle.std.specs.Prelude.{◌≡◌, ◌↔◌, ℕ, ◌-◌, ◌*◌, ◌<◌, ◌≤◌, Bool, true, false, ◌&&◌, nat_le, nat_lt, if◌then◌else◌, List, Some}
 use Rattle.std.specs.Option.{option_map_or}
 use Rattle.std.specs.Str.{bytes_eq}
 use Rattle.radio_policy.specs.declared.rule.Rule.TheVariants.{HeaderTimeout}
@@ -40,3 +40,14 @@ timed_out seconds now client = with_state (if asks_too_late seconds now client t
 -- the source of the session has sent nothing in so many seconds
 abbrev pub is_silent : ℕ → ℕ → Session → Bool
 is_silent seconds now session = lies_back seconds session.last_block now
+
+-- these tests in numbers: more bytes behind than a queue has, and so many seconds or more
+pub record TestsAreInNumbers : Type 0 where
+  pub lags : (mount : List ℕ) (end queue : ℕ) (seat : Seat)
+      → (lags_behind mount end queue seat ≡ true) ↔ ((seat.mount ≡ mount) × (queue < end - seat.place))
+  pub sits_out : (settings : Settings) (now : ℕ) (seat : Seat)
+      → (has_sat_out settings now seat ≡ true) ↔ ((seconds : ℕ) × ((options_for settings seat.home).listeners.max_listener_duration ≡ Some seconds)
+      × (1000 * seconds ≤ now - seat.since))
+  pub asks_nothing : (seconds now : ℕ) (client : Client)
+      → (asks_too_late seconds now client ≡ true) ↔ ((client.state ≡ Undecided) × (1000 * seconds ≤ now - client.arrived))
+  pub sends_nothing : (seconds now : ℕ) (session : Session) → (is_silent seconds now session ≡ true) ↔ (1000 * seconds ≤ now - session.last_block)

@@ -17,6 +17,7 @@ ghost use Rattle.radio_core.specs.Service.{Serves};
 ghost use Rattle.radio_core.specs.Stretches.{StretchesAreWhole, SeatsKeepTheirMounts};
 ghost use Rattle.radio_core.specs.TitlesTold.{TitlesAreTold};
 ghost use Rattle.radio_core.specs.Others.{OthersStandOn, RepliesFit, LosesNoSeatElse};
+ghost use Rattle.radio_core.specs.Timeouts.{TestsAreInNumbers};
 ghost use Rattle.radio_core.specs.Outstaying.{NobodyOutstays};
 ghost use Rattle.radio_core.specs.Gone.{HasLeft, IsOutOfPlace, StaysGone};
 
@@ -92,6 +93,8 @@ pub fn events_are_of_their_clients()
 pub fn nobody_outstays()
     // whatever has happened, a moment that has passed changes nothing; and when any other was heard, no listener is there who has sat as long as his mount allows, no client who has asked for nothing in the time for it, and no source that has sent nothing in the time for it
     ensures in_time { (settings : Settings) (lists : Lists) (events : List Event) (ms : ℕ) → NobodyOutstays (run_after settings lists events) ms }
+    // and what that time is, and how far behind is too far, in numbers
+    ensures tests { TestsAreInNumbers }
 {}
 
 /// The law of those who have left.
