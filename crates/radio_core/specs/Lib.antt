@@ -30,3 +30,4 @@ pub mod TitlesTold
 pub mod Gone
 pub mod Service
 pub mod Others
+pub mod SourceReplies
