@@ -25,3 +25,4 @@ pub mod StepLemmas
 pub mod ListsLemmas
 pub mod LimitLemmas
 pub mod LimitDenials
+mod SourceReplyLemmas

@@ -33,3 +33,4 @@ pub mod Gone
 pub mod Service
 pub mod Others
 pub mod Outstaying
+pub mod SourceReplies

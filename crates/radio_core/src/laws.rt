@@ -19,6 +19,7 @@ ghost use Rattle.radio_core.specs.TitlesTold.{TitlesAreTold};
 ghost use Rattle.radio_core.specs.Others.{OthersStandOn, RepliesFit, LosesNoSeatElse};
 ghost use Rattle.radio_core.specs.Timeouts.{TestsAreInNumbers};
 ghost use Rattle.radio_core.specs.Outstaying.{NobodyOutstays};
+ghost use Rattle.radio_core.specs.SourceReplies.{SourcesAreToldByTheirData, EndsAreTold};
 ghost use Rattle.radio_core.specs.Gone.{HasLeft, IsOutOfPlace, StaysGone};
 
 use radio_policy::denials_name_the_first_rule;
@@ -105,4 +106,12 @@ pub fn who_left_is_gone()
     ensures strays { (settings : Settings) (lists : Lists) (events : List Event) (event : Event) (id : ℕ) → HasLeft (run_after settings lists events) id → client_in event ≡ Some id → IsOutOfPlace (run_after settings lists events) event }
     // and whatever else happens, he does not come back: his number is given to nobody, he is handed nothing more, and nothing more comes from him
     ensures gone { (settings : Settings) (lists : Lists) (events more : List Event) (id : ℕ) → HasLeft (run_after settings lists events) id → StaysGone (run_after settings lists events) more id }
+{}
+
+/// What a source is replied goes by its data, and not by how they are cut into blocks.
+pub fn sources_are_told_by_their_data()
+    // in each state a block is replied to as its data are; while the source goes on, more data are replied to as if all had come at once; and what a rule has ended stays ended by it
+    ensures blocks { SourcesAreToldByTheirData }
+    // and so is the end of the data
+    ensures ends { EndsAreTold }
 {}

@@ -14,7 +14,8 @@ use Rattle.radio_session.specs.declared.state.Ending.{Ending}
 use Rattle.radio_session.specs.declared.state.Ending.TheVariants.{By}
 use Rattle.radio_session.specs.Saying.{Said, said, tells}
 use Rattle.radio_session.specs.Exchanges.{Steps, Exchange, nothing_exchanged, GoesOn, Exchanges}
-use Rattle.radio_session.specs.DataServers.{IsQuiet, EndsByRule, GoesByData}
+use Rattle.radio_session.specs.DataServers.{GoesByData}
+use Rattle.radio_core.specs.SourceReplies.{IsQuiet, EndsByRule}
 use Rattle.radio_session.proofs.AwaitLemmas.{free, free_says, stays_free}
 use Rattle.radio_session.proofs.ExchangeParts.{FollowsBy, split, exchanged_as_one}
 

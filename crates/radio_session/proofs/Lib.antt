@@ -9,4 +9,5 @@ mod ExchangeParts
 mod AwaitLemmas
 mod DataLemmas
 mod CutTellingLemmas
+mod CoreDataLemmas
 mod SentTitleLemmas

@@ -4,20 +4,8 @@ use Rattle.radio_blocks.specs.Block.{IsBlock}
 use Rattle.radio_core.specs.declared.event.Event.{Event}
 use Rattle.radio_core.specs.declared.event.Event.TheVariants.{Push, SourceEnd}
 use Rattle.radio_core.specs.declared.reply.Reply.{Reply}
-use Rattle.radio_core.specs.declared.reply.Reply.TheVariants.{Noted, Deny, Finished, Stray}
+use Rattle.radio_core.specs.SourceReplies.{IsQuiet, EndsByRule}
 use Rattle.radio_session.specs.Exchanges.{Steps}
-
--- nothing is told of it, and the connection goes on
-abbrev pub IsQuiet : Reply → Type 0
-IsQuiet Noted = Unit {0}
-IsQuiet Stray = Unit {0}
-IsQuiet _ = ⊥
-
--- the connection ends by a rule
-abbrev pub EndsByRule : Reply → Type 0
-EndsByRule (Deny rule) = Unit {0}
-EndsByRule (Finished rule) = Unit {0}
-EndsByRule _ = ⊥
 
 -- from each state an event has one reply, and leaves one state
 abbrev pub HasOneReply : {S : Type 0} → Steps S → Type 0

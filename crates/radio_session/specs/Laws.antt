@@ -6,6 +6,7 @@ use Rattle.radio_core.specs.Step.{Represents}
 use Rattle.radio_session.specs.declared.session.Says.{Says}
 use Rattle.radio_session.specs.Conversation.{Conversation}
 use Rattle.radio_session.specs.Hearing.{Heard, IsHeard}
+use Rattle.radio_session.specs.DataServers.{GoesByData}
 use Rattle.radio_session.specs.Exchanges.{Exchange, Exchanges, ExchangesAs, core_steps, exchanged}
 
 -- bytes that come on a connection are heard as one thing
@@ -16,3 +17,7 @@ HearingIsOne = (conversation : Conversation) (bytes : List ℕ) (one other : Hea
 abbrev pub CoresExchangeAsTheirStates : Type 0
 CoresExchangeAsTheirStates = (id : ℕ) (says : Says) (events : List Event) (core core' : World) (x : Exchange)
     → Exchanges core_steps id says events core x core' → (w : World) → Represents core w → ExchangesAs core' x (exchanged w id says events)
+
+-- a core goes by the data of each of its sources
+abbrev pub CoresGoByData : Type 0
+CoresGoByData = (id : ℕ) → GoesByData core_steps id

@@ -8,10 +8,11 @@ ghost use Rattle.radio_session.specs.Cuts.{CutsDoNotMatter};
 ghost use Rattle.radio_session.specs.CutTelling.{CutsAreToldAlike};
 ghost use Rattle.radio_session.specs.Told.{DrawsFollowTheHead, PlainDrawsAreTheirData, JoinedDrawsAreWoven, DrawsAreTakenOutAgain, ExchangesTellReplies};
 ghost use Rattle.radio_session.specs.SentTitles.{TitlesAreSentInTime, NoTitleIsRepeated};
-ghost use Rattle.radio_session.specs.Laws.{HearingIsOne, CoresExchangeAsTheirStates};
+ghost use Rattle.radio_session.specs.Laws.{HearingIsOne, CoresExchangeAsTheirStates, CoresGoByData};
 
 use crate::exchanging::Applies;
 use radio_blocks::laws::blocks_are_the_data;
+use radio_core::sources_are_told_by_their_data;
 use radio_heads::{heads_lie_within, readings_agree, settled};
 use radio_icy::laws::{bare_of_woven, unwoven_streams, woven_streams};
 use radio_source::laws::pieces_are_joined;
@@ -52,6 +53,13 @@ pub fn hearing_is_one()
 pub fn cores_exchange_as_their_states()
     ensures { CoresExchangeAsTheirStates }
 {}
+
+/// A core goes by a source's data, and not by how they are cut into blocks.
+pub fn cores_go_by_data()
+    ensures { CoresGoByData }
+{
+    sources_are_told_by_their_data();
+}
 
 /// The last word of a connection is that of the rule that ended it, or `done` where none did; and
 /// the answer before it, where there is one, has the rule's status and names the rule.

@@ -1,0 +1,66 @@
+-- What a source is replied goes by its data, and not by how they are cut into blocks.
+use Rattle.std.specs.Prelude.{◌≡◌, ◌⊎◌, ℕ, ◌+◌, nat_lt, Bool, true, false, List, [], ◌++◌, length, Option, None, Some}
+use Rattle.radio_blocks.specs.Block.{IsBlock}
+use Rattle.radio_policy.specs.declared.rule.Rule.TheVariants.{NumbersSpent}
+use Rattle.radio_core.specs.declared.event.Event.TheVariants.{Push, SourceEnd}
+use Rattle.radio_core.specs.declared.house.House.{House}
+use Rattle.radio_core.specs.declared.reply.Reply.{Reply}
+use Rattle.radio_core.specs.declared.reply.Reply.TheVariants.{Noted, Deny, Finished, Stray}
+use Rattle.radio_core.specs.declared.standing.Standing.{Standing}
+use Rattle.radio_core.specs.declared.standing.Standing.TheVariants.{Feeds}
+use Rattle.radio_core.specs.Facts.{largest_number}
+use Rattle.radio_core.specs.Outcomes.{out_of_place}
+use Rattle.radio_core.specs.Sessions.{Session, session_of}
+use Rattle.radio_core.specs.Step.{reply_to, world_after}
+use Rattle.radio_core.specs.Stream.{end_of}
+use Rattle.radio_core.specs.World.{World, standing_of}
+
+-- whether there are too many for the numbers of a stream
+abbrev pub unless_spent : Bool → Reply
+unless_spent true = Deny NumbersSpent
+unless_spent false = Noted
+
+-- a session is delivered data
+abbrev pub to_session : Option Session → List ℕ → Reply
+to_session None bytes = Noted
+to_session (Some session) bytes = unless_spent (nat_lt largest_number (end_of session.stream + length bytes))
+
+abbrev pub to_data_from : Standing → House → List ℕ → Reply
+to_data_from (Feeds mount) house bytes = to_session (session_of house.live mount) bytes
+to_data_from standing house bytes = (out_of_place standing).reply
+
+abbrev pub to_end_from : Standing → Reply
+to_end_from (Feeds mount) = Noted
+to_end_from standing = (out_of_place standing).reply
+
+-- the reply to data from this client, and to their end
+unfoldable pub to_data : World → ℕ → List ℕ → Reply
+to_data w id bytes = to_data_from (standing_of w id) w.house bytes
+
+unfoldable pub to_end : World → ℕ → Reply
+to_end w id = to_end_from (standing_of w id)
+
+-- nothing is told of it and the source goes on, or it ends by a rule
+abbrev pub IsQuiet : Reply → Type 0
+IsQuiet Noted = Unit {0}
+IsQuiet Stray = Unit {0}
+IsQuiet _ = ⊥
+
+abbrev pub EndsByRule : Reply → Type 0
+EndsByRule (Deny rule) = Unit {0}
+EndsByRule (Finished rule) = Unit {0}
+EndsByRule _ = ⊥
+
+-- A block is replied to as its data are; while the source goes on, more data are replied to as if all had come at once; and a rule stays.
+pub record IsToldByData (w : World) (id : ℕ) (block : List ℕ) : Type 0 where
+  pub at_block : reply_to w (Push id block) ≡ to_data w id block
+  pub kinds : IsQuiet (reply_to w (Push id block)) ⊎ EndsByRule (reply_to w (Push id block))
+  pub more : (rest : List ℕ) → IsQuiet (reply_to w (Push id block)) → to_data w id (block ++ rest) ≡ to_data (world_after w (Push id block)) id rest
+  pub end_stays : IsQuiet (reply_to w (Push id block)) → to_end w id ≡ to_end (world_after w (Push id block)) id
+  pub rule_stays : (rest : List ℕ) → EndsByRule (reply_to w (Push id block)) → to_data w id (block ++ rest) ≡ reply_to w (Push id block)
+
+abbrev pub SourcesAreToldByTheirData : Type 0
+SourcesAreToldByTheirData = (w : World) (id : ℕ) (block : List ℕ) → IsBlock block → IsToldByData w id block
+
+abbrev pub EndsAreTold : Type 0
+EndsAreTold = (w : World) (id : ℕ) → reply_to w (SourceEnd id) ≡ to_end w id
