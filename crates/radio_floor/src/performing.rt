@@ -50,7 +50,7 @@ impl ScriptServer {
     ) -> Result<(), OutOfMemory>
         ensures { OnOk result (DoesAs self.old.core self.new.core self.new.connections lines.old.items lines.new.items
             (λ w done. (heard : Heard) × IsHeard connection bytes.now heard
-                × (exchanges (script_state_of w self.old.connections) label heard.conversation heard.events ≡ done))) }
+            × (exchanges (script_state_of w self.old.connections) label heard.conversation heard.events ≡ done))) }
     {
         let mut connection = connection;
         let events = connection.take(bytes)?;

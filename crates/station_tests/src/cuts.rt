@@ -14,10 +14,12 @@ use std::process::Abort;
 // How many bytes the delivery of that place brings; none where it brings no bytes.
 fn length_of(all: &[Delivery], place: usize) -> usize {
     match all.get(place) {
-        Some(Delivery::To {
-            input: Input::Data(bytes),
-            ..
-        }) => bytes.len(),
+        Some(
+            Delivery::To {
+                input: Input::Data(bytes),
+                ..
+            },
+        ) => bytes.len(),
         _ => 0,
     }
 }
@@ -25,10 +27,12 @@ fn length_of(all: &[Delivery], place: usize) -> usize {
 // The delivery of that place comes in two, of which the first has so many bytes at most; one that
 // brings no bytes is left whole.
 fn cut(alloc: Global, all: &mut Vec<Delivery>, place: usize, at: usize) -> Result<(), OutOfMemory> {
-    let Some(Delivery::To {
-        label,
-        input: Input::Data(bytes),
-    }) = all.get(place)
+    let Some(
+        Delivery::To {
+            label,
+            input: Input::Data(bytes),
+        },
+    ) = all.get(place)
     else {
         return Ok(());
     };

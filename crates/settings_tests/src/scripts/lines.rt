@@ -93,7 +93,13 @@ const DELIVERIES: &[(&[u8], Parts<'static>)] = &[
             text: b"A & B",
         },
     ),
-    (b"title 3 ", Parts::Title { label: 3, text: b"" }),
+    (
+        b"title 3 ",
+        Parts::Title {
+            label: 3,
+            text: b"",
+        },
+    ),
     (b"end 12", Parts::End { label: 12 }),
     (
         b"clock 18446744073709551615",

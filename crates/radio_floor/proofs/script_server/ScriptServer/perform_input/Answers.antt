@@ -10,9 +10,12 @@ pub returns-in-None : goal.returns-in-None
 returns-in-None c w stands =
     let connections = c.args.self.now.connections in
     let label = c.args.label in
-    let was : None ≡ connection_of connections label = sym c.in-None.is ∙ c.swap_connection.ensures.was in
-    (w, stands, unknown-label w connections c.swap_connection.new.connections label
-    (λ conversation done. ComesTo (script_state_of w connections) label conversation c.args.input.now done) was c.swap_connection.ensures.set)
+    let was : None ≡ connection_of connections label = sym c.in-None.is ∙ c.swap_connection.ensures.was in (
+      w,
+      stands,
+      unknown-label w connections c.swap_connection.new.connections label
+          (λ conversation done. ComesTo (script_state_of w connections) label conversation c.args.input.now done) was c.swap_connection.ensures.set,
+    )
 
 -- its connection was shut
 pub returns-in-Some-None : goal.returns-in-Some-None
@@ -23,9 +26,12 @@ returns-in-Some-None c =
     ap (λ (o : Option Conversation). Some o) (sym c.in-Some-None.field-0-is) ∙ sym c.in-Some-None.is ∙ c.swap_connection.ensures.was in (
       [],
       sym (append-nil c.args.lines.now.items),
-      λ w stands.
-          (w, stands, shut-label w connections c.swap_connection.new.connections label
-          (λ conversation done. ComesTo (script_state_of w connections) label conversation c.args.input.now done) was c.swap_connection.ensures.set),
+      λ w stands. (
+        w,
+        stands,
+        shut-label w connections c.swap_connection.new.connections label
+            (λ conversation done. ComesTo (script_state_of w connections) label conversation c.args.input.now done) was c.swap_connection.ensures.set,
+      ),
     )
 
 -- its connection is there
