@@ -1,6 +1,6 @@
 -- The tail of a stream that a queue keeps, and the slices that are drawn of it.
-use Rattle.std.proofs.Common.{◌≡◌, ℕ, zero, suc, ◌+◌, ◌-◌, ◌<◌, ◌≤◌, min, Bool, true, false, List, [], ◌∷◌, ◌++◌, length, take, drop, ap, sym, ◌∙◌, refl, subst, inl, inr, slice_index_or, Some, None, arith}
-use Rattle.std.proofs.Common.{length-append, append_assoc, append-nil}
+use Rattle.std.proofs.Common.{◌≡◌, ℕ, zero, suc, ◌+◌, ◌-◌, ◌<◌, ◌≤◌, min, Bool, true, false, List, [], ◌∷◌, ◌++◌, length, take, drop, ap, sym, ◌∙◌, refl}
+use Rattle.std.proofs.Common.{subst, inl, inr, slice_index_or, Some, arith, length-append, append_assoc, append-nil}
 use Rattle.std.specs.Prelude.{nat_le, ◌⊎◌, find, unwrap_or, if◌then◌else◌}
 use Rattle.std.specs.List.{concat}
 use Rattle.std.proofs.lemmas.Bool.{le-leb, leb-false, leb-true}
@@ -151,7 +151,8 @@ no_shorter limit block blocks (first ∷ front) shorter few e h =
 some_enough : (limit : ℕ) (blocks tail dropped : List (List ℕ)) → limit ≤ length (concat blocks) → blocks ≡ dropped ++ tail
     → (dropped ≡ []) ⊎ (limit ≤ length (concat tail)) → limit ≤ length (concat tail)
 some_enough limit blocks tail dropped enough e (inl none) =
-    let sizes : length (concat blocks) ≡ length (concat tail) = ap (λ (t : List (List ℕ)). length (concat t)) (e ∙ ap (λ (t : List (List ℕ)). t ++ tail) none) in
+    let sizes : length (concat blocks) ≡ length (concat tail)
+    = ap (λ (t : List (List ℕ)). length (concat t)) (e ∙ ap (λ (t : List (List ℕ)). t ++ tail) none) in
     omega (arith, sizes, enough)
 some_enough limit blocks tail dropped enough e (inr h) = h
 
@@ -161,7 +162,9 @@ shortest_at : (limit : ℕ) (block : List ℕ) (blocks : List (List ℕ)) (enoug
 shortest_at limit block blocks true e later = record {
   dropped = block ∷ later.dropped;
   whole_blocks = ap (λ (t : List (List ℕ)). block ∷ t) later.whole_blocks;
-  enough = inr (some_enough limit blocks (shortest_tail limit blocks) later.dropped (leb-true limit (length (concat blocks)) e) later.whole_blocks later.enough);
+  enough =
+      let some = leb-true limit (length (concat blocks)) e in
+      inr (some_enough limit blocks (shortest_tail limit blocks) later.dropped some later.whole_blocks later.enough);
   shortest = later.shortest;
 }
 shortest_at limit block blocks false e later = record {
@@ -181,7 +184,8 @@ shortest-sizes : (limit : ℕ) (blocks : List (List ℕ))
 shortest-sizes limit blocks =
     let is = shortest_is limit blocks in
     ap (λ (t : List (List ℕ)). length (concat t)) is.whole_blocks
-    ∙ (ap (λ (t : List ℕ). length t) (concat-append is.dropped (shortest_tail limit blocks)) ∙ length-append (concat is.dropped) (concat (shortest_tail limit blocks)))
+    ∙ (ap (λ (t : List ℕ). length t) (concat-append is.dropped (shortest_tail limit blocks))
+    ∙ length-append (concat is.dropped) (concat (shortest_tail limit blocks)))
 
 -- trimming moves no end
 pub trimmed-end : (tail : KeptTail) → kept_end (trimmed tail) ≡ kept_end tail
