@@ -1,7 +1,7 @@
 //! Tests of data and of tables, as callers see them: what no clause says. Each call succeeds with ample memory, and the
 //! definitions mean what the standards and the rules say, on examples from outside.
 //!
-//! - `blocks`: data cut into blocks; `tables`: rows by number and by name.
+//! - `blocks`: data cut into blocks; `queue`: the blocks that are kept; `tables`: rows by number and by name.
 //! - `bodies`: what sources send; `icy`: sound with titles woven into it.
 #![tactic(auto)]
 
@@ -11,5 +11,7 @@ mod blocks;
 mod bodies;
 #[cfg(test)]
 mod icy;
+#[cfg(test)]
+mod queue;
 #[cfg(test)]
 mod tables;

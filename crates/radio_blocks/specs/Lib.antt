@@ -1,3 +1,5 @@
 pub mod Block
 pub mod Cutting
 pub mod Gathering
+pub mod Queue
+pub mod QueueLaws

@@ -76,6 +76,13 @@ impl Block {
         self.bytes.as_slice()
     }
 
+    /// Its bytes, as a shared slice.
+    pub(crate) fn into_bytes(self) -> Bytes
+        ensures { result ≡ self }
+    {
+        self.bytes
+    }
+
     /// Another handle on the same bytes, which need not be copied for it.
     /// `OutOfMemory` where memory was refused.
     pub fn share(&self) -> Result<Block, OutOfMemory>

@@ -6,6 +6,8 @@ ghost use Rattle.std.specs.Prelude.{◌≡◌, ◌<◌, ℕ, List, [], ◌∷◌
 ghost use Rattle.std.specs.List.{concat};
 ghost use Rattle.radio_blocks.specs.Block.{IsBlock};
 ghost use Rattle.radio_blocks.specs.Cutting.{blocks_of};
+ghost use Rattle.radio_blocks.specs.Queue.{kept_end};
+ghost use Rattle.radio_blocks.specs.QueueLaws.{tail_after, IsShortestTail};
 
 /// The blocks of some data are these data, cut after every 4096 bytes.
 pub fn blocks_are_the_data()
@@ -14,4 +16,15 @@ pub fn blocks_are_the_data()
     ensures first { (bytes : List ℕ) → 0 < length bytes
         → blocks_of bytes ≡ take 4096 bytes ∷ blocks_of (drop 4096 bytes) }
     ensures none { blocks_of [] ≡ [] }
+{}
+
+/// What a queue of blocks keeps, whatever blocks came.
+pub fn queues_keep_the_tail()
+    // it keeps the shortest tail of whole blocks that has at least as many bytes as its limit, or all blocks
+    ensures shortest { (limit : ℕ) (blocks : List (List ℕ)) → IsShortestTail limit blocks (tail_after limit blocks).blocks }
+    // the stream's bytes at its offset are those that it keeps
+    ensures bytes { (limit : ℕ) (blocks : List (List ℕ))
+        → drop (tail_after limit blocks).offset (concat blocks) ≡ concat (tail_after limit blocks).blocks }
+    // and its end is the end of the stream
+    ensures ends { (limit : ℕ) (blocks : List (List ℕ)) → kept_end (tail_after limit blocks) ≡ length (concat blocks) }
 {}

@@ -1,10 +1,12 @@
 //! Data that a listener draws.
-ghost use Rattle.std.specs.Prelude.{◌≡◌, ◌++◌, [], IfOk, OnOk, OnErr};
+ghost use Rattle.std.specs.Prelude.{◌≡◌, ◌++◌, [], length, take, drop, IfOk, OnOk, OnErr};
 ghost use Rattle.std.specs.List.{concat};
+ghost use Rattle.radio_blocks.specs.Queue.{bytes_behind};
 
 use crate::OutOfMemory;
 use bytes::Bytes;
 use std::alloc::Global;
+use std::collections::VecDeque;
 use std::marker::Model;
 
 /// Data drawn from a stream, in order, as shared slices. In contracts they are the bytes joined.
@@ -53,6 +55,26 @@ impl Pieces {
         self.append_shared(slice)
     }
 
+    /// Appends at most `room` bytes of the blocks, from the block at `index` on, but for the `skip` bytes at the front.
+    /// They are not copied. `OutOfMemory` where memory was refused; the pieces are unchanged then.
+    pub(crate) fn append_from(
+        &mut self,
+        blocks: &VecDeque<Bytes>,
+        index: usize,
+        skip: usize,
+        room: usize,
+    ) -> Result<(), OutOfMemory>
+        ensures ok { OnOk result (self.new ≡ self.old ++ take room (bytes_behind index skip blocks.now.items)) }
+        ensures err { OnErr result (self.new ≡ self.old) }
+    {
+        let before = self.slices.len();
+        let pushed = push_parts(&mut self.slices, blocks, index, skip, room);
+        if pushed.is_err() {
+            self.slices.truncate(before);
+        }
+        pushed
+    }
+
     /// Equal pieces: the slices are shared with these. `OutOfMemory` where memory was refused.
     pub fn again(&self) -> Result<Pieces, OutOfMemory>
         ensures { IfOk result (λ pieces. pieces ≡ self.now) }
@@ -91,4 +113,38 @@ fn write_slices(slices: &[Bytes], out: &mut Vec<u8>) -> Result<(), OutOfMemory>
         }
     }
     Ok(())
+}
+
+fn push_parts(
+    slices: &mut Vec<Bytes>,
+    blocks: &VecDeque<Bytes>,
+    index: usize,
+    skip: usize,
+    room: usize,
+) -> Result<(), OutOfMemory>
+    ensures ok { OnOk result (concat slices.new.items
+        ≡ concat slices.old.items ++ take room (bytes_behind index skip blocks.now.items)) }
+    ensures err { OnErr result (take (length slices.old.items) slices.new.items ≡ slices.old.items) }
+{
+    let mut index = index;
+    let mut skip = skip;
+    let mut left = room;
+    'index: while left > 0 && index < blocks.len() {
+        let block = &blocks[index];
+        let part = part_of(block, skip, left)?;
+        left -= part.len();
+        slices.push(part)?;
+        skip = skip.saturating_sub(block.len());
+        index += 1;
+    }
+    Ok(())
+}
+
+/// At most `room` bytes of the slice, but for the `skip` bytes at its front.
+fn part_of(slice: &Bytes, skip: usize, room: usize) -> Result<Bytes, OutOfMemory>
+    ensures { IfOk result (λ part. part ≡ take room (drop skip slice.now)) }
+{
+    let from = skip.min(slice.len());
+    let to = from + room.min(slice.len() - from);
+    slice.slice(from..to)
 }

@@ -1,0 +1,187 @@
+//! A bounded queue of blocks: the tail of a stream that is kept in memory.
+ghost use Rattle.std.specs.Prelude.{◌≡◌, ◌+◌, ◌-◌, ◌<◌, ◌≤◌, ◌++◌, ◌↔◌, ℕ, List, min, length, take, drop, IsTrue, IsFalse, IfOk, OnOk, OnErr};
+ghost use Rattle.std.specs.List.{concat};
+ghost use Rattle.std.specs.declared.result.Result.TheVariants.{Err};
+ghost use Rattle.radio_blocks.specs.declared.queue.DrawFault.TheVariants.{Trimmed};
+ghost use Rattle.radio_blocks.specs.Queue.{nothing_kept, kept_end, kept_lag, trimmed, with_pushed, kept_start, kept_data, bytes_behind};
+
+use crate::OutOfMemory;
+use crate::block::Block;
+use crate::pieces::Pieces;
+use crate::place::Place;
+use bytes::Bytes;
+use std::alloc::{AllocError, Global};
+use std::collections::VecDeque;
+use std::marker::Model;
+
+/// Why nothing was drawn.
+#[derive(Clone, Copy, Debug, PartialEq, Eq)]
+pub enum DrawFault {
+    /// The place lies before the blocks that are kept.
+    Trimmed,
+    /// Memory was refused.
+    OutOfMemory,
+}
+
+/// The last blocks of a stream, as shared slices. Places count the bytes of the whole stream.
+///
+/// After each push it keeps the fewest whole blocks that have at least `limit` bytes together, or all blocks
+/// where these have fewer.
+#[derive(Drop)]
+pub struct BlockQueue {
+    limit: u64,
+    offset: u64,
+    end: u64,
+    blocks: VecDeque<Bytes>,
+}
+
+impl Model for BlockQueue {
+    ghost use Rattle.std.specs.Prelude.{◌≡◌, ◌+◌, length};
+    ghost use Rattle.std.specs.List.{concat};
+    ghost use Rattle.radio_blocks.specs.Queue.{KeptTail};
+
+    ghost Value = { KeptTail };
+
+    ghost view = { λ q. record { offset = q.offset; blocks = q.blocks.items; limit = q.limit } };
+
+    ghost invariant = { λ q. q.offset + length (concat q.blocks.items) ≡ q.end };
+}
+
+impl BlockQueue {
+    /// The queue of a stream of which nothing has come. It is to keep at least `limit` bytes. It takes no memory.
+    pub fn new(alloc: Global, limit: u64) -> BlockQueue
+        ensures { result ≡ nothing_kept limit }
+    {
+        BlockQueue {
+            limit,
+            offset: 0,
+            end: 0,
+            blocks: VecDeque::new(alloc),
+        }
+    }
+
+    /// The place where the first kept block starts.
+    pub fn offset(&self) -> Place
+        ensures { result ≡ self.now.offset }
+    {
+        Place::new(self.offset)
+    }
+
+    /// The place behind the last byte of the stream.
+    pub fn end(&self) -> Place
+        ensures { result ≡ kept_end self.now }
+    {
+        Place::new(self.end)
+    }
+
+    /// How many bytes of the stream lie behind the place; 0 where it is the end or behind it.
+    pub fn lag(&self, place: Place) -> u64
+        ensures { result ≡ kept_lag self.now place }
+    {
+        self.end.saturating_sub(place.bytes_before())
+    }
+
+    /// Where a listener begins who is to be sent at most `burst` bytes at once: the first start of a kept block that
+    /// is at most so many bytes before the end, or the end.
+    pub fn start_for(&self, burst: u64) -> Place
+        ensures { result ≡ kept_start self.now burst }
+    {
+        let mut start = self.offset;
+        for i in 0..self.blocks.len() {
+            if self.end - start <= burst {
+                return Place::new(start);
+            }
+            start += self.blocks[i].len() as u64;
+        }
+        Place::new(self.end)
+    }
+
+    /// Appends a block, and drops the blocks at the front that are not needed for `limit` bytes.
+    /// `OutOfMemory` where memory was refused, and where the stream would have 2^64 bytes; the queue is unchanged then.
+    pub fn push(&mut self, block: Block) -> Result<(), OutOfMemory>
+        ensures ok { OnOk result (self.new ≡ with_pushed self.old block) }
+        ensures err { OnErr result (self.new ≡ self.old) }
+    {
+        let Some(end) = self.end.checked_add(block.len() as u64) else {
+            return Err(AllocError);
+        };
+        self.blocks.push_back(block.into_bytes())?;
+        self.end = end;
+        self.trim();
+        Ok(())
+    }
+
+    /// Drops the blocks that are not needed.
+    fn trim(&mut self)
+        ensures { self.new ≡ trimmed self.old }
+    {
+        'others: while self.drop_first() {}
+    }
+
+    /// Drops the first block where the others have enough bytes, and says whether it did.
+    fn drop_first(&mut self) -> bool
+        ensures same { trimmed self.new ≡ trimmed self.old }
+        ensures dropped { IsTrue result → length self.new.blocks < length self.old.blocks }
+        ensures done { IsFalse result → trimmed self.new ≡ self.new }
+    {
+        let Some(first) = self.blocks.front() else {
+            return false;
+        };
+        let next = self.offset + first.len() as u64;
+        if self.end - next < self.limit {
+            return false;
+        }
+        self.blocks.pop_front();
+        self.offset = next;
+        true
+    }
+
+    /// Appends to the pieces what stands at the place, at most `room` bytes, as slices that are shared with the queue,
+    /// and answers the place behind it. `Trimmed` where the place lies before the kept blocks, `OutOfMemory` where
+    /// memory was refused; the pieces are unchanged then.
+    pub fn draw(&self, place: Place, room: u32, pieces: &mut Pieces) -> Result<Place, DrawFault>
+        // what is drawn is what is kept at the place
+        ensures kept { OnOk result (pieces.new ≡ pieces.old ++ kept_data self.now place room) }
+        // and so it is the data at the place of every stream that ends in what is kept
+        ensures stream { (stream : List ℕ) → drop self.now.offset stream ≡ concat self.now.blocks
+            → OnOk result (pieces.new ≡ pieces.old ++ take room (drop place stream)) }
+        ensures place { IfOk result (λ after. after ≡ place + min room (kept_lag self.now place)) }
+        ensures trimmed { (result ≡ Err Trimmed) ↔ (place < self.now.offset) }
+        ensures err { OnErr result (pieces.new ≡ pieces.old) }
+    {
+        let before = place.bytes_before();
+        if before < self.offset {
+            return Err(DrawFault::Trimmed);
+        }
+        let end = self.end;
+        let lag = end.saturating_sub(before);
+        let (index, skip) = last_start(&self.blocks, lag as usize);
+        match pieces.append_from(&self.blocks, index, skip, room as usize) {
+            Ok(()) => Ok(Place::new(before + lag.min(room as u64))),
+            Err(_) => Err(DrawFault::OutOfMemory),
+        }
+    }
+}
+
+/// The slice in which the last `lag` bytes begin, and how many of its bytes lie before them. It looks from the end on,
+/// so it costs as many steps as slices hold these bytes.
+fn last_start(slices: &VecDeque<Bytes>, lag: usize) -> (usize, usize)
+    requires { lag ≤ length (concat slices.now.items) }
+    ensures { bytes_behind result.0 result.1 slices.now.items
+        ≡ drop (length (concat slices.now.items) - lag) (concat slices.now.items) }
+{
+    if lag == 0 {
+        return (slices.len(), 0);
+    }
+    let mut index = slices.len();
+    let mut left = lag;
+    'index: while index > 0 {
+        index -= 1;
+        let size = slices[index].len();
+        if left <= size {
+            return (index, size - left);
+        }
+        left -= size;
+    }
+    (0, 0)
+}
