@@ -60,7 +60,7 @@ const BOTH: &[u8] =
 /// How many bytes the source brings at once.
 const MEBIBYTES_16: usize = 16 * 1024 * 1024;
 
-/// The source brings so many bytes in one delivery, and the listener draws four of them.
+/// The source brings so many bytes in one delivery, and then there is room for four on the listener's connection.
 fn large_delivery(alloc: Global) -> Result<Vec<Delivery>, OutOfMemory> {
     let mut all = deliveries(alloc, BOTH)?;
     let brought = vec![in alloc; b'x'; MEBIBYTES_16]?;
@@ -75,10 +75,10 @@ fn large_delivery(alloc: Global) -> Result<Vec<Delivery>, OutOfMemory> {
     Ok(all)
 }
 
-/// Whether they come to a transcript that ends with what the listener drew.
-fn ends_with_four_bytes(alloc: Global, all: &[Delivery]) -> Result<bool, SettingsFault> {
+/// Whether they come to a transcript that ends with a listener too far behind, as so many bytes leave him.
+fn ends_with_a_laggard(alloc: Global, all: &[Delivery]) -> Result<bool, SettingsFault> {
     match run(alloc, settings(alloc, 8)?, Lists::new(alloc), all) {
-        Ok(text) => Ok(text.as_slice().ends_with(b"out 2 xxxx\n")),
+        Ok(text) => Ok(text.as_slice().ends_with(b"shut 2 lagged\n")),
         Err(_) => Ok(false),
     }
 }
@@ -86,6 +86,6 @@ fn ends_with_four_bytes(alloc: Global, all: &[Delivery]) -> Result<bool, Setting
 #[test]
 fn sixteen_mebibytes_in_one_delivery(rt: HostRuntime) -> Result<(), SettingsFault> {
     let all = large_delivery(rt.alloc())?;
-    assert!(rt; ends_with_four_bytes(rt.alloc(), all.as_slice())?);
+    assert!(rt; ends_with_a_laggard(rt.alloc(), all.as_slice())?);
     Ok(())
 }
