@@ -12,6 +12,7 @@ use Rattle.radio_seats.specs.declared.walk.Found.{Found}
 use Rattle.radio_seats.specs.EndLaws.{LosesSeat, same_or_loses}
 use Rattle.radio_seats.specs.Seats.{listener_of, seat_of, seat_in, with_ended}
 use Rattle.radio_seats.specs.Walk.{found_at, stop_of}
+use Rattle.radio_seats.specs.WalkLaws.{stopped_where_it_begins}
 use Rattle.radio_core.specs.declared.clients.Client.{Client}
 use Rattle.radio_core.specs.declared.clients.ClientState.{ClientState}
 use Rattle.radio_core.specs.declared.clients.ClientState.TheVariants.{Undecided as IsNew, Feeds as IsSource, Listens, Answered as HasHisAnswer, Ended}
@@ -33,7 +34,9 @@ stopped found e = rw e refl
 
 pub stops_there : (w : World) (seat : Seat) → session_of w.house.live seat.mount ≡ None
     → walk_stops w.house w.seats seat.mount seat.pair ≡ Some NotLive
-stops_there w seat none = stopped (found_at (sight_of w.house) w.seats seat.mount seat.pair) (ap is_some none)
+stops_there w seat none =
+    stopped_where_it_begins (sight_of w.house) w.seats seat.mount seat.pair
+    ∙ stopped (found_at (sight_of w.house) w.seats seat.mount seat.pair) (ap is_some none)
 
 -- there is something that can end for him
 abbrev pub IsActive : Standing → Type 0

@@ -27,7 +27,7 @@ use Rattle.radio_core.specs.Limits.{IsFullAt, HasUserAt, DeniesByLimits, most_at
 use Rattle.radio_core.specs.Step.{outcome, reply_to}
 use Rattle.radio_core.specs.Ways.{Way, Misplaced, IsFinished, IsDenied, IsRefused, IsAdmitted, Begins, Receives, SetsTitle, TakesSeat, HandsOut, Ends, EndsAndLeaves, Leaves, HasPassed, Ticks, rows_for, rows_from}
 use Rattle.radio_core.specs.World.{World, standing_of}
-use Rattle.radio_core.proofs.Ways.{way_of, rows_by, found_by}
+use Rattle.radio_core.proofs.Ways.{way_of, rows_by, found_by, rows_there}
 
 -- the rules of the limits, and rows that name neither
 abbrev is_limit : Rule → Bool
@@ -135,7 +135,8 @@ module _ (w : World) where
     at asked denied =
         let found = found_by w asked in
         full_at w asked.mount (most_at w asked.mount) refl
-        (full_by (is_mount_name asked.mount) (is_known w.house asked.mount) found.is_live found.is_full found.users_accept found.user_is_twice denied)
+        (full_by (is_mount_name asked.mount) (is_known w.house asked.mount) found.is_live found.is_full found.users_accept found.user_is_twice
+        (ap verdict_in (sym (rows_there w asked)) ∙ denied))
 
   twice_there : (event : Event) → verdict_in (rows_for w event) ≡ Denied UserTwice → DeniesWhere event (λ asked. HasUserAt w asked.mount asked.pair)
   twice_there event v = only_listeners UserTwice refl event v (λ asked same denied. (asked, same, at asked denied)) where
@@ -143,7 +144,8 @@ module _ (w : World) where
     at asked denied =
         let found = found_by w asked in
         there_already w asked.mount asked.pair (allows_duplicates_at w asked.mount) refl
-        (twice_by (is_mount_name asked.mount) (is_known w.house asked.mount) found.is_live found.is_full found.users_accept found.user_is_twice denied)
+        (twice_by (is_mount_name asked.mount) (is_known w.house asked.mount) found.is_live found.is_full found.users_accept found.user_is_twice
+        (ap verdict_in (sym (rows_there w asked)) ∙ denied))
 
   -- only a verdict of the policy denies
   denied_by : {A : Type 0} (rule : Rule) (event : Event) (o : Outcome) → Way w event o → o.reply ≡ Deny rule

@@ -25,6 +25,7 @@ use Rattle.radio_core.specs.declared.reply.Reply.TheVariants.{Deny, Noted}
 use Rattle.radio_seats.specs.declared.seat.Seat.{Seat}
 use Rattle.radio_seats.specs.declared.walk.Found.{Found}
 use Rattle.radio_seats.specs.Walk.{found_at, stop_of}
+use Rattle.radio_seats.specs.WalkLaws.{stopped_where_it_begins}
 use Rattle.radio_core.specs.declared.standing.Standing.{Standing}
 use Rattle.radio_core.specs.declared.standing.Standing.TheVariants.{Unknown, Undecided, Feeds, Sits, Answered, Finished}
 use Rattle.radio_core.specs.World.{World, standing_of}
@@ -135,16 +136,16 @@ pub record IsWelcome (found : Found) : Type 0 where
   pub accepts : found.users_accept ≡ true
   pub once : found.user_is_twice ≡ false
 
-abbrev pub facts_from : Bool → Found → Facts
-facts_from known found = record NONE {
+abbrev pub facts_from : Bool → Found → Option Rule → Facts
+facts_from known found stop = record NONE {
   mount_is_known = known;
   users_accept = found.users_accept;
   user_is_twice = found.user_is_twice;
-  walk_stops = stop_of found;
+  walk_stops = stop;
 }
 
 abbrev pub rows_by : Bool → Bool → Found → List Row
-rows_by named known found = listen_rows (if named then facts_from known found else NONE) (record { names_a_mount = named })
+rows_by named known found = listen_rows (if named then facts_from known found (stop_of found) else NONE) (record { names_a_mount = named })
 
 hears_by : (named known live full accepted twice : Bool)
     → verdict_in (rows_by named known (record { is_live = live; is_full = full; users_accept = accepted; user_is_twice = twice })) ≡ Allow
@@ -161,11 +162,19 @@ hears_by false known live full accepted twice v = cc
 abbrev pub found_by : World → ListenRequest → Found
 found_by w asked = found_at (sight_of w.house) w.seats asked.mount asked.pair
 
+pub rows_there : (w : World) (asked : ListenRequest)
+    → rows_to_listen w asked ≡ rows_by (is_mount_name asked.mount) (is_known w.house asked.mount) (found_by w asked)
+rows_there w asked =
+    let here = facts_from (is_known w.house asked.mount) (found_by w asked) in
+    ap (λ stop. listen_rows (if is_mount_name asked.mount then here stop else NONE) (record { names_a_mount = is_mount_name asked.mount }))
+    (stopped_where_it_begins (sight_of w.house) w.seats asked.mount asked.pair)
+
 pub may_listen : (w : World) (asked : ListenRequest) → verdict_in (rows_to_listen w asked) ≡ Allow
     → (is_live w.house asked.mount ≡ true) × IsWelcome (found_by w asked)
 may_listen w asked v =
     let found = found_by w asked in
-    let hears = hears_by (is_mount_name asked.mount) (is_known w.house asked.mount) found.is_live found.is_full found.users_accept found.user_is_twice v in
+    let hears = hears_by (is_mount_name asked.mount) (is_known w.house asked.mount) found.is_live found.is_full found.users_accept found.user_is_twice
+    (ap verdict_in (sym (rows_there w asked)) ∙ v) in
     (ap is_some (at_name w asked.mount (is_mount_name asked.mount) refl hears.0) ∙ hears.1.lives, hears.1)
 
 -- what is at a path is the session of that mount

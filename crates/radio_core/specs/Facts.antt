@@ -16,7 +16,7 @@ use Rattle.radio_access.specs.Lists.{is_denied, is_allowed, lets_in}
 use Rattle.radio_access.specs.SourcePair.{is_source_pair}
 use Rattle.radio_access.specs.ContentTypes.{is_refused_type}
 use Rattle.radio_seats.specs.declared.seat.Listener.{Listener}
-use Rattle.radio_seats.specs.Walk.{Sight, found_at, stop_of}
+use Rattle.radio_seats.specs.Walk.{Sight, found_at, landing, stop_in}
 use Rattle.radio_core.specs.declared.event.SourceRequest.{SourceRequest}
 use Rattle.radio_core.specs.declared.event.ListenRequest.{ListenRequest}
 use Rattle.radio_core.specs.declared.house.House.{House}
@@ -65,9 +65,9 @@ sight_of house = record {
   allows_duplicates = λ mount. (options_for house.settings mount).users.allow_duplicate_users;
 }
 
--- the rule that stops a walk from the mount, if one does: it looks at that mount alone
+-- the rule that stops a walk from the mount, if one does
 abbrev pub walk_stops : House → List Listener → List ℕ → Option Credentials → Option Rule
-walk_stops house seats mount pair = stop_of (found_at (sight_of house) seats mount pair)
+walk_stops house seats mount pair = stop_in (landing (sight_of house) seats pair mount)
 
 -- how far the stream of the mount's session goes
 abbrev pub live_end : House → List ℕ → ℕ

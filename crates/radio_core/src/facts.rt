@@ -11,7 +11,7 @@ use radio_access::{is_refused_type, is_source_pair};
 use radio_addr::Peer;
 use radio_creds::Pair;
 use radio_policy::{Facts, Subject};
-use radio_seats::{Seats, View};
+use radio_seats::{Seats, View, Walk};
 use radio_settings::{MountName, Settings};
 
 impl House {
@@ -55,12 +55,12 @@ impl House {
     fn facts_at(&self, seats: &Seats, mount: &MountName, pair: Option<&Pair>) -> Facts
         ensures { result ≡ facts_at self.now seats.now mount.now (option_copied pair.entry) }
     {
-        let found = seats.found_at(self, mount, pair);
+        let Walk { first, landing } = seats.walk(self, mount, pair);
         Facts {
             mount_is_known: self.is_known(mount),
-            users_accept: found.users_accept,
-            user_is_twice: found.user_is_twice,
-            walk_stops: found.stop(),
+            users_accept: first.users_accept,
+            user_is_twice: first.user_is_twice,
+            walk_stops: landing.stop(),
             ..Facts::NONE
         }
     }

@@ -1,7 +1,7 @@
 use Rattle.std.specs.Prelude.{ℕ, List, codes, Option, Some, None}
 use Rattle.radio_policy.specs.declared.rule.Rule.{Rule}
 use Rattle.radio_policy.specs.declared.rule.Rule.TheVariants.{AddressDenied, AddressNotAllowed, TooManyClients, BadMount, SourcePassword, TooManySources, MountInUse}
-use Rattle.radio_policy.specs.declared.rule.Rule.TheVariants.{ContentType, NoMount, ListenerPassword, UserTwice, NotLive, MountFull, NumbersSpent, BadHead, BadMethod}
+use Rattle.radio_policy.specs.declared.rule.Rule.TheVariants.{ContentType, NoMount, ListenerPassword, UserTwice, NotLive, MountFull, FallbackDepth, NumbersSpent, BadHead, BadMethod}
 use Rattle.radio_policy.specs.declared.rule.Rule.TheVariants.{Lagged, TimeOver, HeaderTimeout, SourceSilent}
 use Rattle.radio_policy.specs.declared.rule.Status.{Status}
 use Rattle.radio_policy.specs.declared.rule.Status.TheVariants.{BadRequest, Unauthorized, Forbidden, NotFound}
@@ -21,6 +21,7 @@ word_of ListenerPassword = codes "listener-password"
 word_of UserTwice = codes "user-twice"
 word_of NotLive = codes "not-live"
 word_of MountFull = codes "mount-full"
+word_of FallbackDepth = codes "fallback-depth"
 word_of NumbersSpent = codes "numbers-spent"
 word_of BadHead = codes "bad-head"
 word_of BadMethod = codes "bad-method"
@@ -44,6 +45,7 @@ status_of ListenerPassword = Some Unauthorized
 status_of UserTwice = Some Forbidden
 status_of NotLive = Some NotFound
 status_of MountFull = Some Forbidden
+status_of FallbackDepth = Some NotFound
 status_of NumbersSpent = Some Forbidden
 status_of BadHead = Some BadRequest
 status_of BadMethod = Some BadRequest

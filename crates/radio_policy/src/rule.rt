@@ -44,6 +44,8 @@ pub enum Rule {
     NotLive,
     /// As many sit at the mount as may.
     MountFull,
+    /// A walk would look at more mounts than it may.
+    FallbackDepth,
     /// A count would pass the largest number of 64 bits.
     NumbersSpent,
     /// What came is no head of a request.
@@ -81,6 +83,7 @@ impl Rule {
             Rule::UserTwice => "user-twice",
             Rule::NotLive => "not-live",
             Rule::MountFull => "mount-full",
+            Rule::FallbackDepth => "fallback-depth",
             Rule::NumbersSpent => "numbers-spent",
             Rule::BadHead => "bad-head",
             Rule::BadMethod => "bad-method",
@@ -111,7 +114,7 @@ impl Rule {
             | Rule::UserTwice
             | Rule::MountFull
             | Rule::NumbersSpent => Some(Status::Forbidden),
-            Rule::NoMount | Rule::NotLive => Some(Status::NotFound),
+            Rule::NoMount | Rule::NotLive | Rule::FallbackDepth => Some(Status::NotFound),
         }
     }
 }

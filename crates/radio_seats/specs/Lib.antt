@@ -3,3 +3,4 @@ pub mod SeatLaws
 pub mod CountLaws
 pub mod EndLaws
 pub mod Walk
+pub mod WalkLaws

@@ -1,12 +1,15 @@
--- What a walk finds at a mount, and the rule that stops it there.
-use Rattle.std.specs.Prelude.{ℕ, Bool, false, not, ◌&&◌, nat_lt, if◌then◌else◌, List, Option, Some, None}
+-- What a walk finds at a mount, and where it ends.
+use Rattle.std.specs.Prelude.{ℕ, zero, suc, Bool, false, not, ◌&&◌, nat_lt, if◌then◌else◌, List, Option, Some, None}
 use Rattle.std.specs.Option.{option_map_or}
 use Rattle.radio_creds.specs.Credentials.{Credentials}
 use Rattle.radio_policy.specs.declared.rule.Rule.{Rule}
-use Rattle.radio_policy.specs.declared.rule.Rule.TheVariants.{NotLive, MountFull, ListenerPassword, UserTwice}
+use Rattle.radio_policy.specs.declared.rule.Rule.TheVariants.{NotLive, MountFull, ListenerPassword, UserTwice, FallbackDepth}
 use Rattle.radio_seats.specs.declared.seat.Listener.{Listener}
+use Rattle.radio_seats.specs.declared.seat.Seating.{Seating}
 use Rattle.radio_seats.specs.declared.walk.Found.{Found}
-use Rattle.radio_seats.specs.Seats.{count_at, sits_there}
+use Rattle.radio_seats.specs.declared.walk.Landing.{Landing}
+use Rattle.radio_seats.specs.declared.walk.Landing.TheVariants.{Lands, Stops}
+use Rattle.radio_seats.specs.Seats.{count_at, is_user_at, sits_there}
 
 -- what a walk sees of the server
 pub record Sight : Type 0 where
@@ -26,6 +29,10 @@ is_full count limit = option_map_or (λ most. not (nat_lt count most)) limit fal
 abbrev pub sits_already : List Listener → List ℕ → Option Credentials → Bool
 sits_already seats mount pair = option_map_or (λ sent. sits_there seats mount sent.user) pair false
 
+-- it is a seat at the mount of the user that was sent
+abbrev pub is_sent_user_at : List ℕ → Option Credentials → Seating → Bool
+is_sent_user_at mount pair seating = option_map_or (λ sent. is_user_at mount sent.user seating) pair false
+
 -- what one who sends this finds at the mount
 abbrev pub found_at : Sight → List Listener → List ℕ → Option Credentials → Found
 found_at sight seats mount pair = record {
@@ -43,3 +50,26 @@ stop_of found =
     if not found.users_accept then Some ListenerPassword else
     if found.user_is_twice then Some UserTwice else
     None
+
+-- he may sit at the mount, or the rule stops him there
+abbrev pub landing_at : List ℕ → Option Rule → Landing
+landing_at mount None = Lands mount
+landing_at mount (Some rule) = Stops rule
+
+-- where a walk ends that may look at so many mounts: each answers for itself alone, since none has a fallback yet
+abbrev pub walk : ℕ → Sight → List Listener → Option Credentials → List ℕ → Landing
+walk zero sight seats pair mount = Stops FallbackDepth
+walk (suc left) sight seats pair mount = landing_at mount (stop_of (found_at sight seats mount pair))
+
+-- at how many mounts a walk looks at the most
+abbrev pub most_mounts : ℕ
+most_mounts = 10
+
+-- where a walk from the mount ends
+abbrev pub landing : Sight → List Listener → Option Credentials → List ℕ → Landing
+landing = walk most_mounts
+
+-- the rule that stopped a walk, if one did
+abbrev pub stop_in : Landing → Option Rule
+stop_in (Lands mount) = None
+stop_in (Stops rule) = Some rule

@@ -2,7 +2,7 @@
 //!
 //! - [`Seats`]: the table. Contracts see the list of its listeners, in the order of their numbers.
 //! - [`Listener`], [`Seating`], [`Seat`]: its rows. A [`SeatTest`] asks something of a seat.
-//! - [`View`], [`Found`]: what a walk asks of the server, and what it finds at a mount.
+//! - [`Seats::walk`]: a walk over what a [`View`] shows of the server: what it [`Found`], and its [`Landing`].
 //! - What is found after each change, for proofs: `specs/SeatLaws.antt`, `specs/EndLaws.antt` and `specs/CountLaws.antt`.
 #![tactic(auto)]
 
@@ -14,7 +14,7 @@ mod walk;
 pub use changes::SeatTest;
 pub use seat::{Listener, Seat, Seating};
 pub use seats::Seats;
-pub use walk::{Found, View};
+pub use walk::{Found, Landing, View, Walk};
 
 /// What a call answers where memory was refused. Nothing has changed then.
 pub type OutOfMemory = std::alloc::AllocError;

@@ -2,6 +2,8 @@
 
 ghost use Rattle.std.specs.Prelude.{◌≡◌, [], OnOk, OnErr};
 ghost use Rattle.std.specs.Option.{option_copied};
+ghost use Rattle.std.specs.Map.Iter.{ShowsInOrder, deref};
+ghost use Rattle.radio_seats.specs.declared.seat.Listener.{Listener as ListenerOf};
 ghost use Rattle.radio_seats.specs.Seats.{listener_of, with_seat, with_place, finished_at, with_ended, without_listener, count_at, sits_there, AreByNumber};
 
 use crate::changes::{Advances, FinishesFrom, FinishesIf};
@@ -11,6 +13,7 @@ use radio_policy::Rule;
 use radio_settings::MountName;
 use radio_tables::Table;
 use std::alloc::Global;
+use std::collections::btree_map::Values;
 use std::marker::Model;
 
 /// The listeners, each once, in the order of their numbers. Contracts see the list of them.
@@ -82,6 +85,14 @@ impl Seats {
         ensures { self.new ≡ without_listener self.old id }
     {
         self.rows.remove(id);
+    }
+
+    /// The listeners, in the order of their numbers.
+    pub(crate) fn iter(&self) -> Values<'_, u64, Listener>
+        ensures rest { result ≡ self.now }
+        ensures runs { ShowsInOrder (deref {X = ListenerOf}) }
+    {
+        self.rows.iter()
     }
 
     /// How many sit at the mount. The time grows as the number of listeners.

@@ -1,11 +1,11 @@
-//! What a walk finds at a mount, and the rule that stops it there.
+//! What a walk finds at a mount, and where it ends.
 
-ghost use Rattle.std.specs.Prelude.{◌≡◌};
+ghost use Rattle.std.specs.Prelude.{◌≡◌, ◌-◌, if◌then◌else◌, Some};
 ghost use Rattle.std.specs.Option.{option_copied};
-ghost use Rattle.radio_seats.specs.Seats.{count_at};
-ghost use Rattle.radio_seats.specs.Walk.{Sight, is_full, sits_already, found_at, stop_of};
+ghost use Rattle.radio_seats.specs.Seats.{count_at, is_seat_at};
+ghost use Rattle.radio_seats.specs.Walk.{Sight, sits_already, is_sent_user_at, found_at, stop_of, stop_in, landing};
 
-use crate::Seats;
+use crate::{Seating, Seats};
 use radio_creds::Pair;
 use radio_policy::Rule;
 use radio_settings::MountName;
@@ -64,27 +64,112 @@ impl Found {
     }
 }
 
+/// Where a walk ends.
+#[derive(Clone, Copy, Debug, PartialEq, Eq)]
+pub enum Landing {
+    /// At this mount, where he may sit.
+    Lands(MountName),
+    /// By this rule.
+    Stops(Rule),
+}
+
+impl Landing {
+    /// The rule that stopped it; `None` where it came to a mount at which he may sit.
+    pub fn stop(&self) -> Option<Rule>
+        ensures { result ≡ stop_in self.now }
+    {
+        match self {
+            Landing::Lands(_) => None,
+            Landing::Stops(rule) => Some(*rule),
+        }
+    }
+}
+
+/// A walk.
+#[derive(Clone, Copy, Debug, PartialEq, Eq)]
+pub struct Walk {
+    /// What it found at the mount that it began from.
+    pub first: Found,
+    /// Where it ended.
+    pub landing: Landing,
+}
+
+/// How many places are left at a mount, and whether the user that was sent sits there.
+#[derive(Drop)]
+struct Left {
+    places: u32,
+    has_user: bool,
+}
+
+/// How many places are left, of so many, beside this listener's.
+fn places_beside(seating: &Seating, mount: &MountName, places: u32) -> u32
+    ensures { result ≡ (if is_seat_at mount.now seating.now then places - 1 else places) }
+{
+    if seating.is_at(mount) {
+        places.saturating_sub(1)
+    } else {
+        places
+    }
+}
+
+/// Whether it is a seat at the mount of the user that was sent. Without a pair it is not.
+fn is_sent_user_at(seating: &Seating, mount: &MountName, pair: Option<&Pair>) -> bool
+    ensures { result ≡ is_sent_user_at mount.now (option_copied pair.entry) seating.now }
+{
+    match pair {
+        Some(pair) => seating.is_of_user(mount, pair.user()),
+        None => false,
+    }
+}
+
 impl Seats {
-    /// What one who sends this pair, or none, finds at the mount. The time grows as the number of
-    /// listeners where the mount has a limit, or where a user may sit there once alone.
-    pub fn found_at<V: View>(&self, view: &V, mount: &MountName, pair: Option<&Pair>) -> Found
+    /// A walk from the mount, of one who sends this pair, or none: what it finds there, and where it
+    /// ends. Mounts have no fallbacks yet, so it looks at that mount alone. The time grows as the
+    /// number of listeners where the mount has a limit, or where a user may sit there once alone.
+    pub fn walk<V: View>(&self, view: &V, mount: &MountName, pair: Option<&Pair>) -> Walk
+        ensures first { result.first ≡ found_at (V.sight view.now) self.now mount.now (option_copied pair.entry) }
+        ensures landing { result.landing ≡ landing (V.sight view.now) self.now (option_copied pair.entry) mount.now }
+    {
+        let first = self.found_at(view, mount, pair);
+        let landing = match first.stop() {
+            Some(rule) => Landing::Stops(rule),
+            None => Landing::Lands(*mount),
+        };
+        Walk { first, landing }
+    }
+
+    /// What one who sends this pair, or none, finds at the mount.
+    fn found_at<V: View>(&self, view: &V, mount: &MountName, pair: Option<&Pair>) -> Found
         ensures { result ≡ found_at (V.sight view.now) self.now mount.now (option_copied pair.entry) }
     {
-        Found {
-            is_live: view.is_live(mount),
-            is_full: self.is_full(mount, view.limit(mount)),
-            users_accept: view.lets_in(mount, pair),
-            user_is_twice: !view.allows_duplicates(mount) && self.has_user_of(mount, pair),
+        match view.limit(mount) {
+            Some(most) => self.found_where_limited(view, mount, pair, most),
+            None => Found {
+                is_live: view.is_live(mount),
+                is_full: false,
+                users_accept: view.lets_in(mount, pair),
+                user_is_twice: !view.allows_duplicates(mount) && self.has_user_of(mount, pair),
+            },
         }
     }
 
-    /// Whether as many sit at the mount as may.
-    fn is_full(&self, mount: &MountName, limit: Option<u32>) -> bool
-        ensures { result ≡ is_full (count_at self.now mount.now) limit }
+    /// What he finds at a mount at which so many may sit. The listeners are looked at once.
+    fn found_where_limited<V: View>(
+        &self,
+        view: &V,
+        mount: &MountName,
+        pair: Option<&Pair>,
+        most: u32,
+    ) -> Found
+        requires { (V.sight view.now).limit mount.now ≡ Some most }
+        ensures { result ≡ found_at (V.sight view.now) self.now mount.now (option_copied pair.entry) }
     {
-        match limit {
-            Some(limit) => self.count(mount) as u64 >= u64::from(limit),
-            None => false,
+        let left = self.left_at(mount, pair, most);
+        Found {
+            is_live: view.is_live(mount),
+            is_full: left.places == 0,
+            users_accept: view.lets_in(mount, pair),
+            user_is_twice: !view.allows_duplicates(mount) && left.has_user,
         }
     }
 
@@ -96,5 +181,20 @@ impl Seats {
             Some(pair) => self.user_at(mount, pair.user()),
             None => false,
         }
+    }
+
+    /// How many of so many places are left at the mount, and whether the user that was sent sits
+    /// there.
+    fn left_at(&self, mount: &MountName, pair: Option<&Pair>, most: u32) -> Left
+        ensures places { result.places ≡ most - count_at self.now mount.now }
+        ensures user { result.has_user ≡ sits_already self.now mount.now (option_copied pair.entry) }
+    {
+        let mut places = most;
+        let mut has_user = false;
+        for listener in self.iter() {
+            places = places_beside(&listener.seating, mount, places);
+            has_user = has_user || is_sent_user_at(&listener.seating, mount, pair);
+        }
+        Left { places, has_user }
     }
 }
