@@ -17,6 +17,11 @@ const STATION: &str = "source-password = \"hackme\"\nadmin-password = \"letmein\
 /// What its sources send: the user `source` and that password.
 const SOURCE_PAIR: &[u8] = b"Basic c291cmNlOmhhY2ttZQ==";
 
+/// What listeners of two users send: `ann:abc` and `bob:abc`.
+const ANN: &[u8] = b"Basic YW5uOmFiYw==";
+
+const BOB: &[u8] = b"Basic Ym9iOmFiYw==";
+
 /// An event of a table, by its client's number, and the mount, the data or the room.
 #[derive(Clone, Copy, Debug)]
 pub enum Call {
@@ -28,8 +33,13 @@ pub enum Call {
     Push(u64, &'static str),
     SourceEnd(u64),
     Listen(u64, &'static str),
+    /// A listener who sends the user `ann`.
+    ListenAsAnn(u64, &'static str),
+    /// A listener who sends the user `bob`.
+    ListenAsBob(u64, &'static str),
     Draw(u64, u32),
     Leave(u64),
+    Clock(u64),
 }
 
 impl Call {
@@ -42,12 +52,15 @@ impl Call {
             Call::PlainSource(id, path) => source_event(alloc, *id, path, b"audio/mpeg", b""),
             Call::Push(id, text) => push_event(alloc, *id, text),
             Call::SourceEnd(id) => Ok(Event::SourceEnd { id: *id }),
-            Call::Listen(id, path) => listen_event(alloc, *id, path),
+            Call::Listen(id, path) => listen_event(alloc, *id, path, b""),
+            Call::ListenAsAnn(id, path) => listen_event(alloc, *id, path, ANN),
+            Call::ListenAsBob(id, path) => listen_event(alloc, *id, path, BOB),
             Call::Draw(id, room) => Ok(Event::Draw {
                 id: *id,
                 room: *room,
             }),
             Call::Leave(id) => Ok(Event::Leave { id: *id }),
+            Call::Clock(ms) => Ok(Event::Clock { ms: *ms }),
         }
     }
 }
@@ -67,11 +80,17 @@ fn source_event(
     }))
 }
 
-fn listen_event(alloc: Global, id: u64, path: &str) -> Result<Event, OutOfMemory> {
+/// The pair is that of the credentials, if they are ones.
+fn listen_event(
+    alloc: Global,
+    id: u64,
+    path: &str,
+    credentials: &[u8],
+) -> Result<Event, OutOfMemory> {
     Ok(Event::Listen(ListenRequest {
         id,
         mount: Bytes::copy_from_slice(alloc, path.as_bytes())?,
-        pair: None,
+        pair: basic(alloc, credentials)?,
         wants_metadata: false,
     }))
 }
@@ -86,7 +105,13 @@ fn push_event(alloc: Global, id: u64, text: &str) -> Result<Event, OutOfMemory> 
 
 /// A core with this burst-size.
 pub fn core_with_burst(alloc: Global, burst: u32) -> Result<Core, SettingsFault> {
-    let text = format!(in alloc; "{STATION}burst-size = {burst}\n")?;
+    let options = format!(in alloc; "burst-size = {burst}\n")?;
+    core_with(alloc, options.as_str())
+}
+
+/// A core of a station with these limits and tables.
+pub fn core_with(alloc: Global, options: &str) -> Result<Core, SettingsFault> {
+    let text = format!(in alloc; "{STATION}{options}")?;
     let settings = Settings::read(alloc, text.as_str())?;
     Ok(Core::new(alloc, settings, Lists::new(alloc)))
 }

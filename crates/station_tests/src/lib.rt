@@ -5,6 +5,7 @@
 //! - `scripts`: whole scripts, over sound and failing devices; `cuts`: with a delivery cut in two;
 //!   `many`: large ones.
 //! - `access`: who is let in, by lists, pairs, types and limits.
+//! - `limits`: who may sit, who lags behind, and whose time is over.
 //! - `metadata`: metadata between a listener's data, and who asks for them.
 //! - `finished`: what a source is told whom a rule has finished.
 #![tactic(auto)]
@@ -19,6 +20,8 @@ mod cuts;
 mod events;
 #[cfg(test)]
 mod finished;
+#[cfg(test)]
+mod limits;
 #[cfg(test)]
 mod many;
 #[cfg(test)]

@@ -56,6 +56,16 @@ pub const PUT_CHUNKED_TRANSCRIPT: &[u8] = b"out 1 HTTP/1.1 100 Continue\\r\\n\\r
     shut 1 done\n\
     shut 2 not-live\n";
 
+// A head that trickles in for fifteen seconds.
+const LATE_HEAD: &[u8] = b"open 1 10.0.0.1\n\
+    in 1 GET /a HT\n\
+    clock 14999\n\
+    in 1 TP/1.0\\r\\n\n\
+    clock 15000\n\
+    in 1 \\r\\n\n";
+
+const LATE_HEAD_TRANSCRIPT: &[u8] = b"shut 1 header-timeout\n";
+
 // Settings with this burst size.
 pub fn settings(alloc: Global, burst_size: u32) -> Result<Settings, SettingsFault> {
     let text = format!(in alloc;
@@ -94,6 +104,7 @@ const WORKED_ROWS: &[(&str, u32, &[u8], &[u8])] = &[
     ("burst_of_one_block", 4, TWO_BLOCKS, ONE_BLOCK_TRANSCRIPT),
     ("burst_between_blocks", 5, TWO_BLOCKS, ONE_BLOCK_TRANSCRIPT),
     ("put_chunked", 8, PUT_CHUNKED, PUT_CHUNKED_TRANSCRIPT),
+    ("late_head", 8, LATE_HEAD, LATE_HEAD_TRANSCRIPT),
     ("empty_script", 8, b"", b""),
 ];
 
