@@ -26,3 +26,9 @@ pub mod ListsLemmas
 pub mod LimitLemmas
 pub mod LimitDenials
 mod SourceReplyLemmas
+mod KeptStreams
+mod KeptLists
+mod KeptOutcomes
+mod KeptSteps
+mod KeptSeats
+mod KeptRuns
