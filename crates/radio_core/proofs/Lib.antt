@@ -26,6 +26,7 @@ pub mod ListsLemmas
 pub mod LimitLemmas
 pub mod LimitDenials
 mod SourceReplyLemmas
+mod KeptQueues
 mod KeptStreams
 mod KeptLists
 mod KeptOutcomes

@@ -1,5 +1,7 @@
 -- What is kept of streams: the last whole blocks, as far as a queue is long. A byte that is forgotten reads as zero, so that no place changes.
 use Rattle.std.specs.Prelude.{ℕ, ◌-◌, nat_le, if◌then◌else◌, List, [], ◌∷◌, ◌++◌, drop, replicate, map}
+use Rattle.std.specs.List.{concat}
+use Rattle.radio_blocks.specs.Queue.{KeptTail, starts_from}
 use Rattle.radio_core.specs.Sessions.{Session}
 use Rattle.radio_core.specs.Stream.{WholeStream, end_of}
 use Rattle.radio_core.specs.World.{World}
@@ -28,6 +30,10 @@ kept_stream limit stream = record {
   bytes = forgotten (kept_from limit stream) stream.bytes;
   starts = shortest_starts limit (end_of stream) stream.starts;
 }
+
+-- what a queue has of a stream, read as the stream
+abbrev pub stream_of : KeptTail → WholeStream
+stream_of tail = record { bytes = replicate tail.offset 0 ++ concat tail.blocks; starts = starts_from tail.offset tail.blocks }
 
 abbrev pub kept_session : ℕ → Session → Session
 kept_session limit session = record session { stream = kept_stream limit session.stream }
