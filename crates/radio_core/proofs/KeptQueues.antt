@@ -1,5 +1,5 @@
 -- the streams that queues of blocks have
-use Rattle.std.proofs.Common.{◌≡◌, Bool, true, false, ℕ, ◌+◌, ◌-◌, ◌≤◌, List, [], ◌∷◌, ◌++◌, length, take, drop, replicate, refl, ap, sym, ◌∙◌, arith, length-append, append_assoc, append-nil}
+use Rattle.std.proofs.Common.{◌≡◌, Bool, true, false, ℕ, ◌+◌, ◌-◌, ◌≤◌, Result, Ok, Err, OnOk, List, [], ◌∷◌, ◌++◌, length, take, drop, replicate, refl, ap, sym, ◌∙◌, arith, length-append, append_assoc, append-nil}
 use Rattle.std.specs.Prelude.{find, nat_le, unwrap_or, if◌then◌else◌}
 use Rattle.std.specs.List.{concat}
 use Rattle.std.proofs.lemmas.List.{length-replicate}
@@ -133,3 +133,12 @@ stream_longer tail block =
 pub stream_pushed : (tail : KeptTail) (block : List ℕ) → stream_of (with_pushed tail block) ≡ kept_stream tail.limit (with_block (stream_of tail) block)
 stream_pushed tail block =
     stream_trimmed (record tail { blocks = tail.blocks ++ block ∷ [] }) ∙ ap (kept_stream tail.limit) (stream_longer tail block)
+
+-- and so one that was told how much to keep
+pub pushed_to : {A E : Type 0} (tail told pushed : KeptTail) (stream : WholeStream) (block : List ℕ) (limit : ℕ) → told ≡ record tail { limit = limit }
+    → stream_of tail ≡ stream → (result : Result A E) → OnOk result (pushed ≡ with_pushed told block)
+    → OnOk result (stream_of pushed ≡ kept_stream limit (with_block stream block))
+pushed_to tail told pushed stream block limit is shows (Ok x) ok =
+    ap stream_of (ok ∙ ap (λ (t : KeptTail). with_pushed t block) is) ∙ stream_pushed (record tail { limit = limit }) block
+    ∙ ap (λ (s : WholeStream). kept_stream limit (with_block s block)) shows
+pushed_to tail told pushed stream block limit is shows (Err e) ok = tt

@@ -13,6 +13,7 @@ ghost use Rattle.radio_core.specs.Finishes.{FinishedAreTold};
 ghost use Rattle.radio_core.specs.Access.{AccessIsKept};
 ghost use Rattle.radio_core.specs.Limits.{IsWithinLimits, DeniesByLimits};
 ghost use Rattle.radio_core.specs.Admission.{BeginsAtABlock};
+ghost use Rattle.radio_core.specs.Lagging.{NobodyLags};
 ghost use Rattle.radio_core.specs.Service.{Serves};
 ghost use Rattle.radio_core.specs.Stretches.{StretchesAreWhole, SeatsKeepTheirMounts};
 ghost use Rattle.radio_core.specs.TitlesTold.{TitlesAreTold};
@@ -50,6 +51,12 @@ pub fn limits_are_kept()
     ensures within { (settings : Settings) (lists : Lists) (events : List Event) → IsWithinLimits (run_after settings lists events) }
     // and a listener is denied by a limit only where it is reached, by those who sit at the mount then
     ensures denied { (settings : Settings) (lists : Lists) (events : List Event) (event : Event) → DeniesByLimits (run_after settings lists events) event }
+{}
+
+/// The law of lag.
+pub fn nobody_lags()
+    // whatever has happened, no listener who has a seat is further behind the end of his mount's stream than a queue is long
+    ensures near { (settings : Settings) (lists : Lists) (events : List Event) → NobodyLags (run_after settings lists events) }
 {}
 
 /// The law of admission.
