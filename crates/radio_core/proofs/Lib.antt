@@ -26,6 +26,7 @@ pub mod ListsLemmas
 pub mod LimitLemmas
 pub mod LimitDenials
 mod SourceReplyLemmas
+mod CoreReplyLemmas
 mod KeptQueues
 mod KeptStreams
 mod KeptLists

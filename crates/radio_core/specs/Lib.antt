@@ -38,3 +38,4 @@ pub mod Service
 pub mod Others
 pub mod Outstaying
 pub mod SourceReplies
+pub mod CoreReplies

@@ -21,6 +21,7 @@ ghost use Rattle.radio_core.specs.Others.{OthersStandOn, RepliesFit, LosesNoSeat
 ghost use Rattle.radio_core.specs.Timeouts.{TestsAreInNumbers};
 ghost use Rattle.radio_core.specs.Outstaying.{NobodyOutstays};
 ghost use Rattle.radio_core.specs.SourceReplies.{SourcesAreToldByTheirData, EndsAreTold};
+ghost use Rattle.radio_core.specs.CoreReplies.{CoresGoByTheirStates};
 ghost use Rattle.radio_core.specs.Gone.{HasLeft, IsOutOfPlace, StaysGone};
 
 use radio_policy::denials_name_the_first_rule;
@@ -121,4 +122,10 @@ pub fn sources_are_told_by_their_data()
     ensures blocks { SourcesAreToldByTheirData }
     // and so is the end of the data
     ensures ends { EndsAreTold }
+{}
+
+/// Cores go by the states that they stand for.
+pub fn cores_go_by_their_states()
+    // two cores that stand for one state are the same, and a core replies to a source's data, and to their end, as each state that it stands for
+    ensures { CoresGoByTheirStates }
 {}
