@@ -86,7 +86,13 @@ fn push_event(alloc: Global, id: u64, text: &str) -> Result<Event, OutOfMemory> 
 
 /// A core with this burst-size.
 pub fn core_with_burst(alloc: Global, burst: u32) -> Result<Core, SettingsFault> {
-    let text = format!(in alloc; "{STATION}burst-size = {burst}\n")?;
+    let limits = format!(in alloc; "burst-size = {burst}\n")?;
+    core_with(alloc, limits.as_str())
+}
+
+/// A core with these lines of limits.
+pub fn core_with(alloc: Global, limits: &str) -> Result<Core, SettingsFault> {
+    let text = format!(in alloc; "{STATION}{limits}")?;
     let settings = Settings::read(alloc, text.as_str())?;
     Ok(Core::new(alloc, settings, Lists::new(alloc)))
 }
