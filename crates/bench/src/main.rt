@@ -1,12 +1,13 @@
-//! Benchmarks: `bench [full] [creds] [icy] [settings] [source] [FILE..]`.
+//! Benchmarks: `bench [full] [creds] [icy] [queue] [settings] [source] [FILE..]`.
 //!
-//! Each subject that is named is measured, and all four where none is. Without `full` little is done, and only counts
+//! Each subject that is named is measured, and all where none is. Without `full` little is done, and only counts
 //! and sizes are written, which never change. With it much is done, and times are written too. Each other word is the
 //! path of a settings file, of which it is written how many mounts and relays it has, or its fault.
 #![tactic(auto)]
 
 mod creds;
 mod icy;
+mod queue;
 mod settings;
 mod source;
 mod times;
@@ -20,6 +21,7 @@ use std::rt::{Clock, Env};
 enum Subject {
     Creds,
     Icy,
+    Queue,
     Settings,
     Source,
 }
@@ -27,9 +29,10 @@ enum Subject {
 /// The word that asks for much, with times.
 const FULL: &str = "full";
 
-const ALL: [Subject; 4] = [
+const ALL: [Subject; 5] = [
     Subject::Creds,
     Subject::Icy,
+    Subject::Queue,
     Subject::Settings,
     Subject::Source,
 ];
@@ -73,6 +76,7 @@ fn subject_of(word: &str) -> Option<Subject> {
     match word {
         "creds" => Some(Subject::Creds),
         "icy" => Some(Subject::Icy),
+        "queue" => Some(Subject::Queue),
         "settings" => Some(Subject::Settings),
         "source" => Some(Subject::Source),
         _ => None,
@@ -83,6 +87,7 @@ fn measure(rt: &(impl Clock + Print + AllocGlobal), subject: Subject, is_full: b
     match subject {
         Subject::Creds => creds::measure(rt, is_full),
         Subject::Icy => icy::measure(rt, is_full),
+        Subject::Queue => queue::measure(rt, is_full),
         Subject::Settings => settings::measure(rt, is_full),
         Subject::Source => source::measure(rt, is_full),
     }

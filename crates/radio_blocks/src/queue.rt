@@ -60,6 +60,13 @@ impl BlockQueue {
         }
     }
 
+    /// It is to keep at least `limit` bytes from the next push on; until then it keeps what it has. It takes no memory.
+    pub fn set_limit(&mut self, limit: u64)
+        ensures { self.new ≡ record self.old { limit = limit } }
+    {
+        self.limit = limit;
+    }
+
     /// The place where the first kept block starts.
     pub fn offset(&self) -> Place
         ensures { result ≡ self.now.offset }

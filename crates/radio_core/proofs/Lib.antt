@@ -26,3 +26,11 @@ pub mod ListsLemmas
 pub mod LimitLemmas
 pub mod LimitDenials
 mod SourceReplyLemmas
+mod CoreReplyLemmas
+mod KeptQueues
+mod KeptStreams
+mod KeptLists
+mod KeptOutcomes
+mod KeptSteps
+mod KeptSeats
+mod KeptRuns

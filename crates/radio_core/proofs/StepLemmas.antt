@@ -1,6 +1,6 @@
 -- one step of the core; the end of a session and of a connection need no memory
 use Rattle.std.specs.Prelude.{if◌then◌else◌, nat_lt}
-use Rattle.std.proofs.Common.{◌≡◌, Bool, true, false, ℕ, List, [], ◌∷◌, Result, Ok, Err, OnOk, IfOk, refl, ap, sym, subst, ◌∙◌}
+use Rattle.std.proofs.Common.{◌≡◌, Bool, true, false, ℕ, List, [], ◌∷◌, Some, Result, Ok, Err, OnOk, OnErr, IfOk, ◌≤◌, refl, ap, sym, subst, ◌∙◌}
 use Rattle.radio_core.specs.declared.event.Event.{Event}
 use Rattle.radio_core.specs.declared.event.Event.TheVariants.{Arrive, Source, Push, SourceEnd, Title, Listen, Draw, Leave, Clock}
 use Rattle.radio_core.specs.declared.outcome.Outcome.{Outcome}
@@ -13,8 +13,20 @@ use Rattle.radio_core.specs.Leave.{leaves_from}
 use Rattle.radio_core.specs.Outcomes.{says, if_feeding}
 use Rattle.radio_core.specs.Replies.{HoldsNoText}
 use Rattle.radio_core.specs.Changes.{changed}
-use Rattle.radio_core.specs.Step.{outcome, reply_to, world_after, Step, Represents, NeedsNoMemory, TakesNoMemory}
-use Rattle.radio_core.specs.World.{World, standing_of}
+use Rattle.radio_core.specs.Kept.{first_start}
+use Rattle.radio_core.specs.KeptChanges.{kept_changed}
+use Rattle.radio_core.specs.Sessions.{Session, session_of}
+use Rattle.radio_core.specs.StandsFor.{StandsFor}
+use Rattle.radio_core.specs.Step.{outcome, reply_to, world_after, Step, Represents, StandsForSome, NeedsNoMemory, TakesNoMemory}
+use Rattle.radio_core.specs.Stream.{end_of}
+use Rattle.radio_core.specs.World.{World, opening, standing_of}
+use Rattle.radio_settings.specs.declared.settings.Settings.{Settings}
+use Rattle.radio_access.specs.Lists.{Lists}
+use Rattle.radio_core.proofs.KeptOutcomes.{outcome_kept}
+use Rattle.radio_core.proofs.KeptRuns.{kept_on, seat_is_kept}
+use Rattle.radio_core.proofs.KeptSteps.{changed_kept, rise_changed}
+use Rattle.radio_seats.specs.declared.seat.Seat.{Seat}
+use Rattle.radio_seats.specs.Seats.{seat_of}
 
 -- its reply has no text, and its change needs no memory
 abbrev pub IsSmall : Outcome → Type 0
@@ -52,27 +64,57 @@ small_outcome w (Title id text) small = absurd small
 small_outcome w (Listen asked) small = absurd small
 small_outcome w (Draw id room) small = absurd small
 
+-- the opening state stands for itself
+pub opening_represents : (settings : Settings) (lists : Lists) → Represents (opening settings lists) (opening settings lists)
+unfolding Represents
+opening_represents settings lists = record { shows = refl; rise = tt; kept = λ id seat session e f. cc }
+
+pub opening_stands : (settings : Settings) (lists : Lists) → StandsForSome (opening settings lists)
+unfolding StandsForSome
+opening_stands settings lists = (opening settings lists, opening_represents settings lists)
+
+-- no place of a seat is forgotten
+pub place_is_kept : (now : World) → StandsForSome now → (id : ℕ) (seat : Seat) (session : Session) → seat_of now.seats id ≡ Some seat
+    → session_of now.house.live seat.mount ≡ Some session → first_start (end_of session.stream) session.stream.starts ≤ seat.place
+unfolding StandsForSome Represents
+place_is_kept now stands id seat session has live =
+    let w = stands.0 in
+    let shows = stands.1.shows in
+    seat_is_kept w stands.1.rise stands.1.kept id seat session (sym (ap (λ (x : World). seat_of x.seats id) shows) ∙ has)
+    (sym (ap (λ (x : World). session_of x.house.live seat.mount) shows) ∙ live)
+
 -- an outcome that was worked out and committed is a step, from whatever state the core stood for
 module _ (now later : World) (event : Event) (o : Outcome) (is_outcome : o ≡ outcome now event) where
-  steps_to : later ≡ changed now o.change → (w : World) → Represents now w → (w' : World) × Step w event o.reply w' × Represents later w'
+  steps_to : later ≡ kept_changed now o.change → (w : World) → Represents now w → (w' : World) × Step w event o.reply w' × Represents later w'
   unfolding Represents reply_to world_after
-  steps_to ok w stands = (
-    later,
-    (
-      ap (λ (x : Outcome). x.reply) is_outcome ∙ ap (λ (x : World). (outcome x event).reply) stands,
-      ok ∙ ap (λ (x : Outcome). changed now x.change) is_outcome ∙ ap (λ (x : World). changed x (outcome x event).change) stands,
-    ),
-    refl,
-  )
+  steps_to ok w stands =
+      let same : o ≡ outcome w event
+      = is_outcome ∙ ap (λ (x : World). outcome x event) stands.shows ∙ outcome_kept w stands.rise stands.kept event in (
+        changed w (outcome w event).change,
+        (ap (λ (x : Outcome). x.reply) same, refl),
+        record {
+          shows = ok ∙ ap (λ (x : Outcome). kept_changed now x.change) same
+              ∙ ap (λ (x : World). kept_changed x (outcome w event).change) stands.shows ∙ changed_kept w stands.rise (outcome w event).change;
+          rise = rise_changed w stands.rise (outcome w event).change;
+          kept = kept_on w stands.rise stands.kept event;
+        },
+      )
 
-  pub step_done : {E : Type 0} (result : Result Reply E) → OnOk result (later ≡ changed now o.change) → IfOk result (λ reply. reply ≡ o.reply)
+  -- so it stands for a state still
+  pub still_stands : {A E : Type 0} (result : Result A E) → OnOk result (later ≡ kept_changed now o.change) → OnErr result (later ≡ now) → StandsForSome now
+      → StandsForSome later
+  unfolding StandsForSome
+  still_stands (Ok x) ok err stands = let s = steps_to ok stands.0 stands.1 in (s.0, s.2)
+  still_stands (Err e) ok err stands = (stands.0, subst (λ (x : World). Represents x stands.0) (sym err) stands.1)
+
+  pub step_done : {E : Type 0} (result : Result Reply E) → OnOk result (later ≡ kept_changed now o.change) → IfOk result (λ reply. reply ≡ o.reply)
       → (w : World) → Represents now w → IfOk result (λ reply. (w' : World) × Step w event reply w' × Represents later w')
   step_done (Ok reply) ok told w stands =
       let s = steps_to ok w stands in
       (s.0, (told ∙ s.1.0, s.1.1), s.2)
   step_done (Err refused) ok told w stands = tt
 
-  pub steps_done : {E : Type 0} (result : Result (List Reply) E) → OnOk result (later ≡ changed now o.change)
+  pub steps_done : {E : Type 0} (result : Result (List Reply) E) → OnOk result (later ≡ kept_changed now o.change)
       → IfOk result (λ replies. replies ≡ o.reply ∷ o.reply ∷ o.reply ∷ []) → (w : World) → Represents now w
       → IfOk result (λ replies. (reply : Reply) × (w' : World) × Step w event reply w' × (replies ≡ reply ∷ reply ∷ reply ∷ []) × Represents later w')
   steps_done (Ok replies) ok told w stands =

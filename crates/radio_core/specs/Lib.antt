@@ -16,10 +16,14 @@ pub mod Leave
 pub mod Clock
 pub mod Changes
 pub mod Replies
+pub mod Sound
+pub mod Kept
+pub mod KeptChanges
+pub mod Lagging
+pub mod StandsFor
 pub mod Step
 pub mod Run
 pub mod Ways
-pub mod Sound
 pub mod Denials
 pub mod Finishes
 pub mod Limits
@@ -34,3 +38,4 @@ pub mod Service
 pub mod Others
 pub mod Outstaying
 pub mod SourceReplies
+pub mod CoreReplies

@@ -17,6 +17,7 @@ use Rattle.radio_core.specs.Draw.{draws}
 use Rattle.radio_core.specs.Leave.{leaves}
 use Rattle.radio_core.specs.Clock.{hears_clock}
 use Rattle.radio_core.specs.Changes.{changed}
+use Rattle.radio_core.specs.StandsFor.{StandsFor}
 
 -- what comes of each event
 unfoldable pub outcome : World → Event → Outcome
@@ -41,9 +42,13 @@ world_after w event = changed w (outcome w event).change
 abbrev pub Step : World → Event → Reply → World → Type 0
 Step w event reply w' = (reply ≡ reply_to w event) × (w' ≡ world_after w event)
 
--- a core stands for a state: it has the same of everything
+-- a core stands for a state: it has all of it, but of each stream only what a queue keeps
 unfoldable pub Represents : World → World → Type 0
-Represents core w = core ≡ w
+Represents core w = StandsFor core w
+
+-- there is a state for which it stands
+unfoldable pub StandsForSome : World → Type 0
+StandsForSome core = (w : World) × Represents core w
 
 -- these changes are never refused for want of memory
 abbrev pub NeedsNoMemory : Change → Type 0

@@ -5,7 +5,8 @@ ghost use Rattle.std.specs.Option.{option_copied};
 ghost use Rattle.radio_core.specs.Sessions.{session_of};
 ghost use Rattle.radio_core.specs.Facts.{session_at, live_end};
 ghost use Rattle.radio_core.specs.Source.{shown_for};
-ghost use Rattle.radio_core.specs.Changes.{now_in_state, admitted, begun, received, retitled, timed_out_by};
+ghost use Rattle.radio_core.specs.Changes.{now_in_state, admitted, begun, retitled, timed_out_by};
+ghost use Rattle.radio_core.specs.KeptChanges.{kept_received};
 ghost use Rattle.radio_core.specs.Timeouts.{is_silent};
 
 use crate::OutOfMemory;
@@ -125,14 +126,18 @@ impl House {
         Ok(())
     }
 
-    /// The mount's session has delivered a block. `OutOfMemory` where memory was refused; nothing
-    /// has changed then.
+    /// The mount's session has delivered a block, and of its stream the last blocks are kept, as far
+    /// as a queue is long. `OutOfMemory` where memory was refused; nothing has changed then.
     pub(crate) fn receive(&mut self, mount: &MountName, block: Block) -> Result<(), OutOfMemory>
-        ensures ok { OnOk result (self.new ≡ received self.old mount.now block) }
+        ensures ok { OnOk result (self.new ≡ kept_received self.old mount.now block) }
         ensures err { OnErr result (self.new ≡ self.old) }
     {
-        let moment = self.time;
-        self.live.try_change(*mount, &Delivers { block, moment })
+        let change = Delivers {
+            block,
+            moment: self.time,
+            limit: self.settings.limits.queue_size.get() as u64,
+        };
+        self.live.try_change(*mount, &change)
     }
 
     /// The mount's session has this title from now on. It takes no memory.

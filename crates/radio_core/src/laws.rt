@@ -13,6 +13,7 @@ ghost use Rattle.radio_core.specs.Finishes.{FinishedAreTold};
 ghost use Rattle.radio_core.specs.Access.{AccessIsKept};
 ghost use Rattle.radio_core.specs.Limits.{IsWithinLimits, DeniesByLimits};
 ghost use Rattle.radio_core.specs.Admission.{BeginsAtABlock};
+ghost use Rattle.radio_core.specs.Lagging.{NobodyLags};
 ghost use Rattle.radio_core.specs.Service.{Serves};
 ghost use Rattle.radio_core.specs.Stretches.{StretchesAreWhole, SeatsKeepTheirMounts};
 ghost use Rattle.radio_core.specs.TitlesTold.{TitlesAreTold};
@@ -20,6 +21,7 @@ ghost use Rattle.radio_core.specs.Others.{OthersStandOn, RepliesFit, LosesNoSeat
 ghost use Rattle.radio_core.specs.Timeouts.{TestsAreInNumbers};
 ghost use Rattle.radio_core.specs.Outstaying.{NobodyOutstays};
 ghost use Rattle.radio_core.specs.SourceReplies.{SourcesAreToldByTheirData, EndsAreTold};
+ghost use Rattle.radio_core.specs.CoreReplies.{CoresGoByTheirStates};
 ghost use Rattle.radio_core.specs.Gone.{HasLeft, IsOutOfPlace, StaysGone};
 
 use radio_policy::denials_name_the_first_rule;
@@ -50,6 +52,12 @@ pub fn limits_are_kept()
     ensures within { (settings : Settings) (lists : Lists) (events : List Event) → IsWithinLimits (run_after settings lists events) }
     // and a listener is denied by a limit only where it is reached, by those who sit at the mount then
     ensures denied { (settings : Settings) (lists : Lists) (events : List Event) (event : Event) → DeniesByLimits (run_after settings lists events) event }
+{}
+
+/// The law of lag.
+pub fn nobody_lags()
+    // whatever has happened, no listener who has a seat is further behind the end of his mount's stream than a queue is long
+    ensures near { (settings : Settings) (lists : Lists) (events : List Event) → NobodyLags (run_after settings lists events) }
 {}
 
 /// The law of admission.
@@ -114,4 +122,10 @@ pub fn sources_are_told_by_their_data()
     ensures blocks { SourcesAreToldByTheirData }
     // and so is the end of the data
     ensures ends { EndsAreTold }
+{}
+
+/// Cores go by the states that they stand for.
+pub fn cores_go_by_their_states()
+    // two cores that stand for one state are the same, and a core replies to a source's data, and to their end, as each state that it stands for
+    ensures { CoresGoByTheirStates }
 {}

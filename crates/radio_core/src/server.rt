@@ -3,21 +3,15 @@
 
 ghost use Rattle.std.specs.Prelude.{◌≡◌, [], ◌∷◌, IsOk, IfOk, OnOk, OnErr};
 ghost use Rattle.radio_core.specs.declared.reply.Reply.{Reply as ReplyOf};
-ghost use Rattle.radio_seats.specs.Seats.{listener_of};
-ghost use Rattle.radio_core.specs.World.{World, opening, standing_of, standing_of_listener};
-ghost use Rattle.radio_core.specs.Changes.{changed};
+ghost use Rattle.radio_core.specs.World.{World, opening};
 ghost use Rattle.radio_core.specs.Replies.{HoldsNoText};
-ghost use Rattle.radio_core.specs.Step.{outcome, Step, Represents, NeedsNoMemory, TakesNoMemory};
+ghost use Rattle.radio_core.specs.Step.{Step, Represents, StandsForSome, TakesNoMemory};
 
-use crate::clients::ClientState;
-use crate::house::House;
-use crate::outcome::{Change, Outcome};
-use crate::standing::Standing;
+use crate::outcome::Outcome;
 use crate::{Event, OutOfMemory, Reply};
 use radio_access::Lists;
-use radio_seats::{Seating, Seats};
 use radio_settings::Settings;
-use radio_tables::Table;
+use state::State;
 use std::alloc::Global;
 use std::marker::Model;
 
@@ -30,19 +24,20 @@ mod listen;
 mod push;
 mod source;
 mod source_end;
+mod state;
 mod tick;
 mod title;
 
-/// The server's state, seen as a `World`.
+/// The server's state, seen as a `World` in which of each stream the last blocks are kept. There is
+/// always a state of a server that keeps whole streams for which it stands.
 #[derive(Drop)]
 pub struct Core {
-    alloc: Global,
-    house: House,
-    seats: Seats,
+    state: State,
 }
 
 impl Model for Core {
     ghost use Rattle.radio_core.specs.World.{World};
+    ghost use Rattle.radio_core.specs.Step.{StandsForSome};
     ghost use Rattle.std.specs.Coded.{codes};
     ghost use Rattle.radio_creds.specs.contracts.user_list.Users as creds_users;
 
@@ -50,29 +45,28 @@ impl Model for Core {
 
     ghost coded = { Prim.hlevel (codes, creds_users.the_row.coded) };
 
-    ghost view = { λ c. record { house = c.house; seats = c.seats } };
+    ghost view = { λ c. c.state };
+
+    ghost invariant = { λ c. StandsForSome c.state };
 }
 
 impl Core {
     /// A server to which nothing has happened yet. It takes no memory.
-    #[tactic(auto, unfolding(crate::specs::Step::Represents))]
+    #[tactic(auto, using(crate::proofs::StepLemmas::opening_represents))]
     pub fn new(alloc: Global, settings: Settings, lists: Lists) -> Core
         // it stands for the opening state of these settings and lists
         ensures { Represents result (opening settings lists) }
     {
-        let house = House {
-            time: 0,
-            settings,
-            lists,
-            live: Table::new(alloc),
-            clients: Table::new(alloc),
-            last_id: 0,
-        };
         Core {
-            alloc,
-            house,
-            seats: Seats::new(alloc),
+            state: State::new(alloc, settings, lists),
         }
+    }
+
+    /// There is a state for which it stands, whatever has happened.
+    pub fn stands(&self)
+        ensures { StandsForSome self.now }
+    {
+        let _ = &self.state;
     }
 
     /// One event. `OutOfMemory` where memory was refused; nothing has changed then.
@@ -83,8 +77,8 @@ impl Core {
         ensures frees { TakesNoMemory event → IsOk result }
         ensures err { OnErr result (self.new ≡ self.old) }
     {
-        let Outcome { reply, change } = self.outcome(event)?;
-        self.commit_for(change, reply)
+        let Outcome { reply, change } = self.state.outcome(event)?;
+        self.state.commit_for(change, reply)
     }
 
     /// One event, with its reply three times, as a record of it, its client and its caller keep it.
@@ -96,76 +90,13 @@ impl Core {
         ensures frees { TakesNoMemory event → IsOk result }
         ensures err { OnErr result (self.new ≡ self.old) }
     {
-        let Outcome { reply, change } = self.outcome(event)?;
+        let Outcome { reply, change } = self.state.outcome(event)?;
         match thrice(reply) {
-            Ok(replies) => self.commit_for(change, replies),
+            Ok(replies) => self.state.commit_for(change, replies),
             Err(refused) => {
                 drop(change);
                 Err(refused)
             }
-        }
-    }
-
-    /// What comes of an event. `OutOfMemory` where memory was refused.
-    #[tactic(auto, unfolding(crate::specs::Step::outcome))]
-    fn outcome(&self, event: Event) -> Result<Outcome, OutOfMemory>
-        ensures value { IfOk result (λ o. o ≡ outcome self.now event) }
-        ensures frees { TakesNoMemory event → IsOk result }
-    {
-        match event {
-            Event::Arrive { peer } => Ok(self.arrive(peer)),
-            Event::Source(asked) => self.source(asked),
-            Event::Push { id, block } => Ok(self.push(id, block)),
-            Event::SourceEnd { id } => Ok(self.source_end(id)),
-            Event::Title { id, text } => Ok(self.title(id, text)),
-            Event::Listen(asked) => self.listen(asked),
-            Event::Draw { id, room } => self.draw(id, room),
-            Event::Leave { id } => Ok(self.leave(id)),
-            Event::Clock { ms } => Ok(self.clock(ms)),
-        }
-    }
-
-    /// Makes a change, and gives back what was worked out for it. `OutOfMemory` where memory was
-    /// refused; nothing has changed then.
-    fn commit_for<T: Drop>(&mut self, change: Change, told: T) -> Result<T, OutOfMemory>
-        ensures ok { OnOk result (self.new ≡ changed self.old change) }
-        ensures told { IfOk result (λ same. same ≡ told) }
-        ensures err { OnErr result (self.new ≡ self.old) }
-        ensures frees { NeedsNoMemory change → IsOk result }
-    {
-        match self.commit(change) {
-            Ok(()) => Ok(told),
-            Err(refused) => Err(refused),
-        }
-    }
-
-    /// How the client of this number stands.
-    fn standing(&self, id: u64) -> Standing
-        ensures { result ≡ standing_of self.now id }
-    {
-        let Some(client) = self.house.clients.get(id) else {
-            return Standing::Unknown;
-        };
-        let state = client.state;
-        match state {
-            ClientState::Undecided => Standing::Undecided(client.peer),
-            ClientState::Feeds(mount) => Standing::Feeds(mount),
-            ClientState::Listens => self.listener_standing(id),
-            ClientState::Answered => Standing::Answered,
-            ClientState::Ended(rule) => Standing::Finished(rule),
-        }
-    }
-
-    /// How the listener of this number stands.
-    fn listener_standing(&self, id: u64) -> Standing
-        ensures { result ≡ standing_of_listener (listener_of self.now.seats id) }
-    {
-        let Some(listener) = self.seats.get(id) else {
-            return Standing::Answered;
-        };
-        match &listener.seating {
-            Seating::Sits(_) => Standing::Sits,
-            Seating::Finished(rule) => Standing::Finished(*rule),
         }
     }
 }

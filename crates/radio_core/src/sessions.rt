@@ -49,23 +49,26 @@ impl Row for Session {
     }
 }
 
-/// The session has delivered a block at this moment.
+/// The session has delivered a block at this moment; of its stream the last blocks are kept that
+/// have `limit` bytes.
 #[derive(Drop)]
 pub(crate) struct Delivers {
     pub(crate) block: Block,
     pub(crate) moment: u64,
+    pub(crate) limit: u64,
 }
 
 impl TryChange<Session> for Delivers {
     ghost use Rattle.std.specs.Prelude.{refl};
-    ghost use Rattle.radio_core.specs.Sessions.{longer};
+    ghost use Rattle.radio_core.specs.KeptChanges.{longer_kept};
 
-    ghost gives = { λ change session. longer change.block change.moment session };
+    ghost gives = { λ change session. longer_kept change.limit change.block change.moment session };
 
     ghost keeps_key = { λ change session. refl };
 
     fn try_apply(&self, row: &mut Session) -> Result<(), OutOfMemory> {
-        row.stream.push(&self.block)?;
+        let block = self.block.share()?;
+        row.stream.push(block, self.limit)?;
         row.last_block = self.moment;
         Ok(())
     }

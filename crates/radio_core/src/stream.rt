@@ -1,25 +1,28 @@
-ghost use Rattle.std.specs.Prelude.{◌≡◌, ◌+◌, ◌-◌, ◌++◌, ◌^◌, ◌<◌, nat_le, find, length, take, IfOk, OnOk, OnErr};
-ghost use Rattle.std.specs.Option.{option_copied};
-ghost use Rattle.radio_core.specs.Stream.{WholeStream, no_data, end_of, with_block, burst_start, data_at};
+//! The data of a session, of which the last blocks are kept.
+
+ghost use Rattle.std.specs.Prelude.{◌≡◌, ◌+◌, ◌++◌, ◌≤◌, length, IfOk, OnOk, OnErr};
+ghost use Rattle.radio_core.specs.Stream.{no_data, end_of, with_block, burst_start, data_at};
+ghost use Rattle.radio_core.specs.Kept.{first_start, kept_stream};
 
 use crate::OutOfMemory;
-use radio_blocks::{Block, Pieces, Place};
-use std::alloc::Global;
+use radio_blocks::{Block, BlockQueue, DrawFault, Pieces, Place};
+use std::alloc::{AllocError, Global};
 use std::marker::Model;
 
-/// The whole data of one session, from its first block on.
+/// The data of one session. The last blocks are kept; contracts read a byte before them as zero, so
+/// that places count the bytes of the whole stream.
 #[derive(Drop)]
 pub(crate) struct Stream {
-    bytes: Vec<u8>,
-    starts: Vec<u64>,
+    queue: BlockQueue,
 }
 
 impl Model for Stream {
     ghost use Rattle.radio_core.specs.Stream.{WholeStream};
+    ghost use Rattle.radio_core.specs.Kept.{stream_of};
 
     ghost Value = { WholeStream };
 
-    ghost view = { λ s. record { bytes = s.bytes.items; starts = s.starts.items } };
+    ghost view = { λ s. stream_of s.queue };
 }
 
 impl Stream {
@@ -28,8 +31,7 @@ impl Stream {
         ensures { result ≡ no_data }
     {
         Stream {
-            bytes: Vec::new(alloc),
-            starts: Vec::new(alloc),
+            queue: BlockQueue::new(alloc, 0),
         }
     }
 
@@ -37,65 +39,46 @@ impl Stream {
     pub(crate) fn end(&self) -> u64
         ensures { result ≡ end_of self.now }
     {
-        self.bytes.len() as u64
+        self.queue.end().bytes_before()
     }
 
-    /// Appends a block. `OutOfMemory` where memory was refused; the stream is unchanged then.
-    pub(crate) fn push(&mut self, block: &Block) -> Result<(), OutOfMemory>
-        ensures ok { OnOk result (self.new ≡ with_block self.old block.now) }
+    /// Appends a block, and forgets the first blocks where those behind them have `limit` bytes.
+    /// `OutOfMemory` where memory was refused, and where the stream would have 2^64 bytes; the
+    /// stream is unchanged then.
+    pub(crate) fn push(&mut self, block: Block, limit: u64) -> Result<(), OutOfMemory>
+        ensures ok { OnOk result (self.new ≡ kept_stream limit (with_block self.old block)) }
         ensures err { OnErr result (self.new ≡ self.old) }
     {
-        let end = self.end();
-        self.starts.reserve(1)?;
-        self.bytes.extend_from_slice(block.as_bytes())?;
-        self.starts.push(end)?;
-        Ok(())
+        self.queue.set_limit(limit);
+        self.queue.push(block)
     }
 
     /// Where a listener begins who is to be sent at most `burst` bytes at once.
     pub(crate) fn burst_start(&self, burst: u64) -> Place
         ensures { result ≡ burst_start self.now burst }
     {
-        let end = self.end();
-        Place::new(
-            first_start_within(self.starts.as_slice(), end, burst)
-                .copied()
-                .unwrap_or(end),
-        )
+        self.queue.start_for(burst)
     }
 
-    /// Appends to the pieces what stands at the place, at most `room` bytes, and answers the place
-    /// behind it. `OutOfMemory` where memory was refused; the pieces are unchanged then.
+    /// Appends to the pieces what stands at the place, at most `room` bytes, as slices that are
+    /// shared with the stream, and answers the place behind it. `OutOfMemory` where memory was
+    /// refused; the pieces are unchanged then.
     pub(crate) fn draw(
         &self,
         place: Place,
         room: u32,
         pieces: &mut Pieces,
     ) -> Result<Place, OutOfMemory>
+        // the place is not forgotten
+        requires { first_start (end_of self.now) self.now.starts ≤ place }
         ensures pieces { OnOk result (pieces.new ≡ pieces.old ++ data_at self.now place room) }
         ensures place { IfOk result (λ after. after ≡ place + length (data_at self.now place room)) }
         ensures err { OnErr result (pieces.new ≡ pieces.old) }
     {
-        let before = place.bytes_before();
-        let from = before.min(self.end()) as usize;
-        let data = front(&self.bytes.as_slice()[from..], room as usize);
-        pieces.append(data)?;
-        Ok(Place::new(before + data.len() as u64))
+        match self.queue.draw(place, room, pieces) {
+            Ok(after) => Ok(after),
+            Err(DrawFault::OutOfMemory) => Err(AllocError),
+            Err(DrawFault::Trimmed) => unreachable!(),
+        }
     }
-}
-
-/// The first of the block starts that is at most `burst` bytes before the end.
-fn first_start_within(starts: &[u64], end: u64, burst: u64) -> Option<&u64>
-    ensures { option_copied result ≡ find (λ start. nat_le (end - start) burst) starts.now }
-{
-    starts
-        .iter()
-        .find(|start| end.saturating_sub(**start) <= burst)
-}
-
-/// At most `room` bytes from the front.
-fn front(bytes: &[u8], room: usize) -> &[u8]
-    ensures { result.now ≡ take room bytes.now }
-{
-    &bytes[..room.min(bytes.len())]
 }

@@ -15,7 +15,7 @@ use Rattle.radio_session.specs.Exchanges.{Steps, Exchange, prefixed, ended_with,
 left_by : (w mid core' : World) (id : ℕ) (b : Bool) (event : Event) → is_leave event ≡ b → Represents mid w → LeavesAfter core_steps id b mid core' → Represents core' (left_after w id event)
 left_by w mid core' id true event e stands same = rw e (subst (λ (c : World). Represents c w) (sym same) stands)
 left_by w mid core' id false event e stands steps =
-    let s = steps.1 w stands in
+    let s = steps.1.1 w stands in
     rw e (subst (λ (x : World). Represents core' x) s.1.1 s.2)
 
 module _ (id : ℕ) where
@@ -31,7 +31,7 @@ module _ (id : ℕ) where
   exchanges_as says (event ∷ events) core core' x e w stands =
       let reply = e.0 in
       let mid = e.1 in
-      let s = e.2 w stands in
+      let s = e.2.1 w stands in
       let next : reply ≡ reply_to w event = s.1.0 in
       let after : Represents mid (world_after w event) = subst (λ (y : World). Represents mid y) s.1.1 s.2 in
       let told = said says reply in

@@ -4,7 +4,7 @@ use Rattle.radio_core.specs.declared.event.Event.{Event}
 use Rattle.radio_core.specs.declared.event.Event.TheVariants.{Leave}
 use Rattle.radio_core.specs.declared.reply.Reply.{Reply}
 use Rattle.radio_core.specs.World.{World}
-use Rattle.radio_core.specs.Step.{Step, Represents, reply_to, world_after}
+use Rattle.radio_core.specs.Step.{Step, Represents, StandsForSome, reply_to, world_after}
 use Rattle.radio_session.specs.declared.session.Says.{Says}
 use Rattle.radio_session.specs.declared.state.State.{State}
 use Rattle.radio_session.specs.declared.state.State.TheVariants.{Running, Shut}
@@ -53,9 +53,9 @@ module _ {S : Type 0} (steps : Steps S) (id : ℕ) where
       (reply : Reply) × (mid : S) × steps from event reply mid
       × GoesOn (said says reply).state event (said says reply) mid (λ others. Exchanges (said says reply).says events mid others to) x to
 
--- so does a core, whatever state it stands for
+-- so does a core: it stands for some state, and whatever state that is, the event is a step from it
 abbrev pub core_steps : Steps World
-core_steps core event reply core' = (w : World) → Represents core w → (w' : World) × Step w event reply w' × Represents core' w'
+core_steps core event reply core' = StandsForSome core × ((w : World) → Represents core w → (w' : World) × Step w event reply w' × Represents core' w')
 
 -- and so does the server's state
 pub record WorldExchange : Type 0 where

@@ -29,6 +29,7 @@ impl Applies for Core {
     ghost steps = { core_steps };
 
     fn apply(&mut self, event: Event) -> Result<Reply, OutOfMemory> {
+        self.stands();
         self.step(event)
     }
 }

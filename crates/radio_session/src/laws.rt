@@ -12,7 +12,7 @@ ghost use Rattle.radio_session.specs.Laws.{HearingIsOne, CoresExchangeAsTheirSta
 
 use crate::exchanging::Applies;
 use radio_blocks::laws::blocks_are_the_data;
-use radio_core::sources_are_told_by_their_data;
+use radio_core::{cores_go_by_their_states, sources_are_told_by_their_data};
 use radio_heads::{heads_lie_within, readings_agree, settled};
 use radio_icy::laws::{bare_of_woven, unwoven_streams, woven_streams};
 use radio_source::laws::pieces_are_joined;
@@ -58,6 +58,7 @@ pub fn cores_exchange_as_their_states()
 pub fn cores_go_by_data()
     ensures { CoresGoByData }
 {
+    cores_go_by_their_states();
     sources_are_told_by_their_data();
 }
 

@@ -1,7 +1,7 @@
 //! Tests of the server as its callers see it: what no clause says. Each call succeeds with ample
 //! memory, and the definitions mean what the rules say, on rows that were worked out by hand.
 //!
-//! - `events`, `rows`, `memory`: events and replies of the core.
+//! - `events`, `rows`, `queues`, `memory`: events and replies of the core.
 //! - `scripts`: whole scripts, over sound and failing devices; `cuts`: with a delivery cut in two;
 //!   `many`: large ones.
 //! - `access`: who is let in, by lists, pairs, types and limits.
@@ -28,6 +28,8 @@ mod many;
 mod memory;
 #[cfg(test)]
 mod metadata;
+#[cfg(test)]
+mod queues;
 #[cfg(test)]
 mod rows;
 #[cfg(test)]

@@ -3,11 +3,12 @@ ghost use Rattle.radio_core.specs.Facts.{largest_number};
 ghost use Rattle.radio_core.specs.Arrive.{arrives, admits_client};
 
 use crate::outcome::{Change, Outcome};
-use crate::{Core, Reply};
+use crate::Reply;
 use radio_addr::Peer;
 use radio_policy::{Action, Subject, Verdict, judge};
+use super::state::State;
 
-impl Core {
+impl State {
     /// A connection arrives.
     pub(super) fn arrive(&self, peer: Peer) -> Outcome
         ensures { result ≡ arrives self.now peer }

@@ -2,9 +2,10 @@ ghost use Rattle.std.specs.Prelude.{◌≡◌};
 ghost use Rattle.radio_core.specs.Clock.{hears_clock};
 
 use crate::outcome::{Change, Outcome};
-use crate::{Core, Reply};
+use crate::Reply;
+use super::state::State;
 
-impl Core {
+impl State {
     /// It is this moment.
     pub(super) fn clock(&self, ms: u64) -> Outcome
         ensures { result ≡ hears_clock self.now ms }

@@ -1,20 +1,22 @@
 ghost use Rattle.std.specs.Prelude.{◌≡◌, IsOk, OnOk, OnErr};
 ghost use Rattle.radio_core.specs.Changes.{changed, laggards_ended, session_ended, forgotten};
+ghost use Rattle.radio_core.specs.KeptChanges.{kept_changed, kept_taken_in};
 ghost use Rattle.radio_core.specs.Step.{NeedsNoMemory};
 
 use crate::clients::ClientState;
 use crate::outcome::Change;
 use crate::timeouts::LagsBehind;
-use crate::{Core, OutOfMemory};
+use crate::OutOfMemory;
 use radio_blocks::{Block, Place};
 use radio_policy::Rule;
 use radio_seats::Seat;
 use radio_settings::MountName;
+use super::state::State;
 
-impl Core {
+impl State {
     /// Makes a change. `OutOfMemory` where memory was refused; nothing has changed then.
     pub(super) fn commit(&mut self, change: Change) -> Result<(), OutOfMemory>
-        ensures ok { OnOk result (self.new ≡ changed self.old change) }
+        ensures ok { OnOk result (self.new ≡ kept_changed self.old change) }
         ensures err { OnErr result (self.new ≡ self.old) }
         ensures frees { NeedsNoMemory change → IsOk result }
     {
@@ -60,7 +62,7 @@ impl Core {
     /// The mount's session has delivered a block, and the listeners of the mount lose their seats
     /// who are further behind than a queue is long.
     fn take_in(&mut self, mount: MountName, block: Block) -> Result<(), OutOfMemory>
-        ensures ok { OnOk result (self.new ≡ changed self.old (Change.Receive mount block)) }
+        ensures ok { OnOk result (self.new ≡ kept_taken_in self.old mount block) }
         ensures err { OnErr result (self.new ≡ self.old) }
     {
         self.house.receive(&mount, block)?;

@@ -3,9 +3,10 @@ ghost use Rattle.radio_core.specs.Leave.{leaves};
 
 use crate::outcome::{Change, Outcome};
 use crate::standing::Standing;
-use crate::{Core, Reply};
+use crate::Reply;
+use super::state::State;
 
-impl Core {
+impl State {
     /// A client's connection is closed.
     pub(super) fn leave(&self, id: u64) -> Outcome
         ensures { result ≡ leaves self.now id }

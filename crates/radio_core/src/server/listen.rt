@@ -7,13 +7,14 @@ use crate::house::House;
 use crate::outcome::{Change, Outcome};
 use crate::sessions::Session;
 use crate::standing::Standing;
-use crate::{Core, ListenRequest, OutOfMemory, Reply};
+use crate::{ListenRequest, OutOfMemory, Reply};
 use radio_addr::Peer;
 use radio_policy::{Action, Verdict, judge};
 use radio_seats::Seat;
 use radio_settings::MountName;
+use super::state::State;
 
-impl Core {
+impl State {
     /// A client wants to hear a mount. `OutOfMemory` where memory was refused.
     pub(super) fn listen(&self, asked: ListenRequest) -> Result<Outcome, OutOfMemory>
         ensures { IfOk result (λ o. o ≡ asks_to_hear self.now asked) }

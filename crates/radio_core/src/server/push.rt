@@ -3,11 +3,12 @@ ghost use Rattle.radio_core.specs.Push.{delivers};
 
 use crate::outcome::{Change, Outcome};
 use crate::standing::Standing;
-use crate::{Core, Reply};
+use crate::Reply;
 use radio_blocks::Block;
 use radio_policy::{Action, Facts, Subject, Verdict, judge};
+use super::state::State;
 
-impl Core {
+impl State {
     /// A source delivers a block.
     pub(super) fn push(&self, id: u64, block: Block) -> Outcome
         ensures { result ≡ delivers self.now id block }

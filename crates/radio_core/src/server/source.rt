@@ -7,11 +7,12 @@ ghost use Rattle.radio_core.specs.Source.{asks_to_feed, begins, shown_for};
 use crate::facts::asker_of;
 use crate::outcome::{Change, Outcome};
 use crate::standing::Standing;
-use crate::{Core, OutOfMemory, Reply, SourceRequest};
+use crate::{OutOfMemory, Reply, SourceRequest};
 use radio_policy::{Action, Verdict, judge};
 use radio_settings::{MountName, Shown};
+use super::state::State;
 
-impl Core {
+impl State {
     /// A client wants to feed a mount. `OutOfMemory` where memory was refused.
     pub(super) fn source(&self, asked: SourceRequest) -> Result<Outcome, OutOfMemory>
         ensures { IfOk result (λ o. o ≡ asks_to_feed self.now asked) }

@@ -3,9 +3,10 @@ ghost use Rattle.radio_core.specs.SourceEnd.{stops_feeding};
 
 use crate::outcome::{Change, Outcome};
 use crate::standing::Standing;
-use crate::{Core, Reply};
+use crate::Reply;
+use super::state::State;
 
-impl Core {
+impl State {
     /// A source has come to the end of its data.
     pub(super) fn source_end(&self, id: u64) -> Outcome
         ensures { result ≡ stops_feeding self.now id }

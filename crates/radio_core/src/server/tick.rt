@@ -3,12 +3,12 @@
 ghost use Rattle.std.specs.Prelude.{◌≡◌, is_some, length};
 ghost use Rattle.radio_core.specs.Changes.{ticked, durations_over, on_silent, first_silent, silence};
 
-use crate::Core;
 use crate::clients::ClientState;
 use crate::timeouts::HasSatOut;
 use radio_policy::Rule;
+use super::state::State;
 
-impl Core {
+impl State {
     /// It is this moment: clients who have asked for nothing in their time are finished, then
     /// listeners who have had theirs, and then sources that have sent nothing in theirs. It takes
     /// no memory.

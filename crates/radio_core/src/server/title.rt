@@ -3,10 +3,11 @@ ghost use Rattle.radio_core.specs.Title.{sets_title};
 
 use crate::outcome::{Change, Outcome};
 use crate::standing::Standing;
-use crate::{Core, Reply};
+use crate::Reply;
 use radio_icy::Title;
+use super::state::State;
 
-impl Core {
+impl State {
     /// A source tells what is on the air.
     pub(super) fn title(&self, id: u64, text: Title) -> Outcome
         ensures { result ≡ sets_title self.now id text }

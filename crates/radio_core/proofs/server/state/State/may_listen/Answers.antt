@@ -18,7 +18,7 @@ use Rattle.radio_core.specs.Facts.{listen_facts, asker_of, session_at, rows_to_l
 use Rattle.radio_core.specs.Listen.{takes_seat, asks_to_hear}
 use Rattle.radio_core.specs.Outcomes.{says, on_verdict, if_undecided}
 use Rattle.radio_core.specs.World.{World, standing_of}
-use Rattle.radio_core.proofs.server.Core.may_listen.Goals as goal
+use Rattle.radio_core.proofs.server.state.State.may_listen.Goals as goal
 
 -- the rule by which facts deny, however they were looked up
 judged : (w : World) (asked : ListenRequest) (facts : Facts) (asker : Subject) (verdict : Verdict) (rule : Rule) → facts ≡ listen_facts w.house w.seats asked

@@ -5,7 +5,7 @@ use Rattle.radio_policy.specs.Verdicts.{verdict_in}
 use Rattle.radio_core.specs.Facts.{largest_number}
 use Rattle.radio_core.specs.World.{World}
 use Rattle.radio_core.proofs.Ways.{has_number_left}
-use Rattle.radio_core.proofs.server.Core.arrive.Goals as goal
+use Rattle.radio_core.proofs.server.state.State.arrive.Goals as goal
 
 pub admit_client-requires : goal.admit_client-requires
 admit_client-requires c =

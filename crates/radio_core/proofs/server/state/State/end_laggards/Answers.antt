@@ -1,5 +1,5 @@
 use Rattle.std.proofs.Common.{◌≡◌, refl}
-use Rattle.radio_core.proofs.server.Core.end_laggards.Goals as goal
+use Rattle.radio_core.proofs.server.state.State.end_laggards.Goals as goal
 
 pub returns : goal.returns
 returns c = rw (← c.self.view_is) (rw (c.finish_if.ensures, c.new-end.ensures, c.live_end.ensures, c.get-queue.ensures.number) refl)

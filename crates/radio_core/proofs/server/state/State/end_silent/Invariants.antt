@@ -1,6 +1,6 @@
 use Rattle.std.proofs.Common.{◌≡◌, length}
 use Rattle.radio_core.specs.Changes.{silence}
-use Rattle.radio_core.proofs.server.Core.end_silent.Given as goal
+use Rattle.radio_core.proofs.server.state.State.end_silent.Given as goal
 
 -- what is left to end makes what was to end from the start
 abbrev pub invariant-sessions : goal.invariant-sessions

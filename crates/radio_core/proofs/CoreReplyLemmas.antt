@@ -1,0 +1,54 @@
+-- cores reply as the states that they stand for
+use Rattle.std.proofs.Common.{◌≡◌, ℕ, ◌+◌, Option, Some, None, List, length, refl, ap, sym, ◌∙◌}
+use Rattle.std.specs.Prelude.{nat_lt}
+use Rattle.std.specs.Option.{option_map}
+use Rattle.radio_tables.specs.Lists.{Each}
+use Rattle.radio_tables.specs.FindLaws.{found_has}
+use Rattle.radio_core.specs.declared.standing.Standing.{Standing}
+use Rattle.radio_core.specs.declared.standing.Standing.TheVariants.{Unknown, Undecided, Feeds, Sits, Answered, Finished}
+use Rattle.radio_core.specs.CoreReplies.{CoresGoByTheirStates}
+use Rattle.radio_core.specs.Facts.{largest_number}
+use Rattle.radio_core.specs.Kept.{kept_session, kept_of}
+use Rattle.radio_core.specs.Sessions.{Session, is_of, session_of}
+use Rattle.radio_core.specs.SourceReplies.{to_data, to_data_from, to_session, to_end, unless_spent}
+use Rattle.radio_core.specs.StandsFor.{HasRisingStarts, StandsFor}
+use Rattle.radio_core.specs.Step.{Represents}
+use Rattle.radio_core.specs.World.{World, standing_of}
+use Rattle.radio_core.proofs.KeptLists.{kept_found}
+use Rattle.radio_core.proofs.KeptStreams.{kept_end}
+
+module _ (w : World) (rise : Each HasRisingStarts w.house.live) (bytes : List ℕ) where
+  abbrev queue : ℕ
+  queue = w.house.settings.limits.queue_size
+
+  session_replies : (found : Option Session) → ((session : Session) → found ≡ Some session → HasRisingStarts session)
+      → to_session (option_map (kept_session queue) found) bytes ≡ to_session found bytes
+  session_replies None rises = refl
+  session_replies (Some session) rises =
+      ap (λ (end : ℕ). unless_spent (nat_lt largest_number (end + length bytes))) (kept_end queue session.stream (rises session refl))
+
+  standing_replies : (standing : Standing) → to_data_from standing (kept_of w).house bytes ≡ to_data_from standing w.house bytes
+  standing_replies (Feeds mount) =
+      ap (λ (found : Option Session). to_session found bytes) (kept_found queue w.house.live mount)
+      ∙ session_replies (session_of w.house.live mount) (λ session e. found_has (is_of mount) HasRisingStarts w.house.live session rise e)
+  standing_replies Unknown = refl
+  standing_replies (Undecided peer) = refl
+  standing_replies Sits = refl
+  standing_replies Answered = refl
+  standing_replies (Finished rule) = refl
+
+  data_replies : (id : ℕ) → to_data (kept_of w) id bytes ≡ to_data w id bytes
+  unfolding to_data
+  data_replies id = standing_replies (standing_of w id)
+
+end_replies : (w : World) (id : ℕ) → to_end (kept_of w) id ≡ to_end w id
+unfolding to_end
+end_replies w id = refl
+
+pub cores_by_states : CoresGoByTheirStates
+unfolding Represents
+cores_by_states = record {
+  is_one = λ core other w one another. one.shows ∙ sym another.shows;
+  to_data = λ core w id bytes stands. ap (λ (x : World). to_data x id bytes) stands.shows ∙ data_replies w stands.rise bytes id;
+  to_end = λ core w id stands. ap (λ (x : World). to_end x id) stands.shows ∙ end_replies w id;
+}

@@ -1,0 +1,160 @@
+-- what comes of an event is the same where only a queue is kept of each stream
+use Rattle.std.proofs.Common.{◌≡◌, Bool, true, false, ℕ, ◌+◌, ◌≤◌, ◌||◌, Option, Some, None, is_some, List, length, refl, ap, sym, ◌∙◌, arith}
+use Rattle.std.proofs.Math.Path.{fun_ext}
+use Rattle.std.specs.Prelude.{nat_lt, not, if◌then◌else◌}
+use Rattle.std.specs.Option.{option_map, option_map_or}
+use Rattle.std.proofs.lemmas.List.{length-map}
+use Rattle.radio_policy.specs.declared.facts.Facts.{Facts}
+use Rattle.radio_policy.specs.declared.facts.TheConstants.Facts.{NONE}
+use Rattle.radio_policy.specs.Table.{Row, source_rows, push_rows, listen_rows}
+use Rattle.radio_policy.specs.Verdicts.{verdict_in}
+use Rattle.radio_addr.specs.declared.peer.Peer.{Peer}
+use Rattle.radio_settings.specs.MountName.{is_mount_name}
+use Rattle.radio_settings.specs.Options.{options_for}
+use Rattle.radio_access.specs.Lists.{lets_in}
+use Rattle.radio_access.specs.ContentTypes.{is_refused_type}
+use Rattle.radio_tables.specs.Lists.{Each}
+use Rattle.radio_tables.specs.FindLaws.{found_has}
+use Rattle.radio_seats.specs.declared.seat.Seat.{Seat}
+use Rattle.radio_seats.specs.Seats.{seat_of}
+use Rattle.radio_seats.specs.Walk.{Sight, found_at, stop_of}
+use Rattle.radio_core.specs.declared.event.SourceRequest.{SourceRequest}
+use Rattle.radio_core.specs.declared.event.ListenRequest.{ListenRequest}
+use Rattle.radio_core.specs.declared.event.Event.{Event}
+use Rattle.radio_core.specs.declared.event.Event.TheVariants.{Arrive, Source, Push, SourceEnd, Title, Listen, Draw, Leave, Clock}
+use Rattle.radio_core.specs.declared.house.House.{House}
+use Rattle.radio_core.specs.declared.outcome.Change.TheVariants.{Nothing, Answer, TakeSeat, Advance}
+use Rattle.radio_core.specs.declared.outcome.Outcome.{Outcome}
+use Rattle.radio_core.specs.declared.reply.Reply.TheVariants.{Seated, Drawn}
+use Rattle.radio_core.specs.declared.standing.Standing.{Standing}
+use Rattle.radio_core.specs.declared.standing.Standing.TheVariants.{Unknown, Undecided, Feeds, Sits, Answered, Finished}
+use Rattle.radio_core.specs.Draw.{hands_out, hands_out_at}
+use Rattle.radio_core.specs.Facts.{largest_number, is_full, asker_of, session_at, is_live, is_in_settings, is_known, is_source_of, sight_of, live_end, source_facts, listen_facts}
+use Rattle.radio_core.specs.Kept.{kept_from, kept_session, kept_live, kept_of}
+use Rattle.radio_core.specs.Lagging.{EachSeat}
+use Rattle.radio_core.specs.Listen.{burst_of, interval_for, first_seat, takes_seat}
+use Rattle.radio_core.specs.Outcomes.{says, on_verdict, if_undecided, if_feeding, if_sitting}
+use Rattle.radio_core.specs.Push.{takes_in}
+use Rattle.radio_core.specs.Sessions.{Session, is_of, session_of}
+use Rattle.radio_core.specs.Source.{begins}
+use Rattle.radio_core.specs.SourceReplies.{to_data, to_data_from, to_session, to_end, unless_spent}
+use Rattle.radio_core.specs.StandsFor.{HasRisingStarts, SeatsAreKept}
+use Rattle.radio_core.specs.Step.{outcome}
+use Rattle.radio_core.specs.Stream.{end_of, data_at}
+use Rattle.radio_core.specs.World.{World, standing_of}
+use Rattle.radio_core.proofs.KeptStreams.{kept_end, kept_data, kept_burst}
+use Rattle.radio_core.proofs.KeptLists.{kept_found, kept_ends}
+
+is_some_mapped : {A B : Type 0} (f : A → B) (found : Option A) → is_some (option_map f found) ≡ is_some found
+is_some_mapped f None = refl
+is_some_mapped f (Some x) = refl
+
+module _ (w : World) (rise : Each HasRisingStarts w.house.live) (kept : SeatsAreKept w) where
+  abbrev queue : ℕ
+  queue = w.house.settings.limits.queue_size
+
+  abbrev kept_house : House
+  kept_house = (kept_of w).house
+
+  has_session : (mount : List ℕ) → is_some (session_of kept_house.live mount) ≡ is_some (session_of w.house.live mount)
+  has_session mount = ap is_some (kept_found queue w.house.live mount) ∙ is_some_mapped (kept_session queue) (session_of w.house.live mount)
+
+  found_rises : (mount : List ℕ) (session : Session) → session_of w.house.live mount ≡ Some session → HasRisingStarts session
+  found_rises mount session e = found_has (is_of mount) HasRisingStarts w.house.live session rise e
+
+  -- the session of a path
+  at_name : (path : List ℕ) (named : Bool) → (if named then session_of kept_house.live path else None)
+      ≡ option_map (kept_session queue) (if named then session_of w.house.live path else None)
+  at_name path true = kept_found queue w.house.live path
+  at_name path false = refl
+
+  at_path : (path : List ℕ) → session_at kept_house path ≡ option_map (kept_session queue) (session_at w.house path)
+  at_path path = at_name path (is_mount_name path)
+
+  named_rises : (path : List ℕ) (named : Bool) (session : Session) → (if named then session_of w.house.live path else None) ≡ Some session
+      → HasRisingStarts session
+  named_rises path true session e = found_rises path session e
+  named_rises path false session e = cc
+
+  -- a source asks
+  feed_facts : (asked : SourceRequest) → source_facts kept_house asked ≡ source_facts w.house asked
+  feed_facts asked =
+      let facts : ℕ → Bool → Facts = λ count live. record NONE {
+        is_source_pair = is_source_of w.house asked.mount asked.pair;
+        sources_are_full = is_full count w.house.settings.limits.sources;
+        mount_is_live = live;
+        type_is_refused = is_refused_type asked.shown.content_type;
+      } in
+      ap (λ (count : ℕ). facts count (is_live kept_house asked.mount)) (length-map w.house.live (kept_session queue))
+      ∙ ap (facts (length w.house.live)) (ap is_some (at_path asked.mount) ∙ is_some_mapped (kept_session queue) (session_at w.house asked.mount))
+
+  -- a listener asks
+  same_sight : sight_of kept_house ≡ sight_of w.house
+  same_sight = ap (λ (is_live : List ℕ → Bool). record {
+    is_live = is_live;
+    limit = λ mount. (options_for w.house.settings mount).listeners.max_listeners;
+    lets_in = lets_in w.house.lists;
+    allows_duplicates = λ mount. (options_for w.house.settings mount).users.allow_duplicate_users;
+  }) (fun_ext has_session)
+
+  hear_facts : (asked : ListenRequest) → listen_facts kept_house w.seats asked ≡ listen_facts w.house w.seats asked
+  hear_facts asked =
+      let facts : Sight → Bool → Facts = λ sight live.
+          (if is_mount_name asked.mount then record NONE {
+            mount_is_known = is_in_settings w.house.settings asked.mount || live;
+            users_accept = (found_at sight w.seats asked.mount asked.pair).users_accept;
+            user_is_twice = (found_at sight w.seats asked.mount asked.pair).user_is_twice;
+            walk_stops = stop_of (found_at sight w.seats asked.mount asked.pair);
+          } else NONE) in
+      ap (λ (sight : Sight). facts sight (is_some (session_of kept_house.live asked.mount))) same_sight
+      ∙ ap (facts (sight_of w.house)) (has_session asked.mount)
+
+  sits_alike : (asked : ListenRequest) (peer : Peer) (found : Option Session) → ((session : Session) → found ≡ Some session → HasRisingStarts session)
+      → takes_seat kept_house asked peer (option_map (kept_session queue) found) ≡ takes_seat w.house asked peer found
+  sits_alike asked peer None rises = refl
+  sits_alike asked peer (Some session) rises =
+      ap (λ (place : ℕ). says (Seated (interval_for w.house session.mount asked.wants_metadata) session.shown)
+      (TakeSeat asked.id (record (first_seat w.house asked peer session) { place = place })))
+      (kept_burst queue (burst_of w.house session.mount) session.stream (omega arith) (rises session refl))
+
+  hears_alike : (asked : ListenRequest) (peer : Peer)
+      → takes_seat kept_house asked peer (session_at kept_house asked.mount) ≡ takes_seat w.house asked peer (session_at w.house asked.mount)
+  hears_alike asked peer =
+      ap (takes_seat kept_house asked peer) (at_path asked.mount)
+      ∙ sits_alike asked peer (session_at w.house asked.mount) (named_rises asked.mount (is_mount_name asked.mount))
+
+  -- a listener draws
+  hands_alike : (id room : ℕ) (seat : Seat) → seat_of w.seats id ≡ Some seat → (found : Option Session) → session_of w.house.live seat.mount ≡ found
+      → hands_out id seat room (option_map (kept_session queue) found) ≡ hands_out id seat room found
+  hands_alike id room seat has None none = refl
+  hands_alike id room seat has (Some session) live =
+      ap (λ (bytes : List ℕ). says (Drawn bytes session.title) (Advance id (seat.place + length bytes)))
+      (kept_data queue session.stream seat.place room (kept id seat session has live))
+
+  draws_alike : (id room : ℕ) (held : Option Seat) → seat_of w.seats id ≡ held → hands_out_at kept_house id room held ≡ hands_out_at w.house id room held
+  draws_alike id room None none = refl
+  draws_alike id room (Some seat) has =
+      ap (hands_out id seat room) (kept_found queue w.house.live seat.mount)
+      ∙ hands_alike id room seat has (session_of w.house.live seat.mount) refl
+
+  pub outcome_kept : (event : Event) → outcome (kept_of w) event ≡ outcome w event
+  unfolding outcome
+  outcome_kept (Arrive peer) = refl
+  outcome_kept (Source asked) =
+      ap (λ (facts : Facts). if_undecided (standing_of w asked.id) (λ _.
+      on_verdict (verdict_in (source_rows facts (asker_of asked.mount))) (Answer asked.id) (begins w.house asked))) (feed_facts asked)
+  outcome_kept (Push id block) =
+      ap (if_feeding (standing_of w id)) (fun_ext (λ mount.
+      ap (λ (end : ℕ). on_verdict (verdict_in (push_rows (record NONE { number_is_spent = nat_lt largest_number (end + length block) }))) Nothing
+      (takes_in mount block)) (kept_ends queue w.house.live mount rise)))
+  outcome_kept (SourceEnd id) = refl
+  outcome_kept (Title id text) = refl
+  outcome_kept (Listen asked) =
+      ap (λ (facts : Facts). if_undecided (standing_of w asked.id) (λ peer.
+      on_verdict (verdict_in (listen_rows facts (asker_of asked.mount))) (Answer asked.id)
+      (takes_seat kept_house asked peer (session_at kept_house asked.mount)))) (hear_facts asked)
+      ∙ ap (if_undecided (standing_of w asked.id)) (fun_ext (λ peer.
+      ap (on_verdict (verdict_in (listen_rows (listen_facts w.house w.seats asked) (asker_of asked.mount))) (Answer asked.id)) (hears_alike asked peer)))
+  outcome_kept (Draw id room) = ap (if_sitting (standing_of w id)) (draws_alike id room (seat_of w.seats id) refl)
+  outcome_kept (Leave id) = refl
+  outcome_kept (Clock ms) = refl

@@ -1,0 +1,264 @@
+-- what holds of each seat's place in the stream of its session holds still after each event
+use Rattle.std.proofs.Common.{◌≡◌, Bool, true, false, ℕ, zero, suc, ◌+◌, ◌-◌, ◌≤◌, ◌==◌, Option, Some, None, List, [], ◌∷◌, length, refl, ap, sym, subst, ◌∙◌, arith}
+use Rattle.std.specs.Prelude.{◌&&◌, nat_lt, if◌then◌else◌}
+use Rattle.std.specs.Option.{option_map, option_map_or}
+use Rattle.std.specs.Str.{bytes_eq}
+use Rattle.std.proofs.lemmas.Bool.{ltb-false}
+use Rattle.std.proofs.lemmas.Bool.Decides.{nat_tests}
+use Rattle.std.proofs.lemmas.Slice.Eq.{bytes_eq-Decides}
+use Rattle.radio_policy.specs.declared.rule.Rule.TheVariants.{NotLive, Lagged, TimeOver}
+use Rattle.radio_addr.specs.declared.peer.Peer.{Peer}
+use Rattle.radio_settings.specs.declared.field.Shown.{Shown}
+use Rattle.radio_settings.specs.declared.settings.Settings.{Settings}
+use Rattle.radio_tables.specs.Lists.{update_first}
+use Rattle.radio_tables.specs.FindLaws.{find_here, find_later}
+use Rattle.radio_tables.specs.KeyLaws.{by_number, by_name}
+use Rattle.radio_seats.specs.declared.seat.Seat.{Seat}
+use Rattle.radio_seats.specs.EndLaws.{had_seat, kept_seat}
+use Rattle.radio_seats.specs.Seats.{seat_of, seat_in, with_ended, with_seat, with_place, without_listener}
+use Rattle.radio_seats.specs.SeatLaws.{beside_moved, beside_left, beside_seated, is_no_listener, has_sat_down, has_heard, sits_still}
+use Rattle.radio_core.specs.declared.event.Event.{Event}
+use Rattle.radio_core.specs.declared.event.ListenRequest.{ListenRequest}
+use Rattle.radio_core.specs.declared.outcome.Change.{Change}
+use Rattle.radio_core.specs.declared.outcome.Change.TheVariants.{Begin, Receive, SetTitle, TakeSeat, Advance, End, EndAndLeave, Forget, Tick}
+use Rattle.radio_core.specs.declared.outcome.Outcome.{Outcome}
+use Rattle.radio_core.specs.Changes.{changed, received, session_ended, timed_out_by, durations_over, first_silent, session_silenced, on_silent, silence, ticked}
+use Rattle.radio_core.specs.Facts.{live_end}
+use Rattle.radio_core.specs.Lagging.{EachSeat}
+use Rattle.radio_core.specs.Listen.{burst_of, first_seat}
+use Rattle.radio_core.specs.Sessions.{Session, is_of, session_of, opened, longer, fed, with_title}
+use Rattle.radio_core.specs.Source.{shown_for}
+use Rattle.radio_core.specs.Step.{outcome}
+use Rattle.radio_core.specs.Stream.{WholeStream, no_data, end_of, with_block, burst_start, data_at}
+use Rattle.radio_core.specs.Timeouts.{lags_behind, has_sat_out}
+use Rattle.radio_core.specs.Ways.{Way, Misplaced, IsFinished, IsDenied, IsRefused, IsAdmitted, Begins, Receives, SetsTitle, TakesSeat, HandsOut, Ends, EndsAndLeaves, Leaves, HasPassed, Ticks}
+use Rattle.radio_core.specs.World.{World}
+use Rattle.radio_core.proofs.Lookups.{found_named, beside_fed, beside_titled, beside_ended, beside_begun, is_longer, is_titled, is_over, is_new_session}
+use Rattle.radio_core.proofs.Ways.{way_of}
+
+-- nobody has a seat who had none, and no session is there that was not
+record HasFewer (w later : World) : Type 0 where
+  pub settings : later.house.settings ≡ w.house.settings
+  pub seats : (id : ℕ) (seat : Seat) → seat_of later.seats id ≡ Some seat → seat_of w.seats id ≡ Some seat
+  pub sessions : (mount : List ℕ) (session : Session) → session_of later.house.live mount ≡ Some session → session_of w.house.live mount ≡ Some session
+
+fewer_twice : (w mid later : World) → HasFewer w mid → HasFewer mid later → HasFewer w later
+fewer_twice w mid later a b = record {
+  settings = b.settings ∙ a.settings;
+  seats = λ id seat e. a.seats id seat (b.seats id seat e);
+  sessions = λ mount session e. a.sessions mount session (b.sessions mount session e);
+}
+
+session_before : (w : World) (mount other : List ℕ) (session : Session) → session_of (session_ended w mount).house.live other ≡ Some session
+    → session_of w.house.live other ≡ Some session
+session_before w mount other session e =
+    by_name mount other
+    (λ same.
+    let none : session_of (session_ended w mount).house.live other ≡ None
+    = ap (session_of (session_ended w mount).house.live) (sym same) ∙ is_over w.house.live mount in cc)
+    (λ apart. sym (beside_ended w.house.live mount other apart) ∙ e)
+
+fewer_ended : (w : World) (mount : List ℕ) → HasFewer w (session_ended w mount)
+fewer_ended w mount = record {
+  settings = refl;
+  seats = λ id seat e. (sits_still mount NotLive w.seats id seat e).had_a_seat;
+  sessions = session_before w mount;
+}
+
+seat_before : (w : World) (him id : ℕ) (seat : Seat) → seat_of (without_listener w.seats him) id ≡ Some seat → seat_of w.seats id ≡ Some seat
+seat_before w him id seat e =
+    by_number him id
+    (λ same.
+    let none : seat_of (without_listener w.seats him) id ≡ None
+    = ap (seat_of (without_listener w.seats him)) (sym same) ∙ ap seat_in (is_no_listener w.seats him) in cc)
+    (λ apart. sym (ap seat_in (beside_left w.seats him id apart)) ∙ e)
+
+fewer_left : (w : World) (him : ℕ) → HasFewer w (changed w (Forget him))
+fewer_left w him = record { settings = refl; seats = seat_before w him; sessions = λ mount session e. e }
+
+fewer_silenced : (n : ℕ) (w : World) → HasFewer w (silence n w)
+fewer_silenced zero w = record { settings = refl; seats = λ id seat e. e; sessions = λ mount session e. e }
+fewer_silenced (suc n) w = by_first (fewer_silenced n) (first_silent w) where
+  by_first : ((next : World) → HasFewer next (silence n next)) → (found : Option Session) → HasFewer w (on_silent (silence n) w found)
+  by_first rest None = record { settings = refl; seats = λ id seat e. e; sessions = λ mount session e. e }
+  by_first rest (Some session) =
+      let ended = fewer_ended w session.mount in
+      let next = session_silenced w session in
+      fewer_twice w next (silence n next) (record { settings = refl; seats = ended.seats; sessions = ended.sessions }) (rest next)
+
+fewer_ticked : (w : World) (ms : ℕ) → HasFewer w (ticked w ms)
+fewer_ticked w ms =
+    let later = durations_over (record w { house = timed_out_by w.house ms }) in
+    fewer_twice w later (ticked w ms)
+    (record {
+      settings = refl;
+      seats = λ id seat e. had_seat (has_sat_out w.house.settings ms) TimeOver w.seats id seat e;
+      sessions = λ mount session e. e;
+    })
+    (fewer_silenced (length later.house.live) later)
+
+-- no change changes the settings
+settings_by : (w : World) (event : Event) (o : Outcome) → Way w event o → (changed w o.change).house.settings ≡ w.house.settings
+settings_by w event o (Misplaced _) = refl
+settings_by w event o (IsFinished _ id rule his told) = refl
+settings_by w event o (IsDenied _ rule v other) = refl
+settings_by w event o (IsRefused _ id rule v his undecided) = refl
+settings_by w event o (IsAdmitted peer allowed) = refl
+settings_by w event o (Begins asked undecided none) = refl
+settings_by w event o (Receives id mount block feeding) = refl
+settings_by w event o (HasPassed ms e) = refl
+settings_by w event o (Ticks ms e) = (fewer_ticked w ms).settings
+settings_by w event o (SetsTitle id mount text feeding) = refl
+settings_by w event o (TakesSeat asked peer session undecided live allowed) = refl
+settings_by w event o (HandsOut id room seat session sits has live) = refl
+settings_by w event o (Ends id mount feeding) = refl
+settings_by w event o (EndsAndLeaves id mount feeding) = refl
+settings_by w event o (Leaves id other) = refl
+
+pub settings_stay : (w : World) (event : Event) → (changed w (outcome w event).change).house.settings ≡ w.house.settings
+settings_stay w event = settings_by w event (outcome w event) (way_of w event)
+
+-- what is found where the session of a mount has changed
+module _ (live : List Session) (mount : List ℕ) (f : Session → Session) (same_test : (x : Session) → is_of mount (f x) ≡ is_of mount x) where
+  updated_at : (x : Session) (xs : List Session) (his : Bool) → is_of mount x ≡ his
+      → session_of (update_first (is_of mount) f xs) mount ≡ option_map f (session_of xs mount)
+      → session_of (if his then f x ∷ xs else x ∷ update_first (is_of mount) f xs) mount ≡ option_map f (if his then Some x else session_of xs mount)
+  updated_at x xs true e later = find_here (is_of mount) (f x) xs (same_test x ∙ e)
+  updated_at x xs false e later = find_later (is_of mount) x (update_first (is_of mount) f xs) e ∙ later
+
+  updated_in : (xs : List Session) → session_of (update_first (is_of mount) f xs) mount ≡ option_map f (session_of xs mount)
+  updated_in [] = refl
+  updated_in (x ∷ xs) = updated_at x xs (is_of mount x) refl (updated_in xs)
+
+  pub session_updated : {A : Type 0} (other : List ℕ) (now : Session)
+      → (bytes_eq mount other ≡ false → session_of (update_first (is_of mount) f live) other ≡ session_of live other)
+      → session_of (update_first (is_of mount) f live) other ≡ Some now
+      → ((old : Session) → mount ≡ other → session_of live other ≡ Some old → f old ≡ now → A) → (session_of live other ≡ Some now → A) → A
+  session_updated {A} other now beside e new same_as =
+      by_name mount other
+      (λ same. by_found same (session_of live mount) refl (sym (updated_in live) ∙ ap (session_of (update_first (is_of mount) f live)) same ∙ e))
+      (λ apart. same_as (sym (beside apart) ∙ e)) where
+        by_found : mount ≡ other → (found : Option Session) → session_of live mount ≡ found → option_map f (session_of live mount) ≡ Some now → A
+        by_found same None none is = let nothing : option_map f (session_of live mount) ≡ None = ap (option_map f) none in cc
+        by_found same (Some old) found is =
+            let both : Some (f old) ≡ Some now = sym (ap (option_map f) found) ∙ is in
+            let one : f old ≡ now = cc in
+            new old same (ap (session_of live) (sym same) ∙ found) one
+
+-- who is not behind at the mount
+not_behind : {queue : ℕ} (there : Bool) (lag : ℕ) → there ≡ true → (there && nat_lt queue lag) ≡ false → lag ≤ queue
+not_behind {queue} true lag e h = ltb-false queue lag h
+not_behind false lag e h = cc
+
+-- what a seat keeps by: it holds at the start, of a burst and further on, and where the stream grows and the seat stays
+pub record HoldsOn (P : WholeStream → ℕ → Type 0) (w : World) : Type 0 where
+  pub at_none : (place : ℕ) → P no_data place
+  pub at_burst : (mount : List ℕ) (session : Session) (burst : ℕ) → session_of w.house.live mount ≡ Some session
+      → burst ≤ w.house.settings.limits.queue_size → P session.stream (burst_start session.stream burst)
+  pub further : (stream : WholeStream) (place more : ℕ) → P stream place → P stream (place + more)
+  pub longer : (mount block : List ℕ) (session : Session) (place : ℕ) → session_of w.house.live mount ≡ Some session → P session.stream place
+      → end_of (with_block session.stream block) - place ≤ w.house.settings.limits.queue_size → P (with_block session.stream block) place
+
+module _ (P : WholeStream → ℕ → Type 0) (w : World) (holds : HoldsOn P w) (all : EachSeat P w) where
+  each_fewer : (later : World) → HasFewer w later → EachSeat P later
+  each_fewer later fewer id seat session has live = all id seat session (fewer.seats id seat has) (fewer.sessions seat.mount session live)
+
+  -- a session begins
+  each_begun : (him : ℕ) (mount : List ℕ) (shown : Shown) → EachSeat P (changed w (Begin him mount shown))
+  each_begun him mount shown id seat session has live =
+      let fresh = opened mount him shown w.house.time in
+      by_name mount seat.mount
+      (λ same.
+      let new = is_new_session w.house.live fresh seat.mount ((bytes_eq-Decides mount seat.mount).1 same) in
+      let found : Some fresh ≡ Some session = sym new ∙ live in
+      let one : fresh ≡ session = cc in
+      subst (λ (x : Session). P x.stream seat.place) one (holds.at_none seat.place))
+      (λ apart. all id seat session has (sym (beside_begun w.house.live fresh seat.mount apart) ∙ live))
+
+  -- a title is set
+  each_titled : (mount text : List ℕ) → EachSeat P (changed w (SetTitle mount text))
+  each_titled mount text id seat session has live =
+      session_updated w.house.live mount (with_title (Some text)) (λ x. refl) seat.mount session (λ apart. beside_titled w.house.live mount seat.mount apart text) live
+      (λ old same found one. subst (λ (x : Session). P x.stream seat.place) one (all id seat old has found))
+      (all id seat session has)
+
+  -- a block is delivered, and who is too far behind then has lost his seat
+  each_received : (mount block : List ℕ) → EachSeat P (changed w (Receive mount block))
+  each_received mount block id seat session has live =
+      session_updated w.house.live mount (longer block w.house.time) (λ x. refl) seat.mount session
+      (λ apart. beside_fed w.house.live mount seat.mount apart block w.house.time) live
+      (λ old same found one.
+      let end = live_end (received w.house mount block) mount in
+      let now : live_end (received w.house mount block) seat.mount ≡ end_of session.stream = ap end_in live in
+      let there : bytes_eq seat.mount mount ≡ true = (bytes_eq-Decides seat.mount mount).1 (sym same) in
+      let near : lags_behind mount end queue seat ≡ false = kept_seat (lags_behind mount end queue) Lagged w.seats id seat has in
+      let close = not_behind (bytes_eq seat.mount mount) (end - seat.place) there near in
+      let at_end : end ≡ end_of (with_block old.stream block)
+      = ap (live_end (received w.house mount block)) same ∙ now ∙ ap (λ (x : Session). end_of x.stream) (sym one) in
+      subst (λ (x : Session). P x.stream seat.place) one
+      (holds.longer seat.mount block old seat.place found (all id seat old (had id seat has) found) (subst (λ (n : ℕ). n - seat.place ≤ queue) at_end close)))
+      (all id seat session (had id seat has)) where
+        queue : ℕ
+        queue = w.house.settings.limits.queue_size
+
+        end_in : Option Session → ℕ
+        end_in found = option_map_or (λ (x : Session). end_of x.stream) found 0
+
+        had : (id : ℕ) (seat : Seat) → seat_of (changed w (Receive mount block)).seats id ≡ Some seat → seat_of w.seats id ≡ Some seat
+        had id seat e = had_seat (lags_behind mount (live_end (received w.house mount block) mount) w.house.settings.limits.queue_size) Lagged w.seats id seat e
+
+  -- a listener sits down
+  each_seated : (asked : ListenRequest) (peer : Peer) (session : Session) → session_of w.house.live asked.mount ≡ Some session
+      → EachSeat P (changed w (TakeSeat asked.id (first_seat w.house asked peer session)))
+  each_seated asked peer session live id seat other has found =
+      let new = first_seat w.house asked peer session in
+      by_number asked.id id
+      (λ same.
+      let itself : (asked.id == asked.id) ≡ true = grind (arith, nat_tests) in
+      let his : Some new ≡ Some seat = sym (ap seat_in (has_sat_down w.seats asked.id new itself)) ∙ ap (seat_of (with_seat w.seats asked.id new)) same ∙ has in
+      let one : new ≡ seat = cc in
+      let named = found_named w.house.live asked.mount session live in
+      let here : session_of w.house.live seat.mount ≡ Some session = ap (λ (x : Seat). session_of w.house.live x.mount) (sym one)
+      ∙ ap (session_of w.house.live) named ∙ live in
+      let both : Some session ≡ Some other = sym here ∙ found in
+      let its : session ≡ other = cc in
+      subst (λ (x : Session). P x.stream seat.place) its
+      (subst (λ (x : Seat). P session.stream x.place) one
+      (holds.at_burst asked.mount session (burst_of w.house session.mount) live (omega arith))))
+      (λ apart. all id seat other (sym (ap seat_in (beside_seated w.seats asked.id id apart new)) ∙ has) found)
+
+  -- a listener hears on
+  each_heard : (him : ℕ) (old : Seat) (more : ℕ) → seat_of w.seats him ≡ Some old → EachSeat P (changed w (Advance him (old.place + more)))
+  each_heard him old more sits id seat session has live =
+      by_number him id
+      (λ same.
+      let his : Some (record old { place = old.place + more }) ≡ Some seat
+      = sym (has_heard w.seats him (old.place + more) old sits) ∙ ap (seat_of (with_place w.seats him (old.place + more))) same ∙ has in
+      let one : record old { place = old.place + more } ≡ seat = cc in
+      let here : session_of w.house.live old.mount ≡ Some session = ap (λ (x : Seat). session_of w.house.live x.mount) one ∙ live in
+      subst (λ (x : Seat). P session.stream x.place) one (holds.further session.stream old.place more (all him old session sits here)))
+      (λ apart. all id seat session (sym (ap seat_in (beside_moved w.seats him id apart (old.place + more))) ∙ has) live)
+
+  each_by : (event : Event) (o : Outcome) → Way w event o → EachSeat P (changed w o.change)
+  each_by event o (Misplaced _) = all
+  each_by event o (IsFinished _ id rule his told) = all
+  each_by event o (IsDenied _ rule v other) = all
+  each_by event o (IsRefused _ id rule v his undecided) = all
+  each_by event o (IsAdmitted peer allowed) = all
+  each_by event o (Begins asked undecided none) = each_begun asked.id asked.mount (shown_for w.house asked.mount asked.shown)
+  each_by event o (Receives id mount block feeding) = each_received mount block
+  each_by event o (HasPassed ms e) = all
+  each_by event o (Ticks ms e) = each_fewer (ticked w ms) (fewer_ticked w ms)
+  each_by event o (SetsTitle id mount text feeding) = each_titled mount text
+  each_by event o (TakesSeat asked peer session undecided live allowed) = each_seated asked peer session live
+  each_by event o (HandsOut id room seat session sits has live) = each_heard id seat (length (data_at session.stream seat.place room)) has
+  each_by event o (Ends id mount feeding) =
+      let ended = fewer_ended w mount in
+      each_fewer (changed w (End id mount)) (record { settings = refl; seats = ended.seats; sessions = ended.sessions })
+  each_by event o (EndsAndLeaves id mount feeding) =
+      each_fewer (changed w (EndAndLeave id mount))
+      (fewer_twice w (session_ended w mount) (changed w (EndAndLeave id mount)) (fewer_ended w mount) (fewer_left (session_ended w mount) id))
+  each_by event o (Leaves id other) = each_fewer (changed w (Forget id)) (fewer_left w id)
+
+  pub each_after : (event : Event) → EachSeat P (changed w (outcome w event).change)
+  each_after event = each_by event (outcome w event) (way_of w event)

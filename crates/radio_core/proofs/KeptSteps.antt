@@ -1,0 +1,115 @@
+-- a change of a state in which only a queue is kept of each stream is the change of the state; and blocks rise still
+use Rattle.std.proofs.Common.{◌≡◌, ℕ, zero, suc, Option, Some, None, List, length, refl, ap, sym, subst, ◌∙◌, arith, length-append}
+use Rattle.std.specs.Prelude.{not}
+use Rattle.std.specs.Option.{option_map}
+use Rattle.std.proofs.lemmas.List.{length-map}
+use Rattle.radio_policy.specs.declared.rule.Rule.TheVariants.{Lagged, SourceSilent}
+use Rattle.radio_tables.specs.Lists.{Each}
+use Rattle.radio_tables.specs.EachLaws.{Each_kept, Each_updated, Each_placed}
+use Rattle.radio_seats.specs.Seats.{with_ended}
+use Rattle.radio_core.specs.declared.clients.ClientState.TheVariants.{Feeds, Answered, Ended}
+use Rattle.radio_core.specs.declared.outcome.Change.{Change}
+use Rattle.radio_core.specs.declared.outcome.Change.TheVariants.{Nothing, Answer, Admit, Begin, Receive, SetTitle, TakeSeat, Advance, End, EndAndLeave, Forget, Tick}
+use Rattle.radio_core.specs.Changes.{changed, session_ended, forgotten, laggards_ended, timed_out_by, durations_over, first_silent, session_silenced, on_silent, silence, ticked}
+use Rattle.radio_core.specs.Clients.{in_state}
+use Rattle.radio_core.specs.Kept.{kept_session, kept_live, kept_of}
+use Rattle.radio_core.specs.KeptChanges.{kept_changed}
+use Rattle.radio_core.specs.Sessions.{Session, is_of, by_mount, opened, longer, fed, with_title}
+use Rattle.radio_core.specs.StandsFor.{HasRisingStarts}
+use Rattle.radio_core.specs.Stream.{end_of, with_block}
+use Rattle.radio_core.specs.Timeouts.{lags_behind}
+use Rattle.radio_core.specs.World.{World}
+use Rattle.radio_core.proofs.Soundness.{rising_more}
+use Rattle.radio_core.proofs.KeptLists.{kept_silent, kept_ends, fed_kept, titled_kept, ended_kept, begun_kept}
+
+-- the world with other sessions
+abbrev with_live : World → List Session → World
+with_live w live = record w { house = record w.house { live = live } }
+
+-- blocks rise still
+
+longer_rises : (block : List ℕ) (moment : ℕ) (session : Session) → HasRisingStarts session → HasRisingStarts (longer block moment session)
+longer_rises block moment session r =
+    rising_more session.stream.starts (end_of session.stream) (end_of (with_block session.stream block))
+    (omega (arith, length-append session.stream.bytes block)) r
+
+rise_fed : (live : List Session) (mount block : List ℕ) (moment : ℕ) → Each HasRisingStarts live → Each HasRisingStarts (fed live mount block moment)
+rise_fed live mount block moment rise = Each_updated HasRisingStarts (is_of mount) (longer block moment) (longer_rises block moment) live rise
+
+rise_ended : (w : World) (mount : List ℕ) → Each HasRisingStarts w.house.live → Each HasRisingStarts (session_ended w mount).house.live
+rise_ended w mount rise = Each_kept HasRisingStarts HasRisingStarts (λ session. not (is_of mount session)) (λ x r e. r) w.house.live rise
+
+rise_silenced : (n : ℕ) (w : World) → Each HasRisingStarts w.house.live → Each HasRisingStarts (silence n w).house.live
+rise_silenced zero w rise = rise
+rise_silenced (suc n) w rise = by_first (rise_silenced n) (first_silent w) where
+  by_first : ((next : World) → Each HasRisingStarts next.house.live → Each HasRisingStarts (silence n next).house.live) → (found : Option Session)
+      → Each HasRisingStarts (on_silent (silence n) w found).house.live
+  by_first rest None = rise
+  by_first rest (Some session) = rest (session_silenced w session) (rise_ended w session.mount rise)
+
+pub rise_changed : (w : World) → Each HasRisingStarts w.house.live → (change : Change) → Each HasRisingStarts (changed w change).house.live
+rise_changed w rise Nothing = rise
+rise_changed w rise (Answer id) = rise
+rise_changed w rise (Admit id peer) = rise
+rise_changed w rise (Begin id mount shown) = Each_placed HasRisingStarts by_mount (opened mount id shown w.house.time) w.house.live tt rise
+rise_changed w rise (Receive mount block) = rise_fed w.house.live mount block w.house.time rise
+rise_changed w rise (SetTitle mount title) = Each_updated HasRisingStarts (is_of mount) (with_title (Some title)) (λ x r. r) w.house.live rise
+rise_changed w rise (TakeSeat id seat) = rise
+rise_changed w rise (Advance id place) = rise
+rise_changed w rise (End id mount) = rise_ended w mount rise
+rise_changed w rise (EndAndLeave id mount) = rise_ended w mount rise
+rise_changed w rise (Forget id) = rise
+rise_changed w rise (Tick ms) =
+    let later = durations_over (record w { house = timed_out_by w.house ms }) in
+    rise_silenced (length later.house.live) later rise
+
+-- sessions end alike
+
+module _ (w : World) where
+  abbrev queue : ℕ
+  queue = w.house.settings.limits.queue_size
+
+  silenced_alike : (session : Session) → session_silenced (kept_of w) (kept_session queue session) ≡ kept_of (session_silenced w session)
+  silenced_alike session = ap (λ (live : List Session). with_live (session_silenced w session) live) (ended_kept queue w.house.live session.mount)
+
+silence_kept : (n : ℕ) (w : World) → silence n (kept_of w) ≡ kept_of (silence n w)
+silence_kept zero w = refl
+silence_kept (suc n) w =
+    ap (on_silent (silence n) (kept_of w)) (kept_silent (queue w) w.house.live w.house.settings.limits.source_timeout w.house.time)
+    ∙ by_first (silence_kept n) (first_silent w) where
+      by_first : ((next : World) → silence n (kept_of next) ≡ kept_of (silence n next)) → (found : Option Session)
+          → on_silent (silence n) (kept_of w) (option_map (kept_session w.house.settings.limits.queue_size) found) ≡ kept_of (on_silent (silence n) w found)
+      by_first rest None = refl
+      by_first rest (Some session) = ap (silence n) (silenced_alike w session) ∙ rest (session_silenced w session)
+
+module _ (w : World) (rise : Each HasRisingStarts w.house.live) where
+  received_alike : (mount block : List ℕ) → kept_changed (kept_of w) (Receive mount block) ≡ kept_of (changed w (Receive mount block))
+  received_alike mount block =
+      let live = fed w.house.live mount block w.house.time in
+      ap (λ (sessions : List Session). laggards_ended (with_live w sessions) mount) (fed_kept (queue w) w.house.live mount block w.house.time rise)
+      ∙ ap (λ (end : ℕ). record (with_live w (kept_live (queue w) live)) { seats = with_ended w.seats (lags_behind mount end (queue w)) Lagged })
+      (kept_ends (queue w) live mount (rise_fed w.house.live mount block w.house.time rise))
+
+  ended_alike : (mount : List ℕ) → session_ended (kept_of w) mount ≡ kept_of (session_ended w mount)
+  ended_alike mount = ap (λ (live : List Session). with_live (session_ended w mount) live) (ended_kept (queue w) w.house.live mount)
+
+  ticked_alike : (ms : ℕ) → ticked (kept_of w) ms ≡ kept_of (ticked w ms)
+  ticked_alike ms =
+      let later = durations_over (record w { house = timed_out_by w.house ms }) in
+      ap (λ (n : ℕ). silence n (kept_of later)) (length-map later.house.live (kept_session (queue w))) ∙ silence_kept (length later.house.live) later
+
+  pub changed_kept : (change : Change) → kept_changed (kept_of w) change ≡ kept_of (changed w change)
+  changed_kept Nothing = refl
+  changed_kept (Answer id) = refl
+  changed_kept (Admit id peer) = refl
+  changed_kept (Begin id mount shown) =
+      ap (λ (live : List Session). with_live (changed w (Begin id mount shown)) live) (begun_kept (queue w) w.house.live (opened mount id shown w.house.time))
+  changed_kept (Receive mount block) = received_alike mount block
+  changed_kept (SetTitle mount title) =
+      ap (λ (live : List Session). with_live (changed w (SetTitle mount title)) live) (titled_kept (queue w) w.house.live mount title)
+  changed_kept (TakeSeat id seat) = refl
+  changed_kept (Advance id place) = refl
+  changed_kept (End id mount) = ap (λ (v : World). record v { house = record v.house { clients = in_state v.house.clients id Answered } }) (ended_alike mount)
+  changed_kept (EndAndLeave id mount) = ap (λ (v : World). forgotten v id) (ended_alike mount)
+  changed_kept (Forget id) = refl
+  changed_kept (Tick ms) = ticked_alike ms

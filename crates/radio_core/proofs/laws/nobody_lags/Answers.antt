@@ -1,0 +1,5 @@
+use Rattle.radio_core.proofs.KeptRuns.{near_run}
+use Rattle.radio_core.proofs.laws.nobody_lags.Goals as goal
+
+pub returns : goal.returns
+returns c = record { near = near_run }

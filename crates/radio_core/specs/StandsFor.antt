@@ -1,0 +1,23 @@
+-- A core and the states that it stands for.
+use Rattle.std.specs.Prelude.{◌≡◌, ◌≤◌}
+use Rattle.radio_tables.specs.Lists.{Each}
+use Rattle.radio_core.specs.Kept.{kept_from, kept_of}
+use Rattle.radio_core.specs.Lagging.{EachSeat}
+use Rattle.radio_core.specs.Sessions.{Session}
+use Rattle.radio_core.specs.Sound.{AreRising}
+use Rattle.radio_core.specs.Stream.{end_of}
+use Rattle.radio_core.specs.World.{World}
+
+-- blocks start one after another, within the stream
+abbrev pub HasRisingStarts : Session → Type 0
+HasRisingStarts session = AreRising session.stream.starts (end_of session.stream)
+
+-- no seat's place is forgotten
+abbrev pub SeatsAreKept : World → Type 0
+SeatsAreKept w = EachSeat (λ stream place. kept_from w.house.settings.limits.queue_size stream ≤ place) w
+
+-- the core has all of the state, but of each stream only what a queue keeps; and that is all from each listener's place on
+pub record StandsFor (core w : World) : Type 0 where
+  pub shows : core ≡ kept_of w
+  pub rise : Each HasRisingStarts w.house.live
+  pub kept : SeatsAreKept w

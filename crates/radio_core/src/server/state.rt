@@ -1,0 +1,125 @@
+//! All of the server's state, and what an event does to it.
+
+ghost use Rattle.std.specs.Prelude.{◌≡◌, IsOk, IfOk, OnOk, OnErr};
+ghost use Rattle.radio_seats.specs.Seats.{listener_of};
+ghost use Rattle.radio_core.specs.World.{opening, standing_of, standing_of_listener};
+ghost use Rattle.radio_core.specs.KeptChanges.{kept_changed};
+ghost use Rattle.radio_core.specs.Step.{outcome, StandsForSome, NeedsNoMemory, TakesNoMemory};
+
+use crate::clients::ClientState;
+use crate::house::House;
+use crate::outcome::{Change, Outcome};
+use crate::standing::Standing;
+use crate::{Event, OutOfMemory};
+use radio_access::Lists;
+use radio_seats::{Seating, Seats};
+use radio_settings::Settings;
+use radio_tables::Table;
+use std::alloc::Global;
+use std::marker::Model;
+
+/// The house, and the table of those who listen in it. Contracts see it as a `World` in which of
+/// each stream the last blocks are kept.
+#[derive(Drop)]
+pub(crate) struct State {
+    pub(super) alloc: Global,
+    pub(super) house: House,
+    pub(super) seats: Seats,
+}
+
+impl Model for State {
+    ghost use Rattle.radio_core.specs.World.{World};
+    ghost use Rattle.std.specs.Coded.{codes};
+    ghost use Rattle.radio_creds.specs.contracts.user_list.Users as creds_users;
+
+    ghost Value = { World };
+
+    ghost coded = { Prim.hlevel (codes, creds_users.the_row.coded) };
+
+    ghost view = { λ c. record { house = c.house; seats = c.seats } };
+}
+
+impl State {
+    /// Nothing has happened yet. It takes no memory.
+    pub(super) fn new(alloc: Global, settings: Settings, lists: Lists) -> State
+        ensures { result ≡ opening settings lists }
+    {
+        let house = House {
+            time: 0,
+            settings,
+            lists,
+            live: Table::new(alloc),
+            clients: Table::new(alloc),
+            last_id: 0,
+        };
+        State {
+            alloc,
+            house,
+            seats: Seats::new(alloc),
+        }
+    }
+
+    /// What comes of an event. `OutOfMemory` where memory was refused.
+    #[tactic(auto, unfolding(crate::specs::Step::outcome))]
+    pub(super) fn outcome(&self, event: Event) -> Result<Outcome, OutOfMemory>
+        requires { StandsForSome self.now }
+        ensures value { IfOk result (λ o. o ≡ outcome self.now event) }
+        ensures frees { TakesNoMemory event → IsOk result }
+    {
+        match event {
+            Event::Arrive { peer } => Ok(self.arrive(peer)),
+            Event::Source(asked) => self.source(asked),
+            Event::Push { id, block } => Ok(self.push(id, block)),
+            Event::SourceEnd { id } => Ok(self.source_end(id)),
+            Event::Title { id, text } => Ok(self.title(id, text)),
+            Event::Listen(asked) => self.listen(asked),
+            Event::Draw { id, room } => self.draw(id, room),
+            Event::Leave { id } => Ok(self.leave(id)),
+            Event::Clock { ms } => Ok(self.clock(ms)),
+        }
+    }
+
+    /// Makes a change, and gives back what was worked out for it. `OutOfMemory` where memory was
+    /// refused; nothing has changed then.
+    pub(super) fn commit_for<T: Drop>(&mut self, change: Change, told: T) -> Result<T, OutOfMemory>
+        ensures ok { OnOk result (self.new ≡ kept_changed self.old change) }
+        ensures told { IfOk result (λ same. same ≡ told) }
+        ensures err { OnErr result (self.new ≡ self.old) }
+        ensures frees { NeedsNoMemory change → IsOk result }
+    {
+        match self.commit(change) {
+            Ok(()) => Ok(told),
+            Err(refused) => Err(refused),
+        }
+    }
+
+    /// How the client of this number stands.
+    pub(super) fn standing(&self, id: u64) -> Standing
+        ensures { result ≡ standing_of self.now id }
+    {
+        let Some(client) = self.house.clients.get(id) else {
+            return Standing::Unknown;
+        };
+        let state = client.state;
+        match state {
+            ClientState::Undecided => Standing::Undecided(client.peer),
+            ClientState::Feeds(mount) => Standing::Feeds(mount),
+            ClientState::Listens => self.listener_standing(id),
+            ClientState::Answered => Standing::Answered,
+            ClientState::Ended(rule) => Standing::Finished(rule),
+        }
+    }
+
+    /// How the listener of this number stands.
+    fn listener_standing(&self, id: u64) -> Standing
+        ensures { result ≡ standing_of_listener (listener_of self.now.seats id) }
+    {
+        let Some(listener) = self.seats.get(id) else {
+            return Standing::Answered;
+        };
+        match &listener.seating {
+            Seating::Sits(_) => Standing::Sits,
+            Seating::Finished(rule) => Standing::Finished(*rule),
+        }
+    }
+}
