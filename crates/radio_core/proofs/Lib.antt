@@ -25,4 +25,6 @@ pub mod StepLemmas
 pub mod ListsLemmas
 pub mod LimitLemmas
 pub mod LimitDenials
+pub mod NumberLists
+pub mod TotalLemmas
 mod SourceReplyLemmas

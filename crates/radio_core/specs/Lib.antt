@@ -34,3 +34,4 @@ pub mod Service
 pub mod Others
 pub mod Outstaying
 pub mod SourceReplies
+pub mod Totals
