@@ -1,37 +1,45 @@
-//! Benchmarks: `bench [full] [creds] [icy] [settings] [source] [FILE..]`.
+//! Benchmarks: `bench [full] [creds] [house] [icy] [settings] [source] [threads] [FILE..]`.
 //!
-//! Each subject that is named is measured, and all four where none is. Without `full` little is done, and only counts
+//! Each subject that is named is measured, and all six where none is. Without `full` little is done, and only counts
 //! and sizes are written, which never change. With it much is done, and times are written too. Each other word is the
 //! path of a settings file, of which it is written how many mounts and relays it has, or its fault.
 #![tactic(auto)]
 
 mod creds;
+mod house;
 mod icy;
 mod settings;
 mod source;
+mod threads;
 mod times;
 
 use anyhow::Result;
 use std::env;
-use std::rt::{Clock, Env};
+use std::rt::{Clock, Env, Files};
+use std::sync::Wait;
+use std::thread::Threads;
 
 /// What can be measured.
 #[derive(Clone, Copy, PartialEq, Eq)]
 enum Subject {
     Creds,
+    House,
     Icy,
     Settings,
     Source,
+    Threads,
 }
 
 /// The word that asks for much, with times.
 const FULL: &str = "full";
 
-const ALL: [Subject; 4] = [
+const ALL: [Subject; 6] = [
     Subject::Creds,
+    Subject::House,
     Subject::Icy,
     Subject::Settings,
     Subject::Source,
+    Subject::Threads,
 ];
 
 fn main(rt: HostRuntime) -> Result<()> {
@@ -46,7 +54,10 @@ fn main(rt: HostRuntime) -> Result<()> {
 }
 
 /// Does what the words ask for, and tells whether a subject is among them.
-fn measure_words(rt: &HostRuntime, is_full: bool) -> Result<bool> {
+fn measure_words<R>(rt: &R, is_full: bool) -> Result<bool>
+where
+    R: Clock + Env + Files + Print + AllocGlobal + Threads + Wait + Sync,
+{
     let mut has_subject = false;
     for word in env::args(rt)?.skip(1) {
         if measure_word(rt, word.as_str(), is_full)? {
@@ -57,7 +68,10 @@ fn measure_words(rt: &HostRuntime, is_full: bool) -> Result<bool> {
 }
 
 /// Does what a word asks for, and tells whether it is a subject.
-fn measure_word(rt: &HostRuntime, word: &str, is_full: bool) -> Result<bool> {
+fn measure_word<R>(rt: &R, word: &str, is_full: bool) -> Result<bool>
+where
+    R: Clock + Files + Print + AllocGlobal + Threads + Wait + Sync,
+{
     if let Some(subject) = subject_of(word) {
         measure(rt, subject, is_full)?;
         return Ok(true);
@@ -72,18 +86,26 @@ fn measure_word(rt: &HostRuntime, word: &str, is_full: bool) -> Result<bool> {
 fn subject_of(word: &str) -> Option<Subject> {
     match word {
         "creds" => Some(Subject::Creds),
+        "house" => Some(Subject::House),
         "icy" => Some(Subject::Icy),
         "settings" => Some(Subject::Settings),
         "source" => Some(Subject::Source),
+        "threads" => Some(Subject::Threads),
         _ => None,
     }
 }
 
-fn measure(rt: &(impl Clock + Print + AllocGlobal), subject: Subject, is_full: bool) -> Result<()> {
+fn measure<R: Clock + Print + AllocGlobal + Threads + Wait + Sync>(
+    rt: &R,
+    subject: Subject,
+    is_full: bool,
+) -> Result<()> {
     match subject {
         Subject::Creds => creds::measure(rt, is_full),
+        Subject::House => house::measure(rt, is_full),
         Subject::Icy => icy::measure(rt, is_full),
         Subject::Settings => settings::measure(rt, is_full),
         Subject::Source => source::measure(rt, is_full),
+        Subject::Threads => threads::measure(rt, is_full),
     }
 }
