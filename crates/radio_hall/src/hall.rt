@@ -1,12 +1,13 @@
 //! The lock round a book.
 
-ghost use Rattle.std.specs.Prelude.{◌≡◌, ◌^◌, ◌∷◌, [], ◌++◌, ℕ, length, true, false, IsOk, IfOk, IfSome, OnErr, All, IsPermutation, sum_by};
+ghost use Rattle.std.specs.Prelude.{◌≡◌, ◌^◌, ◌∷◌, [], ◌++◌, ℕ, length, true, false, IsOk, IfOk, IfErr, IfSome, List, OnErr, All, IsPermutation, sum_by};
 ghost use Rattle.std.specs.List.{range_with_len};
 ghost use Rattle.radio_core.specs.Step.{TakesNoMemory};
 ghost use Rattle.radio_core.specs.World.{opening};
+ghost use Rattle.radio_book.specs.declared.entry.Entry.{Entry as EntryOf};
 ghost use Rattle.radio_book.specs.Clients.{is_here};
 ghost use Rattle.radio_book.specs.History.{IsLegal, IsRun, StandsIn};
-ghost use Rattle.radio_book.specs.Settling.{Rises, all_serials, serials};
+ghost use Rattle.radio_book.specs.Settling.{Rises, Shows, all_serials, serials};
 
 use radio_access::Lists;
 use radio_book::{Book, Chronicle, Entry, House, Kept, OutOfMemory, Pass, Receipt, SettleFault};
@@ -87,6 +88,10 @@ pub fn settle<H: House>(
     // and nothing else stands there: each place has one receipt in all passes together
     ensures once { IfOk result (λ history. IsPermutation (range_with_len 1 (length history.items)) (all_serials passes.items)) }
     ensures total { IfOk result (λ history. length history.items ≡ sum_by length passes.items) }
+    // a fault comes only where the passes show it, beside a history that is such a run
+    ensures fault { IfErr result (λ fault. ∥ (history : List EntryOf) × IsRun H.opening history × Shows history passes.items fault ∥₁) }
 {
-    radio_book::settle(alloc, hall.into_book(), passes)
+    let book = hall.into_book();
+    book.is_told();
+    radio_book::settle(alloc, book, passes)
 }
