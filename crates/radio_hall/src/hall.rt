@@ -89,7 +89,7 @@ pub fn settle<H: House>(
     ensures once { IfOk result (λ history. IsPermutation (range_with_len 1 (length history.items)) (all_serials passes.items)) }
     ensures total { IfOk result (λ history. length history.items ≡ sum_by length passes.items) }
     // a fault comes only where the passes show it, beside a history that is such a run
-    ensures fault { IfErr result (λ fault. ∥ (history : List EntryOf) × IsRun H.opening history × Shows history passes.items fault ∥₁) }
+    ensures fault { IfErr result (λ fault. ∥ ((history : List EntryOf) × IsRun H.opening history × Shows history passes.items fault) ∥₁) }
 {
     let book = hall.into_book();
     book.is_told();
