@@ -1,43 +1,60 @@
-//! Benchmarks: `bench [full] [creds] [icy] [queue] [settings] [source] [FILE..]`.
+//! Benchmarks: `bench [full] [creds] [house] [icy] [queue] [settings] [source] [threads] [FILE..]`, and `bench fanout`.
 //!
 //! Each subject that is named is measured, and all where none is. Without `full` little is done, and only counts
 //! and sizes are written, which never change. With it much is done, and times are written too. Each other word is the
 //! path of a settings file, of which it is written how many mounts and relays it has, or its fault.
+//!
+//! `bench fanout` serves, until it is killed, beside which `scripts/bench_serve` measures a station.
 #![tactic(auto)]
 
 mod creds;
+mod fanout;
+mod house;
 mod icy;
 mod queue;
 mod settings;
 mod source;
+mod threads;
 mod times;
 
 use anyhow::Result;
 use std::env;
-use std::rt::{Clock, Env};
+use std::rt::{Clock, Env, Files};
+use std::sync::Wait;
+use std::thread::Threads;
 
 /// What can be measured.
 #[derive(Clone, Copy, PartialEq, Eq)]
 enum Subject {
     Creds,
+    House,
     Icy,
     Queue,
     Settings,
     Source,
+    Threads,
 }
 
 /// The word that asks for much, with times.
 const FULL: &str = "full";
 
-const ALL: [Subject; 5] = [
+/// The word that asks for a bare fan-out.
+const FANOUT: &str = "fanout";
+
+const ALL: [Subject; 7] = [
     Subject::Creds,
+    Subject::House,
     Subject::Icy,
     Subject::Queue,
     Subject::Settings,
     Subject::Source,
+    Subject::Threads,
 ];
 
 fn main(rt: HostRuntime) -> Result<()> {
+    if env::args(&rt)?.any(|word| word.as_str() == FANOUT) {
+        return fanout::serve(&rt);
+    }
     let is_full = env::args(&rt)?.any(|word| word.as_str() == FULL);
     if measure_words(&rt, is_full)? {
         return Ok(());
@@ -49,7 +66,10 @@ fn main(rt: HostRuntime) -> Result<()> {
 }
 
 /// Does what the words ask for, and tells whether a subject is among them.
-fn measure_words(rt: &HostRuntime, is_full: bool) -> Result<bool> {
+fn measure_words<R>(rt: &R, is_full: bool) -> Result<bool>
+where
+    R: Clock + Env + Files + Print + AllocGlobal + Threads + Wait + Sync,
+{
     let mut has_subject = false;
     for word in env::args(rt)?.skip(1) {
         if measure_word(rt, word.as_str(), is_full)? {
@@ -60,7 +80,10 @@ fn measure_words(rt: &HostRuntime, is_full: bool) -> Result<bool> {
 }
 
 /// Does what a word asks for, and tells whether it is a subject.
-fn measure_word(rt: &HostRuntime, word: &str, is_full: bool) -> Result<bool> {
+fn measure_word<R>(rt: &R, word: &str, is_full: bool) -> Result<bool>
+where
+    R: Clock + Files + Print + AllocGlobal + Threads + Wait + Sync,
+{
     if let Some(subject) = subject_of(word) {
         measure(rt, subject, is_full)?;
         return Ok(true);
@@ -75,20 +98,28 @@ fn measure_word(rt: &HostRuntime, word: &str, is_full: bool) -> Result<bool> {
 fn subject_of(word: &str) -> Option<Subject> {
     match word {
         "creds" => Some(Subject::Creds),
+        "house" => Some(Subject::House),
         "icy" => Some(Subject::Icy),
         "queue" => Some(Subject::Queue),
         "settings" => Some(Subject::Settings),
         "source" => Some(Subject::Source),
+        "threads" => Some(Subject::Threads),
         _ => None,
     }
 }
 
-fn measure(rt: &(impl Clock + Print + AllocGlobal), subject: Subject, is_full: bool) -> Result<()> {
+fn measure<R: Clock + Print + AllocGlobal + Threads + Wait + Sync>(
+    rt: &R,
+    subject: Subject,
+    is_full: bool,
+) -> Result<()> {
     match subject {
         Subject::Creds => creds::measure(rt, is_full),
+        Subject::House => house::measure(rt, is_full),
         Subject::Icy => icy::measure(rt, is_full),
         Subject::Queue => queue::measure(rt, is_full),
         Subject::Settings => settings::measure(rt, is_full),
         Subject::Source => source::measure(rt, is_full),
+        Subject::Threads => threads::measure(rt, is_full),
     }
 }

@@ -6,7 +6,7 @@ use anyhow::Result;
 use radio_settings::{OutOfMemory, Settings, SettingsFault};
 use std::alloc::Global;
 use std::fs;
-use std::rt::Clock;
+use std::rt::{Clock, Files};
 use std::time::{Duration, Instant};
 
 /// Measures both sizes.
@@ -21,7 +21,7 @@ pub fn measure(rt: &(impl Clock + Print + AllocGlobal), is_full: bool) -> Result
 }
 
 /// Reads a settings file, and writes what is in it.
-pub fn read_file(rt: &HostRuntime, path: &str) -> Result<()> {
+pub fn read_file(rt: &(impl Files + Print + AllocGlobal), path: &str) -> Result<()> {
     let text = fs::read_to_string(rt, path)?;
     match counts(rt.alloc(), text.as_str()) {
         Ok((mounts, relays)) => println!(rt; "{path}: {mounts} mounts, {relays} relays")?,

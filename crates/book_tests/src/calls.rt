@@ -7,15 +7,22 @@ use radio_blocks::Block;
 use radio_book::OutOfMemory;
 use radio_core::{Core, Event, ListenRequest, SourceRequest};
 use radio_creds::basic;
+use radio_icy::Title;
 use radio_settings::{Settings, SettingsFault, Shown};
 use std::alloc::Global;
 
-/// How often a block is delivered and drawn.
-const ROUNDS: u32 = 47;
+/// How often a block is delivered and drawn, after each title.
+const ROUNDS: u32 = 23;
 
-/// How many calls a caller makes: a source and a listener arrive and say what they want, then blocks
-/// are delivered and drawn, and the two leave.
+/// The titles, one after the other.
+const TITLES: [&[u8]; 2] = [b"Evening", b"Night"];
+
+/// How many calls a caller makes: a source and a listener arrive and say what they want, then titles
+/// are set and blocks are delivered and drawn, and the two leave.
 pub const CALLS: usize = 100;
+
+/// How many of them are draws, each of which is handed data and told a title.
+pub const DRAWS: usize = 46;
 
 /// What is delivered each time, and drawn.
 pub const DATA: &[u8] = b"abcd";
@@ -53,6 +60,22 @@ pub fn events_of(
     let mut events = Vec::new(alloc);
     events.push(source_event(alloc, source, path)?)?;
     events.push(listen_event(alloc, listener, path)?)?;
+    for title in TITLES {
+        events.push(title_event(alloc, source, title)?)?;
+        push_rounds(alloc, &mut events, source, listener)?;
+    }
+    events.push(Event::Leave { id: listener })?;
+    events.push(Event::Leave { id: source })?;
+    Ok(events)
+}
+
+/// Blocks are delivered and drawn.
+fn push_rounds(
+    alloc: Global,
+    events: &mut Vec<Event>,
+    source: u64,
+    listener: u64,
+) -> Result<(), OutOfMemory> {
     for _ in 0..ROUNDS {
         events.push(push_event(alloc, source)?)?;
         events.push(Event::Draw {
@@ -60,9 +83,14 @@ pub fn events_of(
             room: 4,
         })?;
     }
-    events.push(Event::Leave { id: listener })?;
-    events.push(Event::Leave { id: source })?;
-    Ok(events)
+    Ok(())
+}
+
+fn title_event(alloc: Global, id: u64, title: &[u8]) -> Result<Event, OutOfMemory> {
+    Ok(Event::Title {
+        id,
+        text: Title::clean(alloc, title)?,
+    })
 }
 
 fn source_event(alloc: Global, id: u64, path: &str) -> Result<Event, OutOfMemory> {

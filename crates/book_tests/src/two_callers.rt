@@ -156,6 +156,24 @@ fn count_again(core: &mut Core, history: &[Entry]) -> Result<usize, OutOfMemory>
     Ok(again)
 }
 
+/// In how many entries a listener is handed data and told a title.
+fn count_drawn(history: &[Entry]) -> usize {
+    let mut drawn = 0usize;
+    for entry in history {
+        if is_drawn(&entry.reply) {
+            drawn = drawn.saturating_add(1);
+        }
+    }
+    drawn
+}
+
+fn is_drawn(reply: &Reply) -> bool {
+    match reply {
+        Reply::Drawn { pieces, title } => title.is_some() && !pieces.slices().is_empty(),
+        _ => false,
+    }
+}
+
 fn passes_of<H: House>(
     alloc: Global,
     pass: Option<Pass<Kept, H>>,
@@ -187,6 +205,7 @@ fn two_callers(rt: HostRuntime) -> Result<(), Fail> {
     let settings = station(rt.alloc())?;
     let history = history_of_two::<Brand, _>(&rt, rt.alloc(), settings, Blank::new(PASSES), 2)?;
     assert_eq!(&rt; replayed(rt.alloc(), history.as_slice())?, 2 * CALLS);
+    assert_eq!(&rt; count_drawn(history.as_slice()), 2 * DRAWS);
     Ok(())
 }
 

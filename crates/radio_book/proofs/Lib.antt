@@ -1,3 +1,4 @@
 pub mod Telling
 pub mod Clients
 pub mod Settled
+pub mod TotalLemmas

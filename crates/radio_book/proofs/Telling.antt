@@ -1,5 +1,5 @@
 -- Histories that go on.
-use Rattle.std.proofs.Common.{◌≡◌, Bool, true, false, List, [], ◌∷◌, ◌++◌, Result, Ok, Err, IfOk, OnErr, refl, sym, ap, subst, ◌∙◌}
+use Rattle.std.proofs.Common.{◌≡◌, ◌+◌, Bool, true, false, List, [], ◌∷◌, ◌++◌, Result, Ok, Err, IfOk, OnErr, length, length-append, refl, sym, ap, subst, ◌∙◌}
 use Rattle.std.proofs.lemmas.Bool.{false≢true}
 use Rattle.std.proofs.lemmas.Result.{IfErr-at_err, IfOk-at_ok}
 use Rattle.std.proofs.Math.Logic.{∥∥₁_map, ∥∥₁_elim}
@@ -10,7 +10,8 @@ use Rattle.radio_core.specs.declared.reply.Reply.{Reply}
 use Rattle.radio_core.specs.World.{World}
 use Rattle.radio_core.specs.Step.{Step, reply_to, world_after, Represents}
 use Rattle.radio_book.specs.declared.entry.Entry.{Entry}
-use Rattle.radio_book.specs.History.{entry, world_of, IsRun, IsTold}
+use Rattle.radio_book.specs.Stamp.{Stamp}
+use Rattle.radio_book.specs.History.{entry, entry_of, world_of, IsLegal, IsRun, IsTold}
 
 world_of_more : (w : World) (history : List Entry) (e : Entry) → world_of w (history ++ e ∷ []) ≡ world_after (world_of w history) e.event
 world_of_more w [] e = refl
@@ -105,3 +106,21 @@ answered keeps opening stored core core' event result = answered_by keeps openin
 -- the run of the entries that are stored
 pub stored_run : (opening : World) (stored : List Entry) (core : World) → ∥ IsTold true opening stored core ∥₁ → ∥ IsRun opening stored ∥₁
 stored_run opening stored core told = ∥∥₁_map told (λ (t : IsTold true opening stored core). subst (λ h. IsRun opening h) (sym (t.kept refl)) t.run)
+
+-- the reply of a receipt is a step's after the history that is told; where entries are stored, it is behind them
+pub legal : {E : Type 0} (keeps : Bool) (opening : World) (stored stored' : List Entry) (core core' : World) (event : Event) (result : Result Stamp E)
+    → ((w : World) → Represents core w → IfOk result (λ receipt. (receipt.reply ≡ reply_to w event) × Represents core' (world_after w event)))
+    → IfOk result (λ receipt. receipt.event ≡ event)
+    → (keeps ≡ true → IfOk result (λ receipt. stored' ≡ stored ++ entry_of receipt ∷ []))
+    → (keeps ≡ true → IfOk result (λ receipt. receipt.serial ≡ length stored'))
+    → ∥ IsTold keeps opening stored core ∥₁ → IfOk result (λ receipt. ∥ IsLegal keeps opening receipt ∥₁)
+legal keeps opening stored stored' core core' event (Err e) step same grows serial told = tt
+legal keeps opening stored stored' core core' event (Ok receipt) step same grows serial told =
+    ∥∥₁_map told (λ (t : IsTold keeps opening stored core).
+    let replied = (step (world_of opening t.history) t.represents).0 in
+    let is : IsLegal keeps opening receipt = record {
+      before = t.history;
+      run = t.run;
+      reply = replied ∙ ap (reply_to (world_of opening t.history)) (sym same);
+      serial = λ k. serial k ∙ ap length (grows k) ∙ length-append stored (entry_of receipt ∷ []) ∙ ap (λ h. length h + 1) (t.kept k);
+    } in is)

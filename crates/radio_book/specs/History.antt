@@ -1,5 +1,5 @@
 -- Histories: events with their replies, in the order in which they happened.
-use Rattle.std.specs.Prelude.{◌≡◌, ◌-◌, ◌<◌, Bool, true, List, [], ◌∷◌, Some, map, slice_get}
+use Rattle.std.specs.Prelude.{◌≡◌, ◌+◌, ◌-◌, ◌<◌, Bool, true, List, [], ◌∷◌, Some, length, map, slice_get}
 use Rattle.radio_core.specs.declared.event.Event.{Event}
 use Rattle.radio_core.specs.declared.reply.Reply.{Reply}
 use Rattle.radio_core.specs.World.{World}
@@ -33,3 +33,10 @@ pub record IsTold (keeps : Bool) (opening : World) (stored : List Entry) (core :
 -- the receipt's entry stands at its serial, counted from 1
 abbrev pub StandsIn : List Entry → Stamp → Type 0
 StandsIn history stamp = (0 < stamp.serial) × (slice_get history (stamp.serial - 1) ≡ Some (entry_of stamp))
+
+-- the reply of the receipt is that of a step from the state after a history that is a run from the opening state; where entries are stored, its place is the one behind that history
+pub record IsLegal (keeps : Bool) (opening : World) (stamp : Stamp) : Type 0 where
+  pub before : List Entry
+  pub run : IsRun opening before
+  pub reply : stamp.reply ≡ reply_to (world_of opening before) stamp.event
+  pub serial : keeps ≡ true → stamp.serial ≡ length before + 1

@@ -3,3 +3,4 @@ pub mod History
 pub mod Clients
 pub mod Books
 pub mod Settling
+pub mod Totals

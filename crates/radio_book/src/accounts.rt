@@ -78,28 +78,15 @@ impl<C: Chronicle, H: House> Accounts<C, H> {
         ensures frees { TakesNoMemory event → IsOk result }
     {
         match event.again() {
-            Ok(told) => self.answer_with(event, told),
+            Ok(told) => match self.story.answer(event) {
+                Ok(reply) => Ok(Receipt::new(0, told, reply)),
+                Err(refused) => {
+                    drop(told);
+                    Err(refused)
+                }
+            },
             Err(refused) => {
                 drop(event);
-                Err(refused)
-            }
-        }
-    }
-
-    /// The same, with the copy that the receipt has.
-    fn answer_with(&mut self, event: Event, told: Event) -> Result<Receipt, OutOfMemory>
-        requires unkept { C.KEEPS ≡ false }
-        requires copy { told ≡ event }
-        ensures step { (w : World) → Represents self.old.story.core w → IfOk result (λ receipt. (receipt.reply ≡ reply_to w event) × Represents self.new.story.core (world_after w event)) }
-        ensures event { IfOk result (λ receipt. (receipt.serial ≡ 0) × (receipt.event ≡ event)) }
-        ensures chronicle { self.new.story.chronicle ≡ self.old.story.chronicle }
-        ensures err { OnErr result (self.new.story.core ≡ self.old.story.core) }
-        ensures frees { TakesNoMemory event → IsOk result }
-    {
-        match self.story.answer(event) {
-            Ok(reply) => Ok(Receipt::new(0, told, reply)),
-            Err(refused) => {
-                drop(told);
                 Err(refused)
             }
         }

@@ -2,8 +2,8 @@
 
 ghost use Rattle.std.specs.Prelude.{◌≡◌, ◌<◌, ◌^◌, ◌∷◌, [], ◌++◌, ℕ, length, true, false, IsOk, IfOk, IfSome, OnErr};
 ghost use Rattle.radio_core.specs.World.{World, opening};
-ghost use Rattle.radio_core.specs.Step.{Represents, reply_to, world_after};
-ghost use Rattle.radio_book.specs.History.{IsTold, entry_of};
+ghost use Rattle.radio_core.specs.Step.{Represents, TakesNoMemory, reply_to, world_after};
+ghost use Rattle.radio_book.specs.History.{IsLegal, IsTold, entry_of};
 ghost use Rattle.radio_book.specs.Clients.{is_here};
 
 use crate::accounts::Accounts;
@@ -70,12 +70,14 @@ impl<C: Chronicle, H: House> Book<C, H> {
     ///
     /// `OutOfMemory` where memory was refused; book and pass are unchanged then. Where entries are
     /// stored, the end of a client who was let in through this pass, and has not left through it, is
-    /// never refused: its entry was reserved when he was let in. Where they are not, a pass does not
-    /// know whom it let in, and nothing is promised of it.
+    /// never refused: its entry was reserved when he was let in. Where they are not, no end is ever
+    /// refused, nor the clock.
     pub fn apply(&mut self, pass: &mut Pass<C, H>, event: Event) -> Result<Receipt, OutOfMemory>
         // whatever state the core stands for, the reply is that of a step from it, and the core stands for the state after it
         ensures step { (w : World) → Represents self.old.core w → IfOk result (λ receipt. (receipt.reply ≡ reply_to w event) × Represents self.new.core (world_after w event)) }
         ensures event { IfOk result (λ receipt. receipt.event ≡ event) }
+        // whatever was called before, there is a history that is a run from the opening state, and the reply is that of a step after it; where entries are stored, the receipt's place is the one behind it
+        ensures legal { IfOk result (λ receipt. ∥ IsLegal C.KEEPS H.opening receipt ∥₁) }
         // where entries are stored, the history grows by this event with this reply, at the receipt's serial
         ensures history { C.KEEPS ≡ true → IfOk result (λ receipt. self.new.history ≡ self.old.history ++ entry_of receipt ∷ []) }
         ensures serial { C.KEEPS ≡ true → IfOk result (λ receipt. receipt.serial ≡ length self.new.history) }
@@ -86,6 +88,8 @@ impl<C: Chronicle, H: House> Book<C, H> {
         ensures err { OnErr result ((self.new ≡ self.old) × (pass.new ≡ pass.old)) }
         // the end of who was let in by the receipts of this pass, and has not left by them, is never refused
         ensures leave { (id : ℕ) → event ≡ Event.Leave id → is_here id pass.old ≡ true → IsOk result }
+        // where nothing is stored, the end of a session and of a connection, and the clock, are never refused
+        ensures frees { C.KEEPS ≡ false → TakesNoMemory event → IsOk result }
     {
         if C::KEEPS {
             self.accounts.note(&mut pass.holdings, event)

@@ -4,6 +4,7 @@
 //! - [`Chronicle`]: what becomes of the entries. [`Kept`] stores each, [`Unkept`] none.
 //! - [`Pass`]: what a caller has: the receipts of his calls, and the right to see off whom he let in.
 //! - [`settle`]: all passes held against the book, when nobody calls any more.
+//! - [`histories_add_up`]: what a history counts up to.
 //! - [`House`]: which house a book and its passes belong to; it stands in contracts alone.
 #![tactic(auto)]
 
@@ -14,6 +15,7 @@ mod debt;
 mod entry;
 mod holdings;
 mod house;
+mod laws;
 mod pass;
 mod receipt;
 mod settling;
@@ -25,6 +27,7 @@ pub use book::{Book, PASSES};
 pub use chronicle::{Chronicle, Kept, Unkept};
 pub use entry::Entry;
 pub use house::House;
+pub use laws::histories_add_up;
 pub use pass::Pass;
 pub use receipt::Receipt;
 pub use settling::{SettleFault, settle};

@@ -1,9 +1,9 @@
 //! All passes held against the book.
 
-ghost use Rattle.std.specs.Prelude.{◌≡◌, ◌↔◌, ◌<◌, ◌^◌, ◌∷◌, [], ◌++◌, ℕ, length, IsTrue, IfOk, OnOk, IsPermutation, All, sum_by};
+ghost use Rattle.std.specs.Prelude.{◌≡◌, ◌↔◌, ◌<◌, ◌≤◌, ◌^◌, ◌∷◌, [], ◌++◌, ℕ, length, IsTrue, IfOk, IfErr, IfSome, OnOk, IfNone, IsPermutation, Any, All, sum_by};
 ghost use Rattle.std.specs.List.{range_with_len};
 ghost use Rattle.radio_book.specs.History.{IsRun, StandsIn};
-ghost use Rattle.radio_book.specs.Settling.{Rises, all_serials, serials};
+ghost use Rattle.radio_book.specs.Settling.{Falls, IsStrange, Rises, Shows, ShowsBySerials, all_serials, serials, times};
 
 use crate::{Book, Entry, House, Kept, OutOfMemory, Pass, Receipt};
 use std::alloc::Global;
@@ -54,6 +54,8 @@ pub fn settle<H: House>(
     // and nothing else stands there: each place has one receipt in all passes together
     ensures once { IfOk result (λ history. IsPermutation (range_with_len 1 (length history.items)) (all_serials passes.items)) }
     ensures total { IfOk result (λ history. length history.items ≡ sum_by length passes.items) }
+    // a fault comes only where the history and the passes show it, and no fault before it in the order but that of a serial twice
+    ensures fault { IfErr result (λ fault. Shows book.history passes.items fault) }
 {
     let history = book.into_history();
     let checked = check(alloc, history.as_slice(), passes.as_slice());
@@ -77,45 +79,63 @@ fn check<H: House>(
     ensures rise { OnOk result (All (λ pass. Rises 0 (serials pass)) passes.now) }
     ensures once { OnOk result (IsPermutation (range_with_len 1 (length history.now)) (all_serials passes.now)) }
     ensures total { OnOk result (length history.now ≡ sum_by length passes.now) }
+    ensures fault { IfErr result (λ fault. Shows history.now passes.now fault) }
 {
-    check_strange(history, passes)?;
-    let sorted = sorted_serials(alloc, passes)?;
-    check_twice(sorted.as_slice())?;
-    check_order(passes)?;
-    check_count(history.len(), sorted.as_slice())?;
-    Ok(())
+    if let Some(serial) = strange_serial(history, passes) {
+        return Err(SettleFault::Strange { serial });
+    }
+    let Ok(sorted) = sorted_serials(alloc, passes) else {
+        return Err(SettleFault::OutOfMemory);
+    };
+    let checked = check_sorted(history.len(), passes, sorted.as_slice());
+    drop(sorted);
+    checked
 }
 
-/// Each receipt of each pass stands in the history.
-fn check_strange<H: House>(history: &[Entry], passes: &[Pass<Kept, H>]) -> Result<(), SettleFault>
-    ensures { OnOk result (All (λ pass. All (StandsIn history.now) pass) passes.now) }
+/// Looks for the faults that serials show: these are those of the passes, sorted.
+fn check_sorted<H: House>(
+    book: usize,
+    passes: &[Pass<Kept, H>],
+    sorted: &[u64],
+) -> Result<(), SettleFault>
+    requires { IsPermutation (all_serials passes.now) sorted.now }
+    ensures rise { OnOk result (All (λ pass. Rises 0 (serials pass)) passes.now) }
+    ensures once { OnOk result (sorted.now ≡ range_with_len 1 book) }
+    ensures fault { IfErr result (λ fault. ShowsBySerials book passes.now fault) }
+{
+    if let Some(serial) = double_serial(sorted) {
+        return Err(SettleFault::Twice { serial });
+    }
+    if let Some((seen, got)) = fall(passes) {
+        return Err(SettleFault::OutOfOrder { seen, got });
+    }
+    check_count(book, sorted)
+}
+
+/// The serial of the first receipt of the passes that does not stand in the history.
+fn strange_serial<H: House>(history: &[Entry], passes: &[Pass<Kept, H>]) -> Option<u64>
+    ensures none { IfNone result (All (λ pass. All (StandsIn history.now) pass) passes.now) }
+    ensures some { IfSome result (λ serial. Any (λ pass. Any (IsStrange history.now serial) pass) passes.now) }
 {
     for pass in passes {
-        check_receipts(history, pass.receipts())?;
+        if let Some(serial) = strange_receipt(history, pass.receipts()) {
+            return Some(serial);
+        }
     }
-    Ok(())
+    None
 }
 
-/// Each receipt stands in the history.
-pub(crate) fn check_receipts(history: &[Entry], receipts: &[Receipt]) -> Result<(), SettleFault>
-    ensures { OnOk result (All (StandsIn history.now) receipts.now) }
+/// The serial of the first of these receipts that does not stand in the history.
+pub(crate) fn strange_receipt(history: &[Entry], receipts: &[Receipt]) -> Option<u64>
+    ensures none { IfNone result (All (StandsIn history.now) receipts.now) }
+    ensures some { IfSome result (λ serial. Any (IsStrange history.now serial) receipts.now) }
 {
     for receipt in receipts {
-        check_receipt(history, receipt)?;
+        if !stands_in(history, receipt) {
+            return Some(receipt.serial());
+        }
     }
-    Ok(())
-}
-
-/// The receipt stands in the history.
-fn check_receipt(history: &[Entry], receipt: &Receipt) -> Result<(), SettleFault>
-    ensures { OnOk result (StandsIn history.now receipt.now) }
-{
-    if stands_in(history, receipt) {
-        return Ok(());
-    }
-    Err(SettleFault::Strange {
-        serial: receipt.serial(),
-    })
+    None
 }
 
 /// Whether the receipt's entry stands in the history, at its serial.
@@ -155,44 +175,51 @@ fn add_serials(all: &mut Vec<u64>, receipts: &[Receipt]) -> Result<(), OutOfMemo
     Ok(())
 }
 
-/// No serial stands beside itself.
-pub(crate) fn check_twice(sorted: &[u64]) -> Result<(), SettleFault> {
-    for pair in sorted.windows(2) {
-        if pair[0] == pair[1] {
-            return Err(SettleFault::Twice { serial: pair[0] });
+/// The first serial that stands beside itself.
+pub(crate) fn double_serial(sorted: &[u64]) -> Option<u64>
+    ensures { IfSome result (λ serial. 2 ≤ times serial sorted.now) }
+{
+    for i in 1..sorted.len() {
+        if sorted[i - 1] == sorted[i] {
+            return Some(sorted[i]);
         }
     }
-    Ok(())
+    None
 }
 
-/// The serials rise in each pass.
-fn check_order<H: House>(passes: &[Pass<Kept, H>]) -> Result<(), SettleFault>
-    ensures { OnOk result (All (λ pass. Rises 0 (serials pass)) passes.now) }
+/// The first two serials, one after the other in a pass, of which the second is not above the first.
+fn fall<H: House>(passes: &[Pass<Kept, H>]) -> Option<(u64, u64)>
+    ensures none { IfNone result (All (λ pass. Rises 0 (serials pass)) passes.now) }
+    ensures some { IfSome result (λ pair. Any (λ pass. Falls 0 pair.0 pair.1 (serials pass)) passes.now) }
 {
     for pass in passes {
-        check_rise(pass.receipts())?;
+        if let Some(pair) = fall_in(pass.receipts()) {
+            return Some(pair);
+        }
     }
-    Ok(())
+    None
 }
 
-/// The serials of the receipts rise.
-pub(crate) fn check_rise(receipts: &[Receipt]) -> Result<(), SettleFault>
-    ensures { OnOk result (Rises 0 (serials receipts.now)) }
+/// The first two serials, one after the other, of which the second is not above the first.
+pub(crate) fn fall_in(receipts: &[Receipt]) -> Option<(u64, u64)>
+    ensures none { IfNone result (Rises 0 (serials receipts.now)) }
+    ensures some { IfSome result (λ pair. Falls 0 pair.0 pair.1 (serials receipts.now)) }
 {
     let mut seen = 0;
     for receipt in receipts {
         let got = receipt.serial();
         if got <= seen {
-            return Err(SettleFault::OutOfOrder { seen, got });
+            return Some((seen, got));
         }
         seen = got;
     }
-    Ok(())
+    None
 }
 
 /// The serials are those of a history of so many entries.
 fn check_count(book: usize, sorted: &[u64]) -> Result<(), SettleFault>
-    ensures { OnOk result (sorted.now ≡ range_with_len 1 book) }
+    ensures ok { OnOk result (sorted.now ≡ range_with_len 1 book) }
+    ensures fault { IfErr result (λ fault. fault ≡ SettleFault.Count book (length sorted.now)) }
 {
     if sorted.len() == book && count_up(sorted) {
         return Ok(());

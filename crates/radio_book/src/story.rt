@@ -42,10 +42,7 @@ impl<C: Chronicle, H: House> Story<C, H> {
         ensures err { OnErr result (self.new.core ≡ self.old.core) }
         ensures frees { TakesNoMemory event → IsOk result }
     {
-        match self.core.step(event) {
-            Ok(reply) => Ok(reply),
-            Err(refused) => Err(refused),
-        }
+        self.core.step(event)
     }
 
     /// One event, whose copy is noted with its reply, and the reply twice more. `OutOfMemory` where

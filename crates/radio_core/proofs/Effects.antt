@@ -43,7 +43,7 @@ pub data IsSwept (w later : World) (event : Event) (id : ℕ) : Type 0 where
   GoesOnAs : standing_of later id ≡ standing_of w id → IsSwept w later event id
   IsOut : (rule : Rule) → Cause w later event id rule → standing_of later id ≡ Finished rule → seat_of later.seats id ≡ None → IsSwept w later event id
 
-swept : (w later : World) (event : Event) (id : ℕ) → Fate w later event id → IsSwept w later event id
+pub swept : (w later : World) (event : Event) (id : ℕ) → Fate w later event id → IsSwept w later event id
 swept w later event id (GoesOn same seat feeds sits) = GoesOnAs same
 swept w later event id (IsEnded rule cause active ended none over) = IsOut rule cause ended none
 
@@ -63,7 +63,7 @@ pub data Effect (w later : World) (event : Event) (reply : Reply) : Type 0 where
 
 -- a block comes: who is too far behind is finished
 module _ (w : World) (s : IsSound w) (mount block : List ℕ) (him : ℕ) (feeding : standing_of w him ≡ Feeds mount) where
-  lag_swept : (id : ℕ) → IsSwept w (taken_in w mount block) (Push him block) id
+  pub lag_swept : (id : ℕ) → IsSwept w (taken_in w mount block) (Push him block) id
   lag_swept id = by_fate ((lag_fates w s mount block him feeding).fate id) where
     by_cause : (rule : Rule) → Cause (record w { house = received w.house mount block }) (taken_in w mount block) (Push him block) id rule
         → Cause w (taken_in w mount block) (Push him block) id rule

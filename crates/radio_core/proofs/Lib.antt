@@ -25,6 +25,8 @@ pub mod StepLemmas
 pub mod ListsLemmas
 pub mod LimitLemmas
 pub mod LimitDenials
+pub mod NumberLists
+pub mod TotalLemmas
 mod SourceReplyLemmas
 mod CoreReplyLemmas
 mod KeptQueues

@@ -39,3 +39,4 @@ pub mod Others
 pub mod Outstaying
 pub mod SourceReplies
 pub mod CoreReplies
+pub mod Totals

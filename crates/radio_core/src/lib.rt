@@ -24,6 +24,7 @@ mod sessions;
 mod standing;
 mod stream;
 mod timeouts;
+mod totals;
 
 pub use event::{Event, ListenRequest, SourceRequest};
 pub use laws::{
@@ -33,6 +34,7 @@ pub use laws::{
 };
 pub use reply::Reply;
 pub use server::Core;
+pub use totals::clients_and_seats_add_up;
 
 /// What a call answers where memory was refused. Nothing has changed then, unless it is said.
 pub type OutOfMemory = std::alloc::AllocError;

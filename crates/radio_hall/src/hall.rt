@@ -1,11 +1,13 @@
 //! The lock round a book.
 
-ghost use Rattle.std.specs.Prelude.{◌≡◌, ◌^◌, ◌∷◌, [], ◌++◌, ℕ, length, true, false, IsOk, IfOk, IfSome, OnErr, All, IsPermutation, sum_by};
+ghost use Rattle.std.specs.Prelude.{◌≡◌, ◌^◌, ◌∷◌, [], ◌++◌, ℕ, length, true, false, IsOk, IfOk, IfErr, IfSome, List, OnErr, All, IsPermutation, sum_by};
 ghost use Rattle.std.specs.List.{range_with_len};
+ghost use Rattle.radio_core.specs.Step.{TakesNoMemory};
 ghost use Rattle.radio_core.specs.World.{opening};
+ghost use Rattle.radio_book.specs.declared.entry.Entry.{Entry as EntryOf};
 ghost use Rattle.radio_book.specs.Clients.{is_here};
-ghost use Rattle.radio_book.specs.History.{IsRun, StandsIn};
-ghost use Rattle.radio_book.specs.Settling.{Rises, all_serials, serials};
+ghost use Rattle.radio_book.specs.History.{IsLegal, IsRun, StandsIn};
+ghost use Rattle.radio_book.specs.Settling.{Rises, Shows, all_serials, serials};
 
 use radio_access::Lists;
 use radio_book::{Book, Chronicle, Entry, House, Kept, OutOfMemory, Pass, Receipt, SettleFault};
@@ -43,7 +45,7 @@ impl<C: Chronicle, H: House> Hall<C, H> {
     ///
     /// `OutOfMemory` where memory was refused; the book and the pass are unchanged then. Where
     /// entries are stored, the end of a client who was let in through this pass, and has not left
-    /// through it, is never refused.
+    /// through it, is never refused. Where they are not, no end is ever refused, nor the clock.
     pub fn apply<R: Wait>(
         &self,
         rt: &R,
@@ -51,11 +53,16 @@ impl<C: Chronicle, H: House> Hall<C, H> {
         event: Event,
     ) -> Result<Receipt, OutOfMemory>
         ensures event { IfOk result (λ receipt. receipt.event ≡ event) }
+        // whoever called before, there is a history that is a run from the opening state, and the reply is that of a step after it; where entries are stored, the receipt's place is the one behind it
+        ensures legal { IfOk result (λ receipt. ∥ IsLegal C.KEEPS H.opening receipt ∥₁) }
         // where entries are stored, the pass gains the receipt; where they are not, nothing is noted
         ensures pass { C.KEEPS ≡ true → IfOk result (λ receipt. pass.new ≡ pass.old ++ receipt ∷ []) }
         ensures unkept { C.KEEPS ≡ false → (pass.new ≡ pass.old) × IfOk result (λ receipt. receipt.serial ≡ 0) }
         ensures err { OnErr result (pass.new ≡ pass.old) }
+        // the end of who was let in by the receipts of this pass, and has not left by them, is never refused
         ensures leave { (id : ℕ) → event ≡ Event.Leave id → is_here id pass.old ≡ true → IsOk result }
+        // where nothing is stored, the end of a session and of a connection, and the clock, are never refused
+        ensures frees { C.KEEPS ≡ false → TakesNoMemory event → IsOk result }
     {
         self.book.lock(rt).apply(pass, event)
     }
@@ -81,6 +88,10 @@ pub fn settle<H: House>(
     // and nothing else stands there: each place has one receipt in all passes together
     ensures once { IfOk result (λ history. IsPermutation (range_with_len 1 (length history.items)) (all_serials passes.items)) }
     ensures total { IfOk result (λ history. length history.items ≡ sum_by length passes.items) }
+    // a fault comes only where the passes show it, beside a history that is such a run
+    ensures fault { IfErr result (λ fault. ∥ ((history : List EntryOf) × IsRun H.opening history × Shows history passes.items fault) ∥₁) }
 {
-    radio_book::settle(alloc, hall.into_book(), passes)
+    let book = hall.into_book();
+    book.is_told();
+    radio_book::settle(alloc, book, passes)
 }

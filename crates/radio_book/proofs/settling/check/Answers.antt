@@ -1,17 +1,18 @@
-use Rattle.std.proofs.Common.{length, subst, rules, ◌≡◌}
-use Rattle.std.specs.List.{range_with_len}
+use Rattle.std.proofs.Common.{length, subst, sym}
 use Rattle.std.specs.List.Sorted.{IsPermutation}
-use Rattle.std.proofs.lemmas.List.Sorted.{IsPermutation-sym}
 use Rattle.radio_book.specs.Settling.{all_serials}
-use Rattle.radio_book.proofs.Settled.{totals}
+use Rattle.radio_book.proofs.Settled.{settled_once, settled_total, shown}
 use Rattle.radio_book.proofs.settling.check.Goals as goal
 
 pub returns-clause-once : goal.returns-clause-once
 returns-clause-once g c =
-    let all = all_serials c.args.passes.now in
-    let are : c.in_ok-sorted.sorted.items ≡ range_with_len 1 (length c.args.history.now) = search rules in
-    let moved : IsPermutation all c.in_ok-sorted.sorted.items = search rules in
-    subst (λ xs. IsPermutation xs all) are (IsPermutation-sym _ _ moved)
+    let passes = c.args.passes.now in
+    let moved = subst (λ xs. IsPermutation (all_serials passes) xs) (sym c.as_slice.ensures.value) c.in-Ok.ensures in
+    settled_once (length c.args.history.now) passes c.as_slice.result.now c.check_sorted-checked.result moved c.check_sorted-checked.ensures.once
 
 pub returns-clause-total : goal.returns-clause-total
-returns-clause-total g c = totals (length c.args.history.now) c.args.passes.now (returns-clause-once g c)
+returns-clause-total g c = settled_total (length c.args.history.now) c.args.passes.now c.check_sorted-checked.result (returns-clause-once g c)
+
+pub returns-clause-fault : goal.returns-clause-fault
+returns-clause-fault g c =
+    shown c.args.history.now c.args.passes.now c.check_sorted-checked.result c.in_default.ensures.none c.check_sorted-checked.ensures.fault

@@ -3,14 +3,15 @@ use Rattle.std.proofs.lemmas.List.Elements.{All-more}
 use Rattle.radio_book.specs.Stamp.{Stamp}
 use Rattle.radio_book.specs.History.{StandsIn}
 use Rattle.radio_book.proofs.Settled.{All-whole}
-use Rattle.radio_book.proofs.settling.check_strange.Goals as goal
+use Rattle.radio_book.proofs.settling.strange_serial.Goals as goal
 
 pub loop-pass-preserved : goal.loop-pass-preserved
 loop-pass-preserved g c =
     let history = c.args.history.now in
     let item = c.pass-item in
     All-more (λ pass. All (StandsIn history) pass) c.args.passes.now c.loop-pass.pass-index item.result c.loop-pass-test.true c.loop-pass.invariant
-    (subst (λ (pass : List Stamp). All (StandsIn history) pass) (c.receipts.ensures ∙ item.is) c.in_ok-check_receipts.ensures)
+    (subst (λ (pass : List Stamp). All (StandsIn history) pass) (c.receipts.ensures ∙ item.is) c.in_default.ensures.none)
 
-pub returns : goal.returns
-returns g c = All-whole (λ pass. All (StandsIn c.args.history.now) pass) c.args.passes.now c.loop-pass.pass-index c.loop-pass-test.false c.loop-pass.invariant
+pub returns-clause-none : goal.returns-clause-none
+returns-clause-none g c =
+    All-whole (λ pass. All (StandsIn c.args.history.now) pass) c.args.passes.now c.loop-pass.pass-index c.loop-pass-test.false c.loop-pass.invariant

@@ -1,0 +1,288 @@
+//! Draws of 4096 bytes through a hall that stores nothing, beside the same of a core alone: 1,000 listeners, each of whom
+//! draws each block once. In full that is done a hundred times, and it is written what a draw takes, in nanoseconds, and
+//! how many percent of the core's time the hall takes, five times.
+
+ghost use Rattle.std.specs.Prelude.{◌≡◌, ◌^◌};
+ghost use Rattle.radio_access.specs.Lists.{no_lists};
+ghost use Rattle.radio_core.specs.World.{opening};
+
+use crate::times::micros;
+use anyhow::{Context, Result};
+use bytes::Bytes;
+use radio_access::Lists;
+use radio_addr::Peer;
+use radio_blocks::Block;
+use radio_book::{Chronicle, House, OutOfMemory, PASSES, Pass, Unkept};
+use radio_core::{Core, Event, ListenRequest, Reply, SourceRequest};
+use radio_creds::basic;
+use radio_hall::Hall;
+use radio_settings::{Settings, SettingsFault, Shown};
+use std::alloc::Global;
+use std::marker::Brand;
+use std::rt::Clock;
+use std::sync::Wait;
+use std::sync::ledger::Blank;
+use std::time::Instant;
+
+/// How many listeners draw in turn.
+const LISTENERS: u32 = 1000;
+
+/// How many bytes a block has, and a draw takes.
+const SIZE: usize = 4096;
+
+/// The user `source` and that password.
+const SOURCE_PAIR: &[u8] = b"Basic c291cmNlOmhhY2ttZQ==";
+
+/// Whoever answers events: a core, or a hall.
+pub trait Answers {
+    fn answer(&mut self, event: Event) -> Result<Reply, OutOfMemory>;
+}
+
+impl Answers for Core {
+    fn answer(&mut self, event: Event) -> Result<Reply, OutOfMemory> {
+        self.step(event)
+    }
+}
+
+/// A caller of a hall, with his pass.
+#[derive(Drop)]
+pub struct Caller<'a, C: Chronicle, H: House, R: Wait> {
+    pub rt: &'a R,
+    pub hall: &'a Hall<C, H>,
+    pub pass: Pass<C, H>,
+}
+
+impl<C: Chronicle, H: House, R: Wait> Answers for Caller<'_, C, H, R> {
+    fn answer(&mut self, event: Event) -> Result<Reply, OutOfMemory> {
+        let receipt = self.hall.apply(self.rt, &mut self.pass, event)?;
+        Ok(receipt.into_reply())
+    }
+}
+
+/// The source and the listeners of a mount.
+#[derive(Drop)]
+pub struct Station {
+    pub source: u64,
+    pub listeners: Vec<u64>,
+}
+
+/// How many draws there were, and what they took in microseconds.
+#[derive(Clone, Copy)]
+struct Draws {
+    count: usize,
+    micros: u64,
+}
+
+/// The settings of a station that lets enough clients in.
+pub fn station_settings(alloc: Global) -> Result<Settings, SettingsFault> {
+    Settings::read(
+        alloc,
+        "source-password = \"hackme\"\nadmin-password = \"letmein\"\n[limits]\nclients = 10000\n",
+    )
+}
+
+/// Measures the draws of a core, and those of a hall.
+pub fn measure(rt: &(impl Clock + Print + AllocGlobal + Wait), is_full: bool) -> Result<()> {
+    let rounds = if is_full { 100 } else { 1 };
+    let by_core = draws_by_core(rt, rounds)?;
+    write_draws(rt, "core", by_core, is_full)?;
+    let through_hall = draws_through_hall(rt, rounds)?;
+    write_draws(rt, "hall", through_hall, is_full)?;
+    if is_full {
+        write_ratio(rt, rounds)?;
+    }
+    Ok(())
+}
+
+/// Writes what both take in turn, five times.
+fn write_ratio(rt: &(impl Clock + Print + AllocGlobal + Wait), rounds: u32) -> Result<()> {
+    for _ in 0..5 {
+        let by_core = draws_by_core(rt, rounds)?;
+        let through_hall = draws_through_hall(rt, rounds)?;
+        let percent = through_hall.micros.saturating_mul(100) / by_core.micros.max(1);
+        println!(rt;
+            "  core {} ns a draw, hall {} ns, {percent} %",
+            nanos(by_core),
+            nanos(through_hall)
+        )?;
+    }
+    Ok(())
+}
+
+/// What a draw took, in nanoseconds.
+fn nanos(draws: Draws) -> u64 {
+    draws.micros.saturating_mul(1000) / (draws.count as u64).max(1)
+}
+
+fn write_draws(rt: &impl Print, name: &str, draws: Draws, is_full: bool) -> Result<()> {
+    println!(rt; "{name}: {} draws of 4096 bytes", draws.count)?;
+    if is_full {
+        println!(rt; "  {} ns a draw", nanos(draws))?;
+    }
+    Ok(())
+}
+
+fn draws_by_core(rt: &(impl Clock + AllocGlobal), rounds: u32) -> Result<Draws> {
+    let settings = station_settings(rt.alloc())?;
+    let mut core = Core::new(rt.alloc(), settings, Lists::new(rt.alloc()));
+    time_draws(rt, &mut core, rounds)
+}
+
+fn draws_through_hall(rt: &(impl Clock + AllocGlobal + Wait), rounds: u32) -> Result<Draws> {
+    let settings = station_settings(rt.alloc())?;
+    draws_in_hall::<Brand, _>(rt, settings, Blank::new(PASSES), rounds)
+}
+
+fn draws_in_hall<H: House, R: Clock + AllocGlobal + Wait>(
+    rt: &R,
+    settings: Settings,
+    blank: Blank,
+    rounds: u32,
+) -> Result<Draws>
+    requires opening { H.opening ≡ opening settings no_lists }
+    requires ledger { (blank.name ≡ H.name) × (blank.parts ≡ H.parts) × (blank.parts ≡ 2 ^ 32) }
+{
+    let hall: Hall<Unkept, H> = Hall::new(rt.alloc(), settings, Lists::new(rt.alloc()), blank);
+    let pass = hall.pass(rt).context("no pass")?;
+    let mut caller = Caller {
+        rt,
+        hall: &hall,
+        pass,
+    };
+    time_draws(rt, &mut caller, rounds)
+}
+
+/// So many times a block comes, and each listener draws it; the time of the draws.
+fn time_draws<A: Answers>(
+    rt: &(impl Clock + AllocGlobal),
+    who: &mut A,
+    rounds: u32,
+) -> Result<Draws> {
+    let station = open_station(rt.alloc(), who, "/a", LISTENERS)?;
+    time_rounds(rt, who, &station, rounds)
+}
+
+fn time_rounds<A: Answers>(
+    rt: &(impl Clock + AllocGlobal),
+    who: &mut A,
+    station: &Station,
+    rounds: u32,
+) -> Result<Draws> {
+    let mut draws = Draws {
+        count: 0,
+        micros: 0,
+    };
+    for _ in 0..rounds {
+        push(rt.alloc(), who, station.source)?;
+        draws = time_round(rt, who, station.listeners.as_slice(), draws)?;
+    }
+    Ok(draws)
+}
+
+fn time_round<A: Answers>(
+    rt: &impl Clock,
+    who: &mut A,
+    listeners: &[u64],
+    before: Draws,
+) -> Result<Draws> {
+    let start = Instant::now(rt)?;
+    let drawn = draw_all(who, listeners)?;
+    let time = micros(start.elapsed(rt)?);
+    Ok(Draws {
+        count: before.count.saturating_add(drawn),
+        micros: before.micros.saturating_add(time),
+    })
+}
+
+// What a source and its listeners do.
+
+/// A source feeds the mount of this path, and so many listeners sit there.
+pub fn open_station<A: Answers>(
+    alloc: Global,
+    who: &mut A,
+    path: &str,
+    listeners: u32,
+) -> Result<Station, OutOfMemory> {
+    let source = arrive(who)?;
+    drop(who.answer(source_event(alloc, source, path)?)?);
+    let listeners = seat_all(alloc, who, path, listeners)?;
+    Ok(Station { source, listeners })
+}
+
+fn seat_all<A: Answers>(
+    alloc: Global,
+    who: &mut A,
+    path: &str,
+    count: u32,
+) -> Result<Vec<u64>, OutOfMemory> {
+    let mut listeners = Vec::new(alloc);
+    for _ in 0..count {
+        listeners.push(seat_one(alloc, who, path)?)?;
+    }
+    Ok(listeners)
+}
+
+fn seat_one<A: Answers>(alloc: Global, who: &mut A, path: &str) -> Result<u64, OutOfMemory> {
+    let id = arrive(who)?;
+    drop(who.answer(listen_event(alloc, id, path)?)?);
+    Ok(id)
+}
+
+/// A connection comes; its number, 0 where it was denied.
+fn arrive<A: Answers>(who: &mut A) -> Result<u64, OutOfMemory> {
+    let reply = who.answer(Event::Arrive {
+        peer: Peer::of_v4(0x0a00_0001),
+    })?;
+    match reply {
+        Reply::Arrived(id) => Ok(id),
+        _ => Ok(0),
+    }
+}
+
+fn source_event(alloc: Global, id: u64, path: &str) -> Result<Event, OutOfMemory> {
+    Ok(Event::Source(SourceRequest {
+        id,
+        mount: Bytes::copy_from_slice(alloc, path.as_bytes())?,
+        pair: basic(alloc, SOURCE_PAIR)?,
+        shown: Shown::clean(alloc, b"audio/mpeg", b"Night", b"")?,
+    }))
+}
+
+fn listen_event(alloc: Global, id: u64, path: &str) -> Result<Event, OutOfMemory> {
+    Ok(Event::Listen(ListenRequest {
+        id,
+        mount: Bytes::copy_from_slice(alloc, path.as_bytes())?,
+        pair: None,
+        wants_metadata: false,
+    }))
+}
+
+/// The source delivers a block.
+pub fn push<A: Answers>(alloc: Global, who: &mut A, id: u64) -> Result<(), OutOfMemory> {
+    if let Some(block) = Block::new(Bytes::copy_from_slice(alloc, &[0x55; SIZE])?) {
+        drop(who.answer(Event::Push { id, block })?);
+    }
+    Ok(())
+}
+
+/// Each listener draws a block; how many were handed one.
+pub fn draw_all<A: Answers>(who: &mut A, listeners: &[u64]) -> Result<usize, OutOfMemory> {
+    let mut drawn = 0usize;
+    for id in listeners {
+        let reply = who.answer(Event::Draw {
+            id: *id,
+            room: SIZE as u32,
+        })?;
+        if has_data(&reply) {
+            drawn = drawn.saturating_add(1);
+        }
+    }
+    Ok(drawn)
+}
+
+fn has_data(reply: &Reply) -> bool {
+    match reply {
+        Reply::Drawn { pieces, .. } => !pieces.slices().is_empty(),
+        _ => false,
+    }
+}

@@ -1,0 +1,59 @@
+-- the law of totals, over histories
+use Rattle.std.proofs.Common.{◌≡◌, ℕ, ◌+◌, List, [], ◌∷◌, ◌++◌, sum_by, refl, ap, sym, subst, ◌∙◌, arith}
+use Rattle.std.proofs.lemmas.List.Sums.{sum_by-cons}
+use Rattle.radio_settings.specs.declared.settings.Settings.{Settings}
+use Rattle.radio_access.specs.Lists.{Lists}
+use Rattle.radio_core.specs.declared.event.Event.{Event}
+use Rattle.radio_core.specs.declared.reply.Reply.{Reply}
+use Rattle.radio_core.specs.World.{World, opening}
+use Rattle.radio_core.specs.Run.{world_after_all, run_after}
+use Rattle.radio_core.specs.Step.{reply_to, world_after}
+use Rattle.radio_core.specs.Totals.{arrivals, departures, seatings, listeners_leaving, clients_there, seats_there, seats_lost, AddsUp as StepAddsUp}
+use Rattle.radio_book.specs.declared.entry.Entry.{Entry}
+use Rattle.radio_book.specs.History.{world_of, IsRun}
+use Rattle.radio_book.specs.Totals.{numbers_given, clients_left, seats_made, listeners_left, AddsUp}
+
+run_more : (w : World) (events : List Event) (event : Event) → world_after_all w (events ++ event ∷ []) ≡ world_after (world_after_all w events) event
+run_more w [] event = refl
+run_more w (first ∷ events) event = run_more (world_after w first) events event
+
+-- what a history adds from any state on, of those that come
+record Adds (w : World) (history : List Entry) : Type 0 where
+  numbers : w.house.last_id + numbers_given history ≡ (world_of w history).house.last_id
+  clients : clients_there w + numbers_given history ≡ clients_there (world_of w history) + clients_left history
+  seats : seats_there w + seats_lost w + seats_made history
+      ≡ seats_there (world_of w history) + seats_lost (world_of w history) + listeners_left w history
+
+-- the reply of an entry is that of its step
+adds_first : (w : World) (e : Entry) (history : List Entry) → e.reply ≡ reply_to w e.event → StepAddsUp w e.event → Adds (world_after w e.event) history
+    → Adds w (e ∷ history)
+adds_first w e history is step rest =
+    let step_numbers : (world_after w e.event).house.last_id ≡ w.house.last_id + arrivals e.reply = step.numbers ∙ ap (λ r. w.house.last_id + arrivals r) (sym is) in
+    let step_clients : clients_there (world_after w e.event) + departures e.reply e.event ≡ clients_there w + arrivals e.reply =
+    subst (λ (r : Reply). clients_there (world_after w e.event) + departures r e.event ≡ clients_there w + arrivals r) (sym is) step.clients in
+    let step_seats : seats_there (world_after w e.event) + seats_lost (world_after w e.event) + listeners_leaving w e.reply e.event
+    ≡ seats_there w + seats_lost w + seatings e.reply =
+    subst (λ (r : Reply). seats_there (world_after w e.event) + seats_lost (world_after w e.event) + listeners_leaving w r e.event
+    ≡ seats_there w + seats_lost w + seatings r) (sym is) step.seats in
+    let given = sum_by-cons (λ (x : Entry). arrivals x.reply) e history in
+    let left = sum_by-cons (λ (x : Entry). departures x.reply x.event) e history in
+    let made = sum_by-cons (λ (x : Entry). seatings x.reply) e history in
+    record {
+      numbers = omega (arith, step_numbers, given, rest.numbers);
+      clients = omega (arith, step_clients, given, left, rest.clients);
+      seats = omega (arith, step_seats, made, rest.seats);
+    }
+
+module _ (settings : Settings) (lists : Lists) (steps : (events : List Event) (event : Event) → StepAddsUp (run_after settings lists events) event) where
+  adds_from : (w : World) (events : List Event) → w ≡ run_after settings lists events → (history : List Entry) → IsRun w history → Adds w history
+  adds_from w events are [] run = record { numbers = omega arith; clients = omega arith; seats = omega arith }
+  adds_from w events are (e ∷ history) run =
+      let next : world_after w e.event ≡ run_after settings lists (events ++ e.event ∷ []) =
+      ap (λ (x : World). world_after x e.event) are ∙ sym (run_more (opening settings lists) events e.event) in
+      adds_first w e history run.0 (subst (λ (x : World). StepAddsUp x e.event) (sym are) (steps events e.event))
+      (adds_from (world_after w e.event) (events ++ e.event ∷ []) next history run.1)
+
+  pub adds_up : (history : List Entry) → IsRun (opening settings lists) history → AddsUp (opening settings lists) history
+  adds_up history run =
+      let adds = adds_from (opening settings lists) [] refl history run in
+      record { numbers = omega (arith, adds.numbers); clients = omega (arith, adds.clients); seats = omega (arith, adds.seats) }

@@ -1,0 +1,10 @@
+use Rattle.std.proofs.Common.{refl, get_or, ◌-◌, arith}
+use Rattle.radio_book.proofs.Settled.{counted_twice, neighbour}
+use Rattle.radio_book.proofs.settling.double_serial.Goals as goal
+
+pub returns-then-sorted-i : goal.returns-then-sorted-i
+returns-then-sorted-i c =
+    let xs = c.args.sorted.now in
+    let before = c.loop-i.i - 1 in
+    let at = neighbour xs c.loop-i.i 0 c.loop-i.auto.i in
+    counted_twice xs before (get_or xs c.loop-i.i 0) 0 (omega (arith, c.loop-i.auto.i, c.loop-i-test.true)) c.if-sorted-i.true at

@@ -1,0 +1,35 @@
+-- What a history counts up to.
+use Rattle.std.specs.Prelude.{◌≡◌, ℕ, ◌+◌, List, [], ◌∷◌, sum_by}
+use Rattle.radio_core.specs.World.{World}
+use Rattle.radio_core.specs.Step.{world_after}
+use Rattle.radio_core.specs.Totals.{arrivals, departures, seatings, listeners_leaving, clients_there, seats_there, seats_lost}
+use Rattle.radio_book.specs.declared.entry.Entry.{Entry}
+use Rattle.radio_book.specs.History.{world_of}
+
+-- how many numbers were given to clients, and how many clients have left
+abbrev pub numbers_given : List Entry → ℕ
+numbers_given history = sum_by (λ e. arrivals e.reply) history
+
+abbrev pub clients_left : List Entry → ℕ
+clients_left history = sum_by (λ e. departures e.reply e.event) history
+
+-- how many seats were made
+abbrev pub seats_made : List Entry → ℕ
+seats_made history = sum_by (λ e. seatings e.reply) history
+
+-- how many of those who have left were listeners, where this was the state before
+abbrev pub listeners_left : World → List Entry → ℕ
+listeners_left w [] = 0
+listeners_left w (e ∷ history) = listeners_leaving w e.reply e.event + listeners_left (world_after w e.event) history
+
+-- the seats that have ended: of listeners who are there still, and of those who have left
+abbrev pub seats_ended : World → List Entry → ℕ
+seats_ended opening history = seats_lost (world_of opening history) + listeners_left opening history
+
+pub record AddsUp (opening : World) (history : List Entry) : Type 0 where
+  -- numbers are given one after another, from 1 on
+  pub numbers : numbers_given history ≡ (world_of opening history).house.last_id
+  -- the clients who were given numbers are there, or have left
+  pub clients : numbers_given history ≡ clients_there (world_of opening history) + clients_left history
+  -- the seats that were made are there, or have ended
+  pub seats : seats_made history ≡ seats_there (world_of opening history) + seats_ended opening history

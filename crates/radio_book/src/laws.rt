@@ -1,0 +1,19 @@
+//! What holds of every history that is a run.
+
+ghost use Rattle.std.specs.Prelude.{List};
+ghost use Rattle.radio_settings.specs.declared.settings.Settings.{Settings};
+ghost use Rattle.radio_access.specs.Lists.{Lists};
+ghost use Rattle.radio_core.specs.World.{opening};
+ghost use Rattle.radio_book.specs.declared.entry.Entry.{Entry};
+ghost use Rattle.radio_book.specs.History.{IsRun};
+ghost use Rattle.radio_book.specs.Totals.{AddsUp};
+
+use radio_core::clients_and_seats_add_up;
+
+/// The law of totals, for whoever has a history, as [`settle`](crate::settle) gives one.
+pub fn histories_add_up()
+    // in every run from an opening state, the numbers that were given to clients are the clients who are there and those who have left, and the seats that were made are those that are there and those that have ended
+    ensures add_up { (settings : Settings) (lists : Lists) (history : List Entry) → IsRun (opening settings lists) history → AddsUp (opening settings lists) history }
+{
+    clients_and_seats_add_up();
+}
