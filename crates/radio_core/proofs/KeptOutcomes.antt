@@ -17,7 +17,7 @@ use Rattle.radio_tables.specs.Lists.{Each}
 use Rattle.radio_tables.specs.FindLaws.{found_has}
 use Rattle.radio_seats.specs.declared.seat.Seat.{Seat}
 use Rattle.radio_seats.specs.Seats.{seat_of}
-use Rattle.radio_seats.specs.Walk.{Sight, found_at, stop_of}
+use Rattle.radio_seats.specs.Walk.{Sight, found_at, landing, stop_in}
 use Rattle.radio_core.specs.declared.event.SourceRequest.{SourceRequest}
 use Rattle.radio_core.specs.declared.event.ListenRequest.{ListenRequest}
 use Rattle.radio_core.specs.declared.event.Event.{Event}
@@ -100,12 +100,12 @@ module _ (w : World) (rise : Each HasRisingStarts w.house.live) (kept : SeatsAre
   hear_facts : (asked : ListenRequest) → listen_facts kept_house w.seats asked ≡ listen_facts w.house w.seats asked
   hear_facts asked =
       let facts : Sight → Bool → Facts = λ sight live.
-          (if is_mount_name asked.mount then record NONE {
-            mount_is_known = is_in_settings w.house.settings asked.mount || live;
-            users_accept = (found_at sight w.seats asked.mount asked.pair).users_accept;
-            user_is_twice = (found_at sight w.seats asked.mount asked.pair).user_is_twice;
-            walk_stops = stop_of (found_at sight w.seats asked.mount asked.pair);
-          } else NONE) in
+      (if is_mount_name asked.mount then record NONE {
+        mount_is_known = is_in_settings w.house.settings asked.mount || live;
+        users_accept = (found_at sight w.seats asked.mount asked.pair).users_accept;
+        user_is_twice = (found_at sight w.seats asked.mount asked.pair).user_is_twice;
+        walk_stops = stop_in (landing sight w.seats asked.pair asked.mount);
+      } else NONE) in
       ap (λ (sight : Sight). facts sight (is_some (session_of kept_house.live asked.mount))) same_sight
       ∙ ap (facts (sight_of w.house)) (has_session asked.mount)
 
