@@ -2,11 +2,11 @@ ghost use Rattle.std.specs.Prelude.{◌≡◌, ◌==◌, false};
 ghost use Rattle.radio_core.specs.Facts.{largest_number};
 ghost use Rattle.radio_core.specs.Arrive.{arrives, admits_client};
 
-use crate::outcome::{Change, Outcome};
+use super::state::State;
 use crate::Reply;
+use crate::outcome::{Change, Outcome};
 use radio_addr::Peer;
 use radio_policy::{Action, Subject, Verdict, judge};
-use super::state::State;
 
 impl State {
     /// A connection arrives.

@@ -1,9 +1,9 @@
 ghost use Rattle.std.specs.Prelude.{◌≡◌};
 ghost use Rattle.radio_core.specs.Clock.{hears_clock};
 
-use crate::outcome::{Change, Outcome};
-use crate::Reply;
 use super::state::State;
+use crate::Reply;
+use crate::outcome::{Change, Outcome};
 
 impl State {
     /// It is this moment.

@@ -3,15 +3,15 @@ ghost use Rattle.radio_core.specs.Changes.{changed, laggards_ended, session_ende
 ghost use Rattle.radio_core.specs.KeptChanges.{kept_changed, kept_taken_in};
 ghost use Rattle.radio_core.specs.Step.{NeedsNoMemory};
 
+use super::state::State;
+use crate::OutOfMemory;
 use crate::clients::ClientState;
 use crate::outcome::Change;
 use crate::timeouts::LagsBehind;
-use crate::OutOfMemory;
 use radio_blocks::{Block, Place};
 use radio_policy::Rule;
 use radio_seats::Seat;
 use radio_settings::MountName;
-use super::state::State;
 
 impl State {
     /// Makes a change. `OutOfMemory` where memory was refused; nothing has changed then.

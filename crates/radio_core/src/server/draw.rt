@@ -6,12 +6,12 @@ ghost use Rattle.radio_core.specs.Sessions.{session_of};
 ghost use Rattle.radio_core.specs.Step.{StandsForSome};
 ghost use Rattle.radio_core.specs.World.{standing_of_listener};
 
+use super::state::State;
 use crate::clients::ClientState;
 use crate::outcome::{Change, Outcome};
 use crate::{OutOfMemory, Reply};
 use radio_blocks::Pieces;
 use radio_seats::{Seat, Seating};
-use super::state::State;
 
 impl State {
     /// A listener has room for so many bytes. `OutOfMemory` where memory was refused.

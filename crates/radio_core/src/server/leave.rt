@@ -1,10 +1,10 @@
 ghost use Rattle.std.specs.Prelude.{◌≡◌};
 ghost use Rattle.radio_core.specs.Leave.{leaves};
 
+use super::state::State;
+use crate::Reply;
 use crate::outcome::{Change, Outcome};
 use crate::standing::Standing;
-use crate::Reply;
-use super::state::State;
 
 impl State {
     /// A client's connection is closed.

@@ -2,6 +2,7 @@ ghost use Rattle.std.specs.Prelude.{◌≡◌, Some, IfOk, MatchResult};
 ghost use Rattle.radio_core.specs.Facts.{session_at};
 ghost use Rattle.radio_core.specs.Listen.{asks_to_hear, takes_seat, burst_of, interval_for, first_seat};
 
+use super::state::State;
 use crate::facts::asker_of;
 use crate::house::House;
 use crate::outcome::{Change, Outcome};
@@ -12,7 +13,6 @@ use radio_addr::Peer;
 use radio_policy::{Action, Verdict, judge};
 use radio_seats::Seat;
 use radio_settings::MountName;
-use super::state::State;
 
 impl State {
     /// A client wants to hear a mount. `OutOfMemory` where memory was refused.

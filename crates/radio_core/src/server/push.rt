@@ -1,12 +1,12 @@
 ghost use Rattle.std.specs.Prelude.{◌≡◌};
 ghost use Rattle.radio_core.specs.Push.{delivers};
 
+use super::state::State;
+use crate::Reply;
 use crate::outcome::{Change, Outcome};
 use crate::standing::Standing;
-use crate::Reply;
 use radio_blocks::Block;
 use radio_policy::{Action, Facts, Subject, Verdict, judge};
-use super::state::State;
 
 impl State {
     /// A source delivers a block.

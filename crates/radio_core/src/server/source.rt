@@ -4,13 +4,13 @@ ghost use Rattle.radio_core.specs.declared.reply.Reply.TheVariants.{Feeding};
 ghost use Rattle.radio_core.specs.Outcomes.{says};
 ghost use Rattle.radio_core.specs.Source.{asks_to_feed, begins, shown_for};
 
+use super::state::State;
 use crate::facts::asker_of;
 use crate::outcome::{Change, Outcome};
 use crate::standing::Standing;
 use crate::{OutOfMemory, Reply, SourceRequest};
 use radio_policy::{Action, Verdict, judge};
 use radio_settings::{MountName, Shown};
-use super::state::State;
 
 impl State {
     /// A client wants to feed a mount. `OutOfMemory` where memory was refused.

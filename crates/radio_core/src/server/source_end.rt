@@ -1,10 +1,10 @@
 ghost use Rattle.std.specs.Prelude.{◌≡◌};
 ghost use Rattle.radio_core.specs.SourceEnd.{stops_feeding};
 
+use super::state::State;
+use crate::Reply;
 use crate::outcome::{Change, Outcome};
 use crate::standing::Standing;
-use crate::Reply;
-use super::state::State;
 
 impl State {
     /// A source has come to the end of its data.

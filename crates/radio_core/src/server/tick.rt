@@ -3,10 +3,10 @@
 ghost use Rattle.std.specs.Prelude.{◌≡◌, is_some, length};
 ghost use Rattle.radio_core.specs.Changes.{ticked, durations_over, on_silent, first_silent, silence};
 
+use super::state::State;
 use crate::clients::ClientState;
 use crate::timeouts::HasSatOut;
 use radio_policy::Rule;
-use super::state::State;
 
 impl State {
     /// It is this moment: clients who have asked for nothing in their time are finished, then

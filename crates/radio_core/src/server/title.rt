@@ -1,11 +1,11 @@
 ghost use Rattle.std.specs.Prelude.{◌≡◌};
 ghost use Rattle.radio_core.specs.Title.{sets_title};
 
+use super::state::State;
+use crate::Reply;
 use crate::outcome::{Change, Outcome};
 use crate::standing::Standing;
-use crate::Reply;
 use radio_icy::Title;
-use super::state::State;
 
 impl State {
     /// A source tells what is on the air.
