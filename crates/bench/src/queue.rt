@@ -144,7 +144,11 @@ fn copy_time(rt: &(impl Clock + AllocGlobal), data: &[u8]) -> Result<Duration> {
         size = size.saturating_add(joined(rt.alloc(), data)?);
     }
     let time = start.elapsed(rt)?;
-    Ok(if size > 0 { time } else { Duration::from_secs(0) })
+    Ok(if size > 0 {
+        time
+    } else {
+        Duration::from_secs(0)
+    })
 }
 
 /// Copies the data block by block, until there are as many bytes as a draw has: how many.

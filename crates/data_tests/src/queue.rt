@@ -177,3 +177,20 @@ fn outside(alloc: Global) -> Result<bool, OutOfMemory> {
 fn draw_outside(rt: HostRuntime) {
     assert!(rt; outside(rt.alloc()) == Ok(true));
 }
+
+/// Where the kept blocks begin after four blocks, the last three with another limit than the first.
+fn offset_of_another_limit(alloc: Global, first: u64, other: u64) -> Result<u64, OutOfMemory> {
+    let mut queue = queue_of(alloc, first, &FOUR_EACH[..1])?;
+    queue.set_limit(other);
+    for bytes in &FOUR_EACH[1..] {
+        push(alloc, &mut queue, *bytes)?;
+    }
+    Ok(queue.offset().bytes_before())
+}
+
+#[test]
+fn limit_told_later(rt: HostRuntime) {
+    assert!(rt; offset_of_another_limit(rt.alloc(), 0, 5) == Ok(8));
+    assert!(rt; offset_of_another_limit(rt.alloc(), 100, 0) == Ok(16));
+    assert!(rt; offset_of_another_limit(rt.alloc(), 1, 100) == Ok(0));
+}

@@ -11,7 +11,7 @@ use Rattle.radio_core.specs.Facts.{largest_number}
 use Rattle.radio_core.specs.Kept.{kept_session, kept_of}
 use Rattle.radio_core.specs.Sessions.{Session, is_of, session_of}
 use Rattle.radio_core.specs.SourceReplies.{to_data, to_data_from, to_session, to_end, unless_spent}
-use Rattle.radio_core.specs.StandsFor.{HasRisingStarts, StandsFor}
+use Rattle.radio_core.specs.StandsFor.{HasRisingStarts}
 use Rattle.radio_core.specs.Step.{Represents}
 use Rattle.radio_core.specs.World.{World, standing_of}
 use Rattle.radio_core.proofs.KeptLists.{kept_found}

@@ -1,12 +1,12 @@
 -- the sessions with what is kept of their streams, through each change of the sessions
-use Rattle.std.proofs.Common.{◌≡◌, Bool, true, false, ℕ, Option, Some, None, List, [], ◌∷◌, length, refl, ap, sym, ◌∙◌}
-use Rattle.std.specs.Prelude.{find, filter, not, map, if◌then◌else◌}
+use Rattle.std.proofs.Common.{◌≡◌, Bool, true, false, ℕ, Option, Some, None, List, [], ◌∷◌, refl, ap, ◌∙◌}
+use Rattle.std.specs.Prelude.{find, not, if◌then◌else◌}
 use Rattle.std.specs.declared.cmp.Ordering.{Ordering}
 use Rattle.std.specs.declared.cmp.Ordering.TheVariants.{Less, Equal, Greater}
 use Rattle.std.specs.Option.{option_map, option_map_or}
 use Rattle.std.specs.Ordering.{match_ordering}
 use Rattle.std.specs.Str.{bytes_eq}
-use Rattle.radio_tables.specs.Lists.{update_first, placed, Each}
+use Rattle.radio_tables.specs.Lists.{Each}
 use Rattle.radio_tables.specs.FindLaws.{find_mapped, found_has}
 use Rattle.radio_core.specs.Kept.{kept_session, kept_live}
 use Rattle.radio_core.specs.KeptChanges.{longer_kept, kept_fed}
@@ -90,6 +90,7 @@ module _ (limit : ℕ) where
   begun_at new session live Equal later = refl
   begun_at new session live Greater later = ap (λ (t : List Session). kept_session limit session ∷ t) later
 
-  pub begun_kept : (live : List Session) (new : Session) → with_session (kept_live limit live) (kept_session limit new) ≡ kept_live limit (with_session live new)
+  pub begun_kept : (live : List Session) (new : Session)
+      → with_session (kept_live limit live) (kept_session limit new) ≡ kept_live limit (with_session live new)
   begun_kept [] new = refl
   begun_kept (session ∷ live) new = begun_at new session live (by_mount new session) (begun_kept live new)

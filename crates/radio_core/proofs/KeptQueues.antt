@@ -3,6 +3,7 @@ use Rattle.std.proofs.Common.{◌≡◌, Bool, true, false, ℕ, ◌+◌, ◌-�
 use Rattle.std.specs.Prelude.{find, nat_le, unwrap_or, if◌then◌else◌}
 use Rattle.std.specs.List.{concat}
 use Rattle.std.proofs.lemmas.List.{length-replicate}
+use Rattle.std.proofs.lemmas.List.Folds.{concat-append}
 use Rattle.std.proofs.Math.Seq.{drop-append-add, drop-append_seam}
 use Rattle.radio_blocks.specs.Queue.{KeptTail, kept_end, kept_start, kept_data, shortest_tail, trimmed, with_pushed, starts_from}
 use Rattle.radio_core.specs.Kept.{first_start, shortest_starts, kept_from, forgotten, kept_stream, stream_of}
@@ -36,8 +37,10 @@ pub stream_first : (tail : KeptTail) → first_start (end_of (stream_of tail)) (
 stream_first tail = first_here (end_of (stream_of tail)) tail.offset tail.blocks (stream_end tail)
 
 starts_at : (limit end here : ℕ) (block : List ℕ) (blocks : List (List ℕ)) (enough : Bool) → end ≡ here + length (concat (block ∷ blocks))
-    → starts_from (end - length (concat (shortest_tail limit blocks))) (shortest_tail limit blocks) ≡ shortest_starts limit end (starts_from (here + length block) blocks)
-    → starts_from (end - length (concat (if enough then shortest_tail limit blocks else block ∷ blocks))) (if enough then shortest_tail limit blocks else block ∷ blocks)
+    → starts_from (end - length (concat (shortest_tail limit blocks))) (shortest_tail limit blocks)
+    ≡ shortest_starts limit end (starts_from (here + length block) blocks)
+    → starts_from (end - length (concat (if enough then shortest_tail limit blocks else block ∷ blocks)))
+    (if enough then shortest_tail limit blocks else block ∷ blocks)
     ≡ (if enough then shortest_starts limit end (starts_from (here + length block) blocks) else here ∷ starts_from (here + length block) blocks)
 starts_at limit end here block blocks true e later = later
 starts_at limit end here block blocks false e later =
@@ -51,11 +54,13 @@ trimmed_starts limit end here (block ∷ blocks) e =
     let behind : length (concat blocks) ≡ end - first_start end (starts_from (here + length block) blocks)
     = omega (arith, rest, first_here end (here + length block) blocks rest) in
     starts_at limit end here block blocks (nat_le limit (length (concat blocks))) e (trimmed_starts limit end (here + length block) blocks rest)
-    ∙ ap (λ (n : ℕ). if nat_le limit n then shortest_starts limit end (starts_from (here + length block) blocks) else here ∷ starts_from (here + length block) blocks)
+    ∙ ap (λ (n : ℕ). if nat_le limit n then shortest_starts limit end (starts_from (here + length block) blocks)
+    else here ∷ starts_from (here + length block) blocks)
     behind
 
 -- the bytes that a trim drops, before those that it keeps
-before_at : (limit : ℕ) (block : List ℕ) (blocks : List (List ℕ)) (enough : Bool) → (before : List ℕ) × (concat blocks ≡ before ++ concat (shortest_tail limit blocks))
+before_at : (limit : ℕ) (block : List ℕ) (blocks : List (List ℕ)) (enough : Bool)
+    → (before : List ℕ) × (concat blocks ≡ before ++ concat (shortest_tail limit blocks))
     → (before : List ℕ) × (concat (block ∷ blocks) ≡ before ++ concat (if enough then shortest_tail limit blocks else block ∷ blocks))
 before_at limit block blocks true later =
     (block ++ later.0, ap (λ (t : List ℕ). block ++ t) later.1 ∙ sym (append_assoc block later.0 (concat (shortest_tail limit blocks))))
@@ -103,7 +108,10 @@ module _ (tail : KeptTail) where
   pub stream_trimmed : stream_of (trimmed tail) ≡ kept_stream tail.limit (stream_of tail)
   stream_trimmed =
       ap (λ (s : List ℕ). record { bytes = replicate offset 0 ++ concat kept; starts = s }) same_starts
-      ∙ ap (λ (t : List ℕ). record { bytes = replicate offset 0 ++ t; starts = shortest_starts tail.limit end (starts_from tail.offset tail.blocks) }) kept_bytes
+      ∙ ap (λ (t : List ℕ). record {
+        bytes = replicate offset 0 ++ t;
+        starts = shortest_starts tail.limit end (starts_from tail.offset tail.blocks);
+      }) kept_bytes
       ∙ ap (λ (n : ℕ). record {
         bytes = forgotten n (stream_of tail).bytes;
         starts = shortest_starts tail.limit end (starts_from tail.offset tail.blocks);
@@ -112,8 +120,7 @@ module _ (tail : KeptTail) where
 -- a block more
 
 joined_more : (blocks : List (List ℕ)) (block : List ℕ) → concat (blocks ++ block ∷ []) ≡ concat blocks ++ block
-joined_more [] block = append-nil block
-joined_more (first ∷ blocks) block = ap (λ (t : List ℕ). first ++ t) (joined_more blocks block) ∙ sym (append_assoc first (concat blocks) block)
+joined_more blocks block = concat-append blocks (block ∷ []) ∙ ap (λ (t : List ℕ). concat blocks ++ t) (append-nil block)
 
 starts_more : (here : ℕ) (blocks : List (List ℕ)) (block : List ℕ)
     → starts_from here (blocks ++ block ∷ []) ≡ starts_from here blocks ++ (here + length (concat blocks)) ∷ []
@@ -128,7 +135,8 @@ stream_longer tail block =
     ap (λ (s : List ℕ). record { bytes = replicate tail.offset 0 ++ concat (tail.blocks ++ block ∷ []); starts = s })
     (starts_more tail.offset tail.blocks block ∙ ap (λ (n : ℕ). starts_from tail.offset tail.blocks ++ n ∷ []) (sym (stream_end tail)))
     ∙ ap (λ (t : List ℕ). record { bytes = t; starts = (with_block (stream_of tail) block).starts })
-    (ap (λ (t : List ℕ). replicate tail.offset 0 ++ t) (joined_more tail.blocks block) ∙ sym (append_assoc (replicate tail.offset 0) (concat tail.blocks) block))
+    (ap (λ (t : List ℕ). replicate tail.offset 0 ++ t) (joined_more tail.blocks block)
+    ∙ sym (append_assoc (replicate tail.offset 0) (concat tail.blocks) block))
 
 pub stream_pushed : (tail : KeptTail) (block : List ℕ) → stream_of (with_pushed tail block) ≡ kept_stream tail.limit (with_block (stream_of tail) block)
 stream_pushed tail block =

@@ -1,5 +1,5 @@
 -- no seat is ever further behind than a queue is long, and no seat's place is forgotten
-use Rattle.std.proofs.Common.{◌≡◌, ℕ, ◌+◌, ◌-◌, ◌≤◌, Option, Some, None, List, [], ◌∷◌, refl, ap, sym, subst, ◌∙◌, arith}
+use Rattle.std.proofs.Common.{◌≡◌, ℕ, ◌-◌, ◌≤◌, Option, Some, None, List, [], ◌∷◌, refl, ap, sym, subst, ◌∙◌, arith}
 use Rattle.std.specs.Option.{option_map}
 use Rattle.radio_settings.specs.declared.settings.Settings.{Settings}
 use Rattle.radio_access.specs.Lists.{Lists}
@@ -9,13 +9,13 @@ use Rattle.radio_seats.specs.declared.seat.Seat.{Seat}
 use Rattle.radio_seats.specs.Seats.{seat_of}
 use Rattle.radio_core.specs.declared.event.Event.{Event}
 use Rattle.radio_core.specs.Changes.{changed}
-use Rattle.radio_core.specs.Kept.{first_start, kept_from, kept_session, kept_live, kept_of}
+use Rattle.radio_core.specs.Kept.{first_start, kept_from, kept_session, kept_live}
 use Rattle.radio_core.specs.Lagging.{EachSeat, NobodyLags}
 use Rattle.radio_core.specs.Run.{world_after_all, run_after}
 use Rattle.radio_core.specs.Sessions.{Session, is_of, session_of}
-use Rattle.radio_core.specs.StandsFor.{HasRisingStarts, SeatsAreKept, StandsFor}
+use Rattle.radio_core.specs.StandsFor.{HasRisingStarts, SeatsAreKept}
 use Rattle.radio_core.specs.Step.{outcome, world_after}
-use Rattle.radio_core.specs.Stream.{WholeStream, end_of, burst_start}
+use Rattle.radio_core.specs.Stream.{end_of}
 use Rattle.radio_core.specs.World.{World, opening}
 use Rattle.radio_core.proofs.KeptLists.{kept_found}
 use Rattle.radio_core.proofs.KeptSeats.{HoldsOn, each_after, settings_stay}
@@ -63,7 +63,8 @@ module _ (w : World) where
       by_found : (found : Option Session) → session_of w.house.live seat.mount ≡ found
           → option_map (kept_session queue) (session_of w.house.live seat.mount) ≡ Some session
           → first_start (end_of session.stream) session.stream.starts ≤ seat.place
-      by_found None none is = let nothing : option_map (kept_session queue) (session_of w.house.live seat.mount) ≡ None = ap (option_map (kept_session queue)) none in cc
+      by_found None none is =
+          let nothing : option_map (kept_session queue) (session_of w.house.live seat.mount) ≡ None = ap (option_map (kept_session queue)) none in cc
       by_found (Some whole) found is =
           let both : Some (kept_session queue whole) ≡ Some session = sym (ap (option_map (kept_session queue)) found) ∙ is in
           let one : kept_session queue whole ≡ session = cc in

@@ -9,31 +9,29 @@ use Rattle.std.proofs.lemmas.Slice.Eq.{bytes_eq-Decides}
 use Rattle.radio_policy.specs.declared.rule.Rule.TheVariants.{NotLive, Lagged, TimeOver}
 use Rattle.radio_addr.specs.declared.peer.Peer.{Peer}
 use Rattle.radio_settings.specs.declared.field.Shown.{Shown}
-use Rattle.radio_settings.specs.declared.settings.Settings.{Settings}
 use Rattle.radio_tables.specs.Lists.{update_first}
 use Rattle.radio_tables.specs.FindLaws.{find_here, find_later}
 use Rattle.radio_tables.specs.KeyLaws.{by_number, by_name}
 use Rattle.radio_seats.specs.declared.seat.Seat.{Seat}
 use Rattle.radio_seats.specs.EndLaws.{had_seat, kept_seat}
-use Rattle.radio_seats.specs.Seats.{seat_of, seat_in, with_ended, with_seat, with_place, without_listener}
+use Rattle.radio_seats.specs.Seats.{seat_of, seat_in, with_seat, with_place, without_listener}
 use Rattle.radio_seats.specs.SeatLaws.{beside_moved, beside_left, beside_seated, is_no_listener, has_sat_down, has_heard, sits_still}
 use Rattle.radio_core.specs.declared.event.Event.{Event}
 use Rattle.radio_core.specs.declared.event.ListenRequest.{ListenRequest}
-use Rattle.radio_core.specs.declared.outcome.Change.{Change}
-use Rattle.radio_core.specs.declared.outcome.Change.TheVariants.{Begin, Receive, SetTitle, TakeSeat, Advance, End, EndAndLeave, Forget, Tick}
+use Rattle.radio_core.specs.declared.outcome.Change.TheVariants.{Begin, Receive, SetTitle, TakeSeat, Advance, End, EndAndLeave, Forget}
 use Rattle.radio_core.specs.declared.outcome.Outcome.{Outcome}
 use Rattle.radio_core.specs.Changes.{changed, received, session_ended, timed_out_by, durations_over, first_silent, session_silenced, on_silent, silence, ticked}
 use Rattle.radio_core.specs.Facts.{live_end}
 use Rattle.radio_core.specs.Lagging.{EachSeat}
 use Rattle.radio_core.specs.Listen.{burst_of, first_seat}
-use Rattle.radio_core.specs.Sessions.{Session, is_of, session_of, opened, longer, fed, with_title}
+use Rattle.radio_core.specs.Sessions.{Session, is_of, session_of, opened, longer, with_title}
 use Rattle.radio_core.specs.Source.{shown_for}
 use Rattle.radio_core.specs.Step.{outcome}
 use Rattle.radio_core.specs.Stream.{WholeStream, no_data, end_of, with_block, burst_start, data_at}
 use Rattle.radio_core.specs.Timeouts.{lags_behind, has_sat_out}
 use Rattle.radio_core.specs.Ways.{Way, Misplaced, IsFinished, IsDenied, IsRefused, IsAdmitted, Begins, Receives, SetsTitle, TakesSeat, HandsOut, Ends, EndsAndLeaves, Leaves, HasPassed, Ticks}
 use Rattle.radio_core.specs.World.{World}
-use Rattle.radio_core.proofs.Lookups.{found_named, beside_fed, beside_titled, beside_ended, beside_begun, is_longer, is_titled, is_over, is_new_session}
+use Rattle.radio_core.proofs.Lookups.{found_named, beside_fed, beside_titled, beside_ended, beside_begun, is_over, is_new_session}
 use Rattle.radio_core.proofs.Ways.{way_of}
 
 -- nobody has a seat who had none, and no session is there that was not
@@ -178,7 +176,8 @@ module _ (P : WholeStream → ℕ → Type 0) (w : World) (holds : HoldsOn P w) 
   -- a title is set
   each_titled : (mount text : List ℕ) → EachSeat P (changed w (SetTitle mount text))
   each_titled mount text id seat session has live =
-      session_updated w.house.live mount (with_title (Some text)) (λ x. refl) seat.mount session (λ apart. beside_titled w.house.live mount seat.mount apart text) live
+      session_updated w.house.live mount (with_title (Some text)) (λ x. refl) seat.mount session
+      (λ apart. beside_titled w.house.live mount seat.mount apart text) live
       (λ old same found one. subst (λ (x : Session). P x.stream seat.place) one (all id seat old has found))
       (all id seat session has)
 

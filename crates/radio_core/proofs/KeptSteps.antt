@@ -1,13 +1,13 @@
 -- a change of a state in which only a queue is kept of each stream is the change of the state; and blocks rise still
-use Rattle.std.proofs.Common.{◌≡◌, ℕ, zero, suc, Option, Some, None, List, length, refl, ap, sym, subst, ◌∙◌, arith, length-append}
+use Rattle.std.proofs.Common.{◌≡◌, ℕ, zero, suc, Option, Some, None, List, length, refl, ap, ◌∙◌, arith, length-append}
 use Rattle.std.specs.Prelude.{not}
 use Rattle.std.specs.Option.{option_map}
 use Rattle.std.proofs.lemmas.List.{length-map}
-use Rattle.radio_policy.specs.declared.rule.Rule.TheVariants.{Lagged, SourceSilent}
+use Rattle.radio_policy.specs.declared.rule.Rule.TheVariants.{Lagged}
 use Rattle.radio_tables.specs.Lists.{Each}
 use Rattle.radio_tables.specs.EachLaws.{Each_kept, Each_updated, Each_placed}
 use Rattle.radio_seats.specs.Seats.{with_ended}
-use Rattle.radio_core.specs.declared.clients.ClientState.TheVariants.{Feeds, Answered, Ended}
+use Rattle.radio_core.specs.declared.clients.ClientState.TheVariants.{Answered}
 use Rattle.radio_core.specs.declared.outcome.Change.{Change}
 use Rattle.radio_core.specs.declared.outcome.Change.TheVariants.{Nothing, Answer, Admit, Begin, Receive, SetTitle, TakeSeat, Advance, End, EndAndLeave, Forget, Tick}
 use Rattle.radio_core.specs.Changes.{changed, session_ended, forgotten, laggards_ended, timed_out_by, durations_over, first_silent, session_silenced, on_silent, silence, ticked}

@@ -1,7 +1,7 @@
 -- what is kept of a stream, and of a stream that grows
-use Rattle.std.proofs.Common.{◌≡◌, Bool, true, false, ℕ, zero, suc, ◌+◌, ◌-◌, ◌≤◌, Option, Some, None, List, [], ◌∷◌, ◌++◌, length, take, drop, replicate, refl, ap, sym, ◌∙◌, arith, length-append, append_assoc}
+use Rattle.std.proofs.Common.{◌≡◌, Bool, true, false, ℕ, ◌+◌, ◌-◌, ◌≤◌, Some, List, [], ◌∷◌, ◌++◌, length, take, drop, replicate, refl, ap, sym, ◌∙◌, arith, length-append, append_assoc}
 use Rattle.std.specs.Prelude.{find, nat_le, unwrap_or, if◌then◌else◌}
-use Rattle.std.proofs.lemmas.Bool.{le-leb, leb-false, leb-true}
+use Rattle.std.proofs.lemmas.Bool.{le-leb, leb-true}
 use Rattle.std.proofs.lemmas.List.{length-replicate, length-drop, drop-drop, drop-append-le}
 use Rattle.std.proofs.Math.Seq.{drop-append-add}
 use Rattle.radio_tables.specs.Lists.{Each}
@@ -86,7 +86,8 @@ kept_data limit stream place room h = ap (take room) (drop_forgotten place (kept
 abbrev near : ℕ → ℕ → List ℕ → ℕ
 near burst end starts = unwrap_or (find (λ start. nat_le (end - start) burst) starts) end
 
-near_at : (burst end start : ℕ) (starts : List ℕ) (is_near : Bool) → nat_le (end - start) burst ≡ is_near → (end - start ≤ burst → near burst end starts ≡ start)
+near_at : (burst end start : ℕ) (starts : List ℕ) (is_near : Bool) → nat_le (end - start) burst ≡ is_near
+    → (end - start ≤ burst → near burst end starts ≡ start)
     → near burst end starts ≡ unwrap_or (if is_near then Some start else find (λ s. nat_le (end - s) burst) starts) end
 near_at burst end start starts true e same = same (leb-true (end - start) burst e)
 near_at burst end start starts false e same = refl

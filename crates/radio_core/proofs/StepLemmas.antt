@@ -16,7 +16,6 @@ use Rattle.radio_core.specs.Changes.{changed}
 use Rattle.radio_core.specs.Kept.{first_start}
 use Rattle.radio_core.specs.KeptChanges.{kept_changed}
 use Rattle.radio_core.specs.Sessions.{Session, session_of}
-use Rattle.radio_core.specs.StandsFor.{StandsFor}
 use Rattle.radio_core.specs.Step.{outcome, reply_to, world_after, Step, Represents, StandsForSome, NeedsNoMemory, TakesNoMemory}
 use Rattle.radio_core.specs.Stream.{end_of}
 use Rattle.radio_core.specs.World.{World, opening, standing_of}
