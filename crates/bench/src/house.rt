@@ -292,14 +292,14 @@ pub fn push<A: Answers>(alloc: Global, who: &mut A, id: u64) -> Result<(), OutOf
 pub fn draw_all<A: Answers>(who: &mut A, listeners: &[u64]) -> Result<usize, OutOfMemory> {
     let mut drawn = 0usize;
     for id in listeners {
-        if draws(who, *id)? {
+        if draws_data(who, *id)? {
             drawn = drawn.saturating_add(1);
         }
     }
     Ok(drawn)
 }
 
-fn draws<A: Answers>(who: &mut A, id: u64) -> Result<bool, OutOfMemory> {
+fn draws_data<A: Answers>(who: &mut A, id: u64) -> Result<bool, OutOfMemory> {
     who.hands_out(Event::Draw {
         id,
         room: SIZE as u32,
