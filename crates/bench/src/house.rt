@@ -35,12 +35,23 @@ const SOURCE_PAIR: &[u8] = b"Basic c291cmNlOmhhY2ttZQ==";
 
 /// Whoever answers events: a core, or a hall.
 pub trait Answers {
+    /// The reply.
     fn answer(&mut self, event: Event) -> Result<Reply, OutOfMemory>;
+
+    /// Whether the reply hands data out.
+    fn hands_out(&mut self, event: Event) -> Result<bool, OutOfMemory>;
 }
 
 impl Answers for Core {
     fn answer(&mut self, event: Event) -> Result<Reply, OutOfMemory> {
         self.step(event)
+    }
+
+    fn hands_out(&mut self, event: Event) -> Result<bool, OutOfMemory> {
+        match self.step(event) {
+            Ok(reply) => Ok(has_data(&reply)),
+            Err(refused) => Err(refused),
+        }
     }
 }
 
@@ -56,6 +67,13 @@ impl<C: Chronicle, H: House, R: Wait> Answers for Caller<'_, C, H, R> {
     fn answer(&mut self, event: Event) -> Result<Reply, OutOfMemory> {
         let receipt = self.hall.apply(self.rt, &mut self.pass, event)?;
         Ok(receipt.into_reply())
+    }
+
+    fn hands_out(&mut self, event: Event) -> Result<bool, OutOfMemory> {
+        match self.hall.apply(self.rt, &mut self.pass, event) {
+            Ok(receipt) => Ok(has_data(receipt.reply())),
+            Err(refused) => Err(refused),
+        }
     }
 }
 
@@ -123,9 +141,14 @@ fn write_draws(rt: &impl Print, name: &str, draws: Draws, is_full: bool) -> Resu
 }
 
 fn draws_by_core(rt: &(impl Clock + AllocGlobal), rounds: u32) -> Result<Draws> {
-    let settings = station_settings(rt.alloc())?;
-    let mut core = Core::new(rt.alloc(), settings, Lists::new(rt.alloc()));
-    time_draws(rt, &mut core, rounds)
+    let mut core = station_core(rt.alloc())?;
+    let draws = time_draws(rt, &mut core, rounds);
+    drop(core);
+    draws
+}
+
+fn station_core(alloc: Global) -> Result<Core, SettingsFault> {
+    Ok(Core::new(alloc, station_settings(alloc)?, Lists::new(alloc)))
 }
 
 fn draws_through_hall(rt: &(impl Clock + AllocGlobal + Wait), rounds: u32) -> Result<Draws> {
@@ -269,15 +292,18 @@ pub fn push<A: Answers>(alloc: Global, who: &mut A, id: u64) -> Result<(), OutOf
 pub fn draw_all<A: Answers>(who: &mut A, listeners: &[u64]) -> Result<usize, OutOfMemory> {
     let mut drawn = 0usize;
     for id in listeners {
-        let reply = who.answer(Event::Draw {
-            id: *id,
-            room: SIZE as u32,
-        })?;
-        if has_data(&reply) {
+        if draws_data(who, *id)? {
             drawn = drawn.saturating_add(1);
         }
     }
     Ok(drawn)
+}
+
+fn draws_data<A: Answers>(who: &mut A, id: u64) -> Result<bool, OutOfMemory> {
+    who.hands_out(Event::Draw {
+        id,
+        room: SIZE as u32,
+    })
 }
 
 fn has_data(reply: &Reply) -> bool {

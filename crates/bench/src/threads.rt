@@ -79,11 +79,9 @@ fn time_unkept<H: House + Send + Sync, R: Clock + AllocGlobal + Threads + Wait +
     requires ledger { (blank.name ≡ H.name) × (blank.parts ≡ H.parts) × (blank.parts ≡ 2 ^ 32) }
 {
     let hall: Hall<Unkept, H> = Hall::new(rt.alloc(), settings, Lists::new(rt.alloc()), blank);
-    let start = Instant::now(rt)?;
-    let passes = passes_of_four(rt, rt.alloc(), &hall, blocks)?;
-    let time = start.elapsed(rt)?;
+    let (passes, time) = time_four(rt, &hall, blocks)?;
     drop(passes);
-    Ok(micros(time))
+    Ok(time)
 }
 
 /// The same where everything is stored, and then all passes are settled.
@@ -118,10 +116,13 @@ fn time_kept<H: House + Send + Sync, R: Clock + AllocGlobal + Threads + Wait + S
     requires ledger { (blank.name ≡ H.name) × (blank.parts ≡ H.parts) × (blank.parts ≡ 2 ^ 32) }
 {
     let hall: Hall<Kept, H> = Hall::new(rt.alloc(), settings, Lists::new(rt.alloc()), blank);
-    let start = Instant::now(rt)?;
-    let passes = passes_of_four(rt, rt.alloc(), &hall, blocks)?;
-    let calls = micros(start.elapsed(rt)?);
-    time_settling(rt, hall, passes, calls)
+    match time_four(rt, &hall, blocks) {
+        Ok((passes, calls)) => time_settling(rt, hall, passes, calls),
+        Err(fault) => {
+            drop(hall);
+            Err(fault)
+        }
+    }
 }
 
 fn time_settling<H: House, R: Clock + AllocGlobal>(
@@ -140,6 +141,19 @@ fn time_settling<H: House, R: Clock + AllocGlobal>(
     })
 }
 
+/// The passes of four threads, and what their calls took, in microseconds.
+fn time_four<C, H, R>(rt: &R, hall: &Hall<C, H>, blocks: u32) -> Result<(Vec<Pass<C, H>>, u64)>
+where
+    C: Chronicle + Send + Sync,
+    H: House + Send + Sync,
+    R: Clock + AllocGlobal + Threads + Wait + Sync,
+{
+    let start = Instant::now(rt)?;
+    let passes = passes_of_four(rt, rt.alloc(), hall, blocks)?;
+    let time = start.elapsed(rt)?;
+    Ok((passes, micros(time)))
+}
+
 /// The passes of four threads, when they have ended.
 fn passes_of_four<C, H, R>(
     rt: &R,
@@ -152,15 +166,29 @@ where
     H: House + Send + Sync,
     R: Threads + Wait + Sync,
 {
-    let (first, second) = join(
-        rt,
-        || -> Both<C, H> { work_both(rt, alloc, hall, "/a", "/b", blocks) },
-        || -> Both<C, H> { work_both(rt, alloc, hall, "/c", "/d", blocks) },
-    );
+    let (first, second) = work_four(rt, alloc, hall, blocks);
     let mut passes = Vec::new(alloc);
     push_both(&mut passes, first)?;
     push_both(&mut passes, second)?;
     Ok(passes)
+}
+
+fn work_four<C, H, R>(
+    rt: &R,
+    alloc: Global,
+    hall: &Hall<C, H>,
+    blocks: u32,
+) -> (Both<C, H>, Both<C, H>)
+where
+    C: Chronicle + Send + Sync,
+    H: House + Send + Sync,
+    R: Threads + Wait + Sync,
+{
+    join(
+        rt,
+        || -> Both<C, H> { work_both(rt, alloc, hall, "/a", "/b", blocks) },
+        || -> Both<C, H> { work_both(rt, alloc, hall, "/c", "/d", blocks) },
+    )
 }
 
 fn push_both<C: Chronicle, H: House>(

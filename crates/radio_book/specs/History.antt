@@ -34,7 +34,8 @@ pub record IsTold (keeps : Bool) (opening : World) (stored : List Entry) (core :
 abbrev pub StandsIn : List Entry → Stamp → Type 0
 StandsIn history stamp = (0 < stamp.serial) × (slice_get history (stamp.serial - 1) ≡ Some (entry_of stamp))
 
--- the reply of the receipt is that of a step from the state after a history that is a run from the opening state; where entries are stored, its place is the one behind that history
+-- the reply of the receipt is that of a step from the state after a history that is a run from the opening state; where entries are stored, its place is the
+-- one behind that history
 pub record IsLegal (keeps : Bool) (opening : World) (stamp : Stamp) : Type 0 where
   pub before : List Entry
   pub run : IsRun opening before

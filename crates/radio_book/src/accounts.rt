@@ -79,7 +79,11 @@ impl<C: Chronicle, H: House> Accounts<C, H> {
     {
         match event.again() {
             Ok(told) => match self.story.answer(event) {
-                Ok(reply) => Ok(Receipt::new(0, told, reply)),
+                Ok(reply) => Ok(Receipt {
+                    serial: 0,
+                    event: told,
+                    reply,
+                }),
                 Err(refused) => {
                     drop(told);
                     Err(refused)

@@ -8,9 +8,9 @@ use std::marker::Model;
 /// [`Book::apply`](crate::Book::apply) alone makes one.
 #[derive(Drop)]
 pub struct Receipt {
-    serial: u64,
-    event: Event,
-    reply: Reply,
+    pub(crate) serial: u64,
+    pub(crate) event: Event,
+    pub(crate) reply: Reply,
 }
 
 impl Model for Receipt {

@@ -235,7 +235,12 @@ module _ (w : World) (s : IsSound w) (inv : AreInOrder w) where
   adds_by event o (EndsAndLeaves him mount feeding) known =
       adds (changed w o.change) event o.reply (omega arith)
       (omega (arith, ap length (numbers_without number_of him w.house.clients), client_leaves him (λ unknown. known him refl refl unknown)))
-      (omega (arith, ap length (numbers_without row_of him (session_ended w mount).seats), ap (λ xs. length (without him xs)) (same_finished mount w.seats), listener_leaves him))
+      (omega (
+        arith,
+        ap length (numbers_without row_of him (session_ended w mount).seats),
+        ap (λ xs. length (without him xs)) (same_finished mount w.seats),
+        listener_leaves him,
+      ))
   adds_by event o (Leaves him other) known =
       adds (changed w o.change) event o.reply (omega arith)
       (omega (arith, ap length (numbers_without number_of him w.house.clients), client_leaves him (λ unknown. known him refl refl unknown)))
@@ -326,7 +331,8 @@ module _ (w : World) (s : IsSound w) (inv : AreInOrder w) where
   order_by event o (IsDenied _ by v nobody) = inv
   order_by event o (IsRefused _ him by v its undecided) =
       let at = undecided.1 in
-      order_turned w inv (changed w o.change) him Answered (record { same_ids = same_state him HasHisAnswer w.house.clients; same_rows = refl; same_last = refl })
+      order_turned w inv (changed w o.change) him Answered
+      (record { same_ids = same_state him HasHisAnswer w.house.clients; same_rows = refl; same_last = refl })
       (turns_answered w him (λ u. cc)) (λ h. h)
   order_by event o (IsAdmitted peer allowed) =
       let id = w.house.last_id + 1 in
