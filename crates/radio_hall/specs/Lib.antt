@@ -1,0 +1,5 @@
+pub mod Lines
+pub mod Callers
+pub mod Connections
+pub mod Course
+pub mod Turns

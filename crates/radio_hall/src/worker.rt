@@ -1,0 +1,87 @@
+//! A worker, who serves connections.
+
+use crate::owed::Owed;
+use crate::serving::round::serve_each;
+use crate::serving::{Now, SECOND_MS};
+use crate::{Conn, Fate, Gate, Line, OutOfMemory, Server, Status};
+use radio_addr::Peer;
+use radio_core::{Event, Reply};
+use radio_session::Session;
+use std::alloc::Global;
+
+/// A worker: whom he asks, and when he last told him the time.
+#[derive(Drop)]
+pub struct Worker<S: Server + Drop> {
+    alloc: Global,
+    server: S,
+    ticked_ms: u64,
+    patience_ms: u64,
+}
+
+impl<S: Server + Drop> Worker<S> {
+    /// A worker who asks this server, and gives up a line that takes nothing of what it is owed for
+    /// so many seconds (the settings' `source-timeout`).
+    pub fn new(alloc: Global, server: S, patience_s: u32) -> Worker<S> {
+        Worker {
+            alloc,
+            server,
+            ticked_ms: 0,
+            patience_ms: patience_s as u64 * SECOND_MS,
+        }
+    }
+
+    /// Whom he asks.
+    pub fn server(&self) -> &S {
+        &self.server
+    }
+
+    /// Whom he asked, when he serves no more.
+    pub fn into_server(self) -> S {
+        self.server
+    }
+
+    /// A connection comes from this peer. It is added to the others, if the server lets it in; if it
+    /// is denied, to be told so and closed by the next turns.
+    ///
+    /// `OutOfMemory` where memory was refused: the line is closed without a byte, and the other
+    /// connections are as they were.
+    pub fn admit<L: Line>(
+        &mut self,
+        conns: &mut Vec<Conn<L>>,
+        line: L,
+        peer: Peer,
+        ms: u64,
+    ) -> Result<(), OutOfMemory> {
+        conns.reserve(1)?;
+        match self.server.apply(Event::Arrive { peer })? {
+            Reply::Arrived(id) => conns.push_reserved(Conn::new(self.alloc, id, peer, line, ms)),
+            reply => {
+                let conn = Conn::turned_away(self.alloc, peer, line, reply, ms)?;
+                conns.push_reserved(conn);
+            }
+        }
+        Ok(())
+    }
+
+    /// Serves each connection once, at this moment in milliseconds, and closes those that are over.
+    /// The server is told the time if a second has passed since it last was.
+    pub fn serve_turn<L: Line, G: Gate>(&mut self, conns: &mut Vec<Conn<L>>, gate: &G, ms: u64) {
+        self.tick(ms);
+        let now = Now {
+            ms,
+            patience_ms: self.patience_ms,
+        };
+        serve_each(&mut self.server, conns, gate, now);
+        conns.retain(|conn| conn.stays());
+    }
+
+    fn tick(&mut self, ms: u64) {
+        if ms.saturating_sub(self.ticked_ms) < SECOND_MS {
+            return;
+        }
+        match self.server.apply(Event::Clock { ms }) {
+            Ok(_) => self.ticked_ms = ms,
+            Err(_) => (),
+        }
+    }
+}
