@@ -1,0 +1,2 @@
+mod Standing
+mod Deeds

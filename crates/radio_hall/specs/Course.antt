@@ -1,5 +1,5 @@
 -- The course of a connection: all that happens on it, in order, from its arrival to its end.
-use Rattle.std.specs.Prelude.{◌≡◌, ℕ, Bool, true, false, List, [], ◌∷◌, ◌++◌, if◌then◌else◌}
+use Rattle.std.specs.Prelude.{◌≡◌, ℕ, Bool, true, false, ◌&&◌, ◌||◌, List, [], ◌∷◌, ◌++◌}
 use Rattle.radio_policy.specs.declared.rule.Rule.{Rule}
 use Rattle.radio_addr.specs.declared.peer.Peer.{Peer}
 use Rattle.radio_core.specs.declared.event.Event.{Event}
@@ -43,14 +43,17 @@ newcomer peer id = record { given = []; entries = entry (Arrive peer) (Arrived i
 abbrev pub stranger : Peer → Rule → Standing
 stranger peer rule = record { given = []; entries = []; text = (said asking (Deny rule)).bytes; session = fresh 0 peer; pending = []; sits = false; fate = Ended; has_left = true }
 
+abbrev pub is_listen : Event → Bool
+is_listen (Listen asked) = true
+is_listen event = false
+
+abbrev pub is_seated : Reply → Bool
+is_seated (Seated interval shown) = true
+is_seated reply = false
+
 -- a seat is given
 abbrev pub is_seat : Event → Reply → Bool
-is_seat (Listen asked) (Seated interval shown) = true
-is_seat event reply = false
-
-abbrev pub or_so : Bool → Bool → Bool
-or_so true before = true
-or_so false before = before
+is_seat event reply = is_listen event && is_seated reply
 
 -- a connection that is shut has ended, and what was heard after that is not applied
 abbrev pub fate_by : State → Fate
@@ -68,9 +71,9 @@ answered s event later reply = let told = said s.session.says reply in record s 
   text = s.text ++ told.bytes;
   session = saying_now s.session told.says;
   pending = pending_by told.state later;
-  sits = or_so (is_seat event reply) s.sits;
+  sits = is_seat event reply || s.sits;
   fate = fate_by told.state;
-  has_left = or_so (is_leave event) s.has_left;
+  has_left = is_leave event || s.has_left;
 }
 
 -- the conversation is over

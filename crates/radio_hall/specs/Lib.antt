@@ -3,3 +3,4 @@ pub mod Callers
 pub mod Connections
 pub mod Course
 pub mod Turns
+pub mod Answering

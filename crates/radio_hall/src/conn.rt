@@ -1,6 +1,8 @@
 //! A connection, as its worker has it.
 
-ghost use Rattle.std.specs.Prelude.{◌≡◌};
+ghost use Rattle.std.specs.Prelude.{◌≡◌, true, IfOk};
+ghost use Rattle.radio_session.specs.Conversation.{asking};
+ghost use Rattle.radio_session.specs.Saying.{said};
 
 use crate::owed::Owed;
 use crate::{Line, OutOfMemory};
@@ -24,6 +26,20 @@ pub enum Fate {
     Cut,
 }
 
+impl Fate {
+    ghost use Rattle.radio_hall.specs.Connections.{is_open};
+
+    /// Whether the connection goes on.
+    pub fn is_open(self) -> bool
+        ensures { result ≡ is_open self }
+    {
+        match self {
+            Fate::Open => true,
+            Fate::Ended | Fate::Closed | Fate::Cut => false,
+        }
+    }
+}
+
 /// What its worker notes of a connection. Moments are in milliseconds.
 #[derive(Clone, Copy, Debug, PartialEq, Eq)]
 pub struct Status {
@@ -42,8 +58,12 @@ pub struct Status {
 }
 
 impl Status {
+    ghost use Rattle.radio_hall.specs.Connections.{status_at};
+
     /// At its arrival.
-    pub(crate) fn new(fate: Fate, has_left: bool, ms: u64) -> Status {
+    pub(crate) fn new(fate: Fate, has_left: bool, ms: u64) -> Status
+        ensures { result ≡ status_at fate has_left ms }
+    {
         Status {
             fate,
             has_left,
@@ -84,8 +104,12 @@ impl<L: Line> Model for Conn<L> {
 }
 
 impl<L: Line> Conn<L> {
+    ghost use Rattle.radio_hall.specs.Connections.{newly_come, status_at, stays};
+
     /// The connection of a client who was let in under this number.
-    pub(crate) fn new(alloc: Global, id: u64, peer: Peer, line: L, ms: u64) -> Conn<L> {
+    pub(crate) fn new(alloc: Global, id: u64, peer: Peer, line: L, ms: u64) -> Conn<L>
+        ensures { result ≡ newly_come id peer (L.given line) (L.taken line) ms }
+    {
         Conn {
             id,
             line,
@@ -103,7 +127,10 @@ impl<L: Line> Conn<L> {
         line: L,
         denial: Reply,
         ms: u64,
-    ) -> Result<Conn<L>, OutOfMemory> {
+    ) -> Result<Conn<L>, OutOfMemory>
+        ensures { IfOk result (λ conn. (conn.id ≡ 0) × (conn.given ≡ L.given line) × (conn.taken ≡ L.taken line) × (conn.status ≡ status_at Fate.Ended true ms)
+            × (conn.owed ≡ (said asking denial).bytes)) }
+    {
         let mut session = Session::new(alloc, 0, peer);
         let mut owed = Owed::new(alloc);
         let _state = owed.tell(&mut session, denial)?;
@@ -117,7 +144,9 @@ impl<L: Line> Conn<L> {
     }
 
     /// Whether it is still to be served.
-    pub(crate) fn stays(&self) -> bool {
+    pub(crate) fn stays(&self) -> bool
+        ensures { result ≡ stays self.now }
+    {
         let fate = self.status.fate;
         match fate {
             Fate::Open | Fate::Ended => true,

@@ -1,6 +1,8 @@
 //! What a connection was told and its line has not taken.
 
-ghost use Rattle.std.specs.Prelude.{◌≡◌, ◌≤◌, ◌++◌, [], drop, length, IsTrue, ◌↔◌};
+ghost use Rattle.std.specs.Prelude.{◌≡◌, ◌≤◌, ◌++◌, [], drop, length, IfOk, OnErr};
+ghost use Rattle.radio_session.specs.Conversation.{saying_now};
+ghost use Rattle.radio_session.specs.Saying.{said};
 
 use radio_core::Reply;
 use radio_session::{OutOfMemory, Session, State};
@@ -63,7 +65,12 @@ impl Owed {
         &mut self,
         session: &mut Session,
         reply: Reply,
-    ) -> Result<State, OutOfMemory> {
+    ) -> Result<State, OutOfMemory>
+        ensures bytes { IfOk result (λ _. self.new ≡ self.old ++ (said session.old.says reply).bytes) }
+        ensures state { IfOk result (λ state. state ≡ (said session.old.says reply).state) }
+        ensures says { IfOk result (λ _. session.new ≡ saying_now session.old (said session.old.says reply).says) }
+        ensures silent { OnErr result (self.new ≡ self.old) }
+    {
         session.give(reply, &mut self.bytes)
     }
 }

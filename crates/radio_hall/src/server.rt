@@ -60,7 +60,7 @@ impl<'a, R: Wait, C: Chronicle, H: House> Caller<'a, R, C, H> {
 
     /// His pass, when he calls no more.
     pub fn into_pass(self) -> Pass<C, H>
-        ensures { result ≡ self }
+        ensures { result ≡ self.entry }
     {
         self.pass
     }

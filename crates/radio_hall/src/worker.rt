@@ -1,6 +1,10 @@
 //! A worker, who serves connections.
 
+ghost use Rattle.std.specs.Prelude.{◌≡◌, ◌*◌};
+ghost use Rattle.radio_hall.specs.Turns.{Ticks, IsTurn};
+
 use crate::owed::Owed;
+use crate::serving::leaving::apply_quietly;
 use crate::serving::round::serve_each;
 use crate::serving::{Now, SECOND_MS};
 use crate::{Conn, Fate, Gate, Line, OutOfMemory, Server, Status};
@@ -21,7 +25,11 @@ pub struct Worker<S: Server + Drop> {
 impl<S: Server + Drop> Worker<S> {
     /// A worker who asks this server, and gives up a line that takes nothing of what it is owed for
     /// so many seconds (the settings' `source-timeout`).
-    pub fn new(alloc: Global, server: S, patience_s: u32) -> Worker<S> {
+    pub fn new(alloc: Global, server: S, patience_s: u32) -> Worker<S>
+        ensures server { result.server ≡ server }
+        ensures ticked { result.ticked_ms ≡ 0 }
+        ensures patience { result.patience_ms ≡ patience_s * 1000 }
+    {
         Worker {
             alloc,
             server,
@@ -31,12 +39,16 @@ impl<S: Server + Drop> Worker<S> {
     }
 
     /// Whom he asks.
-    pub fn server(&self) -> &S {
+    pub fn server(&self) -> &S
+        ensures { result.now ≡ self.now.server }
+    {
         &self.server
     }
 
     /// Whom he asked, when he serves no more.
-    pub fn into_server(self) -> S {
+    pub fn into_server(self) -> S
+        ensures { result ≡ self.server }
+    {
         self.server
     }
 
@@ -65,7 +77,9 @@ impl<S: Server + Drop> Worker<S> {
 
     /// Serves each connection once, at this moment in milliseconds, and closes those that are over.
     /// The server is told the time if a second has passed since it last was.
-    pub fn serve_turn<L: Line, G: Gate>(&mut self, conns: &mut Vec<Conn<L>>, gate: &G, ms: u64) {
+    pub fn serve_turn<L: Line, G: Gate>(&mut self, conns: &mut Vec<Conn<L>>, gate: &G, ms: u64)
+        ensures { IsTurn S.steps ms self.old.ticked_ms self.old.server conns.old.items self.new.ticked_ms self.new.server conns.new.items }
+    {
         self.tick(ms);
         let now = Now {
             ms,
@@ -75,13 +89,14 @@ impl<S: Server + Drop> Worker<S> {
         conns.retain(|conn| conn.stays());
     }
 
-    fn tick(&mut self, ms: u64) {
+    fn tick(&mut self, ms: u64)
+        ensures { Ticks S.steps ms self.old.ticked_ms self.old.server self.new.ticked_ms self.new.server }
+    {
         if ms.saturating_sub(self.ticked_ms) < SECOND_MS {
             return;
         }
-        match self.server.apply(Event::Clock { ms }) {
-            Ok(_) => self.ticked_ms = ms,
-            Err(_) => (),
+        if apply_quietly(&mut self.server, Event::Clock { ms }) {
+            self.ticked_ms = ms;
         }
     }
 }

@@ -1,5 +1,8 @@
 //! Each connection in its turn.
 
+ghost use Rattle.std.specs.Prelude.{◌≡◌, []};
+ghost use Rattle.radio_hall.specs.Turns.{Serves, ServesEach};
+
 use crate::serving::Now;
 use crate::serving::drawing::draw;
 use crate::serving::flushing::flush;
@@ -17,7 +20,9 @@ pub(crate) fn serve_each<S: Server, L: Line, G: Gate>(
     conns: &mut Vec<Conn<L>>,
     gate: &G,
     now: Now,
-) {
+)
+    ensures { ServesEach S.steps server.old conns.old.items server.new conns.new.items }
+{
     let mut buffer = [0u8; READ_ROOM];
     for conn in conns.iter_mut() {
         serve(server, conn, &mut buffer, gate, now);
@@ -32,7 +37,9 @@ fn serve<S: Server, L: Line, G: Gate>(
     buffer: &mut [u8],
     gate: &G,
     now: Now,
-) {
+)
+    ensures { Serves S.steps server.old conn.old server.new conn.new }
+{
     flush(conn, gate, now);
     if !conn.owed.rest().is_empty() {
         leave(server, conn);
@@ -45,7 +52,10 @@ fn serve<S: Server, L: Line, G: Gate>(
 }
 
 /// What a connection does to which nothing is owed.
-fn work<S: Server, L: Line>(server: &mut S, conn: &mut Conn<L>, buffer: &mut [u8], now: Now) {
+fn work<S: Server, L: Line>(server: &mut S, conn: &mut Conn<L>, buffer: &mut [u8], now: Now)
+    requires { conn.old.owed ≡ [] }
+    ensures { Serves S.steps server.old conn.old server.new conn.new }
+{
     let fate = conn.status.fate;
     match fate {
         Fate::Open => {
