@@ -1,6 +1,7 @@
 //! A line in memory.
 
-ghost use Rattle.std.specs.Prelude.{◌≡◌};
+ghost use Rattle.std.specs.Prelude.{◌≡◌, []};
+ghost use Rattle.radio_hall.specs.Lines.{HasGiven};
 
 use radio_hall::{Line, Received, Sent};
 use std::alloc::Global;
@@ -8,7 +9,8 @@ use std::alloc::Global;
 /// What a line does.
 #[derive(Clone, Copy)]
 pub struct Manners {
-    /// What it gives to each read, in turn; then nothing.
+    /// What it gives to each read, in turn; then nothing. An empty piece is a read to which nothing
+    /// comes.
     pub gives: &'static [&'static [u8]],
     /// Whether its peer closes behind that.
     pub closes: bool,
@@ -40,7 +42,7 @@ pub struct MemoryLine {
     calls: u64,
     given: Vec<u8>,
     taken: Vec<u8>,
-    pub is_finished: bool,
+    is_finished: bool,
 }
 
 impl MemoryLine {
@@ -64,6 +66,11 @@ impl MemoryLine {
         self.taken.as_slice()
     }
 
+    /// Whether it was told that nothing more is written.
+    pub fn is_finished(&self) -> bool {
+        self.is_finished
+    }
+
     /// Counts a call. Whether it fails.
     fn fails(&mut self) -> bool
         ensures given { self.new.given ≡ self.old.given }
@@ -74,18 +81,28 @@ impl MemoryLine {
         fails
     }
 
+    /// The piece for this read, if there is one.
+    fn next_piece(&mut self) -> Option<&'static [u8]>
+        ensures given { self.new.given ≡ self.old.given }
+        ensures taken { self.new.taken ≡ self.old.taken }
+    {
+        let piece = *self.manners.gives.get(self.reads)?;
+        self.reads = self.reads.saturating_add(1);
+        Some(piece)
+    }
+
     /// Gives the front of a piece, as far as the buffer has room.
     fn give(&mut self, piece: &[u8], buffer: &mut [u8]) -> Received
         ensures given { HasGiven result buffer.new self.old.given.items self.new.given.items }
         ensures taken { self.new.taken ≡ self.old.taken }
     {
         let count = piece.len().min(buffer.len());
-        let front = &piece[..count];
-        match self.given.extend_from_slice(front) {
-            Ok(()) => {
-                buffer[..count].copy_from_slice(front);
-                Received::Bytes(count)
-            }
+        if count == 0 {
+            return Received::Nothing;
+        }
+        buffer[..count].copy_from_slice(&piece[..count]);
+        match self.given.extend_from_slice(&buffer[..count]) {
+            Ok(()) => Received::Bytes(count),
             Err(_) => Received::Fault,
         }
     }
@@ -100,13 +117,15 @@ impl Line for MemoryLine {
         if self.fails() {
             return Received::Fault;
         }
-        match self.manners.gives.get(self.reads) {
-            Some(piece) => {
-                self.reads = self.reads.saturating_add(1);
-                self.give(piece, buffer)
+        match self.next_piece() {
+            Some(piece) => self.give(piece, buffer),
+            None => {
+                if self.manners.closes {
+                    Received::Closed
+                } else {
+                    Received::Nothing
+                }
             }
-            None if self.manners.closes => Received::Closed,
-            None => Received::Nothing,
         }
     }
 

@@ -1,2 +1,3 @@
 mod Standing
 mod Deeds
+mod Comings

@@ -1,7 +1,9 @@
 -- Connections, as their worker sees them.
-use Rattle.std.specs.Prelude.{ℕ, Bool, true, false, not, List, []}
+use Rattle.std.specs.Prelude.{◌≡◌, ℕ, Bool, true, false, not, List, []}
 use Rattle.radio_addr.specs.declared.peer.Peer.{Peer}
-use Rattle.radio_session.specs.Conversation.{Conversation, fresh}
+use Rattle.radio_core.specs.declared.reply.Reply.{Reply}
+use Rattle.radio_session.specs.Conversation.{Conversation, fresh, asking}
+use Rattle.radio_session.specs.Saying.{said}
 use Rattle.radio_hall.specs.declared.conn.Fate.{Fate}
 use Rattle.radio_hall.specs.declared.conn.Fate.TheVariants.{Open, Ended, Closed, Cut}
 use Rattle.radio_hall.specs.declared.conn.Status.{Status}
@@ -36,3 +38,11 @@ stays_with fate has_left = true
 
 abbrev pub stays : Connection → Bool
 stays c = stays_with c.status.fate c.status.has_left
+
+-- one was not let in, and is owed what he is told; his line gave and took this
+pub record IsTurnedAway (denial : Reply) (given taken : List ℕ) (ms : ℕ) (c : Connection) : Type 0 where
+  pub id : c.id ≡ 0
+  pub given_so_far : c.given ≡ given
+  pub taken_so_far : c.taken ≡ taken
+  pub owed : c.owed ≡ (said asking denial).bytes
+  pub status : c.status ≡ status_at Ended true ms

@@ -4,3 +4,4 @@ pub mod Connections
 pub mod Course
 pub mod Turns
 pub mod Answering
+pub mod Admission

@@ -1,8 +1,6 @@
 //! A connection, as its worker has it.
 
-ghost use Rattle.std.specs.Prelude.{◌≡◌, true, IfOk};
-ghost use Rattle.radio_session.specs.Conversation.{asking};
-ghost use Rattle.radio_session.specs.Saying.{said};
+ghost use Rattle.std.specs.Prelude.{◌≡◌, IfOk};
 
 use crate::owed::Owed;
 use crate::{Line, OutOfMemory};
@@ -104,10 +102,11 @@ impl<L: Line> Model for Conn<L> {
 }
 
 impl<L: Line> Conn<L> {
-    ghost use Rattle.radio_hall.specs.Connections.{newly_come, status_at, stays};
+    ghost use Rattle.radio_hall.specs.Connections.{newly_come, stays, IsTurnedAway};
+    ghost use Rattle.radio_hall.specs.Admission.{IsTakenIn};
 
     /// The connection of a client who was let in under this number.
-    pub(crate) fn new(alloc: Global, id: u64, peer: Peer, line: L, ms: u64) -> Conn<L>
+    fn new(alloc: Global, id: u64, peer: Peer, line: L, ms: u64) -> Conn<L>
         ensures { result ≡ newly_come id peer (L.given line) (L.taken line) ms }
     {
         Conn {
@@ -119,17 +118,16 @@ impl<L: Line> Conn<L> {
         }
     }
 
-    /// The connection of one who was not let in: it is owed his denial. `OutOfMemory` where memory
-    /// was refused; the line is closed then.
-    pub(crate) fn turned_away(
+    /// The connection of one who was not let in: it is owed what he is told. `OutOfMemory` where
+    /// memory was refused; the line is closed then.
+    fn turned_away(
         alloc: Global,
         peer: Peer,
         line: L,
         denial: Reply,
         ms: u64,
     ) -> Result<Conn<L>, OutOfMemory>
-        ensures { IfOk result (λ conn. (conn.id ≡ 0) × (conn.given ≡ L.given line) × (conn.taken ≡ L.taken line) × (conn.status ≡ status_at Fate.Ended true ms)
-            × (conn.owed ≡ (said asking denial).bytes)) }
+        ensures { IfOk result (λ c. IsTurnedAway denial (L.given line) (L.taken line) ms c) }
     {
         let mut session = Session::new(alloc, 0, peer);
         let mut owed = Owed::new(alloc);
@@ -141,6 +139,23 @@ impl<L: Line> Conn<L> {
             owed,
             status: Status::new(Fate::Ended, true, ms),
         })
+    }
+
+    /// The connection of one who comes, and to whom the server replies so. `OutOfMemory` where
+    /// memory was refused; the line is closed then.
+    pub(crate) fn admitted(
+        alloc: Global,
+        peer: Peer,
+        line: L,
+        reply: Reply,
+        ms: u64,
+    ) -> Result<Conn<L>, OutOfMemory>
+        ensures { IfOk result (λ c. IsTakenIn peer reply (L.given line) (L.taken line) c) }
+    {
+        match reply {
+            Reply::Arrived(id) => Ok(Conn::new(alloc, id, peer, line, ms)),
+            denial => Conn::turned_away(alloc, peer, line, denial, ms),
+        }
     }
 
     /// Whether it is still to be served.

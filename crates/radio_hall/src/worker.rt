@@ -1,16 +1,15 @@
 //! A worker, who serves connections.
 
-ghost use Rattle.std.specs.Prelude.{◌≡◌, ◌*◌};
+ghost use Rattle.std.specs.Prelude.{◌≡◌, ◌*◌, OnOk, OnErr};
 ghost use Rattle.radio_hall.specs.Turns.{Ticks, IsTurn};
+ghost use Rattle.radio_hall.specs.Admission.{IsAdmission};
 
-use crate::owed::Owed;
 use crate::serving::leaving::apply_quietly;
 use crate::serving::round::serve_each;
 use crate::serving::{Now, SECOND_MS};
-use crate::{Conn, Fate, Gate, Line, OutOfMemory, Server, Status};
+use crate::{Conn, Gate, Line, OutOfMemory, Server};
 use radio_addr::Peer;
-use radio_core::{Event, Reply};
-use radio_session::Session;
+use radio_core::Event;
 use std::alloc::Global;
 
 /// A worker: whom he asks, and when he last told him the time.
@@ -63,15 +62,15 @@ impl<S: Server + Drop> Worker<S> {
         line: L,
         peer: Peer,
         ms: u64,
-    ) -> Result<(), OutOfMemory> {
+    ) -> Result<(), OutOfMemory>
+        ensures ok { OnOk result (IsAdmission S.steps peer (L.given line) (L.taken line) self.old.server conns.old.items self.new.server conns.new.items) }
+        ensures err { OnErr result (conns.new.items ≡ conns.old.items) }
+        ensures ticked { self.new.ticked_ms ≡ self.old.ticked_ms }
+    {
         conns.reserve(1)?;
-        match self.server.apply(Event::Arrive { peer })? {
-            Reply::Arrived(id) => conns.push_reserved(Conn::new(self.alloc, id, peer, line, ms)),
-            reply => {
-                let conn = Conn::turned_away(self.alloc, peer, line, reply, ms)?;
-                conns.push_reserved(conn);
-            }
-        }
+        let reply = self.server.apply(Event::Arrive { peer })?;
+        let conn = Conn::admitted(self.alloc, peer, line, reply, ms)?;
+        conns.push_reserved(conn);
         Ok(())
     }
 
