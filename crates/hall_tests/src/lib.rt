@@ -8,8 +8,12 @@
 #![tactic(auto)]
 
 #[cfg(test)]
+mod faults;
+#[cfg(test)]
 mod memory_line;
 #[cfg(test)]
 mod rows;
+#[cfg(test)]
+mod slow;
 #[cfg(test)]
 mod stations;

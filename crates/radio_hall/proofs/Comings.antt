@@ -1,5 +1,5 @@
 -- Connections that have just come.
-use Rattle.std.proofs.Common.{◌≡◌, ℕ, List, [], ◌++◌, refl, sym, subst, ◌∙◌, ap}
+use Rattle.std.proofs.Common.{◌≡◌, ℕ, List, [], ◌++◌, refl, sym, ◌∙◌, ap}
 use Rattle.radio_addr.specs.declared.peer.Peer.{Peer}
 use Rattle.radio_policy.specs.declared.rule.Rule.{Rule}
 use Rattle.radio_core.specs.declared.reply.Reply.{Reply}
@@ -7,8 +7,7 @@ use Rattle.radio_core.specs.declared.reply.Reply.TheVariants.{Arrived, Feeding, 
 use Rattle.radio_hall.specs.declared.conn.Status.{Status}
 use Rattle.radio_hall.specs.declared.conn.Fate.TheVariants.{Open, Ended}
 use Rattle.radio_hall.specs.Connections.{Connection, newly_come, IsTurnedAway}
-use Rattle.radio_hall.specs.Course.{Course, Standing, newcomer, stranger, arrives, turned_away}
-use Rattle.radio_hall.specs.Turns.{StandsBefore}
+use Rattle.radio_hall.specs.Course.{newcomer, stranger, arrives, turned_away}
 use Rattle.radio_hall.specs.Admission.{IsTakenIn}
 use Rattle.radio_hall.proofs.Standing.{stands_so}
 

@@ -12,7 +12,7 @@ use Rattle.radio_session.specs.declared.state.State.{State}
 use Rattle.radio_session.specs.declared.state.State.TheVariants.{Running, Shut}
 use Rattle.radio_session.specs.Conversation.{Conversation, fresh, asking, saying_now}
 use Rattle.radio_session.specs.Hearing.{Heard, IsHeard}
-use Rattle.radio_session.specs.Saying.{Said, said}
+use Rattle.radio_session.specs.Saying.{said}
 use Rattle.radio_session.specs.Exchanges.{is_leave}
 use Rattle.radio_hall.specs.declared.conn.Fate.{Fate}
 use Rattle.radio_hall.specs.declared.conn.Fate.TheVariants.{Open, Ended, Closed, Cut}

@@ -1,7 +1,7 @@
-use Rattle.std.proofs.Common.{◌≡◌, List, ℕ, Result, Ok, Err, IfOk, sym, subst}
+use Rattle.std.proofs.Common.{Result, Ok, Err, IfOk, sym, subst}
 use Rattle.radio_core.specs.declared.reply.Reply.{Reply}
 use Rattle.radio_core.specs.declared.reply.Reply.TheVariants.{Arrived}
-use Rattle.radio_hall.specs.Connections.{Connection, newly_come, IsTurnedAway}
+use Rattle.radio_hall.specs.Connections.{Connection, IsTurnedAway}
 use Rattle.radio_hall.specs.Admission.{IsTakenIn}
 use Rattle.radio_hall.proofs.Comings.{comes_in, is_told_away}
 use Rattle.radio_hall.proofs.conn.Conn.admitted.Goals as goal

@@ -6,7 +6,7 @@ use Rattle.radio_book.specs.declared.entry.Entry.{Entry}
 use Rattle.radio_hall.specs.declared.conn.Fate.{Fate}
 use Rattle.radio_hall.specs.declared.conn.Fate.TheVariants.{Open}
 use Rattle.radio_hall.specs.Connections.{Connection, is_open}
-use Rattle.radio_hall.specs.Turns.{StandsBefore, Chain}
+use Rattle.radio_hall.specs.Turns.{StandsBefore}
 use Rattle.radio_hall.specs.Answering.{IsAnswered, later_by}
 use Rattle.radio_hall.proofs.Deeds.{chain_then, open_from, later_by_over}
 use Rattle.radio_hall.proofs.serving.answering.answer_all.Goals as goal

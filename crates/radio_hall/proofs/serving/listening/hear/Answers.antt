@@ -1,4 +1,4 @@
-use Rattle.std.proofs.Common.{◌≡◌, [], refl, sym, ◌∙◌, ap}
+use Rattle.std.proofs.Common.{◌≡◌, [], refl, ◌∙◌, ap}
 use Rattle.radio_hall.specs.declared.conn.Fate.TheVariants.{Open}
 use Rattle.radio_hall.specs.Connections.{Connection}
 use Rattle.radio_session.specs.Hearing.{Heard}

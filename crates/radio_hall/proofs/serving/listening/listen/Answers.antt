@@ -1,8 +1,6 @@
-use Rattle.std.proofs.Common.{◌≡◌, [], List, ℕ, ◌++◌, take, refl, sym, ◌∙◌, ap, subst}
-use Rattle.radio_hall.specs.declared.conn.Fate.{Fate}
+use Rattle.std.proofs.Common.{◌≡◌, [], refl, ◌∙◌, ap}
 use Rattle.radio_hall.specs.declared.conn.Fate.TheVariants.{Open}
 use Rattle.radio_hall.specs.Connections.{Connection}
-use Rattle.radio_hall.specs.Turns.{IsWritten}
 use Rattle.radio_hall.proofs.Deeds.{served_as, served_by_hearing, served_by_note, served_by_close, open_is_written, serves_as, serves_alone}
 use Rattle.radio_hall.proofs.serving.listening.listen.Goals as goal
 
