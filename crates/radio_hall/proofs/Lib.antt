@@ -1,1 +1,4 @@
 pub mod Settled
+mod Standing
+mod Deeds
+mod Comings

@@ -1,12 +1,28 @@
-//! A book that several threads call, under one lock.
+//! A book that several threads call, under one lock, and the connections that are served over it.
 //!
 //! - [`Hall`]: the lock round a book; [`Hall::apply`] is one event, in the lock's order.
 //! - [`settle`]: all passes held against the hall's book, once the threads have been joined.
+//! - [`Server`], [`Caller`]: whom a worker asks: a hall, with the worker's pass.
+//! - [`Line`], [`Gate`]: where a connection's bytes come from and go to, and who is told of writes.
+//! - [`Conn`]: a connection. [`Worker::admit`] takes one in, and [`Worker::serve_turn`] serves all.
 //!
 //! Whenever the lock is free, its book has what [`Book::is_told`](radio_book::Book::is_told) says:
 //! there is one history, a run from the opening state, and the core stands for the state after it.
 #![tactic(auto)]
 
+mod conn;
 mod hall;
+mod line;
+mod owed;
+mod server;
+mod serving;
+mod worker;
 
+pub use conn::{Conn, Fate, Status};
 pub use hall::{Hall, settle};
+pub use line::{Gate, Line, OpenGate, Received, Sent};
+pub use server::{Caller, Server};
+pub use worker::Worker;
+
+/// What a call answers where memory was refused.
+pub type OutOfMemory = std::alloc::AllocError;

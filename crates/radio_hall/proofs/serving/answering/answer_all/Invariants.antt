@@ -1,0 +1,16 @@
+use Rattle.std.proofs.Common.{◌≡◌, List, ◌++◌}
+use Rattle.std.specs.Vec.Iter.{into_iter_items}
+use Rattle.radio_book.specs.declared.entry.Entry.{Entry}
+use Rattle.radio_hall.specs.declared.conn.Fate.TheVariants.{Open}
+use Rattle.radio_hall.specs.Turns.{Chain, StandsBefore}
+use Rattle.radio_hall.proofs.serving.answering.answer_all.Given as goal
+
+-- of the events, those that are left are still to be applied
+abbrev pub invariant-loop-event : goal.invariant-loop-event
+invariant-loop-event g l = record {
+  entries : List Entry;
+  chain : Chain g.S.Server.steps l.initial.server entries l.server;
+  same : l.conn.id ≡ l.initial.conn.id;
+  goes : l.conn.status.fate ≡ Open;
+  stands : (past : List Entry) → StandsBefore l.fn.events.items l.initial.conn past → StandsBefore (into_iter_items l.event-iterator) l.conn (past ++ entries);
+}

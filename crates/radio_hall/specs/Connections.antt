@@ -1,0 +1,48 @@
+-- Connections, as their worker sees them.
+use Rattle.std.specs.Prelude.{◌≡◌, ℕ, Bool, true, false, not, List, []}
+use Rattle.radio_addr.specs.declared.peer.Peer.{Peer}
+use Rattle.radio_core.specs.declared.reply.Reply.{Reply}
+use Rattle.radio_session.specs.Conversation.{Conversation, fresh, asking}
+use Rattle.radio_session.specs.Saying.{said}
+use Rattle.radio_hall.specs.declared.conn.Fate.{Fate}
+use Rattle.radio_hall.specs.declared.conn.Fate.TheVariants.{Open, Ended, Closed, Cut}
+use Rattle.radio_hall.specs.declared.conn.Status.{Status}
+
+abbrev pub is_open : Fate → Bool
+is_open Open = true
+is_open fate = false
+
+-- the number of its client, all that its line gave and took, what is owed to the line, how its session stands, and what its worker notes of it
+pub record Connection : Type 0 where
+  -- 0 where it is nobody's
+  pub id : ℕ
+  pub given : List ℕ
+  pub taken : List ℕ
+  pub owed : List ℕ
+  pub session : Conversation
+  pub status : Status
+
+-- at this moment it comes, and nothing was asked yet
+abbrev pub status_at : Fate → Bool → ℕ → Status
+status_at fate has_left ms = record { fate = fate; has_left = has_left; sits = false; is_finished = false; asked_ms = ms; moved_ms = ms }
+
+-- a client was let in, whose line gave and took this
+abbrev pub newly_come : ℕ → Peer → List ℕ → List ℕ → ℕ → Connection
+newly_come id peer given taken ms = record { id = id; given = given; taken = taken; owed = []; session = fresh id peer; status = status_at Open false ms }
+
+-- it is still to be served: it is not over, or its client has not left
+abbrev pub stays_with : Fate → Bool → Bool
+stays_with Closed has_left = not has_left
+stays_with Cut has_left = not has_left
+stays_with fate has_left = true
+
+abbrev pub stays : Connection → Bool
+stays c = stays_with c.status.fate c.status.has_left
+
+-- one was not let in, and is owed what he is told; his line gave and took this
+pub record IsTurnedAway (denial : Reply) (given taken : List ℕ) (ms : ℕ) (c : Connection) : Type 0 where
+  pub id : c.id ≡ 0
+  pub given_so_far : c.given ≡ given
+  pub taken_so_far : c.taken ≡ taken
+  pub owed : c.owed ≡ (said asking denial).bytes
+  pub status : c.status ≡ status_at Ended true ms

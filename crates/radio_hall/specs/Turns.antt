@@ -1,0 +1,80 @@
+-- A worker's turn.
+use Rattle.std.specs.Prelude.{◌≡◌, ◌+◌, ◌≤◌, ◌⊎◌, ℕ, Bool, true, false, List, [], ◌∷◌, ◌++◌, filter}
+use Rattle.radio_core.specs.declared.event.Event.{Event}
+use Rattle.radio_core.specs.declared.event.Event.TheVariants.{Clock}
+use Rattle.radio_core.specs.declared.reply.Reply.{Reply}
+use Rattle.radio_book.specs.declared.entry.Entry.{Entry}
+use Rattle.radio_session.specs.Exchanges.{Steps}
+use Rattle.radio_hall.specs.declared.conn.Fate.{Fate}
+use Rattle.radio_hall.specs.declared.conn.Fate.TheVariants.{Open, Closed, Cut}
+use Rattle.radio_hall.specs.Connections.{Connection, stays}
+use Rattle.radio_hall.specs.Course.{Standing, Course}
+
+-- What the line took, followed by what is owed to it, is what was told. Once it is closed, it took all; where it was cut off, the front.
+abbrev pub IsHanded : Fate → List ℕ → List ℕ → List ℕ → Type 0
+IsHanded Cut text taken owed = (lost : List ℕ) × (text ≡ taken ++ lost)
+IsHanded Closed text taken owed = text ≡ taken
+IsHanded fate text taken owed = text ≡ taken ++ owed
+
+-- what is owed is still written
+abbrev pub IsWritten : Fate → Type 0
+IsWritten Cut = ⊥
+IsWritten Closed = ⊥
+IsWritten fate = Unit {0}
+
+-- The connection stands as it must where these entries were made for it, and these events are still to be applied:
+-- there is a course of its client by which its line gave what it gave, and was handed what was told.
+pub record StandsBefore (pending : List Event) (c : Connection) (entries : List Entry) : Type 0 where
+  pub standing : Standing
+  pub course : Course c.id standing
+  pub same_given : standing.given ≡ c.given
+  pub same_entries : standing.entries ≡ entries
+  pub same_pending : standing.pending ≡ pending
+  pub same_sits : standing.sits ≡ c.status.sits
+  pub same_fate : standing.fate ≡ c.status.fate
+  pub same_left : standing.has_left ≡ c.status.has_left
+  pub same_session : c.status.fate ≡ Open → standing.session ≡ c.session
+  pub handed : IsHanded c.status.fate standing.text c.taken c.owed
+
+-- and nothing is still to be applied
+abbrev pub Stands : Connection → List Entry → Type 0
+Stands c entries = StandsBefore [] c entries
+
+-- from one state of the server these events were applied one after another, with these replies, and left the other
+abbrev pub Chain : {S : Type 0} → Steps S → S → List Entry → S → Type 0
+Chain steps from [] to = to ≡ from
+Chain {S} steps from (e ∷ entries) to = (mid : S) × steps from e.event e.reply mid × Chain steps mid entries to
+
+-- These entries were made for the connection: whatever was made for it before, it stands with both.
+pub record IsServed (c : Connection) (entries : List Entry) (c' : Connection) : Type 0 where
+  pub same : c'.id ≡ c.id
+  pub stands : (past : List Entry) → Stands c past → Stands c' (past ++ entries)
+
+module _ {S : Type 0} (steps : Steps S) where
+  -- the server made entries for the connection
+  abbrev pub Serves : S → Connection → S → Connection → Type 0
+  Serves from c to c' = (entries : List Entry) × Chain steps from entries to × IsServed c entries c'
+
+  -- each connection was served, one after another
+  abbrev pub ServesEach : S → List Connection → S → List Connection → Type 0
+  ServesEach from [] to served = (to ≡ from) × (served ≡ [])
+  ServesEach from (c ∷ cs) to served =
+      (mid : S) × (c' : Connection) × (others : List Connection) × Serves from c mid c' × ServesEach mid cs to others × (served ≡ c' ∷ others)
+
+  -- the event was applied, or refused for want of memory
+  abbrev pub HasApplied : Bool → S → Event → S → Type 0
+  HasApplied true from event to = (reply : Reply) × steps from event reply to
+  HasApplied false from event to = to ≡ from
+
+  -- the server was told the time if a second has passed, unless it refused for want of memory
+  abbrev pub Ticks : ℕ → ℕ → S → ℕ → S → Type 0
+  Ticks ms before from after to =
+      ((before + 1000 ≤ ms) × (after ≡ ms) × ((reply : Reply) × steps from (Clock ms) reply to)) ⊎ ((to ≡ from) × (after ≡ before))
+
+  -- A turn at this moment: the server is told the time if it is due, each connection is served, and those that are over are closed.
+  pub record IsTurn (ms ticked : ℕ) (from : S) (conns : List Connection) (ticked' : ℕ) (to : S) (conns' : List Connection) : Type 0 where
+    pub mid : S
+    pub served : List Connection
+    pub ticks : Ticks ms ticked from ticked' mid
+    pub serves : ServesEach mid conns to served
+    pub closes : conns' ≡ filter stays served

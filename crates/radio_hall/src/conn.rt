@@ -1,0 +1,193 @@
+//! A connection, as its worker has it.
+
+ghost use Rattle.std.specs.Prelude.{◌≡◌, IfOk};
+
+use crate::owed::Owed;
+use crate::{Line, OutOfMemory};
+use radio_addr::Peer;
+use radio_core::Reply;
+use radio_session::Session;
+use std::alloc::Global;
+use std::marker::Model;
+
+/// What has become of a connection.
+#[derive(Clone, Copy, Debug, PartialEq, Eq)]
+pub enum Fate {
+    /// It goes on.
+    Open,
+    /// Its conversation has ended: what it is owed still goes out, and what comes is passed over.
+    Ended,
+    /// It is closed, and nothing is owed.
+    Closed,
+    /// It is cut off, and what it is owed is given up: its line has failed, or took nothing for too
+    /// long, or memory was refused.
+    Cut,
+}
+
+impl Fate {
+    ghost use Rattle.radio_hall.specs.Connections.{is_open};
+
+    /// Whether the connection goes on.
+    pub fn is_open(self) -> bool
+        ensures { result ≡ is_open self }
+    {
+        match self {
+            Fate::Open => true,
+            Fate::Ended | Fate::Closed | Fate::Cut => false,
+        }
+    }
+}
+
+/// What its worker notes of a connection. Moments are in milliseconds.
+#[derive(Clone, Copy, Debug, PartialEq, Eq)]
+pub struct Status {
+    /// What has become of it.
+    pub fate: Fate,
+    /// Whether its client has left, or was never let in.
+    pub has_left: bool,
+    /// Whether its client was given a seat.
+    pub sits: bool,
+    /// Whether its peer was told that nothing more is written.
+    pub is_finished: bool,
+    /// When something was last asked of the server for it.
+    pub asked_ms: u64,
+    /// When what is owed to it last moved, or began to be owed.
+    pub moved_ms: u64,
+}
+
+impl Status {
+    ghost use Rattle.radio_hall.specs.Connections.{status_at};
+
+    /// At its arrival.
+    pub(crate) fn new(fate: Fate, has_left: bool, ms: u64) -> Status
+        ensures { result ≡ status_at fate has_left ms }
+    {
+        Status {
+            fate,
+            has_left,
+            sits: false,
+            is_finished: false,
+            asked_ms: ms,
+            moved_ms: ms,
+        }
+    }
+}
+
+/// A connection: a line, the conversation on it, and what is kept of an answer and a draw that the
+/// line has not taken.
+///
+/// In contracts it is a `Connection`.
+#[derive(Drop)]
+pub struct Conn<L: Line> {
+    pub(crate) id: u64,
+    pub(crate) line: L,
+    pub(crate) session: Session,
+    pub(crate) owed: Owed,
+    pub(crate) status: Status,
+}
+
+impl<L: Line> Model for Conn<L> {
+    ghost use Rattle.radio_hall.specs.Connections.{Connection};
+
+    ghost Value = { Connection };
+
+    ghost view = { λ c. record {
+      id = c.id;
+      given = L.given c.line;
+      taken = L.taken c.line;
+      owed = c.owed;
+      session = c.session;
+      status = c.status;
+    } };
+}
+
+impl<L: Line> Conn<L> {
+    ghost use Rattle.radio_hall.specs.Connections.{newly_come, stays, IsTurnedAway};
+    ghost use Rattle.radio_hall.specs.Admission.{IsTakenIn};
+
+    /// The connection of a client who was let in under this number.
+    fn new(alloc: Global, id: u64, peer: Peer, line: L, ms: u64) -> Conn<L>
+        ensures { result ≡ newly_come id peer (L.given line) (L.taken line) ms }
+    {
+        Conn {
+            id,
+            line,
+            session: Session::new(alloc, id, peer),
+            owed: Owed::new(alloc),
+            status: Status::new(Fate::Open, false, ms),
+        }
+    }
+
+    /// The connection of one who was not let in: it is owed what he is told. `OutOfMemory` where
+    /// memory was refused; the line is closed then.
+    fn turned_away(
+        alloc: Global,
+        peer: Peer,
+        line: L,
+        denial: Reply,
+        ms: u64,
+    ) -> Result<Conn<L>, OutOfMemory>
+        ensures { IfOk result (λ c. IsTurnedAway denial (L.given line) (L.taken line) ms c) }
+    {
+        let mut session = Session::new(alloc, 0, peer);
+        let mut owed = Owed::new(alloc);
+        let _state = owed.tell(&mut session, denial)?;
+        Ok(Conn {
+            id: 0,
+            line,
+            session,
+            owed,
+            status: Status::new(Fate::Ended, true, ms),
+        })
+    }
+
+    /// The connection of one who comes, and to whom the server replies so. `OutOfMemory` where
+    /// memory was refused; the line is closed then.
+    pub(crate) fn admitted(
+        alloc: Global,
+        peer: Peer,
+        line: L,
+        reply: Reply,
+        ms: u64,
+    ) -> Result<Conn<L>, OutOfMemory>
+        ensures { IfOk result (λ c. IsTakenIn peer reply (L.given line) (L.taken line) c) }
+    {
+        match reply {
+            Reply::Arrived(id) => Ok(Conn::new(alloc, id, peer, line, ms)),
+            denial => Conn::turned_away(alloc, peer, line, denial, ms),
+        }
+    }
+
+    /// Whether it is still to be served.
+    pub(crate) fn stays(&self) -> bool
+        ensures { result ≡ stays self.now }
+    {
+        let fate = self.status.fate;
+        match fate {
+            Fate::Open | Fate::Ended => true,
+            Fate::Closed | Fate::Cut => !self.status.has_left,
+        }
+    }
+
+    /// The number of its client; 0 where it is nobody's.
+    pub fn id(&self) -> u64
+        ensures { result ≡ self.now.id }
+    {
+        self.id
+    }
+
+    /// How it stands.
+    pub fn status(&self) -> Status
+        ensures { result ≡ self.now.status }
+    {
+        self.status
+    }
+
+    /// Its line.
+    pub fn line(&self) -> &L
+        ensures given { L.given result.now ≡ self.now.given }
+        ensures taken { L.taken result.now ≡ self.now.taken }
+    {
+        &self.line
+    }
+}

@@ -1,0 +1,76 @@
+//! What a connection was told and its line has not taken.
+
+ghost use Rattle.std.specs.Prelude.{◌≡◌, ◌≤◌, ◌++◌, [], drop, length, IfOk, OnErr};
+ghost use Rattle.radio_session.specs.Conversation.{saying_now};
+ghost use Rattle.radio_session.specs.Saying.{said};
+
+use radio_core::Reply;
+use radio_session::{OutOfMemory, Session, State};
+use std::alloc::Global;
+use std::marker::Model;
+
+/// Bytes that are still to be written. In contracts they are the list of these bytes.
+#[derive(Drop)]
+pub(crate) struct Owed {
+    alloc: Global,
+    bytes: Vec<u8>,
+    /// How many of the bytes were written.
+    start: usize,
+}
+
+impl Model for Owed {
+    ghost use Rattle.std.specs.Prelude.{◌≤◌, List, ℕ, drop, vec_len};
+
+    ghost Value = { List ℕ };
+
+    ghost view = { λ o. drop o.start o.bytes.items };
+
+    ghost invariant = { λ o. o.start ≤ vec_len o.bytes };
+}
+
+impl Owed {
+    /// Nothing is owed. It takes no memory.
+    pub(crate) fn new(alloc: Global) -> Owed
+        ensures { result ≡ [] }
+    {
+        Owed {
+            alloc,
+            bytes: Vec::new(alloc),
+            start: 0,
+        }
+    }
+
+    /// The bytes.
+    pub(crate) fn rest(&self) -> &[u8]
+        ensures { result.now ≡ self.now }
+    {
+        &self.bytes.as_slice()[self.start..]
+    }
+
+    /// So many were written. Once all are, their memory is given back.
+    pub(crate) fn take_off(&mut self, count: usize)
+        requires { count ≤ length self.old }
+        ensures { self.new ≡ drop count self.old }
+    {
+        self.start += count;
+        if self.start == self.bytes.len() {
+            self.bytes = Vec::new(self.alloc);
+            self.start = 0;
+        }
+    }
+
+    /// Tells a reply behind what is owed, by [`Session::give`]. `OutOfMemory` where memory was
+    /// refused; nothing was told then.
+    pub(crate) fn tell(
+        &mut self,
+        session: &mut Session,
+        reply: Reply,
+    ) -> Result<State, OutOfMemory>
+        ensures bytes { IfOk result (λ _. self.new ≡ self.old ++ (said session.old.says reply).bytes) }
+        ensures state { IfOk result (λ state. state ≡ (said session.old.says reply).state) }
+        ensures says { IfOk result (λ _. session.new ≡ saying_now session.old (said session.old.says reply).says) }
+        ensures silent { OnErr result (self.new ≡ self.old) }
+    {
+        session.give(reply, &mut self.bytes)
+    }
+}

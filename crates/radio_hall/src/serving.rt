@@ -1,0 +1,28 @@
+//! One connection's part of a worker's turn.
+
+pub(crate) mod answering;
+pub(crate) mod drawing;
+pub(crate) mod flushing;
+pub(crate) mod leaving;
+pub(crate) mod lingering;
+pub(crate) mod listening;
+pub(crate) mod round;
+
+/// The moment of a turn, and how long a line may take nothing of what is owed to it, in
+/// milliseconds.
+#[derive(Clone, Copy, Debug)]
+pub(crate) struct Now {
+    pub(crate) ms: u64,
+    pub(crate) patience_ms: u64,
+}
+
+/// After how long without an event a client without a seat is asked for, and how long what comes
+/// behind an end is passed over, in milliseconds.
+pub(crate) const SECOND_MS: u64 = 1000;
+
+impl Now {
+    /// Whether this much time has passed since a moment.
+    pub(crate) fn is_past(self, since_ms: u64, span_ms: u64) -> bool {
+        self.ms.saturating_sub(since_ms) >= span_ms
+    }
+}

@@ -1,0 +1,100 @@
+//! Events of a connection, applied one after another.
+
+ghost use Rattle.std.specs.Prelude.{◌≡◌, List, ◌&&◌, ◌||◌};
+ghost use Rattle.radio_book.specs.declared.entry.Entry.{Entry as EntryOf};
+ghost use Rattle.radio_session.specs.Exchanges.{is_leave};
+ghost use Rattle.radio_hall.specs.Course.{is_listen, is_seated};
+ghost use Rattle.radio_hall.specs.Turns.{Chain};
+ghost use Rattle.radio_hall.specs.Answering.{IsToldAs, IsAnswered, AreAnswered};
+
+use crate::owed::Owed;
+use crate::{Conn, Fate, Line, Server, Status};
+use radio_core::{Event, Reply};
+use radio_session::{Session, State};
+
+/// Applies an event of the connection, and tells it the reply. The connection has ended where it is
+/// shut by that, and is cut off where memory is refused.
+pub(crate) fn answer<S: Server, L: Line>(server: &mut S, conn: &mut Conn<L>, event: Event)
+    requires { conn.old.status.fate ≡ Fate.Open }
+    ensures { (entries : List EntryOf) × Chain S.steps server.old entries server.new × IsAnswered event conn.old entries conn.new }
+{
+    let leaves = is_leave(&event);
+    let listens = is_listen(&event);
+    match server.apply(event) {
+        Ok(reply) => {
+            let sits = both(listens, is_seated(&reply));
+            note(&mut conn.status, leaves, sits);
+            conn.status.fate = tell(&mut conn.owed, &mut conn.session, reply);
+        }
+        Err(_) => conn.status.fate = Fate::Cut,
+    }
+}
+
+/// Applies the events that were heard on it, one after another, up to its end.
+pub(crate) fn answer_all<S: Server, L: Line>(
+    server: &mut S,
+    conn: &mut Conn<L>,
+    events: Vec<Event>,
+)
+    requires { conn.old.status.fate ≡ Fate.Open }
+    ensures { (entries : List EntryOf) × Chain S.steps server.old entries server.new × AreAnswered events.items conn.old entries conn.new }
+{
+    for event in events {
+        answer(server, conn, event);
+        if !conn.status.fate.is_open() {
+            return;
+        }
+    }
+}
+
+/// Tells a reply behind what is owed; what becomes of the connection by that.
+fn tell(owed: &mut Owed, session: &mut Session, reply: Reply) -> Fate
+    ensures { IsToldAs result reply session.old owed.old session.new owed.new }
+{
+    match owed.tell(session, reply) {
+        Ok(State::Running) => Fate::Open,
+        Ok(State::Shut(_)) => Fate::Ended,
+        Err(_) => Fate::Cut,
+    }
+}
+
+/// Notes that the client has left, and that he was given a seat, if so.
+fn note(status: &mut Status, leaves: bool, sits: bool)
+    ensures { status.new ≡ record status.old { has_left = leaves || status.old.has_left; sits = sits || status.old.sits } }
+{
+    status.has_left = either(leaves, status.has_left);
+    status.sits = either(sits, status.sits);
+}
+
+fn either(a: bool, b: bool) -> bool
+    ensures { result ≡ (a || b) }
+{
+    a || b
+}
+
+fn both(a: bool, b: bool) -> bool
+    ensures { result ≡ (a && b) }
+{
+    a && b
+}
+
+/// Whether the client leaves by this event.
+fn is_leave(event: &Event) -> bool
+    ensures { result ≡ is_leave event.now }
+{
+    matches!(event, Event::Leave { .. })
+}
+
+/// Whether the client asks to hear a mount.
+fn is_listen(event: &Event) -> bool
+    ensures { result ≡ is_listen event.now }
+{
+    matches!(event, Event::Listen(_))
+}
+
+/// Whether a seat was given.
+fn is_seated(reply: &Reply) -> bool
+    ensures { result ≡ is_seated reply.now }
+{
+    matches!(reply, Reply::Seated { .. })
+}

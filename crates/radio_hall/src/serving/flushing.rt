@@ -1,0 +1,45 @@
+//! What a connection is owed, written.
+
+ghost use Rattle.std.specs.Prelude.{◌≡◌, ◌<◌, [], length};
+ghost use Rattle.radio_hall.specs.Turns.{IsServed, IsWritten};
+
+use crate::serving::Now;
+use crate::{Conn, Fate, Gate, Line, Sent};
+
+/// Writes once of what is owed, as far as the line takes it. The connection is cut off where the
+/// line fails, or where it took nothing for too long.
+pub(crate) fn flush<L: Line, G: Gate>(conn: &mut Conn<L>, gate: &G, now: Now)
+    ensures { IsServed conn.old [] conn.new }
+{
+    let fate = conn.status.fate;
+    match fate {
+        Fate::Open | Fate::Ended => {
+            if !conn.owed.rest().is_empty() {
+                write(conn, gate, now);
+            }
+        }
+        Fate::Closed | Fate::Cut => (),
+    }
+}
+
+fn write<L: Line, G: Gate>(conn: &mut Conn<L>, gate: &G, now: Now)
+    requires fate { IsWritten conn.old.status.fate }
+    requires some { 0 < length conn.old.owed }
+    ensures { IsServed conn.old [] conn.new }
+{
+    gate.hold(conn.id);
+    let sent = conn.line.write(conn.owed.rest());
+    gate.let_go(conn.id);
+    match sent {
+        Sent::Took(count) => {
+            conn.owed.take_off(count);
+            conn.status.moved_ms = now.ms;
+        }
+        Sent::Nothing => {
+            if now.is_past(conn.status.moved_ms, now.patience_ms) {
+                conn.status.fate = Fate::Cut;
+            }
+        }
+        Sent::Fault => conn.status.fate = Fate::Cut,
+    }
+}

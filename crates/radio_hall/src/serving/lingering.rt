@@ -1,0 +1,52 @@
+//! A connection that has ended, and has nothing more to write.
+
+ghost use Rattle.std.specs.Prelude.{◌≡◌, []};
+ghost use Rattle.radio_hall.specs.Turns.{IsServed};
+
+use crate::serving::{Now, SECOND_MS};
+use crate::{Conn, Fate, Line, Received};
+
+/// Tells the peer that nothing more is written, and passes over what still comes, so that its last
+/// answer is not lost with it. The connection is closed once the peer has closed, or after a second.
+pub(crate) fn linger<L: Line>(conn: &mut Conn<L>, buffer: &mut [u8], now: Now)
+    requires fate { conn.old.status.fate ≡ Fate.Ended }
+    requires all { conn.old.owed ≡ [] }
+    ensures { IsServed conn.old [] conn.new }
+{
+    finish(conn, now);
+    if is_over(pass_over(conn, buffer), conn.status.moved_ms, now) {
+        conn.status.fate = Fate::Closed;
+    }
+}
+
+/// Tells the peer that nothing more is written, if it was not told.
+fn finish<L: Line>(conn: &mut Conn<L>, now: Now)
+    ensures served { IsServed conn.old [] conn.new }
+    ensures fate { conn.new.status.fate ≡ conn.old.status.fate }
+    ensures owed { conn.new.owed ≡ conn.old.owed }
+{
+    if conn.status.is_finished {
+        return;
+    }
+    conn.line.finish();
+    conn.status.is_finished = true;
+    conn.status.moved_ms = now.ms;
+}
+
+/// Reads once from its line, and passes over what came.
+fn pass_over<L: Line>(conn: &mut Conn<L>, buffer: &mut [u8]) -> Received
+    requires { conn.old.status.fate ≡ Fate.Ended }
+    ensures served { IsServed conn.old [] conn.new }
+    ensures status { conn.new.status ≡ conn.old.status }
+    ensures owed { conn.new.owed ≡ conn.old.owed }
+{
+    conn.line.read(buffer)
+}
+
+/// Whether nothing more will come, or a second has passed.
+fn is_over(received: Received, since_ms: u64, now: Now) -> bool {
+    match received {
+        Received::Bytes(_) | Received::Nothing => now.is_past(since_ms, SECOND_MS),
+        Received::Closed | Received::Fault => true,
+    }
+}

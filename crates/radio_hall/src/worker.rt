@@ -1,0 +1,101 @@
+//! A worker, who serves connections.
+
+ghost use Rattle.std.specs.Prelude.{◌≡◌, ◌*◌, OnOk, OnErr};
+ghost use Rattle.radio_hall.specs.Turns.{Ticks, IsTurn};
+ghost use Rattle.radio_hall.specs.Admission.{IsAdmission};
+
+use crate::serving::leaving::apply_quietly;
+use crate::serving::round::serve_each;
+use crate::serving::{Now, SECOND_MS};
+use crate::{Conn, Gate, Line, OutOfMemory, Server};
+use radio_addr::Peer;
+use radio_core::Event;
+use std::alloc::Global;
+
+/// A worker: whom he asks, and when he last told him the time.
+#[derive(Drop)]
+pub struct Worker<S: Server + Drop> {
+    alloc: Global,
+    server: S,
+    ticked_ms: u64,
+    patience_ms: u64,
+}
+
+impl<S: Server + Drop> Worker<S> {
+    /// A worker who asks this server, and gives up a line that takes nothing of what it is owed for
+    /// so many seconds (the settings' `source-timeout`).
+    pub fn new(alloc: Global, server: S, patience_s: u32) -> Worker<S>
+        ensures server { result.server ≡ server }
+        ensures ticked { result.ticked_ms ≡ 0 }
+        ensures patience { result.patience_ms ≡ patience_s * 1000 }
+    {
+        Worker {
+            alloc,
+            server,
+            ticked_ms: 0,
+            patience_ms: patience_s as u64 * SECOND_MS,
+        }
+    }
+
+    /// Whom he asks.
+    pub fn server(&self) -> &S
+        ensures { result.now ≡ self.now.server }
+    {
+        &self.server
+    }
+
+    /// Whom he asked, when he serves no more.
+    pub fn into_server(self) -> S
+        ensures { result ≡ self.server }
+    {
+        self.server
+    }
+
+    /// A connection comes from this peer. It is added to the others, if the server lets it in; if it
+    /// is denied, to be told so and closed by the next turns.
+    ///
+    /// `OutOfMemory` where memory was refused: the line is closed without a byte, and the other
+    /// connections are as they were.
+    pub fn admit<L: Line>(
+        &mut self,
+        conns: &mut Vec<Conn<L>>,
+        line: L,
+        peer: Peer,
+        ms: u64,
+    ) -> Result<(), OutOfMemory>
+        ensures ok { OnOk result (IsAdmission S.steps peer (L.given line) (L.taken line) self.old.server conns.old.items self.new.server conns.new.items) }
+        ensures err { OnErr result (conns.new.items ≡ conns.old.items) }
+        ensures ticked { self.new.ticked_ms ≡ self.old.ticked_ms }
+    {
+        conns.reserve(1)?;
+        let reply = self.server.apply(Event::Arrive { peer })?;
+        let conn = Conn::admitted(self.alloc, peer, line, reply, ms)?;
+        conns.push_reserved(conn);
+        Ok(())
+    }
+
+    /// Serves each connection once, at this moment in milliseconds, and closes those that are over.
+    /// The server is told the time if a second has passed since it last was.
+    pub fn serve_turn<L: Line, G: Gate>(&mut self, conns: &mut Vec<Conn<L>>, gate: &G, ms: u64)
+        ensures { IsTurn S.steps ms self.old.ticked_ms self.old.server conns.old.items self.new.ticked_ms self.new.server conns.new.items }
+    {
+        self.tick(ms);
+        let now = Now {
+            ms,
+            patience_ms: self.patience_ms,
+        };
+        serve_each(&mut self.server, conns, gate, now);
+        conns.retain(|conn| conn.stays());
+    }
+
+    fn tick(&mut self, ms: u64)
+        ensures { Ticks S.steps ms self.old.ticked_ms self.old.server self.new.ticked_ms self.new.server }
+    {
+        if ms.saturating_sub(self.ticked_ms) < SECOND_MS {
+            return;
+        }
+        if apply_quietly(&mut self.server, Event::Clock { ms }) {
+            self.ticked_ms = ms;
+        }
+    }
+}
