@@ -19,7 +19,7 @@ mod readiness;
 pub use accepts::Accepts;
 pub use fault::ServeFault;
 pub use line::SocketLine;
-pub use listening::Listening;
+pub use listening::{Listening, moment};
 
 /// What a call answers where memory was refused.
 pub type OutOfMemory = std::alloc::AllocError;

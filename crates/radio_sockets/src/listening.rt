@@ -119,8 +119,9 @@ impl Listening {
         worker: &mut Worker<S>,
     ) -> ServeFault {
         let mut conns = Vec::new(self.alloc);
+        let began_ms = moment(clock);
         for _ in waits.forever() {
-            if let Err(fault) = self.turn(clock, worker, &mut conns) {
+            if let Err(fault) = self.turn(clock, began_ms, worker, &mut conns) {
                 return fault;
             }
         }
@@ -128,14 +129,16 @@ impl Listening {
     }
 
     /// One turn: what the system has to tell, the connections that wait, and each connection once.
+    /// Moments are told since the one at which it began.
     pub fn turn<C: Clock, S: Server + Drop>(
         &mut self,
         clock: &C,
+        began_ms: u64,
         worker: &mut Worker<S>,
         conns: &mut Vec<Conn<SocketLine>>,
     ) -> Result<(), ServeFault> {
         self.hear()?;
-        let ms = moment(clock);
+        let ms = moment(clock).saturating_sub(began_ms);
         if self.is_asked {
             self.admit_all(worker, conns, ms)?;
         }
@@ -243,8 +246,8 @@ fn is_out_of_descriptors(error: &io::Error) -> bool {
     }
 }
 
-/// The moment, in milliseconds since some beginning.
-fn moment<C: Clock>(clock: &C) -> u64 {
+/// The clock's moment, in milliseconds; 0 where it tells none.
+pub fn moment<C: Clock>(clock: &C) -> u64 {
     match clock.monotonic() {
         Ok(since) => since.as_millis() as u64,
         Err(_) => 0,
