@@ -6,16 +6,18 @@ use Rattle.radio_settings.specs.declared.fault.SettingsFault.{SettingsFault}
 use Rattle.radio_settings.specs.declared.fault.SettingsFault.TheVariants.{OutOfMemory as NoMemoryForSettings}
 use Rattle.radio_settings.specs.Words.{fault_text}
 use Rattle.radio_script.specs.Words.{play_fault_text}
+use Rattle.radio_sockets.specs.Faults.{fault_line as serve_fault_text}
 use Rattle.radiod.specs.declared.fault.Fault.{Fault}
-use Rattle.radiod.specs.declared.fault.Fault.TheVariants.{Usage, CannotRead, Line, NotText, Settings, Play, OutOfMemory}
+use Rattle.radiod.specs.declared.fault.Fault.TheVariants.{Usage, CannotRead, Line, NotText, Settings, Play, Serve, OutOfMemory}
 
 abbrev pub fault_line : Fault → List ℕ
-fault_line Usage = codes "usage: radiod play SETTINGS"
+fault_line Usage = codes "usage: radiod play SETTINGS | radiod serve SETTINGS"
 fault_line (CannotRead path) = codes "cannot read " ++ string_bytes path
 fault_line (Line path line) = string_bytes path ++ (codes " line " ++ decimal line)
 fault_line NotText = codes "not toml"
 fault_line (Settings fault) = fault_text fault
 fault_line (Play fault) = play_fault_text fault
+fault_line (Serve fault) = serve_fault_text fault
 fault_line OutOfMemory = codes "out of memory"
 
 -- want of memory is no fault of the settings
@@ -31,4 +33,5 @@ exit_status (Line path line) = 3
 exit_status NotText = 3
 exit_status (Settings fault) = settings_status fault
 exit_status (Play fault) = 1
+exit_status (Serve fault) = 1
 exit_status OutOfMemory = 1

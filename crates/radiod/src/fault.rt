@@ -4,6 +4,7 @@ ghost use Rattle.radiod.specs.FaultLines.{exit_status, settings_status};
 
 use radio_floor::PlayFault;
 use radio_settings::SettingsFault;
+use radio_sockets::ServeFault;
 use std::fmt;
 
 /// Why `radiod` ends. Its text is the line on standard error, after `radiod: `.
@@ -21,6 +22,8 @@ pub enum Fault {
     Settings(SettingsFault),
     /// The script was not played to its end.
     Play(PlayFault),
+    /// The server did not begin, or has ended.
+    Serve(ServeFault),
     /// Memory was refused.
     OutOfMemory,
 }
@@ -35,7 +38,7 @@ impl Fault {
             Fault::Usage => 2,
             Fault::CannotRead(_) | Fault::Line { .. } | Fault::NotText => 3,
             Fault::Settings(fault) => settings_status(fault),
-            Fault::Play(_) | Fault::OutOfMemory => 1,
+            Fault::Play(_) | Fault::Serve(_) | Fault::OutOfMemory => 1,
         }
     }
 }
@@ -66,12 +69,13 @@ impl fmt::Display for Fault {
 
     fn fmt<W: fmt::Write>(&self, f: &mut fmt::Formatter<W>) -> fmt::Result {
         match self {
-            Fault::Usage => f.write_str("usage: radiod play SETTINGS"),
+            Fault::Usage => f.write_str("usage: radiod play SETTINGS | radiod serve SETTINGS"),
             Fault::CannotRead(path) => write!(f, "cannot read {path}"),
             Fault::Line { path, line } => write_line(f, path.as_str(), *line),
             Fault::NotText => f.write_str("not toml"),
             Fault::Settings(fault) => write!(f, "{fault}"),
             Fault::Play(fault) => write!(f, "{fault}"),
+            Fault::Serve(fault) => write!(f, "{fault}"),
             Fault::OutOfMemory => f.write_str("out of memory"),
         }
     }

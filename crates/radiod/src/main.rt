@@ -1,25 +1,28 @@
 //! `radiod`: an Internet radio server.
 //!
 //! `radiod play SETTINGS` reads a script on standard input, and writes its transcript on standard
-//! output. A fault is one line on standard error, with status 2 for the words of the call, 3 for the
+//! output. `radiod serve SETTINGS` serves connections over TCP. A fault is one line on standard error, with status 2 for the words of the call, 3 for the
 //! settings and the files that they name, and else 1.
 #![tactic(auto)]
 
 mod fault;
 mod files;
+mod serving;
 mod words;
 
 use crate::fault::Fault;
 use crate::files::{read_lists, read_settings};
-use crate::words::settings_path;
+use crate::serving::serve_station;
+use crate::words::{Call, read_words};
 use radio_access::Lists;
 use radio_floor::{Tally, play};
 use radio_settings::Settings;
 use std::io::BufReader;
 use std::process::ExitCode;
+use std::sync::Wait;
 
 fn main(rt: HostRuntime) -> ExitCode {
-    match play_script(&rt) {
+    match run(&rt, &rt) {
         Ok(()) => ExitCode::SUCCESS,
         Err(fault) => {
             let status = fault.status();
@@ -30,10 +33,23 @@ fn main(rt: HostRuntime) -> ExitCode {
     }
 }
 
-/// Plays the script on standard input, with the settings of the file that the words name.
-fn play_script(rt: &HostRuntime) -> Result<(), Fault> {
-    let path = settings_path(rt)?;
-    let settings = read_settings(rt, path.as_str())?;
+fn run<W: Wait>(rt: &HostRuntime, waits: &W) -> Result<(), Fault> {
+    match read_words(rt)? {
+        Call::Play(path) => play_script(rt, path.as_str()),
+        Call::Serve(path) => serve_file(rt, waits, path.as_str()),
+    }
+}
+
+/// Serves connections, with the settings of this file, until a fault.
+fn serve_file<W: Wait>(rt: &HostRuntime, waits: &W, path: &str) -> Result<(), Fault> {
+    let settings = read_settings(rt, path)?;
+    let lists = read_lists(rt, &settings)?;
+    Err(serve_station(rt, waits, settings, lists))
+}
+
+/// Plays the script on standard input, with the settings of this file.
+fn play_script(rt: &HostRuntime, path: &str) -> Result<(), Fault> {
+    let settings = read_settings(rt, path)?;
     let lists = read_lists(rt, &settings)?;
     play_with_settings(rt, settings, lists)
 }

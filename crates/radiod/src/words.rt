@@ -2,9 +2,18 @@ use crate::fault::Fault;
 use std::env;
 use std::io::ErrorKind;
 
-/// The path of the settings file, from the words `play SETTINGS`. Any other words, and words that
-/// are not UTF-8, are the fault `Usage`; memory that was refused for them is `OutOfMemory`.
-pub fn settings_path(rt: &HostRuntime) -> Result<String, Fault> {
+/// What the program is to do, with the settings of the file of this path.
+#[derive(Debug, Drop)]
+pub enum Call {
+    /// To play a script.
+    Play(String),
+    /// To serve connections.
+    Serve(String),
+}
+
+/// What the words `play SETTINGS` or `serve SETTINGS` ask for. Any other words, and words that are
+/// not UTF-8, are the fault `Usage`; memory that was refused for them is `OutOfMemory`.
+pub fn read_words(rt: &HostRuntime) -> Result<Call, Fault> {
     let mut words = match env::args(rt) {
         Ok(words) => words,
         Err(error) if error.kind() == ErrorKind::OutOfMemory => return Err(Fault::OutOfMemory),
@@ -18,9 +27,9 @@ pub fn settings_path(rt: &HostRuntime) -> Result<String, Fault> {
     ) else {
         return Err(Fault::Usage);
     };
-    if verb.as_str() == "play" {
-        Ok(path)
-    } else {
-        Err(Fault::Usage)
+    match verb.as_str() {
+        "play" => Ok(Call::Play(path)),
+        "serve" => Ok(Call::Serve(path)),
+        _ => Err(Fault::Usage),
     }
 }

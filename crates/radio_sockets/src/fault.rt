@@ -1,0 +1,29 @@
+//! Why a server ends.
+
+use std::fmt;
+
+/// Why a server does not begin, or ends. Its text is the line on standard error, after `radiod: `.
+#[derive(Clone, Copy, Debug, PartialEq, Eq)]
+pub enum ServeFault {
+    /// The address and the port cannot be bound.
+    CannotBind,
+    /// A hundred connections in a row could not be accepted, or the system no longer tells what is ready.
+    Accept,
+    /// Memory was refused before the server began.
+    OutOfMemory,
+}
+
+impl fmt::Display for ServeFault {
+    ghost use Rattle.std.specs.Prelude.{Some};
+    ghost use Rattle.radio_sockets.specs.Faults.{fault_line};
+
+    ghost output = { λ fault. Some (fault_line fault) };
+
+    fn fmt<W: fmt::Write>(&self, f: &mut fmt::Formatter<W>) -> fmt::Result {
+        f.write_str(match self {
+            ServeFault::CannotBind => "cannot bind",
+            ServeFault::Accept => "accept fault",
+            ServeFault::OutOfMemory => "out of memory",
+        })
+    }
+}

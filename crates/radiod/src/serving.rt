@@ -1,0 +1,74 @@
+//! A station on the air.
+
+ghost use Rattle.std.specs.Prelude.{◌≡◌, ◌^◌};
+ghost use Rattle.radio_core.specs.World.{opening};
+
+use crate::fault::Fault;
+use radio_access::Lists;
+use radio_book::{House, PASSES, Unkept};
+use radio_hall::{Caller, Hall, Worker};
+use radio_settings::Settings;
+use radio_sockets::{Listening, ServeFault};
+use std::marker::Brand;
+use std::sync::Wait;
+use std::sync::ledger::Blank;
+
+/// Binds the address and the port of the settings, says so on standard output, and serves
+/// connections until a fault.
+pub fn serve_station<W: Wait>(
+    rt: &HostRuntime,
+    waits: &W,
+    settings: Settings,
+    lists: Lists,
+) -> Fault {
+    match bind(rt, &settings) {
+        Ok(listening) => Fault::Serve(serve_in::<W, Brand>(
+            rt,
+            waits,
+            settings,
+            lists,
+            listening,
+            Blank::new(PASSES),
+        )),
+        Err(fault) => fault,
+    }
+}
+
+/// The bound socket, of which standard output was told.
+fn bind(rt: &HostRuntime, settings: &Settings) -> Result<Listening, Fault> {
+    let listen = &settings.listen;
+    let port = listen.port.get() as u16;
+    match Listening::bind(rt, rt.alloc(), listen.address.as_str(), port) {
+        Ok(listening) => {
+            if let Ok(address) = listening.address() {
+                // Where standard output takes nothing, the station is on the air all the same.
+                let _ = println!(rt; "listening on {address}");
+            }
+            Ok(listening)
+        }
+        Err(fault) => Err(Fault::Serve(fault)),
+    }
+}
+
+/// Serves connections in a house of these settings and lists.
+fn serve_in<W: Wait, H: House>(
+    rt: &HostRuntime,
+    waits: &W,
+    settings: Settings,
+    lists: Lists,
+    listening: Listening,
+    blank: Blank,
+) -> ServeFault
+    requires opening { H.opening ≡ opening settings lists }
+    requires ledger { (blank.name ≡ H.name) × (blank.parts ≡ H.parts) × (blank.parts ≡ 2 ^ 32) }
+{
+    let patience = settings.limits.source_timeout.get();
+    let hall: Hall<Unkept, H> = Hall::new(rt.alloc(), settings, lists, blank);
+    match hall.pass(waits) {
+        Some(pass) => {
+            let mut worker = Worker::new(rt.alloc(), Caller::new(waits, &hall, pass), patience);
+            listening.serve(rt, waits, &mut worker)
+        }
+        None => ServeFault::OutOfMemory,
+    }
+}
