@@ -24,7 +24,13 @@ fn beside_a_failing_one(alloc: Global, fails_at: u64) -> Result<bool, SettingsFa
     let mut conns = Vec::new(alloc);
     come(alloc, &mut worker, &mut conns, giving(EIGHT_BYTES), 0)?;
     turns(&mut worker, &mut conns, 1, 1, 2);
-    come(alloc, &mut worker, &mut conns, failing(LISTENER, fails_at), 2)?;
+    come(
+        alloc,
+        &mut worker,
+        &mut conns,
+        failing(LISTENER, fails_at),
+        2,
+    )?;
     come(alloc, &mut worker, &mut conns, giving(LISTENER), 2)?;
     turns(&mut worker, &mut conns, 3, 1, 1);
     let front = took_front(&conns, 1, HEARD);
@@ -36,7 +42,10 @@ fn beside_a_failing_one(alloc: Global, fails_at: u64) -> Result<bool, SettingsFa
 #[test]
 fn a_listeners_fault_is_his_alone(rt: HostRuntime) -> Result<(), Fail> {
     for fails_at in 0..CALLS {
-        assert!(rt; beside_a_failing_one(rt.alloc(), fails_at)?, "call {fails_at}");
+        assert!(rt;
+            beside_a_failing_one(rt.alloc(), fails_at)?,
+            "call {fails_at}"
+        );
     }
     Ok(())
 }
@@ -46,8 +55,20 @@ fn a_listeners_fault_is_his_alone(rt: HostRuntime) -> Result<(), Fail> {
 fn behind_a_failing_source(alloc: Global, fails_at: u64) -> Result<bool, SettingsFault> {
     let mut worker = worker(alloc, "")?;
     let mut conns = Vec::new(alloc);
-    come(alloc, &mut worker, &mut conns, failing(EIGHT_BYTES, fails_at), 0)?;
-    come(alloc, &mut worker, &mut conns, giving(&[b"", b"", b"", LISTEN_HEAD]), 0)?;
+    come(
+        alloc,
+        &mut worker,
+        &mut conns,
+        failing(EIGHT_BYTES, fails_at),
+        0,
+    )?;
+    come(
+        alloc,
+        &mut worker,
+        &mut conns,
+        giving(&[b"", b"", b"", LISTEN_HEAD]),
+        0,
+    )?;
     turns(&mut worker, &mut conns, 1, 1, CALLS);
     let gone = !has(&conns, 1);
     turns(&mut worker, &mut conns, 2000, 1000, 3);
@@ -57,7 +78,10 @@ fn behind_a_failing_source(alloc: Global, fails_at: u64) -> Result<bool, Setting
 #[test]
 fn without_its_source_a_listener_ends(rt: HostRuntime) -> Result<(), Fail> {
     for fails_at in 0..CALLS {
-        assert!(rt; behind_a_failing_source(rt.alloc(), fails_at)?, "call {fails_at}");
+        assert!(rt;
+            behind_a_failing_source(rt.alloc(), fails_at)?,
+            "call {fails_at}"
+        );
     }
     Ok(())
 }
@@ -87,7 +111,7 @@ fn a_peer_who_closes_is_left(rt: HostRuntime) -> Result<(), Fail> {
 
 /// What one is told beside whom there are clients enough.
 const FULL_HOUSE: &[u8] =
-    b"HTTP/1.0 503 Service Unavailable\r\nContent-Type: text/plain\r\nContent-Length: 17\r\nConnection: close\r\n\r\ntoo-many-clients\n";
+    b"HTTP/1.0 403 Forbidden\r\nContent-Type: text/plain; charset=utf-8\r\nContent-Length: 25\r\nConnection: close\r\n\r\ndenied: too-many-clients\n";
 
 /// A house with one client, and another who comes: whether he is told so and closed, and the first
 /// stays.
@@ -119,7 +143,8 @@ fn denied(alloc: Global) -> Result<bool, SettingsFault> {
     come(alloc, &mut worker, &mut conns, giving(NO_MOUNT), 0)?;
     turns(&mut worker, &mut conns, 1, 1, 2);
     let told = match conns.as_slice().first() {
-        Some(conn) => conn.line().is_finished() && conn.line().taken().ends_with(b"no-mount\n".as_slice()),
+        Some(conn) => conn.line().is_finished()
+            && conn.line().taken().ends_with(b"no-mount\n".as_slice()),
         None => false,
     };
     turns(&mut worker, &mut conns, 1100, 1, 1);

@@ -38,7 +38,16 @@ pub fn hears(
 #[test]
 fn eight_bytes(rt: HostRuntime) -> Result<(), Fail> {
     let alloc = rt.alloc();
-    assert!(rt; hears(alloc, giving(EIGHT_BYTES), giving(LISTENER), 1, SOURCE_ANSWER, HEARD)?);
+    assert!(rt;
+        hears(
+            alloc,
+            giving(EIGHT_BYTES),
+            giving(LISTENER),
+            1,
+            SOURCE_ANSWER,
+            HEARD
+        )?
+    );
     Ok(())
 }
 
@@ -48,18 +57,28 @@ const SLOWLY: &[&[u8]] = &[b"G", b"ET /a HTTP", b"", b"/1.0\r\n\r", b"\n"];
 #[test]
 fn a_head_in_pieces(rt: HostRuntime) -> Result<(), Fail> {
     let alloc = rt.alloc();
-    assert!(rt; hears(alloc, giving(EIGHT_BYTES), giving(SLOWLY), 5, SOURCE_ANSWER, HEARD)?);
+    assert!(rt;
+        hears(
+            alloc,
+            giving(EIGHT_BYTES),
+            giving(SLOWLY),
+            5,
+            SOURCE_ANSWER,
+            HEARD
+        )?
+    );
     Ok(())
 }
 
 /// A listener who asks for metadata.
-const TITLED: &[&[u8]] = &[b"GET /a HTTP/1.0\r\nIcy-MetaData: 1\r\n\r\n"];
+pub const TITLED: &[&[u8]] = &[b"GET /a HTTP/1.0\r\nIcy-MetaData: 1\r\n\r\n"];
 
 /// Settings with an interval of four bytes.
-const INTERVAL: &str = "[[mount]]\nmount-name = \"/a\"\nmp3-metadata-interval = 4\n";
+pub const INTERVAL: &str = "[[mount]]\nmount-name = \"/a\"\nmp3-metadata-interval = 4\n";
 
 /// Metadata blocks between his bytes; no title was set.
-const WOVEN: &[u8] = b"HTTP/1.0 200 OK\r\nContent-Type: audio/mpeg\r\nicy-metaint: 4\r\nConnection: close\r\n\r\nabcd\0efgh\0";
+const WOVEN: &[u8] =
+    b"HTTP/1.0 200 OK\r\nContent-Type: audio/mpeg\r\nicy-metaint: 4\r\nConnection: close\r\n\r\nabcd\0efgh\0";
 
 fn hears_woven(alloc: Global) -> Result<bool, SettingsFault> {
     let mut worker = worker(alloc, INTERVAL)?;

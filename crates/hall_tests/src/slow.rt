@@ -20,7 +20,16 @@ fn slow_listener(takes: usize, writes: u64) -> Manners {
 #[test]
 fn a_byte_a_turn(rt: HostRuntime) -> Result<(), Fail> {
     let alloc = rt.alloc();
-    assert!(rt; hears(alloc, giving(EIGHT_BYTES), slow_listener(1, u64::MAX), 80, SOURCE_ANSWER, HEARD)?);
+    assert!(rt;
+        hears(
+            alloc,
+            giving(EIGHT_BYTES),
+            slow_listener(1, u64::MAX),
+            80,
+            SOURCE_ANSWER,
+            HEARD
+        )?
+    );
     Ok(())
 }
 

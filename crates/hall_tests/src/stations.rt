@@ -1,7 +1,5 @@
 //! A worker over a core, and connections over lines in memory.
 
-ghost use Rattle.std.specs.Prelude.{◌≡◌};
-
 use crate::memory_line::{Manners, MemoryLine};
 use radio_access::Lists;
 use radio_addr::Peer;
@@ -39,9 +37,9 @@ pub struct Refusing {
 }
 
 impl Server for Refusing {
-    ghost use Rattle.std.specs.Prelude.{Unit};
-
     ghost steps = { λ from event reply to. Unit {0} };
+
+    ghost refuses = { λ from event. Unit {0} };
 
     fn apply(&mut self, event: Event) -> Result<Reply, OutOfMemory> {
         let refuses = self.calls == self.refuses_at;
@@ -53,9 +51,16 @@ impl Server for Refusing {
     }
 }
 
+/// The passwords, and these settings more.
+pub fn settings(alloc: Global, more: &str) -> Result<Settings, SettingsFault> {
+    let text = format!(in alloc;
+        "source-password = \"hackme\"\nadmin-password = \"letmein\"\n{more}"
+    )?;
+    Settings::read(alloc, text.as_str())
+}
+
 fn core(alloc: Global, more: &str) -> Result<Core, SettingsFault> {
-    let text = format!(in alloc; "source-password = \"hackme\"\nadmin-password = \"letmein\"\n{more}")?;
-    let settings = Settings::read(alloc, text.as_str())?;
+    let settings = settings(alloc, more)?;
     Ok(Core::new(alloc, settings, Lists::new(alloc)))
 }
 

@@ -1,5 +1,6 @@
 -- Entries made for a connection, one after another.
 use Rattle.std.proofs.Common.{◌≡◌, ℕ, true, false, List, take, drop, ap, [], ◌∷◌, ◌++◌, refl, sym, subst, ◌∙◌, append_assoc, append-nil}
+use Rattle.std.proofs.lemmas.Bool.{false≢true}
 use Rattle.std.proofs.lemmas.List.{take-append-drop}
 use Rattle.radio_core.specs.declared.event.Event.{Event}
 use Rattle.radio_core.specs.declared.event.Event.TheVariants.{Draw, Leave}
@@ -15,8 +16,9 @@ use Rattle.radio_hall.specs.Connections.{Connection, is_open}
 use Rattle.radio_hall.specs.declared.conn.Fate.{Fate}
 use Rattle.radio_hall.specs.declared.conn.Fate.TheVariants.{Open, Ended, Closed, Cut}
 use Rattle.radio_hall.specs.Course.{IsOver}
-use Rattle.radio_hall.specs.Turns.{IsWritten, StandsBefore, Stands, Chain, IsServed, Serves}
+use Rattle.radio_hall.specs.Turns.{IsWritten, StandsBefore, Stands, Chain, IsServed, Serves, EndsWithDraw, ServesInTurn}
 use Rattle.radio_hall.specs.Answering.{later_by, IsAnswered, AreAnswered, IsHeardOn}
+use Rattle.radio_hall.specs.Leaving.{IsFlushed, Leaves, Draws}
 use Rattle.radio_hall.proofs.Standing.{IsOne, still, cut_off, closed_out, heard_on, passed_over, taken_on, room_on, left_on}
 
 -- what its line gave and took, what is owed, and how its session stands
@@ -26,6 +28,12 @@ pub record IsSame (c c' : Connection) : Type 0 where
   pub taken : c'.taken ≡ c.taken
   pub owed : c'.owed ≡ c.owed
   pub session : c'.session ≡ c.session
+
+pub not_cut : Cut ≡ Open → ⊥
+not_cut e = cc
+
+pub not_closed : Closed ≡ Open → ⊥
+not_closed e = cc
 
 pub open_from : (f : Fate) → is_open f ≡ true → f ≡ Open
 open_from Open e = refl
@@ -44,6 +52,9 @@ open_is_written f e = subst IsWritten (sym e) tt
 
 pub ended_is_written : (f : Fate) → f ≡ Ended → IsWritten f
 ended_is_written f e = subst IsWritten (sym e) tt
+
+pub not_over : (f : Fate) → is_open f ≡ false → f ≡ Open → ⊥
+not_over f over goes = absurd (false≢true (sym over ∙ ap is_open goes))
 
 pub later_by_over : (f : Fate) (later : List Event) → is_open f ≡ false → later_by f later ≡ []
 later_by_over Open later e = absurd (cc)
@@ -69,6 +80,9 @@ served_by_none a b same keeps = record { same = same; stands = λ past st. subst
 
 -- the same, told of an equal connection
 
+pub flushed_as : {a b c : Connection} → a ≡ b → IsFlushed a c → IsFlushed b c
+flushed_as {a} {b} {c} e = subst (λ (o : Connection). IsFlushed o c) e
+
 pub served_as : {a b c : Connection} {xs : List Entry} → a ≡ b → IsServed a xs c → IsServed b xs c
 served_as {a} {b} {c} {xs} e = subst (λ (o : Connection). IsServed o xs c) e
 
@@ -83,9 +97,11 @@ served_by_cut c c' one given taken fate = served_by_none c c' one.id (λ past st
 pub answered_by_cut : (c c' : Connection) (event : Event) → IsOne c c' → c'.given ≡ c.given → c'.taken ≡ c.taken → c'.status.fate ≡ Cut → IsAnswered event c [] c'
 answered_by_cut c c' event one given taken fate = record {
   same = one.id;
+  made = λ goes. absurd (not_cut (sym fate ∙ goes));
+  seat = λ other. one.sits;
   stands = λ later past st.
       subst (λ (es : List Event). StandsBefore es c' (past ++ [])) (ap (λ (f : Fate). later_by f later) (sym fate))
-          (subst (λ (es : List Entry). Stands c' es) (sym (append-nil past)) (cut_off c c' (event ∷ later) past one st [] (given ∙ sym (append-nil c.given)) taken fate));
+      (subst (λ (es : List Entry). Stands c' es) (sym (append-nil past)) (cut_off c c' (event ∷ later) past one st [] (given ∙ sym (append-nil c.given)) taken fate));
 }
 
 -- its line takes some of what is owed
@@ -120,7 +136,7 @@ heard_by_cut c c' bytes one given taken fate = record {
   same = one.id;
   stands = λ before past now st.
       subst (λ (es : List Entry). Stands c' es) (sym (append-nil past))
-          (cut_off (record c { given = before }) c' [] past (record { id = one.id; sits = one.sits; left = one.left }) st bytes (given ∙ now) taken fate);
+      (cut_off (record c { given = before }) c' [] past (record { id = one.id; sits = one.sits; left = one.left }) st bytes (given ∙ now) taken fate);
 }
 
 pub heard_on_one : {a b c : Connection} {bytes : List ℕ} {xs : List Entry} → a ≡ b → IsHeardOn bytes a xs c → IsHeardOn bytes b xs c
@@ -171,7 +187,7 @@ module _ {S : Type 0} (steps : Steps S) where
 
   -- its client leaves
   pub leaves_so : (from to : S) (c c' : Connection) → ((reply : Reply) × steps from (Leave c.id) reply to) → is_open c.status.fate ≡ false → c.status.has_left ≡ false → IsSame c c'
-      → c'.status.fate ≡ c.status.fate → c'.status.sits ≡ c.status.sits → c'.status.has_left ≡ true → Serves steps from c to c'
+      → c'.status.fate ≡ c.status.fate → c'.status.sits ≡ c.status.sits → c'.status.has_left ≡ true → Leaves steps from c to c'
   leaves_so from to c c' r over here same fate sits left = (
     entry (Leave c.id) r.0 ∷ [],
     chain_one from to (entry (Leave c.id) r.0) r.1,
@@ -179,10 +195,63 @@ module _ {S : Type 0} (steps : Steps S) where
       same = same.id;
       stands = λ past st. left_on c c' past r.0 same.id (over_from c.status.fate over) here same.given same.taken same.owed same.session fate sits left st;
     },
+    (λ goes. absurd (not_over c.status.fate over goes)),
+    fate,
+    sits,
   )
+
+  -- or has left before, or is not over, or is refused it
+  pub leaves_nothing : {from to : S} {c : Connection} → to ≡ from → Leaves steps from c to c
+  leaves_nothing {from} {to} {c} e = ([], e, served_by_none c c refl (λ past st. st), (λ goes. refl), refl, refl)
+
+  pub leaves_as : {from to : S} {a b c : Connection} → a ≡ b → Leaves steps from a to c → Leaves steps from b to c
+  leaves_as {from} {to} {a} {b} {c} e = subst (λ (o : Connection). Leaves steps from o to c) e
+
+  pub draws_as : {from to : S} {a b c : Connection} → a ≡ b → Draws steps from a to c → Draws steps from b to c
+  draws_as {from} {to} {a} {b} {c} e = subst (λ (o : Connection). Draws steps from o to c) e
+
+  -- one who has no seat, or does not go on, need not draw
+  pub draws_nothing : (from : S) (c : Connection) → (c.status.sits ≡ true → c.status.fate ≡ Open → ⊥) → Draws steps from c from c
+  draws_nothing from c idle = ([], refl, served_by_none c c refl (λ past st. st), (λ sits goes. absurd (idle sits goes)), refl)
 
   pub serves_as : {from to : S} {a b c : Connection} → a ≡ b → Serves steps from a to c → Serves steps from b to c
   serves_as {from} {to} {a} {b} {c} e = subst (λ (o : Connection). Serves steps from o to c) e
 
   pub serves_nobody : {from to : S} {a : Connection} → to ≡ from → Serves steps from a to a
   serves_nobody {from} {to} {a} e = subst (λ (s : S). Serves steps from a s a) (sym e) (serves_nothing from a)
+
+  -- a connection is read from, and then drawn for
+  pub works_in_turn : {from mid to : S} {a b m n c : Connection} → a ≡ b → IsServed a [] m → Serves steps from m mid n → Draws steps mid n to c → ServesInTurn steps from b to c
+  works_in_turn {from} {mid} {to} {a} {b} {m} {n} {c} e first heard drew = subst (λ (o : Connection). ServesInTurn steps from o to c) e (
+    heard.0 ++ drew.0,
+    chain_then from mid to heard.0 drew.0 heard.1 drew.1,
+    served_then a m c [] (heard.0 ++ drew.0) first (served_then m n c heard.0 drew.0 heard.2 drew.2),
+    (λ none goes sits.
+        let last = drew.3 (sym drew.4 ∙ sits) goes in
+        subst (λ (id : ℕ). EndsWithDraw id (heard.0 ++ drew.0)) (heard.2.same ∙ first.same) (heard.0, last.0, ap (λ (xs : List Entry). heard.0 ++ xs) last.1)),
+  )
+
+  -- the server is not asked for one who does not go on
+  pub rests_in_turn : (from : S) {c c' : Connection} → IsServed c [] c' → (c'.status.fate ≡ Open → ⊥) → ServesInTurn steps from c from c'
+  rests_in_turn from {c} {c'} served over = ([], refl, served, λ none goes sits. absurd (over goes))
+
+  -- a connection is written to and served, its client leaves if it is over, and it is written to again
+  pub served_in_turn : {from one two to : S} {a b c d e f : Connection} → IsFlushed a b → ServesInTurn steps from b one c → Leaves steps one c two d → IsFlushed d e → Leaves steps two e to f
+      → ServesInTurn steps from a to f
+  served_in_turn {from} {one} {two} {to} {a} {b} {c} {d} {e} {f} first works left last over = (
+    works.0 ++ (left.0 ++ over.0),
+    chain_then from one to works.0 (left.0 ++ over.0) works.1 (chain_then one two to left.0 over.0 left.1 over.1),
+    served_then a b f [] (works.0 ++ (left.0 ++ over.0)) first.served
+        (served_then b c f works.0 (left.0 ++ over.0) works.2 (served_then c d f left.0 over.0 left.2 (served_then d e f [] over.0 last.served over.2))),
+    (λ none goes sits.
+        let at_e = sym over.4 ∙ goes in
+        let at_c = sym left.4 ∙ last.goes at_e in
+        let drawn = works.3 (first.none none) at_c (sym left.5 ∙ sym last.sits ∙ sym over.5 ∙ sits) in
+        let alone : works.0 ++ (left.0 ++ over.0) ≡ works.0 = ap (λ (xs : List Entry). works.0 ++ (xs ++ over.0)) (left.3 at_c) ∙ ap (λ (xs : List Entry). works.0 ++ xs) (over.3 at_e) ∙ append-nil works.0 in
+        subst (λ (id : ℕ). EndsWithDraw id (works.0 ++ (left.0 ++ over.0))) first.served.same (drawn.0, drawn.1, alone ∙ drawn.2)),
+  )
+
+  -- a connection is written to, and still owed something
+  pub kept_in_turn : {from to : S} {a b c : Connection} → IsFlushed a b → (b.owed ≡ [] → ⊥) → Leaves steps from b to c → ServesInTurn steps from a to c
+  kept_in_turn {from} {to} {a} {b} {c} first some left =
+      (left.0, left.1, served_then a b c [] left.0 first.served left.2, λ none goes sits. absurd (some (first.none none)))

@@ -122,7 +122,7 @@ module _ (c c' : Connection) (past : List Entry) (one : IsOne c c') (st : Stands
       stands_so c' [] past s c.status.fate quiet_course (st.same_given ∙ sym given) st.same_entries st.same_pending (st.same_sits ∙ sym one.sits) (st.same_left ∙ sym one.left) fate st.same_fate
       (λ o. st.same_session o ∙ sym session)
       (handed_still c.status.fate goes s.text c'.taken c'.owed
-          (written_text c.status.fate goes s.text c.taken c.owed st.handed ∙ ap (λ (xs : List ℕ). c.taken ++ xs) owed ∙ sym (append_assoc c.taken part c'.owed) ∙ ap (λ (xs : List ℕ). xs ++ c'.owed) (sym taken)))
+      (written_text c.status.fate goes s.text c.taken c.owed st.handed ∙ ap (λ (xs : List ℕ). c.taken ++ xs) owed ∙ sym (append_assoc c.taken part c'.owed) ∙ ap (λ (xs : List ℕ). xs ++ c'.owed) (sym taken)))
 
 module _ (c : Connection) (past : List Entry) where
   -- there is room for some data
@@ -140,7 +140,7 @@ module _ (c c' : Connection) (past : List Entry) (reply : Reply) where
       let s = st.standing in
       stands_so c' [] (past ++ entry (Leave c.id) reply ∷ []) (record s { entries = s.entries ++ entry (Leave c.id) reply ∷ []; has_left = true }) c.status.fate
       (subst (λ (n : ℕ). Course n (record s { entries = s.entries ++ entry (Leave c.id) reply ∷ []; has_left = true })) (sym id)
-          (leaves s st.course (subst IsOver (sym st.same_fate) over) (st.same_left ∙ here) reply))
+      (leaves s st.course (subst IsOver (sym st.same_fate) over) (st.same_left ∙ here) reply))
       (st.same_given ∙ sym given) (ap (λ (xs : List Entry). xs ++ entry (Leave c.id) reply ∷ []) st.same_entries) st.same_pending (st.same_sits ∙ sym sits) (sym left) fate st.same_fate
       (λ o. st.same_session o ∙ sym session)
       (subst (λ (xs : List ℕ). IsHanded c.status.fate s.text xs c'.owed) (sym taken) (subst (λ (xs : List ℕ). IsHanded c.status.fate s.text c.taken xs) (sym owed) st.handed))
@@ -193,9 +193,9 @@ module _ (c c' : Connection) (event : Event) (later : List Event) (past : List E
       all_sits all_left fate (ap (λ (x : _). fate_by x.state) said_same)
       (λ o. ap (λ (x : Conversation). saying_now x (said x.says reply).says) (st.same_session goes) ∙ sym session)
       (subst (λ (xs : List ℕ). IsHanded (fate_by u.state) (s.text ++ (said s.session.says reply).bytes) c'.taken xs) (sym owed)
-          (subst (λ (xs : List ℕ). IsHanded (fate_by u.state) (s.text ++ (said s.session.says reply).bytes) xs (c.owed ++ u.bytes)) (sym taken)
-              (subst (λ (xs : List ℕ). IsHanded (fate_by u.state) (s.text ++ xs) c.taken (c.owed ++ u.bytes)) (ap (λ (x : _). x.bytes) (sym said_same))
-                  (told_on u.state s.text c.taken c.owed u.bytes text_is))))
+      (subst (λ (xs : List ℕ). IsHanded (fate_by u.state) (s.text ++ (said s.session.says reply).bytes) xs (c.owed ++ u.bytes)) (sym taken)
+      (subst (λ (xs : List ℕ). IsHanded (fate_by u.state) (s.text ++ xs) c.taken (c.owed ++ u.bytes)) (ap (λ (x : _). x.bytes) (sym said_same))
+      (told_on u.state s.text c.taken c.owed u.bytes text_is))))
 
   -- or it is cut off
   cut_so : c'.status.fate ≡ Cut → StandsBefore (later_by c'.status.fate later) c' (past ++ entry event reply ∷ [])

@@ -1,14 +1,15 @@
 -- Events of a connection, applied one after another.
-use Rattle.std.specs.Prelude.{◌≡◌, ℕ, List, [], ◌∷◌, ◌++◌}
+use Rattle.std.specs.Prelude.{◌≡◌, ℕ, false, List, [], ◌∷◌, ◌++◌}
 use Rattle.radio_core.specs.declared.event.Event.{Event}
 use Rattle.radio_core.specs.declared.reply.Reply.{Reply}
 use Rattle.radio_book.specs.declared.entry.Entry.{Entry}
+use Rattle.radio_book.specs.History.{entry}
 use Rattle.radio_session.specs.Conversation.{Conversation, saying_now}
 use Rattle.radio_session.specs.Saying.{said}
 use Rattle.radio_hall.specs.declared.conn.Fate.{Fate}
 use Rattle.radio_hall.specs.declared.conn.Fate.TheVariants.{Open, Cut}
 use Rattle.radio_hall.specs.Connections.{Connection}
-use Rattle.radio_hall.specs.Course.{fate_by}
+use Rattle.radio_hall.specs.Course.{fate_by, is_listen}
 use Rattle.radio_hall.specs.Turns.{StandsBefore, Stands}
 
 -- With this fate, a connection was told the reply: its bytes are owed behind the others, and its session stands as it does then. Where it is cut off, nothing is said.
@@ -25,6 +26,9 @@ later_by fate later = []
 -- the first of its events was applied, or the connection was cut off
 pub record IsAnswered (event : Event) (c : Connection) (entries : List Entry) (c' : Connection) : Type 0 where
   pub same : c'.id ≡ c.id
+  -- where it goes on, there is an entry of it; and to another event than a request to hear a mount, no seat is given
+  pub made : c'.status.fate ≡ Open → (reply : Reply) × (entries ≡ entry event reply ∷ [])
+  pub seat : is_listen event ≡ false → c'.status.sits ≡ c.status.sits
   pub stands : (later : List Event) (past : List Entry) → StandsBefore (event ∷ later) c past → StandsBefore (later_by c'.status.fate later) c' (past ++ entries)
 
 -- its events were applied, up to its end

@@ -5,3 +5,4 @@ pub mod Course
 pub mod Turns
 pub mod Answering
 pub mod Admission
+pub mod Leaving

@@ -1,9 +1,10 @@
 -- A worker's turn.
-use Rattle.std.specs.Prelude.{◌≡◌, ◌+◌, ◌≤◌, ◌⊎◌, ℕ, Bool, true, false, List, [], ◌∷◌, ◌++◌, filter}
+use Rattle.std.specs.Prelude.{◌≡◌, ◌+◌, ◌<◌, ◌⊎◌, ℕ, Bool, true, false, List, [], ◌∷◌, ◌++◌, filter}
 use Rattle.radio_core.specs.declared.event.Event.{Event}
-use Rattle.radio_core.specs.declared.event.Event.TheVariants.{Clock}
+use Rattle.radio_core.specs.declared.event.Event.TheVariants.{Draw, Clock}
 use Rattle.radio_core.specs.declared.reply.Reply.{Reply}
 use Rattle.radio_book.specs.declared.entry.Entry.{Entry}
+use Rattle.radio_book.specs.History.{entry}
 use Rattle.radio_session.specs.Exchanges.{Steps}
 use Rattle.radio_hall.specs.declared.conn.Fate.{Fate}
 use Rattle.radio_hall.specs.declared.conn.Fate.TheVariants.{Open, Closed, Cut}
@@ -50,31 +51,47 @@ pub record IsServed (c : Connection) (entries : List Entry) (c' : Connection) : 
   pub same : c'.id ≡ c.id
   pub stands : (past : List Entry) → Stands c past → Stands c' (past ++ entries)
 
+-- where the connection goes on, its one entry is this draw
+abbrev pub IsOneDraw : ℕ → ℕ → List Entry → Connection → Type 0
+IsOneDraw id room entries c' = c'.status.fate ≡ Open → (reply : Reply) × (entries ≡ entry (Draw id room) reply ∷ [])
+
+-- the last of these entries is a draw with the room of a turn
+abbrev pub EndsWithDraw : ℕ → List Entry → Type 0
+EndsWithDraw id entries = (others : List Entry) × (reply : Reply) × (entries ≡ others ++ entry (Draw id 16384) reply ∷ [])
+
+-- One who has a seat and goes on has drawn, last of all, if nothing was owed to him when his turn came.
+abbrev pub HasDrawn : Connection → List Entry → Connection → Type 0
+HasDrawn c entries c' = c.owed ≡ [] → c'.status.fate ≡ Open → c'.status.sits ≡ true → EndsWithDraw c.id entries
+
 module _ {S : Type 0} (steps : Steps S) where
   -- the server made entries for the connection
   abbrev pub Serves : S → Connection → S → Connection → Type 0
   Serves from c to c' = (entries : List Entry) × Chain steps from entries to × IsServed c entries c'
 
+  -- and a draw, if it was due
+  abbrev pub ServesInTurn : S → Connection → S → Connection → Type 0
+  ServesInTurn from c to c' = (entries : List Entry) × Chain steps from entries to × IsServed c entries c' × HasDrawn c entries c'
+
   -- each connection was served, one after another
   abbrev pub ServesEach : S → List Connection → S → List Connection → Type 0
   ServesEach from [] to served = (to ≡ from) × (served ≡ [])
   ServesEach from (c ∷ cs) to served =
-      (mid : S) × (c' : Connection) × (others : List Connection) × Serves from c mid c' × ServesEach mid cs to others × (served ≡ c' ∷ others)
+      (mid : S) × (c' : Connection) × (others : List Connection) × ServesInTurn from c mid c' × ServesEach mid cs to others × (served ≡ c' ∷ others)
 
-  -- the event was applied, or refused for want of memory
-  abbrev pub HasApplied : Bool → S → Event → S → Type 0
-  HasApplied true from event to = (reply : Reply) × steps from event reply to
-  HasApplied false from event to = to ≡ from
+  -- the event was applied, or refused for want of memory by a server that may refuse it
+  abbrev pub HasApplied : (S → Event → Type 0) → Bool → S → Event → S → Type 0
+  HasApplied refuses true from event to = (reply : Reply) × steps from event reply to
+  HasApplied refuses false from event to = (to ≡ from) × refuses from event
 
-  -- the server was told the time if a second has passed, unless it refused for want of memory
-  abbrev pub Ticks : ℕ → ℕ → S → ℕ → S → Type 0
-  Ticks ms before from after to =
-      ((before + 1000 ≤ ms) × (after ≡ ms) × ((reply : Reply) × steps from (Clock ms) reply to)) ⊎ ((to ≡ from) × (after ≡ before))
+  -- where a second has passed since the server was told the time, it is told, unless it refuses for want of memory
+  abbrev pub Ticks : (S → Event → Type 0) → ℕ → ℕ → S → ℕ → S → Type 0
+  Ticks refuses ms before from after to =
+      ((ms < before + 1000) × (after ≡ before) × (to ≡ from)) ⊎ (((after ≡ ms) × HasApplied refuses true from (Clock ms) to) ⊎ ((after ≡ before) × HasApplied refuses false from (Clock ms) to))
 
   -- A turn at this moment: the server is told the time if it is due, each connection is served, and those that are over are closed.
-  pub record IsTurn (ms ticked : ℕ) (from : S) (conns : List Connection) (ticked' : ℕ) (to : S) (conns' : List Connection) : Type 0 where
+  pub record IsTurn (refuses : S → Event → Type 0) (ms ticked : ℕ) (from : S) (conns : List Connection) (ticked' : ℕ) (to : S) (conns' : List Connection) : Type 0 where
     pub mid : S
     pub served : List Connection
-    pub ticks : Ticks ms ticked from ticked' mid
+    pub ticks : Ticks refuses ms ticked from ticked' mid
     pub serves : ServesEach mid conns to served
     pub closes : conns' ≡ filter stays served

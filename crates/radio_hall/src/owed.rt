@@ -61,11 +61,7 @@ impl Owed {
 
     /// Tells a reply behind what is owed, by [`Session::give`]. `OutOfMemory` where memory was
     /// refused; nothing was told then.
-    pub(crate) fn tell(
-        &mut self,
-        session: &mut Session,
-        reply: Reply,
-    ) -> Result<State, OutOfMemory>
+    pub(crate) fn tell(&mut self, session: &mut Session, reply: Reply) -> Result<State, OutOfMemory>
         ensures bytes { IfOk result (λ _. self.new ≡ self.old ++ (said session.old.says reply).bytes) }
         ensures state { IfOk result (λ state. state ≡ (said session.old.says reply).state) }
         ensures says { IfOk result (λ _. session.new ≡ saying_now session.old (said session.old.says reply).says) }

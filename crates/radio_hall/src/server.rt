@@ -10,21 +10,29 @@ use std::sync::Wait;
 
 /// Who applies the events of a worker's connections, one at a time.
 pub trait Server {
+    ghost use Rattle.radio_core.specs.declared.event.Event.{Event as EventOf};
     ghost use Rattle.radio_session.specs.Exchanges.{Steps};
 
     // from one state the event is answered by the reply, and leaves the other state
     ghost steps: { Steps Self };
 
+    // in this state the event may be refused for want of memory
+    ghost refuses: { Self → EventOf → Type 0 };
+
     /// Applies an event. `OutOfMemory` where memory was refused; nothing has changed then.
     fn apply(&mut self, event: Event) -> Result<Reply, OutOfMemory>
         ensures ok { IfOk result (λ reply. steps self.old event reply self.new) }
-        ensures err { OnErr result (self.new ≡ self.old) };
+        ensures err { OnErr result (self.new ≡ self.old) }
+        ensures refused { OnErr result (refuses self.old event) };
 }
 
 impl Server for Core {
+    ghost use Rattle.radio_core.specs.Step.{TakesNoMemory};
     ghost use Rattle.radio_session.specs.Exchanges.{core_steps};
 
     ghost steps = { core_steps };
+
+    ghost refuses = { λ core event. TakesNoMemory event → ⊥ };
 
     fn apply(&mut self, event: Event) -> Result<Reply, OutOfMemory> {
         self.step(event)
@@ -67,9 +75,11 @@ impl<'a, R: Wait, C: Chronicle, H: House> Caller<'a, R, C, H> {
 }
 
 impl<'a, R: Wait, C: Chronicle, H: House> Server for Caller<'a, R, C, H> {
-    ghost use Rattle.radio_hall.specs.Callers.{Gains};
+    ghost use Rattle.radio_hall.specs.Callers.{Gains, IsNotHisEnd};
 
     ghost steps = { Gains C.KEEPS };
+
+    ghost refuses = { λ receipts event. IsNotHisEnd receipts event };
 
     fn apply(&mut self, event: Event) -> Result<Reply, OutOfMemory> {
         let receipt = self.hall.apply(self.rt, &mut self.pass, event)?;

@@ -77,7 +77,7 @@ impl<S: Server + Drop> Worker<S> {
     /// Serves each connection once, at this moment in milliseconds, and closes those that are over.
     /// The server is told the time if a second has passed since it last was.
     pub fn serve_turn<L: Line, G: Gate>(&mut self, conns: &mut Vec<Conn<L>>, gate: &G, ms: u64)
-        ensures { IsTurn S.steps ms self.old.ticked_ms self.old.server conns.old.items self.new.ticked_ms self.new.server conns.new.items }
+        ensures { IsTurn S.steps S.refuses ms self.old.ticked_ms self.old.server conns.old.items self.new.ticked_ms self.new.server conns.new.items }
     {
         self.tick(ms);
         let now = Now {
@@ -89,7 +89,7 @@ impl<S: Server + Drop> Worker<S> {
     }
 
     fn tick(&mut self, ms: u64)
-        ensures { Ticks S.steps ms self.old.ticked_ms self.old.server self.new.ticked_ms self.new.server }
+        ensures { Ticks S.steps S.refuses ms self.old.ticked_ms self.old.server self.new.ticked_ms self.new.server }
     {
         if ms.saturating_sub(self.ticked_ms) < SECOND_MS {
             return;

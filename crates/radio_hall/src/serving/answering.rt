@@ -31,11 +31,7 @@ pub(crate) fn answer<S: Server, L: Line>(server: &mut S, conn: &mut Conn<L>, eve
 }
 
 /// Applies the events that were heard on it, one after another, up to its end.
-pub(crate) fn answer_all<S: Server, L: Line>(
-    server: &mut S,
-    conn: &mut Conn<L>,
-    events: Vec<Event>,
-)
+pub(crate) fn answer_all<S: Server, L: Line>(server: &mut S, conn: &mut Conn<L>, events: Vec<Event>)
     requires { conn.old.status.fate ≡ Fate.Open }
     ensures { (entries : List EntryOf) × Chain S.steps server.old entries server.new × AreAnswered events.items conn.old entries conn.new }
 {

@@ -2,7 +2,7 @@
 
 ghost use Rattle.std.specs.Prelude.{◌≡◌};
 ghost use Rattle.radio_hall.specs.declared.conn.Fate.TheVariants.{Open};
-ghost use Rattle.radio_hall.specs.Turns.{Serves};
+ghost use Rattle.radio_hall.specs.Leaving.{Draws, DrawsFor};
 
 use crate::serving::answering::answer;
 use crate::serving::{Now, SECOND_MS};
@@ -16,7 +16,7 @@ pub const DRAW_ROOM: u32 = 16384;
 /// second, is asked for with a draw that has no room: it hears then by which rule it was finished,
 /// if it was.
 pub(crate) fn draw<S: Server, L: Line>(server: &mut S, conn: &mut Conn<L>, now: Now)
-    ensures { Serves S.steps server.old conn.old server.new conn.new }
+    ensures { Draws S.steps server.old conn.old server.new conn.new }
 {
     if !conn.status.fate.is_open() {
         return;
@@ -31,7 +31,7 @@ pub(crate) fn draw<S: Server, L: Line>(server: &mut S, conn: &mut Conn<L>, now: 
 
 fn draw_for<S: Server, L: Line>(server: &mut S, conn: &mut Conn<L>, room: u32)
     requires { conn.old.status.fate ≡ Open }
-    ensures { Serves S.steps server.old conn.old server.new conn.new }
+    ensures { DrawsFor S.steps room server.old conn.old server.new conn.new }
 {
     let event = Event::Draw { id: conn.id, room };
     answer(server, conn, event);

@@ -1,7 +1,8 @@
 //! What a connection is owed, written.
 
-ghost use Rattle.std.specs.Prelude.{◌≡◌, ◌<◌, [], length};
-ghost use Rattle.radio_hall.specs.Turns.{IsServed, IsWritten};
+ghost use Rattle.std.specs.Prelude.{◌<◌, length};
+ghost use Rattle.radio_hall.specs.Turns.{IsWritten};
+ghost use Rattle.radio_hall.specs.Leaving.{IsFlushed};
 
 use crate::serving::Now;
 use crate::{Conn, Fate, Gate, Line, Sent};
@@ -9,7 +10,7 @@ use crate::{Conn, Fate, Gate, Line, Sent};
 /// Writes once of what is owed, as far as the line takes it. The connection is cut off where the
 /// line fails, or where it took nothing for too long.
 pub(crate) fn flush<L: Line, G: Gate>(conn: &mut Conn<L>, gate: &G, now: Now)
-    ensures { IsServed conn.old [] conn.new }
+    ensures { IsFlushed conn.old conn.new }
 {
     let fate = conn.status.fate;
     match fate {
@@ -25,7 +26,7 @@ pub(crate) fn flush<L: Line, G: Gate>(conn: &mut Conn<L>, gate: &G, now: Now)
 fn write<L: Line, G: Gate>(conn: &mut Conn<L>, gate: &G, now: Now)
     requires fate { IsWritten conn.old.status.fate }
     requires some { 0 < length conn.old.owed }
-    ensures { IsServed conn.old [] conn.new }
+    ensures { IsFlushed conn.old conn.new }
 {
     gate.hold(conn.id);
     let sent = conn.line.write(conn.owed.rest());

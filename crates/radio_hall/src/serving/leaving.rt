@@ -1,7 +1,8 @@
 //! The end of a client.
 
 ghost use Rattle.std.specs.Prelude.{◌≡◌};
-ghost use Rattle.radio_hall.specs.Turns.{HasApplied, Serves};
+ghost use Rattle.radio_hall.specs.Turns.{HasApplied};
+ghost use Rattle.radio_hall.specs.Leaving.{Leaves};
 
 use crate::{Conn, Line, Server};
 use radio_core::Event;
@@ -9,7 +10,7 @@ use radio_core::Event;
 /// The client leaves whose connection is over, if he has not left. Where memory is refused for that,
 /// he leaves with a later turn.
 pub(crate) fn leave<S: Server, L: Line>(server: &mut S, conn: &mut Conn<L>)
-    ensures { Serves S.steps server.old conn.old server.new conn.new }
+    ensures { Leaves S.steps server.old conn.old server.new conn.new }
 {
     if conn.status.fate.is_open() || conn.status.has_left {
         return;
@@ -21,7 +22,7 @@ pub(crate) fn leave<S: Server, L: Line>(server: &mut S, conn: &mut Conn<L>)
 
 /// Applies an event whose reply tells nobody anything. Whether memory was not refused.
 pub(crate) fn apply_quietly<S: Server>(server: &mut S, event: Event) -> bool
-    ensures { HasApplied S.steps result server.old event server.new }
+    ensures { HasApplied S.steps S.refuses result server.old event server.new }
 {
     match server.apply(event) {
         Ok(_) => true,

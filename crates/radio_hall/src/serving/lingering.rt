@@ -2,6 +2,7 @@
 
 ghost use Rattle.std.specs.Prelude.{◌≡◌, []};
 ghost use Rattle.radio_hall.specs.Turns.{IsServed};
+ghost use Rattle.radio_hall.specs.Leaving.{IsEnded};
 
 use crate::serving::{Now, SECOND_MS};
 use crate::{Conn, Fate, Line, Received};
@@ -11,7 +12,7 @@ use crate::{Conn, Fate, Line, Received};
 pub(crate) fn linger<L: Line>(conn: &mut Conn<L>, buffer: &mut [u8], now: Now)
     requires fate { conn.old.status.fate ≡ Fate.Ended }
     requires all { conn.old.owed ≡ [] }
-    ensures { IsServed conn.old [] conn.new }
+    ensures { IsEnded conn.old conn.new }
 {
     finish(conn, now);
     if is_over(pass_over(conn, buffer), conn.status.moved_ms, now) {

@@ -1,7 +1,7 @@
 //! Each connection in its turn.
 
 ghost use Rattle.std.specs.Prelude.{◌≡◌, []};
-ghost use Rattle.radio_hall.specs.Turns.{Serves, ServesEach};
+ghost use Rattle.radio_hall.specs.Turns.{ServesInTurn, ServesEach};
 
 use crate::serving::Now;
 use crate::serving::drawing::draw;
@@ -38,7 +38,7 @@ fn serve<S: Server, L: Line, G: Gate>(
     gate: &G,
     now: Now,
 )
-    ensures { Serves S.steps server.old conn.old server.new conn.new }
+    ensures { ServesInTurn S.steps server.old conn.old server.new conn.new }
 {
     flush(conn, gate, now);
     if !conn.owed.rest().is_empty() {
@@ -54,7 +54,7 @@ fn serve<S: Server, L: Line, G: Gate>(
 /// What a connection does to which nothing is owed.
 fn work<S: Server, L: Line>(server: &mut S, conn: &mut Conn<L>, buffer: &mut [u8], now: Now)
     requires { conn.old.owed ≡ [] }
-    ensures { Serves S.steps server.old conn.old server.new conn.new }
+    ensures { ServesInTurn S.steps server.old conn.old server.new conn.new }
 {
     let fate = conn.status.fate;
     match fate {
@@ -64,6 +64,7 @@ fn work<S: Server, L: Line>(server: &mut S, conn: &mut Conn<L>, buffer: &mut [u8
             draw(server, conn, now);
         }
         Fate::Ended => linger(conn, buffer, now),
-        Fate::Closed | Fate::Cut => (),
+        Fate::Closed => (),
+        Fate::Cut => (),
     }
 }

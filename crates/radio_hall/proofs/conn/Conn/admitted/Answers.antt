@@ -15,11 +15,11 @@ returns-in-Arrived g c =
     let given = g.L.Line.given c.args.line in
     let taken = g.L.Line.taken c.args.line in
     subst (λ (r : Reply). IsTakenIn c.args.peer r given taken c.new.result) (sym c.in-Arrived.is)
-        (subst (λ (x : Connection). IsTakenIn c.args.peer (Arrived c.in-Arrived.id) given taken x) (sym c.new.ensures) (comes_in c.args.peer c.in-Arrived.id given taken c.args.ms))
+    (subst (λ (x : Connection). IsTakenIn c.args.peer (Arrived c.in-Arrived.id) given taken x) (sym c.new.ensures) (comes_in c.args.peer c.in-Arrived.id given taken c.args.ms))
 
 pub returns-in_default : goal.returns-in_default
 returns-in_default g c =
     let given = g.L.Line.given c.args.line in
     let taken = g.L.Line.taken c.args.line in
     if_ok_more (λ (x : Connection). IsTurnedAway c.args.reply given taken c.args.ms x) (λ (x : Connection). IsTakenIn c.args.peer c.args.reply given taken x)
-        (λ x away. is_told_away c.args.peer given taken c.args.ms x c.args.reply c.in_default.not-Arrived away) c.turned_away.result c.turned_away.ensures
+    (λ x away. is_told_away c.args.peer given taken c.args.ms x c.args.reply c.in_default.not-Arrived away) c.turned_away.result c.turned_away.ensures

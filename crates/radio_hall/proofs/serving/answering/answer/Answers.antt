@@ -3,7 +3,7 @@ use Rattle.radio_book.specs.History.{entry}
 use Rattle.radio_hall.specs.Connections.{Connection}
 use Rattle.radio_hall.specs.declared.conn.Status.{Status}
 use Rattle.radio_hall.specs.declared.conn.Fate.TheVariants.{Open}
-use Rattle.radio_hall.specs.Course.{is_listen}
+use Rattle.radio_hall.specs.Course.{is_listen, is_seated}
 use Rattle.radio_hall.proofs.Standing.{answered_as}
 use Rattle.radio_hall.proofs.Deeds.{chain_one, answered_as_one, answered_by_cut}
 use Rattle.radio_hall.proofs.serving.answering.answer.Goals as goal
@@ -19,6 +19,8 @@ returns-in-Ok g c =
       chain_one g.S.Server.steps c.args.server.now c.apply.new.self made c.in-Ok.ensures.ok,
       answered_as_one c.conn.view_is (record {
         same = refl;
+        made = λ goes. (c.in-Ok.reply, refl);
+        seat = λ other. sits ∙ ap (λ (b : Bool). (b && is_seated c.in-Ok.reply) || before.sits) other;
         stands = λ later past st. answered_as _ _ c.args.event later past c.in-Ok.reply goes refl refl refl sits left st c.tell-conn-inside.result refl c.tell-conn-inside.ensures;
       }),
     )

@@ -17,7 +17,7 @@ one_more : (start before now : Connection) (event : Event) (events rest all : Li
     → (past : List Entry) → StandsBefore all start past → StandsBefore (later_by now.status.fate rest) now (past ++ (so_far ++ made))
 one_more start before now event events rest all so_far made left a stands past st =
     subst (λ (es : List Entry). StandsBefore (later_by now.status.fate rest) now es) (append_assoc past so_far made)
-        (a.stands rest (past ++ so_far) (subst (λ (es : List Event). StandsBefore es before (past ++ so_far)) left (stands past st)))
+    (a.stands rest (past ++ so_far) (subst (λ (es : List Event). StandsBefore es before (past ++ so_far)) left (stands past st)))
 
 pub loop-event-init : goal.loop-event-init
 loop-event-init g c = record {
@@ -27,7 +27,7 @@ loop-event-init g c = record {
   goes = c.requires;
   stands = λ past st.
       subst (λ (es : List Entry). StandsBefore (into_iter_items c.into_iter-event-iterator.result) c.args.conn.now es) (sym (append-nil past))
-          (subst (λ (es : List Event). StandsBefore es c.args.conn.now past) (sym c.into_iter-event-iterator.ensures.into_iter_gives.0) st);
+      (subst (λ (es : List Event). StandsBefore es c.args.conn.now past) (sym c.into_iter-event-iterator.ensures.into_iter_gives.0) st);
 }
 
 pub returns-then-not-is_open : goal.returns-then-not-is_open
@@ -41,7 +41,7 @@ returns-then-not-is_open g c =
         same = a.2.same ∙ inv.same;
         stands = λ past st.
             subst (λ (es : List Event). StandsBefore es c.answer.new.conn (past ++ (inv.entries ++ a.0))) (later_by_over c.answer.new.conn.status.fate (into_iter_items c.next.new.self) over)
-                (one_more _ _ _ c.in-Some.event (into_iter_items c.loop-event.event-iterator) (into_iter_items c.next.new.self) _ inv.entries a.0 c.in-Some.ensures.steps.0 a.2 inv.stands past st);
+            (one_more _ _ _ c.in-Some.event (into_iter_items c.loop-event.event-iterator) (into_iter_items c.next.new.self) _ inv.entries a.0 c.in-Some.ensures.steps.0 a.2 inv.stands past st);
       },
     )
 
@@ -56,7 +56,7 @@ loop-event-preserved g c =
       goes = goes;
       stands = λ past st.
           subst (λ (f : Fate). StandsBefore (later_by f (into_iter_items c.next.new.self)) c.answer.new.conn (past ++ (inv.entries ++ a.0))) goes
-              (one_more _ _ _ c.in-Some.event (into_iter_items c.loop-event.event-iterator) (into_iter_items c.next.new.self) _ inv.entries a.0 c.in-Some.ensures.steps.0 a.2 inv.stands past st);
+          (one_more _ _ _ c.in-Some.event (into_iter_items c.loop-event.event-iterator) (into_iter_items c.next.new.self) _ inv.entries a.0 c.in-Some.ensures.steps.0 a.2 inv.stands past st);
     }
 
 pub returns : goal.returns

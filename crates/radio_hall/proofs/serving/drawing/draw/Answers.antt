@@ -1,15 +1,30 @@
-use Rattle.std.proofs.Common.{refl}
-use Rattle.radio_hall.proofs.Deeds.{serves_nothing, serves_alone, serves_then, served_by_note, serves_as}
+use Rattle.std.proofs.Common.{[], refl, sym, ◌∙◌, ap}
+use Rattle.std.proofs.lemmas.Bool.{false≢true}
+use Rattle.radio_hall.specs.Connections.{Connection}
+use Rattle.radio_hall.proofs.Deeds.{draws_nothing, draws_as, not_over, served_then, served_by_note}
 use Rattle.radio_hall.proofs.serving.drawing.draw.Goals as goal
 
 pub returns-then-not-is_open : goal.returns-then-not-is_open
-returns-then-not-is_open g c = serves_nothing g.S.Server.steps c.args.server.now c.args.conn.now
+returns-then-not-is_open g c =
+    draws_nothing g.S.Server.steps c.args.server.now c.args.conn.now
+    (λ sits goes. not_over c.conn.inside.status.fate (sym c.is_open.ensures ∙ c.if-not-is_open.true) (ap (λ (o : Connection). o.status.fate) c.conn.view_is ∙ goes))
+
+pub returns-then-conn : goal.returns-then-conn
+returns-then-conn g c =
+    let d = c.draw_for.ensures in
+    (d.0, d.1, d.2, (λ sits. d.3), d.4)
 
 pub returns-then-is_past : goal.returns-then-is_past
 returns-then-is_past g c =
-    serves_as g.S.Server.steps c.conn.view_is
-        (serves_then g.S.Server.steps _ _ _ _ _ _ (serves_alone g.S.Server.steps _ _ _ (served_by_note _ _ (record { id = refl; sits = refl; left = refl }) (record { id = refl; given = refl; taken = refl; owed = refl; session = refl }) refl))
-            c.draw_for-then-is_past.ensures)
+    let d = c.draw_for-then-is_past.ensures in
+    draws_as g.S.Server.steps c.conn.view_is (
+      d.0,
+      d.1,
+      served_then _ _ _ [] d.0 (served_by_note _ _ (record { id = refl; sits = refl; left = refl }) (record { id = refl; given = refl; taken = refl; owed = refl; session = refl }) refl) d.2,
+      (λ sits. absurd (false≢true (sym c.if-conn.false ∙ sits))),
+      d.4,
+    )
 
 pub returns-else-is_past : goal.returns-else-is_past
-returns-else-is_past g c = serves_nothing g.S.Server.steps c.args.server.now c.args.conn.now
+returns-else-is_past g c =
+    draws_nothing g.S.Server.steps c.args.server.now c.args.conn.now (λ sits goes. false≢true (sym c.if-conn.false ∙ ap (λ (o : Connection). o.status.sits) c.conn.view_is ∙ sits))

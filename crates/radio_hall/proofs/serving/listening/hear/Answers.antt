@@ -13,7 +13,7 @@ returns-in-Ok g c =
       a.0,
       a.1,
       heard_on_one c.conn.view_is
-      (heard_so _ _ _ c.args.bytes.now heard a.0 goes c.in-Ok.ensures.heard (record { id = refl; sits = refl; left = refl }) refl refl refl refl refl a.2),
+          (heard_so _ _ _ c.args.bytes.now heard a.0 goes c.in-Ok.ensures.heard (record { id = refl; sits = refl; left = refl }) refl refl refl refl refl a.2),
     )
 
 pub returns-in-Err : goal.returns-in-Err

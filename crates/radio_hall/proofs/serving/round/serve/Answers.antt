@@ -1,12 +1,13 @@
-use Rattle.radio_hall.proofs.Deeds.{serves_alone, serves_then}
+use Rattle.std.proofs.Common.{◌==◌, List, ℕ, length, sym, ◌∙◌, ap}
+use Rattle.std.proofs.lemmas.Bool.{false≢true}
+use Rattle.radio_hall.specs.Connections.{Connection}
+use Rattle.radio_hall.proofs.Deeds.{served_in_turn, kept_in_turn}
 use Rattle.radio_hall.proofs.serving.round.serve.Goals as goal
 
 pub returns-then-not-is_empty : goal.returns-then-not-is_empty
-returns-then-not-is_empty g c = serves_then g.S.Server.steps _ _ _ _ _ _ (serves_alone g.S.Server.steps _ _ _ c.flush.ensures) c.leave.ensures
+returns-then-not-is_empty g c = kept_in_turn g.S.Server.steps c.flush.ensures
+    (λ none. false≢true (sym c.if-not-is_empty.true ∙ c.is_empty.ensures ∙ ap (λ (xs : List ℕ). length xs == 0) (c.rest.ensures ∙ ap (λ (o : Connection). o.owed) c.conn.view_is ∙ none)))
+    c.leave.ensures
 
 pub returns : goal.returns
-returns g c =
-    serves_then g.S.Server.steps _ _ _ _ _ _ (serves_alone g.S.Server.steps _ _ _ c.flush.ensures)
-        (serves_then g.S.Server.steps _ _ _ _ _ _ c.work.ensures
-            (serves_then g.S.Server.steps _ _ _ _ _ _ c.leave-2.ensures
-                (serves_then g.S.Server.steps _ _ _ _ _ _ (serves_alone g.S.Server.steps _ _ _ c.flush-2.ensures) c.leave-3.ensures)))
+returns g c = served_in_turn g.S.Server.steps c.flush.ensures c.work.ensures c.leave-2.ensures c.flush-2.ensures c.leave-3.ensures

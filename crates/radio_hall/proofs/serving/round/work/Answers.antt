@@ -1,16 +1,23 @@
-use Rattle.std.proofs.Common.{refl}
-use Rattle.radio_hall.proofs.Deeds.{serves_nothing, serves_alone, serves_then, serves_as, served_by_note}
+use Rattle.std.proofs.Common.{refl, sym, ◌∙◌, ap}
+use Rattle.radio_hall.specs.Connections.{Connection}
+use Rattle.radio_hall.proofs.Deeds.{works_in_turn, rests_in_turn, served_by_none, served_by_note, not_over, not_closed, not_cut}
 use Rattle.radio_hall.proofs.serving.round.work.Goals as goal
 
 pub returns-in-Open : goal.returns-in-Open
 returns-in-Open g c =
-    serves_as g.S.Server.steps c.conn.view_is
-        (serves_then g.S.Server.steps _ _ _ _ _ _
-            (serves_alone g.S.Server.steps _ _ _ (served_by_note _ _ (record { id = refl; sits = refl; left = refl }) (record { id = refl; given = refl; taken = refl; owed = refl; session = refl }) refl))
-            (serves_then g.S.Server.steps _ _ _ _ _ _ c.listen.ensures c.draw.ensures))
+    works_in_turn g.S.Server.steps c.conn.view_is
+    (served_by_note _ _ (record { id = refl; sits = refl; left = refl }) (record { id = refl; given = refl; taken = refl; owed = refl; session = refl }) refl)
+    c.listen.ensures c.draw.ensures
 
 pub returns-in-Ended : goal.returns-in-Ended
-returns-in-Ended g c = serves_alone g.S.Server.steps _ _ _ c.linger.ensures
+returns-in-Ended g c = rests_in_turn g.S.Server.steps c.args.server.now c.linger.ensures.served (not_over _ c.linger.ensures.over)
 
 pub returns-in-Closed : goal.returns-in-Closed
-returns-in-Closed g c = serves_nothing g.S.Server.steps c.args.server.now c.args.conn.now
+returns-in-Closed g c =
+    rests_in_turn g.S.Server.steps c.args.server.now (served_by_none _ _ refl (λ past st. st))
+    (λ goes. not_closed (sym c.in-Closed.is ∙ ap (λ (o : Connection). o.status.fate) c.conn.view_is ∙ goes))
+
+pub returns-in-Cut : goal.returns-in-Cut
+returns-in-Cut g c =
+    rests_in_turn g.S.Server.steps c.args.server.now (served_by_none _ _ refl (λ past st. st))
+    (λ goes. not_cut (sym c.in-Cut.is ∙ ap (λ (o : Connection). o.status.fate) c.conn.view_is ∙ goes))

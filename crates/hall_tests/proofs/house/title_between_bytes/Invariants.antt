@@ -1,0 +1,10 @@
+use Rattle.radio_access.specs.Lists.{no_lists}
+use Rattle.radio_core.specs.World.{opening}
+use Rattle.hall_tests.proofs.house.title_between_bytes.Given as goal
+
+-- the house that is opened here
+abbrev pub ghosts-history_of_titled-H-House : goal.ghosts-history_of_titled-H-House
+ghosts-history_of_titled-H-House g a = record { opening = opening a.settings no_lists }
+
+abbrev pub ghosts-history_of_titled-H-Ledger : goal.ghosts-history_of_titled-H-Ledger
+ghosts-history_of_titled-H-Ledger g a = record { name = a.blank.name; parts = a.blank.parts }

@@ -1,0 +1,101 @@
+//! A worker over a hall, and another caller who sets a title.
+
+ghost use Rattle.std.specs.Prelude.{◌≡◌, ◌^◌};
+ghost use Rattle.radio_access.specs.Lists.{no_lists};
+ghost use Rattle.radio_core.specs.World.{opening};
+
+use crate::memory_line::giving;
+use crate::rows::{EIGHT_BYTES, INTERVAL, TITLED};
+use crate::stations::*;
+use radio_access::Lists;
+use radio_book::{House, Kept, OutOfMemory, PASSES, Pass, SettleFault};
+use radio_core::Event;
+use radio_hall::{Caller, Hall, Worker, settle};
+use radio_icy::Title;
+use radio_settings::Settings;
+use std::alloc::Global;
+use std::marker::Brand;
+use std::sync::Wait;
+use std::sync::ledger::Blank;
+use std::test::Fail;
+
+/// The title between his bytes.
+const NIGHT: &[u8] =
+    b"HTTP/1.0 200 OK\r\nContent-Type: audio/mpeg\r\nicy-metaint: 4\r\nConnection: close\r\n\r\nabcd\x02StreamTitle='Night';\0\0\0\0\0\0\0\0\0\0\0\0efgh\0";
+
+/// The source's mount has this title from now on.
+fn set_title<H: House, R: Wait>(
+    rt: &R,
+    alloc: Global,
+    hall: &Hall<Kept, H>,
+    pass: &mut Pass<Kept, H>,
+) -> Result<(), OutOfMemory> {
+    let text = Title::clean(alloc, b"Night")?;
+    drop(hall.apply(rt, pass, Event::Title { id: 1, text })?);
+    Ok(())
+}
+
+/// A source is served, a title is set, and a listener hears it.
+fn hears_title<H: House, R: Wait>(
+    rt: &R,
+    alloc: Global,
+    hall: &Hall<Kept, H>,
+    other: &mut Pass<Kept, H>,
+    worker: &mut Worker<Caller<R, Kept, H>>,
+) -> Result<bool, OutOfMemory> {
+    let mut conns = Vec::new(alloc);
+    come(alloc, worker, &mut conns, giving(EIGHT_BYTES), 0)?;
+    turns(worker, &mut conns, 1, 1, 2);
+    set_title(rt, alloc, hall, other)?;
+    come(alloc, worker, &mut conns, giving(TITLED), 2)?;
+    turns(worker, &mut conns, 3, 1, 1);
+    Ok(took(&conns, 1, NIGHT))
+}
+
+/// Both callers' passes, and whether the title was heard.
+fn titled<H: House, R: Wait>(
+    rt: &R,
+    alloc: Global,
+    hall: &Hall<Kept, H>,
+    passes: &mut Vec<Pass<Kept, H>>,
+) -> Result<bool, OutOfMemory> {
+    let Some(mut other) = hall.pass(rt) else {
+        return Ok(false);
+    };
+    let Some(pass) = hall.pass(rt) else {
+        return Ok(false);
+    };
+    let mut worker = Worker::new(alloc, Caller::new(rt, hall, pass), PATIENCE_S);
+    let heard = hears_title(rt, alloc, hall, &mut other, &mut worker);
+    passes.push(worker.into_server().into_pass())?;
+    passes.push(other)?;
+    heard
+}
+
+/// Whether the title was heard, and how many entries the history has then: two arrivals, what the
+/// two asked for, a block, a title, and a draw.
+fn history_of_titled<H: House, R: Wait>(
+    rt: &R,
+    alloc: Global,
+    settings: Settings,
+    blank: Blank,
+) -> Result<(bool, usize), SettleFault>
+    requires opening { H.opening ≡ opening settings no_lists }
+    requires ledger { (blank.name ≡ H.name) × (blank.parts ≡ H.parts) × (blank.parts ≡ 2 ^ 32) }
+{
+    let hall: Hall<Kept, H> = Hall::new(alloc, settings, Lists::new(alloc), blank);
+    let mut passes = Vec::new(alloc);
+    let heard = titled(rt, alloc, &hall, &mut passes)?;
+    let history = settle(alloc, hall, passes)?;
+    Ok((heard, history.len()))
+}
+
+#[test]
+fn title_between_bytes(rt: HostRuntime) -> Result<(), Fail> {
+    let alloc = rt.alloc();
+    let settings = settings(alloc, INTERVAL)?;
+    let (heard, entries) = history_of_titled::<Brand, _>(&rt, alloc, settings, Blank::new(PASSES))?;
+    assert!(&rt; heard);
+    assert_eq!(&rt; entries, 7);
+    Ok(())
+}
