@@ -1,3 +1,4 @@
 mod Standing
 mod Deeds
 mod Comings
+mod PassLemmas
