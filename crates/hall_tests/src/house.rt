@@ -10,7 +10,7 @@ use crate::stations::*;
 use radio_access::Lists;
 use radio_book::{House, Kept, OutOfMemory, PASSES, Pass, SettleFault};
 use radio_core::Event;
-use radio_hall::{Caller, Hall, Worker, settle};
+use radio_hall::{Caller, Gate, Hall, Worker, settle};
 use radio_icy::Title;
 use radio_settings::Settings;
 use std::alloc::Global;
@@ -22,6 +22,23 @@ use std::test::Fail;
 /// The title between his bytes.
 const NIGHT: &[u8] =
     b"HTTP/1.0 200 OK\r\nContent-Type: audio/mpeg\r\nicy-metaint: 4\r\nConnection: close\r\n\r\nabcd\x02StreamTitle='Night';\0\0\0\0\0\0\0\0\0\0\0\0efgh\0";
+
+/// A gate at which the hall is called before and after each write: that ends only where the worker
+/// does not hold the hall's lock meanwhile.
+struct Knocking<'a, R: Wait, H: House> {
+    rt: &'a R,
+    hall: &'a Hall<Kept, H>,
+}
+
+impl<'a, R: Wait, H: House> Gate for Knocking<'a, R, H> {
+    fn hold(&self, _id: u64) {
+        drop(self.hall.pass(self.rt));
+    }
+
+    fn let_go(&self, _id: u64) {
+        drop(self.hall.pass(self.rt));
+    }
+}
 
 /// The source's mount has this title from now on.
 fn set_title<H: House, R: Wait>(
@@ -35,7 +52,8 @@ fn set_title<H: House, R: Wait>(
     Ok(())
 }
 
-/// A source is served, a title is set, and a listener hears it.
+/// A source is served, a title is set, and a listener hears it, while the hall is called round each
+/// write.
 fn hears_title<H: House, R: Wait>(
     rt: &R,
     alloc: Global,
@@ -48,7 +66,7 @@ fn hears_title<H: House, R: Wait>(
     turns(worker, &mut conns, 1, 1, 2);
     set_title(rt, alloc, hall, other)?;
     come(alloc, worker, &mut conns, giving(TITLED), 2)?;
-    turns(worker, &mut conns, 3, 1, 1);
+    worker.serve_turn(&mut conns, &Knocking { rt, hall }, 3);
     Ok(took(&conns, 1, NIGHT))
 }
 

@@ -2,3 +2,4 @@ pub mod Settled
 mod Standing
 mod Deeds
 mod Comings
+mod PassLemmas

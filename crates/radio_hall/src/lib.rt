@@ -5,6 +5,7 @@
 //! - [`Server`], [`Caller`]: whom a worker asks: a hall, with the worker's pass.
 //! - [`Line`], [`Gate`]: where a connection's bytes come from and go to, and who is told of writes.
 //! - [`Conn`]: a connection. [`Worker::admit`] takes one in, and [`Worker::serve_turn`] serves all.
+//! - [`passes_gain_what_was_applied`]: a law, which runs no code.
 //!
 //! Whenever the lock is free, its book has what [`Book::is_told`](radio_book::Book::is_told) says:
 //! there is one history, a run from the opening state, and the core stands for the state after it.
@@ -12,6 +13,7 @@
 
 mod conn;
 mod hall;
+mod laws;
 mod line;
 mod owed;
 mod server;
@@ -20,6 +22,7 @@ mod worker;
 
 pub use conn::{Conn, Fate, Status};
 pub use hall::{Hall, settle};
+pub use laws::passes_gain_what_was_applied;
 pub use line::{Gate, Line, OpenGate, Received, Sent};
 pub use server::{Caller, Server};
 pub use worker::Worker;

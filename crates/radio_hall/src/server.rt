@@ -35,6 +35,7 @@ impl Server for Core {
     ghost refuses = { λ core event. TakesNoMemory event → ⊥ };
 
     fn apply(&mut self, event: Event) -> Result<Reply, OutOfMemory> {
+        self.stands();
         self.step(event)
     }
 }
