@@ -210,8 +210,7 @@ impl Listening {
     /// The line of a socket that was accepted. Its bytes are sent as they come.
     fn line_of(&mut self, mut stream: TcpStream) -> io::Result<SocketLine> {
         stream.set_nodelay(true)?;
-        let number = self.free_number()?;
-        let readiness = self.readiness[number].clone()?;
+        let (number, readiness) = self.free_readiness()?;
         let both = Interest::READABLE | Interest::WRITABLE;
         self.poll
             .registry()
@@ -221,20 +220,21 @@ impl Listening {
         Ok(SocketLine::new(stream, readiness, has_moved))
     }
 
-    /// A number that no line has, behind the one that was given last.
-    fn free_number(&mut self) -> Result<usize, OutOfMemory> {
+    /// A number that no line has, behind the one that was given last, and what is told of it.
+    fn free_readiness(&mut self) -> Result<(usize, Rc<Readiness>), OutOfMemory> {
         let count = self.readiness.len();
         for _ in 0..count {
             self.next = if self.next < count { self.next + 1 } else { 0 };
             if let Some(readiness) = self.readiness.get(self.next) {
                 if Rc::strong_count(readiness) == 1 {
-                    return Ok(self.next);
+                    return Ok((self.next, readiness.clone()?));
                 }
             }
         }
         let readiness = Rc::new(self.alloc, Readiness::new())?;
+        let shared = readiness.clone()?;
         self.readiness.push(readiness)?;
-        Ok(count)
+        Ok((count, shared))
     }
 }
 
