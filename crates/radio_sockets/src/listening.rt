@@ -249,7 +249,7 @@ fn is_out_of_descriptors(error: &io::Error) -> bool {
 /// The clock's moment, in milliseconds; 0 where it tells none.
 pub fn moment<C: Clock>(clock: &C) -> u64 {
     match clock.monotonic() {
-        Ok(since) => since.as_millis() as u64,
+        Ok(since) => u64::try_from(since.as_millis()).unwrap_or(u64::MAX),
         Err(_) => 0,
     }
 }
