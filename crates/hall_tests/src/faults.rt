@@ -3,40 +3,39 @@
 use crate::memory_line::{Manners, giving};
 use crate::rows::*;
 use crate::stations::*;
+use radio_core::{Core, OutOfMemory};
 use radio_settings::SettingsFault;
 use std::alloc::Global;
 use std::test::Fail;
 
 fn failing(gives: &'static [&'static [u8]], fails_at: u64) -> Manners {
-    Manners {
-        fails_at,
-        ..giving(gives)
-    }
+    let mut manners = giving(gives);
+    manners.fails_at = fails_at;
+    manners
 }
 
 /// How many calls a line of these rows sees at most.
 const CALLS: u64 = 12;
 
 /// A source, a listener whose line fails at this call, and another listener. Whether the other one
-/// hears all, and the failing one is gone or was handed a front of it.
+/// hears all, and the failing one was handed a front of it, and is gone.
+fn is_beside_a_failing_one(
+    station: &mut Station<Core>,
+    fails_at: u64,
+) -> Result<bool, OutOfMemory> {
+    source_and_listener(station, failing(LISTENER, fails_at))?;
+    station.come(giving(LISTENER), 2)?;
+    station.turns(3, 1, 1);
+    let front = station.took_front(1, HEARD);
+    station.turns(4, 1, CALLS);
+    Ok(front && !station.has(2) && station.has(3) && station.last_took(HEARD))
+}
+
 fn beside_a_failing_one(alloc: Global, fails_at: u64) -> Result<bool, SettingsFault> {
-    let mut worker = worker(alloc, "")?;
-    let mut conns = Vec::new(alloc);
-    come(alloc, &mut worker, &mut conns, giving(EIGHT_BYTES), 0)?;
-    turns(&mut worker, &mut conns, 1, 1, 2);
-    come(
-        alloc,
-        &mut worker,
-        &mut conns,
-        failing(LISTENER, fails_at),
-        2,
-    )?;
-    come(alloc, &mut worker, &mut conns, giving(LISTENER), 2)?;
-    turns(&mut worker, &mut conns, 3, 1, 1);
-    let front = took_front(&conns, 1, HEARD);
-    turns(&mut worker, &mut conns, 4, 1, CALLS);
-    let last = conns.len().saturating_sub(1);
-    Ok(front && !has(&conns, 2) && has(&conns, 3) && took(&conns, last, HEARD))
+    let mut station = make_station(alloc, "")?;
+    let held = is_beside_a_failing_one(&mut station, fails_at);
+    drop(station);
+    Ok(held?)
 }
 
 #[test]
@@ -50,29 +49,28 @@ fn a_listeners_fault_is_his_alone(rt: HostRuntime) -> Result<(), Fail> {
     Ok(())
 }
 
+/// A listener who asks once the source is on the air.
+const LATE_LISTENER: &[&[u8]] = &[b"", b"", b"", LISTEN_HEAD];
+
 /// A source whose line fails at this call, and a listener. Whether the source is gone, and the
 /// listener has ended.
+fn is_behind_a_failing_source(
+    station: &mut Station<Core>,
+    fails_at: u64,
+) -> Result<bool, OutOfMemory> {
+    station.come(failing(EIGHT_BYTES, fails_at), 0)?;
+    station.come(giving(LATE_LISTENER), 0)?;
+    station.turns(1, 1, CALLS);
+    let gone = !station.has(1);
+    station.turns(2000, 1000, 3);
+    Ok(gone && station.count() == 0)
+}
+
 fn behind_a_failing_source(alloc: Global, fails_at: u64) -> Result<bool, SettingsFault> {
-    let mut worker = worker(alloc, "")?;
-    let mut conns = Vec::new(alloc);
-    come(
-        alloc,
-        &mut worker,
-        &mut conns,
-        failing(EIGHT_BYTES, fails_at),
-        0,
-    )?;
-    come(
-        alloc,
-        &mut worker,
-        &mut conns,
-        giving(&[b"", b"", b"", LISTEN_HEAD]),
-        0,
-    )?;
-    turns(&mut worker, &mut conns, 1, 1, CALLS);
-    let gone = !has(&conns, 1);
-    turns(&mut worker, &mut conns, 2000, 1000, 3);
-    Ok(gone && conns.is_empty())
+    let mut station = make_station(alloc, "")?;
+    let held = is_behind_a_failing_source(&mut station, fails_at);
+    drop(station);
+    Ok(held?)
 }
 
 #[test]
@@ -86,21 +84,22 @@ fn without_its_source_a_listener_ends(rt: HostRuntime) -> Result<(), Fail> {
     Ok(())
 }
 
-/// A listener whose peer closes behind his head.
+/// A listener whose peer closes behind his head hears what there is, and has left a turn later.
+fn is_left(station: &mut Station<Core>) -> Result<bool, OutOfMemory> {
+    let mut closing = giving(LISTENER);
+    closing.closes = true;
+    source_and_listener(station, closing)?;
+    station.turns(3, 1, 1);
+    let heard = station.took(1, HEARD);
+    station.turns(4, 1, 1);
+    Ok(heard && station.has(1) && !station.has(2))
+}
+
 fn closes_behind_his_head(alloc: Global) -> Result<bool, SettingsFault> {
-    let mut worker = worker(alloc, "")?;
-    let mut conns = Vec::new(alloc);
-    come(alloc, &mut worker, &mut conns, giving(EIGHT_BYTES), 0)?;
-    turns(&mut worker, &mut conns, 1, 1, 2);
-    let closing = Manners {
-        closes: true,
-        ..giving(LISTENER)
-    };
-    come(alloc, &mut worker, &mut conns, closing, 2)?;
-    turns(&mut worker, &mut conns, 3, 1, 1);
-    let heard = took(&conns, 1, HEARD);
-    turns(&mut worker, &mut conns, 4, 1, 1);
-    Ok(heard && has(&conns, 1) && !has(&conns, 2))
+    let mut station = make_station(alloc, "")?;
+    let held = is_left(&mut station);
+    drop(station);
+    Ok(held?)
 }
 
 #[test]
@@ -113,17 +112,20 @@ fn a_peer_who_closes_is_left(rt: HostRuntime) -> Result<(), Fail> {
 const FULL_HOUSE: &[u8] =
     b"HTTP/1.0 403 Forbidden\r\nContent-Type: text/plain; charset=utf-8\r\nContent-Length: 25\r\nConnection: close\r\n\r\ndenied: too-many-clients\n";
 
-/// A house with one client, and another who comes: whether he is told so and closed, and the first
-/// stays.
+/// A house with one client, and another who comes: he is told so and closed, and the first stays.
+fn is_full(station: &mut Station<Core>) -> Result<bool, OutOfMemory> {
+    source_and_listener(station, giving(LISTENER))?;
+    station.turns(3, 1, 2);
+    let told = station.took(1, FULL_HOUSE) && station.took(0, SOURCE_ANSWER);
+    station.turns(1500, 1, 1);
+    Ok(told && station.count() == 1 && station.has(1))
+}
+
 fn full_house(alloc: Global) -> Result<bool, SettingsFault> {
-    let mut worker = worker(alloc, "[limits]\nclients = 1\n")?;
-    let mut conns = Vec::new(alloc);
-    come(alloc, &mut worker, &mut conns, giving(EIGHT_BYTES), 0)?;
-    come(alloc, &mut worker, &mut conns, giving(LISTENER), 0)?;
-    turns(&mut worker, &mut conns, 1, 1, 2);
-    let told = took(&conns, 1, FULL_HOUSE) && took(&conns, 0, SOURCE_ANSWER);
-    turns(&mut worker, &mut conns, 1500, 1, 1);
-    Ok(told && conns.len() == 1 && has(&conns, 1))
+    let mut station = make_station(alloc, "[limits]\nclients = 1\n")?;
+    let held = is_full(&mut station);
+    drop(station);
+    Ok(held?)
 }
 
 #[test]
@@ -133,22 +135,34 @@ fn a_full_house(rt: HostRuntime) -> Result<(), Fail> {
 }
 
 /// What one is told who wants to hear what is not there.
-const NO_MOUNT: &[&[u8]] = &[b"GET /z HTTP/1.0\r\n\r\n", b"and more"];
+const NO_MOUNT: &[u8] = b"denied: no-mount\n";
 
-/// Whether he is told something that names the rule, that nothing more is written then, and that he
-/// is closed a second later.
-fn denied(alloc: Global) -> Result<bool, SettingsFault> {
-    let mut worker = worker(alloc, "")?;
-    let mut conns = Vec::new(alloc);
-    come(alloc, &mut worker, &mut conns, giving(NO_MOUNT), 0)?;
-    turns(&mut worker, &mut conns, 1, 1, 2);
-    let told = match conns.as_slice().first() {
-        Some(conn) => conn.line().is_finished()
-            && conn.line().taken().ends_with(b"no-mount\n".as_slice()),
+/// Who asks for it, and sends more.
+const ASKS_FOR_NO_MOUNT: &[&[u8]] = &[b"GET /z HTTP/1.0\r\n\r\n", b"and more"];
+
+/// Whether the first connection's line was told that nothing more is written, behind these bytes.
+fn was_finished_behind(station: &Station<Core>, bytes: &[u8]) -> bool {
+    match station.line(0) {
+        Some(line) => line.is_finished() && line.taken().ends_with(bytes),
         None => false,
-    };
-    turns(&mut worker, &mut conns, 1100, 1, 1);
-    Ok(told && conns.is_empty())
+    }
+}
+
+/// He is told something that names the rule and then that nothing more is written, and he is closed
+/// a second later.
+fn is_denied(station: &mut Station<Core>) -> Result<bool, OutOfMemory> {
+    station.come(giving(ASKS_FOR_NO_MOUNT), 0)?;
+    station.turns(1, 1, 2);
+    let told = was_finished_behind(station, NO_MOUNT);
+    station.turns(1100, 1, 1);
+    Ok(told && station.count() == 0)
+}
+
+fn denied(alloc: Global) -> Result<bool, SettingsFault> {
+    let mut station = make_station(alloc, "")?;
+    let held = is_denied(&mut station);
+    drop(station);
+    Ok(held?)
 }
 
 #[test]
@@ -157,21 +171,32 @@ fn a_denied_one_reads_his_denial(rt: HostRuntime) -> Result<(), Fail> {
     Ok(())
 }
 
-/// A source and a listener over a server that is refused memory at this call. Whether whoever is
-/// there was handed a front of what he is told, and no more than one is gone.
+/// Somebody comes. Whether he was taken in; if memory was refused, the others are as they were.
+fn comes(station: &mut Station<Refusing>, gives: &'static [&'static [u8]], ms: u64) -> bool {
+    let before = station.count();
+    match station.come(giving(gives), ms) {
+        Ok(()) => station.count() == before.saturating_add(1),
+        Err(_) => station.count() == before,
+    }
+}
+
+/// A source and a listener over a server that is refused memory at one call: no more than one of them
+/// is gone, and the source was told what it was told.
+fn is_refused(station: &mut Station<Refusing>) -> bool {
+    let source = comes(station, EIGHT_BYTES, 0);
+    let was_in = station.count() == 1;
+    station.turns(1, 1, 2);
+    let listener = comes(station, LISTENER, 2);
+    station.turns(3, 1, 3);
+    let told = !was_in || !station.has(1) || station.took(0, SOURCE_ANSWER);
+    source && listener && told && station.count() <= 2
+}
+
 fn refused(alloc: Global, refuses_at: u64) -> Result<bool, SettingsFault> {
-    let mut worker = refused_worker(alloc, refuses_at)?;
-    let mut conns = Vec::new(alloc);
-    if come(alloc, &mut worker, &mut conns, giving(EIGHT_BYTES), 0).is_err() {
-        return Ok(conns.is_empty());
-    }
-    turns(&mut worker, &mut conns, 1, 1, 2);
-    let sources = conns.len();
-    if come(alloc, &mut worker, &mut conns, giving(LISTENER), 2).is_err() {
-        return Ok(conns.len() == sources);
-    }
-    turns(&mut worker, &mut conns, 3, 1, 3);
-    Ok(conns.len() >= sources && (sources == 0 || took(&conns, 0, SOURCE_ANSWER)))
+    let mut station = refused_station(alloc, refuses_at)?;
+    let held = is_refused(&mut station);
+    drop(station);
+    Ok(held)
 }
 
 #[test]

@@ -10,7 +10,7 @@ use crate::stations::*;
 use radio_access::Lists;
 use radio_book::{House, Kept, OutOfMemory, PASSES, Pass, SettleFault};
 use radio_core::Event;
-use radio_hall::{Caller, Gate, Hall, Worker, settle};
+use radio_hall::{Caller, Gate, Hall, settle};
 use radio_icy::Title;
 use radio_settings::Settings;
 use std::alloc::Global;
@@ -25,6 +25,7 @@ const NIGHT: &[u8] =
 
 /// A gate at which the hall is called before and after each write: that ends only where the worker
 /// does not hold the hall's lock meanwhile.
+#[derive(Drop)]
 struct Knocking<'a, R: Wait, H: House> {
     rt: &'a R,
     hall: &'a Hall<Kept, H>,
@@ -59,15 +60,14 @@ fn hears_title<H: House, R: Wait>(
     alloc: Global,
     hall: &Hall<Kept, H>,
     other: &mut Pass<Kept, H>,
-    worker: &mut Worker<Caller<R, Kept, H>>,
+    station: &mut Station<Caller<R, Kept, H>>,
 ) -> Result<bool, OutOfMemory> {
-    let mut conns = Vec::new(alloc);
-    come(alloc, worker, &mut conns, giving(EIGHT_BYTES), 0)?;
-    turns(worker, &mut conns, 1, 1, 2);
+    station.come(giving(EIGHT_BYTES), 0)?;
+    station.turns(1, 1, 2);
     set_title(rt, alloc, hall, other)?;
-    come(alloc, worker, &mut conns, giving(TITLED), 2)?;
-    worker.serve_turn(&mut conns, &Knocking { rt, hall }, 3);
-    Ok(took(&conns, 1, NIGHT))
+    station.come(giving(TITLED), 2)?;
+    station.turn(&Knocking { rt, hall }, 3);
+    Ok(station.took(1, NIGHT))
 }
 
 /// Both callers' passes, and whether the title was heard.
@@ -83,9 +83,9 @@ fn titled<H: House, R: Wait>(
     let Some(pass) = hall.pass(rt) else {
         return Ok(false);
     };
-    let mut worker = Worker::new(alloc, Caller::new(rt, hall, pass), PATIENCE_S);
-    let heard = hears_title(rt, alloc, hall, &mut other, &mut worker);
-    passes.push(worker.into_server().into_pass())?;
+    let mut station = Station::new(alloc, Caller::new(rt, hall, pass));
+    let heard = hears_title(rt, alloc, hall, &mut other, &mut station);
+    passes.push(station.into_server().into_pass())?;
     passes.push(other)?;
     heard
 }

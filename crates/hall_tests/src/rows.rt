@@ -2,6 +2,7 @@
 
 use crate::memory_line::{Manners, giving};
 use crate::stations::*;
+use radio_core::{Core, OutOfMemory};
 use radio_settings::SettingsFault;
 use std::alloc::Global;
 use std::test::Fail;
@@ -16,57 +17,54 @@ pub const LISTENER: &[&[u8]] = &[LISTEN_HEAD];
 pub const HEARD: &[u8] =
     b"HTTP/1.0 200 OK\r\nContent-Type: audio/mpeg\r\nConnection: close\r\n\r\nabcdefgh";
 
-/// A source comes and is served once; then a listener comes, and both are served so often, at these
-/// moments. Whether the source is told that, and the listener that.
+/// A source of eight bytes comes and is served, and a listener comes then, at 2 milliseconds.
+pub fn source_and_listener(
+    station: &mut Station<Core>,
+    listener: Manners,
+) -> Result<(), OutOfMemory> {
+    station.come(giving(EIGHT_BYTES), 0)?;
+    station.turns(1, 1, 2);
+    station.come(listener, 2)
+}
+
+/// Whether the source is told that it is admitted, and the listener hears that in so many turns.
+fn hears_in(
+    station: &mut Station<Core>,
+    listener: Manners,
+    count: u64,
+    heard: &[u8],
+) -> Result<bool, OutOfMemory> {
+    source_and_listener(station, listener)?;
+    station.turns(3, 1, count);
+    Ok(station.took(0, SOURCE_ANSWER) && station.took(1, heard))
+}
+
+/// The same, over a station with these settings more.
 pub fn hears(
     alloc: Global,
-    source: Manners,
+    more: &str,
     listener: Manners,
-    turns_served: u64,
-    told: &[u8],
+    count: u64,
     heard: &[u8],
 ) -> Result<bool, SettingsFault> {
-    let mut worker = worker(alloc, "")?;
-    let mut conns = Vec::new(alloc);
-    come(alloc, &mut worker, &mut conns, source, 0)?;
-    turns(&mut worker, &mut conns, 1, 1, 2);
-    come(alloc, &mut worker, &mut conns, listener, 2)?;
-    turns(&mut worker, &mut conns, 3, 1, turns_served);
-    Ok(took(&conns, 0, told) && took(&conns, 1, heard))
+    let mut station = make_station(alloc, more)?;
+    let hears = hears_in(&mut station, listener, count, heard);
+    drop(station);
+    Ok(hears?)
 }
 
 #[test]
 fn eight_bytes(rt: HostRuntime) -> Result<(), Fail> {
-    let alloc = rt.alloc();
-    assert!(rt;
-        hears(
-            alloc,
-            giving(EIGHT_BYTES),
-            giving(LISTENER),
-            1,
-            SOURCE_ANSWER,
-            HEARD
-        )?
-    );
+    assert!(rt; hears(rt.alloc(), "", giving(LISTENER), 1, HEARD)?);
     Ok(())
 }
 
-/// What comes a byte at a time.
+/// A head that comes in pieces.
 const SLOWLY: &[&[u8]] = &[b"G", b"ET /a HTTP", b"", b"/1.0\r\n\r", b"\n"];
 
 #[test]
 fn a_head_in_pieces(rt: HostRuntime) -> Result<(), Fail> {
-    let alloc = rt.alloc();
-    assert!(rt;
-        hears(
-            alloc,
-            giving(EIGHT_BYTES),
-            giving(SLOWLY),
-            5,
-            SOURCE_ANSWER,
-            HEARD
-        )?
-    );
+    assert!(rt; hears(rt.alloc(), "", giving(SLOWLY), 5, HEARD)?);
     Ok(())
 }
 
@@ -80,18 +78,8 @@ pub const INTERVAL: &str = "[[mount]]\nmount-name = \"/a\"\nmp3-metadata-interva
 const WOVEN: &[u8] =
     b"HTTP/1.0 200 OK\r\nContent-Type: audio/mpeg\r\nicy-metaint: 4\r\nConnection: close\r\n\r\nabcd\0efgh\0";
 
-fn hears_woven(alloc: Global) -> Result<bool, SettingsFault> {
-    let mut worker = worker(alloc, INTERVAL)?;
-    let mut conns = Vec::new(alloc);
-    come(alloc, &mut worker, &mut conns, giving(EIGHT_BYTES), 0)?;
-    turns(&mut worker, &mut conns, 1, 1, 2);
-    come(alloc, &mut worker, &mut conns, giving(TITLED), 2)?;
-    turns(&mut worker, &mut conns, 3, 1, 1);
-    Ok(took(&conns, 1, WOVEN))
-}
-
 #[test]
-fn titles_between_bytes(rt: HostRuntime) -> Result<(), Fail> {
-    assert!(rt; hears_woven(rt.alloc())?);
+fn blocks_between_bytes(rt: HostRuntime) -> Result<(), Fail> {
+    assert!(rt; hears(rt.alloc(), INTERVAL, giving(TITLED), 1, WOVEN)?);
     Ok(())
 }

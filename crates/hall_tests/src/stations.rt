@@ -4,7 +4,7 @@ use crate::memory_line::{Manners, MemoryLine};
 use radio_access::Lists;
 use radio_addr::Peer;
 use radio_core::{Core, Event, OutOfMemory, Reply};
-use radio_hall::{Conn, OpenGate, Server, Worker};
+use radio_hall::{Conn, Gate, OpenGate, Server, Worker};
 use radio_settings::{Settings, SettingsFault};
 use std::alloc::{AllocError, Global};
 
@@ -24,9 +24,6 @@ pub const SOURCE_ANSWER: &[u8] = b"HTTP/1.0 200 OK\r\n\r\n";
 /// What a listener is told who hears nothing.
 pub const LISTEN_ANSWER: &[u8] =
     b"HTTP/1.0 200 OK\r\nContent-Type: audio/mpeg\r\nConnection: close\r\n\r\n";
-
-/// The connections of a worker.
-pub type Conns = Vec<Conn<MemoryLine>>;
 
 /// A core which is refused memory at one call, counted from 0.
 #[derive(Drop)]
@@ -64,69 +61,101 @@ fn core(alloc: Global, more: &str) -> Result<Core, SettingsFault> {
     Ok(Core::new(alloc, settings, Lists::new(alloc)))
 }
 
-/// A worker over a core with these settings more.
-pub fn worker(alloc: Global, more: &str) -> Result<Worker<Core>, SettingsFault> {
-    Ok(Worker::new(alloc, core(alloc, more)?, PATIENCE_S))
+/// A worker, and his connections.
+#[derive(Drop)]
+pub struct Station<S: Server + Drop> {
+    alloc: Global,
+    worker: Worker<S>,
+    conns: Vec<Conn<MemoryLine>>,
 }
 
-/// A worker over a core that is refused memory at this call.
-pub fn refused_worker(alloc: Global, refuses_at: u64) -> Result<Worker<Refusing>, SettingsFault> {
+/// A worker over a core with these settings more, and no connection.
+pub fn make_station(alloc: Global, more: &str) -> Result<Station<Core>, SettingsFault> {
+    let core = core(alloc, more)?;
+    Ok(Station::new(alloc, core))
+}
+
+/// A worker over a core that is refused memory at this call, and no connection.
+pub fn refused_station(alloc: Global, refuses_at: u64) -> Result<Station<Refusing>, SettingsFault> {
+    let core = core(alloc, "")?;
     let server = Refusing {
-        core: core(alloc, "")?,
+        core,
         calls: 0,
         refuses_at,
     };
-    Ok(Worker::new(alloc, server, PATIENCE_S))
+    Ok(Station::new(alloc, server))
 }
 
-/// A connection comes with this line.
-pub fn come<S: Server + Drop>(
-    alloc: Global,
-    worker: &mut Worker<S>,
-    conns: &mut Conns,
-    manners: Manners,
-    ms: u64,
-) -> Result<(), OutOfMemory> {
-    worker.admit(
-        conns,
-        MemoryLine::new(alloc, manners),
-        Peer::of_v4(0x0a00_0001),
-        ms,
-    )
-}
-
-/// So many turns, each so many milliseconds after the one before it.
-pub fn turns<S: Server + Drop>(
-    worker: &mut Worker<S>,
-    conns: &mut Conns,
-    from_ms: u64,
-    step_ms: u64,
-    count: u64,
-) {
-    let mut ms = from_ms;
-    for _ in 0..count {
-        worker.serve_turn(conns, &OpenGate, ms);
-        ms = ms.saturating_add(step_ms);
+impl<S: Server + Drop> Station<S> {
+    /// A worker who asks this server, and no connection.
+    pub fn new(alloc: Global, server: S) -> Station<S> {
+        Station {
+            alloc,
+            worker: Worker::new(alloc, server, PATIENCE_S),
+            conns: Vec::new(alloc),
+        }
     }
-}
 
-/// Whether the line of the connection at this place has taken just that.
-pub fn took(conns: &Conns, at: usize, bytes: &[u8]) -> bool {
-    match conns.as_slice().get(at) {
-        Some(conn) => conn.line().taken() == bytes,
-        None => false,
+    /// Whom the worker asked.
+    pub fn into_server(self) -> S {
+        self.worker.into_server()
     }
-}
 
-/// Whether it has taken the front of that.
-pub fn took_front(conns: &Conns, at: usize, bytes: &[u8]) -> bool {
-    match conns.as_slice().get(at) {
-        Some(conn) => bytes.starts_with(conn.line().taken()),
-        None => false,
+    /// A connection comes with this line.
+    pub fn come(&mut self, manners: Manners, ms: u64) -> Result<(), OutOfMemory> {
+        let line = MemoryLine::new(self.alloc, manners);
+        let peer = Peer::of_v4(0x0a00_0001);
+        self.worker.admit(&mut self.conns, line, peer, ms)
     }
-}
 
-/// Whether the connection of this client is among them.
-pub fn has(conns: &Conns, id: u64) -> bool {
-    conns.as_slice().iter().any(|conn| conn.id() == id)
+    /// So many turns, each so many milliseconds after the one before it.
+    pub fn turns(&mut self, from_ms: u64, step_ms: u64, count: u64) {
+        let mut ms = from_ms;
+        for _ in 0..count {
+            self.turn(&OpenGate, ms);
+            ms = ms.saturating_add(step_ms);
+        }
+    }
+
+    /// A turn.
+    pub fn turn<G: Gate>(&mut self, gate: &G, ms: u64) {
+        self.worker.serve_turn(&mut self.conns, gate, ms);
+    }
+
+    /// How many connections there are.
+    pub fn count(&self) -> usize {
+        self.conns.len()
+    }
+
+    /// The line of the connection at this place.
+    pub fn line(&self, at: usize) -> Option<&MemoryLine> {
+        let conn = self.conns.as_slice().get(at)?;
+        Some(conn.line())
+    }
+
+    /// Whether it has taken just that.
+    pub fn took(&self, at: usize, bytes: &[u8]) -> bool {
+        match self.line(at) {
+            Some(line) => line.taken() == bytes,
+            None => false,
+        }
+    }
+
+    /// Whether it has taken the front of that.
+    pub fn took_front(&self, at: usize, bytes: &[u8]) -> bool {
+        match self.line(at) {
+            Some(line) => bytes.starts_with(line.taken()),
+            None => false,
+        }
+    }
+
+    /// Whether the last connection's line has taken just that.
+    pub fn last_took(&self, bytes: &[u8]) -> bool {
+        self.took(self.conns.len().saturating_sub(1), bytes)
+    }
+
+    /// Whether the connection of this client is among them.
+    pub fn has(&self, id: u64) -> bool {
+        self.conns.as_slice().iter().any(|conn| conn.id() == id)
+    }
 }
