@@ -62,13 +62,29 @@ fn serve_in<W: Wait, H: House>(
     requires opening { H.opening ≡ opening settings lists }
     requires ledger { (blank.name ≡ H.name) × (blank.parts ≡ H.parts) × (blank.parts ≡ 2 ^ 32) }
 {
-    let patience = settings.limits.source_timeout.get();
+    let patience = patience_of(&settings);
     let hall: Hall<Unkept, H> = Hall::new(rt.alloc(), settings, lists, blank);
+    serve_through(rt, waits, &hall, listening, patience)
+}
+
+/// Serves connections by a worker who asks this hall.
+fn serve_through<'a, W: Wait, H: House>(
+    rt: &HostRuntime,
+    waits: &'a W,
+    hall: &'a Hall<Unkept, H>,
+    listening: Listening,
+    patience: u32,
+) -> ServeFault {
     match hall.pass(waits) {
         Some(pass) => {
-            let mut worker = Worker::new(rt.alloc(), Caller::new(waits, &hall, pass), patience);
+            let mut worker = Worker::new(rt.alloc(), Caller::new(waits, hall, pass), patience);
             listening.serve(rt, waits, &mut worker)
         }
         None => ServeFault::OutOfMemory,
     }
+}
+
+/// For how many seconds a connection may take nothing of what waits for it.
+fn patience_of(settings: &Settings) -> u32 {
+    settings.limits.source_timeout.get()
 }
