@@ -7,6 +7,7 @@ use radio_core::{Core, Event, OutOfMemory, Reply};
 use radio_hall::{Conn, Gate, OpenGate, Server, Worker};
 use radio_settings::{Settings, SettingsFault};
 use std::alloc::{AllocError, Global};
+use std::marker::Model;
 
 /// How many seconds a line may take nothing.
 pub const PATIENCE_S: u32 = 10;
@@ -25,12 +26,24 @@ pub const SOURCE_ANSWER: &[u8] = b"HTTP/1.0 200 OK\r\n\r\n";
 pub const LISTEN_ANSWER: &[u8] =
     b"HTTP/1.0 200 OK\r\nContent-Type: audio/mpeg\r\nConnection: close\r\n\r\n";
 
-/// A core which is refused memory at one call, counted from 0.
+/// A core which is refused memory at one call, counted from 0. In contracts it is the core.
 #[derive(Drop)]
 pub struct Refusing {
     core: Core,
     calls: u64,
     refuses_at: u64,
+}
+
+impl Model for Refusing {
+    ghost use Rattle.std.specs.Coded.{codes};
+    ghost use Rattle.radio_core.specs.contracts.server.Core as the_core;
+    ghost use Rattle.radio_core.specs.World.{World};
+
+    ghost Value = { World };
+
+    ghost coded = { Prim.hlevel (codes, the_core.the_row.coded) };
+
+    ghost view = { λ r. r.core };
 }
 
 impl Server for Refusing {

@@ -1,9 +1,8 @@
 -- What passes gain.
-use Rattle.std.proofs.Common.{◌≡◌, true, List, [], ◌∷◌, ◌++◌, map, refl, ap, sym, ◌∙◌, append_assoc, append-nil}
+use Rattle.std.proofs.Common.{List, [], ◌∷◌, ◌++◌, refl, ap, sym, ◌∙◌, append_assoc, append-nil}
 use Rattle.radio_book.specs.declared.entry.Entry.{Entry}
 use Rattle.radio_book.specs.Stamp.{Stamp, stamped}
-use Rattle.radio_hall.specs.Turns.{Chain}
-use Rattle.radio_hall.specs.Callers.{Gains, PassesGainWhatWasApplied}
+use Rattle.radio_hall.specs.Callers.{PassesGainWhatWasApplied}
 
 pub gained : PassesGainWhatWasApplied
 gained before after [] c = ([], c ∙ sym (append-nil before), refl)
