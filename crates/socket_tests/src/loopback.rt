@@ -38,9 +38,9 @@ struct Station {
 }
 
 /// A station that is bound to a free port; `None` where it cannot be.
-fn station(rt: &HostRuntime, alloc: Global) -> Result<Option<Station>, Fail> {
+fn open_station(rt: &HostRuntime, alloc: Global) -> Result<Option<Station>, Fail> {
     let settings = Settings::read(alloc, SETTINGS)?;
-    let patience = settings.limits.source_timeout.get();
+    let patience = patience_of(&settings);
     let core = Core::new(alloc, settings, Lists::new(alloc));
     let worker = Worker::new(alloc, core, patience);
     match Listening::bind(rt, alloc, "127.0.0.1", 0) {
@@ -55,6 +55,10 @@ fn station(rt: &HostRuntime, alloc: Global) -> Result<Option<Station>, Fail> {
             Ok(None)
         }
     }
+}
+
+fn patience_of(settings: &Settings) -> u32 {
+    settings.limits.source_timeout.get()
 }
 
 impl Station {
@@ -112,7 +116,7 @@ fn hears_eight_bytes(rt: &HostRuntime, station: &mut Station) -> io::Result<bool
 
 #[test]
 fn eight_bytes(rt: HostRuntime) -> Result<(), Fail> {
-    let Some(mut station) = station(&rt, rt.alloc())? else {
+    let Some(mut station) = open_station(&rt, rt.alloc())? else {
         return Ok(());
     };
     assert!(rt; hears_eight_bytes(&rt, &mut station)?);
@@ -129,7 +133,7 @@ fn is_denied(rt: &HostRuntime, station: &mut Station) -> io::Result<bool> {
 
 #[test]
 fn a_denial(rt: HostRuntime) -> Result<(), Fail> {
-    let Some(mut station) = station(&rt, rt.alloc())? else {
+    let Some(mut station) = open_station(&rt, rt.alloc())? else {
         return Ok(());
     };
     assert!(rt; is_denied(&rt, &mut station)?);
