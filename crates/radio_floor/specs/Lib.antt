@@ -3,3 +3,4 @@ pub mod ScriptServer
 pub mod Performing
 pub mod Transcript
 pub mod LastWords
+pub mod HearsSlices
