@@ -12,7 +12,7 @@ use bytes::Bytes;
 use radio_access::Lists;
 use radio_addr::Peer;
 use radio_blocks::Block;
-use radio_book::{Chronicle, House, OutOfMemory, PASSES, Pass, Unkept};
+use radio_book::{Chronicle, House, OutOfMemory, PASSES, Pass, Receipt, Unkept};
 use radio_core::{Core, Event, ListenRequest, Reply, SourceRequest};
 use radio_creds::basic;
 use radio_hall::Hall;
@@ -71,7 +71,7 @@ impl<C: Chronicle, H: House, R: Wait> Answers for Caller<'_, C, H, R> {
 
     fn hands_out(&mut self, event: Event) -> Result<bool, OutOfMemory> {
         match self.hall.apply(self.rt, &mut self.pass, event) {
-            Ok(receipt) => Ok(has_data(receipt.reply())),
+            Ok(receipt) => Ok(has_handed_out(receipt)),
             Err(refused) => Err(refused),
         }
     }
@@ -166,12 +166,16 @@ fn draws_in_hall<H: House, R: Clock + AllocGlobal + Wait>(
     requires ledger { (blank.name ≡ H.name) × (blank.parts ≡ H.parts) × (blank.parts ≡ 2 ^ 32) }
 {
     let hall: Hall<Unkept, H> = Hall::new(rt.alloc(), settings, Lists::new(rt.alloc()), blank);
+    draws_of_caller(rt, &hall, rounds)
+}
+
+fn draws_of_caller<H: House, R: Clock + AllocGlobal + Wait>(
+    rt: &R,
+    hall: &Hall<Unkept, H>,
+    rounds: u32,
+) -> Result<Draws> {
     let pass = hall.pass(rt).context("no pass")?;
-    let mut caller = Caller {
-        rt,
-        hall: &hall,
-        pass,
-    };
+    let mut caller = Caller { rt, hall, pass };
     time_draws(rt, &mut caller, rounds)
 }
 
@@ -304,6 +308,10 @@ fn draws_data<A: Answers>(who: &mut A, id: u64) -> Result<bool, OutOfMemory> {
         id,
         room: SIZE as u32,
     })
+}
+
+fn has_handed_out(receipt: Receipt) -> bool {
+    has_data(receipt.reply())
 }
 
 fn has_data(reply: &Reply) -> bool {

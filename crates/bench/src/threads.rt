@@ -168,8 +168,7 @@ where
 {
     let (first, second) = work_four(rt, alloc, hall, blocks);
     let mut passes = Vec::new(alloc);
-    push_both(&mut passes, first)?;
-    push_both(&mut passes, second)?;
+    push_four(&mut passes, first, second)?;
     Ok(passes)
 }
 
@@ -189,6 +188,15 @@ where
         || -> Both<C, H> { work_both(rt, alloc, hall, "/a", "/b", blocks) },
         || -> Both<C, H> { work_both(rt, alloc, hall, "/c", "/d", blocks) },
     )
+}
+
+fn push_four<C: Chronicle, H: House>(
+    passes: &mut Vec<Pass<C, H>>,
+    first: Both<C, H>,
+    second: Both<C, H>,
+) -> Result<(), OutOfMemory> {
+    push_both(passes, first)?;
+    push_both(passes, second)
 }
 
 fn push_both<C: Chronicle, H: House>(

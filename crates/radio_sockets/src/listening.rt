@@ -23,8 +23,12 @@ const LISTENER: Token = Token(usize::MAX);
 /// Of how many sockets the system tells at once.
 const EVENTS: usize = 1024;
 
-/// How long a turn that found nothing waits for something, at most.
+/// How long a turn that found nothing waits for something, at most, before it asks again.
 const IDLE_MS: u64 = 10;
+
+/// So many such waits in a row, in which nothing came for anybody, and there is a turn all the same:
+/// time goes on for those who are silent.
+const IDLE_WAITS: usize = 20;
 
 /// What the system answers where there is no descriptor left, for the process or at all.
 const NO_DESCRIPTORS: [i32; 2] = [24, 23];
@@ -146,10 +150,24 @@ impl Listening {
         Ok(())
     }
 
-    /// Hears from the system what is ready. Where nothing moved in the last turn, it waits a little.
+    /// Hears from the system what is ready. Where nothing moved in the last turn, it waits a while
+    /// for something: with one worker there is nothing to draw before that.
     fn hear(&mut self) -> Result<(), ServeFault> {
-        let has_moved = self.has_moved.replace(false);
-        let wait = Duration::from_millis(if has_moved { 0 } else { IDLE_MS });
+        if self.has_moved.replace(false) {
+            return self.poll(0);
+        }
+        for _ in 0..IDLE_WAITS {
+            self.poll(IDLE_MS)?;
+            if !self.events.is_empty() {
+                return Ok(());
+            }
+        }
+        Ok(())
+    }
+
+    /// Notes what the system tells within so many milliseconds.
+    fn poll(&mut self, wait_ms: u64) -> Result<(), ServeFault> {
+        let wait = Duration::from_millis(wait_ms);
         if self.poll.poll(&mut self.events, Some(wait)).is_err() {
             return Err(ServeFault::Accept);
         }

@@ -1,6 +1,6 @@
 //! Who is let in: lists, pairs, content types, and how many.
 
-use crate::calls::{Call, core_with_burst};
+use crate::calls::{Call, Exercise, core_with_burst, exercised};
 use radio_access::{Lists, is_refused_type, is_source_pair};
 use radio_addr::{AddressList, ListFault, Peer, read_peer};
 use radio_core::{Core, OutOfMemory, Reply};
@@ -8,6 +8,8 @@ use radio_creds::{Pair, Users, basic};
 use radio_policy::Rule;
 use radio_settings::{MountName, Settings, SettingsFault};
 use std::alloc::Global;
+use std::process::Abort;
+use std::test::Fail;
 
 /// The users of `/a`, what a listener sends, and whether he is let in there.
 type UserRow = (&'static [u8], &'static [u8], bool);
@@ -197,13 +199,19 @@ fn admitted(alloc: Global, core: &mut Core) -> Option<u32> {
     None
 }
 
-fn admits_a_hundred(alloc: Global) -> Result<bool, SettingsFault> {
-    let mut core = core_with_burst(alloc, 8)?;
-    Ok(admitted(alloc, &mut core) == Some(100))
+/// A hundred connections are taken in.
+#[derive(Clone, Copy)]
+struct Hundred;
+
+impl Exercise for Hundred {
+    fn exercise<R: Abort>(&self, rt: &R, alloc: Global, core: &mut Core) -> Result<(), Fail> {
+        assert!(rt; admitted(alloc, core) == Some(100));
+        Ok(())
+    }
 }
 
 #[test]
-fn a_hundred_clients_and_one(rt: HostRuntime) -> Result<(), SettingsFault> {
-    assert!(rt; admits_a_hundred(rt.alloc())?);
-    Ok(())
+fn a_hundred_clients_and_one(rt: HostRuntime) -> Result<(), Fail> {
+    let core = core_with_burst(rt.alloc(), 8)?;
+    exercised(&rt, rt.alloc(), core, &Hundred)
 }

@@ -116,27 +116,56 @@ pub fn core_with(alloc: Global, options: &str) -> Result<Core, SettingsFault> {
     Ok(Core::new(alloc, settings, Lists::new(alloc)))
 }
 
+/// What is asked of a core.
+pub trait Exercise {
+    fn exercise<R: Abort>(&self, rt: &R, alloc: Global, core: &mut Core) -> Result<(), Fail>;
+}
+
+/// The core is asked so, and is gone then.
+pub fn exercised<R: Abort, E: Exercise>(
+    rt: &R,
+    alloc: Global,
+    mut core: Core,
+    asked: &E,
+) -> Result<(), Fail> {
+    asked.exercise(rt, alloc, &mut core)
+}
+
+/// It replies as one table says, and then as the next.
+#[derive(Clone, Copy)]
+struct InTurn<'a> {
+    first: &'a [(Call, &'static str)],
+    next: &'a [(Call, &'static str)],
+}
+
+impl Exercise for InTurn<'_> {
+    fn exercise<R: Abort>(&self, rt: &R, alloc: Global, core: &mut Core) -> Result<(), Fail> {
+        replies(rt, alloc, core, self.first)?;
+        replies(rt, alloc, core, self.next)
+    }
+}
+
 /// A core with this burst-size replies as one table says, and then as the next.
 pub fn replies_in_turn(
     rt: &impl Abort,
     alloc: Global,
     burst: u32,
-    first: &[(Call, &str)],
-    next: &[(Call, &str)],
+    first: &[(Call, &'static str)],
+    next: &[(Call, &'static str)],
 ) -> Result<(), Fail> {
-    let mut core = core_with_burst(alloc, burst)?;
-    both_tables(rt, alloc, &mut core, first, next)
+    let core = core_with_burst(alloc, burst)?;
+    exercised(rt, alloc, core, &InTurn { first, next })
 }
 
-fn both_tables(
+/// A core with these lines of limits and tables replies as the table says.
+pub fn replies_with(
     rt: &impl Abort,
     alloc: Global,
-    core: &mut Core,
-    first: &[(Call, &str)],
-    next: &[(Call, &str)],
+    options: &str,
+    table: &[(Call, &'static str)],
 ) -> Result<(), Fail> {
-    replies(rt, alloc, core, first)?;
-    replies(rt, alloc, core, next)
+    let core = core_with(alloc, options)?;
+    exercised(rt, alloc, core, &InTurn { first: table, next: &[] })
 }
 
 /// Each call of the table is replied to as the table says.

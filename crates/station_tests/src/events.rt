@@ -1,6 +1,7 @@
 //! Each event at each standing of a client.
 
 use crate::calls::*;
+use radio_core::Core;
 use std::alloc::Global;
 use std::process::Abort;
 use std::test::Fail;
@@ -16,7 +17,7 @@ const THREE_CLIENTS: &[(Call, &str)] = &[
 ];
 
 /// What follows upon them.
-fn three_clients(rt: &impl Abort, alloc: Global, table: &[(Call, &str)]) -> Result<(), Fail> {
+fn three_clients(rt: &impl Abort, alloc: Global, table: &[(Call, &'static str)]) -> Result<(), Fail> {
     replies_in_turn(rt, alloc, 8, THREE_CLIENTS, table)
 }
 
@@ -70,11 +71,21 @@ const EACH_REPLY: &[(Call, &str)] = &[
     (Call::Leave(4), "stray"),
 ];
 
+/// Each of the three replies to a call is as the table says.
+#[derive(Clone, Copy)]
+struct ThreeTimes;
+
+impl Exercise for ThreeTimes {
+    fn exercise<R: Abort>(&self, rt: &R, alloc: Global, core: &mut Core) -> Result<(), Fail> {
+        replies_three_times(rt, alloc, core, EACH_REPLY)
+    }
+}
+
 /// A record of an event, its client and its caller each have its reply.
 #[test]
 fn three_equal_replies(rt: HostRuntime) -> Result<(), Fail> {
-    let mut core = core_with_burst(rt.alloc(), 8)?;
-    replies_three_times(&rt, rt.alloc(), &mut core, EACH_REPLY)
+    let core = core_with_burst(rt.alloc(), 8)?;
+    exercised(&rt, rt.alloc(), core, &ThreeTimes)
 }
 
 /// The end of a session finishes its listeners, and theirs alone, until they leave.

@@ -1,8 +1,6 @@
 //! How many may sit at a mount and who may sit twice, who lags behind, and whose time is over.
 
 use crate::calls::*;
-use std::alloc::Global;
-use std::process::Abort;
 use std::test::Fail;
 
 /// A case: its name, the limits and tables of its settings, and what each event is replied to.
@@ -191,21 +189,10 @@ const CASES: &[Case] = &[
     ),
 ];
 
-/// A core of these settings replies as the table says.
-fn is_replied(
-    rt: &impl Abort,
-    alloc: Global,
-    options: &str,
-    table: &[(Call, &str)],
-) -> Result<(), Fail> {
-    let mut core = core_with(alloc, options)?;
-    replies(rt, alloc, &mut core, table)
-}
-
 #[test]
 fn limits_lag_and_the_clock(rt: HostRuntime) -> Result<(), Fail> {
     for (_, options, table) in CASES {
-        is_replied(&rt, rt.alloc(), options, table)?;
+        replies_with(&rt, rt.alloc(), options, table)?;
     }
     Ok(())
 }

@@ -44,17 +44,17 @@ fn step_after(alloc: Global, core: &mut Core, call: &Call) -> Result<Reply, OutO
 }
 
 /// Each call of the table is replied to as the table says, in the end.
-fn replies_at_last(
-    rt: &impl Abort,
-    alloc: Global,
-    core: &mut Core,
-    table: &[(Call, &str)],
-) -> Result<(), Fail> {
-    for (call, want) in table {
-        let words = told_at_last(alloc, core, call)?;
-        check_words(rt, call, words.as_str(), want);
+#[derive(Clone, Copy)]
+struct AtLast;
+
+impl Exercise for AtLast {
+    fn exercise<R: Abort>(&self, rt: &R, alloc: Global, core: &mut Core) -> Result<(), Fail> {
+        for (call, want) in TABLE {
+            let words = told_at_last(alloc, core, call)?;
+            check_words(rt, call, words.as_str(), want);
+        }
+        Ok(())
     }
-    Ok(())
 }
 
 fn core_at_last(alloc: Global) -> Result<Core, SettingsFault> {
@@ -66,6 +66,6 @@ fn core_at_last(alloc: Global) -> Result<Core, SettingsFault> {
 
 #[test]
 fn refusals_change_nothing(rt: HostRuntime) -> Result<(), Fail> {
-    let mut core = core_at_last(rt.alloc())?;
-    replies_at_last(&rt, rt.alloc(), &mut core, TABLE)
+    let core = core_at_last(rt.alloc())?;
+    exercised(&rt, rt.alloc(), core, &AtLast)
 }

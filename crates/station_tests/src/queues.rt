@@ -2,20 +2,10 @@
 //! cover hears on, however much was forgotten before.
 
 use crate::calls::*;
+use radio_core::Core;
 use std::alloc::Global;
 use std::process::Abort;
 use std::test::Fail;
-
-/// A core with these lines of limits replies as the table says.
-fn replies_with(
-    rt: &impl Abort,
-    alloc: Global,
-    limits: &str,
-    table: &[(Call, &str)],
-) -> Result<(), Fail> {
-    let mut core = core_with(alloc, limits)?;
-    replies(rt, alloc, &mut core, table)
-}
 
 /// Four blocks, of which the first is forgotten; a burst is no longer than the queue.
 const LATE: &[(Call, &str)] = &[
@@ -117,12 +107,22 @@ const IN_PARTS: &[(Call, &str)] = &[
     (Call::Draw(2, 5), "drawn defgh"),
 ];
 
+/// He does so a hundred times.
+#[derive(Clone, Copy)]
+struct InParts;
+
+impl Exercise for InParts {
+    fn exercise<R: Abort>(&self, rt: &R, alloc: Global, core: &mut Core) -> Result<(), Fail> {
+        replies(rt, alloc, core, BOTH)?;
+        for _ in 0..100 {
+            replies(rt, alloc, core, IN_PARTS)?;
+        }
+        Ok(())
+    }
+}
+
 #[test]
 fn a_long_stream_in_parts(rt: HostRuntime) -> Result<(), Fail> {
-    let mut core = core_with(rt.alloc(), "queue-size = 5\n")?;
-    replies(&rt, rt.alloc(), &mut core, BOTH)?;
-    for _ in 0..100 {
-        replies(&rt, rt.alloc(), &mut core, IN_PARTS)?;
-    }
-    Ok(())
+    let core = core_with(rt.alloc(), "queue-size = 5\n")?;
+    exercised(&rt, rt.alloc(), core, &InParts)
 }

@@ -1,7 +1,6 @@
 //! The worked rows, as events and replies.
 
 use crate::calls::*;
-use radio_core::Core;
 use std::alloc::Global;
 use std::process::Abort;
 use std::test::Fail;
@@ -38,27 +37,14 @@ const TWO_BLOCKS: &[(Call, &str)] = &[
     (Call::Listen(2, "/a"), "seated audio/mpeg,,"),
 ];
 
-/// What he draws, in words.
-fn drawn_after_two_blocks(rt: &impl Abort, alloc: Global, burst: u32) -> Result<String, Fail> {
-    let mut core = core_with_burst(alloc, burst)?;
-    drawn_from(rt, alloc, &mut core)
-}
-
-fn drawn_from(rt: &impl Abort, alloc: Global, core: &mut Core) -> Result<String, Fail> {
-    replies(rt, alloc, core, TWO_BLOCKS)?;
-    Ok(told_after(alloc, core, &Call::Draw(2, 100))?)
-}
-
 /// What he draws is this.
 fn draws_after_two_blocks(
     rt: &impl Abort,
     alloc: Global,
     burst: u32,
-    want: &str,
+    want: &'static str,
 ) -> Result<(), Fail> {
-    let words = drawn_after_two_blocks(rt, alloc, burst)?;
-    assert_eq!(rt; words.as_str(), want, "burst {burst}");
-    Ok(())
+    replies_in_turn(rt, alloc, burst, TWO_BLOCKS, &[(Call::Draw(2, 100), want)])
 }
 
 #[test]
