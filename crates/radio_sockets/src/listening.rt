@@ -28,7 +28,7 @@ const IDLE_MS: u64 = 10;
 
 /// So many such waits in a row, in which nothing came for anybody, and there is a turn all the same:
 /// time goes on for those who are silent.
-const IDLE_WAITS: usize = 20;
+const IDLE_WAITS: usize = 10;
 
 /// What the system answers where there is no descriptor left, for the process or at all.
 const NO_DESCRIPTORS: [i32; 2] = [24, 23];
