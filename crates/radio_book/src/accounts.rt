@@ -77,6 +77,38 @@ impl<C: Chronicle, H: House> Accounts<C, H> {
         ensures err { OnErr result (self.new.story.core ≡ self.old.story.core) }
         ensures frees { TakesNoMemory event → IsOk result }
     {
+        match event {
+            Event::Draw { id, room } => self.answer_draw(id, room),
+            event => self.answer_copied(event),
+        }
+    }
+
+    /// A draw, where nothing is stored. Most of what happens is draws, and their copies are made where
+    /// they are wanted.
+    fn answer_draw(&mut self, id: u64, room: u32) -> Result<Receipt, OutOfMemory>
+        requires { C.KEEPS ≡ false }
+        ensures step { (w : World) → Represents self.old.story.core w → IfOk result (λ receipt. (receipt.reply ≡ reply_to w (Event.Draw id room)) × Represents self.new.story.core (world_after w (Event.Draw id room))) }
+        ensures event { IfOk result (λ receipt. (receipt.serial ≡ 0) × (receipt.event ≡ (Event.Draw id room))) }
+        ensures chronicle { self.new.story.chronicle ≡ self.old.story.chronicle }
+        ensures err { OnErr result (self.new.story.core ≡ self.old.story.core) }
+    {
+        let reply = self.story.answer(Event::Draw { id, room })?;
+        Ok(Receipt {
+            serial: 0,
+            event: Event::Draw { id, room },
+            reply,
+        })
+    }
+
+    /// Any event, of which a copy is made, where nothing is stored.
+    fn answer_copied(&mut self, event: Event) -> Result<Receipt, OutOfMemory>
+        requires { C.KEEPS ≡ false }
+        ensures step { (w : World) → Represents self.old.story.core w → IfOk result (λ receipt. (receipt.reply ≡ reply_to w event) × Represents self.new.story.core (world_after w event)) }
+        ensures event { IfOk result (λ receipt. (receipt.serial ≡ 0) × (receipt.event ≡ event)) }
+        ensures chronicle { self.new.story.chronicle ≡ self.old.story.chronicle }
+        ensures err { OnErr result (self.new.story.core ≡ self.old.story.core) }
+        ensures frees { TakesNoMemory event → IsOk result }
+    {
         match event.again() {
             Ok(told) => match self.story.answer(event) {
                 Ok(reply) => Ok(Receipt {

@@ -1,15 +1,13 @@
 -- the laws of access and of admission
-use Rattle.std.proofs.Common.{◌≡◌, ◌⊎◌, inl, inr, Bool, true, false, ℕ, ◌-◌, ◌<◌, ◌≤◌, ◌==◌, Option, Some, None, List, [], ◌∷◌, refl, ap, sym, subst, ◌∙◌, arith}
+use Rattle.std.proofs.Common.{◌≡◌, inl, inr, Bool, true, false, ℕ, ◌-◌, ◌<◌, ◌≤◌, ◌==◌, Option, Some, None, List, [], ◌∷◌, refl, ap, sym, subst, ◌∙◌, arith}
 use Rattle.std.specs.Prelude.{find, nat_le, unwrap_or}
 use Rattle.std.proofs.lemmas.Bool.Decides.{nat_tests}
 use Rattle.radio_settings.specs.declared.field.Shown.{Shown}
 use Rattle.radio_tables.specs.Lists.{Each, Has}
 use Rattle.radio_tables.specs.FindLaws.{find_here, find_later}
 use Rattle.radio_core.specs.declared.event.Event.{Event}
-use Rattle.radio_core.specs.declared.event.ListenRequest.{ListenRequest}
 use Rattle.radio_core.specs.declared.outcome.Outcome.{Outcome}
 use Rattle.radio_core.specs.declared.reply.Reply.TheVariants.{Drawn, Seated}
-use Rattle.radio_seats.specs.declared.seat.Seat.{Seat}
 use Rattle.radio_core.specs.World.{World}
 use Rattle.radio_core.specs.Access.{IsHis, AccessIsKept}
 use Rattle.radio_core.specs.Admission.{IsBlockStart, IsEarliestStart, IsSeated, BeginsAtABlock}
@@ -17,10 +15,10 @@ use Rattle.radio_core.specs.Changes.{changed}
 use Rattle.radio_core.specs.Limits.{IsWithinLimits}
 use Rattle.radio_core.specs.Listen.{first_seat, burst_of}
 use Rattle.radio_seats.specs.Seats.{seat_of, seat_in}
-use Rattle.radio_core.specs.Sessions.{Session, session_of}
+use Rattle.radio_core.specs.Sessions.{Session}
 use Rattle.radio_core.specs.Sound.{AreRising, IsSound}
 use Rattle.radio_core.specs.Step.{outcome, reply_to, world_after}
-use Rattle.radio_core.specs.Stream.{WholeStream, end_of, burst_start, data_at}
+use Rattle.radio_core.specs.Stream.{end_of, burst_start}
 use Rattle.radio_core.specs.Ways.{Way, Misplaced, IsFinished, IsDenied, IsRefused, IsAdmitted, Begins, Receives, SetsTitle, TakesSeat, HandsOut, Ends, EndsAndLeaves, Leaves, HasPassed, Ticks}
 use Rattle.radio_seats.specs.SeatLaws.{has_sat_down}
 use Rattle.radio_core.proofs.Lookups.{found_named}

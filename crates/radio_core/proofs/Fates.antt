@@ -1,9 +1,7 @@
 -- how each client fares by an event that ends something
-use Rattle.std.proofs.Common.{◌≡◌, ◌⊎◌, inl, inr, Bool, true, false, ℕ, ◌<◌, Option, Some, None, is_some, List, refl, ap, sym, subst, ◌∙◌, arith}
-use Rattle.std.specs.Prelude.{if◌then◌else◌}
+use Rattle.std.proofs.Common.{◌≡◌, ◌⊎◌, inl, inr, Bool, true, false, ℕ, ◌<◌, Option, Some, None, is_some, List, refl, ap, sym, subst, ◌∙◌}
 use Rattle.radio_policy.specs.declared.rule.Rule.{Rule}
 use Rattle.radio_policy.specs.declared.rule.Rule.TheVariants.{NotLive}
-use Rattle.radio_access.specs.Lists.{Lists}
 use Rattle.radio_settings.specs.declared.settings.Settings.{Settings}
 use Rattle.radio_seats.specs.declared.seat.Listener.{Listener}
 use Rattle.radio_seats.specs.declared.seat.Seat.{Seat}
@@ -26,7 +24,7 @@ use Rattle.radio_core.specs.Finishes.{Cause, SessionIsOver, IsFarBehind, HasSatO
 use Rattle.radio_core.specs.Sessions.{Session, session_of}
 use Rattle.radio_core.specs.Sound.{AreApart, IsSound}
 use Rattle.radio_core.specs.Timeouts.{has_sat_out, asks_too_late, is_silent}
-use Rattle.radio_core.specs.World.{World, standing_of, standing_in, standing_by, standing_of_listener, standing_seated}
+use Rattle.radio_core.specs.World.{World, standing_of, standing_in, standing_by}
 
 -- a walk stops at a mount that has no session
 stopped : (found : Found) → found.is_live ≡ false → stop_of found ≡ Some NotLive

@@ -1,12 +1,12 @@
 -- what comes of an event is the same where only a queue is kept of each stream
-use Rattle.std.proofs.Common.{◌≡◌, Bool, true, false, ℕ, ◌+◌, ◌≤◌, ◌||◌, Option, Some, None, is_some, List, length, refl, ap, sym, ◌∙◌, arith}
+use Rattle.std.proofs.Common.{◌≡◌, Bool, true, false, ℕ, ◌+◌, ◌||◌, Option, Some, None, is_some, List, length, refl, ap, ◌∙◌, arith}
 use Rattle.std.proofs.Math.Path.{fun_ext}
-use Rattle.std.specs.Prelude.{nat_lt, not, if◌then◌else◌}
-use Rattle.std.specs.Option.{option_map, option_map_or}
+use Rattle.std.specs.Prelude.{nat_lt, if◌then◌else◌}
+use Rattle.std.specs.Option.{option_map}
 use Rattle.std.proofs.lemmas.List.{length-map}
 use Rattle.radio_policy.specs.declared.facts.Facts.{Facts}
 use Rattle.radio_policy.specs.declared.facts.TheConstants.Facts.{NONE}
-use Rattle.radio_policy.specs.Table.{Row, source_rows, push_rows, listen_rows}
+use Rattle.radio_policy.specs.Table.{source_rows, push_rows, listen_rows}
 use Rattle.radio_policy.specs.Verdicts.{verdict_in}
 use Rattle.radio_addr.specs.declared.peer.Peer.{Peer}
 use Rattle.radio_settings.specs.MountName.{is_mount_name}
@@ -24,25 +24,19 @@ use Rattle.radio_core.specs.declared.event.Event.{Event}
 use Rattle.radio_core.specs.declared.event.Event.TheVariants.{Arrive, Source, Push, SourceEnd, Title, Listen, Draw, Leave, Clock}
 use Rattle.radio_core.specs.declared.house.House.{House}
 use Rattle.radio_core.specs.declared.outcome.Change.TheVariants.{Nothing, Answer, TakeSeat, Advance}
-use Rattle.radio_core.specs.declared.outcome.Outcome.{Outcome}
 use Rattle.radio_core.specs.declared.reply.Reply.TheVariants.{Seated, Drawn}
-use Rattle.radio_core.specs.declared.standing.Standing.{Standing}
-use Rattle.radio_core.specs.declared.standing.Standing.TheVariants.{Unknown, Undecided, Feeds, Sits, Answered, Finished}
 use Rattle.radio_core.specs.Draw.{hands_out, hands_out_at}
-use Rattle.radio_core.specs.Facts.{largest_number, is_full, asker_of, session_at, is_live, is_in_settings, is_known, is_source_of, sight_of, live_end, source_facts, listen_facts}
-use Rattle.radio_core.specs.Kept.{kept_from, kept_session, kept_live, kept_of}
-use Rattle.radio_core.specs.Lagging.{EachSeat}
+use Rattle.radio_core.specs.Facts.{largest_number, is_full, asker_of, session_at, is_live, is_in_settings, is_source_of, sight_of, source_facts, listen_facts}
+use Rattle.radio_core.specs.Kept.{kept_session, kept_of}
 use Rattle.radio_core.specs.Listen.{burst_of, interval_for, first_seat, takes_seat}
 use Rattle.radio_core.specs.Outcomes.{says, on_verdict, if_undecided, if_feeding, if_sitting}
 use Rattle.radio_core.specs.Push.{takes_in}
 use Rattle.radio_core.specs.Sessions.{Session, is_of, session_of}
 use Rattle.radio_core.specs.Source.{begins}
-use Rattle.radio_core.specs.SourceReplies.{to_data, to_data_from, to_session, to_end, unless_spent}
 use Rattle.radio_core.specs.StandsFor.{HasRisingStarts, SeatsAreKept}
 use Rattle.radio_core.specs.Step.{outcome}
-use Rattle.radio_core.specs.Stream.{end_of, data_at}
 use Rattle.radio_core.specs.World.{World, standing_of}
-use Rattle.radio_core.proofs.KeptStreams.{kept_end, kept_data, kept_burst}
+use Rattle.radio_core.proofs.KeptStreams.{kept_data, kept_burst}
 use Rattle.radio_core.proofs.KeptLists.{kept_found, kept_ends}
 
 is_some_mapped : {A B : Type 0} (f : A → B) (found : Option A) → is_some (option_map f found) ≡ is_some found

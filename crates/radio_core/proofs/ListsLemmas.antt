@@ -1,5 +1,5 @@
 -- in every state of a run, who has arrived passes the address lists, and who sits is let in by the users of his mount
-use Rattle.std.proofs.Common.{◌≡◌, ◌⊎◌, inl, inr, true, false, ℕ, ◌+◌, ◌<◌, ◌==◌, Option, Some, None, List, [], ◌∷◌, length, refl, ap, sym, subst, ◌∙◌}
+use Rattle.std.proofs.Common.{◌≡◌, ◌⊎◌, inl, inr, true, ℕ, ◌+◌, ◌<◌, Some, None, List, [], ◌∷◌, length, refl, ap, sym, subst, ◌∙◌}
 use Rattle.radio_addr.specs.declared.peer.Peer.{Peer}
 use Rattle.radio_settings.specs.declared.settings.Settings.{Settings}
 use Rattle.radio_access.specs.Lists.{Lists, passes, lets_in}

@@ -1,5 +1,5 @@
 -- who sits, and his seat
-use Rattle.std.proofs.Common.{◌≡◌, ℕ, Option, Some, None, List, refl}
+use Rattle.std.proofs.Common.{◌≡◌, ℕ, Option, Some, None, refl}
 use Rattle.radio_addr.specs.declared.peer.Peer.{Peer}
 use Rattle.radio_seats.specs.declared.seat.Listener.{Listener}
 use Rattle.radio_seats.specs.declared.seat.Seat.{Seat}

@@ -1,7 +1,5 @@
 -- the law of service, and that each reply fits the client to whom it is told
-use Rattle.std.proofs.Common.{◌≡◌, ◌↔◌, true, false, ℕ, Bool, not, ◌+◌, ◌<◌, Option, Some, None, is_some, List, [], ◌∷◌, refl, ap, sym, ◌∙◌, arith}
-use Rattle.std.specs.Prelude.{if◌then◌else◌}
-use Rattle.radio_policy.specs.declared.rule.Rule.{Rule}
+use Rattle.std.proofs.Common.{◌≡◌, ◌↔◌, true, ℕ, ◌+◌, ◌<◌, Option, Some, None, is_some, List, refl, ap, sym, ◌∙◌, arith}
 use Rattle.radio_policy.specs.declared.judgement.Verdict.{Verdict}
 use Rattle.radio_policy.specs.declared.judgement.Verdict.TheVariants.{Allow, Deny as Denied}
 use Rattle.radio_policy.specs.Table.{Row}
@@ -14,18 +12,11 @@ use Rattle.radio_core.specs.declared.event.SourceRequest.{SourceRequest}
 use Rattle.radio_core.specs.declared.event.ListenRequest.{ListenRequest}
 use Rattle.radio_core.specs.declared.outcome.Change.{Change}
 use Rattle.radio_core.specs.declared.outcome.Outcome.{Outcome}
-use Rattle.radio_core.specs.declared.reply.Reply.TheVariants.{Arrived, Feeding, Seated, Finished}
-use Rattle.radio_seats.specs.declared.seat.Listener.{Listener}
+use Rattle.radio_core.specs.declared.reply.Reply.TheVariants.{Arrived, Feeding, Seated}
 use Rattle.radio_seats.specs.declared.seat.Seat.{Seat}
-use Rattle.radio_seats.specs.declared.seat.Seating.{Seating}
-use Rattle.radio_seats.specs.declared.seat.Seating.TheVariants.{Sits as HasSeat, Finished as HasFinished}
-use Rattle.radio_core.specs.declared.clients.Client.{Client}
-use Rattle.radio_core.specs.declared.clients.ClientState.{ClientState}
-use Rattle.radio_core.specs.declared.clients.ClientState.TheVariants.{Undecided as IsNew, Feeds as IsSource, Listens, Answered, Ended}
 use Rattle.radio_core.specs.declared.standing.Standing.{Standing}
 use Rattle.radio_core.specs.declared.standing.Standing.TheVariants.{Unknown, Undecided, Feeds, Sits}
-use Rattle.radio_core.specs.Clients.{client_of}
-use Rattle.radio_core.specs.World.{World, standing_of, standing_in, standing_by, standing_of_listener, standing_seated}
+use Rattle.radio_core.specs.World.{World, standing_of}
 use Rattle.radio_core.specs.Changes.{changed}
 use Rattle.radio_core.specs.Facts.{session_at, rows_to_arrive, rows_to_feed, rows_to_push, rows_to_listen}
 use Rattle.radio_core.specs.Outcomes.{on_verdict, if_undecided, if_feeding, if_sitting}
@@ -35,7 +26,7 @@ use Rattle.radio_core.specs.Push.{takes_in}
 use Rattle.radio_core.specs.Listen.{first_seat, takes_seat}
 use Rattle.radio_core.specs.Draw.{hands_out, hands_out_at}
 use Rattle.radio_core.specs.Others.{RepliesFit}
-use Rattle.radio_seats.specs.Seats.{listener_of, seat_of, seat_in, seat_held}
+use Rattle.radio_seats.specs.Seats.{seat_of}
 use Rattle.radio_core.specs.Service.{IsTakenIn, IsHanded, Serves}
 use Rattle.radio_core.specs.Sessions.{Session, session_of}
 use Rattle.radio_core.specs.Sound.{IsSound}
@@ -43,7 +34,7 @@ use Rattle.radio_core.specs.Step.{outcome, reply_to, world_after}
 use Rattle.radio_core.specs.Ways.{Way, Misplaced, IsFinished, IsDenied, IsRefused, IsAdmitted, Begins, Receives, SetsTitle, TakesSeat, HandsOut, Ends, EndsAndLeaves, Leaves, HasPassed, Ticks, IsUndecided}
 use Rattle.radio_core.proofs.FinishLemmas.{finished_told}
 use Rattle.radio_core.proofs.SeatedLemmas.{seat_of_sitting}
-use Rattle.radio_core.proofs.Standings.{turns_answered, turns_feeding, turns_sitting, turns_admitted}
+use Rattle.radio_core.proofs.Standings.{turns_feeding, turns_sitting, turns_admitted}
 use Rattle.radio_core.proofs.Ways.{way_of, found_at_path, may_listen}
 
 is_allowed : (v : Verdict) (denied : Change) (allowed : Outcome) → v ≡ Allow → on_verdict v denied allowed ≡ allowed

@@ -1,24 +1,20 @@
 -- what holds of every state of a run holds still after the end of a session
-use Rattle.std.proofs.Common.{◌≡◌, ◌⊎◌, inl, inr, true, false, ℕ, ◌<◌, ◌≤◌, ◌==◌, Option, Some, None, List, refl, ap, sym, subst, ◌∙◌, arith}
-use Rattle.std.specs.Prelude.{if◌then◌else◌, not}
-use Rattle.std.specs.Option.{option_map}
+use Rattle.std.proofs.Common.{◌≡◌, ◌⊎◌, inl, inr, true, false, ℕ, ◌<◌, ◌==◌, Some, None, List, refl, ap, sym, ◌∙◌, arith}
+use Rattle.std.specs.Prelude.{not}
 use Rattle.std.specs.Str.{bytes_eq}
 use Rattle.std.proofs.lemmas.Bool.Decides.{nat_tests}
 use Rattle.std.proofs.lemmas.Slice.Eq.{bytes_eq-Decides}
 use Rattle.radio_policy.specs.declared.rule.Rule.TheVariants.{NotLive}
 use Rattle.radio_tables.specs.KeyLaws.{by_number, by_name}
-use Rattle.radio_core.specs.declared.outcome.Change.TheVariants.{Answer, Forget, End, EndAndLeave}
-use Rattle.radio_seats.specs.declared.seat.Listener.{Listener}
+use Rattle.radio_core.specs.declared.outcome.Change.TheVariants.{End, EndAndLeave}
 use Rattle.radio_seats.specs.declared.seat.Seat.{Seat}
-use Rattle.radio_seats.specs.declared.seat.Seating.{Seating}
-use Rattle.radio_seats.specs.declared.seat.Seating.TheVariants.{Sits as HasSeat, Finished as HasFinished}
 use Rattle.radio_core.specs.declared.standing.Standing.{Standing}
 use Rattle.radio_core.specs.declared.standing.Standing.TheVariants.{Unknown, Feeds, Sits, Answered}
 use Rattle.radio_core.specs.World.{World, standing_of}
 use Rattle.radio_core.specs.Changes.{changed, session_ended}
-use Rattle.radio_seats.specs.Seats.{listener_of, seat_of, seat_in, seat_held, ended_at, finished_from, finished_at, without_listener}
+use Rattle.radio_seats.specs.Seats.{listener_of, seat_of, seat_in}
 use Rattle.radio_core.specs.Sessions.{Session, is_of, session_of, without_session}
-use Rattle.radio_core.specs.Sound.{AreApart, AreRising, IsSeatedIn, IsSound}
+use Rattle.radio_core.specs.Sound.{AreApart, IsSound}
 use Rattle.radio_seats.specs.SeatLaws.{StillSits, sits_still, sits_on_elsewhere, has_lost_it, beside_left, is_no_listener}
 use Rattle.radio_core.proofs.ApartLemmas.{kept_apart}
 use Rattle.radio_core.proofs.Lookups.{beside_ended, is_over}

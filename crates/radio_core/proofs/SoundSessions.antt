@@ -1,33 +1,28 @@
 -- what holds of every state of a run holds still after what sessions do
-use Rattle.std.proofs.Common.{◌≡◌, ◌⊎◌, inl, inr, true, false, ℕ, ◌+◌, ◌<◌, ◌≤◌, ◌==◌, Option, Some, None, List, length, take, drop, refl, ap, sym, subst, ◌∙◌, arith, length-append}
-use Rattle.std.specs.Option.{option_map}
+use Rattle.std.proofs.Common.{◌≡◌, true, false, ℕ, ◌+◌, ◌≤◌, ◌==◌, Option, Some, None, List, length, drop, refl, ap, sym, subst, ◌∙◌, arith, length-append}
 use Rattle.std.specs.Str.{bytes_eq}
-use Rattle.std.proofs.lemmas.Bool.Decides.{nat_tests}
 use Rattle.std.proofs.lemmas.List.{length-take, length-drop}
 use Rattle.std.proofs.lemmas.Slice.Eq.{bytes_eq-Decides}
-use Rattle.radio_policy.specs.declared.rule.Rule.TheVariants.{NotLive}
 use Rattle.radio_addr.specs.declared.peer.Peer.{Peer}
 use Rattle.radio_settings.specs.declared.field.Shown.{Shown}
 use Rattle.radio_tables.specs.KeyLaws.{by_number, by_name}
-use Rattle.radio_core.specs.declared.outcome.Change.TheVariants.{Begin, Receive, Advance, End, EndAndLeave}
-use Rattle.radio_seats.specs.declared.seat.Listener.{Listener}
+use Rattle.radio_core.specs.declared.outcome.Change.TheVariants.{Begin, Advance}
 use Rattle.radio_seats.specs.declared.seat.Seat.{Seat}
 use Rattle.radio_seats.specs.declared.seat.Seating.{Seating}
 use Rattle.radio_seats.specs.declared.seat.Seating.TheVariants.{Sits as HasSeat, Finished as HasFinished}
-use Rattle.radio_core.specs.declared.standing.Standing.{Standing}
-use Rattle.radio_core.specs.declared.standing.Standing.TheVariants.{Unknown, Undecided, Feeds, Sits, Answered, Finished}
+use Rattle.radio_core.specs.declared.standing.Standing.TheVariants.{Unknown, Undecided, Feeds, Sits}
 use Rattle.radio_core.specs.World.{World, standing_of}
-use Rattle.radio_core.specs.Changes.{changed, session_ended, received}
-use Rattle.radio_seats.specs.Seats.{listener_of, seat_of, seat_in, seat_held, heard_to}
-use Rattle.radio_core.specs.Sessions.{Session, is_of, session_of, opened, longer, fed, without_session}
+use Rattle.radio_core.specs.Changes.{changed, received}
+use Rattle.radio_seats.specs.Seats.{seat_of, seat_in, seat_held, heard_to}
+use Rattle.radio_core.specs.Sessions.{Session, is_of, session_of, opened, longer}
 use Rattle.radio_core.specs.Sound.{AreRising, IsSeatedIn, IsSound}
 use Rattle.radio_core.specs.Stream.{end_of, data_at}
 use Rattle.radio_seats.specs.SeatLaws.{beside_moved, has_moved}
 use Rattle.radio_core.proofs.ApartLemmas.{begun_apart, updated_apart}
-use Rattle.radio_core.proofs.Lookups.{found_named, beside_fed, beside_ended, is_longer, is_over, is_new_session, beside_begun}
+use Rattle.radio_core.proofs.Lookups.{beside_fed, is_longer, is_new_session, beside_begun}
 use Rattle.radio_seats.specs.SeatLaws.{listener_seated}
-use Rattle.radio_core.proofs.Standings.{Turns, Loses, turns_answered, turns_feeding, turns_forgotten, stays_hearing, silenced, ended_feeds, feeds_ended}
-use Rattle.radio_core.proofs.Soundness.{rising_more, sound_turned, seated_still}
+use Rattle.radio_core.proofs.Standings.{Turns, turns_feeding, stays_hearing}
+use Rattle.radio_core.proofs.Soundness.{rising_more, seated_still}
 
 -- the names of the mount are the same
 same_names : (mount other : List ℕ) → mount ≡ other → bytes_eq mount other ≡ true

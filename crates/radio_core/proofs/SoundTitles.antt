@@ -1,5 +1,5 @@
 -- what holds of every state of a run holds still when a source has set a title
-use Rattle.std.proofs.Common.{◌≡◌, ◌≤◌, false, ℕ, Option, Some, None, List, refl, ap, sym, subst, ◌∙◌}
+use Rattle.std.proofs.Common.{◌≡◌, ◌≤◌, false, ℕ, Some, List, refl, ap, sym, subst, ◌∙◌}
 use Rattle.std.specs.Str.{bytes_eq}
 use Rattle.radio_tables.specs.KeyLaws.{by_name}
 use Rattle.radio_core.specs.declared.outcome.Change.TheVariants.{SetTitle}

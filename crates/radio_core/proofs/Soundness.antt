@@ -1,42 +1,26 @@
 -- what holds of every state of a run holds still after each event
-use Rattle.std.proofs.Common.{◌≡◌, Bool, true, false, ℕ, ◌+◌, ◌-◌, ◌<◌, ◌≤◌, ◌==◌, Option, Some, None, List, [], ◌∷◌, ◌++◌, length, take, drop, refl, ap, sym, subst, ◌∙◌, arith, length-append}
-use Rattle.std.specs.Prelude.{find, nat_le, unwrap_or, if◌then◌else◌}
-use Rattle.std.specs.Option.{option_map}
-use Rattle.std.specs.Str.{bytes_eq}
+use Rattle.std.proofs.Common.{◌≡◌, Bool, true, false, ℕ, ◌+◌, ◌-◌, ◌<◌, ◌≤◌, ◌==◌, Option, Some, None, List, [], ◌∷◌, ◌++◌, refl, ap, sym, subst, ◌∙◌, arith}
+use Rattle.std.specs.Prelude.{find, nat_le, unwrap_or}
 use Rattle.std.proofs.lemmas.Bool.Decides.{nat_tests}
-use Rattle.std.proofs.lemmas.List.{length-take, length-drop}
-use Rattle.std.proofs.lemmas.Slice.Eq.{bytes_eq-Decides}
-use Rattle.radio_policy.specs.declared.rule.Rule.TheVariants.{NotLive}
 use Rattle.radio_addr.specs.declared.peer.Peer.{Peer}
-use Rattle.radio_settings.specs.declared.settings.Settings.{Settings}
 use Rattle.radio_tables.specs.Lists.{Each}
-use Rattle.radio_tables.specs.EachLaws.{Each_each}
 use Rattle.radio_tables.specs.FindLaws.{found_has}
-use Rattle.radio_tables.specs.KeyLaws.{by_number, by_name}
-use Rattle.radio_core.specs.declared.event.Event.{Event}
+use Rattle.radio_tables.specs.KeyLaws.{by_number}
 use Rattle.radio_core.specs.declared.event.ListenRequest.{ListenRequest}
-use Rattle.radio_core.specs.declared.outcome.Change.TheVariants.{Answer, Admit, Begin, Receive, TakeSeat, Advance, End, EndAndLeave, Forget}
-use Rattle.radio_core.specs.declared.outcome.Outcome.{Outcome}
-use Rattle.radio_seats.specs.declared.seat.Listener.{Listener}
+use Rattle.radio_core.specs.declared.outcome.Change.TheVariants.{Answer, Admit, TakeSeat, Forget}
 use Rattle.radio_seats.specs.declared.seat.Seat.{Seat}
-use Rattle.radio_seats.specs.declared.seat.Seating.{Seating}
-use Rattle.radio_seats.specs.declared.seat.Seating.TheVariants.{Sits as HasSeat, Finished as HasFinished}
 use Rattle.radio_core.specs.declared.standing.Standing.{Standing}
-use Rattle.radio_core.specs.declared.standing.Standing.TheVariants.{Unknown, Undecided, Feeds, Sits, Answered, Finished}
-use Rattle.radio_core.specs.World.{World, opening, standing_of}
-use Rattle.radio_core.specs.Changes.{changed, session_ended}
+use Rattle.radio_core.specs.declared.standing.Standing.TheVariants.{Unknown, Undecided, Feeds, Sits, Answered}
+use Rattle.radio_core.specs.World.{World, standing_of}
+use Rattle.radio_core.specs.Changes.{changed}
 use Rattle.radio_core.specs.Listen.{first_seat, burst_of}
-use Rattle.radio_seats.specs.Seats.{listener_of, seat_of, seat_in, seat_held, ended_at, finished_from, finished_at, without_listener}
-use Rattle.radio_core.specs.Sessions.{Session, session_of, opened, longer, fed, without_session}
+use Rattle.radio_seats.specs.Seats.{seat_of, seat_in, without_listener}
+use Rattle.radio_core.specs.Sessions.{Session, session_of}
 use Rattle.radio_core.specs.Sound.{AreApart, AreRising, IsSeatedIn, IsSound}
-use Rattle.radio_core.specs.Step.{outcome, world_after}
-use Rattle.radio_core.specs.Run.{world_after_all, run_after}
-use Rattle.radio_core.specs.Stream.{end_of, burst_start, data_at}
-use Rattle.radio_core.specs.Ways.{Way, Misplaced, IsFinished, IsDenied, IsRefused, IsAdmitted, Begins, Receives, SetsTitle, TakesSeat, HandsOut, Ends, EndsAndLeaves, Leaves, HasPassed, Ticks}
+use Rattle.radio_core.specs.Stream.{end_of, burst_start}
 use Rattle.radio_seats.specs.SeatLaws.{beside_left, beside_seated, is_no_listener, has_sat_down}
-use Rattle.radio_core.proofs.Lookups.{found_named, beside_fed, beside_ended, is_longer, is_over, is_new_session, beside_begun}
-use Rattle.radio_core.proofs.Standings.{Turns, Loses, turns_answered, turns_feeding, turns_sitting, turns_forgotten, turns_admitted, stays_hearing, silenced, ended_feeds, feeds_ended}
-use Rattle.radio_core.proofs.Ways.{way_of}
+use Rattle.radio_core.proofs.Lookups.{found_named}
+use Rattle.radio_core.proofs.Standings.{Turns, turns_answered, turns_sitting, turns_forgotten, turns_admitted}
 
 -- block starts rise still, one more at the end or a longer end
 rising_to : (starts : List ℕ) (last more : ℕ) → last ≤ more → AreRising starts last → AreRising starts more

@@ -14,7 +14,6 @@ use Rattle.radio_addr.specs.declared.peer.Peer.{Peer}
 use Rattle.radio_core.specs.declared.clients.Client.{Client}
 use Rattle.radio_core.specs.declared.clients.ClientState.{ClientState}
 use Rattle.radio_core.specs.declared.clients.ClientState.TheVariants.{Undecided, Feeds, Listens, Answered, Ended}
-use Rattle.radio_core.specs.declared.event.Event.TheVariants.{Push, SourceEnd}
 use Rattle.radio_core.specs.declared.house.House.{House}
 use Rattle.radio_core.specs.declared.reply.Reply.{Reply}
 use Rattle.radio_core.specs.declared.reply.Reply.TheVariants.{Noted, Deny, Finished, Stray}
@@ -29,7 +28,6 @@ use Rattle.radio_core.specs.declared.outcome.Change.TheVariants.{Nothing, End}
 use Rattle.radio_core.specs.declared.outcome.Outcome.{Outcome}
 use Rattle.radio_policy.specs.declared.judgement.Verdict.TheVariants.{Allow, Deny as Denied}
 use Rattle.radio_policy.specs.Verdicts.{verdict_in}
-use Rattle.radio_core.specs.SourceEnd.{stops_feeding}
 use Rattle.radio_core.specs.Sessions.{Session, is_of, session_of, longer}
 use Rattle.radio_core.specs.SourceReplies.{unless_spent, to_session, to_data_from, to_end_from, to_data, to_end, IsQuiet, EndsByRule, IsToldByData, SourcesAreToldByTheirData, EndsAreTold}
 use Rattle.radio_core.specs.Step.{outcome, reply_to, world_after}

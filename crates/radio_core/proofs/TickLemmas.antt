@@ -1,6 +1,6 @@
 -- what the clock ends, and that nobody outstays it
-use Rattle.std.proofs.Common.{◌≡◌, ◌⊎◌, inl, inr, Bool, true, false, ℕ, zero, suc, ◌+◌, ◌<◌, ◌≤◌, ◌==◌, Option, Some, None, List, [], ◌∷◌, length, refl, ap, sym, subst, ◌∙◌, arith}
-use Rattle.std.specs.Prelude.{if◌then◌else◌, map, find, filter, not}
+use Rattle.std.proofs.Common.{◌≡◌, ◌⊎◌, inl, inr, Bool, true, false, ℕ, zero, suc, ◌≤◌, ◌==◌, Option, Some, None, List, [], ◌∷◌, length, refl, ap, sym, subst, ◌∙◌, arith}
+use Rattle.std.specs.Prelude.{if◌then◌else◌, map, find, not}
 use Rattle.std.specs.Option.{option_map}
 use Rattle.std.specs.Str.{bytes_eq}
 use Rattle.std.proofs.lemmas.Bool.Decides.{nat_tests}
@@ -12,7 +12,7 @@ use Rattle.radio_tables.specs.KeyLaws.{by_number, by_name}
 use Rattle.radio_seats.specs.declared.seat.Listener.{Listener}
 use Rattle.radio_seats.specs.declared.seat.Seat.{Seat}
 use Rattle.radio_seats.specs.EndLaws.{kept_seat}
-use Rattle.radio_seats.specs.Seats.{listener_of, seat_of, finished_at}
+use Rattle.radio_seats.specs.Seats.{listener_of, seat_of}
 use Rattle.radio_core.specs.declared.clients.Client.{Client}
 use Rattle.radio_core.specs.declared.clients.ClientState.{ClientState}
 use Rattle.radio_core.specs.declared.clients.ClientState.TheVariants.{Undecided as IsNew, Feeds as IsSource, Listens, Answered as HasHisAnswer, Ended}
@@ -21,14 +21,14 @@ use Rattle.radio_core.specs.declared.outcome.Change.{Change}
 use Rattle.radio_core.specs.declared.outcome.Change.TheVariants.{Nothing, Tick}
 use Rattle.radio_core.specs.declared.standing.Standing.{Standing}
 use Rattle.radio_core.specs.declared.standing.Standing.TheVariants.{Unknown, Undecided, Feeds, Sits, Finished}
-use Rattle.radio_core.specs.Changes.{changed, session_ended, now_in_state, timed_out_by, durations_over, first_silent, session_silenced, on_silent, silence, ticked}
+use Rattle.radio_core.specs.Changes.{changed, session_ended, timed_out_by, durations_over, first_silent, session_silenced, on_silent, silence, ticked}
 use Rattle.radio_core.specs.Clients.{is_client, client_of, with_state}
-use Rattle.radio_core.specs.Finishes.{Cause, SessionIsOver, HasSatOut, HasAskedNothing, HasSentNothing}
+use Rattle.radio_core.specs.Finishes.{SessionIsOver, HasSatOut, HasAskedNothing, HasSentNothing}
 use Rattle.radio_core.specs.Outstaying.{IsInTime, NobodyOutstays}
-use Rattle.radio_core.specs.Sessions.{Session, is_of, session_of, without_session}
-use Rattle.radio_core.specs.Sound.{AreApart, IsSound}
+use Rattle.radio_core.specs.Sessions.{Session, is_of, session_of}
+use Rattle.radio_core.specs.Sound.{IsSound}
 use Rattle.radio_core.specs.Step.{outcome, world_after}
-use Rattle.radio_core.specs.Timeouts.{lies_back, has_sat_out, asks_nothing, asks_too_late, timed_out, is_silent}
+use Rattle.radio_core.specs.Timeouts.{has_sat_out, asks_nothing, asks_too_late, timed_out, is_silent}
 use Rattle.radio_core.specs.World.{World, standing_of, standing_in}
 use Rattle.radio_core.proofs.ApartLemmas.{kept_apart, found_own, shorter}
 use Rattle.radio_core.proofs.Fates.{IsActive, Fate, GoesOn, IsEnded, Fates, sound_fates, fates_none, fates_then, seats_fates, stops_there, sits_on_still}

@@ -1,18 +1,15 @@
 -- What has had its time, in numbers.
-use Rattle.std.proofs.Common.{◌≡◌, ℕ, ◌*◌, ◌-◌, ◌<◌, ◌≤◌, Bool, true, false, List, Option, Some, None, ltb, leb, refl, sym, ap, subst, ◌∙◌}
-use Rattle.std.specs.Prelude.{◌↔◌, nat_le}
+use Rattle.std.proofs.Common.{◌≡◌, ℕ, ◌*◌, ◌-◌, ◌<◌, ◌≤◌, true, false, List, Option, Some, None, ltb, refl, sym, subst}
+use Rattle.std.specs.Prelude.{◌↔◌}
 use Rattle.std.specs.Str.{bytes_eq}
 use Rattle.std.specs.Option.{option_map_or}
 use Rattle.std.proofs.lemmas.Slice.Eq.{bytes_eq-Decides}
 use Rattle.std.proofs.lemmas.Bool.{ltb-true, lt-ltb, leb-true, le-leb, and_parts, and_from}
-use Rattle.radio_settings.specs.declared.settings.Settings.{Settings}
 use Rattle.radio_settings.specs.Options.{options_for}
 use Rattle.radio_seats.specs.declared.seat.Seat.{Seat}
-use Rattle.radio_core.specs.declared.clients.Client.{Client}
 use Rattle.radio_core.specs.declared.clients.ClientState.{ClientState}
 use Rattle.radio_core.specs.declared.clients.ClientState.TheVariants.{Undecided, Feeds, Listens, Answered, Ended}
-use Rattle.radio_core.specs.Sessions.{Session}
-use Rattle.radio_core.specs.Timeouts.{lies_back, lags_behind, has_sat_out, asks_nothing, asks_too_late, is_silent, TestsAreInNumbers}
+use Rattle.radio_core.specs.Timeouts.{lies_back, lags_behind, asks_nothing, TestsAreInNumbers}
 
 -- so many seconds or more, in milliseconds
 back : (seconds moment now : ℕ) → (lies_back seconds moment now ≡ true) ↔ (1000 * seconds ≤ now - moment)

@@ -1,10 +1,8 @@
 -- the law of totals
-use Rattle.std.proofs.Common.{◌≡◌, ◌⊎◌, inl, inr, Bool, true, false, ℕ, zero, suc, ◌+◌, ◌==◌, not, Option, Some, None, is_some, List, [], ◌∷◌, length, refl, ap, sym, subst, ◌∙◌, arith}
-use Rattle.std.specs.Prelude.{map, filter, if◌then◌else◌}
-use Rattle.std.specs.Ordering.{nat_cmp}
+use Rattle.std.proofs.Common.{◌≡◌, ◌⊎◌, inl, inr, Bool, true, ℕ, zero, suc, ◌+◌, not, Option, Some, None, is_some, List, [], ◌∷◌, length, refl, ap, sym, subst, ◌∙◌, arith}
+use Rattle.std.specs.Prelude.{map, if◌then◌else◌}
 use Rattle.std.proofs.lemmas.List.{length-map}
 use Rattle.std.proofs.lemmas.List.Filters.{length-filter_both}
-use Rattle.radio_tables.specs.Lists.{placed}
 use Rattle.radio_tables.specs.KeyLaws.{by_number}
 use Rattle.radio_addr.specs.declared.peer.Peer.{Peer}
 use Rattle.radio_policy.specs.declared.rule.Rule.{Rule}
@@ -26,7 +24,7 @@ use Rattle.radio_core.specs.declared.outcome.Outcome.{Outcome}
 use Rattle.radio_core.specs.declared.reply.Reply.{Reply}
 use Rattle.radio_core.specs.declared.reply.Reply.TheVariants.{Noted, Stray}
 use Rattle.radio_core.specs.declared.standing.Standing.{Standing}
-use Rattle.radio_core.specs.declared.standing.Standing.TheVariants.{Unknown, Undecided, Feeds, Sits, Answered, Finished}
+use Rattle.radio_core.specs.declared.standing.Standing.TheVariants.{Unknown, Undecided, Feeds, Answered}
 use Rattle.radio_core.specs.Clients.{is_client, client_of, in_state, with_state, newcomer}
 use Rattle.radio_core.specs.Changes.{changed, session_ended, received, taken_in, timed_out_by, durations_over, first_silent, session_silenced, on_silent, silence, ticked}
 use Rattle.radio_core.specs.Facts.{live_end}
@@ -43,7 +41,7 @@ use Rattle.radio_core.specs.Ways.{Way, Misplaced, IsFinished, IsDenied, IsRefuse
 use Rattle.radio_core.specs.World.{World, opening, standing_of, standing_in, standing_by, standing_seated, standing_of_listener}
 use Rattle.radio_core.proofs.Effects.{IsSwept, GoesOnAs, IsOut, lag_swept, swept}
 use Rattle.radio_core.proofs.NumberLists.{IsRising, IsFree, has, without, placed_rising, placed_length, placed_free, kept_rising, one_less, kept_free, taken_free, numbers_updated, numbers_mapped, numbers_placed, numbers_without, number_found, number_free}
-use Rattle.radio_core.proofs.SoundEnds.{turns_ended, turns_ended_and_left}
+use Rattle.radio_core.proofs.SoundEnds.{turns_ended}
 use Rattle.radio_core.proofs.SoundRuns.{sound_after, sound_opening}
 use Rattle.radio_core.proofs.Standings.{Turns, Loses, kept_of, turns_answered, turns_feeding, turns_sitting, turns_forgotten, turns_admitted, stays_hearing, silenced}
 use Rattle.radio_core.proofs.TickLemmas.{ticked_fates}

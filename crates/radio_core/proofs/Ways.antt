@@ -31,15 +31,12 @@ use Rattle.radio_core.specs.declared.standing.Standing.TheVariants.{Unknown, Und
 use Rattle.radio_core.specs.World.{World, standing_of}
 use Rattle.radio_core.specs.Facts.{largest_number, session_at, is_live, is_known, sight_of, arrive_facts, source_facts, rows_to_arrive, rows_to_feed, rows_to_push, rows_to_listen}
 use Rattle.radio_core.specs.Outcomes.{says, on_verdict, out_of_place, if_undecided, if_feeding, if_sitting}
-use Rattle.radio_core.specs.Arrive.{arrives, admits_client}
-use Rattle.radio_core.specs.Source.{asks_to_feed, begins}
-use Rattle.radio_core.specs.Push.{delivers, takes_in}
-use Rattle.radio_core.specs.SourceEnd.{stops_feeding}
-use Rattle.radio_core.specs.Title.{sets_title}
-use Rattle.radio_core.specs.Listen.{asks_to_hear, takes_seat}
-use Rattle.radio_core.specs.Draw.{draws, hands_out, hands_out_at}
-use Rattle.radio_core.specs.Leave.{leaves, leaves_from}
-use Rattle.radio_core.specs.Clock.{hears_clock}
+use Rattle.radio_core.specs.Arrive.{admits_client}
+use Rattle.radio_core.specs.Source.{begins}
+use Rattle.radio_core.specs.Push.{takes_in}
+use Rattle.radio_core.specs.Listen.{takes_seat}
+use Rattle.radio_core.specs.Draw.{hands_out, hands_out_at}
+use Rattle.radio_core.specs.Leave.{leaves_from}
 use Rattle.radio_seats.specs.Seats.{seat_of}
 use Rattle.radio_core.specs.Sessions.{Session, session_of}
 use Rattle.radio_core.specs.Step.{outcome}

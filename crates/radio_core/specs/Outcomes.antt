@@ -10,7 +10,6 @@ use Rattle.radio_core.specs.declared.outcome.Change.TheVariants.{Nothing}
 use Rattle.radio_core.specs.declared.outcome.Outcome.{Outcome}
 use Rattle.radio_core.specs.declared.standing.Standing.{Standing}
 use Rattle.radio_core.specs.declared.standing.Standing.TheVariants.{Undecided, Feeds, Sits, Finished as HasFinished}
-use Rattle.radio_core.specs.World.{World, standing_of}
 
 abbrev pub says : Reply → Change → Outcome
 says reply change = record { reply = reply; change = change }

@@ -6,7 +6,7 @@ use Rattle.radio_seats.specs.declared.seat.Seat.{Seat}
 use Rattle.radio_core.specs.declared.standing.Standing.TheVariants.{Unknown, Feeds, Sits}
 use Rattle.radio_seats.specs.Seats.{seat_of}
 use Rattle.radio_core.specs.Sessions.{Session, session_of}
-use Rattle.radio_core.specs.Stream.{WholeStream, end_of}
+use Rattle.radio_core.specs.Stream.{end_of}
 use Rattle.radio_core.specs.World.{World, standing_of}
 
 -- the places do not fall, and none is past the last

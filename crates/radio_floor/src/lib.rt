@@ -1,14 +1,15 @@
 //! Whole scripts over the server: from the bytes of a script to the bytes of its transcript.
 //!
 //! - [`play`]: a script from a reader, its transcript to a writer; [`run`]: a list of deliveries.
-//! - The server as the performer of deliveries: `script_server` (its core, and the sessions of the
-//!   labels), and `performing`.
+//! - The server as the performer of deliveries: `script_server` (its core, and the connections of the
+//!   labels), `connection`, and `performing`.
 //! - Laws, which run no code: [`the_transcript_is_one`], [`last_words_are_told`].
 //!
 //! The lines of scripts and of transcripts, and the devices, are those of `radio_script`; what a
 //! connection hears and says is `radio_session`'s.
 #![tactic(auto)]
 
+mod connection;
 mod laws;
 mod performing;
 mod script_server;

@@ -12,12 +12,13 @@ ghost use Rattle.radio_floor.specs.Performing.{PerformsAs};
 ghost use Rattle.radio_script.specs.declared.delivery.Delivery.TheVariants.{Open, To, Clock};
 
 use crate::OutOfMemory;
+use crate::connection::Connection;
 use crate::script_server::{ScriptServer, has_label, leave, push_told, swap_connection, tick};
 use radio_addr::Peer;
 use radio_core::Event;
 use radio_icy::Title;
 use radio_script::{Delivery, Input, PerformFault, Performer};
-use radio_session::{Ending, Session, State};
+use radio_session::{Ending, State};
 use std::alloc::Global;
 
 impl ScriptServer {
@@ -25,7 +26,7 @@ impl ScriptServer {
     fn input_on(
         &mut self,
         label: u32,
-        connection: Session,
+        connection: Connection,
         input: &Input,
         lines: &mut Vec<u8>,
     ) -> Result<(), OutOfMemory>
@@ -44,7 +45,7 @@ impl ScriptServer {
     fn hear_on(
         &mut self,
         label: u32,
-        connection: Session,
+        connection: Connection,
         bytes: &[u8],
         lines: &mut Vec<u8>,
     ) -> Result<(), OutOfMemory>
@@ -62,7 +63,7 @@ impl ScriptServer {
     fn draw_on(
         &mut self,
         label: u32,
-        connection: Session,
+        connection: Connection,
         room: u32,
         lines: &mut Vec<u8>,
     ) -> Result<(), OutOfMemory>
@@ -77,7 +78,7 @@ impl ScriptServer {
     fn title_on(
         &mut self,
         label: u32,
-        connection: Session,
+        connection: Connection,
         text: &[u8],
         lines: &mut Vec<u8>,
     ) -> Result<(), OutOfMemory>
@@ -93,7 +94,7 @@ impl ScriptServer {
     fn event_on(
         &mut self,
         label: u32,
-        connection: Session,
+        connection: Connection,
         event: Event,
         lines: &mut Vec<u8>,
     ) -> Result<(), OutOfMemory>
@@ -109,7 +110,7 @@ impl ScriptServer {
     fn close(
         &mut self,
         label: u32,
-        connection: Session,
+        connection: Connection,
         lines: &mut Vec<u8>,
     ) -> Result<(), OutOfMemory>
         ensures { OnOk result (DoesAs self.old.core self.new.core self.new.connections lines.old.items lines.new.items

@@ -10,11 +10,12 @@ ghost use Rattle.radio_floor.specs.ScriptState.{connection_of, with_connection, 
 ghost use Rattle.radio_floor.specs.ScriptServer.{script_state_of, DoesAs};
 
 use crate::OutOfMemory;
+use crate::connection::Connection;
 use radio_access::Lists;
 use radio_addr::Peer;
 use radio_core::{Core, Event, Reply};
 use radio_script::push_answer;
-use radio_session::{Session, State, cores_exchange_as_their_states, exchange};
+use radio_session::{Session, State, cores_exchange_as_their_states};
 use radio_settings::Settings;
 use radio_tables::{Row, Swap, Table};
 use std::alloc::Global;
@@ -24,7 +25,7 @@ use std::mem;
 #[derive(Drop)]
 pub(crate) struct Labelled {
     pub(crate) label: u32,
-    pub(crate) connection: Option<Session>,
+    pub(crate) connection: Option<Connection>,
 }
 
 impl Row for Labelled {
@@ -47,9 +48,9 @@ impl Row for Labelled {
 /// Puts something else under a label, and takes out what was there.
 #[derive(Drop)]
 struct PutsIn {
-    connection: Option<Session>,
+    connection: Option<Connection>,
     /// What was under the label, once it is found.
-    found: Option<Option<Session>>,
+    found: Option<Option<Connection>>,
 }
 
 impl Swap<Labelled> for PutsIn {
@@ -112,7 +113,7 @@ impl ScriptServer {
     pub(crate) fn exchange_on(
         &mut self,
         label: u32,
-        connection: Session,
+        connection: Connection,
         events: Vec<Event>,
         lines: &mut Vec<u8>,
     ) -> Result<(), OutOfMemory>
@@ -122,7 +123,7 @@ impl ScriptServer {
         cores_exchange_as_their_states();
         let mut connection = connection;
         let mut told = Vec::new(self.alloc);
-        let state = exchange(&mut self.core, &mut connection, events, &mut told)?;
+        let state = connection.exchange(&mut self.core, events, &mut told)?;
         let stays = if_stays(connection, state);
         swap_connection(&mut self.connections, label, stays);
         push_told(self.alloc, label, told.as_slice(), state, lines)?;
@@ -131,7 +132,7 @@ impl ScriptServer {
 }
 
 /// The connection, unless it has ended.
-fn if_stays(connection: Session, state: State) -> Option<Session>
+fn if_stays(connection: Connection, state: State) -> Option<Connection>
     ensures { result ≡ conversation_unless connection state }
 {
     match state {
@@ -152,8 +153,8 @@ pub(crate) fn has_label(connections: &Table<Labelled>, label: u32) -> bool
 pub(crate) fn swap_connection(
     connections: &mut Table<Labelled>,
     label: u32,
-    connection: Option<Session>,
-) -> Option<Option<Session>>
+    connection: Option<Connection>,
+) -> Option<Option<Connection>>
     ensures was { result ≡ connection_of connections.old label }
     ensures set { connections.new ≡ with_connection connections.old label connection }
 {
@@ -172,25 +173,25 @@ fn arrive(
     core: &mut Core,
     peer: Peer,
     out: &mut Vec<u8>,
-) -> Result<(Option<Session>, State), OutOfMemory>
+) -> Result<(Option<Connection>, State), OutOfMemory>
     ensures { IfOk result (λ arrived. (w : World) → Represents core.old w →
         let reply = reply_to w (Arrive peer) in
         let told = said asking reply in
         Represents core.new (world_after w (Arrive peer)) × (out.new.items ≡ out.old.items ++ told.bytes) × (arrived.0 ≡ taken_in peer reply) × (arrived.1 ≡ told.state)) }
 {
     let reply = core.step(Event::Arrive { peer })?;
-    let connection = taken_in(alloc, peer, &reply);
+    let connection = taken_in(alloc, peer, &reply)?;
     let state = Session::new(alloc, 0, peer).give(reply, out)?;
     Ok((connection, state))
 }
 
 /// The new connection, if the server takes it in.
-fn taken_in(alloc: Global, peer: Peer, reply: &Reply) -> Option<Session>
-    ensures { result ≡ taken_in peer reply.now }
+fn taken_in(alloc: Global, peer: Peer, reply: &Reply) -> Result<Option<Connection>, OutOfMemory>
+    ensures { IfOk result (λ connection. connection ≡ taken_in peer reply.now) }
 {
     match reply {
-        Reply::Arrived(id) => Some(Session::new(alloc, *id, peer)),
-        _ => None,
+        Reply::Arrived(id) => Ok(Some(Connection::new(alloc, Session::new(alloc, *id, peer))?)),
+        _ => Ok(None),
     }
 }
 

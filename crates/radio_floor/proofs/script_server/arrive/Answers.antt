@@ -19,6 +19,6 @@ returns c w stands =
     subst (λ (r : Reply).
     Represents c.step.new.self (world_after w (Arrive c.args.peer))
     × (c.give.new.out.items ≡ c.args.out.now.items ++ (said asking r).bytes)
-    × (c.taken_in-connection.result ≡ taken_in c.args.peer r)
+    × (c.in_ok-connection.connection ≡ taken_in c.args.peer r)
     × (c.in_ok-state.state ≡ (said asking r).state))
-    s.1.0 (after, told.0, c.taken_in-connection.ensures, told.1)
+    s.1.0 (after, told.0, c.in_ok-connection.ensures, told.1)

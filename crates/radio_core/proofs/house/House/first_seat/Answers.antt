@@ -1,4 +1,4 @@
-use Rattle.std.proofs.Common.{◌≡◌, refl}
+use Rattle.std.proofs.Common.{refl}
 use Rattle.radio_core.proofs.house.House.first_seat.Goals as goal
 
 pub returns : goal.returns

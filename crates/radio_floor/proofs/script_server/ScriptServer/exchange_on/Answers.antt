@@ -20,13 +20,13 @@ returns c =
       told_lines label bytes state,
       c.in_ok-push_told.ensures,
       λ w stands.
-          let d = c.cores_exchange_as_their_states.ensures conversation.id conversation.says events c.args.self.now.core c.exchange.new.server e.0 e.1 w stands in
+          let d = c.cores_exchange_as_their_states.ensures conversation.id conversation.says events c.args.self.now.core c.exchange.new.core e.0 e.1 w stands in
           let done = exchanged w conversation.id conversation.says events in
           let x = done.exchange in
           let out : bytes ≡ x.bytes =
           c.as_slice.ensures.value ∙ e.2 ∙ ap (λ (xs : List ℕ). xs ++ e.0.bytes) c.new-told.ensures.items ∙ ap (λ (y : Exchange). y.bytes) d.same in
           let ends : state ≡ x.state = e.3 ∙ ap (λ (y : Exchange). y.state) d.same in
-          let goes : c.exchange.new.session ≡ saying_now conversation x.says = e.4 ∙ ap (λ (y : Exchange). saying_now conversation y.says) d.same in
+          let goes : c.exchange.new.self ≡ saying_now conversation x.says = e.4 ∙ ap (λ (y : Exchange). saying_now conversation y.says) d.same in
           let stays : c.if_stays-stays.result ≡ conversation_unless (saying_now conversation x.says) x.state =
           c.if_stays-stays.ensures
           ∙ ap (λ (t : Conversation). conversation_unless t state) goes

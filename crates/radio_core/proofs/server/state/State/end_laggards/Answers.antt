@@ -1,4 +1,4 @@
-use Rattle.std.proofs.Common.{◌≡◌, refl}
+use Rattle.std.proofs.Common.{refl}
 use Rattle.radio_core.proofs.server.state.State.end_laggards.Goals as goal
 
 pub returns : goal.returns

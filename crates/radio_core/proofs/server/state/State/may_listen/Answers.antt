@@ -15,7 +15,7 @@ use Rattle.radio_core.specs.declared.reply.Reply.TheVariants.{Deny}
 use Rattle.radio_core.specs.declared.standing.Standing.{Standing}
 use Rattle.radio_core.specs.declared.standing.Standing.TheVariants.{Undecided}
 use Rattle.radio_core.specs.Facts.{listen_facts, asker_of, session_at, rows_to_listen}
-use Rattle.radio_core.specs.Listen.{takes_seat, asks_to_hear}
+use Rattle.radio_core.specs.Listen.{takes_seat}
 use Rattle.radio_core.specs.Outcomes.{says, on_verdict, if_undecided}
 use Rattle.radio_core.specs.World.{World, standing_of}
 use Rattle.radio_core.proofs.server.state.State.may_listen.Goals as goal
