@@ -1,4 +1,4 @@
--- What comes in two pieces is heard as if it had come in one.
+-- However bytes are cut, they are heard alike.
 use Rattle.std.proofs.Common.{◌≡◌, ℕ, Bool, true, false, List, [], ◌∷◌, ◌++◌, drop, map, ap, sym, ◌∙◌, refl, subst, Result, Ok, Err, append_assoc, Option, None, Some, append-nil}
 use Rattle.std.specs.Prelude.{codes, if◌then◌else◌}
 use Rattle.std.specs.Str.{bytes_eq}
@@ -26,8 +26,8 @@ use Rattle.radio_session.specs.Pushes.{pushes}
 use Rattle.radio_session.specs.Asking.{asks_to_feed}
 use Rattle.radio_session.specs.Hearing.{Heard, HearsAs, IsHeard, head_heard, request_heard, source_heard, listener_heard, body_heard, delivered, closes_with, greeted, refuses, nothing_held, going_on}
 use Rattle.radio_policy.specs.declared.rule.Rule.TheVariants.{BadHead, BadMethod}
-use Rattle.radio_session.proofs.HearingLemmas.{heard-alike}
-use Rattle.radio_session.specs.Cuts.{Atom, datum, atoms_of, atoms, answered, CutsDoNotMatter}
+use Rattle.radio_session.proofs.HearingLemmas.{heard-alike, hearing_is_one}
+use Rattle.radio_session.specs.Cuts.{Atom, datum, atoms_of, atoms, answered, AreHeardAlike, IsCutting, IsHeardIn, unheard, heard_then, CutsDoNotMatter, PiecesAreHeardAsOne}
 
 -- lists of atoms joined
 atoms-append : (xs ys : List Event) → atoms (xs ++ ys) ≡ atoms xs ++ atoms ys
@@ -219,5 +219,86 @@ module _ (joined : AreJoined) (places : PlacesJoin) (found : DataJoin) (agree : 
       let later : IsHeard X.conversation second two = subst (λ (x : Heard). IsHeard x.conversation second two) h.2 k in
       subst (λ (x : Heard). Alike x two whole) (sym h.2) (head-cut conversation first second two whole h.0 w.0 hears h.1 later w.1 w.2)
 
+  -- what two pieces are heard as, they are heard as in one
+  record Joined (conversation : Conversation) (first second : List ℕ) (one two : Heard) : Type 0 where
+    pub whole : Heard
+    pub is_heard : IsHeard conversation (first ++ second) whole
+    pub alike : Alike one two whole
+
+  -- a head of two pieces, by what the first piece is read as
+  head-joined : (conversation : Conversation) (first second : List ℕ) (two : Heard) (r : Result (Progress RequestParts) HeadFault) → conversation.hears ≡ Head
+      → IsReading ShowsRequest (conversation.held ++ first) r → IsHeard (head_heard conversation (conversation.held ++ first) r).conversation second two
+      → (whole : Heard) × HearsAs Head conversation (first ++ second) whole
+  head-joined conversation first second two (Ok More) hears read h =
+      let held = conversation.held ++ first in
+      let waiting : Conversation = record conversation { held = held } in
+      let as_head : HearsAs Head waiting second two = subst (λ (x : Hears). HearsAs x waiting second two) hears h in
+      let same : held ++ second ≡ conversation.held ++ (first ++ second) = append_assoc conversation.held first second in
+      let reading : IsReading ShowsRequest (conversation.held ++ (first ++ second)) as_head.0 = subst (λ (xs : List ℕ). IsReading ShowsRequest xs as_head.0) same as_head.1 in
+      (head_heard conversation (conversation.held ++ (first ++ second)) as_head.0, (as_head.0, reading, refl))
+  head-joined conversation first second two (Ok (Whole request n)) hears read h =
+      let longer : IsReading ShowsRequest ((conversation.held ++ first) ++ second) (Ok (Whole request n)) = settled (conversation.held ++ first) second (Ok (Whole request n)) read (λ e. cc) in
+      let reading : IsReading ShowsRequest (conversation.held ++ (first ++ second)) (Ok (Whole request n)) =
+      subst (λ (xs : List ℕ). IsReading ShowsRequest xs (Ok (Whole request n))) (append_assoc conversation.held first second) longer in
+      (head_heard conversation (conversation.held ++ (first ++ second)) (Ok (Whole request n)), (Ok (Whole request n), reading, refl))
+  head-joined conversation first second two (Err e) hears read h =
+      let longer : IsReading ShowsRequest ((conversation.held ++ first) ++ second) (Err e) = settled (conversation.held ++ first) second (Err e) read (λ x. cc) in
+      let reading : IsReading ShowsRequest (conversation.held ++ (first ++ second)) (Err e) = subst (λ (xs : List ℕ). IsReading ShowsRequest xs (Err e)) (append_assoc conversation.held first second) longer in
+      (head_heard conversation (conversation.held ++ (first ++ second)) (Err e), (Err e, reading, refl))
+
+  any-joined : (hears : Hears) (conversation : Conversation) (first second : List ℕ) (one two : Heard) → conversation.hears ≡ hears
+      → HearsAs hears conversation first one → IsHeard one.conversation second two → (whole : Heard) × HearsAs hears conversation (first ++ second) whole
+  any-joined Nothing conversation first second one two hears h k = (unheard conversation, refl)
+  any-joined (Body body) conversation first second one two hears h k = (body_heard (nothing_held conversation) [] body.place (first ++ second), refl)
+  any-joined Head conversation first second one two hears h k =
+      head-joined conversation first second two h.0 hears h.1 (subst (λ (x : Heard). IsHeard x.conversation second two) h.2 k)
+
+  joined_alike : (conversation : Conversation) (first second : List ℕ) (one two : Heard) → IsHeard conversation first one → IsHeard one.conversation second two → Joined conversation first second one two
+  joined_alike conversation first second one two h k =
+      let w = any-joined conversation.hears conversation first second one two refl h k in
+      record { whole = w.0; is_heard = w.1; alike = cuts conversation.hears conversation first second one two w.0 refl h k w.1 }
+
+  -- what pieces are heard as, and their bytes in one
+  record AsOne (conversation : Conversation) (bytes : List ℕ) (cut : Heard) : Type 0 where
+    pub whole : Heard
+    pub is_heard : IsHeard conversation bytes whole
+    pub alike : AreHeardAlike cut whole
+
+  in_pieces : (conversation : Conversation) (first : List ℕ) (pieces : List (List ℕ)) (cut : Heard) → IsHeardIn conversation (first ∷ pieces) cut → AsOne conversation (concat (first ∷ pieces)) cut
+  in_pieces conversation first [] cut (one, h, others, none, e) =
+      let same : cut ≡ one = e ∙ ap (heard_then one) none ∙ ap (λ (events : List Event). record one { events = events }) (append-nil one.events) in
+      record {
+        whole = one;
+        is_heard = subst (λ (xs : List ℕ). IsHeard conversation xs one) (sym (append-nil first)) h;
+        alike = record { events = ap (λ (x : Heard). atoms x.events) same; conversation = ap (λ (x : Heard). answered x.conversation) same };
+      }
+  in_pieces conversation first (piece ∷ pieces) cut (one, h, others, later, e) =
+      let rest = in_pieces one.conversation piece pieces others later in
+      let all = joined_alike conversation first (concat (piece ∷ pieces)) one rest.whole h rest.is_heard in
+      record {
+        whole = all.whole;
+        is_heard = all.is_heard;
+        alike = record {
+          events =
+              ap (λ (x : Heard). atoms x.events) e ∙ atoms-append one.events others.events ∙ ap (λ (zs : List Atom). atoms one.events ++ zs) rest.alike.events
+              ∙ sym (atoms-append one.events rest.whole.events)
+              ∙ all.alike.0;
+          conversation = ap (λ (x : Heard). answered x.conversation) e ∙ rest.alike.conversation ∙ all.alike.1;
+        };
+      }
+
+  any_pieces : (conversation : Conversation) (bytes : List ℕ) (pieces : List (List ℕ)) (cut : Heard) → IsCutting bytes pieces → IsHeardIn conversation pieces cut → AsOne conversation bytes cut
+  any_pieces conversation bytes [] cut cutting h = absurd (cutting.some refl)
+  any_pieces conversation bytes (first ∷ pieces) cut cutting h =
+      subst (λ (xs : List ℕ). AsOne conversation xs cut) cutting.joined (in_pieces conversation first pieces cut h)
+
+  pub pieces_are_heard_as_one : PiecesAreHeardAsOne
+  pieces_are_heard_as_one conversation bytes pieces cut whole cutting h w =
+      let one = any_pieces conversation bytes pieces cut cutting h in
+      subst (AreHeardAlike cut) (hearing_is_one agree conversation bytes one.whole whole one.is_heard w) one.alike
+
   pub cuts_do_not_matter : CutsDoNotMatter
-  cuts_do_not_matter conversation first second one two whole h k w = cuts conversation.hears conversation first second one two whole refl h k w
+  cuts_do_not_matter conversation bytes pieces others one other cutting again h k =
+      let whole = any_pieces conversation bytes others other again k in
+      let alike = pieces_are_heard_as_one conversation bytes pieces one whole.whole cutting h whole.is_heard in
+      record { events = alike.events ∙ sym whole.alike.events; conversation = alike.conversation ∙ sym whole.alike.conversation }

@@ -8,6 +8,7 @@ mod ToldLemmas
 mod ExchangeParts
 mod AwaitLemmas
 mod DataLemmas
+mod BlockTellingLemmas
 mod CutTellingLemmas
 mod CoreDataLemmas
 mod SentTitleLemmas
