@@ -12,3 +12,4 @@ mod BlockTellingLemmas
 mod CutTellingLemmas
 mod CoreDataLemmas
 mod SentTitleLemmas
+mod HeardBodyLemmas

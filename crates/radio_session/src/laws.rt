@@ -4,6 +4,7 @@ ghost use Rattle.std.specs.Prelude.{◌≡◌, codes};
 ghost use Rattle.radio_session.specs.Conversation.{ending_word};
 ghost use Rattle.radio_session.specs.declared.state.Ending.TheVariants.{Done};
 ghost use Rattle.radio_session.specs.LastWords.{DenialsNameTheirRule, RulesWithoutStatusAreSilent, LateDenialsAreSilent, FinishesAreSilent, RefusalsNameTheirRule, WholeBodiesAreDone, FaultyBodiesAreSilent};
+ghost use Rattle.radio_session.specs.Bodies.{PlainBodiesAreHeard, SizedBodiesAreHeard, ChunkedBodiesAreHeard};
 ghost use Rattle.radio_session.specs.Cuts.{CutsDoNotMatter, PiecesAreHeardAsOne};
 ghost use Rattle.radio_session.specs.CutTelling.{CutsAreToldAlike, PiecesAreToldAsOne};
 ghost use Rattle.radio_session.specs.Told.{DrawsFollowTheHead, PlainDrawsAreTheirData, JoinedDrawsAreWoven, DrawsAreTakenOutAgain, ExchangesTellReplies};
@@ -15,7 +16,22 @@ use radio_blocks::laws::blocks_are_the_data;
 use radio_core::{cores_go_by_their_states, sources_are_told_by_their_data};
 use radio_heads::{heads_lie_within, readings_agree, settled};
 use radio_icy::laws::{bare_of_woven, unwoven_streams, woven_streams};
-use radio_source::laws::pieces_are_joined;
+use radio_source::laws::{
+    pieces_are_joined, plain_bodies, sized_bodies, whole_bodies_are_complete,
+};
+
+/// A source's whole body behind its head is heard as its data, and where it has an end, as that end
+/// (RFC 9112, section 6): nothing of what frames it is data.
+pub fn bodies_are_heard_as_their_data()
+    ensures plain { PlainBodiesAreHeard }
+    ensures sized { SizedBodiesAreHeard }
+    // the data of the chunks, and nothing of their lines and trailers
+    ensures chunked { ChunkedBodiesAreHeard }
+{
+    plain_bodies();
+    sized_bodies();
+    whole_bodies_are_complete();
+}
 
 /// What comes on a connection is heard alike, however it is cut into pieces: the same head, the same
 /// data and the same events, but for where blocks are cut, and what follows is heard alike.
