@@ -34,7 +34,8 @@ no_blocks (block ∷ blocks) valid e =
     absurd (omega (arith, here.0, none))
 
 -- events, and those of blocks in two parts
-pub blocks_joined : (id : ℕ) (before : List Event) (one two : List (List ℕ)) → (before ++ blocks_as id one) ++ blocks_as id two ≡ before ++ blocks_as id (one ++ two)
+pub blocks_joined : (id : ℕ) (before : List Event) (one two : List (List ℕ))
+    → (before ++ blocks_as id one) ++ blocks_as id two ≡ before ++ blocks_as id (one ++ two)
 blocks_joined id before one two =
     append_assoc before (blocks_as id one) (blocks_as id two) ∙ ap (λ (es : List Event). before ++ es) (sym (map-append (Push id) one two))
 
@@ -44,7 +45,8 @@ module _ {S : Type 0} (steps : Steps S) (id : ℕ) where
     pub x : Exchange
     pub mid : S
     pub alone : Exchanges steps id (free says) events from x mid
-    pub goes : x.state ≡ Running → (last : Exchange) × Exchanges steps id (with_closing x.says (awaiting 0 word)) (SourceEnd id ∷ []) mid last to × (all.bytes ≡ x.bytes ++ last.bytes) × (all.state ≡ last.state)
+    pub goes : x.state ≡ Running → (last : Exchange) × Exchanges steps id (with_closing x.says (awaiting 0 word)) (SourceEnd id ∷ []) mid last to
+        × (all.bytes ≡ x.bytes ++ last.bytes) × (all.state ≡ last.state)
     pub shut : (ending : Ending) → x.state ≡ Shut ending → (all.bytes ≡ x.bytes) × (all.state ≡ x.state)
 
   pub ended : (says : Says) (events : List Event) (word : LastWord) (from : S) (all : Exchange) (to : S)
@@ -87,7 +89,8 @@ module _ {S : Type 0} (steps : Steps S) (id : ℕ) where
 
   -- behind events after which the connection goes on
   pub closes_on : (word : Option LastWord) (says : Says) (first second : List Event) (from mid to : S) (x y : Exchange)
-      → Exchanges steps id (free says) first from x mid → x.state ≡ Running → Closes word x.says second mid y to → Closes word says (first ++ second) from (prefixed x.bytes y) to
+      → Exchanges steps id (free says) first from x mid → x.state ≡ Running → Closes word x.says second mid y to
+      → Closes word says (first ++ second) from (prefixed x.bytes y) to
   closes_on None says first second from mid to x y e runs f =
       join_on steps id first second (free says) from mid to x y e runs
       (subst (λ (s : Says). Exchanges steps id s second mid y to) (free_says x.says (stays_free steps id first says from x mid e)) f)
@@ -113,7 +116,8 @@ module _ {S : Type 0} (steps : Steps S) (id : ℕ) where
     pub told : Closes word says (before ++ blocks_as id blocks) from all to
 
   -- no data
-  pub no_rest : (says : Says) (word : Option LastWord) (from to : S) (x : Exchange) → says.closing ≡ None → word ≡ None → Exchanges steps id says [] from x to → InBlocks says [] [] word from x to
+  pub no_rest : (says : Says) (word : Option LastWord) (from to : S) (x : Exchange) → says.closing ≡ None → word ≡ None
+      → Exchanges steps id says [] from x to → InBlocks says [] [] word from x to
   no_rest says word from to x is_free still e = record {
     blocks = [];
     valid = All-nil IsBlock;
@@ -130,14 +134,16 @@ module _ {S : Type 0} (steps : Steps S) (id : ℕ) where
   blocks_on word says before first rest blocks from mid to x y valid joined e runs later = record {
     blocks = blocks ++ later.blocks;
     valid = All-append IsBlock blocks later.blocks valid later.valid;
-    joined = concat-append blocks later.blocks ∙ ap (λ (bytes : List ℕ). bytes ++ concat later.blocks) joined ∙ ap (λ (bytes : List ℕ). first ++ bytes) later.joined;
+    joined = concat-append blocks later.blocks ∙ ap (λ (bytes : List ℕ). bytes ++ concat later.blocks) joined
+        ∙ ap (λ (bytes : List ℕ). first ++ bytes) later.joined;
     told =
         subst (λ (es : List Event). Closes word says es from (prefixed x.bytes y) to) (blocks_joined id before blocks later.blocks)
         (closes_on word says (before ++ blocks_as id blocks) (blocks_as id later.blocks) from mid to x y e runs later.told);
   }
 
   -- the first of the data, where the rest are not taken
-  pub blocks_shut : (word : Option LastWord) (says : Says) (before : List Event) (first rest : List ℕ) (blocks others : List (List ℕ)) (from to : S) (x : Exchange) (ending : Ending)
+  pub blocks_shut : (word : Option LastWord) (says : Says) (before : List Event) (first rest : List ℕ) (blocks others : List (List ℕ)) (from to : S)
+      (x : Exchange) (ending : Ending)
       → All IsBlock blocks → concat blocks ≡ first → All IsBlock others → concat others ≡ rest
       → Exchanges steps id (free says) (before ++ blocks_as id blocks) from x to → x.state ≡ Shut ending → InBlocks says before (first ++ rest) word from x to
   blocks_shut word says before first rest blocks others from to x ending valid joined valid' joined' e shut = record {
@@ -152,13 +158,16 @@ module _ {S : Type 0} (steps : Steps S) (id : ℕ) where
   module _ (server : GoesByData steps id) where
     -- the end of the data is told alike
     last_alike : (says : Says) (from other : S) (x y : Exchange) (to end : S) → server.to_end from [] ≡ server.to_end other []
-        → Exchanges steps id says (SourceEnd id ∷ []) from x to → Exchanges steps id says (SourceEnd id ∷ []) other y end → (x.bytes ≡ y.bytes) × (x.state ≡ y.state)
+        → Exchanges steps id says (SourceEnd id ∷ []) from x to → Exchanges steps id says (SourceEnd id ∷ []) other y end → (x.bytes ≡ y.bytes)
+        × (x.state ≡ y.state)
     last_alike says from other x y to end same e f =
         let reply : f.0 ≡ e.0 = server.at_end other f.1 f.0 f.2 ∙ sym same ∙ sym (server.at_end from e.1 e.0 e.2) in
-        let again = subst (λ (r : Reply). GoesOn steps id (said says r).state (SourceEnd id) (said says r) f.1 (λ z. Exchanges steps id (said says r).says [] f.1 z end) y end) reply f.3 in
+        let again = subst (λ (r : Reply). GoesOn steps id (said says r).state (SourceEnd id) (said says r) f.1
+        (λ z. Exchanges steps id (said says r).says [] f.1 z end) y end) reply f.3 in
         by_state (said says e.0).state e.3 again where
           by_state : (state : State) → GoesOn steps id state (SourceEnd id) (said says e.0) e.1 (λ z. Exchanges steps id (said says e.0).says [] e.1 z to) x to
-              → GoesOn steps id state (SourceEnd id) (said says e.0) f.1 (λ z. Exchanges steps id (said says e.0).says [] f.1 z end) y end → (x.bytes ≡ y.bytes) × (x.state ≡ y.state)
+              → GoesOn steps id state (SourceEnd id) (said says e.0) f.1 (λ z. Exchanges steps id (said says e.0).says [] f.1 z end) y end
+              → (x.bytes ≡ y.bytes) × (x.state ≡ y.state)
           by_state Running g h =
               let same : x ≡ y = g.2 ∙ ap (prefixed (said says e.0).bytes) (g.1.0 ∙ sym h.1.0) ∙ sym h.2 in
               (ap (λ (z : Exchange). z.bytes) same, ap (λ (z : Exchange). z.state) same)
@@ -167,8 +176,10 @@ module _ {S : Type 0} (steps : Steps S) (id : ℕ) where
               (ap (λ (z : Exchange). z.bytes) same, ap (λ (z : Exchange). z.state) same)
 
     -- two cuttings of the same data, behind the same events
-    module _ (says : Says) (before : List Event) (one other : List (List ℕ)) (valid : All IsBlock one) (valid' : All IsBlock other) (same : concat one ≡ concat other) (from to end : S) where
-      events_alike : (x y : Exchange) (mid mid' : S) → Exchanges steps id (free says) (before ++ blocks_as id one) from x mid → Exchanges steps id (free says) (before ++ blocks_as id other) from y mid'
+    module _ (says : Says) (before : List Event) (one other : List (List ℕ)) (valid : All IsBlock one) (valid' : All IsBlock other)
+        (same : concat one ≡ concat other) (from to end : S) where
+      events_alike : (x y : Exchange) (mid mid' : S) → Exchanges steps id (free says) (before ++ blocks_as id one) from x mid
+          → Exchanges steps id (free says) (before ++ blocks_as id other) from y mid'
           → ToldAlike steps id server x mid y mid'
       events_alike x y mid mid' e f =
           behind_alike steps id server before says one other from x y mid mid' valid valid' same
@@ -176,7 +187,8 @@ module _ {S : Type 0} (steps : Steps S) (id : ℕ) where
           (λ none. no_blocks one valid (same ∙ ap concat none))
           e f
 
-      closes_alike : (word : Option LastWord) (x y : Exchange) → Closes word says (before ++ blocks_as id one) from x to → Closes word says (before ++ blocks_as id other) from y end → AreToldAlike x y
+      closes_alike : (word : Option LastWord) (x y : Exchange) → Closes word says (before ++ blocks_as id one) from x to
+          → Closes word says (before ++ blocks_as id other) from y end → AreToldAlike x y
       closes_alike None x y e f =
           let alike = events_alike x y to end e f in
           record { bytes = alike.bytes; state = alike.state }
@@ -188,7 +200,8 @@ module _ {S : Type 0} (steps : Steps S) (id : ℕ) where
         by_end Running on =
             let here = v.goes on in
             let there = w.goes (sym alike.state ∙ on) in
-            let same_says = subst (λ (s : Says). Exchanges steps id (with_closing s (awaiting 0 word)) (SourceEnd id ∷ []) w.mid there.0 end) (sym (alike.says on)) there.1 in
+            let same_says = subst (λ (s : Says). Exchanges steps id (with_closing s (awaiting 0 word)) (SourceEnd id ∷ []) w.mid there.0 end)
+            (sym (alike.says on)) there.1 in
             let last = last_alike (with_closing v.x.says (awaiting 0 word)) v.mid w.mid here.0 there.0 to end (alike.at_end on) here.1 same_says in
             record {
               bytes = here.2 ∙ ap (λ (bytes : List ℕ). v.x.bytes ++ bytes) last.0 ∙ ap (λ (bytes : List ℕ). bytes ++ there.0.bytes) alike.bytes ∙ sym there.2;

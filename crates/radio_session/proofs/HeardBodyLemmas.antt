@@ -17,7 +17,8 @@ use Rattle.radio_session.proofs.BodyLemmas.{closes_at}
 use Rattle.radio_session.proofs.CutLemmas.{request_by}
 
 -- a source's request is heard by how its data come
-heard_as : (source get : Bool) (conversation : Conversation) (request : RequestParts) (behind : List ℕ) (framing : Framing) → source ≡ true → framing_of request ≡ Some framing
+heard_as : (source get : Bool) (conversation : Conversation) (request : RequestParts) (behind : List ℕ) (framing : Framing) → source ≡ true
+    → framing_of request ≡ Some framing
     → request_by source get conversation request behind ≡ source_heard conversation request behind (Some framing)
 unfolding request_by
 heard_as true get conversation request behind framing e framed = ap (source_heard conversation request behind) framed
@@ -32,7 +33,8 @@ source_as conversation request behind framing framed =
 -- the events of a body, by its data and by how it closes the conversation
 events_as : (conversation : Conversation) (request : RequestParts) (framing : Framing) (behind bytes : List ℕ) (word : Option LastWord)
     → IsFramed request framing → data_of (start_of framing) behind ≡ bytes → closes_at (after (start_of framing) behind) ≡ word
-    → (request_heard conversation request behind).events ≡ (delivered (greeted conversation request) (feeds conversation.id request bytes) (after (start_of framing) behind) word).events
+    → (request_heard conversation request behind).events ≡ (delivered (greeted conversation request) (feeds conversation.id request bytes)
+    (after (start_of framing) behind) word).events
 events_as conversation request framing behind bytes word framed found closes =
     let id = conversation.id in
     let here = after (start_of framing) behind in
@@ -40,17 +42,20 @@ events_as conversation request framing behind bytes word framed found closes =
     ∙ ap (λ (xs : List ℕ). (delivered (greeted conversation request) (feeds id request xs) here (closes_at here)).events) found
     ∙ ap (λ (w : Option LastWord). (delivered (greeted conversation request) (feeds id request bytes) here w).events) closes
 
-pub plain_bodies_are_heard : ((bytes : List ℕ) → data_of plain_start bytes ≡ bytes) → ((bytes : List ℕ) → after plain_start bytes ≡ plain_start) → PlainBodiesAreHeard
+pub plain_bodies_are_heard : ((bytes : List ℕ) → data_of plain_start bytes ≡ bytes) → ((bytes : List ℕ) → after plain_start bytes ≡ plain_start)
+    → PlainBodiesAreHeard
 plain_bodies_are_heard found place conversation request bytes framed =
     events_as conversation request Plain bytes bytes None framed (found bytes) (ap closes_at (place bytes))
 
 ended_closes : (place : Place) → has_ended place ≡ true → closes_at place ≡ body_closes true None
 ended_closes place e = ap (λ (b : Bool). body_closes b (fault_at place)) e
 
-pub chunked_bodies_are_heard : ((b : ChunkedBody) → IsBody b → data_of chunked_start (print_body b) ≡ content_of b.chunks) → ((b : ChunkedBody) → IsBody b → after chunked_start (print_body b) ≡ AtEnd)
+pub chunked_bodies_are_heard : ((b : ChunkedBody) → IsBody b → data_of chunked_start (print_body b) ≡ content_of b.chunks)
+    → ((b : ChunkedBody) → IsBody b → after chunked_start (print_body b) ≡ AtEnd)
     → ChunkedBodiesAreHeard
 chunked_bodies_are_heard found place conversation request body framed whole =
-    events_as conversation request Chunked (print_body body) (content_of body.chunks) (closes_at AtEnd) framed (found body whole) (ap closes_at (place body whole))
+    events_as conversation request Chunked (print_body body) (content_of body.chunks) (closes_at AtEnd) framed (found body whole)
+    (ap closes_at (place body whole))
 
 pub sized_bodies_are_heard : ((n : ℕ) (bytes : List ℕ) → data_of (sized_start n) bytes ≡ take n bytes)
     → ((n : ℕ) (bytes : List ℕ) → length bytes ≡ n → (has_ended (after (sized_start n) bytes) ≡ true)) → SizedBodiesAreHeard

@@ -9,6 +9,7 @@ mod ExchangeParts
 mod AwaitLemmas
 mod DataLemmas
 mod BlockTellingLemmas
+mod PieceTellingLemmas
 mod CutTellingLemmas
 mod CoreDataLemmas
 mod SentTitleLemmas
