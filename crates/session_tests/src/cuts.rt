@@ -2,7 +2,7 @@
 
 use crate::bodies::BODIES;
 use crate::clients::CLIENTS;
-use crate::talk::{Row, holds_in_pieces};
+use crate::talk::{Row, holds_in_pieces, in_pieces};
 use radio_core::OutOfMemory;
 use std::alloc::Global;
 use std::test::Fail;
@@ -19,10 +19,7 @@ fn joined(alloc: Global, row: &Row) -> Result<Vec<u8>, OutOfMemory> {
 /// Whether the row holds with all that comes cut into pieces of so many bytes.
 fn holds_by(alloc: Global, row: &Row, size: usize) -> Result<bool, OutOfMemory> {
     let all = joined(alloc, row)?;
-    let mut pieces = Vec::new(alloc);
-    for piece in all.chunks(size.max(1)) {
-        pieces.push(piece)?;
-    }
+    let pieces = in_pieces(alloc, all.as_slice(), size)?;
     holds_in_pieces(alloc, row, pieces.as_slice())
 }
 

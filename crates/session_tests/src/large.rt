@@ -1,6 +1,6 @@
 //! Large deliveries, heads and draws.
 
-use crate::talk::{Server, converse, drawn, seated};
+use crate::talk::{Server, converse, in_pieces, tell_draw, tell_seat};
 use radio_addr::Peer;
 use radio_core::OutOfMemory;
 use radio_session::Session;
@@ -42,14 +42,24 @@ fn whole(alloc: Global, head: &[u8], bytes: &[u8], end: &[u8]) -> Result<Vec<u8>
     Ok(all)
 }
 
-/// Whether a mebibyte that comes with its head in one delivery is asked to be fed as it is.
-fn is_fed(alloc: Global, body: &(&[u8], &[u8], &[u8])) -> Result<bool, OutOfMemory> {
+/// Whether these deliveries come to these events.
+fn asks(alloc: Global, comes: &[&[u8]], asked: &[u8]) -> Result<bool, OutOfMemory> {
+    let talk = converse(alloc, Server::Admits, comes)?;
+    Ok(talk.asked.as_slice() == asked)
+}
+
+/// Whether data that come with their head in one delivery are asked to be fed as they are.
+fn are_fed(alloc: Global, body: &(&[u8], &[u8], &[u8]), bytes: &[u8]) -> Result<bool, OutOfMemory> {
     let (head, end, asked_last) = body;
+    let delivery = whole(alloc, head, bytes, end)?;
+    let asked = whole(alloc, b"[feed /a]", bytes, asked_last)?;
+    asks(alloc, &[delivery.as_slice()], asked.as_slice())
+}
+
+/// Whether a mebibyte is.
+fn is_fed(alloc: Global, body: &(&[u8], &[u8], &[u8])) -> Result<bool, OutOfMemory> {
     let bytes = data(alloc, MEBIBYTE)?;
-    let delivery = whole(alloc, head, bytes.as_slice(), end)?;
-    let asked = whole(alloc, b"[feed /a]", bytes.as_slice(), asked_last)?;
-    let talk = converse(alloc, Server::Admits, &[delivery.as_slice()])?;
-    Ok(talk.asked.as_slice() == asked.as_slice())
+    are_fed(alloc, body, bytes.as_slice())
 }
 
 #[test]
@@ -60,12 +70,21 @@ fn a_mebibyte_in_one_delivery(rt: HostRuntime) -> Result<(), Fail> {
     Ok(())
 }
 
-/// How many events a mebibyte is, behind a source's head.
-fn blocks_of_a_mebibyte(alloc: Global) -> Result<usize, OutOfMemory> {
+/// How many events a delivery comes to.
+fn count_taken(session: &mut Session, bytes: &[u8]) -> Result<usize, OutOfMemory> {
+    Ok(session.take(bytes)?.len())
+}
+
+/// How many events the data are behind a source's head.
+fn count_blocks(alloc: Global, bytes: &[u8]) -> Result<usize, OutOfMemory> {
     let mut session = Session::new(alloc, 1, Peer::of_v4(0x0a00_0001));
-    session.take(b"SOURCE /a HTTP/1.0\r\n\r\n")?;
+    count_taken(&mut session, b"SOURCE /a HTTP/1.0\r\n\r\n")?;
+    count_taken(&mut session, bytes)
+}
+
+fn blocks_of_a_mebibyte(alloc: Global) -> Result<usize, OutOfMemory> {
     let bytes = data(alloc, MEBIBYTE)?;
-    Ok(session.take(bytes.as_slice())?.len())
+    count_blocks(alloc, bytes.as_slice())
 }
 
 #[test]
@@ -84,32 +103,43 @@ const HEADS: &[(usize, usize, &[u8])] = &[
     (1000, 65, b"[leave]"),
 ];
 
-/// A head of so many bytes, the last of whose headers is as long as it must be.
-fn head(alloc: Global, size: usize, headers: usize) -> Result<Vec<u8>, OutOfMemory> {
+/// The front of a head with so many headers, the last of which is open.
+fn head_front(alloc: Global, headers: usize) -> Result<Vec<u8>, OutOfMemory> {
     let mut head = Vec::new(alloc);
     head.extend_from_slice(b"GET /a HTTP/1.0\r\n")?;
     for _ in 1..headers {
         head.extend_from_slice(b"a: \r\n")?;
     }
     head.extend_from_slice(b"b: ")?;
-    let filled = size.saturating_sub(4);
-    for _ in head.len()..filled {
+    Ok(head)
+}
+
+/// The rest of its last header and its end, so that it has so many bytes.
+fn fill_head(head: &mut Vec<u8>, size: usize) -> Result<(), OutOfMemory> {
+    for _ in head.len()..size.saturating_sub(4) {
         head.push(b'x')?;
     }
-    head.extend_from_slice(b"\r\n\r\n")?;
-    Ok(head)
+    head.extend_from_slice(b"\r\n\r\n")
+}
+
+/// Whether bytes in pieces of that size come to those events.
+fn asks_in_pieces(
+    alloc: Global,
+    bytes: &[u8],
+    size: usize,
+    asked: &[u8],
+) -> Result<bool, OutOfMemory> {
+    let pieces = in_pieces(alloc, bytes, size)?;
+    asks(alloc, pieces.as_slice(), asked)
 }
 
 /// Whether such a head, in pieces of that size, comes to those events.
 fn is_heard(alloc: Global, row: &(usize, usize, &[u8]), piece: usize) -> Result<bool, OutOfMemory> {
     let (size, headers, asked) = row;
-    let head = head(alloc, *size, *headers)?;
-    let mut pieces = Vec::new(alloc);
-    for part in head.chunks(piece.max(1)) {
-        pieces.push(part)?;
-    }
-    let talk = converse(alloc, Server::Admits, pieces.as_slice())?;
-    Ok(head.len() == *size && talk.asked.as_slice() == *asked)
+    let mut head = head_front(alloc, *headers)?;
+    fill_head(&mut head, *size)?;
+    let heard = asks_in_pieces(alloc, head.as_slice(), piece, asked)?;
+    Ok(heard && head.len() == *size)
 }
 
 #[test]
@@ -136,9 +166,9 @@ fn told_of_draw(
 ) -> Result<Vec<u8>, OutOfMemory> {
     let mut session = Session::new(alloc, 1, Peer::of_v4(0x0a00_0001));
     let mut out = Vec::new(alloc);
-    session.give(seated(alloc, interval)?, &mut out)?;
+    tell_seat(alloc, &mut session, interval, &mut out)?;
     out.clear();
-    session.give(drawn(alloc, bytes)?, &mut out)?;
+    tell_draw(alloc, &mut session, bytes, &mut out)?;
     Ok(out)
 }
 

@@ -77,7 +77,7 @@ fn note(event: &Event, asked: &mut Vec<u8>) -> Result<(), OutOfMemory> {
 }
 
 /// The reply to a listener who is admitted.
-pub fn seated(alloc: Global, interval: Option<u32>) -> Result<Reply, OutOfMemory> {
+fn seated(alloc: Global, interval: Option<u32>) -> Result<Reply, OutOfMemory> {
     let shown = Shown::clean(alloc, b"audio/mpeg", b"", b"")?;
     Ok(Reply::Seated { interval, shown })
 }
@@ -92,7 +92,37 @@ fn reply(alloc: Global, server: Server, event: &Event) -> Result<Reply, OutOfMem
     }
 }
 
-/// One delivery on the session, each event noted and answered up to the end of the connection.
+/// One event, noted and answered.
+fn answer(
+    alloc: Global,
+    server: Server,
+    session: &mut Session,
+    event: &Event,
+    talk: &mut Talk,
+) -> Result<(), OutOfMemory> {
+    note(event, &mut talk.asked)?;
+    let reply = reply(alloc, server, event)?;
+    talk.state = session.give(reply, &mut talk.told)?;
+    Ok(())
+}
+
+/// Events, each noted and answered up to the end of the connection.
+fn answer_all(
+    alloc: Global,
+    server: Server,
+    session: &mut Session,
+    events: &[Event],
+    talk: &mut Talk,
+) -> Result<(), OutOfMemory> {
+    for event in events {
+        if talk.state == State::Running {
+            answer(alloc, server, session, event, talk)?;
+        }
+    }
+    Ok(())
+}
+
+/// One delivery.
 fn deliver(
     alloc: Global,
     server: Server,
@@ -100,18 +130,28 @@ fn deliver(
     bytes: &[u8],
     talk: &mut Talk,
 ) -> Result<(), OutOfMemory> {
-    for event in session.take(bytes)? {
+    let events = session.take(bytes)?;
+    answer_all(alloc, server, session, events.as_slice(), talk)
+}
+
+/// Deliveries, one after another; none is taken once the connection is shut.
+fn deliver_all(
+    alloc: Global,
+    server: Server,
+    session: &mut Session,
+    comes: &[&[u8]],
+    talk: &mut Talk,
+) -> Result<(), OutOfMemory> {
+    for bytes in comes {
         if talk.state == State::Running {
-            note(&event, &mut talk.asked)?;
-            let reply = reply(alloc, server, &event)?;
-            talk.state = session.give(reply, &mut talk.told)?;
+            deliver(alloc, server, session, bytes, talk)?;
         }
     }
     Ok(())
 }
 
 /// The reply to a draw of these data.
-pub fn drawn(alloc: Global, data: &[u8]) -> Result<Reply, OutOfMemory> {
+fn drawn(alloc: Global, data: &[u8]) -> Result<Reply, OutOfMemory> {
     let mut pieces = Pieces::new(alloc);
     pieces.append(data)?;
     Ok(Reply::Drawn {
@@ -120,16 +160,39 @@ pub fn drawn(alloc: Global, data: &[u8]) -> Result<Reply, OutOfMemory> {
     })
 }
 
-/// The connection's end: the one draw, where the server plays.
-fn draw(
+/// A listener draws these data.
+pub fn tell_draw(
+    alloc: Global,
+    session: &mut Session,
+    data: &[u8],
+    out: &mut Vec<u8>,
+) -> Result<State, OutOfMemory> {
+    let reply = drawn(alloc, data)?;
+    session.give(reply, out)
+}
+
+/// A listener is admitted.
+pub fn tell_seat(
+    alloc: Global,
+    session: &mut Session,
+    interval: Option<u32>,
+    out: &mut Vec<u8>,
+) -> Result<State, OutOfMemory> {
+    let reply = seated(alloc, interval)?;
+    session.give(reply, out)
+}
+
+/// The deliveries, and then the one draw, where the server plays.
+fn converse_on(
     alloc: Global,
     server: Server,
     session: &mut Session,
+    comes: &[&[u8]],
     talk: &mut Talk,
 ) -> Result<(), OutOfMemory> {
+    deliver_all(alloc, server, session, comes, talk)?;
     if let Server::Plays(data) = server {
-        let reply = drawn(alloc, data)?;
-        talk.state = session.give(reply, &mut talk.told)?;
+        talk.state = tell_draw(alloc, session, data, &mut talk.told)?;
     }
     Ok(())
 }
@@ -142,13 +205,17 @@ pub fn converse(alloc: Global, server: Server, comes: &[&[u8]]) -> Result<Talk, 
         told: Vec::new(alloc),
         state: State::Running,
     };
-    for bytes in comes {
-        if talk.state == State::Running {
-            deliver(alloc, server, &mut session, bytes, &mut talk)?;
-        }
-    }
-    draw(alloc, server, &mut session, &mut talk)?;
+    converse_on(alloc, server, &mut session, comes, &mut talk)?;
     Ok(talk)
+}
+
+/// Bytes in pieces of that size; the last may be shorter.
+pub fn in_pieces(alloc: Global, bytes: &[u8], size: usize) -> Result<Vec<&[u8]>, OutOfMemory> {
+    let mut pieces = Vec::new(alloc);
+    for piece in bytes.chunks(size.max(1)) {
+        pieces.push(piece)?;
+    }
+    Ok(pieces)
 }
 
 fn is_as_wanted(talk: &Talk, row: &Row) -> bool {
