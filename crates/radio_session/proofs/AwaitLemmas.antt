@@ -38,11 +38,36 @@ pub record IsAwaited (now alone : Said) (n : ℕ) (word : LastWord) : Type 0 whe
 less_one : (n : ℕ) → suc n - 1 ≡ n
 less_one n = omega arith
 
-pub told_awaiting : (says : Says) (n : ℕ) (word : LastWord) (reply : Reply) → IsAwaited (said (with_closing says (awaiting (suc n) word)) reply) (said (free says) reply) n word
-told_awaiting says n word (Arrived id) = record { bytes = refl; state = refl; says = λ e. ap (λ (m : ℕ). with_closing (said (free says) (Arrived id)).says (awaiting m word)) (less_one n); is_free = refl }
-told_awaiting says n word Feeding = record { bytes = refl; state = refl; says = λ e. ap (λ (m : ℕ). with_closing (said (free says) Feeding).says (awaiting m word)) (less_one n); is_free = refl }
-told_awaiting says n word (Seated interval shown) = record { bytes = refl; state = refl; says = λ e. ap (λ (m : ℕ). with_closing (said (free says) (Seated interval shown)).says (awaiting m word)) (less_one n); is_free = refl }
-told_awaiting says n word (Drawn bytes title) = record { bytes = refl; state = refl; says = λ e. ap (λ (m : ℕ). with_closing (said (free says) (Drawn bytes title)).says (awaiting m word)) (less_one n); is_free = refl }
+pub told_awaiting : (says : Says) (n : ℕ) (word : LastWord) (reply : Reply)
+    → IsAwaited (said (with_closing says (awaiting (suc n) word)) reply) (said (free says) reply) n word
+told_awaiting says n word (Arrived id) = record {
+  bytes = refl;
+  state = refl;
+  says =
+      λ e. ap (λ (m : ℕ). with_closing (said (free says) (Arrived id)).says (awaiting m word)) (less_one n);
+  is_free = refl;
+}
+told_awaiting says n word Feeding = record {
+  bytes = refl;
+  state = refl;
+  says =
+      λ e. ap (λ (m : ℕ). with_closing (said (free says) Feeding).says (awaiting m word)) (less_one n);
+  is_free = refl;
+}
+told_awaiting says n word (Seated interval shown) = record {
+  bytes = refl;
+  state = refl;
+  says =
+      λ e. ap (λ (m : ℕ). with_closing (said (free says) (Seated interval shown)).says (awaiting m word)) (less_one n);
+  is_free = refl;
+}
+told_awaiting says n word (Drawn bytes title) = record {
+  bytes = refl;
+  state = refl;
+  says =
+      λ e. ap (λ (m : ℕ). with_closing (said (free says) (Drawn bytes title)).says (awaiting m word)) (less_one n);
+  is_free = refl;
+}
 told_awaiting says n word Noted = record {
   bytes = rw (eqb-suc-zero n) refl;
   state = rw (eqb-suc-zero n) refl;
@@ -51,7 +76,13 @@ told_awaiting says n word Noted = record {
 }
 told_awaiting says n word (Deny rule) = record { bytes = refl; state = refl; says = λ e. cc; is_free = refl }
 told_awaiting says n word (Finished rule) = record { bytes = refl; state = refl; says = λ e. cc; is_free = refl }
-told_awaiting says n word Stray = record { bytes = refl; state = refl; says = λ e. ap (λ (m : ℕ). with_closing (said (free says) Stray).says (awaiting m word)) (less_one n); is_free = refl }
+told_awaiting says n word Stray = record {
+  bytes = refl;
+  state = refl;
+  says =
+      λ e. ap (λ (m : ℕ). with_closing (said (free says) Stray).says (awaiting m word)) (less_one n);
+  is_free = refl;
+}
 
 module _ {S : Type 0} (steps : Steps S) (id : ℕ) where
   -- the same of events, none of which is the last
@@ -62,7 +93,8 @@ module _ {S : Type 0} (steps : Steps S) (id : ℕ) where
     pub state : now.state ≡ x.state
     pub says_on : x.state ≡ Running → now.says ≡ with_closing x.says (awaiting n word)
 
-  pub awaited : (events : List Event) (says : Says) (m n : ℕ) (word : LastWord) (from : S) (now : Exchange) (to : S) → m ≡ length events + n → Exchanges steps id (with_closing says (awaiting m word)) events from now to → Awaited says events n word from now to
+  pub awaited : (events : List Event) (says : Says) (m n : ℕ) (word : LastWord) (from : S) (now : Exchange) (to : S) → m ≡ length events + n
+      → Exchanges steps id (with_closing says (awaiting m word)) events from now to → Awaited says events n word from now to
   awaited [] says m n word from now to size e = record {
     x = nothing_exchanged (free says);
     alone = (refl, e.1);
@@ -70,44 +102,49 @@ module _ {S : Type 0} (steps : Steps S) (id : ℕ) where
     state = ap (λ (x : Exchange). x.state) e.0;
     says_on = λ runs. ap (λ (x : Exchange). x.says) e.0 ∙ ap (λ (k : ℕ). with_closing says (awaiting k word)) (omega (arith, size));
   }
-  awaited (event ∷ events) says m n word from now to size all = by_state (λ later end. awaited events (said (free says) e.0).says (length events + n) n word e.1 later end refl) (said (free says) e.0).state refl goes where
-    e : Exchanges steps id (with_closing says (awaiting (suc (length events + n)) word)) (event ∷ events) from now to
-    e = subst (λ (k : ℕ). Exchanges steps id (with_closing says (awaiting k word)) (event ∷ events) from now to) (omega (arith, size)) all
+  awaited (event ∷ events) says m n word from now to size all = by_state
+      (λ later end. awaited events (said (free says) e.0).says (length events + n) n word e.1 later end refl) (said (free says) e.0).state refl goes where
+        e : Exchanges steps id (with_closing says (awaiting (suc (length events + n)) word)) (event ∷ events) from now to
+        e = subst (λ (k : ℕ). Exchanges steps id (with_closing says (awaiting k word)) (event ∷ events) from now to) (omega (arith, size)) all
 
-    here : Said
-    here = said (with_closing says (awaiting (suc (length events + n)) word)) e.0
+        here : Said
+        here = said (with_closing says (awaiting (suc (length events + n)) word)) e.0
 
-    single : Said
-    single = said (free says) e.0
+        single : Said
+        single = said (free says) e.0
 
-    told : IsAwaited here single (length events + n) word
-    told = told_awaiting says (length events + n) word e.0
+        told : IsAwaited here single (length events + n) word
+        told = told_awaiting says (length events + n) word e.0
 
-    goes : GoesOn steps id single.state event here e.1 (λ others. Exchanges steps id here.says events e.1 others to) now to
-    goes = subst (λ (state : State). GoesOn steps id state event here e.1 (λ others. Exchanges steps id here.says events e.1 others to) now to) told.state e.3
+        goes : GoesOn steps id single.state event here e.1 (λ others. Exchanges steps id here.says events e.1 others to) now to
+        goes = subst (λ (state : State). GoesOn steps id state event here e.1 (λ others. Exchanges steps id here.says events e.1 others to) now to) told.state e.3
 
-    by_state : ((later : Exchange) (end : S) → Exchanges steps id (with_closing single.says (awaiting (length events + n) word)) events e.1 later end → Awaited single.says events n word e.1 later end)
-        → (state : State) → single.state ≡ state → GoesOn steps id state event here e.1 (λ others. Exchanges steps id here.says events e.1 others to) now to → Awaited says (event ∷ events) n word from now to
-    by_state further Running runs g =
-        let rest = further g.0 to (subst (λ (s : Says). Exchanges steps id s events e.1 g.0 to) (told.says runs) g.1) in
-        let others = subst (λ (s : Says). Exchanges steps id s events e.1 rest.x to) (free_says single.says told.is_free) rest.alone in
-        record {
-          x = prefixed single.bytes rest.x;
-          alone = one_on steps id (free says) event events from e.1 to e.0 e.2 rest.x runs others;
-          bytes = ap (λ (x : Exchange). x.bytes) g.2 ∙ ap (λ (bytes : List ℕ). bytes ++ g.0.bytes) told.bytes ∙ ap (λ (bytes : List ℕ). single.bytes ++ bytes) rest.bytes;
-          state = ap (λ (x : Exchange). x.state) g.2 ∙ rest.state;
-          says_on = λ on. ap (λ (x : Exchange). x.says) g.2 ∙ rest.says_on on;
+        by_state : ((later : Exchange) (end : S) → Exchanges steps id (with_closing single.says (awaiting (length events + n) word)) events e.1 later end
+            → Awaited single.says events n word e.1 later end)
+            → (state : State) → single.state ≡ state → GoesOn steps id state event here e.1
+            (λ others. Exchanges steps id here.says events e.1 others to) now to → Awaited says (event ∷ events) n word from now to
+        by_state further Running runs g =
+            let rest = further g.0 to (subst (λ (s : Says). Exchanges steps id s events e.1 g.0 to) (told.says runs) g.1) in
+            let others = subst (λ (s : Says). Exchanges steps id s events e.1 rest.x to) (free_says single.says told.is_free) rest.alone in
+            record {
+              x = prefixed single.bytes rest.x;
+              alone = one_on steps id (free says) event events from e.1 to e.0 e.2 rest.x runs others;
+              bytes = ap (λ (x : Exchange). x.bytes) g.2 ∙ ap (λ (bytes : List ℕ). bytes ++ g.0.bytes) told.bytes
+                  ∙ ap (λ (bytes : List ℕ). single.bytes ++ bytes) rest.bytes;
+              state = ap (λ (x : Exchange). x.state) g.2 ∙ rest.state;
+              says_on = λ on. ap (λ (x : Exchange). x.says) g.2 ∙ rest.says_on on;
+            }
+        by_state further (Shut ending) ends g = record {
+          x = ended_with single ending;
+          alone = one_last steps id (free says) event events from e.1 to e.0 e.2 ending ends g.0;
+          bytes = ap (λ (x : Exchange). x.bytes) g.1 ∙ told.bytes;
+          state = ap (λ (x : Exchange). x.state) g.1;
+          says_on = λ on. cc;
         }
-    by_state further (Shut ending) ends g = record {
-      x = ended_with single ending;
-      alone = one_last steps id (free says) event events from e.1 to e.0 e.2 ending ends g.0;
-      bytes = ap (λ (x : Exchange). x.bytes) g.1 ∙ told.bytes;
-      state = ap (λ (x : Exchange). x.state) g.1;
-      says_on = λ on. cc;
-    }
 
   -- where none is awaited, none is awaited later
-  pub stays_free : (events : List Event) (says : Says) (from : S) (x : Exchange) (to : S) → Exchanges steps id (free says) events from x to → x.says.closing ≡ None
+  pub stays_free : (events : List Event) (says : Says) (from : S) (x : Exchange) (to : S) → Exchanges steps id (free says) events from x to
+      → x.says.closing ≡ None
   stays_free [] says from x to e = ap (λ (y : Exchange). y.says.closing) e.0
   stays_free (event ∷ events) says from x to e = by_state (stays_free events (said (free says) e.0).says e.1) (said (free says) e.0).state e.3 where
     single : Said

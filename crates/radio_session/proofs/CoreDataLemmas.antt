@@ -1,5 +1,5 @@
 -- Cores go by a source's data.
-use Rattle.std.proofs.Common.{◌≡◌, ◌⊎◌, ℕ, List, ◌++◌, refl, ap, sym, subst, ◌∙◌}
+use Rattle.std.proofs.Common.{◌≡◌, ◌⊎◌, ◌++◌, sym, subst, ◌∙◌}
 use Rattle.radio_core.specs.declared.event.Event.{Event}
 use Rattle.radio_core.specs.declared.event.Event.TheVariants.{Push, SourceEnd}
 use Rattle.radio_core.specs.declared.reply.Reply.{Reply}
@@ -8,7 +8,7 @@ use Rattle.radio_core.specs.SourceReplies.{to_data, to_end, IsQuiet, EndsByRule,
 use Rattle.radio_core.specs.Step.{Represents, StandsForSome, reply_to, world_after}
 use Rattle.radio_core.specs.World.{World}
 use Rattle.radio_session.specs.Exchanges.{core_steps}
-use Rattle.radio_session.specs.DataServers.{HasOneReply, GoesByData}
+use Rattle.radio_session.specs.DataServers.{HasOneReply}
 use Rattle.radio_session.specs.Laws.{CoresGoByData}
 
 -- a step of a core, from a state that it stands for

@@ -72,13 +72,16 @@ module _ {S : Type 0} (steps : Steps S) (id : ℕ) (server : GoesByData steps id
   abbrev pub Fed : Says → List (List ℕ) → S → Exchange → S → Type 0
   Fed says blocks from x to = WentOn says blocks from x to ⊎ Stopped says blocks from x
 
-  module _ (says : Says) (block : List ℕ) (blocks : List (List ℕ)) (from mid to : S) (reply : Reply) (valid : IsBlock block) (step : steps from (Push id block) reply mid) (x : Exchange) where
+  module _ (says : Says) (block : List ℕ) (blocks : List (List ℕ)) (from mid to : S) (reply : Reply) (valid : IsBlock block)
+      (step : steps from (Push id block) reply mid) (x : Exchange) where
     -- the block is taken, and others come
     quiet_on : IsQuiet reply → reply ≡ server.to_data from block → Fed says blocks mid x to → Fed says (block ∷ blocks) from x to
     quiet_on q at (inl on) = inl (record {
       nothing = on.nothing;
-      data_on = λ rest. ap (server.to_data from) (append_assoc block (concat blocks) rest) ∙ (server.after_block from mid block (concat blocks ++ rest) reply valid step q).0 ∙ on.data_on rest;
-      end_on = λ rest. ap (server.to_end from) (append_assoc block (concat blocks) rest) ∙ (server.after_block from mid block (concat blocks ++ rest) reply valid step q).1 ∙ on.end_on rest;
+      data_on = λ rest. ap (server.to_data from) (append_assoc block (concat blocks) rest)
+          ∙ (server.after_block from mid block (concat blocks ++ rest) reply valid step q).0 ∙ on.data_on rest;
+      end_on = λ rest. ap (server.to_end from) (append_assoc block (concat blocks) rest)
+          ∙ (server.after_block from mid block (concat blocks ++ rest) reply valid step q).1 ∙ on.end_on rest;
       quiet = inr (elim on.quiet [
         | inl none ↦ subst IsQuiet (at ∙ ap (server.to_data from) (sym (append-nil block) ∙ ap (λ (bs : List (List ℕ)). block ++ concat bs) (sym none))) q
         | inr later ↦ subst IsQuiet (sym (server.after_block from mid block (concat blocks) reply valid step q).0) later
@@ -87,14 +90,16 @@ module _ {S : Type 0} (steps : Steps S) (id : ℕ) (server : GoesByData steps id
     quiet_on q at (inr stop) = inr (record {
       reply = stop.reply;
       by_rule = stop.by_rule;
-      data_on = λ rest. ap (server.to_data from) (append_assoc block (concat blocks) rest) ∙ (server.after_block from mid block (concat blocks ++ rest) reply valid step q).0 ∙ stop.data_on rest;
+      data_on = λ rest. ap (server.to_data from) (append_assoc block (concat blocks) rest)
+          ∙ (server.after_block from mid block (concat blocks ++ rest) reply valid step q).0 ∙ stop.data_on rest;
       bytes = stop.bytes;
       state = stop.state;
       some = λ none. cc;
     })
 
     -- a rule ends the connection
-    rule_on : EndsByRule reply → (Others : Exchange → Type 0) → GoesOn steps id (said (free says) reply).state (Push id block) (said (free says) reply) mid Others x to → Fed says (block ∷ blocks) from x to
+    rule_on : EndsByRule reply → (Others : Exchange → Type 0) → GoesOn steps id (said (free says) reply).state (Push id block)
+        (said (free says) reply) mid Others x to → Fed says (block ∷ blocks) from x to
     rule_on ends Others goes =
         let shut = ends_told (free says) reply ends in
         let told = said (free says) reply in
@@ -102,13 +107,15 @@ module _ {S : Type 0} (steps : Steps S) (id : ℕ) (server : GoesByData steps id
         inr (record {
           reply = reply;
           by_rule = ends;
-          data_on = λ rest. ap (server.to_data from) (append_assoc block (concat blocks) rest) ∙ server.at_rule from mid block (concat blocks ++ rest) reply valid step ends;
+          data_on = λ rest. ap (server.to_data from) (append_assoc block (concat blocks) rest)
+              ∙ server.at_rule from mid block (concat blocks ++ rest) reply valid step ends;
           bytes = ap (λ (y : Exchange). y.bytes) g.1;
           state = ap (λ (y : Exchange). y.state) g.1 ∙ sym shut.1;
           some = λ none. cc;
         })
 
-  feeds : (blocks : List (List ℕ)) (says : Says) (from : S) (x : Exchange) (to : S) → All IsBlock blocks → Exchanges steps id (free says) (blocks_as id blocks) from x to → Fed says blocks from x to
+  feeds : (blocks : List (List ℕ)) (says : Says) (from : S) (x : Exchange) (to : S) → All IsBlock blocks
+      → Exchanges steps id (free says) (blocks_as id blocks) from x to → Fed says blocks from x to
   feeds [] says from x to valid e = inl (record {
     nothing = e.0;
     data_on = λ rest. ap (λ (s : S). server.to_data s rest) (sym e.1);
@@ -120,9 +127,12 @@ module _ {S : Type 0} (steps : Steps S) (id : ℕ) (server : GoesByData steps id
       let at = server.at_block from e.1 block e.0 here e.2 in
       elim at.1 [
         | inl q ↦
-            let g = subst (λ (told : Said). GoesOn steps id told.state (Push id block) told e.1 (λ others. Exchanges steps id told.says (blocks_as id blocks) e.1 others to) x to) (quiet_told says e.0 q) e.3 in
-            quiet_on says block blocks from e.1 to e.0 here e.2 x q at.0 (subst (λ (y : Exchange). Fed says blocks e.1 y to) (sym g.2) (feeds blocks says e.1 g.0 to (All-tail IsBlock block blocks valid) g.1))
-        | inr ends ↦ rule_on says block blocks from e.1 to e.0 here e.2 x ends (λ others. Exchanges steps id (said (free says) e.0).says (blocks_as id blocks) e.1 others to) e.3
+            let g = subst (λ (told : Said). GoesOn steps id told.state (Push id block) told e.1
+            (λ others. Exchanges steps id told.says (blocks_as id blocks) e.1 others to) x to) (quiet_told says e.0 q) e.3 in
+            quiet_on says block blocks from e.1 to e.0 here e.2 x q at.0
+            (subst (λ (y : Exchange). Fed says blocks e.1 y to) (sym g.2) (feeds blocks says e.1 g.0 to (All-tail IsBlock block blocks valid) g.1))
+        | inr ends ↦ rule_on says block blocks from e.1 to e.0 here e.2 x ends
+            (λ others. Exchanges steps id (said (free says) e.0).says (blocks_as id blocks) e.1 others to) e.3
       ]
 
   -- two exchanges are told alike, and where the connection goes on, so is the end of the data
@@ -132,7 +142,8 @@ module _ {S : Type 0} (steps : Steps S) (id : ℕ) (server : GoesByData steps id
     pub says : x.state ≡ Running → x.says ≡ y.says
     pub at_end : x.state ≡ Running → server.to_end to [] ≡ server.to_end other []
 
-  module _ (says : Says) (one other : List (List ℕ)) (from : S) (x y : Exchange) (to to' : S) (same : concat one ≡ concat other) (none : other ≡ [] → one ≡ []) where
+  module _ (says : Says) (one other : List (List ℕ)) (from : S) (x y : Exchange) (to to' : S) (same : concat one ≡ concat other)
+      (none : other ≡ [] → one ≡ []) where
     -- they can't be taken in one cutting, and not in the other
     clash : WentOn says one from x to → Stopped says other from y → (one ≡ [] → other ≡ []) → ⊥
     clash on stop empty = elim on.quiet [
@@ -159,18 +170,22 @@ module _ {S : Type 0} (steps : Steps S) (id : ℕ) (server : GoesByData steps id
           at_end = λ e. let no : Shut shut.0 ≡ Running = sym (stop.state ∙ shut.1) ∙ e in cc;
         }
 
-  pub fed_alike : (says : Says) (one other : List (List ℕ)) (from : S) (x y : Exchange) (to to' : S) → All IsBlock one → All IsBlock other → concat one ≡ concat other → (one ≡ [] → other ≡ []) → (other ≡ [] → one ≡ [])
+  pub fed_alike : (says : Says) (one other : List (List ℕ)) (from : S) (x y : Exchange) (to to' : S) → All IsBlock one → All IsBlock other
+      → concat one ≡ concat other → (one ≡ [] → other ≡ []) → (other ≡ [] → one ≡ [])
       → Exchanges steps id (free says) (blocks_as id one) from x to → Exchanges steps id (free says) (blocks_as id other) from y to' → ToldAlike x to y to'
-  fed_alike says one other from x y to to' valid valid' same empty none e f = by_fed (feeds one says from x to valid e) (feeds other says from y to' valid' f) where
-    by_fed : Fed says one from x to → Fed says other from y to' → ToldAlike x to y to'
-    by_fed (inl on) (inl again) = both_on says one other from x y to to' same none on again
-    by_fed (inl on) (inr again) = absurd (clash says one other from x y to to' same none on again empty)
-    by_fed (inr stop) (inl again) = absurd (clash says other one from y x to' to (sym same) empty again stop none)
-    by_fed (inr stop) (inr again) = both_stop says one other from x y to to' same none stop again
+  fed_alike says one other from x y to to' valid valid' same empty none e f =
+      by_fed (feeds one says from x to valid e) (feeds other says from y to' valid' f) where
+        by_fed : Fed says one from x to → Fed says other from y to' → ToldAlike x to y to'
+        by_fed (inl on) (inl again) = both_on says one other from x y to to' same none on again
+        by_fed (inl on) (inr again) = absurd (clash says one other from x y to to' same none on again empty)
+        by_fed (inr stop) (inl again) = absurd (clash says other one from y x to' to (sym same) empty again stop none)
+        by_fed (inr stop) (inr again) = both_stop says one other from x y to to' same none stop again
 
   -- the same behind other events
-  pub behind_alike : (before : List Event) (says : Says) (one other : List (List ℕ)) (from : S) (x y : Exchange) (to to' : S) → All IsBlock one → All IsBlock other → concat one ≡ concat other → (one ≡ [] → other ≡ []) → (other ≡ [] → one ≡ [])
-      → Exchanges steps id (free says) (before ++ blocks_as id one) from x to → Exchanges steps id (free says) (before ++ blocks_as id other) from y to' → ToldAlike x to y to'
+  pub behind_alike : (before : List Event) (says : Says) (one other : List (List ℕ)) (from : S) (x y : Exchange) (to to' : S) → All IsBlock one
+      → All IsBlock other → concat one ≡ concat other → (one ≡ [] → other ≡ []) → (other ≡ [] → one ≡ [])
+      → Exchanges steps id (free says) (before ++ blocks_as id one) from x to
+      → Exchanges steps id (free says) (before ++ blocks_as id other) from y to' → ToldAlike x to y to'
   behind_alike before says one other from x y to to' valid valid' same empty none e f =
       let p = split steps id before (blocks_as id one) (free says) from x to e in
       let q = split steps id before (blocks_as id other) (free says) from y to' f in
@@ -178,7 +193,8 @@ module _ {S : Type 0} (steps : Steps S) (id : ℕ) (server : GoesByData steps id
       let moved = subst (λ (z : Exchange). FollowsBy steps id z.state (blocks_as id other) z q.mid y to') (sym first.0) q.follows in
       let again = subst (λ (m : S). FollowsBy steps id p.x.state (blocks_as id other) p.x m y to') (sym first.1) moved in
       by_state p.x p.mid (stays_free steps id before says from p.x p.mid p.begins) p.x.state refl p.follows again where
-        by_state : (z : Exchange) (mid : S) → z.says.closing ≡ None → (state : State) → z.state ≡ state → FollowsBy steps id state (blocks_as id one) z mid x to → FollowsBy steps id state (blocks_as id other) z mid y to' → ToldAlike x to y to'
+        by_state : (z : Exchange) (mid : S) → z.says.closing ≡ None → (state : State) → z.state ≡ state
+            → FollowsBy steps id state (blocks_as id one) z mid x to → FollowsBy steps id state (blocks_as id other) z mid y to' → ToldAlike x to y to'
         by_state z mid c Running runs g h =
             let e' = subst (λ (s : Says). Exchanges steps id s (blocks_as id one) mid g.0 to) (sym (free_says z.says c)) g.1 in
             let f' = subst (λ (s : Says). Exchanges steps id s (blocks_as id other) mid h.0 to') (sym (free_says z.says c)) h.1 in

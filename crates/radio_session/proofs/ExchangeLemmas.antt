@@ -12,21 +12,25 @@ use Rattle.radio_session.specs.Saying.{Said, said}
 use Rattle.radio_session.specs.Laws.{CoresExchangeAsTheirStates}
 use Rattle.radio_session.specs.Exchanges.{Steps, Exchange, prefixed, ended_with, is_leave, LeavesAfter, GoesOn, Exchanges, core_steps, WorldExchange, left_after, then_exchanged, ExchangesAs, exchanged}
 
-left_by : (w mid core' : World) (id : ℕ) (b : Bool) (event : Event) → is_leave event ≡ b → Represents mid w → LeavesAfter core_steps id b mid core' → Represents core' (left_after w id event)
+left_by : (w mid core' : World) (id : ℕ) (b : Bool) (event : Event) → is_leave event ≡ b → Represents mid w → LeavesAfter core_steps id b mid core'
+    → Represents core' (left_after w id event)
 left_by w mid core' id true event e stands same = rw e (subst (λ (c : World). Represents c w) (sym same) stands)
 left_by w mid core' id false event e stands steps =
     let s = steps.1.1 w stands in
     rw e (subst (λ (x : World). Represents core' x) s.1.1 s.2)
 
 module _ (id : ℕ) where
-  goes_on : (w mid core' : World) (event : Event) (told : Said) (state : State) (Others : Exchange → Type 0) (others : WorldExchange) (x : Exchange) → Represents mid w → ((y : Exchange) → Others y → ExchangesAs core' y others) → GoesOn core_steps id state event told mid Others x core' → ExchangesAs core' x (then_exchanged w id event told state others)
+  goes_on : (w mid core' : World) (event : Event) (told : Said) (state : State) (Others : Exchange → Type 0) (others : WorldExchange) (x : Exchange)
+      → Represents mid w → ((y : Exchange) → Others y → ExchangesAs core' y others) → GoesOn core_steps id state event told mid Others x core'
+      → ExchangesAs core' x (then_exchanged w id event told state others)
   goes_on w mid core' event told Running Others others x stands rest g =
       let r = rest g.0 g.1 in
       record { stands = r.stands; same = g.2 ∙ ap (prefixed told.bytes) r.same }
   goes_on w mid core' event told (Shut ending) Others others x stands rest g =
       record { stands = left_by w mid core' id (is_leave event) event refl stands g.0; same = g.1 }
 
-  pub exchanges_as : (says : Says) (events : List Event) (core core' : World) (x : Exchange) → Exchanges core_steps id says events core x core' → (w : World) → Represents core w → ExchangesAs core' x (exchanged w id says events)
+  pub exchanges_as : (says : Says) (events : List Event) (core core' : World) (x : Exchange) → Exchanges core_steps id says events core x core'
+      → (w : World) → Represents core w → ExchangesAs core' x (exchanged w id says events)
   exchanges_as says [] core core' x e w stands = record { stands = subst (λ (c : World). Represents c w) (sym e.1) stands; same = e.0 }
   exchanges_as says (event ∷ events) core core' x e w stands =
       let reply = e.0 in
@@ -36,32 +40,40 @@ module _ (id : ℕ) where
       let after : Represents mid (world_after w event) = subst (λ (y : World). Represents mid y) s.1.1 s.2 in
       let told = said says reply in
       let others = exchanged (world_after w event) id told.says events in
-      let done = goes_on (world_after w event) mid core' event told told.state (λ y. Exchanges core_steps id told.says events mid y core') others x after (λ y f. exchanges_as told.says events mid core' y f (world_after w event) after) e.3 in
-      subst (λ (r : Reply). ExchangesAs core' x (then_exchanged (world_after w event) id event (said says r) (said says r).state (exchanged (world_after w event) id (said says r).says events))) next done
+      let done = goes_on (world_after w event) mid core' event told told.state
+      (λ y. Exchanges core_steps id told.says events mid y core') others x after
+      (λ y f. exchanges_as told.says events mid core' y f (world_after w event) after) e.3 in
+      subst (λ (r : Reply). ExchangesAs core' x (then_exchanged (world_after w event) id event (said says r) (said says r).state
+      (exchanged (world_after w event) id (said says r).says events))) next done
 
 -- exchanges put together, one event after another
 
 pub prefix_twice : (first second : List ℕ) (x : Exchange) → prefixed first (prefixed second x) ≡ prefixed (first ++ second) x
 prefix_twice first second x = ap (λ (bytes : List ℕ). record x { bytes = bytes }) (sym (append_assoc first second x.bytes))
 
-module _ {S : Type 0} (steps : Steps S) (id : ℕ) (says : Says) (event : Event) (events : List Event) (from mid to : S) (reply : Reply) (step : steps from event reply mid) where
+module _ {S : Type 0} (steps : Steps S) (id : ℕ) (says : Says) (event : Event) (events : List Event) (from mid to : S) (reply : Reply)
+    (step : steps from event reply mid) where
   -- the event is answered, and others come to x
-  pub one_on : (x : Exchange) → (said says reply).state ≡ Running → Exchanges steps id (said says reply).says events mid x to → Exchanges steps id says (event ∷ events) from (prefixed (said says reply).bytes x) to
+  pub one_on : (x : Exchange) → (said says reply).state ≡ Running → Exchanges steps id (said says reply).says events mid x to
+      → Exchanges steps id says (event ∷ events) from (prefixed (said says reply).bytes x) to
   one_on x runs others = (
     reply,
     mid,
     step,
-    subst (λ (e : State). GoesOn steps id e event (said says reply) mid (λ y. Exchanges steps id (said says reply).says events mid y to) (prefixed (said says reply).bytes x) to) (sym runs)
+    subst (λ (e : State). GoesOn steps id e event (said says reply) mid (λ y. Exchanges steps id (said says reply).says events mid y to)
+        (prefixed (said says reply).bytes x) to) (sym runs)
         (x, others, refl),
   )
 
   -- the event is answered, and the connection ends
-  pub one_last : (ending : Ending) → (said says reply).state ≡ Shut ending → LeavesAfter steps id (is_leave event) mid to → Exchanges steps id says (event ∷ events) from (ended_with (said says reply) ending) to
+  pub one_last : (ending : Ending) → (said says reply).state ≡ Shut ending → LeavesAfter steps id (is_leave event) mid to
+      → Exchanges steps id says (event ∷ events) from (ended_with (said says reply) ending) to
   one_last ending last leaves = (
     reply,
     mid,
     step,
-    subst (λ (e : State). GoesOn steps id e event (said says reply) mid (λ y. Exchanges steps id (said says reply).says events mid y to) (ended_with (said says reply) ending) to) (sym last)
+    subst (λ (e : State). GoesOn steps id e event (said says reply) mid (λ y. Exchanges steps id (said says reply).says events mid y to)
+        (ended_with (said says reply) ending) to) (sym last)
         (leaves, refl),
   )
 

@@ -9,21 +9,24 @@ use Rattle.radio_session.specs.declared.session.LastWord.TheVariants.{Complete, 
 use Rattle.radio_session.specs.Hearing.{body_closes}
 
 -- an answer with blocks
-brings : (B blocks : List (List ℕ)) (ended is_complete : Bool) (fault : Option BodyFault) → answer_with B ended fault ≡ Brings blocks is_complete → (blocks ≡ B) × (is_complete ≡ ended)
+brings : (B blocks : List (List ℕ)) (ended is_complete : Bool) (fault : Option BodyFault) → answer_with B ended fault ≡ Brings blocks is_complete
+    → (blocks ≡ B) × (is_complete ≡ ended)
 brings B blocks ended is_complete None e = (cc, cc)
 brings [] blocks false is_complete (Some fault) e = cc
 brings [] blocks true is_complete (Some fault) e = (cc, cc)
 brings (b ∷ B) blocks ended is_complete (Some fault) e = (cc, cc)
 
 -- an answer with a fault
-refuses : (B : List (List ℕ)) (ended : Bool) (fault : Option BodyFault) (told : BodyFault) → answer_with B ended fault ≡ Refuses told → (B ≡ []) × (body_closes ended fault ≡ Some Faulty)
+refuses : (B : List (List ℕ)) (ended : Bool) (fault : Option BodyFault) (told : BodyFault) → answer_with B ended fault ≡ Refuses told → (B ≡ [])
+    × (body_closes ended fault ≡ Some Faulty)
 refuses B ended None told e = cc
 refuses [] false (Some fault) told e = (refl, refl)
 refuses [] true (Some fault) told e = cc
 refuses (b ∷ B) ended (Some fault) told e = cc
 
 -- an answer with nothing, where the end has not come
-brings_nothing : (blocks : List (List ℕ)) (is_complete : Bool) (fault : Option BodyFault) → answer_with [] false fault ≡ Brings blocks is_complete → body_closes false fault ≡ None
+brings_nothing : (blocks : List (List ℕ)) (is_complete : Bool) (fault : Option BodyFault) → answer_with [] false fault ≡ Brings blocks is_complete
+    → body_closes false fault ≡ None
 brings_nothing blocks is_complete None e = refl
 brings_nothing blocks is_complete (Some fault) e = cc
 
@@ -34,15 +37,18 @@ module _ (place : Place) (bytes : List ℕ) where
       ap (λ (ended : Bool). answer_with (blocks_of (data_of place bytes)) ended (fault_at (after place bytes))) (and-true (has_ended (after place bytes)))
 
   -- the data, and whether the end came
-  pub brought : (blocks : List (List ℕ)) (is_complete : Bool) → answer_to (unfed place) bytes ≡ Brings blocks is_complete → (blocks ≡ blocks_of (data_of place bytes)) × (is_complete ≡ has_ended (after place bytes))
+  pub brought : (blocks : List (List ℕ)) (is_complete : Bool) → answer_to (unfed place) bytes ≡ Brings blocks is_complete
+      → (blocks ≡ blocks_of (data_of place bytes)) × (is_complete ≡ has_ended (after place bytes))
   brought blocks is_complete e =
       brings (blocks_of (data_of place bytes)) blocks (has_ended (after place bytes)) is_complete (fault_at (after place bytes)) (sym answered ∙ e)
 
-  pub closed_whole : (blocks : List (List ℕ)) → answer_to (unfed place) bytes ≡ Brings blocks true → Some Complete ≡ body_closes (has_ended (after place bytes)) (fault_at (after place bytes))
+  pub closed_whole : (blocks : List (List ℕ)) → answer_to (unfed place) bytes ≡ Brings blocks true
+      → Some Complete ≡ body_closes (has_ended (after place bytes)) (fault_at (after place bytes))
   closed_whole blocks e =
       ap (λ (ended : Bool). body_closes ended (fault_at (after place bytes))) (brought blocks true e).1
 
-  pub closed_faulty : (told : BodyFault) → answer_to (unfed place) bytes ≡ Refuses told → ([] ≡ blocks_of (data_of place bytes)) × (Some Faulty ≡ body_closes (has_ended (after place bytes)) (fault_at (after place bytes)))
+  pub closed_faulty : (told : BodyFault) → answer_to (unfed place) bytes ≡ Refuses told → ([] ≡ blocks_of (data_of place bytes))
+      × (Some Faulty ≡ body_closes (has_ended (after place bytes)) (fault_at (after place bytes)))
   closed_faulty told e =
       let r = refuses (blocks_of (data_of place bytes)) (has_ended (after place bytes)) (fault_at (after place bytes)) told (sym answered ∙ e) in
       (sym r.0, sym r.1)
@@ -51,7 +57,12 @@ module _ (place : Place) (bytes : List ℕ) where
   pub goes_on : (blocks : List (List ℕ)) → answer_to (unfed place) bytes ≡ Brings blocks false → after_feed (unfed place) bytes ≡ unfed (after place bytes)
   unfolding after_feed
   goes_on blocks e =
-      ap (λ (ended : Bool). let f : Feeding = record { place = after place bytes; is_end_told = ended; has_failed = is_refusal (answer_to (unfed place) bytes) } in f)
+      ap (λ (ended : Bool). let f : Feeding = record {
+        place = after place bytes;
+        is_end_told = ended;
+        has_failed =
+            is_refusal (answer_to (unfed place) bytes);
+      } in f)
       (false-or (has_ended (after place bytes)) ∙ sym (brought blocks false e).1)
       ∙ ap (λ (answer : Answer). let f : Feeding = record { place = after place bytes; is_end_told = false; has_failed = is_refusal answer } in f) e
 
@@ -61,13 +72,15 @@ module _ (place : Place) (unended : has_ended place ≡ false) where
   answered_nothing = answered place [] ∙ ap (λ (ended : Bool). answer_with [] ended (fault_at place)) unended
 
   -- an empty piece shows that there is no fault
-  pub faultless : (blocks : List (List ℕ)) (is_complete : Bool) → answer_to (unfed place) [] ≡ Brings blocks is_complete → None ≡ body_closes false (fault_at place)
+  pub faultless : (blocks : List (List ℕ)) (is_complete : Bool) → answer_to (unfed place) [] ≡ Brings blocks is_complete
+      → None ≡ body_closes false (fault_at place)
   faultless blocks is_complete e = sym (brings_nothing blocks is_complete (fault_at place) (sym answered_nothing ∙ e))
 
   -- or tells it
   pub faulty : (told : BodyFault) → answer_to (unfed place) [] ≡ Refuses told → Some Faulty ≡ body_closes false (fault_at place)
   faulty told e = sym (refuses [] false (fault_at place) told (sym answered_nothing ∙ e)).1
 
-  pub same_after : (blocks : List (List ℕ)) (is_complete : Bool) → answer_to (unfed place) [] ≡ Brings blocks is_complete → after_feed (unfed place) [] ≡ unfed place
+  pub same_after : (blocks : List (List ℕ)) (is_complete : Bool) → answer_to (unfed place) [] ≡ Brings blocks is_complete
+      → after_feed (unfed place) [] ≡ unfed place
   same_after blocks is_complete e =
       goes_on place [] blocks (e ∙ ap (λ (c : Bool). Brings blocks c) ((brought place [] blocks is_complete e).1 ∙ unended))

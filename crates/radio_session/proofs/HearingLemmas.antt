@@ -13,13 +13,16 @@ use Rattle.radio_session.specs.Hearing.{Heard, HearsAs, head_heard, request_hear
 use Rattle.radio_session.specs.Laws.{HearingIsOne}
 
 -- two faults are heard alike
-pub faults-alike : (conversation : Conversation) (bytes : List ℕ) (r s : Result (Progress RequestParts) HeadFault) → IsErr r → IsErr s → head_heard conversation bytes r ≡ head_heard conversation bytes s
+pub faults-alike : (conversation : Conversation) (bytes : List ℕ) (r s : Result (Progress RequestParts) HeadFault) → IsErr r → IsErr s
+    → head_heard conversation bytes r ≡ head_heard conversation bytes s
 faults-alike conversation bytes (Err e) (Err f) h k = refl
 faults-alike conversation bytes (Err e) (Ok p) h k = cc
 faults-alike conversation bytes (Ok p) s h k = cc
 
 -- a whole head, with bytes behind it, is heard as a request
-pub heard_whole : (conversation start : Conversation) (bytes all behind : List ℕ) (request : RequestParts) (n : ℕ) (heard : Heard) → request_heard start request behind ≡ heard → all ≡ conversation.held ++ bytes → IsReading ShowsRequest all (Ok (Whole request n)) → start ≡ nothing_held conversation → behind ≡ drop n all → HearsAs Head conversation bytes heard
+pub heard_whole : (conversation start : Conversation) (bytes all behind : List ℕ) (request : RequestParts) (n : ℕ) (heard : Heard)
+    → request_heard start request behind ≡ heard → all ≡ conversation.held ++ bytes → IsReading ShowsRequest all (Ok (Whole request n))
+    → start ≡ nothing_held conversation → behind ≡ drop n all → HearsAs Head conversation bytes heard
 heard_whole conversation start bytes all behind request n heard e together reading same rest = (
   Ok (Whole request n),
   subst (λ (xs : List ℕ). IsReading ShowsRequest xs (Ok (Whole request n))) together reading,
@@ -30,13 +33,15 @@ heard_whole conversation start bytes all behind request n heard e together readi
 
 module _ (agree : ReadingsAgree ShowsRequest) where
   -- what two readings of the same bytes are heard as is one thing
-  pub heard-alike : (conversation : Conversation) (bytes : List ℕ) (r s : Result (Progress RequestParts) HeadFault) → IsReading ShowsRequest bytes r → IsReading ShowsRequest bytes s → head_heard conversation bytes r ≡ head_heard conversation bytes s
+  pub heard-alike : (conversation : Conversation) (bytes : List ℕ) (r s : Result (Progress RequestParts) HeadFault) → IsReading ShowsRequest bytes r
+      → IsReading ShowsRequest bytes s → head_heard conversation bytes r ≡ head_heard conversation bytes s
   heard-alike conversation bytes r s p q = elim (agree bytes r s p q) [
     | inl same ↦ ap (head_heard conversation bytes) same
     | inr faults ↦ faults-alike conversation bytes r s faults.0 faults.1
   ]
 
-  heard_as_one : (hears : Hears) (conversation : Conversation) (bytes : List ℕ) (h k : Heard) → HearsAs hears conversation bytes h → HearsAs hears conversation bytes k → h ≡ k
+  heard_as_one : (hears : Hears) (conversation : Conversation) (bytes : List ℕ) (h k : Heard) → HearsAs hears conversation bytes h
+      → HearsAs hears conversation bytes k → h ≡ k
   heard_as_one Nothing conversation bytes h k e f = e ∙ sym f
   heard_as_one (Body body) conversation bytes h k e f = e ∙ sym f
   heard_as_one Head conversation bytes h k e f =

@@ -48,7 +48,8 @@ finishes_are_silent says rule = record { ending = By rule; bytes_told = refl; sh
 
 -- the last word itself
 module _ (says : Says) (word : LastWord) (about : IsAbout says word) where
-  by_closing : (bytes text : List ℕ) → EndsWith (noted says (Some (record { awaits = 0; word = word }))) bytes text → EndsWith (noted says says.closing) bytes text
+  by_closing : (bytes text : List ℕ) → EndsWith (noted says (Some (record { awaits = 0; word = word }))) bytes text
+      → EndsWith (noted says says.closing) bytes text
   by_closing bytes text h = subst (λ (c : Option Closing). EndsWith (noted says c) bytes text) (sym about) h
 
 pub refusals_name_their_rule : RefusalsNameTheirRule
@@ -56,7 +57,8 @@ refusals_name_their_rule says rule status about e =
     by_closing says (Refusal rule) about (denial_text status (word_of rule)) (word_of rule)
     (record { ending = By rule; bytes_told = denial_is rule (Some status) e; shut = refl; last_word = refl })
 
-done_with : (says : Says) (greeting : Greeting) → IsAbout says Complete → says.greeting ≡ greeting → EndsWith (noted says says.closing) (body_text greeting) (codes "done")
+done_with : (says : Says) (greeting : Greeting) → IsAbout says Complete → says.greeting ≡ greeting
+    → EndsWith (noted says says.closing) (body_text greeting) (codes "done")
 done_with says greeting about e =
     by_closing says Complete about (body_text greeting) (codes "done") (record { ending = Done; bytes_told = ap body_text e; shut = refl; last_word = refl })
 

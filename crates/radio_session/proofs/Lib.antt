@@ -8,6 +8,9 @@ mod ToldLemmas
 mod ExchangeParts
 mod AwaitLemmas
 mod DataLemmas
+mod BlockTellingLemmas
+mod PieceTellingLemmas
 mod CutTellingLemmas
 mod CoreDataLemmas
 mod SentTitleLemmas
+mod HeardBodyLemmas

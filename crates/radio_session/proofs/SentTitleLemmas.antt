@@ -45,7 +45,8 @@ last_with : (titles : List (List ℕ)) (news sent : Option (List ℕ)) → last_
 last_with titles None sent e = ap last_title (append-nil titles) ∙ e
 last_with titles (Some title) sent e = last_of_more titles title
 
-changes_with : (titles : List (List ℕ)) (news sent : Option (List ℕ)) → AreChanges titles → last_title titles ≡ sent → ((title : List ℕ) → news ≡ Some title → sent ≡ Some title → ⊥) → AreChanges (titles ++ option_to_list news)
+changes_with : (titles : List (List ℕ)) (news sent : Option (List ℕ)) → AreChanges titles → last_title titles ≡ sent
+    → ((title : List ℕ) → news ≡ Some title → sent ≡ Some title → ⊥) → AreChanges (titles ++ option_to_list news)
 changes_with titles None sent changes e other = rw (append-nil titles) changes
 changes_with titles (Some title) sent changes e other = changes_more titles title changes (λ same. other title refl (sym e ∙ same))
 
@@ -63,4 +64,5 @@ sent_in_time n draws k title e =
 pub not_repeated : NoTitleIsRepeated
 not_repeated n draws zero = tt
 not_repeated n draws (suc k) =
-    changes_with (titles_sent n draws k) (news_at n draws k) (sent_before n draws k) (not_repeated n draws k) (sent_last n draws k) (news_are_other (title_at n draws k) (sent_before n draws k))
+    changes_with (titles_sent n draws k) (news_at n draws k) (sent_before n draws k) (not_repeated n draws k) (sent_last n draws k)
+    (news_are_other (title_at n draws k) (sent_before n draws k))

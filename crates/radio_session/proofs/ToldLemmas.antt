@@ -38,13 +38,15 @@ silent : (says : Says) (rule : Rule) → says.is_admitted ≡ true → (denied s
 silent says rule e = rw e refl
 
 -- on a listener's connection goes out what he draws
-pub draws_follow : (says : Says) (replies : List Reply) → says.is_admitted ≡ true → says.closing ≡ None → AdmitNobody replies → told says replies ≡ drawn_by says.weaver (draws_of replies)
+pub draws_follow : (says : Says) (replies : List Reply) → says.is_admitted ≡ true → says.closing ≡ None → AdmitNobody replies
+    → told says replies ≡ drawn_by says.weaver (draws_of replies)
 draws_follow says [] a c n = sym (no_draws says.weaver)
 draws_follow says (Arrived id ∷ replies) a c n = draws_follow (said says (Arrived id)).says replies a (none_less says.closing c) n
 draws_follow says (Feeding ∷ replies) a c n = absurd n
 draws_follow says (Seated interval shown ∷ replies) a c n = absurd n
 draws_follow says (Drawn bytes title ∷ replies) a c n =
-    ap (λ (later : List ℕ). drawn says.weaver (draw bytes title) ++ later) (draws_follow (said says (Drawn bytes title)).says replies a (none_less says.closing c) n)
+    ap (λ (later : List ℕ). drawn says.weaver (draw bytes title) ++ later)
+    (draws_follow (said says (Drawn bytes title)).says replies a (none_less says.closing c) n)
     ∙ one_draw_on says.weaver (draw bytes title) (draws_of replies)
 draws_follow says (Noted ∷ replies) a c n =
     ap (λ (here : Said). here.bytes ++ while_open here.state (told here.says replies)) (ap (noted says) c) ∙ draws_follow says replies a c n
@@ -67,7 +69,8 @@ some_told (Some zero) n e = cc
 some_told (Some (suc m)) zero e = cc
 some_told (Some (suc m)) (suc n) e = omega arith
 
-at_interval : (interval : Option ℕ) (n : ℕ) (draws : List Call) → interval_told interval ≡ Some n → joined_draws interval draws ≡ woven_by_calls (new_weaving n) draws
+at_interval : (interval : Option ℕ) (n : ℕ) (draws : List Call) → interval_told interval ≡ Some n
+    → joined_draws interval draws ≡ woven_by_calls (new_weaving n) draws
 at_interval interval n draws e = ap (λ (told : Option ℕ). drawn_by (option_map new_weaving told) draws) e
 
 module _ (streams : (n : ℕ) (calls : List Call) → 0 < n → IsWoven n calls (woven_by_calls (new_weaving n) calls)) where
@@ -77,7 +80,8 @@ module _ (streams : (n : ℕ) (calls : List Call) → 0 < n → IsWoven n calls 
 
   module _
       (sounds : (n : ℕ) (calls : List Call) (out : List ℕ) → 0 < n → IsWoven n calls out → bare n out ≡ sound_of_calls calls)
-      (texts : (n : ℕ) (calls : List Call) (out : List ℕ) → 0 < n → IsWoven n calls out → block_texts n out ≡ map title_text (titles_sent n calls (parts_of n calls)))
+      (texts : (n : ℕ) (calls : List Call) (out : List ℕ) → 0 < n → IsWoven n calls out
+      → block_texts n out ≡ map title_text (titles_sent n calls (parts_of n calls)))
       (sounds_heard : (n : ℕ) (out : List ℕ) → sound_in (heard (new_unweaving n) out) ≡ bare n out)
       (texts_heard : (n : ℕ) (out : List ℕ) → texts_in (heard (new_unweaving n) out) ≡ block_texts n out) where
     pub draws_are_taken_out : DrawsAreTakenOutAgain
@@ -90,7 +94,8 @@ module _ (streams : (n : ℕ) (calls : List Call) → 0 < n → IsWoven n calls 
         )
 
 -- what goes out for one event, and what for the others
-goes_out : (w : World) (id : ℕ) (event : Event) (here : Said) (state : State) (others : WorldExchange) (later : List ℕ) → others.exchange.bytes ≡ later → (then_exchanged w id event here state others).exchange.bytes ≡ here.bytes ++ while_open state later
+goes_out : (w : World) (id : ℕ) (event : Event) (here : Said) (state : State) (others : WorldExchange) (later : List ℕ)
+    → others.exchange.bytes ≡ later → (then_exchanged w id event here state others).exchange.bytes ≡ here.bytes ++ while_open state later
 goes_out w id event here Running others later e = ap (λ (bytes : List ℕ). here.bytes ++ bytes) e
 goes_out w id event here (Shut ending) others later e = sym (append-nil here.bytes)
 

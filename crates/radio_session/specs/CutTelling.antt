@@ -1,12 +1,12 @@
 -- What a connection is told does not depend on how the bytes were cut that came on it.
-use Rattle.std.specs.Prelude.{◌≡◌, ℕ, List, ◌++◌, None}
+use Rattle.std.specs.Prelude.{◌≡◌, ℕ, List, [], ◌∷◌, None}
 use Rattle.radio_session.specs.declared.state.State.{State}
 use Rattle.radio_session.specs.declared.state.State.TheVariants.{Running, Shut}
 use Rattle.radio_session.specs.Conversation.{Conversation, saying_now}
 use Rattle.radio_session.specs.Hearing.{Heard, IsHeard}
-use Rattle.radio_session.specs.Exchanges.{Steps, Exchange, Exchanges}
+use Rattle.radio_session.specs.Exchanges.{Steps, Exchange, Exchanges, nothing_exchanged, prefixed}
+use Rattle.radio_session.specs.Cuts.{IsCutting}
 use Rattle.radio_session.specs.DataServers.{GoesByData}
-use Rattle.radio_session.specs.Told.{while_open}
 
 -- bytes come on a connection, and their events are exchanged
 pub record IsTold {S : Type 0} (steps : Steps S) (conversation : Conversation) (bytes : List ℕ) (from : S)
@@ -16,17 +16,33 @@ pub record IsTold {S : Type 0} (steps : Steps S) (conversation : Conversation) (
   pub is_exchanged : Exchanges steps conversation.id heard.conversation.says heard.events from x to
   pub goes_on : after ≡ saying_now heard.conversation x.says
 
--- how a connection stands after one piece, and then another, if it is not shut by the first
-abbrev pub state_after : State → State → State
-state_after Running later = later
-state_after (Shut ending) later = Shut ending
+-- others come behind one piece where the connection goes on; where it is shut, none is taken
+abbrev pub ThenTold : {S : Type 0} → State → Exchange → S → (Exchange → Type 0) → Exchange → S → Type 0
+ThenTold Running one mid Others x to = (others : Exchange) × Others others × (x ≡ prefixed one.bytes others)
+ThenTold (Shut ending) one mid Others x to = (x ≡ one) × (to ≡ mid)
 
--- Bytes that come in two pieces are told, and shut the connection, as if they had come in one. The second is not taken where the first has shut it.
+module _ {S : Type 0} (steps : Steps S) where
+  -- the pieces come on a connection one after another, until it is shut, and their events are exchanged
+  abbrev pub IsToldIn : Conversation → List (List ℕ) → S → Exchange → S → Type 0
+  IsToldIn conversation [] from x to = (x ≡ nothing_exchanged conversation.says) × (to ≡ from)
+  IsToldIn conversation (piece ∷ pieces) from x to =
+      (one : Exchange) × (between : Conversation) × (mid : S) × IsTold steps conversation piece from one between mid
+      × ThenTold one.state one mid (λ others. IsToldIn between pieces mid others to) x to
+
+-- the same bytes go out, and the connection goes on in both, or is shut with the same word
+pub record AreToldAlike (one other : Exchange) : Type 0 where
+  pub bytes : one.bytes ≡ other.bytes
+  pub state : one.state ≡ other.state
+
+-- However bytes are cut that come on a connection, and between which nothing else happens, they are told alike.
 abbrev pub CutsAreToldAlike : {S : Type 0} → Steps S → Type 0
-CutsAreToldAlike {S} steps = (conversation between after all : Conversation) →
+CutsAreToldAlike {S} steps = (conversation : Conversation) (bytes : List ℕ) (pieces others : List (List ℕ)) (from to end : S) (x y : Exchange) →
     GoesByData steps conversation.id → conversation.says.closing ≡ None →
-    (first second : List ℕ) (from mid to end : S) (x y whole : Exchange) →
-    IsTold steps conversation first from x between mid →
-    (x.state ≡ Running → IsTold steps between second mid y after to) →
-    IsTold steps conversation (first ++ second) from whole all end →
-    (whole.bytes ≡ x.bytes ++ while_open x.state y.bytes) × (whole.state ≡ state_after x.state y.state)
+    IsCutting bytes pieces → IsCutting bytes others →
+    IsToldIn steps conversation pieces from x to → IsToldIn steps conversation others from y end → AreToldAlike x y
+
+-- Bytes that come in pieces are told as if they had come in one.
+abbrev pub PiecesAreToldAsOne : {S : Type 0} → Steps S → Type 0
+PiecesAreToldAsOne {S} steps = (conversation after : Conversation) (bytes : List ℕ) (pieces : List (List ℕ)) (from to end : S) (cut whole : Exchange) →
+    GoesByData steps conversation.id → conversation.says.closing ≡ None →
+    IsCutting bytes pieces → IsToldIn steps conversation pieces from cut to → IsTold steps conversation bytes from whole after end → AreToldAlike cut whole

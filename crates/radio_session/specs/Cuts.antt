@@ -1,6 +1,6 @@
 -- What a connection hears does not depend on how its bytes were cut.
-use Rattle.std.specs.Prelude.{◌≡◌, ℕ, List, [], ◌∷◌, ◌++◌, map, option_map}
-use Rattle.std.specs.List.{flat_map}
+use Rattle.std.specs.Prelude.{◌≡◌, ◌≢◌, ℕ, List, [], ◌∷◌, ◌++◌, map, option_map}
+use Rattle.std.specs.List.{concat, flat_map}
 use Rattle.radio_core.specs.declared.event.Event.{Event}
 use Rattle.radio_core.specs.declared.event.Event.TheVariants.{Push}
 use Rattle.radio_session.specs.declared.session.Closing.{Closing}
@@ -28,8 +28,37 @@ awaiting_none closing = record closing { awaits = 0 }
 abbrev pub answered : Conversation → Conversation
 answered conversation = record conversation { says = record conversation.says { closing = option_map awaiting_none conversation.says.closing } }
 
--- Bytes that come in two pieces are heard as if they had come in one: the same events, but for where blocks are cut, and the same conversation after them, once all replies but the last were given.
+-- the same events, but for where blocks are cut, and the same conversation after them, once all replies but the last were given
+pub record AreHeardAlike (one other : Heard) : Type 0 where
+  pub events : atoms one.events ≡ atoms other.events
+  pub conversation : answered one.conversation ≡ answered other.conversation
+
+-- one piece or more, which are these bytes when they are joined
+pub record IsCutting (bytes : List ℕ) (pieces : List (List ℕ)) : Type 0 where
+  pub some : pieces ≢ []
+  pub joined : concat pieces ≡ bytes
+
+-- nothing was heard yet
+abbrev pub unheard : Conversation → Heard
+unheard conversation = record { events = []; conversation = conversation }
+
+-- what is heard of one piece, and then of the others
+abbrev pub heard_then : Heard → Heard → Heard
+heard_then one others = record { events = one.events ++ others.events; conversation = others.conversation }
+
+-- the pieces come on the connection one after another, and this is heard
+abbrev pub IsHeardIn : Conversation → List (List ℕ) → Heard → Type 0
+IsHeardIn conversation [] heard = heard ≡ unheard conversation
+IsHeardIn conversation (piece ∷ pieces) heard =
+    (one : Heard) × IsHeard conversation piece one × (others : Heard) × IsHeardIn one.conversation pieces others × (heard ≡ heard_then one others)
+
+-- However bytes are cut, they are heard alike.
 abbrev pub CutsDoNotMatter : Type 0
-CutsDoNotMatter = (conversation : Conversation) (first second : List ℕ) (one two whole : Heard) →
-    IsHeard conversation first one → IsHeard one.conversation second two → IsHeard conversation (first ++ second) whole →
-    (atoms (one.events ++ two.events) ≡ atoms whole.events) × (answered two.conversation ≡ answered whole.conversation)
+CutsDoNotMatter = (conversation : Conversation) (bytes : List ℕ) (pieces others : List (List ℕ)) (one other : Heard) →
+    IsCutting bytes pieces → IsCutting bytes others →
+    IsHeardIn conversation pieces one → IsHeardIn conversation others other → AreHeardAlike one other
+
+-- Bytes that come in pieces are heard as if they had come in one.
+abbrev pub PiecesAreHeardAsOne : Type 0
+PiecesAreHeardAsOne = (conversation : Conversation) (bytes : List ℕ) (pieces : List (List ℕ)) (cut whole : Heard) →
+    IsCutting bytes pieces → IsHeardIn conversation pieces cut → IsHeard conversation bytes whole → AreHeardAlike cut whole

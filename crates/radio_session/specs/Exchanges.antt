@@ -37,7 +37,8 @@ is_leave event = false
 abbrev pub Steps : Type 0 → Type 1
 Steps S = S → Event → Reply → S → Type 0
 
--- the events are applied one after another, and each reply is told; where the connection ends, the others are not applied, and it leaves, unless that is what it has just done
+-- the events are applied one after another, and each reply is told; where the connection ends, the others are not applied, and it leaves, unless that
+-- is what it has just done
 module _ {S : Type 0} (steps : Steps S) (id : ℕ) where
   abbrev pub LeavesAfter : Bool → S → S → Type 0
   LeavesAfter true from to = to ≡ from

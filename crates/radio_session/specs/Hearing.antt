@@ -93,7 +93,8 @@ head_heard conversation bytes (Err fault) = refuses conversation BadHead
 
 -- the bytes are heard as part of a head, as data, or not at all
 abbrev pub HearsAs : Hears → Conversation → List ℕ → Heard → Type 0
-HearsAs Head conversation bytes heard = (reading : Result (Progress RequestParts) HeadFault) × IsReading ShowsRequest (conversation.held ++ bytes) reading × (heard ≡ head_heard conversation (conversation.held ++ bytes) reading)
+HearsAs Head conversation bytes heard = (reading : Result (Progress RequestParts) HeadFault)
+    × IsReading ShowsRequest (conversation.held ++ bytes) reading × (heard ≡ head_heard conversation (conversation.held ++ bytes) reading)
 HearsAs (Body body) conversation bytes heard = heard ≡ body_heard (nothing_held conversation) [] body.place bytes
 HearsAs Nothing conversation bytes heard = heard ≡ record { events = []; conversation = conversation }
 

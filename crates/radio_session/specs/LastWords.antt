@@ -27,7 +27,8 @@ IsAsking says = says.is_admitted ≡ false
 
 -- The denial of what was asked is told in an answer of the rule's status that names the rule, and the word is the rule's.
 abbrev pub DenialsNameTheirRule : Type 0
-DenialsNameTheirRule = (says : Says) (rule : Rule) (status : Status) → IsAsking says → status_of rule ≡ Some status → EndsWith (said says (Deny rule)) (denial_text status (word_of rule)) (word_of rule)
+DenialsNameTheirRule = (says : Says) (rule : Rule) (status : Status) → IsAsking says → status_of rule ≡ Some status
+    → EndsWith (said says (Deny rule)) (denial_text status (word_of rule)) (word_of rule)
 
 -- a rule without a status has no answer
 abbrev pub RulesWithoutStatusAreSilent : Type 0
@@ -47,12 +48,14 @@ IsAbout says word = says.closing ≡ Some (record { awaits = 0; word = word })
 
 -- the connection's own refusal is told as a denial, once the client has left
 abbrev pub RefusalsNameTheirRule : Type 0
-RefusalsNameTheirRule = (says : Says) (rule : Rule) (status : Status) → IsAbout says (Refusal rule) → status_of rule ≡ Some status → EndsWith (said says Noted) (denial_text status (word_of rule)) (word_of rule)
+RefusalsNameTheirRule = (says : Says) (rule : Rule) (status : Status) → IsAbout says (Refusal rule) → status_of rule ≡ Some status
+    → EndsWith (said says Noted) (denial_text status (word_of rule)) (word_of rule)
 
 -- a source whose body is whole is told that it was admitted, if it was not told before; then it is done
 abbrev pub WholeBodiesAreDone : Type 0
 WholeBodiesAreDone = (says : Says) → IsAbout says Complete →
-    (says.greeting ≡ Welcome → EndsWith (said says Noted) [] (codes "done")) × (says.greeting ≡ Continue → EndsWith (said says Noted) source_text (codes "done"))
+    (says.greeting ≡ Welcome → EndsWith (said says Noted) [] (codes "done"))
+    × (says.greeting ≡ Continue → EndsWith (said says Noted) source_text (codes "done"))
 
 -- a source in whose body there is a fault is told nothing
 abbrev pub FaultyBodiesAreSilent : Type 0

@@ -11,7 +11,8 @@ use Rattle.radio_session.specs.Exchanges.{Exchange, Exchanges, ExchangesAs, core
 
 -- bytes that come on a connection are heard as one thing
 abbrev pub HearingIsOne : Type 0
-HearingIsOne = (conversation : Conversation) (bytes : List ℕ) (one other : Heard) → IsHeard conversation bytes one → IsHeard conversation bytes other → one ≡ other
+HearingIsOne = (conversation : Conversation) (bytes : List ℕ) (one other : Heard) → IsHeard conversation bytes one → IsHeard conversation bytes other
+    → one ≡ other
 
 -- What a connection's events come to over a core is what they come to from any state that it stands for.
 abbrev pub CoresExchangeAsTheirStates : Type 0

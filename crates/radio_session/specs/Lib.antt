@@ -13,3 +13,4 @@ pub mod SentTitles
 pub mod Framing
 pub mod DataServers
 pub mod CutTelling
+pub mod Bodies

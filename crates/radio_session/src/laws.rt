@@ -4,8 +4,9 @@ ghost use Rattle.std.specs.Prelude.{◌≡◌, codes};
 ghost use Rattle.radio_session.specs.Conversation.{ending_word};
 ghost use Rattle.radio_session.specs.declared.state.Ending.TheVariants.{Done};
 ghost use Rattle.radio_session.specs.LastWords.{DenialsNameTheirRule, RulesWithoutStatusAreSilent, LateDenialsAreSilent, FinishesAreSilent, RefusalsNameTheirRule, WholeBodiesAreDone, FaultyBodiesAreSilent};
-ghost use Rattle.radio_session.specs.Cuts.{CutsDoNotMatter};
-ghost use Rattle.radio_session.specs.CutTelling.{CutsAreToldAlike};
+ghost use Rattle.radio_session.specs.Bodies.{PlainBodiesAreHeard, SizedBodiesAreHeard, ChunkedBodiesAreHeard};
+ghost use Rattle.radio_session.specs.Cuts.{CutsDoNotMatter, PiecesAreHeardAsOne};
+ghost use Rattle.radio_session.specs.CutTelling.{CutsAreToldAlike, PiecesAreToldAsOne};
 ghost use Rattle.radio_session.specs.Told.{DrawsFollowTheHead, PlainDrawsAreTheirData, JoinedDrawsAreWoven, DrawsAreTakenOutAgain, ExchangesTellReplies};
 ghost use Rattle.radio_session.specs.SentTitles.{TitlesAreSentInTime, NoTitleIsRepeated};
 ghost use Rattle.radio_session.specs.Laws.{HearingIsOne, CoresExchangeAsTheirStates, CoresGoByData};
@@ -15,12 +16,30 @@ use radio_blocks::laws::blocks_are_the_data;
 use radio_core::{cores_go_by_their_states, sources_are_told_by_their_data};
 use radio_heads::{heads_lie_within, readings_agree, settled};
 use radio_icy::laws::{bare_of_woven, unwoven_streams, woven_streams};
-use radio_source::laws::pieces_are_joined;
+use radio_source::laws::{
+    pieces_are_joined, plain_bodies, sized_bodies, whole_bodies_are_complete,
+};
 
-/// What comes on a connection in two pieces is heard as if it had come in one: the same head, the
-/// same data and the same events, but for where blocks are cut, and what follows is heard alike.
+/// A source's whole body behind its head is heard as its data, and where it has an end, as that end
+/// (RFC 9112, section 6): nothing of what frames it is data.
+pub fn bodies_are_heard_as_their_data()
+    ensures plain { PlainBodiesAreHeard }
+    ensures sized { SizedBodiesAreHeard }
+    // the data of the chunks, and nothing of their lines and trailers
+    ensures chunked { ChunkedBodiesAreHeard }
+{
+    plain_bodies();
+    sized_bodies();
+    whole_bodies_are_complete();
+}
+
+/// What comes on a connection is heard alike, however it is cut into pieces: the same head, the same
+/// data and the same events, but for where blocks are cut, and what follows is heard alike.
 pub fn cuts_do_not_matter()
-    ensures { CutsDoNotMatter }
+    // in two cuttings of the same bytes
+    ensures alike { CutsDoNotMatter }
+    // in pieces, and in one
+    ensures as_one { PiecesAreHeardAsOne }
 {
     readings_agree();
     settled();
@@ -29,10 +48,14 @@ pub fn cuts_do_not_matter()
     pieces_are_joined();
 }
 
-/// What is told on a connection, and how it is shut, do not depend on how the bytes were cut that
-/// came on it, where the server goes by a source's data and not by how they are cut into blocks.
+/// What is told on a connection, and how it is shut, do not depend on how the bytes are cut into
+/// pieces that come on it, where the server goes by a source's data and not by how they are cut into
+/// blocks. Nothing else happens between the pieces, and none is taken once the connection is shut.
 pub fn cuts_are_told_alike<S: Applies>()
-    ensures { CutsAreToldAlike S.steps }
+    // in two cuttings of the same bytes
+    ensures alike { CutsAreToldAlike S.steps }
+    // in pieces, and in one
+    ensures as_one { PiecesAreToldAsOne S.steps }
 {
     readings_agree();
     settled();

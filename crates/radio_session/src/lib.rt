@@ -6,9 +6,9 @@
 //! - [`State`], [`Ending`]: whether the connection goes on, and the word by which it ends.
 //! - [`exchange`]: the events of a connection, applied one after another by whoever [`Applies`]
 //!   them, each reply told, up to the end of the connection.
-//! - Laws, which run no code: [`cuts_do_not_matter`], [`cuts_are_told_alike`], [`hearing_is_one`],
-//!   [`cores_exchange_as_their_states`], [`cores_go_by_data`], [`last_words_name_the_rule`],
-//!   [`listeners_are_told_what_they_draw`].
+//! - Laws, which run no code: [`bodies_are_heard_as_their_data`], [`cuts_do_not_matter`],
+//!   [`cuts_are_told_alike`], [`hearing_is_one`], [`cores_exchange_as_their_states`],
+//!   [`cores_go_by_data`], [`last_words_name_the_rule`], [`listeners_are_told_what_they_draw`].
 #![tactic(auto)]
 
 mod exchanging;
@@ -18,8 +18,9 @@ mod state;
 
 pub use exchanging::{Applies, exchange};
 pub use laws::{
-    cores_exchange_as_their_states, cores_go_by_data, cuts_are_told_alike, cuts_do_not_matter,
-    hearing_is_one, last_words_name_the_rule, listeners_are_told_what_they_draw,
+    bodies_are_heard_as_their_data, cores_exchange_as_their_states, cores_go_by_data,
+    cuts_are_told_alike, cuts_do_not_matter, hearing_is_one, last_words_name_the_rule,
+    listeners_are_told_what_they_draw,
 };
 pub use session::Session;
 pub use state::{Ending, State};

@@ -30,12 +30,14 @@ read_request_from-requires-clause-searched c =
 pub invariant_of-self-in-Ok-More : goal.invariant_of-self-in-Ok-More
 invariant_of-self-in-Ok-More c =
     let bytes = c.as_slice.result.now in
-    let unfinished : IsUnfinished bytes = subst (λ (p : Progress RequestParts). IsReading ShowsRequest bytes (Ok p)) c.in-Ok-More.field-0-is c.in-Ok-More.ensures.reading in
+    let unfinished : IsUnfinished bytes = subst (λ (p : Progress RequestParts). IsReading ShowsRequest bytes
+    (Ok p)) c.in-Ok-More.field-0-is c.in-Ok-More.ensures.reading in
     (subst HasNoEnd c.as_slice.ensures.value unfinished.open_end, c.self.invariant.1)
 
 pub behind-requires : goal.behind-requires
 behind-requires c =
-    let low = within c.as_slice.result.now c.in-Ok-Whole.field-0 c.in-Ok-Whole.head c.in-Ok-Whole.length c.in-Ok-Whole.ensures.within c.in-Ok-Whole.field-0-is in
+    let low = within c.as_slice.result.now c.in-Ok-Whole.field-0 c.in-Ok-Whole.head c.in-Ok-Whole.length c.in-Ok-Whole.ensures.within
+    c.in-Ok-Whole.field-0-is in
     let same : length c.as_slice.result.now ≡ length c.deref.result.now = ap length (c.as_slice.ensures.value ∙ sym c.deref.ensures.value) in
     omega (arith, low, same)
 
@@ -49,7 +51,8 @@ returns-in-Ok-Whole c =
     let joined : all ≡ old ++ c.args.bytes.now =
     c.as_slice.ensures.value ∙ c.in_ok-extend_from_slice.ensures.items ∙ ap (λ v. v.items ++ c.args.bytes.now) c.replace-held.ensures.value in
     let together : all ≡ now.held ++ c.args.bytes.now = joined ∙ ap (λ (v : Conversation). v.held ++ c.args.bytes.now) c.self.view_is in
-    let reading : IsReading ShowsRequest all (Ok (Whole head n)) = subst (λ (p : Progress RequestParts). IsReading ShowsRequest all (Ok p)) c.in-Ok-Whole.field-0-is c.in-Ok-Whole.ensures.reading in
+    let reading : IsReading ShowsRequest all (Ok (Whole head n)) = subst
+    (λ (p : Progress RequestParts). IsReading ShowsRequest all (Ok p)) c.in-Ok-Whole.field-0-is c.in-Ok-Whole.ensures.reading in
     let rest : c.behind.result.now ≡ drop n all = c.behind.ensures ∙ ap (drop n) (c.deref.ensures.value ∙ sym c.as_slice.ensures.value) in
     let same = ap nothing_held c.self.view_is in
     IfOk-weaker c.take_request.result _ _ (λ events e. heard_whole now _ c.args.bytes.now all _ head n _ e together reading same rest) c.take_request.ensures

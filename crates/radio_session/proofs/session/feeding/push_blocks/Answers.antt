@@ -22,7 +22,8 @@ loop-block-preserved c =
 pub returns : goal.returns
 returns c =
     let before = c.loop-block.events.items in
-    let none : into_iter_items c.loop-block.block-iterator ≡ [] = nil_from_length (into_iter_items c.loop-block.block-iterator) (omega (arith, c.loop-block.block-iterator.rest.ok.0, c.in-None.ensures.steps.0)) in
+    let none : into_iter_items c.loop-block.block-iterator ≡ [] = nil_from_length (into_iter_items c.loop-block.block-iterator)
+    (omega (arith, c.loop-block.block-iterator.rest.ok.0, c.in-None.ensures.steps.0)) in
     sym (append-nil before)
     ∙ ap (λ (blocks : List (List ℕ)). before ++ map (Push c.args.id) blocks) (sym none)
     ∙ c.loop-block.invariant

@@ -30,7 +30,9 @@ fault-requires-clause-open c =
     let found = c.in-Ok.field-0 in
     let told = subst (λ (f : Feeding). answer_to f bytes ≡ Brings found.blocks.items found.is_complete) c.requires c.in-Ok.ensures.ok in
     let incomplete : found.is_complete ≡ false = cc (c.if-is_complete.false) in
-    let after_this : c.feed.new.self ≡ unfed (after place bytes) = c.in-Ok.ensures.after (λ e. cc) ∙ ap (λ (f : Feeding). after_feed f bytes) c.requires ∙ goes_on place bytes found.blocks.items (told ∙ ap (λ (b : Bool). Brings found.blocks.items b) incomplete) in
+    let after_this : c.feed.new.self ≡ unfed (after place bytes) = c.in-Ok.ensures.after (λ e. cc)
+    ∙ ap (λ (f : Feeding). after_feed f bytes) c.requires ∙ goes_on place bytes found.blocks.items
+    (told ∙ ap (λ (b : Bool). Brings found.blocks.items b) incomplete) in
     after_this ∙ sym (ap (λ (f : Feeding). unfed f.place) after_this)
 
 pub fault-requires-clause-unfinished : goal.fault-requires-clause-unfinished
@@ -40,7 +42,9 @@ fault-requires-clause-unfinished c =
     let found = c.in-Ok.field-0 in
     let told = subst (λ (f : Feeding). answer_to f bytes ≡ Brings found.blocks.items found.is_complete) c.requires c.in-Ok.ensures.ok in
     let incomplete : found.is_complete ≡ false = cc (c.if-is_complete.false) in
-    let after_this : c.feed.new.self ≡ unfed (after place bytes) = c.in-Ok.ensures.after (λ e. cc) ∙ ap (λ (f : Feeding). after_feed f bytes) c.requires ∙ goes_on place bytes found.blocks.items (told ∙ ap (λ (b : Bool). Brings found.blocks.items b) incomplete) in
+    let after_this : c.feed.new.self ≡ unfed (after place bytes) = c.in-Ok.ensures.after (λ e. cc)
+    ∙ ap (λ (f : Feeding). after_feed f bytes) c.requires ∙ goes_on place bytes found.blocks.items
+    (told ∙ ap (λ (b : Bool). Brings found.blocks.items b) incomplete) in
     ap (λ (f : Feeding). has_ended f.place) after_this ∙ sym (brought place bytes found.blocks.items found.is_complete told).1 ∙ incomplete
 
 pub returns-in_ok-word-in-Ok-clause-blocks : goal.returns-in_ok-word-in-Ok-clause-blocks
@@ -58,7 +62,9 @@ returns-in_ok-word-in-Ok-clause-word c =
     let found = c.in-Ok.field-0 in
     let told = subst (λ (f : Feeding). answer_to f bytes ≡ Brings found.blocks.items found.is_complete) c.requires c.in-Ok.ensures.ok in
     let incomplete : found.is_complete ≡ false = cc (c.if-is_complete.false) in
-    let after_this : c.feed.new.self ≡ unfed (after place bytes) = c.in-Ok.ensures.after (λ e. cc) ∙ ap (λ (f : Feeding). after_feed f bytes) c.requires ∙ goes_on place bytes found.blocks.items (told ∙ ap (λ (b : Bool). Brings found.blocks.items b) incomplete) in
+    let after_this : c.feed.new.self ≡ unfed (after place bytes) = c.in-Ok.ensures.after (λ e. cc)
+    ∙ ap (λ (f : Feeding). after_feed f bytes) c.requires ∙ goes_on place bytes found.blocks.items
+    (told ∙ ap (λ (b : Bool). Brings found.blocks.items b) incomplete) in
     c.in_ok-word-in-Ok.ensures.word
     ∙ ap (λ (f : Feeding). body_closes false (fault_at f.place)) after_this
     ∙ ap (λ (b : Bool). body_closes b (fault_at (after place bytes))) (sym incomplete ∙ (brought place bytes found.blocks.items found.is_complete told).1)
@@ -70,7 +76,9 @@ returns-in_ok-word-in-Ok-clause-body c none =
     let found = c.in-Ok.field-0 in
     let told = subst (λ (f : Feeding). answer_to f bytes ≡ Brings found.blocks.items found.is_complete) c.requires c.in-Ok.ensures.ok in
     let incomplete : found.is_complete ≡ false = cc (c.if-is_complete.false) in
-    let after_this : c.feed.new.self ≡ unfed (after place bytes) = c.in-Ok.ensures.after (λ e. cc) ∙ ap (λ (f : Feeding). after_feed f bytes) c.requires ∙ goes_on place bytes found.blocks.items (told ∙ ap (λ (b : Bool). Brings found.blocks.items b) incomplete) in
+    let after_this : c.feed.new.self ≡ unfed (after place bytes) = c.in-Ok.ensures.after (λ e. cc)
+    ∙ ap (λ (f : Feeding). after_feed f bytes) c.requires ∙ goes_on place bytes found.blocks.items
+    (told ∙ ap (λ (b : Bool). Brings found.blocks.items b) incomplete) in
     c.in_ok-word-in-Ok.ensures.body none ∙ after_this
 
 pub returns-in_ok-word-in-Err-clause-blocks : goal.returns-in_ok-word-in-Err-clause-blocks

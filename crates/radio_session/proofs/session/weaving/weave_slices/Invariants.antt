@@ -10,6 +10,8 @@ invariant-loop-slice l = record {
   before : l.before ≡ length l.initial.out.items;
   so_far : List ℕ;
   out : l.out.items ≡ l.initial.out.items ++ so_far;
-  left : so_far ++ woven l.weaver (option_copied l.title) (concat (drop l.slice-index l.slices)) ≡ woven l.initial.weaver (option_copied l.title) (concat l.slices);
-  after : after_weaving l.weaver (option_copied l.title) (concat (drop l.slice-index l.slices)) ≡ after_weaving l.initial.weaver (option_copied l.title) (concat l.slices);
+  left : so_far ++ woven l.weaver (option_copied l.title) (concat (drop l.slice-index l.slices)) ≡ woven l.initial.weaver (option_copied l.title)
+      (concat l.slices);
+  after : after_weaving l.weaver (option_copied l.title) (concat (drop l.slice-index l.slices)) ≡ after_weaving l.initial.weaver
+      (option_copied l.title) (concat l.slices);
 }
