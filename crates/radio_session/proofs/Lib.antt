@@ -11,3 +11,4 @@ mod DataLemmas
 mod CutTellingLemmas
 mod CoreDataLemmas
 mod SentTitleLemmas
+mod FieldLemmas
