@@ -25,7 +25,8 @@ impl Model for Block {
 }
 
 impl Block {
-    /// The block of these bytes; `None` where they are none, or more than 4096.
+    /// The block of these bytes; `None` where they are none, or more than 4096. They are kept as they are: a slice keeps
+    /// all the memory that it was cut from, and whoever has one of a larger piece calls [`Block::copied`].
     pub fn new(bytes: Bytes) -> Option<Block>
         // there is a block of exactly 1 to 4096 bytes
         ensures valid { IsSome result ↔ IsBlock bytes }
@@ -104,6 +105,18 @@ fn with_little_room(alloc: Global, bytes: Vec<u8>) -> Result<Vec<u8>, OutOfMemor
     Vec::from_slice(alloc, bytes.as_slice())
 }
 
+/// How many bytes of memory a block keeps. It must be the only one that shares them.
+#[cfg(test)]
+pub(crate) fn memory_of(block: Block) -> usize {
+    let Ok(bytes) = block.into_bytes().try_into_mut() else {
+        return usize::MAX;
+    };
+    match bytes.into_vec() {
+        Ok(vec) => vec.capacity(),
+        Err(_) => usize::MAX,
+    }
+}
+
 #[cfg(test)]
 mod tests {
     use super::*;
@@ -121,5 +134,23 @@ mod tests {
         assert!(rt; room_of(rt.alloc(), b"a", 4096) == Ok(1));
         assert!(rt; room_of(rt.alloc(), b"abcd", 8) == Ok(8));
         assert!(rt; room_of(rt.alloc(), b"abcd", 9) == Ok(4));
+    }
+
+    /// The memory of a block that was made of these bytes by each call that copies.
+    fn memory_of_copies(alloc: Global, bytes: &[u8]) -> Result<(usize, usize), OutOfMemory> {
+        let mut loose = Vec::with_capacity(alloc, 4096)?;
+        loose.extend_from_slice(bytes)?;
+        if loose.is_empty() || loose.len() > MAX_BLOCK {
+            return Ok((0, 0));
+        }
+        let copied = Block::copied(alloc, loose.as_slice())?;
+        let made = Block::of_vec(alloc, loose)?;
+        Ok((memory_of(copied), memory_of(made)))
+    }
+
+    #[test]
+    fn copies_keep_their_bytes_alone(rt: HostRuntime) {
+        assert!(rt; memory_of_copies(rt.alloc(), b"a") == Ok((1, 1)));
+        assert!(rt; memory_of_copies(rt.alloc(), b"abcdef") == Ok((6, 6)));
     }
 }

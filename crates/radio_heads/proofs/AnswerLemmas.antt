@@ -15,7 +15,8 @@ use Rattle.radio_heads.specs.declared.answer.TextKind.TheVariants.{Plain, Json}
 use Rattle.radio_heads.specs.declared.answer.Welcome.{Welcome}
 use Rattle.radio_heads.specs.Answer.{line, header_line, shown_line, interval_line, challenge_line, status_line, content_type, listener_text, sized_head}
 use Rattle.radio_heads.specs.Answer.{denial_body}
-use Rattle.radio_heads.specs.Laws.{IsFieldText, IsCleanWelcome, shown_header, interval_header, challenge_header, listener_headers, listener_parts, sized_parts}
+use Rattle.radio_heads.specs.FieldValue.{IsFieldText}
+use Rattle.radio_heads.specs.Laws.{IsCleanWelcome, shown_header, interval_header, challenge_header, listener_headers, listener_parts, sized_parts}
 use Rattle.radio_heads.specs.Laws.{IsReadBack, ListenerIsReadBack, ShortListenerIsReadBack, DenialIsReadBack, TextIsReadBack}
 use Rattle.radio_heads.specs.Reading.{IsHead}
 use Rattle.radio_heads.specs.Response.{ShowsResponse}
@@ -224,10 +225,10 @@ text_is_read kind body = sized_is_read 200 _ _ (content_type kind) body status_2
 pub listener_text_is : (w : Welcome) → listener_text w ≡ head_text 200 (listener_headers w)
 listener_text_is w =
     five_lines header_text (status_line (codes "HTTP/1.0") 200) (line [])
-    ((codes "Content-Type", w.content_type.now) ∷ []) (shown_header (codes "icy-name") w.name.now) (shown_header (codes "icy-genre") w.genre.now)
+    ((codes "Content-Type", w.content_type) ∷ []) (shown_header (codes "icy-name") w.name) (shown_header (codes "icy-genre") w.genre)
     (interval_header w.interval) ((codes "Connection", codes "close") ∷ [])
     _ _ _ _ _
-    (one_line (codes "Content-Type") w.content_type.now) (shown_lines (codes "icy-name") w.name.now) (shown_lines (codes "icy-genre") w.genre.now)
+    (one_line (codes "Content-Type") w.content_type) (shown_lines (codes "icy-name") w.name) (shown_lines (codes "icy-genre") w.genre)
     (interval_lines w.interval) (one_line (codes "Connection") (codes "close"))
 
 pub shown_is_few : (name value : List ℕ) → length (shown_header name value) ≤ 1
@@ -241,30 +242,30 @@ interval_is_few (Some n) = omega arith
 pub length-five : (a b c d e : List Header) → length (a ++ b ++ c ++ d ++ e) ≡ length a + length b + length c + length d + length e
 length-five a b c d e = simp length-append
 
-pub listener_is_sound : (w : Welcome) → IsCleanWelcome w → All IsSoundHeader (listener_headers w)
+pub listener_is_sound : (w : Welcome) → IsCleanWelcome w → IfSome w.interval (λ n. n < 2 ^ 32) → All IsSoundHeader (listener_headers w)
 unfolding is_token_byte
-listener_is_sound w clean =
+listener_is_sound w clean small =
     let close = (codes "Connection", codes "close") ∷ [] in
     All-append IsSoundHeader
-    ((codes "Content-Type", w.content_type.now) ∷ [] ++ shown_header (codes "icy-name") w.name.now ++ shown_header
-    (codes "icy-genre") w.genre.now ++ interval_header w.interval)
+    ((codes "Content-Type", w.content_type) ∷ [] ++ shown_header (codes "icy-name") w.name ++ shown_header
+    (codes "icy-genre") w.genre ++ interval_header w.interval)
     close
-    (four_sound ((codes "Content-Type", w.content_type.now) ∷ []) (shown_header (codes "icy-name") w.name.now)
-    (shown_header (codes "icy-genre") w.genre.now) (interval_header w.interval)
-    (one_is_sound (codes "Content-Type") w.content_type.now refl clean.content_type)
-    (shown_is_sound (codes "icy-name") w.name.now refl clean.name)
-    (shown_is_sound (codes "icy-genre") w.genre.now refl clean.genre)
-    (sound_from (interval_header w.interval) (interval_is_clean w.interval clean.interval)))
+    (four_sound ((codes "Content-Type", w.content_type) ∷ []) (shown_header (codes "icy-name") w.name)
+    (shown_header (codes "icy-genre") w.genre) (interval_header w.interval)
+    (one_is_sound (codes "Content-Type") w.content_type refl clean.content_type)
+    (shown_is_sound (codes "icy-name") w.name refl clean.name)
+    (shown_is_sound (codes "icy-genre") w.genre refl clean.genre)
+    (sound_from (interval_header w.interval) (interval_is_clean w.interval small)))
     (sound_from close close_is_clean)
 
 pub listener_is_read : ListenerIsReadBack
-listener_is_read w more clean short =
+listener_is_read w more clean small short =
     let same = listener_text_is w in
-    let few = length-five ((codes "Content-Type", w.content_type.now) ∷ []) (shown_header (codes "icy-name") w.name.now)
-    (shown_header (codes "icy-genre") w.genre.now) (interval_header w.interval) ((codes "Connection", codes "close") ∷ []) in
+    let few = length-five ((codes "Content-Type", w.content_type) ∷ []) (shown_header (codes "icy-name") w.name)
+    (shown_header (codes "icy-genre") w.genre) (interval_header w.interval) ((codes "Connection", codes "close") ∷ []) in
     subst (λ (xs : List ℕ). IsHead ShowsResponse (xs ++ more) (listener_parts w) (length xs)) (sym same)
-    (head_is_written 200 _ _ (listener_headers w) more status_200 (listener_is_sound w clean)
-    (omega (arith, few, shown_is_few (codes "icy-name") w.name.now, shown_is_few (codes "icy-genre") w.genre.now, interval_is_few w.interval))
+    (head_is_written 200 _ _ (listener_headers w) more status_200 (listener_is_sound w clean small)
+    (omega (arith, few, shown_is_few (codes "icy-name") w.name, shown_is_few (codes "icy-genre") w.genre, interval_is_few w.interval))
     (subst (λ (xs : List ℕ). length xs ≤ 8192) same short))
 
 -- ---- values of at most 255 bytes
@@ -284,15 +285,15 @@ length-seven : (a b c d e f g : List ℕ)
 length-seven a b c d e f g = simp length-append
 
 pub short_listener_is_read : ShortListenerIsReadBack
-short_listener_is_read w more clean short =
-    let whole = length-seven (status_line (codes "HTTP/1.0") 200) (header_line (codes "Content-Type") w.content_type.now)
-    (shown_line (codes "icy-name") w.name.now) (shown_line (codes "icy-genre") w.genre.now) (interval_line w.interval)
+short_listener_is_read w more clean small short =
+    let whole = length-seven (status_line (codes "HTTP/1.0") 200) (header_line (codes "Content-Type") w.content_type)
+    (shown_line (codes "icy-name") w.name) (shown_line (codes "icy-genre") w.genre) (interval_line w.interval)
     (header_line (codes "Connection") (codes "close")) (line []) in
     let first : length (status_line (codes "HTTP/1.0") 200) ≡ 17 = ap length status_200.line_is in
-    let second = length-header_line (codes "Content-Type") w.content_type.now in
-    let third = shown_is_short (codes "icy-name") w.name.now in
-    let fourth = shown_is_short (codes "icy-genre") w.genre.now in
-    let fifth = interval_is_short w.interval clean.interval in
-    let sizes : (length w.content_type.now ≤ 255) × (length w.name.now ≤ 255) × (length w.genre.now ≤ 255)
+    let second = length-header_line (codes "Content-Type") w.content_type in
+    let third = shown_is_short (codes "icy-name") w.name in
+    let fourth = shown_is_short (codes "icy-genre") w.genre in
+    let fifth = interval_is_short w.interval small in
+    let sizes : (length w.content_type ≤ 255) × (length w.name ≤ 255) × (length w.genre ≤ 255)
     = (short.content_type, short.name, short.genre) in
-    listener_is_read w more clean (omega (arith, whole, first, second, third, fourth, fifth, sizes))
+    listener_is_read w more clean small (omega (arith, whole, first, second, third, fourth, fifth, sizes))

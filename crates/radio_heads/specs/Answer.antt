@@ -60,7 +60,7 @@ listener_head type name genre interval =
     ++ line []
 
 abbrev pub listener_text : Welcome → List ℕ
-listener_text w = listener_head w.content_type.now w.name.now w.genre.now w.interval
+listener_text w = listener_head w.content_type w.name w.genre w.interval
 
 -- a source is admitted
 abbrev pub source_text : List ℕ

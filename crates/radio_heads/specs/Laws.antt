@@ -1,16 +1,19 @@
 -- Laws on readings, for callers that wait for a head, and on the answers that are read back.
 use Rattle.std.specs.Prelude.{◌≡◌, ◌≢◌, ℕ, ◌≤◌, ◌<◌, ◌^◌, ◌⊎◌, List, [], ◌∷◌, ◌++◌, length, map, codes, decimal, Option, None, Some, Result, Ok, IsErr, IfSome}
 use Rattle.std.specs.Prelude.{if◌then◌else◌, ◌==◌}
-use Rattle.httparse.specs.Grammar.{AllPass, is_value_byte, trim_ows, RequestHead, ReadsRequest, print_request, ResponseHead, ReadsResponse, print_response}
+use Rattle.httparse.specs.Grammar.{trim_ows, RequestHead, ReadsRequest, print_request, ResponseHead, ReadsResponse, print_response}
 use Rattle.radio_heads.specs.declared.outcome.Progress.{Progress}
 use Rattle.radio_heads.specs.declared.outcome.Progress.TheVariants.{More}
 use Rattle.radio_heads.specs.declared.outcome.HeadFault.{HeadFault}
 use Rattle.radio_policy.specs.declared.rule.Status.{Status}
+use Rattle.radio_heads.specs.declared.answer.Answer.{Answer}
+use Rattle.radio_heads.specs.declared.answer.Answer.TheVariants.{Listener, Source, Continue, Denial, Text}
 use Rattle.radio_heads.specs.declared.answer.TextKind.{TextKind}
 use Rattle.radio_heads.specs.declared.answer.TextKind.TheVariants.{Plain}
 use Rattle.radio_heads.specs.declared.answer.Welcome.{Welcome}
 use Rattle.radio_heads.specs.declared.response.Version.TheVariants.{Http10}
 use Rattle.radio_heads.specs.Answer.{listener_text, sized_head, sized_text, denial_body, status_number, content_type}
+use Rattle.radio_heads.specs.FieldValue.{IsFieldText}
 use Rattle.radio_heads.specs.Head.{ShowsRequest, request_parts}
 use Rattle.radio_heads.specs.Reading.{IsHead, IsReading, IsUnfinished}
 use Rattle.radio_heads.specs.Response.{ResponseParts, ShowsResponse, response_parts}
@@ -49,10 +52,6 @@ ResponsesAreFound =
     → length h.fields ≤ 64 → length (print_response h) ≤ 8192
     → IsHead ShowsResponse bytes (response_parts h) (length (print_response h))
 
--- a header's value has no byte that ends a line, and no other control byte but tabs (RFC 9112, section 5)
-abbrev pub IsFieldText : List ℕ → Type 0
-IsFieldText value = AllPass is_value_byte value
-
 -- a header as it is read back: without the white space at the ends of its value
 abbrev pub read_back : List ℕ × List ℕ → List ℕ × List ℕ
 read_back header = (header.0, trim_ows header.1)
@@ -75,9 +74,9 @@ challenge_header n =
 -- the headers in the answer to a listener
 abbrev pub listener_headers : Welcome → List (List ℕ × List ℕ)
 listener_headers w =
-    (codes "Content-Type", w.content_type.now) ∷ []
-    ++ shown_header (codes "icy-name") w.name.now
-    ++ shown_header (codes "icy-genre") w.genre.now
+    (codes "Content-Type", w.content_type) ∷ []
+    ++ shown_header (codes "icy-name") w.name
+    ++ shown_header (codes "icy-genre") w.genre
     ++ interval_header w.interval
     ++ (codes "Connection", codes "close") ∷ []
 
@@ -85,18 +84,25 @@ listener_headers w =
 abbrev pub listener_parts : Welcome → ResponseParts
 listener_parts w = record { version = Http10; status = 200; headers = map read_back (listener_headers w) }
 
--- no value of it has a byte that would end its line
+-- no value of it has a byte that would end its line: so it is of every one that a program has, by the types of its values
 pub record IsCleanWelcome (w : Welcome) : Type 0 where
-  pub content_type : IsFieldText w.content_type.now
-  pub name : IsFieldText w.name.now
-  pub genre : IsFieldText w.genre.now
-  pub interval : IfSome w.interval (λ n. n < 2 ^ 32)
+  pub content_type : IsFieldText w.content_type
+  pub name : IsFieldText w.name
+  pub genre : IsFieldText w.genre
+
+-- the values from outside in an answer's headers are such: only a listener's has any
+abbrev pub HasFieldTexts : Answer → Type 0
+HasFieldTexts (Listener w) = IsCleanWelcome w
+HasFieldTexts Source = Unit {0}
+HasFieldTexts Continue = Unit {0}
+HasFieldTexts (Denial status rule) = Unit {0}
+HasFieldTexts (Text kind body) = Unit {0}
 
 -- each value of it has at most 255 bytes
 pub record IsShortWelcome (w : Welcome) : Type 0 where
-  pub content_type : length w.content_type.now ≤ 255
-  pub name : length w.name.now ≤ 255
-  pub genre : length w.genre.now ≤ 255
+  pub content_type : length w.content_type ≤ 255
+  pub name : length w.name ≤ 255
+  pub genre : length w.genre ≤ 255
 
 -- what the head of an answer with a body shows
 abbrev pub sized_parts : ℕ → List ℕ → ℕ → ResponseParts
@@ -113,13 +119,13 @@ sized_parts status type size = record {
 -- the answer to a listener is read back, whatever follows it
 abbrev pub ListenerIsReadBack : Type 0
 ListenerIsReadBack =
-    (w : Welcome) (more : List ℕ) → IsCleanWelcome w → length (listener_text w) ≤ 8192
+    (w : Welcome) (more : List ℕ) → IsCleanWelcome w → IfSome w.interval (λ n. n < 2 ^ 32) → length (listener_text w) ≤ 8192
     → IsHead ShowsResponse (listener_text w ++ more) (listener_parts w) (length (listener_text w))
 
 -- the same where no value has more than 255 bytes, as none in the settings has
 abbrev pub ShortListenerIsReadBack : Type 0
 ShortListenerIsReadBack =
-    (w : Welcome) (more : List ℕ) → IsCleanWelcome w → IsShortWelcome w
+    (w : Welcome) (more : List ℕ) → IsCleanWelcome w → IfSome w.interval (λ n. n < 2 ^ 32) → IsShortWelcome w
     → IsHead ShowsResponse (listener_text w ++ more) (listener_parts w) (length (listener_text w))
 
 -- the head of an answer with a body is read back, and the body stands after it

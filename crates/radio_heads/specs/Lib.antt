@@ -1,4 +1,5 @@
 pub mod Answer
+pub mod FieldValue
 pub mod Head
 pub mod Headers
 pub mod Laws

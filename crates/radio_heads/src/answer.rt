@@ -2,11 +2,11 @@
 ghost use Rattle.std.specs.Prelude.{◌≡◌};
 ghost use Rattle.radio_heads.specs.Answer.{content_type};
 
+use crate::field_value::FieldValue;
 use radio_policy::Status;
 
-/// An answer of the server. Its texts are written as they are, so a caller cleans them first: a
-/// header's value holds no CR and no LF.
-#[derive(Clone, Copy, Debug)]
+/// An answer of the server. Its texts are written as they are; no value of a header can hold a line end, by its type.
+#[derive(Drop)]
 pub enum Answer<'a> {
     /// A listener is admitted (200), and the stream's bytes follow.
     Listener(Welcome<'a>),
@@ -22,14 +22,14 @@ pub enum Answer<'a> {
 }
 
 /// What a listener who is admitted is told of the stream.
-#[derive(Clone, Copy, Debug)]
+#[derive(Drop)]
 pub struct Welcome<'a> {
     /// The stream's media type, written even where it is empty.
-    pub content_type: &'a [u8],
+    pub content_type: FieldValue<'a>,
     /// The stream's name, which is left out where it is empty.
-    pub name: &'a [u8],
+    pub name: FieldValue<'a>,
     /// The stream's genre, which is left out where it is empty.
-    pub genre: &'a [u8],
+    pub genre: FieldValue<'a>,
     /// The data bytes between two metadata blocks, where the listener asked for metadata.
     pub interval: Option<u32>,
 }

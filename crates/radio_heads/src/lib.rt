@@ -7,7 +7,8 @@
 //! - [`read_request`], [`read_response`]: the head that some bytes begin with, and its length.
 //! - [`read_request_from`], [`read_response_from`]: the same, where it is known how many of the
 //!   first bytes hold no end of a head.
-//! - [`write_answer`]: the text of each answer that the server gives.
+//! - [`write_answer`]: the text of each answer that the server gives. Values from outside stand in its headers as
+//!   [`FieldValue`]s, which hold no line end.
 //!
 //! Laws for callers, which run no code:
 //!
@@ -19,6 +20,7 @@
 #![tactic(auto)]
 
 mod answer;
+mod field_value;
 mod head;
 mod headers;
 mod laws;
@@ -29,6 +31,7 @@ mod search;
 mod writing;
 
 pub use answer::{Answer, TextKind, Welcome};
+pub use field_value::FieldValue;
 pub use head::Head;
 pub use headers::MAX_HEADERS;
 pub use laws::{

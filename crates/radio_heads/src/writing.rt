@@ -2,9 +2,11 @@
 ghost use Rattle.std.specs.Prelude.{◌≡◌, [], ◌++◌, codes, decimal, length, IfOk, OnOk};
 ghost use Rattle.radio_heads.specs.Answer.{answer_text, line, header_line, shown_line, interval_line, challenge_line, status_line};
 ghost use Rattle.radio_heads.specs.Answer.{listener_text, sized_head, sized_text, denial_text, content_type, status_number};
+ghost use Rattle.radio_heads.specs.Laws.{HasFieldTexts, IsCleanWelcome};
 
 use crate::OutOfMemory;
 use crate::answer::{Answer, TextKind, Welcome};
+use crate::field_value::FieldValue;
 use http::StatusCode;
 use radio_policy::Status;
 use std::alloc::Global;
@@ -13,7 +15,9 @@ use std::alloc::Global;
 ///
 /// The only error is `OutOfMemory`.
 pub fn write_answer(alloc: Global, answer: &Answer) -> Result<Vec<u8>, OutOfMemory>
-    ensures { IfOk result (λ text. text.items ≡ answer_text answer.now) }
+    ensures text { IfOk result (λ text. text.items ≡ answer_text answer.now) }
+    // no value from outside, in any answer that can be made, ends a header's line
+    ensures one_line { HasFieldTexts answer.now }
 {
     match answer {
         Answer::Listener(welcome) => write_welcome(alloc, welcome),
@@ -25,8 +29,10 @@ pub fn write_answer(alloc: Global, answer: &Answer) -> Result<Vec<u8>, OutOfMemo
 }
 
 fn write_welcome(alloc: Global, welcome: &Welcome) -> Result<Vec<u8>, OutOfMemory>
-    ensures { IfOk result (λ text. text.items ≡ listener_text welcome.now) }
+    ensures text { IfOk result (λ text. text.items ≡ listener_text welcome.now) }
+    ensures one_line { IsCleanWelcome welcome.now }
 {
+    end_no_line(welcome);
     let mut text = Vec::new(alloc);
     push_status(alloc, &mut text, "HTTP/1.0", StatusCode::OK)?;
     push_stream(&mut text, welcome)?;
@@ -35,16 +41,25 @@ fn write_welcome(alloc: Global, welcome: &Welcome) -> Result<Vec<u8>, OutOfMemor
     Ok(text)
 }
 
+/// No value of it ends a line: it says what the types of the values hold, and does nothing.
+fn end_no_line(welcome: &Welcome)
+    ensures { IsCleanWelcome welcome.now }
+{
+    let _type = welcome.content_type.as_bytes();
+    let _name = welcome.name.as_bytes();
+    let _genre = welcome.genre.as_bytes();
+}
+
 /// The headers that tell of the stream.
 fn push_stream(text: &mut Vec<u8>, welcome: &Welcome) -> Result<(), OutOfMemory>
     ensures { OnOk result (text.new.items ≡ text.old.items
-        ++ header_line (codes "Content-Type") welcome.now.content_type.now
-        ++ shown_line (codes "icy-name") welcome.now.name.now
-        ++ shown_line (codes "icy-genre") welcome.now.genre.now) }
+        ++ header_line (codes "Content-Type") welcome.now.content_type
+        ++ shown_line (codes "icy-name") welcome.now.name
+        ++ shown_line (codes "icy-genre") welcome.now.genre) }
 {
-    push_header(text, "Content-Type", welcome.content_type)?;
-    push_shown(text, "icy-name", welcome.name)?;
-    push_shown(text, "icy-genre", welcome.genre)
+    push_value(text, "Content-Type", &welcome.content_type)?;
+    push_shown(text, "icy-name", &welcome.name)?;
+    push_shown(text, "icy-genre", &welcome.genre)
 }
 
 /// The last header, and the empty line.
@@ -129,13 +144,20 @@ fn push_status(
 }
 
 /// A header that stands only where its value is not empty.
-fn push_shown(text: &mut Vec<u8>, name: &str, value: &[u8]) -> Result<(), OutOfMemory>
+fn push_shown(text: &mut Vec<u8>, name: &str, value: &FieldValue) -> Result<(), OutOfMemory>
     ensures { OnOk result (text.new.items ≡ text.old.items ++ shown_line name.now value.now) }
 {
-    if value.is_empty() {
+    if value.as_bytes().is_empty() {
         return Ok(());
     }
-    push_header(text, name, value)
+    push_value(text, name, value)
+}
+
+/// A header whose value comes from outside.
+fn push_value(text: &mut Vec<u8>, name: &str, value: &FieldValue) -> Result<(), OutOfMemory>
+    ensures { OnOk result (text.new.items ≡ text.old.items ++ header_line name.now value.now) }
+{
+    push_header(text, name, value.as_bytes())
 }
 
 fn push_interval(

@@ -12,8 +12,10 @@ use Rattle.std.proofs.Common.{Option, None, Some, unwrap_or, eqb, leb, ⊎_elim,
 use Rattle.std.specs.Prelude.{slice_index, nat_lt}
 use Rattle.std.specs.Int.{is_in_range}
 use Rattle.std.specs.List.{list_all}
-use lib.Utf8.{scalars, scalar, encode}
-use Rattle.std.proofs.lemmas.Bool.{cond_both, cases_eq, cases_lt, and_parts, and_from}
+use lib.Utf8.{scalars, scalar, encode, next}
+use Rattle.std.proofs.lemmas.Bool.{cond_both, cases_eq, cases_lt, and_parts, and_from, ltb-false, ne_eqb, not_from_false}
+use Rattle.std.proofs.lemmas.List.Folds.{list_all-append}
+use Rattle.std.proofs.Common.{ltb, ◌/◌, ◌%◌}
 use Rattle.std.proofs.lemmas.List.{nil_from_length, take_all, length-drop, length-append}
 use Rattle.std.proofs.lemmas.Str.{IsUtf8-nil, IsUtf8-from_is_utf8, IsUtf8-append, utf8_lossy-IsUtf8, utf8_lossy_step, utf8_valid_len_le, scalars-chars}
 use Rattle.std.proofs.lemmas.Str.{chars-encodes, length-encode}
@@ -178,6 +180,38 @@ shown-kept_chars n bytes = shown-front_within n (shown_chars bytes) (shown-filte
 
 pub cleaned-shown : (n : ℕ) (bytes : List ℕ) → list_all is_shown (chars (cleaned n bytes)) ≡ true
 cleaned-shown n bytes = rw (chars-cleaned n bytes) (shown-kept_chars n bytes)
+
+-- and so may each of its bytes, read as a character: those of characters beyond ASCII are 128 and more
+shown_byte : (b : ℕ) → 128 ≤ b → is_shown b ≡ true
+shown_byte b large = and_from (leb 32 b) _ (le-leb 32 b (omega arith)) (not_from_false (eqb b 127) (ne_eqb b 127 (λ e. absurd (omega arith))))
+
+shown-encode : (c : ℕ) → is_shown c ≡ true → list_all is_shown (encode c) ≡ true
+unfolding encode
+shown-encode c shown =
+    cond_both (ltb c 128) _ _ (λ t. list_all is_shown t ≡ true)
+    (λ _. and_from (is_shown c) true shown refl)
+    (λ _. cond_both (ltb c 2048) _ _ (λ t. list_all is_shown t ≡ true)
+    (λ _. from_lead (192 + c / 64) (next c ∷ []) (omega arith) (from_next c [] refl))
+    (λ _. cond_both (ltb c 65536) _ _ (λ t. list_all is_shown t ≡ true)
+    (λ _. from_lead (224 + c / 4096) (next (c / 64) ∷ next c ∷ []) (omega arith) (from_next (c / 64) (next c ∷ []) (from_next c [] refl)))
+    (λ _. from_lead (240 + c / 262144) (next (c / 4096) ∷ next (c / 64) ∷ next c ∷ []) (omega arith)
+    (from_next (c / 4096) (next (c / 64) ∷ next c ∷ []) (from_next (c / 64) (next c ∷ []) (from_next c [] refl))))))
+  where
+    from_lead : (b : ℕ) (bs : List ℕ) → 128 ≤ b → list_all is_shown bs ≡ true → list_all is_shown (b ∷ bs) ≡ true
+    from_lead b bs large rest = and_from (is_shown b) _ (shown_byte b large) rest
+
+    from_next : (n : ℕ) (bs : List ℕ) → list_all is_shown bs ≡ true → list_all is_shown (next n ∷ bs) ≡ true
+    from_next n bs rest = from_lead (128 + n % 64) bs (omega arith) rest
+
+shown-encodes : (cs : List ℕ) → list_all is_shown cs ≡ true → list_all is_shown (encode_utf8_all cs) ≡ true
+shown-encodes [] h = refl
+shown-encodes (c ∷ cs) h =
+    list_all-append is_shown (encode_utf8 c) (encode_utf8_all cs)
+    ∙ and_from _ _ (shown-encode c (and_parts (is_shown c) _ h).0) (shown-encodes cs (and_parts (is_shown c) _ h).1)
+
+pub cleaned-bytes : (n : ℕ) (bytes : List ℕ) → list_all is_shown (cleaned n bytes) ≡ true
+unfolding cleaned
+cleaned-bytes n bytes = shown-encodes (kept_chars n bytes) (shown-kept_chars n bytes)
 
 -- it is a front, and no longer one fits
 front_within-front : (n : ℕ) (cs : List ℕ) → take (length (front_within n cs)) cs ≡ front_within n cs

@@ -80,13 +80,15 @@ pub fn titles_in_texts()
 {}
 
 /// A cleaned text is UTF-8 of at most n bytes, and is left as it is by cleaning. Its characters are the longest front
-/// of those that may be shown which fits n bytes: no longer front of them does.
+/// of those that may be shown which fits n bytes: no longer front of them does. No byte of it is below 32, and none
+/// is 127.
 pub fn clean_texts()
     ensures text { (n : ℕ) (bytes : List ℕ) → IsUtf8 (cleaned n bytes) }
     ensures fits { (n : ℕ) (bytes : List ℕ) → length (cleaned n bytes) ≤ n }
     ensures again { (n : ℕ) (bytes : List ℕ) → cleaned n (cleaned n bytes) ≡ cleaned n bytes }
 
     ensures shown { (n : ℕ) (bytes : List ℕ) → list_all is_shown (chars (cleaned n bytes)) ≡ true }
+    ensures bytes { (n : ℕ) (bytes : List ℕ) → list_all is_shown (cleaned n bytes) ≡ true }
     ensures front { (n : ℕ) (bytes : List ℕ)
         → take (length (chars (cleaned n bytes))) (shown_chars bytes) ≡ chars (cleaned n bytes) }
     ensures longest { (n : ℕ) (bytes : List ℕ) (k : ℕ)

@@ -14,3 +14,4 @@ mod CutTellingLemmas
 mod CoreDataLemmas
 mod SentTitleLemmas
 mod HeardBodyLemmas
+mod FieldLemmas

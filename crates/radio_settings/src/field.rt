@@ -1,6 +1,7 @@
 //! What heads show: cleaned texts.
-ghost use Rattle.std.specs.Prelude.{◌≡◌, IfOk};
-ghost use Rattle.radio_icy.specs.Cleaning.{cleaned};
+ghost use Rattle.std.specs.Prelude.{◌≡◌, IfOk, true};
+ghost use Rattle.std.specs.List.{list_all};
+ghost use Rattle.radio_icy.specs.Cleaning.{cleaned, is_shown};
 ghost use Rattle.radio_icy.specs.Limits.{max_field};
 ghost use Rattle.radio_settings.specs.Field.{IsClean};
 
@@ -52,11 +53,13 @@ impl Field {
         self.text.as_str()
     }
 
-    /// Its bytes.
+    /// Its bytes: none is below 32, and none is 127.
     pub fn as_bytes(&self) -> &[u8]
         ensures text { result.now ≡ self.now }
         ensures clean { IsClean self.now }
+        ensures shown { list_all is_shown self.now ≡ true }
     {
+        radio_icy::laws::clean_texts();
         self.text.as_str().as_bytes()
     }
 }

@@ -26,7 +26,7 @@ pub use fault::SettingsFault;
 pub use field::{Field, Shown};
 pub use key::Key;
 pub use mount_name::{MAX_MOUNT_NAME, MountName};
-pub use mounts::{MountSettings, RelaySettings};
+pub use mounts::{MountSettings, Named, NamedSettings, RelaySettings};
 pub use settings::{
     AccessSettings, AddressLists, Bytes, LimitSettings, ListenSettings, ListenerOptions, Login,
     Master, MountOptions, MountSetting, Port, RelayAccess, RelaySetting, SecondsOfDay, Settings,

@@ -1,8 +1,8 @@
 //! The mounts that the settings name, and the relays.
-ghost use Rattle.std.specs.Prelude.{◌≡◌, None, find};
+ghost use Rattle.std.specs.Prelude.{◌≡◌, ℕ, List, None, find, map};
 ghost use Rattle.std.specs.Option.{option_copied};
 ghost use Rattle.std.specs.Str.{bytes_eq};
-ghost use Rattle.radio_settings.specs.Document.{mount_names, local_mounts, repeat_fault};
+ghost use Rattle.radio_settings.specs.Document.{repeat_fault};
 ghost use Rattle.radio_settings.specs.Reading.{Reads, ReadsAs};
 ghost use Rattle.radio_settings.specs.Repeats.{first_repeat};
 
@@ -13,50 +13,80 @@ use std::collections::BTreeMap;
 use std::marker::Model;
 
 /// The tables `[[mount]]`, in their order. No two have one name.
+pub type MountSettings = NamedSettings<MountSetting>;
+
+/// The tables `[[relay]]`, in their order. No two feed one mount.
+pub type RelaySettings = NamedSettings<RelaySetting>;
+
+/// A table of a list that goes by the name of a mount.
+pub trait Named: Drop {
+    // That name.
+    ghost name_of: { Self → List ℕ };
+
+    /// That name.
+    fn name(&self) -> MountName
+        ensures { result ≡ name_of self.now };
+}
+
+/// A mount goes by its own name.
+impl Named for MountSetting {
+    ghost name_of = { λ mount. mount.name };
+
+    fn name(&self) -> MountName {
+        self.name
+    }
+}
+
+/// A relay goes by the mount that it feeds.
+impl Named for RelaySetting {
+    ghost name_of = { λ relay. relay.local_mount };
+
+    fn name(&self) -> MountName {
+        self.local_mount
+    }
+}
+
+/// Tables of a list, in their order. No two go by one name.
 #[derive(Drop)]
-pub struct MountSettings {
-    list: Vec<MountSetting>,
+pub struct NamedSettings<T: Named> {
+    list: Vec<T>,
     /// Where in the list the one of a name stands.
     places: BTreeMap<MountName, usize>,
 }
 
-impl Model for MountSettings {
+impl<T: Named> Model for NamedSettings<T> {
     ghost use Rattle.std.specs.Prelude.{◌≡◌, List, None, map};
-    ghost use Rattle.radio_settings.specs.declared.settings.MountSetting.{MountSetting};
     ghost use Rattle.radio_settings.specs.Places.{HasPlaces};
     ghost use Rattle.radio_settings.specs.Repeats.{first_repeat};
 
-    ghost Value = { List MountSetting };
+    ghost Value = { List T };
 
     ghost view = { λ a. a.list.items };
 
-    ghost invariant = { λ a. (first_repeat (map (λ mount. mount.name) a.list.items) ≡ None) × HasPlaces a.places (map (λ mount. mount.name) a.list.items) };
+    ghost invariant = { λ a. (first_repeat (map T.name_of a.list.items) ≡ None) × HasPlaces a.places (map T.name_of a.list.items) };
 }
 
-impl MountSettings {
-    /// Mounts of different names, or the first name that stands twice.
-    pub(crate) fn new(
-        alloc: Global,
-        list: Vec<MountSetting>,
-    ) -> Result<MountSettings, SettingsFault>
-        ensures { Reads (repeat_fault (mount_names list.items)) list.items result }
+impl<T: Named> NamedSettings<T> {
+    /// Tables of different names, or the first name that stands twice.
+    pub(crate) fn new(alloc: Global, list: Vec<T>) -> Result<NamedSettings<T>, SettingsFault>
+        ensures { Reads (repeat_fault (map T.name_of list.items)) list.items result }
     {
-        let names = names_of_mounts(alloc, list.as_slice())?;
+        let names = names_of(alloc, list.as_slice())?;
         let places = places_of(alloc, names.as_slice())?;
-        Ok(MountSettings { list, places })
+        Ok(NamedSettings { list, places })
     }
 
     /// All of them, in the order of the text.
-    pub fn as_slice(&self) -> &[MountSetting]
+    pub fn as_slice(&self) -> &[T]
         ensures all { result.now ≡ self.now }
-        ensures apart { first_repeat (mount_names self.now) ≡ None }
+        ensures apart { first_repeat (map T.name_of self.now) ≡ None }
     {
         self.list.as_slice()
     }
 
     /// The one of a name.
-    pub fn get(&self, name: &MountName) -> Option<&MountSetting>
-        ensures { option_copied result ≡ find (λ mount. bytes_eq mount.name name.now) self.now }
+    pub fn get(&self, name: &MountName) -> Option<&T>
+        ensures { option_copied result ≡ find (λ table. bytes_eq (T.name_of table) name.now) self.now }
     {
         match self.places.get(name) {
             Some(place) => item_at(self.list.as_slice(), *place),
@@ -65,77 +95,12 @@ impl MountSettings {
     }
 }
 
-/// The tables `[[relay]]`, in their order. No two feed one mount.
-#[derive(Drop)]
-pub struct RelaySettings {
-    list: Vec<RelaySetting>,
-    /// Where in the list the one of a name stands.
-    places: BTreeMap<MountName, usize>,
-}
-
-impl Model for RelaySettings {
-    ghost use Rattle.std.specs.Prelude.{◌≡◌, List, None, map};
-    ghost use Rattle.radio_settings.specs.declared.settings.RelaySetting.{RelaySetting};
-    ghost use Rattle.radio_settings.specs.Places.{HasPlaces};
-    ghost use Rattle.radio_settings.specs.Repeats.{first_repeat};
-
-    ghost Value = { List RelaySetting };
-
-    ghost view = { λ a. a.list.items };
-
-    ghost invariant = { λ a.
-        (first_repeat (map (λ relay. relay.local_mount) a.list.items) ≡ None)
-        × HasPlaces a.places (map (λ relay. relay.local_mount) a.list.items) };
-}
-
-impl RelaySettings {
-    /// Relays that feed different mounts, or the first mount that two of them feed.
-    pub(crate) fn new(
-        alloc: Global,
-        list: Vec<RelaySetting>,
-    ) -> Result<RelaySettings, SettingsFault>
-        ensures { Reads (repeat_fault (local_mounts list.items)) list.items result }
-    {
-        let names = local_mounts_of(alloc, list.as_slice())?;
-        let places = places_of(alloc, names.as_slice())?;
-        Ok(RelaySettings { list, places })
-    }
-
-    /// All of them, in the order of the text.
-    pub fn as_slice(&self) -> &[RelaySetting]
-        ensures all { result.now ≡ self.now }
-        ensures apart { first_repeat (local_mounts self.now) ≡ None }
-    {
-        self.list.as_slice()
-    }
-
-    /// The one that feeds a mount.
-    pub fn get(&self, local_mount: &MountName) -> Option<&RelaySetting>
-        ensures { option_copied result ≡ find (λ relay. bytes_eq relay.local_mount local_mount.now) self.now }
-    {
-        match self.places.get(local_mount) {
-            Some(place) => item_at(self.list.as_slice(), *place),
-            None => None,
-        }
-    }
-}
-
-fn names_of_mounts(alloc: Global, mounts: &[MountSetting]) -> Result<Vec<MountName>, SettingsFault>
-    ensures { ReadsAs (λ v. v.items) None (mount_names mounts.now) result }
+fn names_of<T: Named>(alloc: Global, tables: &[T]) -> Result<Vec<MountName>, SettingsFault>
+    ensures { ReadsAs (λ v. v.items) None (map T.name_of tables.now) result }
 {
     let mut names = Vec::new(alloc);
-    for mount in mounts {
-        names.push(mount.name)?;
-    }
-    Ok(names)
-}
-
-fn local_mounts_of(alloc: Global, relays: &[RelaySetting]) -> Result<Vec<MountName>, SettingsFault>
-    ensures { ReadsAs (λ v. v.items) None (local_mounts relays.now) result }
-{
-    let mut names = Vec::new(alloc);
-    for relay in relays {
-        names.push(relay.local_mount)?;
+    for table in tables {
+        names.push(table.name())?;
     }
     Ok(names)
 }

@@ -98,6 +98,20 @@ fn longest_title(rt: HostRuntime) -> Result<(), OutOfMemory> {
     Ok(())
 }
 
+/// How much room there is for bytes after one call that brought many blocks, of which the first has a title.
+fn room_after_a_call(alloc: Global) -> Result<usize, OutOfMemory> {
+    let sound = vec![in alloc; b's'; 1000]?;
+    let mut out = Vec::new(alloc);
+    Weaver::new(alloc, 10).weave(sound.as_slice(), Some(b"X"), &mut out)?;
+    Ok(out.capacity())
+}
+
+/// The sound, a byte for each of 100 blocks, and as much as the block of a title may take: asked for at once.
+#[test]
+fn room_is_asked_for_once(rt: HostRuntime) {
+    assert!(rt; room_after_a_call(rt.alloc()) == Ok(1133));
+}
+
 /// Weaves a piece under the title `X`; again, where that was refused and so changed nothing.
 fn weave_or_repeat(weaver: &mut Weaver, piece: &[u8], out: &mut Vec<u8>) -> bool {
     let before = out.len();

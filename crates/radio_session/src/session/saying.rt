@@ -12,7 +12,7 @@ use crate::session::{Closing, Greeting, LastWord, Session};
 use crate::state::{Ending, State};
 use radio_blocks::Pieces;
 use radio_core::Reply;
-use radio_heads::{Answer, Welcome, write_answer};
+use radio_heads::{Answer, FieldValue, Welcome, write_answer};
 use radio_policy::Rule;
 use radio_settings::Shown;
 use std::alloc::{AllocError, Global};
@@ -237,6 +237,7 @@ fn tell(alloc: Global, answer: &Answer, out: &mut Vec<u8>) -> Result<(), OutOfMe
 }
 
 /// Appends the head that a listener gets who is admitted, and is sent metadata at this interval.
+#[tactic(auto, using(crate::proofs::FieldLemmas::shown_is_field_text))]
 fn welcome(
     alloc: Global,
     interval: Option<u32>,
@@ -247,9 +248,9 @@ fn welcome(
     ensures err { OnErr result (out.new.items ≡ out.old.items) }
 {
     let answer = Answer::Listener(Welcome {
-        content_type: shown.content_type.as_bytes(),
-        name: shown.name.as_bytes(),
-        genre: shown.genre.as_bytes(),
+        content_type: FieldValue::new(shown.content_type.as_bytes()),
+        name: FieldValue::new(shown.name.as_bytes()),
+        genre: FieldValue::new(shown.genre.as_bytes()),
         interval,
     });
     tell(alloc, &answer, out)

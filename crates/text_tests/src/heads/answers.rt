@@ -1,26 +1,25 @@
 //! The text of each answer, as the format page shows it.
-use radio_heads::{Answer, OutOfMemory, Progress, TextKind, Welcome, read_response, write_answer};
+use radio_heads::{
+    Answer, FieldValue, OutOfMemory, Progress, TextKind, Welcome, read_response, write_answer,
+};
 use radio_policy::Status;
 use std::alloc::Global;
 
-const WITH_METADATA: Welcome = Welcome {
-    content_type: b"audio/mpeg",
-    name: b"Radio X",
-    genre: b"Talk",
-    interval: Some(16000),
-};
+/// What a listener is told, and the text of it: type, name, genre, interval, text.
+type Told = (
+    &'static [u8],
+    &'static [u8],
+    &'static [u8],
+    Option<u32>,
+    &'static [u8],
+);
 
-const NOTHING_TO_SHOW: Welcome = Welcome {
-    content_type: b"",
-    name: b"",
-    genre: b"",
-    interval: None,
-};
-
-/// Answers, and their texts.
-const ANSWERS: &[(Answer, &[u8])] = &[
+const WELCOMES: &[Told] = &[
     (
-        Answer::Listener(WITH_METADATA),
+        b"audio/mpeg",
+        b"Radio X",
+        b"Talk",
+        Some(16000),
         b"HTTP/1.0 200 OK\r\n\
 Content-Type: audio/mpeg\r\n\
 icy-name: Radio X\r\n\
@@ -30,19 +29,83 @@ Connection: close\r\n\
 \r\n",
     ),
     (
-        Answer::Listener(NOTHING_TO_SHOW),
+        b"",
+        b"",
+        b"",
+        None,
         b"HTTP/1.0 200 OK\r\n\
 Content-Type: \r\n\
 Connection: close\r\n\
 \r\n",
     ),
-    (Answer::Source, b"HTTP/1.0 200 OK\r\n\r\n"),
-    (Answer::Continue, b"HTTP/1.1 100 Continue\r\n\r\n"),
+];
+
+/// The answer to a listener, if these may be values of headers.
+fn welcomed<'a>(
+    content_type: &'a [u8],
+    name: &'a [u8],
+    genre: &'a [u8],
+    interval: Option<u32>,
+) -> Option<Answer<'a>> {
+    Some(Answer::Listener(Welcome {
+        content_type: FieldValue::read(content_type)?,
+        name: FieldValue::read(name)?,
+        genre: FieldValue::read(genre)?,
+        interval,
+    }))
+}
+
+/// Whether a listener is told this text. Where memory was refused there is none, and `or` is told.
+fn is_welcome(alloc: Global, told: &Told, or: bool) -> bool {
+    let (content_type, name, genre, interval, text) = told;
+    match welcomed(*content_type, *name, *genre, *interval) {
+        Some(answer) => is_text(alloc, &answer, *text, or),
+        None => false,
+    }
+}
+
+#[test]
+fn welcomes(rt: HostRuntime) {
+    for told in WELCOMES {
+        assert!(rt; is_welcome(rt.alloc(), told, false));
+    }
+}
+
+/// No value that would end a header's line, or bring another one, can be written.
+const NO_VALUES: &[&[u8]] = &[
+    b"Radio\r\nSet-Cookie: a=b",
+    b"Radio\rX",
+    b"Radio\nX",
+    b"\n",
+    b"\0",
+    b"\x7f",
+    b"a\x1fb",
+];
+
+const VALUES: &[&[u8]] = &[
+    b"",
+    b"Radio X",
+    b"\tRadio ",
+    b"\xc3\xa9",
+    b"\x80\xff",
+    b"a: b",
+];
+
+#[test]
+fn values_of_headers(rt: HostRuntime) {
+    for bytes in NO_VALUES {
+        assert!(rt; FieldValue::read(*bytes).is_none());
+    }
+    for bytes in VALUES {
+        assert!(rt; FieldValue::read(*bytes).is_some());
+    }
+}
+
+/// Denials by a rule, and their texts.
+const DENIALS: &[(Status, &str, &[u8])] = &[
     (
-        Answer::Denial {
-            status: Status::Unauthorized,
-            rule: "listener-password",
-        },
+        Status::Unauthorized,
+        "listener-password",
         b"HTTP/1.0 401 Unauthorized\r\n\
 Content-Type: text/plain; charset=utf-8\r\n\
 Content-Length: 26\r\n\
@@ -52,10 +115,8 @@ Connection: close\r\n\
 denied: listener-password\n",
     ),
     (
-        Answer::Denial {
-            status: Status::BadRequest,
-            rule: "bad-head",
-        },
+        Status::BadRequest,
+        "bad-head",
         b"HTTP/1.0 400 Bad Request\r\n\
 Content-Type: text/plain; charset=utf-8\r\n\
 Content-Length: 17\r\n\
@@ -64,10 +125,8 @@ Connection: close\r\n\
 denied: bad-head\n",
     ),
     (
-        Answer::Denial {
-            status: Status::Forbidden,
-            rule: "mount-full",
-        },
+        Status::Forbidden,
+        "mount-full",
         b"HTTP/1.0 403 Forbidden\r\n\
 Content-Type: text/plain; charset=utf-8\r\n\
 Content-Length: 19\r\n\
@@ -76,10 +135,8 @@ Connection: close\r\n\
 denied: mount-full\n",
     ),
     (
-        Answer::Denial {
-            status: Status::NotFound,
-            rule: "no-mount",
-        },
+        Status::NotFound,
+        "no-mount",
         b"HTTP/1.0 404 Not Found\r\n\
 Content-Type: text/plain; charset=utf-8\r\n\
 Content-Length: 17\r\n\
@@ -87,11 +144,13 @@ Connection: close\r\n\
 \r\n\
 denied: no-mount\n",
     ),
+];
+
+/// Bodies, and the texts of the answers that have them.
+const TEXTS: &[(TextKind, &[u8], &[u8])] = &[
     (
-        Answer::Text {
-            kind: TextKind::Json,
-            body: b"{\"mounts\":[]}",
-        },
+        TextKind::Json,
+        b"{\"mounts\":[]}",
         b"HTTP/1.0 200 OK\r\n\
 Content-Type: application/json\r\n\
 Content-Length: 13\r\n\
@@ -100,10 +159,8 @@ Connection: close\r\n\
 {\"mounts\":[]}",
     ),
     (
-        Answer::Text {
-            kind: TextKind::Plain,
-            body: b"",
-        },
+        TextKind::Plain,
+        b"",
         b"HTTP/1.0 200 OK\r\n\
 Content-Type: text/plain; charset=utf-8\r\n\
 Content-Length: 0\r\n\
@@ -120,18 +177,63 @@ fn is_text(alloc: Global, answer: &Answer, want: &[u8], or: bool) -> bool {
     }
 }
 
+/// Whether a denial has this text, as in `is_text`.
+fn is_denial(alloc: Global, denial: &(Status, &'static str, &'static [u8]), or: bool) -> bool {
+    let (status, rule, text) = denial;
+    let answer = Answer::Denial {
+        status: *status,
+        rule: *rule,
+    };
+    is_text(alloc, &answer, *text, or)
+}
+
+/// Whether the answer with a body has this text, as in `is_text`.
+fn is_answer(alloc: Global, answer: &(TextKind, &'static [u8], &'static [u8]), or: bool) -> bool {
+    let (kind, body, text) = answer;
+    is_text(
+        alloc,
+        &Answer::Text {
+            kind: *kind,
+            body: *body,
+        },
+        *text,
+        or,
+    )
+}
+
+/// Whether a source is told these two texts, as in `is_text`.
+fn are_for_sources(alloc: Global, or: bool) -> bool {
+    is_text(alloc, &Answer::Source, b"HTTP/1.0 200 OK\r\n\r\n", or)
+        && is_text(
+            alloc,
+            &Answer::Continue,
+            b"HTTP/1.1 100 Continue\r\n\r\n",
+            or,
+        )
+}
+
 #[test]
 fn answers(rt: HostRuntime) {
-    for (answer, want) in ANSWERS {
-        assert!(rt; is_text(rt.alloc(), answer, want, false), "{answer:?}");
+    for denial in DENIALS {
+        assert!(rt; is_denial(rt.alloc(), denial, false));
     }
+    for answer in TEXTS {
+        assert!(rt; is_answer(rt.alloc(), answer, false));
+    }
+    assert!(rt; are_for_sources(rt.alloc(), false));
 }
 
 /// Where memory runs out there is an error, and else the whole text.
 #[test]
 fn refused_memory(rt: HostRuntime) {
-    for (answer, want) in ANSWERS {
-        assert!(rt; is_text(rt.alloc(), answer, want, true));
+    for denial in DENIALS {
+        assert!(rt; is_denial(rt.alloc(), denial, true));
+    }
+    for answer in TEXTS {
+        assert!(rt; is_answer(rt.alloc(), answer, true));
+    }
+    for told in WELCOMES {
+        assert!(rt; is_welcome(rt.alloc(), told, true));
     }
 }
 
@@ -166,17 +268,13 @@ fn large_body(rt: HostRuntime) {
     assert!(rt; is_large_text_whole(rt.alloc()) == Ok(true));
 }
 
-const BLANKS_AROUND: Welcome = Welcome {
-    content_type: b"\taudio/mpeg ",
-    name: b"  Radio X\t",
-    genre: b" ",
-    interval: None,
-};
-
-/// Whether a name is read back out of the answer to a listener.
-fn is_read_back(alloc: Global, welcome: Welcome, name: &[u8]) -> bool {
-    match write_answer(alloc, &Answer::Listener(welcome)) {
-        Ok(text) => is_named(text.as_slice(), name),
+/// Whether a name is read back out of the answer to a listener as the other.
+fn is_read_back(alloc: Global, name: &[u8], read: &[u8]) -> bool {
+    let Some(answer) = welcomed(b"\taudio/mpeg ", name, b" ", None) else {
+        return false;
+    };
+    match write_answer(alloc, &answer) {
+        Ok(text) => is_named(text.as_slice(), read),
         Err(_) => false,
     }
 }
@@ -190,5 +288,5 @@ fn is_named(text: &[u8], name: &[u8]) -> bool {
 
 #[test]
 fn read_back_without_blanks(rt: HostRuntime) {
-    assert!(rt; is_read_back(rt.alloc(), BLANKS_AROUND, b"Radio X"));
+    assert!(rt; is_read_back(rt.alloc(), b"  Radio X\t", b"Radio X"));
 }

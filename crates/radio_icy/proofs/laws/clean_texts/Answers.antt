@@ -1,4 +1,4 @@
-use Rattle.radio_icy.proofs.CleaningLemmas.{cleaned-IsUtf8, cleaned-fits, cleaned-cleaned, cleaned-shown, cleaned-front, cleaned-longest}
+use Rattle.radio_icy.proofs.CleaningLemmas.{cleaned-IsUtf8, cleaned-fits, cleaned-cleaned, cleaned-shown, cleaned-bytes, cleaned-front, cleaned-longest}
 use Rattle.radio_icy.proofs.laws.clean_texts.Goals as goal
 
 pub returns-clause-text : goal.returns-clause-text
@@ -12,6 +12,9 @@ returns-clause-again c = cleaned-cleaned
 
 pub returns-clause-shown : goal.returns-clause-shown
 returns-clause-shown c = cleaned-shown
+
+pub returns-clause-bytes : goal.returns-clause-bytes
+returns-clause-bytes c = cleaned-bytes
 
 pub returns-clause-front : goal.returns-clause-front
 returns-clause-front c = cleaned-front

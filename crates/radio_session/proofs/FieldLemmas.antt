@@ -1,0 +1,17 @@
+-- What heads may show is what headers may have as values.
+use Rattle.std.proofs.Common.{◌≡◌, refl, ℕ, Bool, true, false, ◌||◌, List}
+use Rattle.std.specs.Prelude.{◌==◌}
+use Rattle.std.specs.List.{list_all}
+use Rattle.std.proofs.lemmas.List.Sums.{AllPass-from_list_all}
+use Rattle.std.proofs.lemmas.List.Elements.{All-weaker}
+use Rattle.radio_heads.specs.FieldValue.{IsFieldText}
+use Rattle.radio_icy.specs.Cleaning.{is_shown}
+
+or_true : (x y : Bool) → y ≡ true → (x || y) ≡ true
+or_true true y e = refl
+or_true false y e = e
+
+pub shown_is_field_text : (bytes : List ℕ) → list_all is_shown bytes ≡ true → IsFieldText bytes
+shown_is_field_text bytes shown =
+    All-weaker (λ b. is_shown b ≡ true) (λ b. (b == 9 || is_shown b) ≡ true) (λ b e. or_true (b == 9) (is_shown b) e) bytes
+    (AllPass-from_list_all is_shown bytes shown)
