@@ -8,42 +8,110 @@ use radio_settings::SettingsFault;
 use std::alloc::Global;
 use std::test::Fail;
 
-fn failing(gives: &'static [&'static [u8]], fails_at: u64) -> Manners {
+/// How a connection fails.
+#[derive(Clone, Copy)]
+enum Failure {
+    /// Its line fails at this call, counted from 0 over reads and writes together.
+    FailsAt(u64),
+    /// Its peer has closed at this read, counted from 0.
+    ClosesAt(u64),
+}
+
+/// A line that gives this, and fails so.
+fn failing(gives: &'static [&'static [u8]], failure: Failure) -> Manners {
     let mut manners = giving(gives);
-    manners.fails_at = fails_at;
+    match failure {
+        Failure::FailsAt(call) => manners.fails_at = call,
+        Failure::ClosesAt(read) => manners.closes_at = read,
+    }
     manners
 }
 
 /// How many calls a line of these rows sees at most.
 const CALLS: u64 = 12;
 
-/// A source, a listener whose line fails at this call, and another listener. Whether the other one
-/// hears all, and the failing one was handed a front of it, and is gone.
-fn is_beside_a_failing_one(
-    station: &mut Station<Core>,
-    fails_at: u64,
-) -> Result<bool, OutOfMemory> {
-    source_and_listener(station, failing(LISTENER, fails_at))?;
-    station.come(giving(LISTENER), 2)?;
-    station.turns(3, 1, 1);
-    let front = station.took_front(1, HEARD);
-    station.turns(4, 1, CALLS);
-    Ok(front && !station.has(2) && station.has(3) && station.last_took(HEARD))
+/// Listeners, with these settings: what each sends, and what he hears.
+#[derive(Clone, Copy)]
+struct Row {
+    settings: &'static str,
+    listener: &'static [&'static [u8]],
+    heard: &'static [u8],
 }
 
-fn beside_a_failing_one(alloc: Global, fails_at: u64) -> Result<bool, SettingsFault> {
-    let mut station = make_station(alloc, "")?;
-    let held = is_beside_a_failing_one(&mut station, fails_at);
+const PLAIN: Row = Row {
+    settings: "",
+    listener: LISTENER,
+    heard: HEARD,
+};
+
+const WITH_TITLE: Row = Row {
+    settings: INTERVAL,
+    listener: TITLED,
+    heard: NIGHT,
+};
+
+/// A source, a listener who fails so, and another listener. Whether the other one hears all, the
+/// source is where it was, and the failing one was handed a front of it, and is gone.
+fn is_beside_a_failing_one(
+    station: &mut Station<Titling>,
+    row: Row,
+    failure: Failure,
+) -> Result<bool, OutOfMemory> {
+    source_and_listener(station, failing(row.listener, failure))?;
+    station.come(giving(row.listener), 2)?;
+    station.turns(3, 1, 1);
+    let front = station.took_front(1, row.heard);
+    station.turns(4, 1, CALLS);
+    let others = station.took(0, SOURCE_ANSWER) && station.took(1, row.heard);
+    Ok(front && others && station.count() == 2 && !station.has(2))
+}
+
+fn beside_a_failing_one(alloc: Global, row: Row, failure: Failure) -> Result<bool, SettingsFault> {
+    let mut station = titled_station(alloc, row.settings)?;
+    let held = is_beside_a_failing_one(&mut station, row, failure);
     drop(station);
     Ok(held?)
 }
 
 #[test]
 fn a_listeners_fault_is_his_alone(rt: HostRuntime) -> Result<(), Fail> {
-    for fails_at in 0..CALLS {
+    for call in 0..CALLS {
         assert!(rt;
-            beside_a_failing_one(rt.alloc(), fails_at)?,
-            "call {fails_at}"
+            beside_a_failing_one(rt.alloc(), PLAIN, Failure::FailsAt(call))?,
+            "call {call}"
+        );
+    }
+    Ok(())
+}
+
+#[test]
+fn with_titles_a_fault_is_his_alone(rt: HostRuntime) -> Result<(), Fail> {
+    for call in 0..CALLS {
+        assert!(rt;
+            beside_a_failing_one(rt.alloc(), WITH_TITLE, Failure::FailsAt(call))?,
+            "call {call}"
+        );
+    }
+    Ok(())
+}
+
+#[test]
+fn a_listeners_closing_is_his_alone(rt: HostRuntime) -> Result<(), Fail> {
+    for read in 0..CALLS {
+        assert!(rt;
+            beside_a_failing_one(rt.alloc(), PLAIN, Failure::ClosesAt(read))?,
+            "read {read}"
+        );
+    }
+    Ok(())
+}
+
+#[test]
+fn with_titles_a_closing_is_his_alone(rt: HostRuntime) -> Result<(), Fail> {
+    for read in 0..CALLS {
+        assert!(rt;
+            beside_a_failing_one(rt.alloc(), WITH_TITLE, Failure::ClosesAt(read))?,
+            "read {read}"
         );
     }
     Ok(())
@@ -52,13 +120,12 @@ fn a_listeners_fault_is_his_alone(rt: HostRuntime) -> Result<(), Fail> {
 /// A listener who asks once the source is on the air.
 const LATE_LISTENER: &[&[u8]] = &[b"", b"", b"", LISTEN_HEAD];
 
-/// A source whose line fails at this call, and a listener. Whether the source is gone, and the
-/// listener has ended.
+/// A source that fails so, and a listener. Whether the source is gone, and the listener has ended.
 fn is_behind_a_failing_source(
     station: &mut Station<Core>,
-    fails_at: u64,
+    failure: Failure,
 ) -> Result<bool, OutOfMemory> {
-    station.come(failing(EIGHT_BYTES, fails_at), 0)?;
+    station.come(failing(EIGHT_BYTES, failure), 0)?;
     station.come(giving(LATE_LISTENER), 0)?;
     station.turns(1, 1, CALLS);
     let gone = !station.has(1);
@@ -66,19 +133,30 @@ fn is_behind_a_failing_source(
     Ok(gone && station.count() == 0)
 }
 
-fn behind_a_failing_source(alloc: Global, fails_at: u64) -> Result<bool, SettingsFault> {
+fn behind_a_failing_source(alloc: Global, failure: Failure) -> Result<bool, SettingsFault> {
     let mut station = make_station(alloc, "")?;
-    let held = is_behind_a_failing_source(&mut station, fails_at);
+    let held = is_behind_a_failing_source(&mut station, failure);
     drop(station);
     Ok(held?)
 }
 
 #[test]
 fn without_its_source_a_listener_ends(rt: HostRuntime) -> Result<(), Fail> {
-    for fails_at in 0..CALLS {
+    for call in 0..CALLS {
         assert!(rt;
-            behind_a_failing_source(rt.alloc(), fails_at)?,
-            "call {fails_at}"
+            behind_a_failing_source(rt.alloc(), Failure::FailsAt(call))?,
+            "call {call}"
+        );
+    }
+    Ok(())
+}
+
+#[test]
+fn behind_a_source_that_closes_a_listener_ends(rt: HostRuntime) -> Result<(), Fail> {
+    for read in 0..CALLS {
+        assert!(rt;
+            behind_a_failing_source(rt.alloc(), Failure::ClosesAt(read))?,
+            "read {read}"
         );
     }
     Ok(())
@@ -87,7 +165,7 @@ fn without_its_source_a_listener_ends(rt: HostRuntime) -> Result<(), Fail> {
 /// A listener whose peer closes behind his head hears what there is, and has left a turn later.
 fn is_left(station: &mut Station<Core>) -> Result<bool, OutOfMemory> {
     let mut closing = giving(LISTENER);
-    closing.closes = true;
+    closing.closes_at = 1;
     source_and_listener(station, closing)?;
     station.turns(3, 1, 1);
     let heard = station.took(1, HEARD);

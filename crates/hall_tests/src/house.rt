@@ -5,7 +5,7 @@ ghost use Rattle.radio_access.specs.Lists.{no_lists};
 ghost use Rattle.radio_core.specs.World.{opening};
 
 use crate::memory_line::giving;
-use crate::rows::{EIGHT_BYTES, INTERVAL, TITLED};
+use crate::rows::{EIGHT_BYTES, INTERVAL, NIGHT, TITLED};
 use crate::stations::*;
 use radio_access::Lists;
 use radio_book::{House, Kept, OutOfMemory, PASSES, Pass, SettleFault};
@@ -14,30 +14,39 @@ use radio_hall::{Caller, Gate, Hall, settle};
 use radio_icy::Title;
 use radio_settings::Settings;
 use std::alloc::Global;
+use std::cell::Cell;
 use std::marker::Brand;
 use std::sync::Wait;
 use std::sync::ledger::Blank;
 use std::test::Fail;
 
-/// The title between his bytes.
-const NIGHT: &[u8] =
-    b"HTTP/1.0 200 OK\r\nContent-Type: audio/mpeg\r\nicy-metaint: 4\r\nConnection: close\r\n\r\nabcd\x02StreamTitle='Night';\0\0\0\0\0\0\0\0\0\0\0\0efgh\0";
-
-/// A gate at which the hall is called before and after each write: that ends only where the worker
-/// does not hold the hall's lock meanwhile.
+/// A gate at which the hall is asked for a pass before and after each write, without waiting for its
+/// lock.
 #[derive(Drop)]
-struct Knocking<'a, R: Wait, H: House> {
-    rt: &'a R,
+struct Knocking<'a, H: House> {
     hall: &'a Hall<Kept, H>,
+    knocks: Cell<u64>,
+    /// Whether the lock was ever held.
+    was_held: Cell<bool>,
 }
 
-impl<'a, R: Wait, H: House> Gate for Knocking<'a, R, H> {
+impl<'a, H: House> Knocking<'a, H> {
+    fn knock(&self) {
+        self.knocks.set(self.knocks.get().saturating_add(1));
+        match self.hall.try_pass() {
+            Some(pass) => drop(pass),
+            None => self.was_held.set(true),
+        }
+    }
+}
+
+impl<'a, H: House> Gate for Knocking<'a, H> {
     fn hold(&self, _id: u64) {
-        drop(self.hall.pass(self.rt));
+        self.knock();
     }
 
     fn let_go(&self, _id: u64) {
-        drop(self.hall.pass(self.rt));
+        self.knock();
     }
 }
 
@@ -53,8 +62,22 @@ fn set_title<H: House, R: Wait>(
     Ok(())
 }
 
-/// A source is served, a title is set, and a listener hears it, while the hall is called round each
-/// write.
+/// A turn with one write. Whether the hall's lock is free round it.
+fn is_free_in_turn<H: House, R: Wait>(
+    hall: &Hall<Kept, H>,
+    station: &mut Station<Caller<R, Kept, H>>,
+) -> bool {
+    let gate = Knocking {
+        hall,
+        knocks: Cell::new(0),
+        was_held: Cell::new(false),
+    };
+    station.turn(&gate, 3);
+    gate.knocks.get() == 2 && !gate.was_held.get()
+}
+
+/// A source is served, a title is set, and a listener hears it. Whether he does, and the hall's lock
+/// is free round his one write.
 fn hears_title<H: House, R: Wait>(
     rt: &R,
     alloc: Global,
@@ -66,8 +89,8 @@ fn hears_title<H: House, R: Wait>(
     station.turns(1, 1, 2);
     set_title(rt, alloc, hall, other)?;
     station.come(giving(TITLED), 2)?;
-    station.turn(&Knocking { rt, hall }, 3);
-    Ok(station.took(1, NIGHT))
+    let was_free = is_free_in_turn(hall, station);
+    Ok(was_free && station.took(1, NIGHT))
 }
 
 /// Both callers' passes, and whether the title was heard.

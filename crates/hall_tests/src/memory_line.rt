@@ -1,7 +1,7 @@
 //! A line in memory.
 
 ghost use Rattle.std.specs.Prelude.{◌≡◌, []};
-ghost use Rattle.radio_hall.specs.Lines.{HasGiven};
+ghost use Rattle.radio_hall.specs.Lines.{HasGiven, HasTaken};
 
 use radio_hall::{Line, Received, Sent};
 use std::alloc::Global;
@@ -12,12 +12,14 @@ pub struct Manners {
     /// What it gives to each read, in turn; then nothing. An empty piece is a read to which nothing
     /// comes.
     pub gives: &'static [&'static [u8]],
-    /// Whether its peer closes behind that.
-    pub closes: bool,
+    /// At which read its peer has closed, counted from 0.
+    pub closes_at: u64,
     /// How many bytes it takes in a write at most.
     pub takes: usize,
-    /// How many writes take something; then nothing is taken.
-    pub writes: u64,
+    /// From which write on nothing is taken, counted from 0.
+    pub stalls_at: u64,
+    /// At which write something is taken again.
+    pub resumes_at: u64,
     /// Which call fails, counted from 0 over reads and writes together.
     pub fails_at: u64,
 }
@@ -26,20 +28,27 @@ pub struct Manners {
 pub fn giving(gives: &'static [&'static [u8]]) -> Manners {
     Manners {
         gives,
-        closes: false,
+        closes_at: u64::MAX,
         takes: usize::MAX,
-        writes: u64::MAX,
+        stalls_at: u64::MAX,
+        resumes_at: u64::MAX,
         fails_at: u64::MAX,
     }
+}
+
+/// Why a line gives nothing any more.
+enum End {
+    Closed,
+    Fault,
 }
 
 /// A line in memory, which keeps all that it gave and took.
 #[derive(Drop)]
 pub struct MemoryLine {
     manners: Manners,
-    reads: usize,
+    pieces: usize,
+    reads: u64,
     writes: u64,
-    calls: u64,
     given: Vec<u8>,
     taken: Vec<u8>,
     is_finished: bool,
@@ -52,9 +61,9 @@ impl MemoryLine {
     {
         MemoryLine {
             manners,
+            pieces: 0,
             reads: 0,
             writes: 0,
-            calls: 0,
             given: Vec::new(alloc),
             taken: Vec::new(alloc),
             is_finished: false,
@@ -71,14 +80,35 @@ impl MemoryLine {
         self.is_finished
     }
 
-    /// Counts a call. Whether it fails.
-    fn fails(&mut self) -> bool
+    /// Whether the next call fails.
+    fn fails(&self) -> bool {
+        self.reads.saturating_add(self.writes) == self.manners.fails_at
+    }
+
+    /// Counts a read. Its end, if it is one.
+    fn count_read(&mut self) -> Option<End>
         ensures given { self.new.given ≡ self.old.given }
         ensures taken { self.new.taken ≡ self.old.taken }
     {
-        let fails = self.calls == self.manners.fails_at;
-        self.calls = self.calls.saturating_add(1);
-        fails
+        let fails = self.fails();
+        let closed = self.reads >= self.manners.closes_at;
+        self.reads = self.reads.saturating_add(1);
+        match (fails, closed) {
+            (true, _) => Some(End::Fault),
+            (false, true) => Some(End::Closed),
+            (false, false) => None,
+        }
+    }
+
+    /// Counts a write. Whether it takes something, if it does not fail.
+    fn count_write(&mut self) -> Option<bool>
+        ensures given { self.new.given ≡ self.old.given }
+        ensures taken { self.new.taken ≡ self.old.taken }
+    {
+        let fails = self.fails();
+        let takes = self.writes < self.manners.stalls_at || self.writes >= self.manners.resumes_at;
+        self.writes = self.writes.saturating_add(1);
+        if fails { None } else { Some(takes) }
     }
 
     /// The piece for this read, if there is one.
@@ -86,8 +116,8 @@ impl MemoryLine {
         ensures given { self.new.given ≡ self.old.given }
         ensures taken { self.new.taken ≡ self.old.taken }
     {
-        let piece = *self.manners.gives.get(self.reads)?;
-        self.reads = self.reads.saturating_add(1);
+        let piece = *self.manners.gives.get(self.pieces)?;
+        self.pieces = self.pieces.saturating_add(1);
         Some(piece)
     }
 
@@ -106,6 +136,21 @@ impl MemoryLine {
             Err(_) => Received::Fault,
         }
     }
+
+    /// Takes the front of the bytes.
+    fn take(&mut self, bytes: &[u8]) -> Sent
+        ensures given { self.new.given ≡ self.old.given }
+        ensures taken { HasTaken result bytes.now self.old.taken.items self.new.taken.items }
+    {
+        let count = bytes.len().min(self.manners.takes);
+        if count == 0 {
+            return Sent::Nothing;
+        }
+        match self.taken.extend_from_slice(&bytes[..count]) {
+            Ok(()) => Sent::Took(count),
+            Err(_) => Sent::Fault,
+        }
+    }
 }
 
 impl Line for MemoryLine {
@@ -114,33 +159,22 @@ impl Line for MemoryLine {
     ghost taken = { λ l. l.taken.items };
 
     fn read(&mut self, buffer: &mut [u8]) -> Received {
-        if self.fails() {
-            return Received::Fault;
+        match self.count_read() {
+            Some(End::Closed) => return Received::Closed,
+            Some(End::Fault) => return Received::Fault,
+            None => (),
         }
         match self.next_piece() {
             Some(piece) => self.give(piece, buffer),
-            None => {
-                if self.manners.closes {
-                    Received::Closed
-                } else {
-                    Received::Nothing
-                }
-            }
+            None => Received::Nothing,
         }
     }
 
     fn write(&mut self, bytes: &[u8]) -> Sent {
-        if self.fails() {
-            return Sent::Fault;
-        }
-        let count = bytes.len().min(self.manners.takes);
-        if count == 0 || self.writes >= self.manners.writes {
-            return Sent::Nothing;
-        }
-        self.writes = self.writes.saturating_add(1);
-        match self.taken.extend_from_slice(&bytes[..count]) {
-            Ok(()) => Sent::Took(count),
-            Err(_) => Sent::Fault,
+        match self.count_write() {
+            None => Sent::Fault,
+            Some(false) => Sent::Nothing,
+            Some(true) => self.take(bytes),
         }
     }
 

@@ -3,6 +3,7 @@
 use crate::memory_line::{Manners, giving};
 use crate::stations::*;
 use radio_core::{Core, OutOfMemory};
+use radio_hall::Server;
 use radio_settings::SettingsFault;
 use std::alloc::Global;
 use std::test::Fail;
@@ -18,8 +19,8 @@ pub const HEARD: &[u8] =
     b"HTTP/1.0 200 OK\r\nContent-Type: audio/mpeg\r\nConnection: close\r\n\r\nabcdefgh";
 
 /// A source of eight bytes comes and is served, and a listener comes then, at 2 milliseconds.
-pub fn source_and_listener(
-    station: &mut Station<Core>,
+pub fn source_and_listener<S: Server + Drop>(
+    station: &mut Station<S>,
     listener: Manners,
 ) -> Result<(), OutOfMemory> {
     station.come(giving(EIGHT_BYTES), 0)?;
@@ -73,6 +74,10 @@ pub const TITLED: &[&[u8]] = &[b"GET /a HTTP/1.0\r\nIcy-MetaData: 1\r\n\r\n"];
 
 /// Settings with an interval of four bytes.
 pub const INTERVAL: &str = "[[mount]]\nmount-name = \"/a\"\nmp3-metadata-interval = 4\n";
+
+/// The title `Night` between his bytes.
+pub const NIGHT: &[u8] =
+    b"HTTP/1.0 200 OK\r\nContent-Type: audio/mpeg\r\nicy-metaint: 4\r\nConnection: close\r\n\r\nabcd\x02StreamTitle='Night';\0\0\0\0\0\0\0\0\0\0\0\0efgh\0";
 
 /// Metadata blocks between his bytes; no title was set.
 const WOVEN: &[u8] =

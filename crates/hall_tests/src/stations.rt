@@ -5,6 +5,7 @@ use radio_access::Lists;
 use radio_addr::Peer;
 use radio_core::{Core, Event, OutOfMemory, Reply};
 use radio_hall::{Conn, Gate, OpenGate, Server, Worker};
+use radio_icy::Title;
 use radio_settings::{Settings, SettingsFault};
 use std::alloc::{AllocError, Global};
 use std::marker::Model;
@@ -61,6 +62,57 @@ impl Server for Refusing {
     }
 }
 
+/// A core at which the first client's mount has a title as soon as he feeds it. In contracts it is
+/// the core.
+#[derive(Drop)]
+pub struct Titling {
+    alloc: Global,
+    core: Core,
+}
+
+impl Model for Titling {
+    ghost use Rattle.std.specs.Coded.{codes};
+    ghost use Rattle.radio_core.specs.contracts.server.Core as the_core;
+    ghost use Rattle.radio_core.specs.World.{World};
+
+    ghost Value = { World };
+
+    ghost coded = { Prim.hlevel (codes, the_core.the_row.coded) };
+
+    ghost view = { λ t. t.core };
+}
+
+impl Server for Titling {
+    ghost steps = { λ from event reply to. Unit {0} };
+
+    ghost refuses = { λ from event. Unit {0} };
+
+    fn apply(&mut self, event: Event) -> Result<Reply, OutOfMemory> {
+        match self.core.step(event) {
+            Ok(reply) => {
+                self.note(&reply);
+                Ok(reply)
+            }
+            Err(refused) => Err(refused),
+        }
+    }
+}
+
+impl Titling {
+    /// There is no title where memory is refused for it.
+    fn note(&mut self, reply: &Reply) {
+        if matches!(reply, Reply::Feeding) {
+            let _ = self.set_title();
+        }
+    }
+
+    fn set_title(&mut self) -> Result<(), OutOfMemory> {
+        let text = Title::clean(self.alloc, b"Night")?;
+        drop(self.core.step(Event::Title { id: 1, text })?);
+        Ok(())
+    }
+}
+
 /// The passwords, and these settings more.
 pub fn settings(alloc: Global, more: &str) -> Result<Settings, SettingsFault> {
     let text = format!(in alloc;
@@ -97,6 +149,13 @@ pub fn refused_station(alloc: Global, refuses_at: u64) -> Result<Station<Refusin
         refuses_at,
     };
     Ok(Station::new(alloc, server))
+}
+
+/// A worker over a core with these settings more, at which the first client's mount has a title, and
+/// no connection.
+pub fn titled_station(alloc: Global, more: &str) -> Result<Station<Titling>, SettingsFault> {
+    let core = core(alloc, more)?;
+    Ok(Station::new(alloc, Titling { alloc, core }))
 }
 
 impl<S: Server + Drop> Station<S> {

@@ -2,6 +2,7 @@ pub mod Lines
 pub mod Callers
 pub mod Connections
 pub mod Course
+pub mod Workers
 pub mod Turns
 pub mod Answering
 pub mod Admission

@@ -10,6 +10,7 @@ use Rattle.radio_hall.specs.declared.conn.Fate.{Fate}
 use Rattle.radio_hall.specs.declared.conn.Fate.TheVariants.{Open, Closed, Cut}
 use Rattle.radio_hall.specs.Connections.{Connection, stays}
 use Rattle.radio_hall.specs.Course.{Standing, Course}
+use Rattle.radio_hall.specs.Workers.{WorkerOf}
 
 -- What the line took, followed by what is owed to it, is what was told. Once it is closed, it took all; where it was cut off, the front.
 abbrev pub IsHanded : Fate → List ℕ → List ℕ → List ℕ → Type 0
@@ -83,15 +84,18 @@ module _ {S : Type 0} (steps : Steps S) where
   HasApplied refuses true from event to = (reply : Reply) × steps from event reply to
   HasApplied refuses false from event to = (to ≡ from) × refuses from event
 
-  -- where a second has passed since the server was told the time, it is told, unless it refuses for want of memory
-  abbrev pub Ticks : (S → Event → Type 0) → ℕ → ℕ → S → ℕ → S → Type 0
-  Ticks refuses ms before from after to =
-      ((ms < before + 1000) × (after ≡ before) × (to ≡ from)) ⊎ (((after ≡ ms) × HasApplied refuses true from (Clock ms) to) ⊎ ((after ≡ before) × HasApplied refuses false from (Clock ms) to))
+  -- where a second has passed since the worker told the server the time, he tells it, unless that is refused for want of memory
+  abbrev pub Ticks : (S → Event → Type 0) → ℕ → WorkerOf S → WorkerOf S → Type 0
+  Ticks refuses ms before after =
+      ((ms < before.told_ms + 1000) × (after ≡ before))
+      ⊎ (((after.told_ms ≡ ms) × (after.patience_ms ≡ before.patience_ms) × HasApplied refuses true before.server (Clock ms) after.server)
+      ⊎ ((after ≡ before) × refuses before.server (Clock ms)))
 
   -- A turn at this moment: the server is told the time if it is due, each connection is served, and those that are over are closed.
-  pub record IsTurn (refuses : S → Event → Type 0) (ms ticked : ℕ) (from : S) (conns : List Connection) (ticked' : ℕ) (to : S) (conns' : List Connection) : Type 0 where
-    pub mid : S
+  pub record IsTurn (refuses : S → Event → Type 0) (ms : ℕ) (before : WorkerOf S) (conns : List Connection) (after : WorkerOf S) (conns' : List Connection) : Type 0 where
+    pub mid : WorkerOf S
     pub served : List Connection
-    pub ticks : Ticks refuses ms ticked from ticked' mid
-    pub serves : ServesEach mid conns to served
+    pub ticks : Ticks refuses ms before mid
+    pub same : (after.told_ms ≡ mid.told_ms) × (after.patience_ms ≡ mid.patience_ms)
+    pub serves : ServesEach mid.server conns after.server served
     pub closes : conns' ≡ filter stays served

@@ -41,6 +41,14 @@ impl<C: Chronicle, H: House> Hall<C, H> {
         self.book.lock(rt).pass()
     }
 
+    /// A pass, as by [`Hall::pass`], without waiting: `None` also where another caller has the lock, or
+    /// another thread waits for it.
+    pub fn try_pass(&self) -> Option<Pass<C, H>>
+        ensures { IfSome result (λ pass. pass ≡ []) }
+    {
+        self.book.try_lock()?.pass()
+    }
+
     /// One event, by [`Book::apply`] under the lock; its receipt.
     ///
     /// `OutOfMemory` where memory was refused; the book and the pass are unchanged then. Where

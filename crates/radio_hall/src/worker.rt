@@ -11,14 +11,24 @@ use crate::{Conn, Gate, Line, OutOfMemory, Server};
 use radio_addr::Peer;
 use radio_core::Event;
 use std::alloc::Global;
+use std::marker::Model;
 
-/// A worker: whom he asks, and when he last told him the time.
+/// A worker: whom he asks, when he last told him the time, and for how long he keeps a line that
+/// takes nothing. In contracts he is these three.
 #[derive(Drop)]
 pub struct Worker<S: Server + Drop> {
     alloc: Global,
     server: S,
-    ticked_ms: u64,
+    told_ms: u64,
     patience_ms: u64,
+}
+
+impl<S: Server + Drop> Model for Worker<S> {
+    ghost use Rattle.radio_hall.specs.Workers.{WorkerOf};
+
+    ghost Value = { WorkerOf S };
+
+    ghost view = { λ w. record { server = w.server; told_ms = w.told_ms; patience_ms = w.patience_ms } };
 }
 
 impl<S: Server + Drop> Worker<S> {
@@ -26,13 +36,13 @@ impl<S: Server + Drop> Worker<S> {
     /// so many seconds (the settings' `source-timeout`).
     pub fn new(alloc: Global, server: S, patience_s: u32) -> Worker<S>
         ensures server { result.server ≡ server }
-        ensures ticked { result.ticked_ms ≡ 0 }
+        ensures told { result.told_ms ≡ 0 }
         ensures patience { result.patience_ms ≡ patience_s * 1000 }
     {
         Worker {
             alloc,
             server,
-            ticked_ms: 0,
+            told_ms: 0,
             patience_ms: patience_s as u64 * SECOND_MS,
         }
     }
@@ -65,7 +75,7 @@ impl<S: Server + Drop> Worker<S> {
     ) -> Result<(), OutOfMemory>
         ensures ok { OnOk result (IsAdmission S.steps peer (L.given line) (L.taken line) self.old.server conns.old.items self.new.server conns.new.items) }
         ensures err { OnErr result (conns.new.items ≡ conns.old.items) }
-        ensures ticked { self.new.ticked_ms ≡ self.old.ticked_ms }
+        ensures told { (self.new.told_ms ≡ self.old.told_ms) × (self.new.patience_ms ≡ self.old.patience_ms) }
     {
         conns.reserve(1)?;
         let reply = self.server.apply(Event::Arrive { peer })?;
@@ -77,7 +87,7 @@ impl<S: Server + Drop> Worker<S> {
     /// Serves each connection once, at this moment in milliseconds, and closes those that are over.
     /// The server is told the time if a second has passed since it last was.
     pub fn serve_turn<L: Line, G: Gate>(&mut self, conns: &mut Vec<Conn<L>>, gate: &G, ms: u64)
-        ensures { IsTurn S.steps S.refuses ms self.old.ticked_ms self.old.server conns.old.items self.new.ticked_ms self.new.server conns.new.items }
+        ensures { IsTurn S.steps S.refuses ms self.old conns.old.items self.new conns.new.items }
     {
         self.tick(ms);
         let now = Now {
@@ -89,13 +99,13 @@ impl<S: Server + Drop> Worker<S> {
     }
 
     fn tick(&mut self, ms: u64)
-        ensures { Ticks S.steps S.refuses ms self.old.ticked_ms self.old.server self.new.ticked_ms self.new.server }
+        ensures { Ticks S.steps S.refuses ms self.old self.new }
     {
-        if ms.saturating_sub(self.ticked_ms) < SECOND_MS {
+        if ms.saturating_sub(self.told_ms) < SECOND_MS {
             return;
         }
         if apply_quietly(&mut self.server, Event::Clock { ms }) {
-            self.ticked_ms = ms;
+            self.told_ms = ms;
         }
     }
 }

@@ -1,0 +1,8 @@
+-- Workers, as their callers see them.
+use Rattle.std.specs.Prelude.{ℕ}
+
+-- whom he asks, when he last told him the time, and for how long a line may take nothing of what it is owed, in milliseconds
+pub record WorkerOf (S : Type 0) : Type 0 where
+  pub server : S
+  pub told_ms : ℕ
+  pub patience_ms : ℕ
