@@ -117,7 +117,9 @@ module _ {S : Type 0} (steps : Steps S) (id : ℕ) where
         told = told_awaiting says (length events + n) word e.0
 
         goes : GoesOn steps id single.state event here e.1 (λ others. Exchanges steps id here.says events e.1 others to) now to
-        goes = subst (λ (state : State). GoesOn steps id state event here e.1 (λ others. Exchanges steps id here.says events e.1 others to) now to) told.state e.3
+        goes =
+            subst (λ (state : State). GoesOn steps id state event here e.1 (λ others. Exchanges steps id here.says events e.1 others to) now to)
+            told.state e.3
 
         by_state : ((later : Exchange) (end : S) → Exchanges steps id (with_closing single.says (awaiting (length events + n) word)) events e.1 later end
             → Awaited single.says events n word e.1 later end)
