@@ -4,7 +4,7 @@ use Rattle.std.proofs.Common.{subst, arith, append-nil, append_assoc, length-app
 use Rattle.std.proofs.lemmas.Bool.Decides.{nat_tests}
 use Rattle.std.specs.Io.KnownBytes.{Consumes, IsAtEnd}
 use Rattle.std.proofs.KnownBytes.{Appends-nil}
-use Rattle.radio_script.specs.declared.limits.TheConstants.{MAX_LINE, MAX_LINES}
+use Rattle.radio_script.specs.Limits.{max_line, max_lines}
 use Rattle.radio_script.specs.declared.faults.PlayFault.{PlayFault}
 use Rattle.radio_script.specs.declared.faults.PlayFault.TheVariants.{Read, Write, Line, TooMuch, OutOfMemory}
 use Rattle.radio_script.specs.declared.reading.LineRead.TheVariants.{Whole, Last, Nothing, TooLong}
@@ -16,7 +16,7 @@ use Rattle.radio_script.specs.Answers.{IsAnswered, IsAtFault, IsPerformed, Answe
 use Rattle.radio_script.proofs.FeedLemmas.{lines_of-line, lines_of-last, lines_of-long, IsOneLine-no_feed, IsOneLine-push}
 use Rattle.radio_script.proofs.TranscriptLemmas.{no_lines, answered_last, at_fault, too_much}
 
-too_long : (a : Bool) (n : ℕ) → MAX_LINE < n → (a || nat_lt MAX_LINE n) ≡ true
+too_long : (a : Bool) (n : ℕ) → max_line < n → (a || nat_lt max_line n) ≡ true
 too_long true n h = refl
 too_long false n h = grind (arith, nat_tests)
 
@@ -64,12 +64,12 @@ none_before performs p number script written most_calls h =
     (subst (λ t. IsPlayedBefore performs p number script script [] t p) (sym h.1) (before_all performs p number script))
 
 -- more bytes than a line may have, with no line feed among them
-long_part : {P : Type 0} (performs : Conduct P) (p : P) (number : ℕ) (part left : List ℕ) → has_feed part ≡ false → MAX_LINE < length part
+long_part : {P : Type 0} (performs : Conduct P) (p : P) (number : ℕ) (part left : List ℕ) → has_feed part ≡ false → max_line < length part
     → Plays performs p number (part ++ left) left (Err TooMuch) [] 0 p
 long_part performs p number part left one long =
     let first = lines_of-long part left one (omega arith) in
-    let over : (nat_lt MAX_LINES number || nat_lt MAX_LINE (length (part ++ first.more))) ≡ true =
-    too_long (nat_lt MAX_LINES number) (length (part ++ first.more)) (omega (arith, length-append part first.more)) in
+    let over : (nat_lt max_lines number || nat_lt max_line (length (part ++ first.more))) ≡ true =
+    too_long (nat_lt max_lines number) (length (part ++ first.more)) (omega (arith, length-append part first.more)) in
     record {
       transcript = rw first.is (too_much performs p number (part ++ first.more) first.others over);
       in_calls = omega arith;

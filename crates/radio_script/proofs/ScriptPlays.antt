@@ -3,7 +3,7 @@ use Rattle.std.proofs.Common.{◌≡◌, ◌≢◌, ℕ, ◌+◌, ◌≤◌, ◌
 use Rattle.std.proofs.Common.{subst, arith, append_assoc, length-append, nat_lt, ◌||◌}
 use Rattle.std.proofs.lemmas.Bool.Decides.{nat_tests}
 use Rattle.std.proofs.KnownBytes.{Appends-trans}
-use Rattle.radio_script.specs.declared.limits.TheConstants.{MAX_LINE, MAX_LINES}
+use Rattle.radio_script.specs.Limits.{max_line, max_lines}
 use Rattle.radio_script.specs.declared.faults.PlayFault.{PlayFault}
 use Rattle.radio_script.specs.declared.faults.PlayFault.TheVariants.{Read, Write, Line, TooMuch, OutOfMemory}
 use Rattle.radio_script.specs.Script.{lines_of}
@@ -183,9 +183,9 @@ IsSoFar-ends performs old new last number result a b c d e f m n o so_far line =
     (λ written most_calls more more_calls l p. ends performs old 1 script new number before written most_calls left more more_calls result last l p) w v)
     so_far line
 
-past_last : (number : ℕ) (b : Bool) → MAX_LINES < number → (nat_lt MAX_LINES number || b) ≡ true
+past_last : (number : ℕ) (b : Bool) → max_lines < number → (nat_lt max_lines number || b) ≡ true
 past_last number b over =
-    let past : nat_lt MAX_LINES number ≡ true = grind (arith, nat_tests) in
+    let past : nat_lt max_lines number ≡ true = grind (arith, nat_tests) in
     rw past refl
 
 none_left : (before : List ℕ) (result : Result (Unit {0}) PlayFault) → EndsThere (Some before) None result → ⊥
@@ -197,7 +197,7 @@ none_left before (Err TooMuch) h = h
 none_left before (Err OutOfMemory) h = h
 
 -- Behind the last line that a script may have, the reader is looked at once more.
-looked : {P : Type 0} (performs : Conduct P) (p : P) (number : ℕ) (before left : List ℕ) (result : Result (Unit {0}) PlayFault) → MAX_LINES < number
+looked : {P : Type 0} (performs : Conduct P) (p : P) (number : ℕ) (before left : List ℕ) (result : Result (Unit {0}) PlayFault) → max_lines < number
     → EndsThere (Some before) (Some left) result → Plays performs p number before left result [] 0 p
 looked performs p number before left (Ok u) over h = (
   h.1,
@@ -213,7 +213,7 @@ looked performs p number before left (Err Write) over h = absurd h
 looked performs p number before left (Err (Line n)) over h = absurd h
 looked performs p number before left (Err TooMuch) over h =
     let first = lines_of-cons h.0 left in
-    let past : (nat_lt MAX_LINES number || nat_lt MAX_LINE (length first.line)) ≡ true = past_last number (nat_lt MAX_LINE (length first.line)) over in
+    let past : (nat_lt max_lines number || nat_lt max_line (length first.line)) ≡ true = past_last number (nat_lt max_line (length first.line)) over in
     record {
       transcript = subst (λ x. IsTranscript performs p number (lines_of x) [] (Some TooMuch) p) (sym h.1)
           (rw first.is (too_much performs p number first.line first.others past));
@@ -222,7 +222,7 @@ looked performs p number before left (Err TooMuch) over h =
 looked performs p number before left (Err OutOfMemory) over h = absurd h
 
 known_once_more : {P : Type 0} (performs : Conduct P) (p : P) (number : ℕ) (b c e : Option (List ℕ)) (n : ℕ) (result : Result (Unit {0}) PlayFault)
-    → MAX_LINES < number
+    → max_lines < number
     → EndsThere b c result → IfKnown b c (λ before left. Writes e e n n (λ written most_calls. Plays performs p number before left result written most_calls p))
 known_once_more performs p number None c e n result over h = tt
 known_once_more performs p number (Some before) None e n result over h = absurd (none_left before result h)
@@ -232,7 +232,7 @@ known_once_more performs p number (Some before) (Some left) e n result over h =
 
 pub IsSoFar-looked : {P : Type 0} (performs : Conduct P) (old new : P) (number : ℕ) (result : Result (Unit {0}) PlayFault) (a b c d e : Option (List ℕ))
     (m n : ℕ)
-    → MAX_LINES < number → IsSoFar performs old new number a b d e m n → EndsThere b c result
+    → max_lines < number → IsSoFar performs old new number a b d e m n → EndsThere b c result
     → IfKnown a c (λ script left. Writes d e m n (λ written most_calls. Plays performs old 1 script left result written most_calls new))
 IsSoFar-looked performs old new number result a b c d e m n over so_far h =
     IsSoFar-ends performs old new new number result a b c d e e m n n so_far

@@ -1,6 +1,6 @@
 -- Transcripts, line by line.
 use Rattle.std.proofs.Common.{◌≡◌, ℕ, ◌+◌, inl, inr, true, nat_lt, ◌||◌, List, [], ◌∷◌, ◌++◌, length, Option, None, Some, Err, refl, sym, ap, subst, append-nil}
-use Rattle.radio_script.specs.declared.limits.TheConstants.{MAX_LINE, MAX_LINES}
+use Rattle.radio_script.specs.Limits.{max_line, max_lines}
 use Rattle.radio_script.specs.declared.faults.PlayFault.{PlayFault}
 use Rattle.radio_script.specs.declared.faults.PlayFault.TheVariants.{TooMuch}
 use Rattle.radio_script.specs.Script.{meaning_of, onto_delivery, deliveries_from, fault_or, fault_from}
@@ -51,7 +51,7 @@ answered_last performs p number line text q a =
 
 -- A line that is too long, or that comes after the last that a script may have.
 pub too_much : {P : Type 0} (performs : Conduct P) (p : P) (number : ℕ) (line : List ℕ) (lines : List (List ℕ))
-    → (nat_lt MAX_LINES number || nat_lt MAX_LINE (length line)) ≡ true → IsTranscript performs p number (line ∷ lines) [] (Some TooMuch) p
+    → (nat_lt max_lines number || nat_lt max_line (length line)) ≡ true → IsTranscript performs p number (line ∷ lines) [] (Some TooMuch) p
 unfolding meaning_of
 too_much performs p number line lines e =
     let means : meaning_of number line ≡ Err TooMuch = rw e refl in

@@ -14,3 +14,4 @@ pub mod Plays
 pub mod Answers
 pub mod Laws
 pub mod Words
+pub mod Limits

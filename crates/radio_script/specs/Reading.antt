@@ -2,7 +2,7 @@
 use Rattle.std.specs.Prelude.{ℕ, ◌≡◌, ◌<◌, ◌≤◌, ◌==◌, ◌||◌, Bool, false, List, [], ◌∷◌, ◌++◌, length, Option, Result, Ok, Err}
 use Rattle.std.specs.Io.KnownBytes.{Consumes, IsAtEnd}
 use Rattle.radio_script.specs.Devices.{bumped}
-use Rattle.radio_script.specs.declared.limits.TheConstants.{MAX_LINE}
+use Rattle.radio_script.specs.Limits.{max_line}
 use Rattle.radio_script.specs.declared.faults.PlayFault.{PlayFault}
 use Rattle.radio_script.specs.declared.faults.PlayFault.TheVariants.{Read, Write, OutOfMemory}
 use Rattle.radio_script.specs.declared.reading.LineRead.{LineRead}
@@ -17,16 +17,16 @@ has_feed (b ∷ bytes) = b == 10 || has_feed bytes
 abbrev pub ReadsLine : Option (List ℕ) → Option (List ℕ) → Result LineRead PlayFault → List ℕ → Type 0
 -- the line and its line feed
 ReadsLine old new (Ok Whole) line =
-    Consumes old new (line ++ 10 ∷ []) × (has_feed line ≡ false) × (length line ≤ MAX_LINE)
+    Consumes old new (line ++ 10 ∷ []) × (has_feed line ≡ false) × (length line ≤ max_line)
 -- the last line, which lacks its line feed
 ReadsLine old new (Ok Last) line =
     Consumes old new line × IsAtEnd new × (has_feed line ≡ false) × (0 < length line)
-    × (length line ≤ MAX_LINE)
+    × (length line ≤ max_line)
 -- no byte was left
 ReadsLine old new (Ok Nothing) line = Consumes old new [] × IsAtEnd new
 -- more bytes than a line may have, and no line feed
 ReadsLine old new (Ok TooLong) line =
-    (part : List ℕ) × Consumes old new part × (has_feed part ≡ false) × (MAX_LINE < length part)
+    (part : List ℕ) × Consumes old new part × (has_feed part ≡ false) × (max_line < length part)
 -- less than a line was read when the reader failed, or when memory ran out
 ReadsLine old new (Err Read) line =
     (part : List ℕ) × Consumes old new part × (has_feed part ≡ false)

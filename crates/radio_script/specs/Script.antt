@@ -1,7 +1,7 @@
 -- Scripts: their lines, and what the lines mean.
 use Rattle.std.specs.Prelude.{ℕ, ◌+◌, ◌==◌, nat_lt, ◌||◌, List, [], ◌∷◌, length, Option, None, Some, Result, Ok, Err, if◌then◌else◌}
 use Rattle.std.specs.Option.{ok_or}
-use Rattle.radio_script.specs.declared.limits.TheConstants.{MAX_LINE, MAX_LINES}
+use Rattle.radio_script.specs.Limits.{max_line, max_lines}
 use Rattle.radio_script.specs.declared.delivery.Delivery.{Delivery}
 use Rattle.radio_script.specs.declared.faults.PlayFault.{PlayFault}
 use Rattle.radio_script.specs.declared.faults.PlayFault.TheVariants.{Line, TooMuch}
@@ -16,7 +16,7 @@ lines_of (b ∷ script) = if b == 10 then [] ∷ lines_of script else onto_first
 -- what the line of that number means: a delivery, or the line's fault
 unfoldable pub meaning_of : ℕ → List ℕ → Result Delivery PlayFault
 meaning_of number line =
-    if nat_lt MAX_LINES number || nat_lt MAX_LINE (length line)
+    if nat_lt max_lines number || nat_lt max_line (length line)
     then Err TooMuch
     else ok_or (delivery_of line) (Line number)
 

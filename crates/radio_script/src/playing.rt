@@ -4,7 +4,7 @@ ghost use Rattle.std.specs.Prelude.{◌≡◌, ◌≢◌, ◌+◌, ◌≤◌, �
 ghost use Rattle.radio_script.specs.Answers.{AnswersLine, IsPerformed, PlaysLine};
 ghost use Rattle.radio_script.specs.Plays.{EndsThere, IfKnown, Plays, Writes};
 ghost use Rattle.radio_script.specs.Reading.{reader_failures, writer_failures};
-ghost use Rattle.radio_script.specs.declared.limits.TheConstants.{MAX_LINE, MAX_LINES};
+ghost use Rattle.radio_script.specs.Limits.{max_line, max_lines};
 
 use crate::delivery::read_delivery;
 use crate::devices::{CountedRead, CountedWrite};
@@ -75,12 +75,12 @@ fn play_line<P: Performer, R: CountedRead, W: CountedWrite>(
     writer: &mut W,
     buffers: &mut Buffers,
 ) -> Result<bool, PlayFault>
-    requires { number ≤ MAX_LINES }
+    requires { number ≤ max_lines }
     ensures plays { IfKnown (R.remaining reader.old) (R.remaining reader.new) (λ script left.
         Writes (W.contents writer.old) (W.contents writer.new)
         (W.calls writer.old) (W.calls writer.new) (λ written most_calls.
         PlaysLine P.performs performer.old number script left result written most_calls performer.new)) }
-    ensures reader_calls { R.calls reader.new ≤ R.calls reader.old + (MAX_LINE + 1) }
+    ensures reader_calls { R.calls reader.new ≤ R.calls reader.old + (max_line + 1) }
     ensures reader_failures { R.failures reader.new ≡ reader_failures result (R.failures reader.old) }
     ensures writer_failures { W.failures writer.new ≡ writer_failures result (W.failures writer.old) }
     ensures flushed { result ≢ Err PlayFault.Write
@@ -128,8 +128,8 @@ fn answer_line<P: Performer, W: CountedWrite>(
     text: &mut Vec<u8>,
     writer: &mut W,
 ) -> Result<(), PlayFault>
-    requires known { number ≤ MAX_LINES }
-    requires short { length line.now ≤ MAX_LINE }
+    requires known { number ≤ max_lines }
+    requires short { length line.now ≤ max_line }
     ensures answers { Writes (W.contents writer.old) (W.contents writer.new)
         (W.calls writer.old) (W.calls writer.new) (λ written most_calls.
         AnswersLine P.performs performer.old number line.now result written most_calls performer.new) }
@@ -155,8 +155,8 @@ fn perform_line<P: Performer>(
     line: &[u8],
     text: &mut Vec<u8>,
 ) -> Result<(), PlayFault>
-    requires known { number ≤ MAX_LINES }
-    requires short { length line.now ≤ MAX_LINE }
+    requires known { number ≤ max_lines }
+    requires short { length line.now ≤ max_line }
     ensures { IsPerformed P.performs performer.old number line.now
         result text.new.items performer.new }
 {

@@ -4,7 +4,7 @@ ghost use Rattle.std.specs.Prelude.{◌≡◌, ◌+◌, ◌<◌, ◌≤◌, [], 
 ghost use Rattle.std.specs.Io.KnownBytes.{Consumes, IsAtEnd, Keeps};
 ghost use Rattle.radio_script.specs.Devices.{bumped};
 ghost use Rattle.radio_script.specs.Reading.{has_feed, reader_failures, ReadsLine};
-ghost use Rattle.radio_script.specs.declared.limits.TheConstants.{MAX_LINE};
+ghost use Rattle.radio_script.specs.Limits.{max_line};
 
 use crate::devices::CountedRead;
 use crate::faults::PlayFault;
@@ -31,7 +31,7 @@ pub fn read_line<R: CountedRead>(reader: &mut R, line: &mut Vec<u8>) -> Result<L
         result line.new.items }
 
     // A call for each byte of the longest line, and one for its line feed.
-    ensures calls { R.calls reader.new ≤ R.calls reader.old + (MAX_LINE + 1) }
+    ensures calls { R.calls reader.new ≤ R.calls reader.old + (max_line + 1) }
     ensures failures { R.failures reader.new ≡ reader_failures result (R.failures reader.old) }
 {
     line.clear();

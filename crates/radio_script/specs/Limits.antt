@@ -1,0 +1,10 @@
+-- How large a script may be.
+use Rattle.std.specs.Prelude.{ℕ}
+
+-- the most lines
+abbrev pub max_lines : ℕ
+max_lines = 1000000
+
+-- the most bytes of a line, its line feed not counted
+abbrev pub max_line : ℕ
+max_line = 65536
