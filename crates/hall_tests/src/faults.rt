@@ -117,9 +117,6 @@ fn with_titles_a_closing_is_his_alone(rt: HostRuntime) -> Result<(), Fail> {
     Ok(())
 }
 
-/// A listener who asks once the source is on the air.
-const LATE_LISTENER: &[&[u8]] = &[b"", b"", b"", LISTEN_HEAD];
-
 /// A source that fails so, and a listener. Whether the source is gone, and the listener has ended.
 fn is_behind_a_failing_source(
     station: &mut Station<Core>,

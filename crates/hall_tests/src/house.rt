@@ -1,11 +1,11 @@
-//! A worker over a hall, and another caller who sets a title.
+//! A worker over a hall: another caller who sets a title, and a gate that asks for the lock.
 
 ghost use Rattle.std.specs.Prelude.{◌≡◌, ◌^◌};
 ghost use Rattle.radio_access.specs.Lists.{no_lists};
 ghost use Rattle.radio_core.specs.World.{opening};
 
 use crate::memory_line::giving;
-use crate::rows::{EIGHT_BYTES, INTERVAL, NIGHT, TITLED};
+use crate::rows::{EIGHT_BYTES, HEARD, INTERVAL, LATE_LISTENER, NIGHT, TITLED};
 use crate::stations::*;
 use radio_access::Lists;
 use radio_book::{House, Kept, OutOfMemory, PASSES, Pass, SettleFault};
@@ -20,36 +20,6 @@ use std::sync::Wait;
 use std::sync::ledger::Blank;
 use std::test::Fail;
 
-/// A gate at which the hall is asked for a pass before and after each write, without waiting for its
-/// lock.
-#[derive(Drop)]
-struct Knocking<'a, H: House> {
-    hall: &'a Hall<Kept, H>,
-    knocks: Cell<u64>,
-    /// Whether the lock was ever held.
-    was_held: Cell<bool>,
-}
-
-impl<'a, H: House> Knocking<'a, H> {
-    fn knock(&self) {
-        self.knocks.set(self.knocks.get().saturating_add(1));
-        match self.hall.try_pass() {
-            Some(pass) => drop(pass),
-            None => self.was_held.set(true),
-        }
-    }
-}
-
-impl<'a, H: House> Gate for Knocking<'a, H> {
-    fn hold(&self, _id: u64) {
-        self.knock();
-    }
-
-    fn let_go(&self, _id: u64) {
-        self.knock();
-    }
-}
-
 /// The source's mount has this title from now on.
 fn set_title<H: House, R: Wait>(
     rt: &R,
@@ -62,22 +32,7 @@ fn set_title<H: House, R: Wait>(
     Ok(())
 }
 
-/// A turn with one write. Whether the hall's lock is free round it.
-fn is_free_in_turn<H: House, R: Wait>(
-    hall: &Hall<Kept, H>,
-    station: &mut Station<Caller<R, Kept, H>>,
-) -> bool {
-    let gate = Knocking {
-        hall,
-        knocks: Cell::new(0),
-        was_held: Cell::new(false),
-    };
-    station.turn(&gate, 3);
-    gate.knocks.get() == 2 && !gate.was_held.get()
-}
-
-/// A source is served, a title is set, and a listener hears it. Whether he does, and the hall's lock
-/// is free round his one write.
+/// A source is served, a title is set, and a listener hears it.
 fn hears_title<H: House, R: Wait>(
     rt: &R,
     alloc: Global,
@@ -89,8 +44,8 @@ fn hears_title<H: House, R: Wait>(
     station.turns(1, 1, 2);
     set_title(rt, alloc, hall, other)?;
     station.come(giving(TITLED), 2)?;
-    let was_free = is_free_in_turn(hall, station);
-    Ok(was_free && station.took(1, NIGHT))
+    station.turns(3, 1, 1);
+    Ok(station.took(1, NIGHT))
 }
 
 /// Both callers' passes, and whether the title was heard.
@@ -138,5 +93,91 @@ fn title_between_bytes(rt: HostRuntime) -> Result<(), Fail> {
     let (heard, entries) = history_of_titled::<Brand, _>(&rt, alloc, settings, Blank::new(PASSES))?;
     assert!(&rt; heard);
     assert_eq!(&rt; entries, 7);
+    Ok(())
+}
+
+/// A gate at which the hall is asked for a pass before and after each write, without waiting for its
+/// lock.
+#[derive(Drop)]
+struct Knocking<'a, H: House> {
+    hall: &'a Hall<Kept, H>,
+    knocks: Cell<u64>,
+    /// Whether the lock was ever held.
+    was_held: Cell<bool>,
+}
+
+impl<'a, H: House> Knocking<'a, H> {
+    fn knock(&self) {
+        self.knocks.set(self.knocks.get().saturating_add(1));
+        match self.hall.try_pass() {
+            Some(pass) => drop(pass),
+            None => self.was_held.set(true),
+        }
+    }
+}
+
+impl<'a, H: House> Gate for Knocking<'a, H> {
+    fn hold(&self, _id: u64) {
+        self.knock();
+    }
+
+    fn let_go(&self, _id: u64) {
+        self.knock();
+    }
+}
+
+/// Whether the hall's lock is free round the two writes of these turns: to a source, and to a
+/// listener.
+fn is_free_in_turns<H: House, R: Wait>(
+    hall: &Hall<Kept, H>,
+    station: &mut Station<Caller<R, Kept, H>>,
+) -> bool {
+    let gate = Knocking {
+        hall,
+        knocks: Cell::new(0),
+        was_held: Cell::new(false),
+    };
+    for ms in 1..5 {
+        station.turn(&gate, ms);
+    }
+    gate.knocks.get() == 4 && !gate.was_held.get()
+}
+
+/// The same, of a source and a listener who come.
+fn is_free_for<H: House, R: Wait>(
+    hall: &Hall<Kept, H>,
+    station: &mut Station<Caller<R, Kept, H>>,
+) -> Result<bool, OutOfMemory> {
+    station.come(giving(EIGHT_BYTES), 0)?;
+    station.come(giving(LATE_LISTENER), 0)?;
+    Ok(is_free_in_turns(hall, station) && station.took(1, HEARD))
+}
+
+fn is_free<H: House, R: Wait>(
+    rt: &R,
+    alloc: Global,
+    settings: Settings,
+    blank: Blank,
+) -> Result<bool, OutOfMemory>
+    requires opening { H.opening ≡ opening settings no_lists }
+    requires ledger { (blank.name ≡ H.name) × (blank.parts ≡ H.parts) × (blank.parts ≡ 2 ^ 32) }
+{
+    let hall: Hall<Kept, H> = Hall::new(alloc, settings, Lists::new(alloc), blank);
+    let Some(pass) = hall.pass(rt) else {
+        return Ok(false);
+    };
+    let mut station = Station::new(alloc, Caller::new(rt, &hall, pass));
+    let free = is_free_for(&hall, &mut station);
+    drop(station);
+    free
+}
+
+/// A lock that is held is found without waiting for it, so this ends whoever holds it.
+#[test]
+fn the_lock_is_free_while_writing(rt: HostRuntime) -> Result<(), Fail> {
+    let alloc = rt.alloc();
+    let settings = settings(alloc, "")?;
+    let free = is_free::<Brand, _>(&rt, alloc, settings, Blank::new(PASSES))?;
+    assert!(rt; free);
     Ok(())
 }

@@ -1,9 +1,9 @@
 //! A line in memory.
 
-ghost use Rattle.std.specs.Prelude.{◌≡◌, []};
+ghost use Rattle.std.specs.Prelude.{◌≡◌, ◌<◌, [], length};
 ghost use Rattle.radio_hall.specs.Lines.{HasGiven, HasTaken};
 
-use radio_hall::{Line, Received, Sent};
+use radio_hall::{CallCount, Line, Received, Sent};
 use std::alloc::Global;
 
 /// What a line does.
@@ -51,6 +51,7 @@ pub struct MemoryLine {
     writes: u64,
     given: Vec<u8>,
     taken: Vec<u8>,
+    calls: CallCount,
     is_finished: bool,
 }
 
@@ -66,6 +67,7 @@ impl MemoryLine {
             writes: 0,
             given: Vec::new(alloc),
             taken: Vec::new(alloc),
+            calls: CallCount::new(),
             is_finished: false,
         }
     }
@@ -89,6 +91,7 @@ impl MemoryLine {
     fn count_read(&mut self) -> Option<End>
         ensures given { self.new.given ≡ self.old.given }
         ensures taken { self.new.taken ≡ self.old.taken }
+        ensures calls { self.new.calls ≡ self.old.calls }
     {
         let fails = self.fails();
         let closed = self.reads >= self.manners.closes_at;
@@ -104,6 +107,7 @@ impl MemoryLine {
     fn count_write(&mut self) -> Option<bool>
         ensures given { self.new.given ≡ self.old.given }
         ensures taken { self.new.taken ≡ self.old.taken }
+        ensures calls { self.new.calls ≡ self.old.calls }
     {
         let fails = self.fails();
         let takes = self.writes < self.manners.stalls_at || self.writes >= self.manners.resumes_at;
@@ -115,6 +119,7 @@ impl MemoryLine {
     fn next_piece(&mut self) -> Option<&'static [u8]>
         ensures given { self.new.given ≡ self.old.given }
         ensures taken { self.new.taken ≡ self.old.taken }
+        ensures calls { self.new.calls ≡ self.old.calls }
     {
         let piece = *self.manners.gives.get(self.pieces)?;
         self.pieces = self.pieces.saturating_add(1);
@@ -125,6 +130,7 @@ impl MemoryLine {
     fn give(&mut self, piece: &[u8], buffer: &mut [u8]) -> Received
         ensures given { HasGiven result buffer.new self.old.given.items self.new.given.items }
         ensures taken { self.new.taken ≡ self.old.taken }
+        ensures calls { self.new.calls ≡ self.old.calls }
     {
         let count = piece.len().min(buffer.len());
         if count == 0 {
@@ -141,6 +147,7 @@ impl MemoryLine {
     fn take(&mut self, bytes: &[u8]) -> Sent
         ensures given { self.new.given ≡ self.old.given }
         ensures taken { HasTaken result bytes.now self.old.taken.items self.new.taken.items }
+        ensures calls { self.new.calls ≡ self.old.calls }
     {
         let count = bytes.len().min(self.manners.takes);
         if count == 0 {
@@ -151,14 +158,13 @@ impl MemoryLine {
             Err(_) => Sent::Fault,
         }
     }
-}
 
-impl Line for MemoryLine {
-    ghost given = { λ l. l.given.items };
-
-    ghost taken = { λ l. l.taken.items };
-
-    fn read(&mut self, buffer: &mut [u8]) -> Received {
+    /// What a read answers, before it is counted.
+    fn receive(&mut self, buffer: &mut [u8]) -> Received
+        ensures given { HasGiven result buffer.new self.old.given.items self.new.given.items }
+        ensures taken { self.new.taken ≡ self.old.taken }
+        ensures calls { self.new.calls ≡ self.old.calls }
+    {
         match self.count_read() {
             Some(End::Closed) => return Received::Closed,
             Some(End::Fault) => return Received::Fault,
@@ -170,12 +176,38 @@ impl Line for MemoryLine {
         }
     }
 
-    fn write(&mut self, bytes: &[u8]) -> Sent {
+    /// What a write answers, before it is counted.
+    fn send(&mut self, bytes: &[u8]) -> Sent
+        requires { 0 < length bytes.now }
+        ensures given { self.new.given ≡ self.old.given }
+        ensures taken { HasTaken result bytes.now self.old.taken.items self.new.taken.items }
+        ensures calls { self.new.calls ≡ self.old.calls }
+    {
         match self.count_write() {
             None => Sent::Fault,
             Some(false) => Sent::Nothing,
             Some(true) => self.take(bytes),
         }
+    }
+}
+
+impl Line for MemoryLine {
+    ghost given = { λ l. l.given.items };
+
+    ghost taken = { λ l. l.taken.items };
+
+    ghost calls = { λ l. l.calls };
+
+    fn read(&mut self, buffer: &mut [u8]) -> Received {
+        let received = self.receive(buffer);
+        self.calls.count_read(received);
+        received
+    }
+
+    fn write(&mut self, bytes: &[u8]) -> Sent {
+        let sent = self.send(bytes);
+        self.calls.count_write(sent);
+        sent
     }
 
     fn finish(&mut self) {

@@ -14,6 +14,9 @@ pub const EIGHT_BYTES: &[&[u8]] = &[SOURCE_HEAD, b"abcdefgh"];
 /// A listener.
 pub const LISTENER: &[&[u8]] = &[LISTEN_HEAD];
 
+/// A listener who asks once the source is on the air.
+pub const LATE_LISTENER: &[&[u8]] = &[b"", b"", b"", LISTEN_HEAD];
+
 /// What he hears.
 pub const HEARD: &[u8] =
     b"HTTP/1.0 200 OK\r\nContent-Type: audio/mpeg\r\nConnection: close\r\n\r\nabcdefgh";

@@ -6,14 +6,15 @@ use Rattle.radio_core.specs.declared.reply.Reply.{Reply}
 use Rattle.radio_core.specs.declared.reply.Reply.TheVariants.{Arrived, Feeding, Seated, Drawn, Noted, Deny, Finished, Stray}
 use Rattle.radio_hall.specs.declared.conn.Status.{Status}
 use Rattle.radio_hall.specs.declared.conn.Fate.TheVariants.{Open, Ended}
+use Rattle.radio_hall.specs.Lines.{Calls}
 use Rattle.radio_hall.specs.Connections.{Connection, newly_come, IsTurnedAway}
 use Rattle.radio_hall.specs.Course.{newcomer, stranger, arrives, turned_away}
 use Rattle.radio_hall.specs.Admission.{IsTakenIn}
 use Rattle.radio_hall.proofs.Standing.{stands_so}
 
-pub comes_in : (peer : Peer) (id : ℕ) (given taken : List ℕ) (ms : ℕ) → IsTakenIn peer (Arrived id) given taken (newly_come id peer given taken ms)
-comes_in peer id given taken ms g t =
-    let c = newly_come id peer given taken ms in
+pub comes_in : (peer : Peer) (id : ℕ) (given taken : List ℕ) (calls : Calls) (ms : ℕ) → IsTakenIn peer (Arrived id) given taken (newly_come id peer given taken calls ms)
+comes_in peer id given taken calls ms g t =
+    let c = newly_come id peer given taken calls ms in
     stands_so c [] _ (newcomer peer id) Open (arrives peer) (sym g) refl refl refl refl refl refl (λ o. refl) (sym (ap (λ (xs : List ℕ). xs ++ []) t))
 
 module _ (peer : Peer) (given taken : List ℕ) (ms : ℕ) (c : Connection) where

@@ -1,6 +1,7 @@
 -- Entries made for a connection, one after another.
-use Rattle.std.proofs.Common.{◌≡◌, ℕ, true, false, List, take, drop, ap, [], ◌∷◌, ◌++◌, refl, sym, subst, ◌∙◌, append_assoc, append-nil}
+use Rattle.std.proofs.Common.{◌≡◌, ◌⊎◌, inl, inr, ◌<◌, ◌≤◌, ◌-◌, ◌==◌, nat_le, suc, length, lt_irrefl, arith, ℕ, true, false, List, take, drop, ap, [], ◌∷◌, ◌++◌, refl, sym, subst, ◌∙◌, append_assoc, append-nil}
 use Rattle.std.proofs.lemmas.Bool.{false≢true}
+use Rattle.std.proofs.lemmas.Bool.Decides.{nat_tests}
 use Rattle.std.proofs.lemmas.List.{take-append-drop}
 use Rattle.radio_core.specs.declared.event.Event.{Event}
 use Rattle.radio_core.specs.declared.event.Event.TheVariants.{Draw, Leave}
@@ -11,14 +12,17 @@ use Rattle.radio_session.specs.Hearing.{Heard, IsHeard}
 use Rattle.radio_session.specs.Exchanges.{Steps}
 use Rattle.radio_hall.specs.declared.line.Received.{Received}
 use Rattle.radio_hall.specs.declared.line.Received.TheVariants.{Bytes, Nothing, Closed as HasClosed, Fault}
-use Rattle.radio_hall.specs.Lines.{HasGiven}
+use Rattle.radio_hall.specs.declared.line.Sent.{Sent}
+use Rattle.radio_hall.specs.declared.line.Sent.TheVariants.{Took, Nothing as TakesNothing, Fault as HasBroken}
+use Rattle.radio_hall.specs.Lines.{Calls, HasGiven, after_read, after_write}
 use Rattle.radio_hall.specs.Connections.{Connection, is_open}
 use Rattle.radio_hall.specs.declared.conn.Fate.{Fate}
 use Rattle.radio_hall.specs.declared.conn.Fate.TheVariants.{Open, Ended, Closed, Cut}
 use Rattle.radio_hall.specs.Course.{IsOver}
-use Rattle.radio_hall.specs.Turns.{IsWritten, StandsBefore, Stands, Chain, IsServed, Serves, EndsWithDraw, ServesInTurn}
+use Rattle.radio_hall.specs.Duties.{IsWritten, IsLater, IsOwed, IsGiven, IsAtMostLeaving, HasStalled, Cause, WasCut, HasFailed, TookNothing, WasRefused}
+use Rattle.radio_hall.specs.Turns.{StandsBefore, Stands, Chain, IsServed, HasDrawn, EndsWithDraw, ServesInTurn}
 use Rattle.radio_hall.specs.Answering.{later_by, IsAnswered, AreAnswered, IsHeardOn}
-use Rattle.radio_hall.specs.Leaving.{IsFlushed, Leaves, Draws}
+use Rattle.radio_hall.specs.Leaving.{IsFlushed, IsPatient, Listens, Works, Leaves, Draws}
 use Rattle.radio_hall.proofs.Standing.{IsOne, still, cut_off, closed_out, heard_on, passed_over, taken_on, room_on, left_on}
 
 -- what its line gave and took, what is owed, and how its session stands
@@ -31,6 +35,19 @@ pub record IsSame (c c' : Connection) : Type 0 where
 
 pub not_cut : Cut ≡ Open → ⊥
 not_cut e = cc
+
+pub ended_not_cut : (f : Fate) → f ≡ Ended → f ≡ Cut → ⊥
+ended_not_cut f e x = absurd (different (sym e ∙ x)) where
+  different : Ended ≡ Cut → ⊥
+  different e = cc
+
+pub ended_not_open : (f : Fate) → f ≡ Ended → f ≡ Open → ⊥
+ended_not_open f e x = absurd (different (sym e ∙ x)) where
+  different : Ended ≡ Open → ⊥
+  different e = cc
+
+pub closed_not_cut : Closed ≡ Cut → ⊥
+closed_not_cut e = cc
 
 pub not_closed : Closed ≡ Open → ⊥
 not_closed e = cc
@@ -68,20 +85,125 @@ later_by_nil Ended = refl
 later_by_nil Closed = refl
 later_by_nil Cut = refl
 
+-- its line was not called
+pub later_same : {c c' : Connection} → c'.calls ≡ c.calls → c'.taken ≡ c.taken → IsLater c c'
+later_same {c} {c'} calls taken = record {
+  reads = omega (arith, ap (λ (x : Calls). x.reads) calls);
+  writes = omega (arith, ap (λ (x : Calls). x.writes) calls);
+  faults = omega (arith, ap (λ (x : Calls). x.faults) calls);
+  taken = ([], taken ∙ sym (append-nil c.taken));
+}
+
+pub later_none : (c : Connection) → IsLater c c
+later_none c = later_same refl refl
+
+pub later_then : (a b c : Connection) → IsLater a b → IsLater b c → IsLater a c
+later_then a b c f g = record {
+  reads = omega (arith, f.reads, g.reads);
+  writes = omega (arith, f.writes, g.writes);
+  faults = omega (arith, f.faults, g.faults);
+  taken = (f.taken.0 ++ g.taken.0, g.taken.1 ∙ ap (λ (xs : List ℕ). xs ++ g.taken.0) f.taken.1 ∙ append_assoc a.taken f.taken.0 g.taken.0);
+}
+
+reads_after : (answer : Received) (calls : Calls) → (after_read answer calls).reads ≡ suc calls.reads
+reads_after (Bytes n) calls = refl
+reads_after Nothing calls = refl
+reads_after HasClosed calls = refl
+reads_after Fault calls = refl
+
+writes_kept : (answer : Received) (calls : Calls) → (after_read answer calls).writes ≡ calls.writes
+writes_kept (Bytes n) calls = refl
+writes_kept Nothing calls = refl
+writes_kept HasClosed calls = refl
+writes_kept Fault calls = refl
+
+faults_by_read : (answer : Received) (calls : Calls) → calls.faults ≤ (after_read answer calls).faults
+faults_by_read (Bytes n) calls = omega arith
+faults_by_read Nothing calls = omega arith
+faults_by_read HasClosed calls = omega arith
+faults_by_read Fault calls = omega arith
+
+pub reads_kept : (answer : Sent) (calls : Calls) → (after_write answer calls).reads ≡ calls.reads
+reads_kept (Took n) calls = refl
+reads_kept TakesNothing calls = refl
+reads_kept HasBroken calls = refl
+
+pub writes_after : (answer : Sent) (calls : Calls) → (after_write answer calls).writes ≡ suc calls.writes
+writes_after (Took n) calls = refl
+writes_after TakesNothing calls = refl
+writes_after HasBroken calls = refl
+
+faults_by_write : (answer : Sent) (calls : Calls) → calls.faults ≤ (after_write answer calls).faults
+faults_by_write (Took n) calls = omega arith
+faults_by_write TakesNothing calls = omega arith
+faults_by_write HasBroken calls = omega arith
+
+-- its line was read from
+pub later_by_read : {c c' : Connection} (answer : Received) → c'.calls ≡ after_read answer c.calls → c'.taken ≡ c.taken → IsLater c c'
+later_by_read {c} {c'} answer calls taken = record {
+  reads = omega (arith, ap (λ (x : Calls). x.reads) calls, reads_after answer c.calls);
+  writes = omega (arith, ap (λ (x : Calls). x.writes) calls, writes_kept answer c.calls);
+  faults = omega (arith, ap (λ (x : Calls). x.faults) calls, faults_by_read answer c.calls);
+  taken = ([], taken ∙ sym (append-nil c.taken));
+}
+
+-- or written to
+pub later_by_write : {c c' : Connection} (answer : Sent) (part : List ℕ) → c'.calls ≡ after_write answer c.calls → c'.taken ≡ c.taken ++ part → IsLater c c'
+later_by_write {c} {c'} answer part calls taken = record {
+  reads = omega (arith, ap (λ (x : Calls). x.reads) calls, reads_kept answer c.calls);
+  writes = omega (arith, ap (λ (x : Calls). x.writes) calls, writes_after answer c.calls);
+  faults = omega (arith, ap (λ (x : Calls). x.faults) calls, faults_by_write answer c.calls);
+  taken = (part, taken);
+}
+
+-- a write is one more, and no read
+pub written_once : (before after : Calls) (answer : Sent) → after ≡ after_write answer before → before.writes < after.writes
+written_once before after answer calls = omega (arith, ap (λ (x : Calls). x.writes) calls, writes_after answer before)
+
+pub unread_by_write : (before after : Calls) (answer : Sent) → after ≡ after_write answer before → after.reads ≡ before.reads
+unread_by_write before after answer calls = ap (λ (x : Calls). x.reads) calls ∙ reads_kept answer before
+
+-- where nothing is left, all was taken
+pub taken_all : (n : ℕ) (owed : List ℕ) → drop n owed ≡ [] → take n owed ≡ owed
+taken_all n owed none = sym (append-nil (take n owed)) ∙ ap (λ (xs : List ℕ). take n owed ++ xs) (sym none) ∙ take-append-drop n owed
+
+pub none_of_some : {owed : List ℕ} → 0 < length owed → owed ≡ [] → ⊥
+none_of_some {owed} some none = lt_irrefl 0 (subst (λ (xs : List ℕ). 0 < length xs) none some)
+
+-- one that was read from was asked
+pub asked_by_read : {a b m c : Connection} (answer : Received) → a ≡ b → m.calls ≡ after_read answer a.calls → IsLater m c → b.calls.reads < c.calls.reads
+asked_by_read {a} {b} {m} {c} answer e calls later =
+    omega (arith, ap (λ (o : Connection). o.calls.reads) e, ap (λ (x : Calls). x.reads) calls, reads_after answer a.calls, later.reads)
+
+pub asked_once : {a b : Connection} (after : Calls) (answer : Received) → a ≡ b → after ≡ after_read answer a.calls → b.calls.reads < after.reads
+asked_once {a} {b} after answer e calls = omega (arith, ap (λ (o : Connection). o.calls.reads) e, ap (λ (x : Calls). x.reads) calls, reads_after answer a.calls)
+
+-- what has no bytes is the empty list
+pub empty_is : (xs : List ℕ) → (length xs == 0) ≡ true → xs ≡ []
+empty_is [] e = refl
+empty_is (x ∷ xs) e = grind (arith, nat_tests, e)
+
+pub le_by : (a b : ℕ) → nat_le a b ≡ true → a ≤ b
+le_by a b e = grind (arith, nat_tests, e)
+
 pub served_then : (a b c : Connection) (xs ys : List Entry) → IsServed a xs b → IsServed b ys c → IsServed a (xs ++ ys) c
 served_then a b c xs ys f g = record {
   same = g.same ∙ f.same;
   stands = λ past st. subst (λ (zs : List Entry). Stands c zs) (append_assoc past xs ys) (g.stands (past ++ xs) (f.stands past st));
+  later = later_then a b c f.later g.later;
 }
 
 -- no entry was made
-pub served_by_none : (a b : Connection) → b.id ≡ a.id → ((past : List Entry) → Stands a past → Stands b past) → IsServed a [] b
-served_by_none a b same keeps = record { same = same; stands = λ past st. subst (λ (zs : List Entry). Stands b zs) (sym (append-nil past)) (keeps past st) }
+pub served_by_none : (a b : Connection) → b.id ≡ a.id → IsLater a b → ((past : List Entry) → Stands a past → Stands b past) → IsServed a [] b
+served_by_none a b same later keeps = record { same = same; stands = λ past st. subst (λ (zs : List Entry). Stands b zs) (sym (append-nil past)) (keeps past st); later = later }
 
 -- the same, told of an equal connection
 
-pub flushed_as : {a b c : Connection} → a ≡ b → IsFlushed a c → IsFlushed b c
-flushed_as {a} {b} {c} e = subst (λ (o : Connection). IsFlushed o c) e
+pub flushed_as : {ms : ℕ} {a b c : Connection} → a ≡ b → IsFlushed ms a c → IsFlushed ms b c
+flushed_as {ms} {a} {b} {c} e = subst (λ (o : Connection). IsFlushed ms o c) e
+
+pub patient_as : {ms patience : ℕ} {a b c : Connection} → a ≡ b → IsPatient ms patience a c → IsPatient ms patience b c
+patient_as {ms} {patience} {a} {b} {c} e = subst (λ (o : Connection). IsPatient ms patience o c) e
 
 pub served_as : {a b c : Connection} {xs : List Entry} → a ≡ b → IsServed a xs c → IsServed b xs c
 served_as {a} {b} {c} {xs} e = subst (λ (o : Connection). IsServed o xs c) e
@@ -90,81 +212,86 @@ pub answered_as_one : {a b c : Connection} {event : Event} {xs : List Entry} →
 answered_as_one {a} {b} {c} {event} {xs} e = subst (λ (o : Connection). IsAnswered event o xs c) e
 
 -- it is cut off
-pub served_by_cut : (c c' : Connection) → IsOne c c' → c'.given ≡ c.given → c'.taken ≡ c.taken → c'.status.fate ≡ Cut → IsServed c [] c'
-served_by_cut c c' one given taken fate = served_by_none c c' one.id (λ past st. cut_off c c' [] past one st [] (given ∙ sym (append-nil c.given)) taken fate)
+pub served_by_cut : (c c' : Connection) → IsOne c c' → IsLater c c' → c'.given ≡ c.given → c'.taken ≡ c.taken → c'.status.fate ≡ Cut → IsServed c [] c'
+served_by_cut c c' one calls given taken fate = served_by_none c c' one.id calls (λ past st. cut_off c c' [] past one st [] (given ∙ sym (append-nil c.given)) taken fate)
 
 -- or was cut off with an event
-pub answered_by_cut : (c c' : Connection) (event : Event) → IsOne c c' → c'.given ≡ c.given → c'.taken ≡ c.taken → c'.status.fate ≡ Cut → IsAnswered event c [] c'
-answered_by_cut c c' event one given taken fate = record {
+pub answered_by_cut : (c c' : Connection) (event : Event) → IsOne c c' → IsLater c c' → c'.given ≡ c.given → c'.taken ≡ c.taken → c'.status.fate ≡ Cut → IsAnswered event c [] c'
+answered_by_cut c c' event one calls given taken fate = record {
   same = one.id;
   made = λ goes. absurd (not_cut (sym fate ∙ goes));
   seat = λ other. one.sits;
   stands = λ later past st.
       subst (λ (es : List Event). StandsBefore es c' (past ++ [])) (ap (λ (f : Fate). later_by f later) (sym fate))
       (subst (λ (es : List Entry). Stands c' es) (sym (append-nil past)) (cut_off c c' (event ∷ later) past one st [] (given ∙ sym (append-nil c.given)) taken fate));
+  later = calls;
 }
 
 -- its line takes some of what is owed
-pub served_by_write : (c c' : Connection) (n : ℕ) → IsOne c c' → IsWritten c.status.fate → c'.owed ≡ drop n c.owed → c'.given ≡ c.given → c'.taken ≡ c.taken ++ take n c.owed → c'.session ≡ c.session
+pub served_by_write : (c c' : Connection) (n : ℕ) → IsOne c c' → IsLater c c' → IsWritten c.status.fate → c'.owed ≡ drop n c.owed → c'.given ≡ c.given → c'.taken ≡ c.taken ++ take n c.owed → c'.session ≡ c.session
     → c'.status.fate ≡ c.status.fate → IsServed c [] c'
-served_by_write c c' n one goes owed given taken session fate =
-    served_by_none c c' one.id (λ past st. taken_on c c' past one st goes (take n c.owed) (sym (take-append-drop n c.owed) ∙ ap (λ (xs : List ℕ). take n c.owed ++ xs) (sym owed)) given taken session fate)
+served_by_write c c' n one calls goes owed given taken session fate =
+    served_by_none c c' one.id calls (λ past st. taken_on c c' past one st goes (take n c.owed) (sym (take-append-drop n c.owed) ∙ ap (λ (xs : List ℕ). take n c.owed ++ xs) (sym owed)) given taken session fate)
 
 -- other things are noted
-pub served_by_note : (c c' : Connection) → IsOne c c' → IsSame c c' → c'.status.fate ≡ c.status.fate → IsServed c [] c'
-served_by_note c c' one same fate = served_by_none c c' one.id (λ past st. still c c' [] past one st same.given same.taken same.owed same.session fate)
+pub served_by_note : (c c' : Connection) → IsOne c c' → IsLater c c' → IsSame c c' → c'.status.fate ≡ c.status.fate → IsServed c [] c'
+served_by_note c c' one calls same fate = served_by_none c c' one.id calls (λ past st. still c c' [] past one st same.given same.taken same.owed same.session fate)
 
 -- a draw is answered
 pub served_by_draw : (c c' : Connection) (room : ℕ) (entries : List Entry) → c.status.fate ≡ Open → IsAnswered (Draw c.id room) c entries c' → IsServed c entries c'
 served_by_draw c c' room entries goes a = record {
   same = a.same;
   stands = λ past st. subst (λ (es : List Event). StandsBefore es c' (past ++ entries)) (later_by_nil c'.status.fate) (a.stands [] past (room_on c past goes room st));
+  later = a.later;
 }
 
 -- bytes that its line gave are heard, and answered
-pub heard_so : (c m c' : Connection) (bytes : List ℕ) (heard : Heard) (entries : List Entry) → c.status.fate ≡ Open → IsHeard c.session bytes heard → IsOne c m → m.given ≡ c.given
+pub heard_so : (c m c' : Connection) (bytes : List ℕ) (heard : Heard) (entries : List Entry) → c.status.fate ≡ Open → IsHeard c.session bytes heard → IsOne c m → IsLater c m → m.given ≡ c.given
     → m.taken ≡ c.taken → m.owed ≡ c.owed → m.session ≡ heard.conversation → m.status.fate ≡ c.status.fate → AreAnswered heard.events m entries c' → IsHeardOn bytes c entries c'
-heard_so c m c' bytes heard entries goes is one given taken owed session fate a = record {
+heard_so c m c' bytes heard entries goes is one calls given taken owed session fate a = record {
   same = a.same ∙ one.id;
   stands = λ before past now st.
       a.stands past (heard_on (record c { given = before }) m past (record { id = one.id; sits = one.sits; left = one.left }) st goes bytes heard is (given ∙ now) taken owed session fate);
+  later = later_then c m c' calls a.later;
 }
 
 -- or are not heard
-pub heard_by_cut : (c c' : Connection) (bytes : List ℕ) → IsOne c c' → c'.given ≡ c.given → c'.taken ≡ c.taken → c'.status.fate ≡ Cut → IsHeardOn bytes c [] c'
-heard_by_cut c c' bytes one given taken fate = record {
+pub heard_by_cut : (c c' : Connection) (bytes : List ℕ) → IsOne c c' → IsLater c c' → c'.given ≡ c.given → c'.taken ≡ c.taken → c'.status.fate ≡ Cut → IsHeardOn bytes c [] c'
+heard_by_cut c c' bytes one calls given taken fate = record {
   same = one.id;
   stands = λ before past now st.
       subst (λ (es : List Entry). Stands c' es) (sym (append-nil past))
       (cut_off (record c { given = before }) c' [] past (record { id = one.id; sits = one.sits; left = one.left }) st bytes (given ∙ now) taken fate);
+  later = calls;
 }
 
 pub heard_on_one : {a b c : Connection} {bytes : List ℕ} {xs : List Entry} → a ≡ b → IsHeardOn bytes a xs c → IsHeardOn bytes b xs c
 heard_on_one {a} {b} {c} {bytes} {xs} e = subst (λ (o : Connection). IsHeardOn bytes o xs c) e
 
 -- its line gives bytes, and they are heard
-pub served_by_hearing : (c m c' : Connection) (bytes : List ℕ) (entries : List Entry) → IsOne c m → m.given ≡ c.given ++ bytes → m.taken ≡ c.taken → m.owed ≡ c.owed → m.session ≡ c.session
+pub served_by_hearing : (c m c' : Connection) (bytes : List ℕ) (entries : List Entry) → IsOne c m → IsLater c m → m.given ≡ c.given ++ bytes → m.taken ≡ c.taken → m.owed ≡ c.owed → m.session ≡ c.session
     → m.status.fate ≡ c.status.fate → IsHeardOn bytes m entries c' → IsServed c entries c'
-served_by_hearing c m c' bytes entries one given taken owed session fate h = record {
+served_by_hearing c m c' bytes entries one calls given taken owed session fate h = record {
   same = h.same ∙ one.id;
   stands = λ past st.
       h.stands c.given past given (still c (record m { given = c.given }) [] past (record { id = one.id; sits = one.sits; left = one.left }) st refl taken owed session fate);
+  later = later_then c m c' calls h.later;
 }
 
 -- its line has closed
-pub served_by_close : (c c' : Connection) → IsOne c c' → IsWritten c.status.fate → c.owed ≡ [] → c'.given ≡ c.given → c'.taken ≡ c.taken → c'.status.fate ≡ Closed → IsServed c [] c'
-served_by_close c c' one goes owed given taken fate = served_by_none c c' one.id (λ past st. closed_out c c' past one st goes owed given taken fate)
+pub served_by_close : (c c' : Connection) → IsOne c c' → IsLater c c' → IsWritten c.status.fate → c.owed ≡ [] → c'.given ≡ c.given → c'.taken ≡ c.taken → c'.status.fate ≡ Closed → IsServed c [] c'
+served_by_close c c' one calls goes owed given taken fate = served_by_none c c' one.id calls (λ past st. closed_out c c' past one st goes owed given taken fate)
 
 -- what came after its end is passed over
-pub served_by_passing : (c c' : Connection) (bytes : List ℕ) → IsOne c c' → c.status.fate ≡ Ended → c'.given ≡ c.given ++ bytes → c'.taken ≡ c.taken → c'.owed ≡ c.owed → c'.status.fate ≡ Ended → IsServed c [] c'
-served_by_passing c c' bytes one ended given taken owed fate = served_by_none c c' one.id (λ past st. passed_over c c' past one st ended bytes given taken owed fate)
+pub served_by_passing : (c c' : Connection) (bytes : List ℕ) → IsOne c c' → IsLater c c' → c.status.fate ≡ Ended → c'.given ≡ c.given ++ bytes → c'.taken ≡ c.taken → c'.owed ≡ c.owed → c'.status.fate ≡ Ended → IsServed c [] c'
+served_by_passing c c' bytes one calls ended given taken owed fate = served_by_none c c' one.id calls (λ past st. passed_over c c' past one st ended bytes given taken owed fate)
 
-pub served_by_read_on : (c c' : Connection) (answer : Received) (buffer : List ℕ) → IsOne c c' → c.status.fate ≡ Ended → HasGiven answer buffer c.given c'.given → c'.taken ≡ c.taken → c'.owed ≡ c.owed
+pub served_by_read_on : (c c' : Connection) (answer : Received) (buffer : List ℕ) → IsOne c c' → IsLater c c' → c.status.fate ≡ Ended → HasGiven answer buffer c.given c'.given → c'.taken ≡ c.taken → c'.owed ≡ c.owed
     → c'.session ≡ c.session → c'.status.fate ≡ Ended → IsServed c [] c'
-served_by_read_on c c' (Bytes n) buffer one ended given taken owed session fate = served_by_passing c c' (take n buffer) one ended given.1 taken owed fate
-served_by_read_on c c' Nothing buffer one ended given taken owed session fate = served_by_note c c' one (record { id = one.id; given = given; taken = taken; owed = owed; session = session }) (fate ∙ sym ended)
-served_by_read_on c c' HasClosed buffer one ended given taken owed session fate = served_by_note c c' one (record { id = one.id; given = given; taken = taken; owed = owed; session = session }) (fate ∙ sym ended)
-served_by_read_on c c' Fault buffer one ended given taken owed session fate = served_by_note c c' one (record { id = one.id; given = given; taken = taken; owed = owed; session = session }) (fate ∙ sym ended)
+served_by_read_on c c' (Bytes n) buffer one calls ended given taken owed session fate = served_by_passing c c' (take n buffer) one calls ended given.1 taken owed fate
+served_by_read_on c c' Nothing buffer one calls ended given taken owed session fate = served_by_note c c' one calls (record { id = one.id; given = given; taken = taken; owed = owed; session = session }) (fate ∙ sym ended)
+served_by_read_on c c' HasClosed buffer one calls ended given taken owed session fate = served_by_note c c' one calls (record { id = one.id; given = given; taken = taken; owed = owed; session = session }) (fate ∙ sym ended)
+served_by_read_on c c' Fault buffer one calls ended given taken owed session fate = served_by_note c c' one calls (record { id = one.id; given = given; taken = taken; owed = owed; session = session }) (fate ∙ sym ended)
 
 module _ {S : Type 0} (steps : Steps S) where
   pub chain_then : (from mid to : S) (xs ys : List Entry) → Chain steps from xs mid → Chain steps mid ys to → Chain steps from (xs ++ ys) to
@@ -174,35 +301,36 @@ module _ {S : Type 0} (steps : Steps S) where
   pub chain_one : (from to : S) (e : Entry) → steps from e.event e.reply to → Chain steps from (e ∷ []) to
   chain_one from to e s = (to, s, refl)
 
-  pub serves_then : (from mid to : S) (a b c : Connection) → Serves steps from a mid b → Serves steps mid b to c → Serves steps from a to c
-  serves_then from mid to a b c f g = (f.0 ++ g.0, chain_then from mid to f.0 g.0 f.1 g.1, served_then a b c f.0 g.0 f.2 g.2)
-
-  -- the server was not asked
-  pub serves_alone : (from : S) (a b : Connection) → IsServed a [] b → Serves steps from a from b
-  serves_alone from a b f = ([], refl, f)
-
-  -- nothing was done
-  pub serves_nothing : (from : S) (a : Connection) → Serves steps from a from a
-  serves_nothing from a = serves_alone from a a (served_by_none a a refl (λ past st. st))
-
   -- its client leaves
-  pub leaves_so : (from to : S) (c c' : Connection) → ((reply : Reply) × steps from (Leave c.id) reply to) → is_open c.status.fate ≡ false → c.status.has_left ≡ false → IsSame c c'
+  pub leaves_so : (from to : S) (c c' : Connection) → ((reply : Reply) × steps from (Leave c.id) reply to) → is_open c.status.fate ≡ false → c.status.has_left ≡ false → IsSame c c' → c'.calls ≡ c.calls
       → c'.status.fate ≡ c.status.fate → c'.status.sits ≡ c.status.sits → c'.status.has_left ≡ true → Leaves steps from c to c'
-  leaves_so from to c c' r over here same fate sits left = (
-    entry (Leave c.id) r.0 ∷ [],
-    chain_one from to (entry (Leave c.id) r.0) r.1,
-    record {
+  leaves_so from to c c' r over here same calls fate sits left = record {
+    entries = entry (Leave c.id) r.0 ∷ [];
+    chain = chain_one from to (entry (Leave c.id) r.0) r.1;
+    served = record {
       same = same.id;
       stands = λ past st. left_on c c' past r.0 same.id (over_from c.status.fate over) here same.given same.taken same.owed same.session fate sits left st;
-    },
-    (λ goes. absurd (not_over c.status.fate over goes)),
-    fate,
-    sits,
-  )
+      later = later_same calls same.taken;
+    };
+    alone = λ goes. absurd (not_over c.status.fate over goes);
+    leaving = inr (r.0, refl);
+    fate = fate;
+    sits = sits;
+    unread = ap (λ (x : Calls). x.reads) calls;
+  }
 
   -- or has left before, or is not over, or is refused it
   pub leaves_nothing : {from to : S} {c : Connection} → to ≡ from → Leaves steps from c to c
-  leaves_nothing {from} {to} {c} e = ([], e, served_by_none c c refl (λ past st. st), (λ goes. refl), refl, refl)
+  leaves_nothing {from} {to} {c} e = record {
+    entries = [];
+    chain = e;
+    served = served_by_none c c refl (later_none c) (λ past st. st);
+    alone = λ goes. refl;
+    leaving = inl refl;
+    fate = refl;
+    sits = refl;
+    unread = refl;
+  }
 
   pub leaves_as : {from to : S} {a b c : Connection} → a ≡ b → Leaves steps from a to c → Leaves steps from b to c
   leaves_as {from} {to} {a} {b} {c} e = subst (λ (o : Connection). Leaves steps from o to c) e
@@ -212,46 +340,94 @@ module _ {S : Type 0} (steps : Steps S) where
 
   -- one who has no seat, or does not go on, need not draw
   pub draws_nothing : (from : S) (c : Connection) → (c.status.sits ≡ true → c.status.fate ≡ Open → ⊥) → Draws steps from c from c
-  draws_nothing from c idle = ([], refl, served_by_none c c refl (λ past st. st), (λ sits goes. absurd (idle sits goes)), refl)
-
-  pub serves_as : {from to : S} {a b c : Connection} → a ≡ b → Serves steps from a to c → Serves steps from b to c
-  serves_as {from} {to} {a} {b} {c} e = subst (λ (o : Connection). Serves steps from o to c) e
-
-  pub serves_nobody : {from to : S} {a : Connection} → to ≡ from → Serves steps from a to a
-  serves_nobody {from} {to} {a} e = subst (λ (s : S). Serves steps from a s a) (sym e) (serves_nothing from a)
+  draws_nothing from c idle = ([], refl, served_by_none c c refl (later_none c) (λ past st. st), (λ sits goes. absurd (idle sits goes)), refl)
 
   -- a connection is read from, and then drawn for
-  pub works_in_turn : {from mid to : S} {a b m n c : Connection} → a ≡ b → IsServed a [] m → Serves steps from m mid n → Draws steps mid n to c → ServesInTurn steps from b to c
-  works_in_turn {from} {mid} {to} {a} {b} {m} {n} {c} e first heard drew = subst (λ (o : Connection). ServesInTurn steps from o to c) e (
-    heard.0 ++ drew.0,
-    chain_then from mid to heard.0 drew.0 heard.1 drew.1,
-    served_then a m c [] (heard.0 ++ drew.0) first (served_then m n c heard.0 drew.0 heard.2 drew.2),
-    (λ none goes sits.
+  pub works_in_turn : {from mid to : S} {a b m n c : Connection} → a ≡ b → a.status.fate ≡ Open → m.calls ≡ a.calls → IsServed a [] m → Listens steps from m mid n → Draws steps mid n to c → Works steps from b to c
+  works_in_turn {from} {mid} {to} {a} {b} {m} {n} {c} e goes calls first heard drew = subst (λ (o : Connection). Works steps from o to c) e (record {
+    entries = heard.0 ++ drew.0;
+    chain = chain_then from mid to heard.0 drew.0 heard.1 drew.1;
+    served = served_then a m c [] (heard.0 ++ drew.0) first (served_then m n c heard.0 drew.0 heard.2 drew.2);
+    drawn = λ none goes sits.
         let last = drew.3 (sym drew.4 ∙ sits) goes in
-        subst (λ (id : ℕ). EndsWithDraw id (heard.0 ++ drew.0)) (heard.2.same ∙ first.same) (heard.0, last.0, ap (λ (xs : List Entry). heard.0 ++ xs) last.1)),
-  )
+        subst (λ (id : ℕ). EndsWithDraw id (heard.0 ++ drew.0)) (heard.2.same ∙ first.same) (heard.0, last.0, ap (λ (xs : List Entry). heard.0 ++ xs) last.1);
+    asked = λ o. omega (arith, ap (λ (x : Calls). x.reads) calls, heard.3, drew.2.later.reads);
+    cut = λ o. inr goes;
+  })
 
   -- the server is not asked for one who does not go on
-  pub rests_in_turn : (from : S) {c c' : Connection} → IsServed c [] c' → (c'.status.fate ≡ Open → ⊥) → ServesInTurn steps from c from c'
-  rests_in_turn from {c} {c'} served over = ([], refl, served, λ none goes sits. absurd (over goes))
+  pub rests_in_turn : (from : S) {c c' : Connection} → IsServed c [] c' → (c.status.fate ≡ Open → ⊥) → (c'.status.fate ≡ Open → ⊥) → (c'.status.fate ≡ Cut → c.status.fate ≡ Cut) → Works steps from c from c'
+  rests_in_turn from {c} {c'} served over_before over cut = record {
+    entries = [];
+    chain = refl;
+    served = served;
+    drawn = λ none goes sits. absurd (over goes);
+    asked = λ goes. absurd (over_before goes);
+    cut = λ e. inl (cut e);
+  }
 
-  -- a connection is written to and served, its client leaves if it is over, and it is written to again
-  pub served_in_turn : {from one two to : S} {a b c d e f : Connection} → IsFlushed a b → ServesInTurn steps from b one c → Leaves steps one c two d → IsFlushed d e → Leaves steps two e to f
-      → ServesInTurn steps from a to f
-  served_in_turn {from} {one} {two} {to} {a} {b} {c} {d} {e} {f} first works left last over = (
-    works.0 ++ (left.0 ++ over.0),
-    chain_then from one to works.0 (left.0 ++ over.0) works.1 (chain_then one two to left.0 over.0 left.1 over.1),
-    served_then a b f [] (works.0 ++ (left.0 ++ over.0)) first.served
-        (served_then b c f works.0 (left.0 ++ over.0) works.2 (served_then c d f left.0 over.0 left.2 (served_then d e f [] over.0 last.served over.2))),
-    (λ none goes sits.
-        let at_e = sym over.4 ∙ goes in
-        let at_c = sym left.4 ∙ last.goes at_e in
-        let drawn = works.3 (first.none none) at_c (sym left.5 ∙ sym last.sits ∙ sym over.5 ∙ sits) in
-        let alone : works.0 ++ (left.0 ++ over.0) ≡ works.0 = ap (λ (xs : List Entry). works.0 ++ (xs ++ over.0)) (left.3 at_c) ∙ ap (λ (xs : List Entry). works.0 ++ xs) (over.3 at_e) ∙ append-nil works.0 in
-        subst (λ (id : ℕ). EndsWithDraw id (works.0 ++ (left.0 ++ over.0))) first.served.same (drawn.0, drawn.1, alone ∙ drawn.2)),
-  )
+  -- why it is cut off, once it was worked for
+  cause_of : {from one : S} {ms patience : ℕ} {a b c d e f : Connection} → IsFlushed ms a b → b.owed ≡ [] → Works steps from b one c → IsLater c d → d.status.fate ≡ c.status.fate → IsFlushed ms d e → IsLater e f → f.status.fate ≡ e.status.fate
+      → f.status.fate ≡ Cut → Cause ms patience a f
+  cause_of {from} {one} {ms} {patience} {a} {b} {c} {d} {e} {f} first none works on left last over same cut = by_last (last.cut (sym same ∙ cut)) where
+    grown : b.calls.faults ≤ f.calls.faults
+    grown = omega (arith, works.served.later.faults, on.faults, last.served.later.faults, over.faults)
+
+    by_first : (a.status.fate ≡ Cut) ⊎ (a.calls.faults < b.calls.faults) → Cause ms patience a f
+    by_first (inl was) = WasCut was
+    by_first (inr more) = HasFailed (omega (arith, more, grown))
+
+    by_work : (b.status.fate ≡ Cut) ⊎ (b.status.fate ≡ Open) → Cause ms patience a f
+    by_work (inl was) = by_first (first.cut was)
+    by_work (inr goes) = WasRefused (first.goes goes) (omega (arith, first.served.later.reads, works.asked goes, on.reads, last.served.later.reads, over.reads))
+
+    by_last : (d.status.fate ≡ Cut) ⊎ (d.calls.faults < e.calls.faults) → Cause ms patience a f
+    by_last (inl was) = by_work (works.cut (sym left ∙ was))
+    by_last (inr more) = HasFailed (omega (arith, first.served.later.faults, works.served.later.faults, on.faults, more, over.faults))
+
+  -- a connection is written to and worked for, its client leaves if it is over, and it is written to again
+  pub served_in_turn : {from one two to : S} {ms patience : ℕ} {a b c d e f : Connection} → IsFlushed ms a b → b.owed ≡ [] → Works steps from b one c → Leaves steps one c two d → IsFlushed ms d e → Leaves steps two e to f
+      → ServesInTurn steps ms patience from a to f
+  served_in_turn {from} {one} {two} {to} {ms} {patience} {a} {b} {c} {d} {e} {f} first none works left last over = record {
+    entries = works.entries ++ (left.entries ++ over.entries);
+    chain = chain_then from one to works.entries (left.entries ++ over.entries) works.chain (chain_then one two to left.entries over.entries left.chain over.chain);
+    served =
+        served_then a b f [] (works.entries ++ (left.entries ++ over.entries)) first.served
+        (served_then b c f works.entries (left.entries ++ over.entries) works.served (served_then c d f left.entries over.entries left.served (served_then d e f [] over.entries last.served over.served)));
+    drawn = λ nothing goes sits.
+        let at_e = sym over.fate ∙ goes in
+        let at_c = sym left.fate ∙ last.goes at_e in
+        let drawn = works.drawn (first.none nothing) at_c (sym left.sits ∙ sym last.sits ∙ sym over.sits ∙ sits) in
+        let alone : works.entries ++ (left.entries ++ over.entries) ≡ works.entries = ap (λ (xs : List Entry). works.entries ++ (xs ++ over.entries)) (left.alone at_c) ∙ ap (λ (xs : List Entry). works.entries ++ xs) (over.alone at_e) ∙ append-nil works.entries in
+        subst (λ (id : ℕ). EndsWithDraw id (works.entries ++ (left.entries ++ over.entries))) first.served.same (drawn.0, drawn.1, alone ∙ drawn.2);
+    asked = λ goes nothing. omega (arith, first.served.later.reads, works.asked (first.idle nothing ∙ goes), left.served.later.reads, last.served.later.reads, over.served.later.reads);
+    given = λ goes some. omega (arith, first.given goes some, works.served.later.writes, left.served.later.writes, last.served.later.writes, over.served.later.writes);
+    waited = inl (rest.taken.0, rest.taken.1 ∙ ap (λ (xs : List ℕ). xs ++ rest.taken.0) (first.all none));
+    cut = cause_of first none works left.served.later left.fate last over.served.later over.fate;
+  } where
+    rest : IsLater b f
+    rest = later_then b c f works.served.later (later_then c d f left.served.later (later_then d e f last.served.later over.served.later))
 
   -- a connection is written to, and still owed something
-  pub kept_in_turn : {from to : S} {a b c : Connection} → IsFlushed a b → (b.owed ≡ [] → ⊥) → Leaves steps from b to c → ServesInTurn steps from a to c
-  kept_in_turn {from} {to} {a} {b} {c} first some left =
-      (left.0, left.1, served_then a b c [] left.0 first.served left.2, λ none goes sits. absurd (some (first.none none)))
+  pub kept_in_turn : {from to : S} {ms patience : ℕ} {a b m c : Connection} → IsFlushed ms a b → (b.owed ≡ [] → ⊥) → IsPatient ms patience b m → Leaves steps from m to c → ServesInTurn steps ms patience from a to c
+  kept_in_turn {from} {to} {ms} {patience} {a} {b} {m} {c} first some rests left = record {
+    entries = left.entries;
+    chain = left.chain;
+    served = served_then a b c [] left.entries first.served (served_then b m c [] left.entries rests.served left.served);
+    drawn = λ none goes sits. absurd (some (first.none none));
+    asked = λ goes none. absurd (some (first.none none));
+    given = λ goes owed. omega (arith, first.given goes owed, rests.served.later.writes, left.served.later.writes);
+    waited = inr (left.unread ∙ rests.unread ∙ first.unread, subst (λ (id : ℕ). IsAtMostLeaving id left.entries) (rests.served.same ∙ first.served.same) left.leaving);
+    cut = λ cut. by_wait (rests.cut (sym left.fate ∙ cut));
+  } where
+    by_moment : (b.status.moved_ms ≡ a.status.moved_ms) ⊎ (b.status.moved_ms ≡ ms) → HasStalled ms patience b → HasStalled ms patience a
+    by_moment (inl same) stalled = omega (arith, same, stalled)
+    by_moment (inr now) stalled = omega (arith, now, stalled)
+
+    by_first : (a.status.fate ≡ Cut) ⊎ (a.calls.faults < b.calls.faults) → Cause ms patience a c
+    by_first (inl was) = WasCut was
+    by_first (inr more) = HasFailed (omega (arith, more, rests.served.later.faults, left.served.later.faults))
+
+    by_wait : (b.status.fate ≡ Cut) ⊎ HasStalled ms patience b → Cause ms patience a c
+    by_wait (inl was) = by_first (first.cut was)
+    by_wait (inr stalled) = TookNothing (by_moment first.moved stalled)

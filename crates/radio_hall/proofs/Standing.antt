@@ -15,7 +15,8 @@ use Rattle.radio_hall.specs.declared.conn.Fate.{Fate}
 use Rattle.radio_hall.specs.declared.conn.Fate.TheVariants.{Open, Ended, Closed, Cut}
 use Rattle.radio_hall.specs.Connections.{Connection}
 use Rattle.radio_hall.specs.Course.{Standing, Course, IsOver, fate_by, pending_by, answered, is_seat, hears, has_room, applies, closes, is_cut, passes_over, leaves}
-use Rattle.radio_hall.specs.Turns.{IsHanded, IsWritten, StandsBefore, Stands}
+use Rattle.radio_hall.specs.Duties.{IsWritten}
+use Rattle.radio_hall.specs.Turns.{IsHanded, StandsBefore, Stands}
 use Rattle.radio_hall.specs.Answering.{IsToldAs, later_by}
 
 -- its number, its seat and whether its client has left

@@ -10,6 +10,7 @@ use Rattle.radio_hall.specs.declared.conn.Fate.{Fate}
 use Rattle.radio_hall.specs.declared.conn.Fate.TheVariants.{Open, Cut}
 use Rattle.radio_hall.specs.Connections.{Connection}
 use Rattle.radio_hall.specs.Course.{fate_by, is_listen}
+use Rattle.radio_hall.specs.Duties.{IsLater}
 use Rattle.radio_hall.specs.Turns.{StandsBefore, Stands}
 
 -- With this fate, a connection was told the reply: its bytes are owed behind the others, and its session stands as it does then. Where it is cut off, nothing is said.
@@ -30,13 +31,16 @@ pub record IsAnswered (event : Event) (c : Connection) (entries : List Entry) (c
   pub made : c'.status.fate ≡ Open → (reply : Reply) × (entries ≡ entry event reply ∷ [])
   pub seat : is_listen event ≡ false → c'.status.sits ≡ c.status.sits
   pub stands : (later : List Event) (past : List Entry) → StandsBefore (event ∷ later) c past → StandsBefore (later_by c'.status.fate later) c' (past ++ entries)
+  pub later : IsLater c c'
 
 -- its events were applied, up to its end
 pub record AreAnswered (events : List Event) (c : Connection) (entries : List Entry) (c' : Connection) : Type 0 where
   pub same : c'.id ≡ c.id
   pub stands : (past : List Entry) → StandsBefore events c past → Stands c' (past ++ entries)
+  pub later : IsLater c c'
 
 -- bytes that its line gave last are heard, and answered
 pub record IsHeardOn (bytes : List ℕ) (c : Connection) (entries : List Entry) (c' : Connection) : Type 0 where
   pub same : c'.id ≡ c.id
   pub stands : (given : List ℕ) (past : List Entry) → c.given ≡ given ++ bytes → Stands (record c { given = given }) past → Stands c' (past ++ entries)
+  pub later : IsLater c c'

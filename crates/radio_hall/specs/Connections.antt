@@ -7,17 +7,19 @@ use Rattle.radio_session.specs.Saying.{said}
 use Rattle.radio_hall.specs.declared.conn.Fate.{Fate}
 use Rattle.radio_hall.specs.declared.conn.Fate.TheVariants.{Open, Ended, Closed, Cut}
 use Rattle.radio_hall.specs.declared.conn.Status.{Status}
+use Rattle.radio_hall.specs.Lines.{Calls}
 
 abbrev pub is_open : Fate → Bool
 is_open Open = true
 is_open fate = false
 
--- the number of its client, all that its line gave and took, what is owed to the line, how its session stands, and what its worker notes of it
+-- the number of its client, all that its line gave and took, how often it was called, what is owed to the line, how its session stands, and what its worker notes of it
 pub record Connection : Type 0 where
   -- 0 where it is nobody's
   pub id : ℕ
   pub given : List ℕ
   pub taken : List ℕ
+  pub calls : Calls
   pub owed : List ℕ
   pub session : Conversation
   pub status : Status
@@ -26,9 +28,9 @@ pub record Connection : Type 0 where
 abbrev pub status_at : Fate → Bool → ℕ → Status
 status_at fate has_left ms = record { fate = fate; has_left = has_left; sits = false; is_finished = false; asked_ms = ms; moved_ms = ms }
 
--- a client was let in, whose line gave and took this
-abbrev pub newly_come : ℕ → Peer → List ℕ → List ℕ → ℕ → Connection
-newly_come id peer given taken ms = record { id = id; given = given; taken = taken; owed = []; session = fresh id peer; status = status_at Open false ms }
+-- a client was let in, whose line gave and took this, and was called so often
+abbrev pub newly_come : ℕ → Peer → List ℕ → List ℕ → Calls → ℕ → Connection
+newly_come id peer given taken calls ms = record { id = id; given = given; taken = taken; calls = calls; owed = []; session = fresh id peer; status = status_at Open false ms }
 
 -- it is still to be served: it is not over, or its client has not left
 abbrev pub stays_with : Fate → Bool → Bool

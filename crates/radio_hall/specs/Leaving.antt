@@ -1,28 +1,66 @@
 -- What each part of a connection's turn leaves of it.
-use Rattle.std.specs.Prelude.{◌≡◌, ℕ, true, false, List, []}
+use Rattle.std.specs.Prelude.{◌≡◌, ◌<◌, ◌≤◌, ◌⊎◌, ℕ, true, false, List, [], ◌++◌}
 use Rattle.radio_book.specs.declared.entry.Entry.{Entry}
 use Rattle.radio_session.specs.Exchanges.{Steps}
-use Rattle.radio_hall.specs.declared.conn.Fate.TheVariants.{Open}
+use Rattle.radio_hall.specs.declared.conn.Fate.TheVariants.{Open, Cut}
 use Rattle.radio_hall.specs.Connections.{Connection, is_open}
-use Rattle.radio_hall.specs.Turns.{Chain, IsServed, IsOneDraw}
+use Rattle.radio_hall.specs.Duties.{IsGiven, IsAtMostLeaving, HasStalled}
+use Rattle.radio_hall.specs.Turns.{Chain, IsServed, IsOneDraw, HasDrawn}
 
--- it was written to: it goes on only if it did before, and is owed nothing new
-pub record IsFlushed (c c' : Connection) : Type 0 where
+-- it was cut off before, or its line has failed
+abbrev pub IsCutByFault : Connection → Connection → Type 0
+IsCutByFault c c' = c'.status.fate ≡ Cut → (c.status.fate ≡ Cut) ⊎ (c.calls.faults < c'.calls.faults)
+
+-- at this moment it was written to: it goes on only if it did before, and is owed nothing new
+pub record IsFlushed (ms : ℕ) (c c' : Connection) : Type 0 where
   pub served : IsServed c [] c'
   pub goes : c'.status.fate ≡ Open → c.status.fate ≡ Open
   pub sits : c'.status.sits ≡ c.status.sits
   pub none : c.owed ≡ [] → c'.owed ≡ []
+  pub all : c'.owed ≡ [] → c'.taken ≡ c.taken ++ c.owed
+  pub idle : c.owed ≡ [] → c'.status.fate ≡ c.status.fate
+  pub unread : c'.calls.reads ≡ c.calls.reads
+  pub given : IsGiven c c'
+  pub cut : IsCutByFault c c'
+  pub moved : (c'.status.moved_ms ≡ c.status.moved_ms) ⊎ (c'.status.moved_ms ≡ ms)
 
--- it had ended, and has not begun again
+-- it was given up, if nothing of what it is owed has moved for too long
+pub record IsPatient (ms patience : ℕ) (c c' : Connection) : Type 0 where
+  pub served : IsServed c [] c'
+  pub goes : c'.status.fate ≡ Open → c.status.fate ≡ Open
+  pub unread : c'.calls.reads ≡ c.calls.reads
+  pub cut : c'.status.fate ≡ Cut → (c.status.fate ≡ Cut) ⊎ HasStalled ms patience c
+
+-- it had ended, and has not begun again, nor is it cut off
 pub record IsEnded (c c' : Connection) : Type 0 where
   pub served : IsServed c [] c'
   pub over : is_open c'.status.fate ≡ false
+  pub whole : c'.status.fate ≡ Cut → ⊥
 
 module _ {S : Type 0} (steps : Steps S) where
+  -- it was read from, and what it asked was applied
+  abbrev pub Listens : S → Connection → S → Connection → Type 0
+  Listens from c to c' = (entries : List Entry) × Chain steps from entries to × IsServed c entries c' × (c.calls.reads < c'.calls.reads)
+
+  -- what a connection does to which nothing is owed
+  pub record Works (from : S) (c : Connection) (to : S) (c' : Connection) : Type 0 where
+    pub entries : List Entry
+    pub chain : Chain steps from entries to
+    pub served : IsServed c entries c'
+    pub drawn : HasDrawn c entries c'
+    pub asked : c.status.fate ≡ Open → c.calls.reads < c'.calls.reads
+    pub cut : c'.status.fate ≡ Cut → (c.status.fate ≡ Cut) ⊎ (c.status.fate ≡ Open)
+
   -- its client has left, if it is over
-  abbrev pub Leaves : S → Connection → S → Connection → Type 0
-  Leaves from c to c' =
-      (entries : List Entry) × Chain steps from entries to × IsServed c entries c' × (c.status.fate ≡ Open → entries ≡ []) × (c'.status.fate ≡ c.status.fate) × (c'.status.sits ≡ c.status.sits)
+  pub record Leaves (from : S) (c : Connection) (to : S) (c' : Connection) : Type 0 where
+    pub entries : List Entry
+    pub chain : Chain steps from entries to
+    pub served : IsServed c entries c'
+    pub alone : c.status.fate ≡ Open → entries ≡ []
+    pub leaving : IsAtMostLeaving c.id entries
+    pub fate : c'.status.fate ≡ c.status.fate
+    pub sits : c'.status.sits ≡ c.status.sits
+    pub unread : c'.calls.reads ≡ c.calls.reads
 
   -- a draw with this room was applied, or the connection was cut off
   abbrev pub DrawsFor : ℕ → S → Connection → S → Connection → Type 0

@@ -3,6 +3,7 @@ pub mod Callers
 pub mod Connections
 pub mod Course
 pub mod Workers
+pub mod Duties
 pub mod Turns
 pub mod Answering
 pub mod Admission

@@ -10,6 +10,7 @@ use Rattle.radio_hall.specs.declared.conn.Fate.{Fate}
 use Rattle.radio_hall.specs.declared.conn.Fate.TheVariants.{Open, Closed, Cut}
 use Rattle.radio_hall.specs.Connections.{Connection, stays}
 use Rattle.radio_hall.specs.Course.{Standing, Course}
+use Rattle.radio_hall.specs.Duties.{IsLater, IsAsked, IsGiven, HasWaited, IsCutFor}
 use Rattle.radio_hall.specs.Workers.{WorkerOf}
 
 -- What the line took, followed by what is owed to it, is what was told. Once it is closed, it took all; where it was cut off, the front.
@@ -17,12 +18,6 @@ abbrev pub IsHanded : Fate → List ℕ → List ℕ → List ℕ → Type 0
 IsHanded Cut text taken owed = (lost : List ℕ) × (text ≡ taken ++ lost)
 IsHanded Closed text taken owed = text ≡ taken
 IsHanded fate text taken owed = text ≡ taken ++ owed
-
--- what is owed is still written
-abbrev pub IsWritten : Fate → Type 0
-IsWritten Cut = ⊥
-IsWritten Closed = ⊥
-IsWritten fate = Unit {0}
 
 -- The connection stands as it must where these entries were made for it, and these events are still to be applied:
 -- there is a course of its client by which its line gave what it gave, and was handed what was told.
@@ -51,6 +46,7 @@ Chain {S} steps from (e ∷ entries) to = (mid : S) × steps from e.event e.repl
 pub record IsServed (c : Connection) (entries : List Entry) (c' : Connection) : Type 0 where
   pub same : c'.id ≡ c.id
   pub stands : (past : List Entry) → Stands c past → Stands c' (past ++ entries)
+  pub later : IsLater c c'
 
 -- where the connection goes on, its one entry is this draw
 abbrev pub IsOneDraw : ℕ → ℕ → List Entry → Connection → Type 0
@@ -65,19 +61,22 @@ abbrev pub HasDrawn : Connection → List Entry → Connection → Type 0
 HasDrawn c entries c' = c.owed ≡ [] → c'.status.fate ≡ Open → c'.status.sits ≡ true → EndsWithDraw c.id entries
 
 module _ {S : Type 0} (steps : Steps S) where
-  -- the server made entries for the connection
-  abbrev pub Serves : S → Connection → S → Connection → Type 0
-  Serves from c to c' = (entries : List Entry) × Chain steps from entries to × IsServed c entries c'
-
-  -- and a draw, if it was due
-  abbrev pub ServesInTurn : S → Connection → S → Connection → Type 0
-  ServesInTurn from c to c' = (entries : List Entry) × Chain steps from entries to × IsServed c entries c' × HasDrawn c entries c'
+  -- At this moment, the server made entries for the connection: a draw if it was due, and what else there was to do.
+  pub record ServesInTurn (ms patience : ℕ) (from : S) (c : Connection) (to : S) (c' : Connection) : Type 0 where
+    pub entries : List Entry
+    pub chain : Chain steps from entries to
+    pub served : IsServed c entries c'
+    pub drawn : HasDrawn c entries c'
+    pub asked : IsAsked c c'
+    pub given : IsGiven c c'
+    pub waited : HasWaited c entries c'
+    pub cut : IsCutFor ms patience c c'
 
   -- each connection was served, one after another
-  abbrev pub ServesEach : S → List Connection → S → List Connection → Type 0
-  ServesEach from [] to served = (to ≡ from) × (served ≡ [])
-  ServesEach from (c ∷ cs) to served =
-      (mid : S) × (c' : Connection) × (others : List Connection) × ServesInTurn from c mid c' × ServesEach mid cs to others × (served ≡ c' ∷ others)
+  abbrev pub ServesEach : ℕ → ℕ → S → List Connection → S → List Connection → Type 0
+  ServesEach ms patience from [] to served = (to ≡ from) × (served ≡ [])
+  ServesEach ms patience from (c ∷ cs) to served =
+      (mid : S) × (c' : Connection) × (others : List Connection) × ServesInTurn ms patience from c mid c' × ServesEach ms patience mid cs to others × (served ≡ c' ∷ others)
 
   -- the event was applied, or refused for want of memory by a server that may refuse it
   abbrev pub HasApplied : (S → Event → Type 0) → Bool → S → Event → S → Type 0
@@ -97,5 +96,5 @@ module _ {S : Type 0} (steps : Steps S) where
     pub served : List Connection
     pub ticks : Ticks refuses ms before mid
     pub same : (after.told_ms ≡ mid.told_ms) × (after.patience_ms ≡ mid.patience_ms)
-    pub serves : ServesEach mid.server conns after.server served
+    pub serves : ServesEach ms mid.patience_ms mid.server conns after.server served
     pub closes : conns' ≡ filter stays served

@@ -95,6 +95,7 @@ impl<L: Line> Model for Conn<L> {
       id = c.id;
       given = L.given c.line;
       taken = L.taken c.line;
+      calls = L.calls c.line;
       owed = c.owed;
       session = c.session;
       status = c.status;
@@ -107,7 +108,7 @@ impl<L: Line> Conn<L> {
 
     /// The connection of a client who was let in under this number.
     fn new(alloc: Global, id: u64, peer: Peer, line: L, ms: u64) -> Conn<L>
-        ensures { result ≡ newly_come id peer (L.given line) (L.taken line) ms }
+        ensures { result ≡ newly_come id peer (L.given line) (L.taken line) (L.calls line) ms }
     {
         Conn {
             id,
@@ -187,6 +188,7 @@ impl<L: Line> Conn<L> {
     pub fn line(&self) -> &L
         ensures given { L.given result.now ≡ self.now.given }
         ensures taken { L.taken result.now ≡ self.now.taken }
+        ensures calls { L.calls result.now ≡ self.now.calls }
     {
         &self.line
     }

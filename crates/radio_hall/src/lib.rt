@@ -4,6 +4,7 @@
 //! - [`settle`]: all passes held against the hall's book, once the threads have been joined.
 //! - [`Server`], [`Caller`]: whom a worker asks: a hall, with the worker's pass.
 //! - [`Line`], [`Gate`]: where a connection's bytes come from and go to, and who is told of writes.
+//! - [`CallCount`], [`History`]: what a line notes for proofs alone.
 //! - [`Conn`]: a connection. [`Worker::admit`] takes one in, and [`Worker::serve_turn`] serves all.
 //! - [`passes_gain_what_was_applied`]: a law, which runs no code.
 //!
@@ -11,8 +12,10 @@
 //! there is one history, a run from the opening state, and the core stands for the state after it.
 #![tactic(auto)]
 
+mod calls;
 mod conn;
 mod hall;
+mod history;
 mod laws;
 mod line;
 mod owed;
@@ -20,8 +23,10 @@ mod server;
 mod serving;
 mod worker;
 
+pub use calls::CallCount;
 pub use conn::{Conn, Fate, Status};
 pub use hall::{Hall, settle};
+pub use history::History;
 pub use laws::passes_gain_what_was_applied;
 pub use line::{Gate, Line, OpenGate, Received, Sent};
 pub use server::{Caller, Server};

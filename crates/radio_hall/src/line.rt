@@ -28,7 +28,7 @@ pub enum Sent {
 /// and all that it took, in order.
 pub trait Line: Drop {
     ghost use Rattle.std.specs.Prelude.{◌≡◌, ◌<◌, ℕ, List, length};
-    ghost use Rattle.radio_hall.specs.Lines.{HasGiven, HasTaken};
+    ghost use Rattle.radio_hall.specs.Lines.{Calls, HasGiven, HasTaken, after_read, after_write};
 
     // all bytes that were read from it
     ghost given: { Self → List ℕ };
@@ -36,22 +36,28 @@ pub trait Line: Drop {
     // all bytes that it took
     ghost taken: { Self → List ℕ };
 
+    // how often it was called, and has failed
+    ghost calls: { Self → Calls };
+
     /// Reads what has come, as far as the buffer has room. What stands in the buffer behind the
     /// bytes that came is left open.
     fn read(&mut self, buffer: &mut [u8]) -> Received
         ensures given { HasGiven result buffer.new (given self.old) (given self.new) }
-        ensures taken { taken self.new ≡ taken self.old };
+        ensures taken { taken self.new ≡ taken self.old }
+        ensures calls { calls self.new ≡ after_read result (calls self.old) };
 
     /// Writes what it takes of the bytes, from the front.
     fn write(&mut self, bytes: &[u8]) -> Sent
         requires { 0 < length bytes.now }
         ensures taken { HasTaken result bytes.now (taken self.old) (taken self.new) }
-        ensures given { given self.new ≡ given self.old };
+        ensures given { given self.new ≡ given self.old }
+        ensures calls { calls self.new ≡ after_write result (calls self.old) };
 
     /// Tells the peer that nothing more will be written. It may still be read from.
     fn finish(&mut self)
         ensures given { given self.new ≡ given self.old }
-        ensures taken { taken self.new ≡ taken self.old };
+        ensures taken { taken self.new ≡ taken self.old }
+        ensures calls { calls self.new ≡ calls self.old };
 }
 
 /// Whom a worker tells of each write, by the number of the client: before it and after it, while

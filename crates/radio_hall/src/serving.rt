@@ -8,6 +8,8 @@ pub(crate) mod lingering;
 pub(crate) mod listening;
 pub(crate) mod round;
 
+ghost use Rattle.std.specs.Prelude.{◌≡◌, ◌-◌, nat_le};
+
 /// The moment of a turn, and how long a line may take nothing of what is owed to it, in
 /// milliseconds.
 #[derive(Clone, Copy, Debug)]
@@ -22,7 +24,9 @@ pub(crate) const SECOND_MS: u64 = 1000;
 
 impl Now {
     /// Whether this much time has passed since a moment.
-    pub(crate) fn is_past(self, since_ms: u64, span_ms: u64) -> bool {
+    pub(crate) fn is_past(self, since_ms: u64, span_ms: u64) -> bool
+        ensures { result ≡ nat_le span_ms (self.ms - since_ms) }
+    {
         self.ms.saturating_sub(since_ms) >= span_ms
     }
 }

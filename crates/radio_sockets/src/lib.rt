@@ -11,7 +11,6 @@
 mod accepts;
 mod address;
 mod fault;
-mod history;
 mod line;
 mod listening;
 mod readiness;

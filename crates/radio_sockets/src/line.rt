@@ -1,9 +1,11 @@
 //! A connection's socket as a line.
 
-use crate::history::History;
+ghost use Rattle.std.specs.Prelude.{◌≡◌, ◌<◌, length};
+ghost use Rattle.radio_hall.specs.Lines.{HasGiven, HasTaken};
+
 use crate::readiness::Readiness;
 use mio::net::TcpStream;
-use radio_hall::{Line, Received, Sent};
+use radio_hall::{CallCount, History, Line, Received, Sent};
 use std::alloc::Global;
 use std::cell::Cell;
 use std::io::{ErrorKind, Read, Write};
@@ -20,6 +22,7 @@ pub struct SocketLine {
     has_moved: Rc<Cell<bool>>,
     given: History,
     taken: History,
+    calls: CallCount,
 }
 
 impl SocketLine {
@@ -35,16 +38,16 @@ impl SocketLine {
             has_moved,
             given: History::new(),
             taken: History::new(),
+            calls: CallCount::new(),
         }
     }
-}
 
-impl Line for SocketLine {
-    ghost given = { λ line. line.given.items };
-
-    ghost taken = { λ line. line.taken.items };
-
-    fn read(&mut self, buffer: &mut [u8]) -> Received {
+    /// Reads from the socket, where it may be asked.
+    fn receive(&mut self, buffer: &mut [u8]) -> Received
+        ensures given { HasGiven result buffer.new self.old.given.items self.new.given.items }
+        ensures taken { self.new.taken ≡ self.old.taken }
+        ensures calls { self.new.calls ≡ self.old.calls }
+    {
         if !self.readiness.is_readable() {
             return Received::Nothing;
         }
@@ -66,7 +69,13 @@ impl Line for SocketLine {
         }
     }
 
-    fn write(&mut self, bytes: &[u8]) -> Sent {
+    /// Writes to the socket, where it may be asked.
+    fn send(&mut self, bytes: &[u8]) -> Sent
+        requires { 0 < length bytes.now }
+        ensures taken { HasTaken result bytes.now self.old.taken.items self.new.taken.items }
+        ensures given { self.new.given ≡ self.old.given }
+        ensures calls { self.new.calls ≡ self.old.calls }
+    {
         if !self.readiness.is_writable() {
             return Sent::Nothing;
         }
@@ -86,6 +95,26 @@ impl Line for SocketLine {
                 _ => Sent::Fault,
             },
         }
+    }
+}
+
+impl Line for SocketLine {
+    ghost given = { λ line. line.given.items };
+
+    ghost taken = { λ line. line.taken.items };
+
+    ghost calls = { λ line. line.calls };
+
+    fn read(&mut self, buffer: &mut [u8]) -> Received {
+        let received = self.receive(buffer);
+        self.calls.count_read(received);
+        received
+    }
+
+    fn write(&mut self, bytes: &[u8]) -> Sent {
+        let sent = self.send(bytes);
+        self.calls.count_write(sent);
+        sent
     }
 
     fn finish(&mut self) {

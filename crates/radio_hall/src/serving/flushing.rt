@@ -1,16 +1,16 @@
 //! What a connection is owed, written.
 
 ghost use Rattle.std.specs.Prelude.{◌<◌, length};
-ghost use Rattle.radio_hall.specs.Turns.{IsWritten};
-ghost use Rattle.radio_hall.specs.Leaving.{IsFlushed};
+ghost use Rattle.radio_hall.specs.Duties.{IsWritten};
+ghost use Rattle.radio_hall.specs.Leaving.{IsFlushed, IsPatient};
 
 use crate::serving::Now;
 use crate::{Conn, Fate, Gate, Line, Sent};
 
 /// Writes once of what is owed, as far as the line takes it. The connection is cut off where the
-/// line fails, or where it took nothing for too long.
+/// line fails.
 pub(crate) fn flush<L: Line, G: Gate>(conn: &mut Conn<L>, gate: &G, now: Now)
-    ensures { IsFlushed conn.old conn.new }
+    ensures { IsFlushed now.ms conn.old conn.new }
 {
     let fate = conn.status.fate;
     match fate {
@@ -26,7 +26,7 @@ pub(crate) fn flush<L: Line, G: Gate>(conn: &mut Conn<L>, gate: &G, now: Now)
 fn write<L: Line, G: Gate>(conn: &mut Conn<L>, gate: &G, now: Now)
     requires fate { IsWritten conn.old.status.fate }
     requires some { 0 < length conn.old.owed }
-    ensures { IsFlushed conn.old conn.new }
+    ensures { IsFlushed now.ms conn.old conn.new }
 {
     gate.hold(conn.id);
     let sent = conn.line.write(conn.owed.rest());
@@ -36,11 +36,16 @@ fn write<L: Line, G: Gate>(conn: &mut Conn<L>, gate: &G, now: Now)
             conn.owed.take_off(count);
             conn.status.moved_ms = now.ms;
         }
-        Sent::Nothing => {
-            if now.is_past(conn.status.moved_ms, now.patience_ms) {
-                conn.status.fate = Fate::Cut;
-            }
-        }
+        Sent::Nothing => (),
         Sent::Fault => conn.status.fate = Fate::Cut,
+    }
+}
+
+/// Cuts a connection off of which nothing that it is owed has moved for too long.
+pub(crate) fn give_up<L: Line>(conn: &mut Conn<L>, now: Now)
+    ensures { IsPatient now.ms now.patience_ms conn.old conn.new }
+{
+    if now.is_past(conn.status.moved_ms, now.patience_ms) {
+        conn.status.fate = Fate::Cut;
     }
 }

@@ -2,7 +2,8 @@
 
 ghost use Rattle.std.specs.Prelude.{◌≡◌, [], List};
 ghost use Rattle.radio_book.specs.declared.entry.Entry.{Entry as EntryOf};
-ghost use Rattle.radio_hall.specs.Turns.{Chain, Serves};
+ghost use Rattle.radio_hall.specs.Turns.{Chain};
+ghost use Rattle.radio_hall.specs.Leaving.{Listens};
 ghost use Rattle.radio_hall.specs.Answering.{IsHeardOn};
 
 use crate::serving::Now;
@@ -19,7 +20,7 @@ pub(crate) fn listen<S: Server, L: Line>(
 )
     requires open { conn.old.status.fate ≡ Fate.Open }
     requires all { conn.old.owed ≡ [] }
-    ensures { Serves S.steps server.old conn.old server.new conn.new }
+    ensures { Listens S.steps server.old conn.old server.new conn.new }
 {
     match conn.line.read(buffer) {
         Received::Bytes(count) => hear(server, conn, &buffer[..count], now),

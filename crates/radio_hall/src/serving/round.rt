@@ -2,10 +2,11 @@
 
 ghost use Rattle.std.specs.Prelude.{◌≡◌, []};
 ghost use Rattle.radio_hall.specs.Turns.{ServesInTurn, ServesEach};
+ghost use Rattle.radio_hall.specs.Leaving.{Works};
 
 use crate::serving::Now;
 use crate::serving::drawing::draw;
-use crate::serving::flushing::flush;
+use crate::serving::flushing::{flush, give_up};
 use crate::serving::leaving::leave;
 use crate::serving::lingering::linger;
 use crate::serving::listening::listen;
@@ -21,7 +22,7 @@ pub(crate) fn serve_each<S: Server, L: Line, G: Gate>(
     gate: &G,
     now: Now,
 )
-    ensures { ServesEach S.steps server.old conns.old.items server.new conns.new.items }
+    ensures { ServesEach S.steps now.ms now.patience_ms server.old conns.old.items server.new conns.new.items }
 {
     let mut buffer = [0u8; READ_ROOM];
     for conn in conns.iter_mut() {
@@ -38,10 +39,11 @@ fn serve<S: Server, L: Line, G: Gate>(
     gate: &G,
     now: Now,
 )
-    ensures { ServesInTurn S.steps server.old conn.old server.new conn.new }
+    ensures { ServesInTurn S.steps now.ms now.patience_ms server.old conn.old server.new conn.new }
 {
     flush(conn, gate, now);
     if !conn.owed.rest().is_empty() {
+        give_up(conn, now);
         leave(server, conn);
         return;
     }
@@ -54,7 +56,7 @@ fn serve<S: Server, L: Line, G: Gate>(
 /// What a connection does to which nothing is owed.
 fn work<S: Server, L: Line>(server: &mut S, conn: &mut Conn<L>, buffer: &mut [u8], now: Now)
     requires { conn.old.owed ≡ [] }
-    ensures { ServesInTurn S.steps server.old conn.old server.new conn.new }
+    ensures { Works S.steps server.old conn.old server.new conn.new }
 {
     let fate = conn.status.fate;
     match fate {

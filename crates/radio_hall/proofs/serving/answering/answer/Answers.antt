@@ -5,7 +5,7 @@ use Rattle.radio_hall.specs.declared.conn.Status.{Status}
 use Rattle.radio_hall.specs.declared.conn.Fate.TheVariants.{Open}
 use Rattle.radio_hall.specs.Course.{is_listen, is_seated}
 use Rattle.radio_hall.proofs.Standing.{answered_as}
-use Rattle.radio_hall.proofs.Deeds.{chain_one, answered_as_one, answered_by_cut}
+use Rattle.radio_hall.proofs.Deeds.{chain_one, answered_as_one, answered_by_cut, later_same}
 use Rattle.radio_hall.proofs.serving.answering.answer.Goals as goal
 
 pub returns-in-Ok : goal.returns-in-Ok
@@ -22,8 +22,9 @@ returns-in-Ok g c =
         made = λ goes. (c.in-Ok.reply, refl);
         seat = λ other. sits ∙ ap (λ (b : Bool). (b && is_seated c.in-Ok.reply) || before.sits) other;
         stands = λ later past st. answered_as _ _ c.args.event later past c.in-Ok.reply goes refl refl refl sits left st c.tell-conn-inside.result refl c.tell-conn-inside.ensures;
+        later = later_same refl refl;
       }),
     )
 
 pub returns-in-Err : goal.returns-in-Err
-returns-in-Err g c = ([], c.in-Err.ensures.err, answered_as_one c.conn.view_is (answered_by_cut _ _ c.args.event (record { id = refl; sits = refl; left = refl }) refl refl refl))
+returns-in-Err g c = ([], c.in-Err.ensures.err, answered_as_one c.conn.view_is (answered_by_cut _ _ c.args.event (record { id = refl; sits = refl; left = refl }) (later_same refl refl) refl refl refl))

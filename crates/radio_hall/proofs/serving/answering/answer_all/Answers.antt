@@ -8,7 +8,7 @@ use Rattle.radio_hall.specs.declared.conn.Fate.TheVariants.{Open}
 use Rattle.radio_hall.specs.Connections.{Connection, is_open}
 use Rattle.radio_hall.specs.Turns.{StandsBefore}
 use Rattle.radio_hall.specs.Answering.{IsAnswered, later_by}
-use Rattle.radio_hall.proofs.Deeds.{chain_then, open_from, later_by_over}
+use Rattle.radio_hall.proofs.Deeds.{chain_then, open_from, later_by_over, later_none, later_then}
 use Rattle.radio_hall.proofs.serving.answering.answer_all.Goals as goal
 
 -- one more event is applied
@@ -25,6 +25,7 @@ loop-event-init g c = record {
   chain = refl;
   same = refl;
   goes = c.requires;
+  later = later_none c.args.conn.now;
   stands = λ past st.
       subst (λ (es : List Entry). StandsBefore (into_iter_items c.into_iter-event-iterator.result) c.args.conn.now es) (sym (append-nil past))
       (subst (λ (es : List Event). StandsBefore es c.args.conn.now past) (sym c.into_iter-event-iterator.ensures.into_iter_gives.0) st);
@@ -42,6 +43,7 @@ returns-then-not-is_open g c =
         stands = λ past st.
             subst (λ (es : List Event). StandsBefore es c.answer.new.conn (past ++ (inv.entries ++ a.0))) (later_by_over c.answer.new.conn.status.fate (into_iter_items c.next.new.self) over)
             (one_more _ _ _ c.in-Some.event (into_iter_items c.loop-event.event-iterator) (into_iter_items c.next.new.self) _ inv.entries a.0 c.in-Some.ensures.steps.0 a.2 inv.stands past st);
+        later = later_then _ _ _ inv.later a.2.later;
       },
     )
 
@@ -54,6 +56,7 @@ loop-event-preserved g c =
       chain = chain_then g.S.Server.steps _ _ _ inv.entries a.0 inv.chain a.1;
       same = a.2.same ∙ inv.same;
       goes = goes;
+      later = later_then _ _ _ inv.later a.2.later;
       stands = λ past st.
           subst (λ (f : Fate). StandsBefore (later_by f (into_iter_items c.next.new.self)) c.answer.new.conn (past ++ (inv.entries ++ a.0))) goes
           (one_more _ _ _ c.in-Some.event (into_iter_items c.loop-event.event-iterator) (into_iter_items c.next.new.self) _ inv.entries a.0 c.in-Some.ensures.steps.0 a.2 inv.stands past st);
@@ -65,5 +68,5 @@ returns g c =
     let none : into_iter_items c.loop-event.event-iterator ≡ [] = nil_from_length (into_iter_items c.loop-event.event-iterator) (omega (arith, c.loop-event.event-iterator.rest.ok.0, c.in-None.ensures.steps.0)) in (
       inv.entries,
       inv.chain,
-      record { same = inv.same; stands = λ past st. subst (λ (es : List Event). StandsBefore es c.loop-event.conn (past ++ inv.entries)) none (inv.stands past st) },
+      record { same = inv.same; stands = λ past st. subst (λ (es : List Event). StandsBefore es c.loop-event.conn (past ++ inv.entries)) none (inv.stands past st); later = inv.later },
     )

@@ -2,6 +2,7 @@ use Rattle.std.proofs.Common.{◌≡◌, List, ◌++◌}
 use Rattle.std.specs.Vec.Iter.{into_iter_items}
 use Rattle.radio_book.specs.declared.entry.Entry.{Entry}
 use Rattle.radio_hall.specs.declared.conn.Fate.TheVariants.{Open}
+use Rattle.radio_hall.specs.Duties.{IsLater}
 use Rattle.radio_hall.specs.Turns.{Chain, StandsBefore}
 use Rattle.radio_hall.proofs.serving.answering.answer_all.Given as goal
 
@@ -12,5 +13,6 @@ invariant-loop-event g l = record {
   chain : Chain g.S.Server.steps l.initial.server entries l.server;
   same : l.conn.id ≡ l.initial.conn.id;
   goes : l.conn.status.fate ≡ Open;
+  later : IsLater l.initial.conn l.conn;
   stands : (past : List Entry) → StandsBefore l.fn.events.items l.initial.conn past → StandsBefore (into_iter_items l.event-iterator) l.conn (past ++ entries);
 }

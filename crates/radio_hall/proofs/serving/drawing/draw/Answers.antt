@@ -1,7 +1,7 @@
 use Rattle.std.proofs.Common.{[], refl, sym, ◌∙◌, ap}
 use Rattle.std.proofs.lemmas.Bool.{false≢true}
 use Rattle.radio_hall.specs.Connections.{Connection}
-use Rattle.radio_hall.proofs.Deeds.{draws_nothing, draws_as, not_over, served_then, served_by_note}
+use Rattle.radio_hall.proofs.Deeds.{draws_nothing, draws_as, not_over, served_then, served_by_note, later_same}
 use Rattle.radio_hall.proofs.serving.drawing.draw.Goals as goal
 
 pub returns-then-not-is_open : goal.returns-then-not-is_open
@@ -20,7 +20,7 @@ returns-then-is_past g c =
     draws_as g.S.Server.steps c.conn.view_is (
       d.0,
       d.1,
-      served_then _ _ _ [] d.0 (served_by_note _ _ (record { id = refl; sits = refl; left = refl }) (record { id = refl; given = refl; taken = refl; owed = refl; session = refl }) refl) d.2,
+      served_then _ _ _ [] d.0 (served_by_note _ _ (record { id = refl; sits = refl; left = refl }) (later_same refl refl) (record { id = refl; given = refl; taken = refl; owed = refl; session = refl }) refl) d.2,
       (λ sits. absurd (false≢true (sym c.if-conn.false ∙ sits))),
       d.4,
     )

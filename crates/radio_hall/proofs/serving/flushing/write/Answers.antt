@@ -1,7 +1,9 @@
-use Rattle.std.proofs.Common.{◌≡◌, ◌∙◌, ap, take, drop, List, ℕ, zero, suc, [], ◌++◌, refl, sym, subst}
+use Rattle.std.proofs.Common.{◌≡◌, ◌<◌, inl, inr, length, append-nil, arith, ◌∙◌, ap, take, drop, List, ℕ, zero, suc, [], ◌++◌, refl, sym, subst}
+use Rattle.radio_hall.specs.Lines.{Calls}
 use Rattle.radio_hall.specs.Connections.{Connection}
-use Rattle.radio_hall.specs.Turns.{IsWritten}
-use Rattle.radio_hall.proofs.Deeds.{not_cut, flushed_as, served_by_cut, served_by_write, served_by_note}
+use Rattle.radio_hall.specs.declared.line.Sent.TheVariants.{Took, Nothing, Fault}
+use Rattle.radio_hall.specs.Duties.{IsWritten}
+use Rattle.radio_hall.proofs.Deeds.{not_cut, flushed_as, served_by_cut, served_by_write, served_by_note, later_by_write, written_once, unread_by_write, taken_all, none_of_some}
 use Rattle.radio_hall.proofs.serving.flushing.write.Goals as goal
 
 drop_nil : (n : ℕ) → drop {A = ℕ} n [] ≡ []
@@ -10,41 +12,52 @@ drop_nil (suc n) = refl
 
 pub returns-in-Took : goal.returns-in-Took
 returns-in-Took g c =
+    let taken = c.in-Took.ensures.taken.2 ∙ ap (λ (xs : List ℕ). g.L.Line.taken c.conn.inside.line ++ take c.in-Took.count xs) c.rest.ensures in
     flushed_as c.conn.view_is (record {
       served =
-          served_by_write _ _ c.in-Took.count (record { id = refl; sits = refl; left = refl }) (subst (λ (o : Connection). IsWritten o.status.fate) (sym c.conn.view_is) c.requires.fate)
-          c.take_off.ensures c.write-sent.ensures.given
-          (c.in-Took.ensures.taken.2 ∙ ap (λ (xs : List ℕ). g.L.Line.taken c.conn.inside.line ++ take c.in-Took.count xs) c.rest.ensures) refl refl;
+          served_by_write _ _ c.in-Took.count (record { id = refl; sits = refl; left = refl }) (later_by_write (Took c.in-Took.count) (take c.in-Took.count c.conn.inside.owed) c.in-Took.ensures.calls taken)
+          (subst (λ (o : Connection). IsWritten o.status.fate) (sym c.conn.view_is) c.requires.fate) c.take_off.ensures c.write-sent.ensures.given taken refl refl;
       goes = λ e. e;
       sits = refl;
       none = λ e. c.take_off.ensures ∙ ap (λ (xs : List ℕ). drop c.in-Took.count xs) e ∙ drop_nil c.in-Took.count;
+      all = λ e. taken ∙ ap (λ (xs : List ℕ). g.L.Line.taken c.conn.inside.line ++ xs) (taken_all c.in-Took.count c.conn.inside.owed (sym c.take_off.ensures ∙ e));
+      idle = λ e. refl;
+      unread = unread_by_write _ _ (Took c.in-Took.count) c.in-Took.ensures.calls;
+      given = λ goes owed. written_once _ _ (Took c.in-Took.count) c.in-Took.ensures.calls;
+      cut = λ e. inl e;
+      moved = inr refl;
     })
 
-pub returns-then-is_past : goal.returns-then-is_past
-returns-then-is_past g c =
-    flushed_as c.conn.view_is (record {
-      served = served_by_cut _ _ (record { id = refl; sits = refl; left = refl }) c.write-sent.ensures.given c.in-Nothing.ensures.taken refl;
-      goes = λ e. absurd (not_cut e);
-      sits = refl;
-      none = λ e. e;
-    })
-
-pub returns-else-is_past : goal.returns-else-is_past
-returns-else-is_past g c =
+pub returns-in-Nothing : goal.returns-in-Nothing
+returns-in-Nothing g c =
     flushed_as c.conn.view_is (record {
       served =
-          served_by_note _ _ (record { id = refl; sits = refl; left = refl })
+          served_by_note _ _ (record { id = refl; sits = refl; left = refl }) (later_by_write Nothing [] c.in-Nothing.ensures.calls (c.in-Nothing.ensures.taken ∙ sym (append-nil _)))
           (record { id = refl; given = c.write-sent.ensures.given; taken = c.in-Nothing.ensures.taken; owed = refl; session = refl }) refl;
       goes = λ e. e;
       sits = refl;
       none = λ e. e;
+      all = λ e. c.in-Nothing.ensures.taken ∙ sym (ap (λ (xs : List ℕ). g.L.Line.taken c.conn.inside.line ++ xs) e ∙ append-nil _);
+      idle = λ e. refl;
+      unread = unread_by_write _ _ Nothing c.in-Nothing.ensures.calls;
+      given = λ goes owed. written_once _ _ Nothing c.in-Nothing.ensures.calls;
+      cut = λ e. inl e;
+      moved = inl refl;
     })
 
 pub returns-in-Fault : goal.returns-in-Fault
 returns-in-Fault g c =
     flushed_as c.conn.view_is (record {
-      served = served_by_cut _ _ (record { id = refl; sits = refl; left = refl }) c.write-sent.ensures.given c.in-Fault.ensures.taken refl;
+      served =
+          served_by_cut _ _ (record { id = refl; sits = refl; left = refl }) (later_by_write Fault [] c.in-Fault.ensures.calls (c.in-Fault.ensures.taken ∙ sym (append-nil _))) c.write-sent.ensures.given
+          c.in-Fault.ensures.taken refl;
       goes = λ e. absurd (not_cut e);
       sits = refl;
       none = λ e. e;
+      all = λ e. c.in-Fault.ensures.taken ∙ sym (ap (λ (xs : List ℕ). g.L.Line.taken c.conn.inside.line ++ xs) e ∙ append-nil _);
+      idle = λ e. absurd (none_of_some (subst (λ (o : Connection). 0 < length o.owed) (sym c.conn.view_is) c.requires.some) e);
+      unread = unread_by_write _ _ Fault c.in-Fault.ensures.calls;
+      given = λ goes owed. written_once _ _ Fault c.in-Fault.ensures.calls;
+      cut = λ e. inr (omega (arith, ap (λ (x : Calls). x.faults) c.in-Fault.ensures.calls));
+      moved = inl refl;
     })

@@ -9,7 +9,7 @@ pub returns-then-apply_quietly : goal.returns-then-apply_quietly
 returns-then-apply_quietly g c =
     leaves_as g.S.Server.steps c.conn.view_is
     (leaves_so g.S.Server.steps _ _ _ _ c.if-apply_quietly.ensures (sym c.is_open.ensures ∙ c.if-is_open.false) c.if-conn.false
-    (record { id = refl; given = refl; taken = refl; owed = refl; session = refl }) refl refl refl)
+    (record { id = refl; given = refl; taken = refl; owed = refl; session = refl }) refl refl refl refl)
 
 pub returns-else-apply_quietly : goal.returns-else-apply_quietly
 returns-else-apply_quietly g c = leaves_nothing g.S.Server.steps c.if-apply_quietly.ensures.0

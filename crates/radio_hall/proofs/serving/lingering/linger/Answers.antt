@@ -2,7 +2,7 @@ use Rattle.std.proofs.Common.{◌≡◌, [], refl, ◌∙◌, ap}
 use Rattle.radio_hall.specs.declared.conn.Status.{Status}
 use Rattle.radio_hall.specs.declared.conn.Fate.TheVariants.{Ended}
 use Rattle.radio_hall.specs.Connections.{Connection, is_open}
-use Rattle.radio_hall.proofs.Deeds.{served_then, served_as, served_by_close, ended_is_written}
+use Rattle.radio_hall.proofs.Deeds.{served_then, served_as, served_by_close, ended_is_written, later_same, ended_not_cut}
 use Rattle.radio_hall.proofs.serving.lingering.linger.Goals as goal
 
 pub returns-then-is_over : goal.returns-then-is_over
@@ -12,12 +12,14 @@ returns-then-is_over g c =
     record {
       served =
           served_then _ _ _ [] [] c.finish.ensures.served
-          (served_then _ _ _ [] [] c.pass_over.ensures.served (served_as c.conn.view_is (served_by_close _ _ (record { id = refl; sits = refl; left = refl }) (ended_is_written _ ended) none refl refl refl)));
+          (served_then _ _ _ [] [] c.pass_over.ensures.served (served_as c.conn.view_is (served_by_close _ _ (record { id = refl; sits = refl; left = refl }) (later_same refl refl) (ended_is_written _ ended) none refl refl refl)));
       over = refl;
+      whole = λ e. cc;
     }
 
 pub returns-else-is_over : goal.returns-else-is_over
 returns-else-is_over g c = record {
   served = served_then _ _ _ [] [] c.finish.ensures.served c.pass_over.ensures.served;
   over = ap is_open (ap (λ (s : Status). s.fate) c.pass_over.ensures.status ∙ c.finish.ensures.fate ∙ c.requires.fate);
+  whole = ended_not_cut _ (ap (λ (s : Status). s.fate) c.pass_over.ensures.status ∙ c.finish.ensures.fate ∙ c.requires.fate);
 }

@@ -2,7 +2,7 @@ use Rattle.std.proofs.Common.{◌≡◌, [], refl, ◌∙◌, ap}
 use Rattle.radio_hall.specs.declared.conn.Fate.TheVariants.{Open}
 use Rattle.radio_hall.specs.Connections.{Connection}
 use Rattle.radio_session.specs.Hearing.{Heard}
-use Rattle.radio_hall.proofs.Deeds.{heard_so, heard_by_cut, heard_on_one}
+use Rattle.radio_hall.proofs.Deeds.{heard_so, heard_by_cut, heard_on_one, later_same}
 use Rattle.radio_hall.proofs.serving.listening.hear.Goals as goal
 
 pub returns-in-Ok : goal.returns-in-Ok
@@ -13,8 +13,8 @@ returns-in-Ok g c =
       a.0,
       a.1,
       heard_on_one c.conn.view_is
-          (heard_so _ _ _ c.args.bytes.now heard a.0 goes c.in-Ok.ensures.heard (record { id = refl; sits = refl; left = refl }) refl refl refl refl refl a.2),
+          (heard_so _ _ _ c.args.bytes.now heard a.0 goes c.in-Ok.ensures.heard (record { id = refl; sits = refl; left = refl }) (later_same refl refl) refl refl refl refl refl a.2),
     )
 
 pub returns-in-Err : goal.returns-in-Err
-returns-in-Err g c = ([], refl, heard_on_one c.conn.view_is (heard_by_cut _ _ c.args.bytes.now (record { id = refl; sits = refl; left = refl }) refl refl refl))
+returns-in-Err g c = ([], refl, heard_on_one c.conn.view_is (heard_by_cut _ _ c.args.bytes.now (record { id = refl; sits = refl; left = refl }) (later_same refl refl) refl refl refl))

@@ -1,15 +1,15 @@
-//! The bytes that a line has told of, which only proofs read. They take no memory.
+//! The bytes that a line tells of, which only proofs read. They take no memory.
 
 ghost use Rattle.std.specs.Prelude.{◌≡◌, ℕ, List, [], ◌++◌};
 ghost use Rattle.std.specs.Borrow.{ftrue};
 
 use std::marker::{Model, PhantomData};
 
-/// A clause reads the bytes as `items`.
+/// Bytes that only proofs read, as `items`: for a line that keeps none of what it gave or took.
 #[derive(Drop)]
-pub(crate) struct History {
+pub struct History {
     marker: PhantomData<u8>,
-    pub(crate) ghost items: { List ℕ },
+    pub ghost items: { List ℕ },
 }
 
 impl Model for History {
@@ -18,7 +18,7 @@ impl Model for History {
 
 impl History {
     /// No bytes.
-    pub(crate) fn new() -> History
+    pub fn new() -> History
         ensures { result.items ≡ [] }
     {
         History {
@@ -27,7 +27,7 @@ impl History {
     }
 
     /// These bytes come behind the others.
-    pub(crate) fn note(&mut self, _bytes: &[u8])
+    pub fn note(&mut self, _bytes: &[u8])
         ensures { self.new.items ≡ self.old.items ++ _bytes.now }
     {}
 }

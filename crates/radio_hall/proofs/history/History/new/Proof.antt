@@ -21,12 +21,12 @@ use denote.Triple.Entry.{on_entry}
 use denote.Triple.Spec.{Meets, triple_of}
 use denote.Triple.Table.{entered}
 use denote.Triple.Walked.{says, ends_at, walked, walk_Meets}
-use Rattle.radio_sockets.specs.declared.history.History.{History}
-use Rattle.radio_sockets.specs.contracts.history.History as T
-use Rattle.radio_sockets.specs.contracts.history.History.new.Key.{name as #it}
-use Rattle.radio_sockets.specs.contracts.history.History.new as it
-use Rattle.radio_sockets.proofs.history.History.new.Statement as stated
-use Rattle.radio_sockets.proofs.history.History.new.Code as code
+use Rattle.radio_hall.specs.declared.history.History.{History}
+use Rattle.radio_hall.specs.contracts.history.History as T
+use Rattle.radio_hall.specs.contracts.history.History.new.Key.{name as #it}
+use Rattle.radio_hall.specs.contracts.history.History.new as it
+use Rattle.radio_hall.proofs.history.History.new.Statement as stated
+use Rattle.radio_hall.proofs.history.History.new.Code as code
 
 abbrev v : Val
 v = vstruct (vcons (vstruct vnil) vnil)

@@ -25,12 +25,12 @@ use denote.Triple.Entry.{on_entry}
 use denote.Triple.Spec.{Meets, triple_of}
 use denote.Triple.Table.{entered}
 use denote.Triple.Walked.{says, Stays, stay_ref, walk_of, AllGo, Goes-ref, Walks, ends_at, walked, walk_Meets}
-use Rattle.radio_sockets.specs.declared.history.History.{History}
-use Rattle.radio_sockets.specs.contracts.history.History as T
-use Rattle.radio_sockets.specs.contracts.history.History.note.Key.{name as #it}
-use Rattle.radio_sockets.specs.contracts.history.History.note as it
-use Rattle.radio_sockets.proofs.history.History.note.Statement as stated
-use Rattle.radio_sockets.proofs.history.History.note.Code as code
+use Rattle.radio_hall.specs.declared.history.History.{History}
+use Rattle.radio_hall.specs.contracts.history.History as T
+use Rattle.radio_hall.specs.contracts.history.History.note.Key.{name as #it}
+use Rattle.radio_hall.specs.contracts.history.History.note as it
+use Rattle.radio_hall.proofs.history.History.note.Statement as stated
+use Rattle.radio_hall.proofs.history.History.note.Code as code
 use denote.Ref.{Bor}
 use denote.Builtin.{u8}
 use denote.Exit.{yes}

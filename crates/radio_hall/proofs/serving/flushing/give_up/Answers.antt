@@ -1,0 +1,12 @@
+use Rattle.std.proofs.Common.{inr, refl, sym, ◌∙◌}
+use Rattle.radio_hall.proofs.Deeds.{not_cut, patient_as, served_by_cut, later_same, le_by}
+use Rattle.radio_hall.proofs.serving.flushing.give_up.Goals as goal
+
+pub returns-then-is_past : goal.returns-then-is_past
+returns-then-is_past g c =
+    patient_as c.conn.view_is (record {
+      served = served_by_cut _ _ (record { id = refl; sits = refl; left = refl }) (later_same refl refl) refl refl refl;
+      goes = λ e. absurd (not_cut e);
+      unread = refl;
+      cut = λ e. inr (le_by _ _ (sym c.is_past.ensures ∙ c.if-is_past.true));
+    })

@@ -1,0 +1,65 @@
+-- What a worker owes to a connection in a turn, and what he may not do to it.
+use Rattle.std.specs.Prelude.{◌≡◌, ◌<◌, ◌≤◌, ◌-◌, ◌⊎◌, ℕ, List, [], ◌∷◌, ◌++◌}
+use Rattle.radio_core.specs.declared.event.Event.TheVariants.{Leave}
+use Rattle.radio_core.specs.declared.reply.Reply.{Reply}
+use Rattle.radio_book.specs.declared.entry.Entry.{Entry}
+use Rattle.radio_book.specs.History.{entry}
+use Rattle.radio_hall.specs.declared.conn.Fate.{Fate}
+use Rattle.radio_hall.specs.declared.conn.Fate.TheVariants.{Open, Closed, Cut}
+use Rattle.radio_hall.specs.Connections.{Connection}
+
+-- what is owed is still written
+abbrev pub IsWritten : Fate → Type 0
+IsWritten Cut = ⊥
+IsWritten Closed = ⊥
+IsWritten fate = Unit {0}
+
+-- something is owed to it
+abbrev pub IsOwed : Connection → Type 0
+IsOwed c = c.owed ≡ [] → ⊥
+
+-- The calls of a line are counted on, and what it takes comes behind what it took.
+pub record IsLater (c c' : Connection) : Type 0 where
+  pub reads : c.calls.reads ≤ c'.calls.reads
+  pub writes : c.calls.writes ≤ c'.calls.writes
+  pub faults : c.calls.faults ≤ c'.calls.faults
+  pub taken : (more : List ℕ) × (c'.taken ≡ c.taken ++ more)
+
+-- One that is open, and to which nothing is owed, is asked for bytes.
+abbrev pub IsAsked : Connection → Connection → Type 0
+IsAsked c c' = c.status.fate ≡ Open → c.owed ≡ [] → c.calls.reads < c'.calls.reads
+
+-- One to which something is owed is written to.
+abbrev pub IsGiven : Connection → Connection → Type 0
+IsGiven c c' = IsWritten c.status.fate → IsOwed c → c.calls.writes < c'.calls.writes
+
+-- its line has taken all that it was owed, and perhaps more
+abbrev pub HasTakenAll : Connection → Connection → Type 0
+HasTakenAll c c' = (more : List ℕ) × (c'.taken ≡ (c.taken ++ c.owed) ++ more)
+
+-- nothing, or his leaving
+abbrev pub IsAtMostLeaving : ℕ → List Entry → Type 0
+IsAtMostLeaving id entries = (entries ≡ []) ⊎ ((reply : Reply) × (entries ≡ entry (Leave id) reply ∷ []))
+
+-- Unless its line has taken all that it was owed, it is not read from, and nothing is applied for it but that its client leaves.
+abbrev pub HasWaited : Connection → List Entry → Connection → Type 0
+HasWaited c entries c' = HasTakenAll c c' ⊎ ((c'.calls.reads ≡ c.calls.reads) × IsAtMostLeaving c.id entries)
+
+-- at this moment, nothing of what it is owed has moved for so long
+abbrev pub HasStalled : ℕ → ℕ → Connection → Type 0
+HasStalled ms patience c = patience ≤ ms - c.status.moved_ms
+
+-- why a connection may be cut off in a turn
+pub data Cause (ms patience : ℕ) (c c' : Connection) : Type 0 where
+  -- it was cut off before
+  WasCut : c.status.fate ≡ Cut → Cause ms patience c c'
+  -- its line failed
+  HasFailed : c.calls.faults < c'.calls.faults → Cause ms patience c c'
+  -- its line took nothing for too long
+  TookNothing : HasStalled ms patience c → Cause ms patience c c'
+  -- it was open, and was read from: memory was refused for what was to be done for it
+  WasRefused : c.status.fate ≡ Open → c.calls.reads < c'.calls.reads → Cause ms patience c c'
+
+-- It is cut off only for such a cause.
+abbrev pub IsCutFor : ℕ → ℕ → Connection → Connection → Type 0
+IsCutFor ms patience c c' = c'.status.fate ≡ Cut → Cause ms patience c c'
