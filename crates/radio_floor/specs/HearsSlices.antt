@@ -101,4 +101,4 @@ abbrev pub ListenersHearSlices : Settings → Lists → List Delivery → List �
 ListenersHearSlices settings lists deliveries text stop = IsTranscriptOf settings lists deliveries text stop →
     (lines : List TranscriptLine) × AreLines lines × (written lines ≡ text)
     × ((label : ℕ) (asked : ListenRequest) (behind : List Event) → IsRequest (brought deliveries label) (Listen asked) behind
-        → IsGivenSlices settings lists deliveries (given lines label))
+    → IsGivenSlices settings lists deliveries (given lines label))

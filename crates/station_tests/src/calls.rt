@@ -165,7 +165,15 @@ pub fn replies_with(
     table: &[(Call, &'static str)],
 ) -> Result<(), Fail> {
     let core = core_with(alloc, options)?;
-    exercised(rt, alloc, core, &InTurn { first: table, next: &[] })
+    exercised(
+        rt,
+        alloc,
+        core,
+        &InTurn {
+            first: table,
+            next: &[],
+        },
+    )
 }
 
 /// Each call of the table is replied to as the table says.

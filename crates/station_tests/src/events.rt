@@ -17,7 +17,11 @@ const THREE_CLIENTS: &[(Call, &str)] = &[
 ];
 
 /// What follows upon them.
-fn three_clients(rt: &impl Abort, alloc: Global, table: &[(Call, &'static str)]) -> Result<(), Fail> {
+fn three_clients(
+    rt: &impl Abort,
+    alloc: Global,
+    table: &[(Call, &'static str)],
+) -> Result<(), Fail> {
     replies_in_turn(rt, alloc, 8, THREE_CLIENTS, table)
 }
 
