@@ -12,9 +12,7 @@ use Rattle.radio_session.specs.Hearing.{Heard, IsHeard}
 use Rattle.radio_session.specs.Exchanges.{Steps}
 use Rattle.radio_hall.specs.declared.line.Received.{Received}
 use Rattle.radio_hall.specs.declared.line.Received.TheVariants.{Bytes, Nothing, Closed as HasClosed, Fault}
-use Rattle.radio_hall.specs.declared.line.Sent.{Sent}
-use Rattle.radio_hall.specs.declared.line.Sent.TheVariants.{Took, Nothing as TakesNothing, Fault as HasBroken}
-use Rattle.radio_hall.specs.Lines.{Calls, HasGiven, after_read, after_write}
+use Rattle.radio_hall.specs.Lines.{Calls, HasGiven}
 use Rattle.radio_hall.specs.Connections.{Connection, is_open}
 use Rattle.radio_hall.specs.declared.conn.Fate.{Fate}
 use Rattle.radio_hall.specs.declared.conn.Fate.TheVariants.{Open, Ended, Closed, Cut}
@@ -23,6 +21,7 @@ use Rattle.radio_hall.specs.Duties.{IsWritten, IsLater, IsOwed, IsGiven, IsAtMos
 use Rattle.radio_hall.specs.Turns.{StandsBefore, Stands, Chain, IsServed, HasDrawn, EndsWithDraw, ServesInTurn}
 use Rattle.radio_hall.specs.Answering.{later_by, IsAnswered, AreAnswered, IsHeardOn}
 use Rattle.radio_hall.specs.Leaving.{IsFlushed, IsPatient, Listens, Works, Leaves, Draws}
+use Rattle.radio_hall.proofs.Calling.{later_same, later_none, later_then}
 use Rattle.radio_hall.proofs.Standing.{IsOne, still, cut_off, closed_out, heard_on, passed_over, taken_on, room_on, left_on}
 
 -- what its line gave and took, what is owed, and how its session stands
@@ -84,99 +83,6 @@ later_by_nil Open = refl
 later_by_nil Ended = refl
 later_by_nil Closed = refl
 later_by_nil Cut = refl
-
--- its line was not called
-pub later_same : {c c' : Connection} → c'.calls ≡ c.calls → c'.taken ≡ c.taken → IsLater c c'
-later_same {c} {c'} calls taken = record {
-  reads = omega (arith, ap (λ (x : Calls). x.reads) calls);
-  writes = omega (arith, ap (λ (x : Calls). x.writes) calls);
-  faults = omega (arith, ap (λ (x : Calls). x.faults) calls);
-  taken = ([], taken ∙ sym (append-nil c.taken));
-}
-
-pub later_none : (c : Connection) → IsLater c c
-later_none c = later_same refl refl
-
-pub later_then : (a b c : Connection) → IsLater a b → IsLater b c → IsLater a c
-later_then a b c f g = record {
-  reads = omega (arith, f.reads, g.reads);
-  writes = omega (arith, f.writes, g.writes);
-  faults = omega (arith, f.faults, g.faults);
-  taken = (f.taken.0 ++ g.taken.0, g.taken.1 ∙ ap (λ (xs : List ℕ). xs ++ g.taken.0) f.taken.1 ∙ append_assoc a.taken f.taken.0 g.taken.0);
-}
-
-reads_after : (answer : Received) (calls : Calls) → (after_read answer calls).reads ≡ suc calls.reads
-reads_after (Bytes n) calls = refl
-reads_after Nothing calls = refl
-reads_after HasClosed calls = refl
-reads_after Fault calls = refl
-
-writes_kept : (answer : Received) (calls : Calls) → (after_read answer calls).writes ≡ calls.writes
-writes_kept (Bytes n) calls = refl
-writes_kept Nothing calls = refl
-writes_kept HasClosed calls = refl
-writes_kept Fault calls = refl
-
-faults_by_read : (answer : Received) (calls : Calls) → calls.faults ≤ (after_read answer calls).faults
-faults_by_read (Bytes n) calls = omega arith
-faults_by_read Nothing calls = omega arith
-faults_by_read HasClosed calls = omega arith
-faults_by_read Fault calls = omega arith
-
-pub reads_kept : (answer : Sent) (calls : Calls) → (after_write answer calls).reads ≡ calls.reads
-reads_kept (Took n) calls = refl
-reads_kept TakesNothing calls = refl
-reads_kept HasBroken calls = refl
-
-pub writes_after : (answer : Sent) (calls : Calls) → (after_write answer calls).writes ≡ suc calls.writes
-writes_after (Took n) calls = refl
-writes_after TakesNothing calls = refl
-writes_after HasBroken calls = refl
-
-faults_by_write : (answer : Sent) (calls : Calls) → calls.faults ≤ (after_write answer calls).faults
-faults_by_write (Took n) calls = omega arith
-faults_by_write TakesNothing calls = omega arith
-faults_by_write HasBroken calls = omega arith
-
--- its line was read from
-pub later_by_read : {c c' : Connection} (answer : Received) → c'.calls ≡ after_read answer c.calls → c'.taken ≡ c.taken → IsLater c c'
-later_by_read {c} {c'} answer calls taken = record {
-  reads = omega (arith, ap (λ (x : Calls). x.reads) calls, reads_after answer c.calls);
-  writes = omega (arith, ap (λ (x : Calls). x.writes) calls, writes_kept answer c.calls);
-  faults = omega (arith, ap (λ (x : Calls). x.faults) calls, faults_by_read answer c.calls);
-  taken = ([], taken ∙ sym (append-nil c.taken));
-}
-
--- or written to
-pub later_by_write : {c c' : Connection} (answer : Sent) (part : List ℕ) → c'.calls ≡ after_write answer c.calls → c'.taken ≡ c.taken ++ part → IsLater c c'
-later_by_write {c} {c'} answer part calls taken = record {
-  reads = omega (arith, ap (λ (x : Calls). x.reads) calls, reads_kept answer c.calls);
-  writes = omega (arith, ap (λ (x : Calls). x.writes) calls, writes_after answer c.calls);
-  faults = omega (arith, ap (λ (x : Calls). x.faults) calls, faults_by_write answer c.calls);
-  taken = (part, taken);
-}
-
--- a write is one more, and no read
-pub written_once : (before after : Calls) (answer : Sent) → after ≡ after_write answer before → before.writes < after.writes
-written_once before after answer calls = omega (arith, ap (λ (x : Calls). x.writes) calls, writes_after answer before)
-
-pub unread_by_write : (before after : Calls) (answer : Sent) → after ≡ after_write answer before → after.reads ≡ before.reads
-unread_by_write before after answer calls = ap (λ (x : Calls). x.reads) calls ∙ reads_kept answer before
-
--- where nothing is left, all was taken
-pub taken_all : (n : ℕ) (owed : List ℕ) → drop n owed ≡ [] → take n owed ≡ owed
-taken_all n owed none = sym (append-nil (take n owed)) ∙ ap (λ (xs : List ℕ). take n owed ++ xs) (sym none) ∙ take-append-drop n owed
-
-pub none_of_some : {owed : List ℕ} → 0 < length owed → owed ≡ [] → ⊥
-none_of_some {owed} some none = lt_irrefl 0 (subst (λ (xs : List ℕ). 0 < length xs) none some)
-
--- one that was read from was asked
-pub asked_by_read : {a b m c : Connection} (answer : Received) → a ≡ b → m.calls ≡ after_read answer a.calls → IsLater m c → b.calls.reads < c.calls.reads
-asked_by_read {a} {b} {m} {c} answer e calls later =
-    omega (arith, ap (λ (o : Connection). o.calls.reads) e, ap (λ (x : Calls). x.reads) calls, reads_after answer a.calls, later.reads)
-
-pub asked_once : {a b : Connection} (after : Calls) (answer : Received) → a ≡ b → after ≡ after_read answer a.calls → b.calls.reads < after.reads
-asked_once {a} {b} after answer e calls = omega (arith, ap (λ (o : Connection). o.calls.reads) e, ap (λ (x : Calls). x.reads) calls, reads_after answer a.calls)
 
 -- what has no bytes is the empty list
 pub empty_is : (xs : List ℕ) → (length xs == 0) ≡ true → xs ≡ []

@@ -1,4 +1,5 @@
 pub mod Settled
+mod Calling
 mod Standing
 mod Deeds
 mod Comings

@@ -1,5 +1,6 @@
 use Rattle.std.proofs.Common.{inr, refl, sym, ◌∙◌}
-use Rattle.radio_hall.proofs.Deeds.{not_cut, patient_as, served_by_cut, later_same, le_by}
+use Rattle.radio_hall.proofs.Calling.{later_same}
+use Rattle.radio_hall.proofs.Deeds.{not_cut, patient_as, served_by_cut, le_by}
 use Rattle.radio_hall.proofs.serving.flushing.give_up.Goals as goal
 
 pub returns-then-is_past : goal.returns-then-is_past

@@ -3,7 +3,8 @@ use Rattle.radio_hall.specs.Lines.{Calls}
 use Rattle.radio_hall.specs.Connections.{Connection}
 use Rattle.radio_hall.specs.declared.line.Sent.TheVariants.{Took, Nothing, Fault}
 use Rattle.radio_hall.specs.Duties.{IsWritten}
-use Rattle.radio_hall.proofs.Deeds.{not_cut, flushed_as, served_by_cut, served_by_write, served_by_note, later_by_write, written_once, unread_by_write, taken_all, none_of_some}
+use Rattle.radio_hall.proofs.Calling.{later_by_write, written_once, unread_by_write, taken_all, none_of_some}
+use Rattle.radio_hall.proofs.Deeds.{not_cut, flushed_as, served_by_cut, served_by_write, served_by_note}
 use Rattle.radio_hall.proofs.serving.flushing.write.Goals as goal
 
 drop_nil : (n : ℕ) → drop {A = ℕ} n [] ≡ []

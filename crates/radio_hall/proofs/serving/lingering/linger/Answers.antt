@@ -2,7 +2,8 @@ use Rattle.std.proofs.Common.{◌≡◌, [], refl, ◌∙◌, ap}
 use Rattle.radio_hall.specs.declared.conn.Status.{Status}
 use Rattle.radio_hall.specs.declared.conn.Fate.TheVariants.{Ended}
 use Rattle.radio_hall.specs.Connections.{Connection, is_open}
-use Rattle.radio_hall.proofs.Deeds.{served_then, served_as, served_by_close, ended_is_written, later_same, ended_not_cut}
+use Rattle.radio_hall.proofs.Calling.{later_same}
+use Rattle.radio_hall.proofs.Deeds.{served_then, served_as, served_by_close, ended_is_written, ended_not_cut}
 use Rattle.radio_hall.proofs.serving.lingering.linger.Goals as goal
 
 pub returns-then-is_over : goal.returns-then-is_over

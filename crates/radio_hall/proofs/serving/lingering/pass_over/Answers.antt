@@ -1,7 +1,8 @@
 use Rattle.std.proofs.Common.{◌≡◌, refl, ◌∙◌, ap}
 use Rattle.radio_hall.specs.declared.conn.Fate.TheVariants.{Ended}
 use Rattle.radio_hall.specs.Connections.{Connection}
-use Rattle.radio_hall.proofs.Deeds.{served_as, served_by_read_on, later_by_read}
+use Rattle.radio_hall.proofs.Calling.{later_by_read}
+use Rattle.radio_hall.proofs.Deeds.{served_as, served_by_read_on}
 use Rattle.radio_hall.proofs.serving.lingering.pass_over.Goals as goal
 
 pub returns-clause-served : goal.returns-clause-served

@@ -2,7 +2,8 @@ use Rattle.std.proofs.Common.{◌≡◌, [], refl, ◌∙◌, ap}
 use Rattle.radio_hall.specs.declared.conn.Fate.TheVariants.{Open}
 use Rattle.radio_hall.specs.Connections.{Connection}
 use Rattle.radio_session.specs.Hearing.{Heard}
-use Rattle.radio_hall.proofs.Deeds.{heard_so, heard_by_cut, heard_on_one, later_same}
+use Rattle.radio_hall.proofs.Calling.{later_same}
+use Rattle.radio_hall.proofs.Deeds.{heard_so, heard_by_cut, heard_on_one}
 use Rattle.radio_hall.proofs.serving.listening.hear.Goals as goal
 
 pub returns-in-Ok : goal.returns-in-Ok

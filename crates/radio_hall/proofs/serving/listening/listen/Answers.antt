@@ -2,7 +2,8 @@ use Rattle.std.proofs.Common.{◌≡◌, [], refl, ◌∙◌, ap}
 use Rattle.radio_hall.specs.declared.conn.Fate.TheVariants.{Open}
 use Rattle.radio_hall.specs.Connections.{Connection}
 use Rattle.radio_hall.specs.declared.line.Received.TheVariants.{Bytes, Nothing, Closed, Fault}
-use Rattle.radio_hall.proofs.Deeds.{served_as, served_by_hearing, served_by_note, served_by_close, open_is_written, later_by_read, asked_by_read, asked_once}
+use Rattle.radio_hall.proofs.Calling.{later_by_read, asked_by_read, asked_once}
+use Rattle.radio_hall.proofs.Deeds.{served_as, served_by_hearing, served_by_note, served_by_close, open_is_written}
 use Rattle.radio_hall.proofs.serving.listening.listen.Goals as goal
 
 pub returns-in-Bytes : goal.returns-in-Bytes
