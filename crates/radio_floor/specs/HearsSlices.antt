@@ -72,7 +72,7 @@ AreSlices settings lists deliveries (stretch ∷ others) bytes =
     (shown : Shown) × (slice : List ℕ) × (rest : List ℕ) × IsSliceOf settings lists deliveries stretch shown slice
     × (bytes ≡ slice ++ rest) × AreSlices settings lists deliveries others rest
 
--- A listener was admitted: his head shows what the session shows in which he sat down, and behind it come his draws, woven at the interval that it names; the data in them are slices of what sources brought, the first of that session.
+-- A listener was admitted: behind his head come his draws, woven at the interval that it names; the data in them are slices of what sources brought, the first of one whose stream shows what the head shows.
 pub record IsListener (settings : Settings) (lists : Lists) (deliveries : List Delivery) (bytes : List ℕ) : Type 0 where
   pub shown : Shown
   pub interval : Option ℕ
