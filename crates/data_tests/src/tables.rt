@@ -49,13 +49,13 @@ impl Change<Guest> for Drinks {
 fn serve(guests: &mut Table<Guest>, id: u64, drinks: u32)
     ensures { guests.new ≡ update_first (λ guest. guest.id == id) (λ guest. record guest { drinks = drinks }) guests.old }
 {
-    guests.change(id, &Drinks(drinks));
+    guests.change(&id, &Drinks(drinks));
 }
 
 fn guest_of(guests: &Table<Guest>, id: u64) -> Option<&Guest>
     ensures { option_copied result ≡ find (λ guest. guest.id == id) guests.now }
 {
-    guests.get(id)
+    guests.get(&id)
 }
 
 #[derive(Drop)]
@@ -133,12 +133,12 @@ fn are_changed(guests: &mut Table<Guest>) -> bool {
 }
 
 fn are_tried(guests: &mut Table<Guest>) -> bool {
-    let refused = guests.try_change(7, &MoreDrinks(13)).is_err() && has_drinks(guests, 7, 8);
-    refused && guests.try_change(7, &MoreDrinks(12)).is_ok() && has_drinks(guests, 7, 12)
+    let refused = guests.try_change(&7, &MoreDrinks(13)).is_err() && has_drinks(guests, 7, 8);
+    refused && guests.try_change(&7, &MoreDrinks(12)).is_ok() && has_drinks(guests, 7, 12)
 }
 
 fn are_removed(guests: &mut Table<Guest>, id: u64) -> bool {
-    guests.remove(id).is_some() && guests.remove(id).is_none() && guests.get(id).is_none()
+    guests.remove(&id).is_some() && guests.remove(&id).is_none() && guests.get(&id).is_none()
 }
 
 #[test]
@@ -218,7 +218,7 @@ fn have_names(stations: &Table<Station>, names: &[[u8; 2]]) -> bool {
 }
 
 fn are_told_apart(stations: &Table<Station>) -> bool {
-    stations.get(Name(*b"ab")).is_some() && stations.get(Name(*b"ac")).is_none()
+    stations.get(&Name(*b"ab")).is_some() && stations.get(&Name(*b"ac")).is_none()
 }
 
 #[test]

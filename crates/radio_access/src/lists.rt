@@ -118,7 +118,7 @@ impl Lists {
     pub fn lets_in(&self, mount: &MountName, pair: Option<&Pair>) -> bool
         ensures { result ≡ lets_in self.now mount.now (option_copied pair.entry) }
     {
-        match self.users.get(*mount) {
+        match self.users.get(mount) {
             Some(listed) => accepts_sent(&listed.users, pair),
             None => true,
         }

@@ -52,8 +52,10 @@ first_or [] d = d
 first_or (r ∷ rs) d = r
 
 -- and of one with three replies
-pub core_steps3 : {E : Type 0} (core core' : World) (event : Event) (replies : List Reply) (a b c : Reply) (result : Result (List Reply) E) → result ≡ Ok replies → replies ≡ a ∷ b ∷ c ∷ []
-    → ((w : World) → Represents core w → IfOk result (λ rs. (r : Reply) × (w' : World) × Step w event r w' × (rs ≡ r ∷ r ∷ r ∷ []) × Represents core' w')) → Steps core event a core'
+pub core_steps3 : {E : Type 0} (core core' : World) (event : Event) (replies : List Reply) (a b c : Reply) (result : Result (List Reply) E)
+    → result ≡ Ok replies → replies ≡ a ∷ b ∷ c ∷ []
+    → ((w : World) → Represents core w → IfOk result (λ rs. (r : Reply) × (w' : World) × Step w event r w' × (rs ≡ r ∷ r ∷ r ∷ []) × Represents core' w'))
+    → Steps core event a core'
 core_steps3 core core' event replies a b c result is are step =
     λ w represents.
     let at = IfOk-at_ok (λ rs. (r : Reply) × (w' : World) × Step w event r w' × (rs ≡ r ∷ r ∷ r ∷ []) × Represents core' w') is (step w represents) in
@@ -72,13 +74,16 @@ Reply-set : IsSet Reply
 Reply-set = hlevel (props)
 
 -- whatever state a core stands for, its three replies are equal; and it stands for one
-pub alike : {E : Type 0} (keeps : Bool) (opening : World) (stored : List Entry) (core core' : World) (event : Event) (replies : List Reply) (a b c : Reply) (result : Result (List Reply) E)
+pub alike : {E : Type 0} (keeps : Bool) (opening : World) (stored : List Entry) (core core' : World) (event : Event) (replies : List Reply) (a b c : Reply)
+    (result : Result (List Reply) E)
     → result ≡ Ok replies → replies ≡ a ∷ b ∷ c ∷ []
     → ((w : World) → Represents core w → IfOk result (λ rs. (r : Reply) × (w' : World) × Step w event r w' × (rs ≡ r ∷ r ∷ r ∷ []) × Represents core' w'))
     → ∥ IsTold keeps opening stored core ∥₁ → (a ≡ b) × (b ≡ c)
 alike keeps opening stored core core' event replies a b c result is are step told =
     ∥∥₁_elim told (×_prop (Reply-set a b) (Reply-set b c)) (λ (t : IsTold keeps opening stored core).
-    let at = IfOk-at_ok (λ rs. (r : Reply) × (w' : World) × Step (world_of opening t.history) event r w' × (rs ≡ r ∷ r ∷ r ∷ []) × Represents core' w') is (step (world_of opening t.history) t.represents) in
+    let at =
+    IfOk-at_ok (λ rs. (r : Reply) × (w' : World) × Step (world_of opening t.history) event r w' × (rs ≡ r ∷ r ∷ r ∷ []) × Represents core' w') is
+    (step (world_of opening t.history) t.represents) in
     let all : a ∷ b ∷ c ∷ [] ≡ at.0 ∷ at.0 ∷ at.0 ∷ [] = sym are ∙ at.3 in
     let first : a ≡ at.0 = ap (λ (rs : List Reply). first_or rs a) all in
     let second : b ≡ at.0 = ap (λ (rs : List Reply). second_or rs a) all in
@@ -91,7 +96,8 @@ answered_by : {E : Type 0} (keeps : Bool) (opening : World) (stored : List Entry
     → OnErr result (core' ≡ core)
     → ∥ IsTold keeps opening stored core ∥₁ → ∥ IsTold keeps opening stored core' ∥₁
 answered_by keeps opening stored core core' event result (Ok reply) is unkept step refused told =
-    goes_on keeps opening stored stored core core' event reply (core_steps core core' event reply result is step) (λ kept. absurd (false≢true (sym unkept ∙ kept))) told
+    goes_on keeps opening stored stored core core' event reply (core_steps core core' event reply result is step)
+    (λ kept. absurd (false≢true (sym unkept ∙ kept))) told
 answered_by keeps opening stored core core' event result (Err e) is unkept step refused told =
     let same = IfErr-at_err (λ _. core' ≡ core) is refused in subst (λ c. ∥ IsTold keeps opening stored c ∥₁) (sym same) told
 

@@ -28,7 +28,8 @@ record Adds (w : World) (history : List Entry) : Type 0 where
 adds_first : (w : World) (e : Entry) (history : List Entry) → e.reply ≡ reply_to w e.event → StepAddsUp w e.event → Adds (world_after w e.event) history
     → Adds w (e ∷ history)
 adds_first w e history is step rest =
-    let step_numbers : (world_after w e.event).house.last_id ≡ w.house.last_id + arrivals e.reply = step.numbers ∙ ap (λ r. w.house.last_id + arrivals r) (sym is) in
+    let step_numbers : (world_after w e.event).house.last_id ≡ w.house.last_id + arrivals e.reply = step.numbers
+    ∙ ap (λ r. w.house.last_id + arrivals r) (sym is) in
     let step_clients : clients_there (world_after w e.event) + departures e.reply e.event ≡ clients_there w + arrivals e.reply =
     subst (λ (r : Reply). clients_there (world_after w e.event) + departures r e.event ≡ clients_there w + arrivals r) (sym is) step.clients in
     let step_seats : seats_there (world_after w e.event) + seats_lost (world_after w e.event) + listeners_leaving w e.reply e.event

@@ -71,7 +71,8 @@ impl<C: Chronicle, H: House> Accounts<C, H> {
     /// changed then.
     pub(crate) fn answer(&mut self, event: Event) -> Result<Receipt, OutOfMemory>
         requires { C.KEEPS ≡ false }
-        ensures step { (w : World) → Represents self.old.story.core w → IfOk result (λ receipt. (receipt.reply ≡ reply_to w event) × Represents self.new.story.core (world_after w event)) }
+        ensures step { (w : World) → Represents self.old.story.core w
+            → IfOk result (λ receipt. (receipt.reply ≡ reply_to w event) × Represents self.new.story.core (world_after w event)) }
         ensures event { IfOk result (λ receipt. (receipt.serial ≡ 0) × (receipt.event ≡ event)) }
         ensures chronicle { self.new.story.chronicle ≡ self.old.story.chronicle }
         ensures err { OnErr result (self.new.story.core ≡ self.old.story.core) }
@@ -87,7 +88,8 @@ impl<C: Chronicle, H: House> Accounts<C, H> {
     /// they are wanted.
     fn answer_draw(&mut self, id: u64, room: u32) -> Result<Receipt, OutOfMemory>
         requires { C.KEEPS ≡ false }
-        ensures step { (w : World) → Represents self.old.story.core w → IfOk result (λ receipt. (receipt.reply ≡ reply_to w (Event.Draw id room)) × Represents self.new.story.core (world_after w (Event.Draw id room))) }
+        ensures step { (w : World) → Represents self.old.story.core w
+            → IfOk result (λ receipt. (receipt.reply ≡ reply_to w (Event.Draw id room)) × Represents self.new.story.core (world_after w (Event.Draw id room))) }
         ensures event { IfOk result (λ receipt. (receipt.serial ≡ 0) × (receipt.event ≡ (Event.Draw id room))) }
         ensures chronicle { self.new.story.chronicle ≡ self.old.story.chronicle }
         ensures err { OnErr result (self.new.story.core ≡ self.old.story.core) }
@@ -103,7 +105,8 @@ impl<C: Chronicle, H: House> Accounts<C, H> {
     /// Any event, of which a copy is made, where nothing is stored.
     fn answer_copied(&mut self, event: Event) -> Result<Receipt, OutOfMemory>
         requires { C.KEEPS ≡ false }
-        ensures step { (w : World) → Represents self.old.story.core w → IfOk result (λ receipt. (receipt.reply ≡ reply_to w event) × Represents self.new.story.core (world_after w event)) }
+        ensures step { (w : World) → Represents self.old.story.core w
+            → IfOk result (λ receipt. (receipt.reply ≡ reply_to w event) × Represents self.new.story.core (world_after w event)) }
         ensures event { IfOk result (λ receipt. (receipt.serial ≡ 0) × (receipt.event ≡ event)) }
         ensures chronicle { self.new.story.chronicle ≡ self.old.story.chronicle }
         ensures err { OnErr result (self.new.story.core ≡ self.old.story.core) }
@@ -135,12 +138,14 @@ impl<C: Chronicle, H: House> Accounts<C, H> {
         event: Event,
     ) -> Result<Receipt, OutOfMemory>
         requires { C.KEEPS ≡ true }
-        ensures step { (w : World) → Represents self.old.story.core w → IfOk result (λ receipt. (receipt.reply ≡ reply_to w event) × Represents self.new.story.core (world_after w event)) }
+        ensures step { (w : World) → Represents self.old.story.core w
+            → IfOk result (λ receipt. (receipt.reply ≡ reply_to w event) × Represents self.new.story.core (world_after w event)) }
         ensures event { IfOk result (λ receipt. receipt.event ≡ event) }
         ensures serial { IfOk result (λ receipt. receipt.serial ≡ length (C.entries self.new.story.chronicle)) }
         ensures history { IfOk result (λ receipt. C.entries self.new.story.chronicle ≡ C.entries self.old.story.chronicle ++ entry_of receipt ∷ []) }
         ensures receipts { IfOk result (λ receipt. holdings.new.receipts.items ≡ holdings.old.receipts.items ++ receipt ∷ []) }
-        ensures err { OnErr result ((self.new.story.core ≡ self.old.story.core) × (C.entries self.new.story.chronicle ≡ C.entries self.old.story.chronicle) × (holdings.new.receipts.items ≡ holdings.old.receipts.items)) }
+        ensures err { OnErr result ((self.new.story.core ≡ self.old.story.core) × (C.entries self.new.story.chronicle ≡ C.entries self.old.story.chronicle)
+            × (holdings.new.receipts.items ≡ holdings.old.receipts.items)) }
         ensures frees { TakesNoMemory event → room_for holdings.old.clients.items event ≡ 0 → IsOk result }
     {
         match self.prepare(holdings, &event) {
@@ -156,9 +161,12 @@ impl<C: Chronicle, H: House> Accounts<C, H> {
     /// `OutOfMemory` where memory was refused.
     fn prepare(&mut self, holdings: &mut Holdings<H>, event: &Event) -> Result<Copies, OutOfMemory>
         ensures copies { IfOk result (λ copies. (copies.noted ≡ event.now) × (copies.held ≡ event.now) × (copies.told ≡ event.now)) }
-        ensures chronicle { OnOk result ((0 < C.room self.new.story.chronicle) × (self.new.debt.owed + room_for holdings.new.clients.items event.now ≤ C.room self.new.story.chronicle)) }
+        ensures chronicle { OnOk result ((0 < C.room self.new.story.chronicle)
+            × (self.new.debt.owed + room_for holdings.new.clients.items event.now ≤ C.room self.new.story.chronicle)) }
         ensures most { OnOk result (C.room self.new.story.chronicle < 2 ^ 64) }
-        ensures receipts { OnOk result (vec_len holdings.new.receipts + vec_len holdings.new.clients + room_for holdings.new.clients.items event.now ≤ vec_capacity holdings.new.receipts) }
+        ensures receipts { OnOk result
+            (vec_len holdings.new.receipts + vec_len holdings.new.clients + room_for holdings.new.clients.items event.now
+            ≤ vec_capacity holdings.new.receipts) }
         ensures clients { OnOk result (is_arrival event.now ≡ true → vec_len holdings.new.clients < vec_capacity holdings.new.clients) }
         ensures frees { TakesNoMemory event.now → room_for holdings.old.clients.items event.now ≡ 0 → IsOk result }
         ensures same { (self.new.story.core ≡ self.old.story.core) × (C.entries self.new.story.chronicle ≡ C.entries self.old.story.chronicle) }
@@ -171,9 +179,12 @@ impl<C: Chronicle, H: House> Accounts<C, H> {
     /// Makes room for an event and for the ends that are owed then. `OutOfMemory` where memory was
     /// refused.
     fn make_room(&mut self, holdings: &mut Holdings<H>, event: &Event) -> Result<(), OutOfMemory>
-        ensures chronicle { OnOk result ((0 < C.room self.new.story.chronicle) × (self.new.debt.owed + room_for holdings.new.clients.items event.now ≤ C.room self.new.story.chronicle)) }
+        ensures chronicle { OnOk result ((0 < C.room self.new.story.chronicle)
+            × (self.new.debt.owed + room_for holdings.new.clients.items event.now ≤ C.room self.new.story.chronicle)) }
         ensures most { OnOk result (C.room self.new.story.chronicle < 2 ^ 64) }
-        ensures receipts { OnOk result (vec_len holdings.new.receipts + vec_len holdings.new.clients + room_for holdings.new.clients.items event.now ≤ vec_capacity holdings.new.receipts) }
+        ensures receipts { OnOk result
+            (vec_len holdings.new.receipts + vec_len holdings.new.clients + room_for holdings.new.clients.items event.now
+            ≤ vec_capacity holdings.new.receipts) }
         ensures clients { OnOk result (is_arrival event.now ≡ true → vec_len holdings.new.clients < vec_capacity holdings.new.clients) }
         ensures frees { room_for holdings.old.clients.items event.now ≡ 0 → IsOk result }
         ensures same { (self.new.story.core ≡ self.old.story.core) × (C.entries self.new.story.chronicle ≡ C.entries self.old.story.chronicle) }
@@ -198,16 +209,20 @@ impl<C: Chronicle, H: House> Accounts<C, H> {
     ) -> Result<Receipt, OutOfMemory>
         requires keeps { C.KEEPS ≡ true }
         requires copies { (copies.noted ≡ event) × (copies.held ≡ event) × (copies.told ≡ event) }
-        requires chronicle { (0 < C.room self.old.story.chronicle) × (self.old.debt.owed + room_for holdings.old.clients.items event ≤ C.room self.old.story.chronicle) }
+        requires chronicle { (0 < C.room self.old.story.chronicle)
+            × (self.old.debt.owed + room_for holdings.old.clients.items event ≤ C.room self.old.story.chronicle) }
         requires most { C.room self.old.story.chronicle < 2 ^ 64 }
-        requires receipts { vec_len holdings.old.receipts + vec_len holdings.old.clients + room_for holdings.old.clients.items event ≤ vec_capacity holdings.old.receipts }
+        requires receipts { vec_len holdings.old.receipts + vec_len holdings.old.clients + room_for holdings.old.clients.items event
+            ≤ vec_capacity holdings.old.receipts }
         requires clients { is_arrival event ≡ true → vec_len holdings.old.clients < vec_capacity holdings.old.clients }
-        ensures step { (w : World) → Represents self.old.story.core w → IfOk result (λ receipt. (receipt.reply ≡ reply_to w event) × Represents self.new.story.core (world_after w event)) }
+        ensures step { (w : World) → Represents self.old.story.core w
+            → IfOk result (λ receipt. (receipt.reply ≡ reply_to w event) × Represents self.new.story.core (world_after w event)) }
         ensures event { IfOk result (λ receipt. receipt.event ≡ event) }
         ensures serial { IfOk result (λ receipt. receipt.serial ≡ length (C.entries self.new.story.chronicle)) }
         ensures history { IfOk result (λ receipt. C.entries self.new.story.chronicle ≡ C.entries self.old.story.chronicle ++ entry_of receipt ∷ []) }
         ensures receipts { IfOk result (λ receipt. holdings.new.receipts.items ≡ holdings.old.receipts.items ++ receipt ∷ []) }
-        ensures err { OnErr result ((self.new.story.core ≡ self.old.story.core) × (self.new.story.chronicle ≡ self.old.story.chronicle) × (holdings.new.receipts.items ≡ holdings.old.receipts.items)) }
+        ensures err { OnErr result ((self.new.story.core ≡ self.old.story.core) × (self.new.story.chronicle ≡ self.old.story.chronicle)
+            × (holdings.new.receipts.items ≡ holdings.old.receipts.items)) }
         ensures frees { TakesNoMemory event → IsOk result }
     {
         let Copies { noted, held, told } = copies;

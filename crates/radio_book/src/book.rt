@@ -74,9 +74,12 @@ impl<C: Chronicle, H: House> Book<C, H> {
     /// refused, nor the clock.
     pub fn apply(&mut self, pass: &mut Pass<C, H>, event: Event) -> Result<Receipt, OutOfMemory>
         // whatever state the core stands for, the reply is that of a step from it, and the core stands for the state after it
-        ensures step { (w : World) → Represents self.old.core w → IfOk result (λ receipt. (receipt.reply ≡ reply_to w event) × Represents self.new.core (world_after w event)) }
+        ensures step { (w : World) → Represents self.old.core w
+            → IfOk result (λ receipt. (receipt.reply ≡ reply_to w event) × Represents self.new.core (world_after w event)) }
         ensures event { IfOk result (λ receipt. receipt.event ≡ event) }
-        // whatever was called before, there is a history that is a run from the opening state, and the reply is that of a step after it; where entries are stored, the receipt's place is the one behind it
+        // whatever was called before, there is a history that is a run from the opening state, and
+        // the reply is that of a step after it; where entries are stored, the receipt's place is
+        // the one behind it
         ensures legal { IfOk result (λ receipt. ∥ IsLegal C.KEEPS H.opening receipt ∥₁) }
         // where entries are stored, the history grows by this event with this reply, at the receipt's serial
         ensures history { C.KEEPS ≡ true → IfOk result (λ receipt. self.new.history ≡ self.old.history ++ entry_of receipt ∷ []) }

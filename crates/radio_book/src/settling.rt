@@ -1,6 +1,7 @@
 //! All passes held against the book.
 
-ghost use Rattle.std.specs.Prelude.{◌≡◌, ◌↔◌, ◌<◌, ◌≤◌, ◌^◌, ◌∷◌, [], ◌++◌, ℕ, length, IsTrue, IfOk, IfErr, IfSome, OnOk, IfNone, IsPermutation, Any, All, sum_by};
+ghost use Rattle.std.specs.Prelude.{◌≡◌, ◌↔◌, ◌<◌, ◌≤◌, ◌^◌, ◌∷◌, [], ◌++◌, ℕ, length, IsTrue, IfOk, IfErr, IfSome, OnOk, IfNone, IsPermutation, Any};
+ghost use Rattle.std.specs.Prelude.{All, sum_by};
 ghost use Rattle.std.specs.List.{range_with_len};
 ghost use Rattle.radio_book.specs.History.{IsRun, StandsIn};
 ghost use Rattle.radio_book.specs.Settling.{Falls, IsStrange, Rises, Shows, ShowsBySerials, all_serials, serials, times};

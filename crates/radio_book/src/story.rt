@@ -37,7 +37,8 @@ impl<C: Chronicle, H: House> Story<C, H> {
     /// changed then.
     pub(crate) fn answer(&mut self, event: Event) -> Result<Reply, OutOfMemory>
         requires { C.KEEPS ≡ false }
-        ensures step { (w : World) → Represents self.old.core w → IfOk result (λ reply. (reply ≡ reply_to w event) × Represents self.new.core (world_after w event)) }
+        ensures step { (w : World) → Represents self.old.core w
+            → IfOk result (λ reply. (reply ≡ reply_to w event) × Represents self.new.core (world_after w event)) }
         ensures chronicle { self.new.chronicle ≡ self.old.chronicle }
         ensures err { OnErr result (self.new.core ≡ self.old.core) }
         ensures frees { TakesNoMemory event → IsOk result }
@@ -55,7 +56,8 @@ impl<C: Chronicle, H: House> Story<C, H> {
         requires keeps { C.KEEPS ≡ true }
         requires copy { copy ≡ event }
         requires room { 0 < C.room self.old.chronicle }
-        ensures step { (w : World) → Represents self.old.core w → IfOk result (λ replies. (replies.0 ≡ reply_to w event) × Represents self.new.core (world_after w event)) }
+        ensures step { (w : World) → Represents self.old.core w
+            → IfOk result (λ replies. (replies.0 ≡ reply_to w event) × Represents self.new.core (world_after w event)) }
         ensures alike { IfOk result (λ replies. replies.1 ≡ replies.0) }
         ensures noted { IfOk result (λ replies. C.entries self.new.chronicle ≡ C.entries self.old.chronicle ++ entry event replies.0 ∷ []) }
         ensures room { C.room self.old.chronicle ≤ C.room self.new.chronicle + 1 }

@@ -19,7 +19,8 @@ use Rattle.radio_core.specs.Sessions.{Session}
 use Rattle.radio_core.specs.Sound.{AreRising, IsSound}
 use Rattle.radio_core.specs.Step.{outcome, reply_to, world_after}
 use Rattle.radio_core.specs.Stream.{end_of, burst_start}
-use Rattle.radio_core.specs.Ways.{Way, Misplaced, IsFinished, IsDenied, IsRefused, IsAdmitted, Begins, Receives, SetsTitle, TakesSeat, HandsOut, Ends, EndsAndLeaves, Leaves, HasPassed, Ticks}
+use Rattle.radio_core.specs.Ways.{Way, Misplaced, IsFinished, IsDenied, IsRefused, IsAdmitted, Begins, Receives, SetsTitle, TakesSeat, HandsOut, Ends}
+use Rattle.radio_core.specs.Ways.{EndsAndLeaves, Leaves, HasPassed, Ticks}
 use Rattle.radio_seats.specs.SeatLaws.{has_sat_down}
 use Rattle.radio_core.proofs.Lookups.{found_named}
 use Rattle.radio_core.proofs.Soundness.{burst_within}

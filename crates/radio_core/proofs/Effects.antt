@@ -21,7 +21,8 @@ use Rattle.radio_core.specs.Sessions.{session_of}
 use Rattle.radio_core.specs.Sound.{IsSound}
 use Rattle.radio_core.specs.Source.{shown_for}
 use Rattle.radio_core.specs.Step.{outcome, reply_to, world_after}
-use Rattle.radio_core.specs.Ways.{Way, Misplaced, IsFinished, IsDenied, IsRefused, IsAdmitted, Begins, Receives, SetsTitle, TakesSeat, HandsOut, Ends, EndsAndLeaves, Leaves, HasPassed, Ticks, client_in}
+use Rattle.radio_core.specs.Ways.{Way, Misplaced, IsFinished, IsDenied, IsRefused, IsAdmitted, Begins, Receives, SetsTitle, TakesSeat, HandsOut, Ends}
+use Rattle.radio_core.specs.Ways.{EndsAndLeaves, Leaves, HasPassed, Ticks, client_in}
 use Rattle.radio_seats.specs.SeatLaws.{is_no_listener, beside_left}
 use Rattle.radio_core.proofs.Lookups.{is_over}
 use Rattle.radio_seats.specs.SeatLaws.{listener_seated}
@@ -51,7 +52,8 @@ pub data Effect (w later : World) (event : Event) (reply : Reply) : Type 0 where
   -- everybody stands as before
   Same : ((id : ℕ) → standing_of later id ≡ standing_of w id) → Effect w later event reply
   -- a client has arrived
-  Joins : (peer : Peer) → passes w.house.lists peer ≡ true → reply ≡ Arrived (w.house.last_id + 1) → Turns w later (w.house.last_id + 1) (Undecided peer) → Effect w later event reply
+  Joins : (peer : Peer) → passes w.house.lists peer ≡ true → reply ≡ Arrived (w.house.last_id + 1) → Turns w later (w.house.last_id + 1) (Undecided peer)
+      → Effect w later event reply
   -- the event's client stands otherwise
   Acts : (him : ℕ) (now : Standing) → client_in event ≡ Some him → HasActed now → Turns w later him now → Effect w later event reply
   -- and the session ends that he feeds

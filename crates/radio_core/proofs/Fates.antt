@@ -215,7 +215,8 @@ lost_in listener number rule (Some client) e = lost_by listener number rule clie
 
 -- all seats end of which something holds that is a cause
 module _ (w : World) (s : IsSound w) (p : Seat → Bool) (rule : Rule) (event : Event)
-    (causes : (id : ℕ) (seat : Seat) → seat_of w.seats id ≡ Some seat → p seat ≡ true → Cause w (record w { seats = with_ended w.seats p rule }) event id rule) where
+    (causes : (id : ℕ) (seat : Seat) → seat_of w.seats id ≡ Some seat → p seat ≡ true
+    → Cause w (record w { seats = with_ended w.seats p rule }) event id rule) where
   abbrev seats_ended : World
   seats_ended = record w { seats = with_ended w.seats p rule }
 
@@ -228,7 +229,8 @@ module _ (w : World) (s : IsSound w) (p : Seat → Bool) (rule : Rule) (event : 
     client = client_of w.house.clients id
 
     by_loss : (listener_of (with_ended w.seats p rule) id ≡ listener_of w.seats id)
-        ⊎ LosesSeat p rule (listener_of w.seats id) (listener_of (with_ended w.seats p rule) id) → Fate w (record w { seats = with_ended w.seats p rule }) event id
+        ⊎ LosesSeat p rule (listener_of w.seats id) (listener_of (with_ended w.seats p rule) id)
+        → Fate w (record w { seats = with_ended w.seats p rule }) event id
     by_loss (inl same) = GoesOn (ap (λ l. standing_in l (client_of w.house.clients id)) same) (ap seat_in same) (λ mount e. refl) (λ seat e. refl)
     by_loss (inr loses) =
         let sat : standing_of w id ≡ Sits = s.sitting id loses.seat loses.had_a_seat in

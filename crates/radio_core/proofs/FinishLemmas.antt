@@ -25,7 +25,8 @@ use Rattle.radio_seats.specs.Seats.{listener_of, seat_of}
 use Rattle.radio_core.specs.Sessions.{session_of}
 use Rattle.radio_core.specs.Sound.{IsSound}
 use Rattle.radio_core.specs.Step.{outcome, reply_to, world_after}
-use Rattle.radio_core.specs.Ways.{Way, Misplaced, IsFinished, IsDenied, IsRefused, IsAdmitted, Begins, Receives, SetsTitle, TakesSeat, HandsOut, Ends, EndsAndLeaves, Leaves, HasPassed, Ticks, client_in}
+use Rattle.radio_core.specs.Ways.{Way, Misplaced, IsFinished, IsDenied, IsRefused, IsAdmitted, Begins, Receives, SetsTitle, TakesSeat, HandsOut, Ends}
+use Rattle.radio_core.specs.Ways.{EndsAndLeaves, Leaves, HasPassed, Ticks, client_in}
 use Rattle.radio_core.proofs.Effects.{Effect, Same, Joins, Acts, Silences, Sweeps, IsSwept, GoesOnAs, IsOut, HasActed, effect_of}
 use Rattle.radio_core.proofs.Fates.{stops_there}
 use Rattle.radio_core.proofs.TickLemmas.{asking_at}
@@ -213,10 +214,12 @@ since w s (event ∷ events) id rule e = later (since (world_after w event) (sou
             put.finishes;
       })
 
-pub was_finished : (settings : Settings) (lists : Lists) (events : List Event) (id : ℕ) (rule : Rule) → standing_of (run_after settings lists events) id ≡ HasFinished rule
+pub was_finished : (settings : Settings) (lists : Lists) (events : List Event) (id : ℕ) (rule : Rule)
+    → standing_of (run_after settings lists events) id ≡ HasFinished rule
     → WasFinished settings lists events id rule
 was_finished settings lists events id rule e = either (since (opening settings lists) (sound_opening settings lists) events id rule e) where
-  either : (standing_of (opening settings lists) id ≡ HasFinished rule) ⊎ Put (opening settings lists) events id rule → WasFinished settings lists events id rule
+  either : (standing_of (opening settings lists) id ≡ HasFinished rule) ⊎ Put (opening settings lists) events id rule
+      → WasFinished settings lists events id rule
   either (inl stood) = cc
   either (inr put) = record { before = put.before; event = put.event; after = put.after; in_order = put.in_order; finishes = put.finishes }
 

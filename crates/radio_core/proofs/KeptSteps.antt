@@ -9,8 +9,10 @@ use Rattle.radio_tables.specs.EachLaws.{Each_kept, Each_updated, Each_placed}
 use Rattle.radio_seats.specs.Seats.{with_ended}
 use Rattle.radio_core.specs.declared.clients.ClientState.TheVariants.{Answered}
 use Rattle.radio_core.specs.declared.outcome.Change.{Change}
-use Rattle.radio_core.specs.declared.outcome.Change.TheVariants.{Nothing, Answer, Admit, Begin, Receive, SetTitle, TakeSeat, Advance, End, EndAndLeave, Forget, Tick}
-use Rattle.radio_core.specs.Changes.{changed, session_ended, forgotten, laggards_ended, timed_out_by, durations_over, first_silent, session_silenced, on_silent, silence, ticked}
+use Rattle.radio_core.specs.declared.outcome.Change.TheVariants.{Nothing, Answer, Admit, Begin, Receive, SetTitle, TakeSeat, Advance, End}
+use Rattle.radio_core.specs.declared.outcome.Change.TheVariants.{EndAndLeave, Forget, Tick}
+use Rattle.radio_core.specs.Changes.{changed, session_ended, forgotten, laggards_ended, timed_out_by, durations_over, first_silent, session_silenced}
+use Rattle.radio_core.specs.Changes.{on_silent, silence, ticked}
 use Rattle.radio_core.specs.Clients.{in_state}
 use Rattle.radio_core.specs.Kept.{kept_session, kept_live, kept_of}
 use Rattle.radio_core.specs.KeptChanges.{kept_changed}

@@ -1,5 +1,6 @@
 -- what is kept of a stream, and of a stream that grows
-use Rattle.std.proofs.Common.{◌≡◌, Bool, true, false, ℕ, ◌+◌, ◌-◌, ◌≤◌, Some, List, [], ◌∷◌, ◌++◌, length, take, drop, replicate, refl, ap, sym, ◌∙◌, arith, length-append, append_assoc}
+use Rattle.std.proofs.Common.{◌≡◌, Bool, true, false, ℕ, ◌+◌, ◌-◌, ◌≤◌, Some, List, [], ◌∷◌, ◌++◌, length, take, drop, replicate, refl, ap, sym, ◌∙◌}
+use Rattle.std.proofs.Common.{arith, length-append, append_assoc}
 use Rattle.std.specs.Prelude.{find, nat_le, unwrap_or, if◌then◌else◌}
 use Rattle.std.proofs.lemmas.Bool.{le-leb, leb-true}
 use Rattle.std.proofs.lemmas.List.{length-replicate, length-drop, drop-drop, drop-append-le}

@@ -25,7 +25,8 @@ use Rattle.radio_core.specs.declared.standing.Standing.TheVariants.{Unknown, Und
 use Rattle.radio_core.specs.Facts.{is_known}
 use Rattle.radio_core.specs.Limits.{IsFullAt, HasUserAt, DeniesByLimits, most_at, allows_duplicates_at}
 use Rattle.radio_core.specs.Step.{outcome, reply_to}
-use Rattle.radio_core.specs.Ways.{Way, Misplaced, IsFinished, IsDenied, IsRefused, IsAdmitted, Begins, Receives, SetsTitle, TakesSeat, HandsOut, Ends, EndsAndLeaves, Leaves, HasPassed, Ticks, rows_for, rows_from}
+use Rattle.radio_core.specs.Ways.{Way, Misplaced, IsFinished, IsDenied, IsRefused, IsAdmitted, Begins, Receives, SetsTitle, TakesSeat, HandsOut, Ends}
+use Rattle.radio_core.specs.Ways.{EndsAndLeaves, Leaves, HasPassed, Ticks, rows_for, rows_from}
 use Rattle.radio_core.specs.World.{World, standing_of}
 use Rattle.radio_core.proofs.Ways.{way_of, rows_by, found_by, rows_there}
 

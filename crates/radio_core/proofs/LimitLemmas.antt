@@ -1,5 +1,6 @@
 -- in every state of a run, no more sit at a mount than may, and nobody sits twice where each may sit once
-use Rattle.std.proofs.Common.{◌≡◌, Bool, true, false, ℕ, zero, suc, ◌<◌, ◌≤◌, ◌==◌, ◌&&◌, not, Option, Some, None, List, [], ◌∷◌, length, refl, ap, sym, subst, ◌∙◌, arith}
+use Rattle.std.proofs.Common.{◌≡◌, Bool, true, false, ℕ, zero, suc, ◌<◌, ◌≤◌, ◌==◌, ◌&&◌, not, Option, Some, None, List, [], ◌∷◌, length, refl, ap}
+use Rattle.std.proofs.Common.{sym, subst, ◌∙◌, arith}
 use Rattle.std.proofs.lemmas.Bool.Decides.{nat_tests}
 use Rattle.std.proofs.lemmas.Slice.Eq.{bytes_eq-Decides}
 use Rattle.radio_creds.specs.Credentials.{Credentials}
@@ -10,7 +11,8 @@ use Rattle.radio_tables.specs.KeyLaws.{by_number, by_name}
 use Rattle.radio_seats.specs.declared.seat.Listener.{Listener}
 use Rattle.radio_seats.specs.declared.seat.Seat.{Seat}
 use Rattle.radio_seats.specs.Seats.{seats_at, count_at, SitsAs, has_user, sits_there}
-use Rattle.radio_seats.specs.CountLaws.{NobodyCame, nobody_came, nobody_came_twice, nobody_came_hearing, nobody_came_finishing, nobody_came_leaving, one_more_at, no_more_elsewhere, nobody_sits_as}
+use Rattle.radio_seats.specs.CountLaws.{NobodyCame, nobody_came, nobody_came_twice, nobody_came_hearing, nobody_came_finishing, nobody_came_leaving}
+use Rattle.radio_seats.specs.CountLaws.{one_more_at, no_more_elsewhere, nobody_sits_as}
 use Rattle.radio_seats.specs.Walk.{is_full, sits_already}
 use Rattle.radio_core.specs.declared.event.Event.{Event}
 use Rattle.radio_core.specs.declared.event.ListenRequest.{ListenRequest}
@@ -24,7 +26,8 @@ use Rattle.radio_core.specs.Run.{world_after_all, run_after}
 use Rattle.radio_core.specs.Sessions.{Session, session_of}
 use Rattle.radio_core.specs.Sound.{IsSound}
 use Rattle.radio_core.specs.Step.{outcome, world_after}
-use Rattle.radio_core.specs.Ways.{Way, Misplaced, IsFinished, IsDenied, IsRefused, IsAdmitted, Begins, Receives, SetsTitle, TakesSeat, HandsOut, Ends, EndsAndLeaves, Leaves, HasPassed, Ticks}
+use Rattle.radio_core.specs.Ways.{Way, Misplaced, IsFinished, IsDenied, IsRefused, IsAdmitted, Begins, Receives, SetsTitle, TakesSeat, HandsOut, Ends}
+use Rattle.radio_core.specs.Ways.{EndsAndLeaves, Leaves, HasPassed, Ticks}
 use Rattle.radio_core.specs.World.{World, opening, standing_of}
 use Rattle.radio_core.proofs.Lookups.{found_named}
 use Rattle.radio_core.proofs.SoundRuns.{sound_after, sound_opening}

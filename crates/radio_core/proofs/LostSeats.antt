@@ -12,7 +12,8 @@ use Rattle.radio_core.specs.Finishes.{Finishes}
 use Rattle.radio_core.specs.Others.{StandsOn, LosesNoSeatElse}
 use Rattle.radio_core.specs.Sound.{IsSound}
 use Rattle.radio_core.specs.Step.{outcome, world_after}
-use Rattle.radio_core.specs.Ways.{Way, Misplaced, IsFinished, IsDenied, IsRefused, IsAdmitted, Begins, Receives, SetsTitle, TakesSeat, HandsOut, Ends, EndsAndLeaves, Leaves, HasPassed, Ticks, client_in}
+use Rattle.radio_core.specs.Ways.{Way, Misplaced, IsFinished, IsDenied, IsRefused, IsAdmitted, Begins, Receives, SetsTitle, TakesSeat, HandsOut, Ends}
+use Rattle.radio_core.specs.Ways.{EndsAndLeaves, Leaves, HasPassed, Ticks, client_in}
 use Rattle.radio_core.specs.World.{World, standing_of}
 use Rattle.radio_core.proofs.FinishLemmas.{others_hold}
 use Rattle.radio_core.proofs.GoneLemmas.{by_own}
@@ -60,7 +61,8 @@ module _ (w : World) (s : IsSound w) (id : ℕ) (seat : Seat) (has : seat_of w.s
       let still : seat_of (world_after w event).seats id ≡ Some one.0 = one.1 in
       cc
   other_by event (inr (inl finished)) none = finished
-  other_by event (inr (inr arrived)) none = let unknown : standing_of w id ≡ Unknown = ((replies_fit w s event).arrived id arrived).3 in let sat : standing_of w id ≡ Sits = sits in cc
+  other_by event (inr (inr arrived)) none = let unknown : standing_of w id ≡ Unknown =
+      ((replies_fit w s event).arrived id arrived).3 in let sat : standing_of w id ≡ Sits = sits in cc
 
 pub loses_no_seat_else : (w : World) → IsSound w → (event : Event) → LosesNoSeatElse w event
 loses_no_seat_else w s event id seat has none =

@@ -31,7 +31,8 @@ use Rattle.radio_core.specs.Service.{IsTakenIn, IsHanded, Serves}
 use Rattle.radio_core.specs.Sessions.{Session, session_of}
 use Rattle.radio_core.specs.Sound.{IsSound}
 use Rattle.radio_core.specs.Step.{outcome, reply_to, world_after}
-use Rattle.radio_core.specs.Ways.{Way, Misplaced, IsFinished, IsDenied, IsRefused, IsAdmitted, Begins, Receives, SetsTitle, TakesSeat, HandsOut, Ends, EndsAndLeaves, Leaves, HasPassed, Ticks, IsUndecided}
+use Rattle.radio_core.specs.Ways.{Way, Misplaced, IsFinished, IsDenied, IsRefused, IsAdmitted, Begins, Receives, SetsTitle, TakesSeat, HandsOut, Ends}
+use Rattle.radio_core.specs.Ways.{EndsAndLeaves, Leaves, HasPassed, Ticks, IsUndecided}
 use Rattle.radio_core.proofs.FinishLemmas.{finished_told}
 use Rattle.radio_core.proofs.SeatedLemmas.{seat_of_sitting}
 use Rattle.radio_core.proofs.Standings.{turns_feeding, turns_sitting, turns_admitted}

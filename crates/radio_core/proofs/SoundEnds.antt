@@ -138,7 +138,8 @@ module _ (w : World) (s : IsSound w) (him : ℕ) (mount : List ℕ) (feeding : s
   turns_ended_and_left = turns_forgotten (session_ended w mount) him
 
   pub sound_ended : IsSound (changed w (End him mount))
-  sound_ended = sound_over w s him mount feeding (changed w (End him mount)) Answered turns_ended left_apart (λ other. refl) (λ id seat e. e) refl (λ other f. cc)
+  sound_ended =
+      sound_over w s him mount feeding (changed w (End him mount)) Answered turns_ended left_apart (λ other. refl) (λ id seat e. e) refl (λ other f. cc)
 
   -- nobody has a seat but who had one
   pub seats_left : (id : ℕ) (seat : Seat) → seat_of (changed w (EndAndLeave him mount)).seats id ≡ Some seat
@@ -150,4 +151,6 @@ module _ (w : World) (s : IsSound w) (him : ℕ) (mount : List ℕ) (feeding : s
       (λ apart. sym (ap seat_in (beside_left (session_ended w mount).seats him id apart)) ∙ e)
 
   pub sound_ended_and_left : IsSound (changed w (EndAndLeave him mount))
-  sound_ended_and_left = sound_over w s him mount feeding (changed w (EndAndLeave him mount)) Unknown turns_ended_and_left left_apart (λ other. refl) seats_left refl (λ other f. cc)
+  sound_ended_and_left =
+      sound_over w s him mount feeding (changed w (EndAndLeave him mount)) Unknown turns_ended_and_left left_apart (λ other. refl) seats_left refl
+      (λ other f. cc)

@@ -19,7 +19,8 @@ use Rattle.radio_core.specs.Run.{world_after_all, run_after}
 use Rattle.radio_core.specs.Sound.{IsSound}
 use Rattle.radio_core.specs.Source.{shown_for}
 use Rattle.radio_core.specs.Step.{outcome, world_after}
-use Rattle.radio_core.specs.Ways.{Way, Misplaced, IsFinished, IsDenied, IsRefused, IsAdmitted, Begins, Receives, SetsTitle, TakesSeat, HandsOut, Ends, EndsAndLeaves, Leaves, HasPassed, Ticks}
+use Rattle.radio_core.specs.Ways.{Way, Misplaced, IsFinished, IsDenied, IsRefused, IsAdmitted, Begins, Receives, SetsTitle, TakesSeat, HandsOut, Ends}
+use Rattle.radio_core.specs.Ways.{EndsAndLeaves, Leaves, HasPassed, Ticks}
 use Rattle.radio_core.proofs.Soundness.{sound_answered, sound_forgotten, sound_admitted, sound_sits}
 use Rattle.radio_core.proofs.SoundSessions.{sound_begun, sound_grown, sound_heard}
 use Rattle.radio_core.proofs.SoundTitles.{sound_titled}
@@ -49,7 +50,8 @@ sound_by w s event o (IsFinished _ id rule his told) = s
 sound_by w s event o (IsDenied _ rule v other) = s
 sound_by w s event o (IsRefused _ id rule v his undecided) = sound_answered w s id undecided.0 undecided.1
 sound_by w s event o (IsAdmitted peer allowed) = sound_admitted w s peer
-sound_by w s event o (Begins asked undecided none) = sound_begun w s asked.id asked.mount (shown_for w.house asked.mount asked.shown) undecided.0 undecided.1 none
+sound_by w s event o (Begins asked undecided none) =
+    sound_begun w s asked.id asked.mount (shown_for w.house asked.mount asked.shown) undecided.0 undecided.1 none
 sound_by w s event o (Receives id mount block feeding) = sound_fates (grown_world w mount block) (taken_in w mount block) (Push id block)
     (sound_grown w s mount block id feeding) (lag_fates w s mount block id feeding)
 sound_by w s event o (HasPassed ms e) = s

@@ -30,7 +30,8 @@ module _ (w : World) (s : IsSound w) (mount text : List ℕ) (him : ℕ) (feedin
         here : mount ≡ other → A
         here same =
             let ours = s.feeds him mount feeding in
-            let titled_here : session_of after_title.house.live mount ≡ Some (with_title (Some text) ours.0) = is_titled w.house.live mount text ours.0 ours.1 in
+            let titled_here : session_of after_title.house.live mount ≡ Some (with_title (Some text) ours.0) =
+            is_titled w.house.live mount text ours.0 ours.1 in
             let both : Some (with_title (Some text) ours.0) ≡ Some now = sym titled_here ∙ ap (session_of after_title.house.live) same ∙ e in
             let one : with_title (Some text) ours.0 ≡ now = cc in
             new ours.0 same (ap (session_of w.house.live) (sym same) ∙ ours.1) ours.2 one

@@ -1,5 +1,6 @@
 -- What a source is replied goes by its data.
-use Rattle.std.proofs.Common.{◌≡◌, ◌⊎◌, inl, inr, ℕ, ◌+◌, Bool, true, false, List, [], ◌∷◌, ◌++◌, length, length-append, Option, None, Some, refl, ap, sym, subst, ◌∙◌, arith}
+use Rattle.std.proofs.Common.{◌≡◌, ◌⊎◌, inl, inr, ℕ, ◌+◌, Bool, true, false, List, [], ◌∷◌, ◌++◌, length, length-append, Option, None, Some, refl, ap}
+use Rattle.std.proofs.Common.{sym, subst, ◌∙◌, arith}
 use Rattle.std.specs.Prelude.{find, nat_lt, if◌then◌else◌}
 use Rattle.std.specs.Option.{option_map}
 use Rattle.std.proofs.lemmas.Bool.{ltb-true, lt-ltb, le-ltb}
@@ -18,7 +19,8 @@ use Rattle.radio_core.specs.declared.house.House.{House}
 use Rattle.radio_core.specs.declared.reply.Reply.{Reply}
 use Rattle.radio_core.specs.declared.reply.Reply.TheVariants.{Noted, Deny, Finished, Stray}
 use Rattle.radio_core.specs.declared.standing.Standing.{Standing}
-use Rattle.radio_core.specs.declared.standing.Standing.TheVariants.{Unknown, Undecided as IsUndecided, Feeds as IsFeeding, Sits, Answered as IsAnswered, Finished as IsFinished}
+use Rattle.radio_core.specs.declared.standing.Standing.TheVariants.{Unknown, Undecided as IsUndecided, Feeds as IsFeeding, Sits}
+use Rattle.radio_core.specs.declared.standing.Standing.TheVariants.{Answered as IsAnswered, Finished as IsFinished}
 use Rattle.radio_core.specs.Changes.{changed, received}
 use Rattle.radio_core.specs.Clients.{client_of}
 use Rattle.radio_core.specs.Facts.{largest_number, live_end, rows_to_push}
@@ -29,7 +31,8 @@ use Rattle.radio_core.specs.declared.outcome.Outcome.{Outcome}
 use Rattle.radio_policy.specs.declared.judgement.Verdict.TheVariants.{Allow, Deny as Denied}
 use Rattle.radio_policy.specs.Verdicts.{verdict_in}
 use Rattle.radio_core.specs.Sessions.{Session, is_of, session_of, longer}
-use Rattle.radio_core.specs.SourceReplies.{unless_spent, to_session, to_data_from, to_end_from, to_data, to_end, IsQuiet, EndsByRule, IsToldByData, SourcesAreToldByTheirData, EndsAreTold}
+use Rattle.radio_core.specs.SourceReplies.{unless_spent, to_session, to_data_from, to_end_from, to_data, to_end, IsQuiet, EndsByRule, IsToldByData}
+use Rattle.radio_core.specs.SourceReplies.{SourcesAreToldByTheirData, EndsAreTold}
 use Rattle.radio_core.specs.Step.{outcome, reply_to, world_after}
 use Rattle.radio_core.specs.Stream.{end_of}
 use Rattle.radio_core.specs.World.{World, standing_of, standing_in, standing_by, standing_seated, standing_of_listener}
@@ -51,40 +54,50 @@ listener_feeds : (listener : Option Listener) (mount : List ℕ) → standing_of
 listener_feeds None mount e = cc
 listener_feeds (Some listener) mount e = seated_feeds listener.seating mount e
 
-feeds_by : (listener other : Option Listener) (peer : Peer) (state : ClientState) (mount : List ℕ) → standing_by listener peer state ≡ IsFeeding mount → standing_by other peer state ≡ IsFeeding mount
+feeds_by : (listener other : Option Listener) (peer : Peer) (state : ClientState) (mount : List ℕ) → standing_by listener peer state ≡ IsFeeding mount
+    → standing_by other peer state ≡ IsFeeding mount
 feeds_by listener other peer Undecided mount e = cc
 feeds_by listener other peer (Feeds name) mount e = e
 feeds_by listener other peer Listens mount e = absurd (listener_feeds listener mount e)
 feeds_by listener other peer Answered mount e = cc
 feeds_by listener other peer (Ended rule) mount e = cc
 
-feeds_in : (listener other : Option Listener) (client : Option Client) (mount : List ℕ) → standing_in listener client ≡ IsFeeding mount → standing_in other client ≡ IsFeeding mount
+feeds_in : (listener other : Option Listener) (client : Option Client) (mount : List ℕ) → standing_in listener client ≡ IsFeeding mount
+    → standing_in other client ≡ IsFeeding mount
 feeds_in listener other None mount e = cc
 feeds_in listener other (Some client) mount e = feeds_by listener other client.peer client.state mount e
 
-feeds_on : (w w' : World) (id : ℕ) (mount : List ℕ) → w'.house.clients ≡ w.house.clients → standing_of w id ≡ IsFeeding mount → standing_of w' id ≡ IsFeeding mount
+feeds_on : (w w' : World) (id : ℕ) (mount : List ℕ) → w'.house.clients ≡ w.house.clients → standing_of w id ≡ IsFeeding mount
+    → standing_of w' id ≡ IsFeeding mount
 feeds_on w w' id mount same e =
     ap (λ (clients : List Client). standing_in (listener_of w'.seats id) (client_of clients id)) same
     ∙ feeds_in (listener_of w.seats id) (listener_of w'.seats id) (client_of w.house.clients id) mount e
 
 -- more data, behind a block that was taken
-in_longer : (session : Option Session) (block rest : List ℕ) (moment : ℕ) → to_session session (block ++ rest) ≡ to_session (option_map (longer block moment) session) rest
+in_longer : (session : Option Session) (block rest : List ℕ) (moment : ℕ)
+    → to_session session (block ++ rest) ≡ to_session (option_map (longer block moment) session) rest
 in_longer None block rest moment = refl
 in_longer (Some session) block rest moment =
     ap (λ (n : ℕ). unless_spent (nat_lt largest_number n)) (omega (arith, length-append block rest, length-append session.stream.bytes block))
 
 -- a block alone is never too much, and more data behind one that is too much are too much
-fits : (session : Option Session) (block : List ℕ) (w : World) (mount : List ℕ) → IsBlock block → session_of w.house.live mount ≡ session → unless_spent (nat_lt largest_number (live_end w.house mount + length block)) ≡ to_session session block
+fits : (session : Option Session) (block : List ℕ) (w : World) (mount : List ℕ) → IsBlock block → session_of w.house.live mount ≡ session
+    → unless_spent (nat_lt largest_number (live_end w.house mount + length block)) ≡ to_session session block
 fits None block w mount valid e =
     let small : nat_lt largest_number (0 + length block) ≡ false = le-ltb largest_number (0 + length block) (omega (arith, valid.0, valid.1)) in
     rw (e, small) refl
 fits (Some session) block w mount valid e = rw e refl
 
-stays_spent : (session : Option Session) (block rest : List ℕ) → to_session session block ≡ Deny NumbersSpent → to_session session (block ++ rest) ≡ Deny NumbersSpent
+stays_spent : (session : Option Session) (block rest : List ℕ) → to_session session block ≡ Deny NumbersSpent
+    → to_session session (block ++ rest) ≡ Deny NumbersSpent
 stays_spent None block rest e = cc
 stays_spent (Some session) block rest e = by_test (nat_lt largest_number (end_of session.stream + length block)) refl e where
-  by_test : (b : Bool) → nat_lt largest_number (end_of session.stream + length block) ≡ b → unless_spent b ≡ Deny NumbersSpent → to_session (Some session) (block ++ rest) ≡ Deny NumbersSpent
-  by_test true t d = ap unless_spent (lt-ltb largest_number (end_of session.stream + length (block ++ rest)) (omega (arith, length-append block rest, ltb-true largest_number (end_of session.stream + length block) t)))
+  by_test : (b : Bool) → nat_lt largest_number (end_of session.stream + length block) ≡ b → unless_spent b ≡ Deny NumbersSpent
+      → to_session (Some session) (block ++ rest) ≡ Deny NumbersSpent
+  by_test true t d =
+      ap unless_spent
+      (lt-ltb largest_number (end_of session.stream + length (block ++ rest))
+      (omega (arith, length-append block rest, ltb-true largest_number (end_of session.stream + length block) t)))
   by_test false t d = cc
 
 module _ (w : World) (id : ℕ) (block : List ℕ) (valid : IsBlock block) where
@@ -102,7 +115,8 @@ module _ (w : World) (id : ℕ) (block : List ℕ) (valid : IsBlock block) where
   next = changed w here.change
 
   -- one who is replied to alike whatever the data, and nothing changes
-  elsewhere : (standing : Standing) (reply : Reply) → standing_of w id ≡ standing → here ≡ says reply Nothing → ((bytes : List ℕ) → to_data_from standing w.house bytes ≡ reply) → IsQuiet reply ⊎ EndsByRule reply → IsToldByData w id block
+  elsewhere : (standing : Standing) (reply : Reply) → standing_of w id ≡ standing → here ≡ says reply Nothing
+      → ((bytes : List ℕ) → to_data_from standing w.house bytes ≡ reply) → IsQuiet reply ⊎ EndsByRule reply → IsToldByData w id block
   unfolding reply_to world_after outcome to_data to_end
   elsewhere standing reply e out always kind =
       let told : here.reply ≡ reply = ap (λ (o : Outcome). o.reply) out in
@@ -117,23 +131,27 @@ module _ (w : World) (id : ℕ) (block : List ℕ) (valid : IsBlock block) where
       }
 
   -- a source of the mount
-  feeding : (mount : List ℕ) → standing_of w id ≡ IsFeeding mount → (b : Bool) → nat_lt largest_number (live_end w.house mount + length block) ≡ b → IsToldByData w id block
+  feeding : (mount : List ℕ) → standing_of w id ≡ IsFeeding mount → (b : Bool) → nat_lt largest_number (live_end w.house mount + length block) ≡ b
+      → IsToldByData w id block
   unfolding reply_to world_after outcome to_data to_end
   feeding mount e true t =
       let out : here ≡ says (Deny NumbersSpent) Nothing = ap by_standing e ∙ ap (by_number mount) t in
       let reply : here.reply ≡ Deny NumbersSpent = ap (λ (o : Outcome). o.reply) out in
-      let spent : to_session (session_of w.house.live mount) block ≡ Deny NumbersSpent = sym (fits (session_of w.house.live mount) block w mount valid refl) ∙ ap unless_spent t in
+      let spent : to_session (session_of w.house.live mount) block ≡ Deny NumbersSpent = sym (fits (session_of w.house.live mount) block w mount valid refl)
+      ∙ ap unless_spent t in
       record {
         at_block = reply ∙ sym spent ∙ ap (λ (s : Standing). to_data_from s w.house block) (sym e);
         kinds = inr (subst EndsByRule (sym reply) tt);
         more = λ rest on. absurd (subst IsQuiet reply on);
         end_stays = λ on. absurd (subst IsQuiet reply on);
-        rule_stays = λ rest told. ap (λ (s : Standing). to_data_from s w.house (block ++ rest)) e ∙ stays_spent (session_of w.house.live mount) block rest spent ∙ sym reply;
+        rule_stays = λ rest told. ap (λ (s : Standing). to_data_from s w.house (block ++ rest)) e
+            ∙ stays_spent (session_of w.house.live mount) block rest spent ∙ sym reply;
       }
   feeding mount e false t =
       let out : here ≡ takes_in mount block = ap by_standing e ∙ ap (by_number mount) t in
       let reply : here.reply ≡ Noted = ap (λ (o : Outcome). o.reply) out in
-      let taken : to_session (session_of w.house.live mount) block ≡ Noted = sym (fits (session_of w.house.live mount) block w mount valid refl) ∙ ap unless_spent t in
+      let taken : to_session (session_of w.house.live mount) block ≡ Noted = sym (fits (session_of w.house.live mount) block w mount valid refl)
+      ∙ ap unless_spent t in
       let house : next.house ≡ received w.house mount block = ap (λ (o : Outcome). (changed w o.change).house) out in
       let feeds : standing_of next id ≡ IsFeeding mount = feeds_on w next id mount (ap (λ (h : House). h.clients) house) e in
       record {
@@ -142,7 +160,8 @@ module _ (w : World) (id : ℕ) (block : List ℕ) (valid : IsBlock block) where
         more = λ rest on.
             ap (λ (s : Standing). to_data_from s w.house (block ++ rest)) e
             ∙ in_longer (session_of w.house.live mount) block rest w.house.time
-            ∙ ap (λ (session : Option Session). to_session session rest) (sym (find-updated (is_of mount) (longer block w.house.time) (λ session. refl) w.house.live))
+            ∙ ap (λ (session : Option Session). to_session session rest)
+            (sym (find-updated (is_of mount) (longer block w.house.time) (λ session. refl) w.house.live))
             ∙ ap (λ (h : House). to_session (session_of h.live mount) rest) (sym house)
             ∙ ap (λ (s : Standing). to_data_from s next.house rest) (sym feeds);
         end_stays = λ on. ap to_end_from (e ∙ sym feeds);

@@ -24,6 +24,7 @@ use Rattle.radio_access.specs.Lists.{Lists}
 use Rattle.radio_core.proofs.KeptOutcomes.{outcome_kept}
 use Rattle.radio_core.proofs.KeptRuns.{kept_on, seat_is_kept}
 use Rattle.radio_core.proofs.KeptSteps.{changed_kept, rise_changed}
+use Rattle.radio_core.proofs.SoundRuns.{sound_after, sound_opening}
 use Rattle.radio_seats.specs.declared.seat.Seat.{Seat}
 use Rattle.radio_seats.specs.Seats.{seat_of}
 
@@ -66,7 +67,7 @@ small_outcome w (Draw id room) small = absurd small
 -- the opening state stands for itself
 pub opening_represents : (settings : Settings) (lists : Lists) → Represents (opening settings lists) (opening settings lists)
 unfolding Represents
-opening_represents settings lists = record { shows = refl; rise = tt; kept = λ id seat session e f. cc }
+opening_represents settings lists = record { shows = refl; rise = tt; kept = λ id seat session e f. cc; sound = sound_opening settings lists }
 
 pub opening_stands : (settings : Settings) (lists : Lists) → StandsForSome (opening settings lists)
 unfolding StandsForSome
@@ -82,6 +83,15 @@ place_is_kept now stands id seat session has live =
     seat_is_kept w stands.1.rise stands.1.kept id seat session (sym (ap (λ (x : World). seat_of x.seats id) shows) ∙ has)
     (sym (ap (λ (x : World). session_of x.house.live seat.mount) shows) ∙ live)
 
+-- whoever has a seat sits
+pub seat_sits : (now : World) → StandsForSome now → (id : ℕ) (seat : Seat) → seat_of now.seats id ≡ Some seat → standing_of now id ≡ Sits
+unfolding StandsForSome Represents
+seat_sits now stands id seat has =
+    let w = stands.0 in
+    let shows = stands.1.shows in
+    ap (λ (x : World). standing_of x id) shows
+    ∙ stands.1.sound.sitting id seat (sym (ap (λ (x : World). seat_of x.seats id) shows) ∙ has)
+
 -- an outcome that was worked out and committed is a step, from whatever state the core stood for
 module _ (now later : World) (event : Event) (o : Outcome) (is_outcome : o ≡ outcome now event) where
   steps_to : later ≡ kept_changed now o.change → (w : World) → Represents now w → (w' : World) × Step w event o.reply w' × Represents later w'
@@ -96,6 +106,7 @@ module _ (now later : World) (event : Event) (o : Outcome) (is_outcome : o ≡ o
               ∙ ap (λ (x : World). kept_changed x (outcome w event).change) stands.shows ∙ changed_kept w stands.rise (outcome w event).change;
           rise = rise_changed w stands.rise (outcome w event).change;
           kept = kept_on w stands.rise stands.kept event;
+          sound = sound_after w stands.sound event;
         },
       )
 

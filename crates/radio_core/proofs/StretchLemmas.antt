@@ -1,5 +1,6 @@
 -- the law of stretches
-use Rattle.std.proofs.Common.{◌≡◌, ◌⊎◌, inl, inr, true, false, Bool, ℕ, ◌+◌, ◌-◌, ◌<◌, ◌≤◌, ◌==◌, Option, Some, None, List, [], ◌∷◌, ◌++◌, zero, suc, length, take, drop, refl, ap, sym, subst, ◌∙◌, arith, append_assoc, length-append, length-drop}
+use Rattle.std.proofs.Common.{◌≡◌, ◌⊎◌, inl, inr, true, false, Bool, ℕ, ◌+◌, ◌-◌, ◌<◌, ◌≤◌, ◌==◌, Option, Some, None, List, [], ◌∷◌, ◌++◌, zero, suc}
+use Rattle.std.proofs.Common.{length, take, drop, refl, ap, sym, subst, ◌∙◌, arith, append_assoc, length-append, length-drop}
 use Rattle.std.specs.Prelude.{if◌then◌else◌}
 use Rattle.std.proofs.lemmas.Bool.Decides.{nat_tests}
 use Rattle.std.proofs.Math.Seq.{take-add}
@@ -26,7 +27,8 @@ use Rattle.radio_core.specs.Source.{shown_for}
 use Rattle.radio_core.specs.Step.{outcome, world_after}
 use Rattle.radio_core.specs.Stream.{data_at, end_of}
 use Rattle.radio_core.specs.Stretches.{between, Sitting, sitting_in, begun_sittings, sittings, AreStretches, StretchesAreWhole}
-use Rattle.radio_core.specs.Ways.{Way, Misplaced, IsFinished, IsDenied, IsRefused, IsAdmitted, Begins, Receives, SetsTitle, TakesSeat, HandsOut, Ends, EndsAndLeaves, Leaves, HasPassed, Ticks}
+use Rattle.radio_core.specs.Ways.{Way, Misplaced, IsFinished, IsDenied, IsRefused, IsAdmitted, Begins, Receives, SetsTitle, TakesSeat, HandsOut, Ends}
+use Rattle.radio_core.specs.Ways.{EndsAndLeaves, Leaves, HasPassed, Ticks}
 use Rattle.radio_core.proofs.FinishLemmas.{undecided_before}
 use Rattle.radio_core.proofs.GoneLemmas.{not_of, nothing_of, his_own, with_nothing, last_rises}
 use Rattle.radio_core.proofs.Lookups.{beside_ended, is_over}
@@ -262,7 +264,8 @@ module _ (w : World) (s : IsSound w) (sent : ℕ → List ℕ) (h : Sent w sent)
             ap (λ xs. xs ++ block) (h.whole mount session found) ∙ ap (λ xs. sent session.number ++ xs) (his_own (him == session.number) block itself)
 
   titled_whole : (him : ℕ) (mount text : List ℕ) → standing_of w him ≡ Feeds mount → (other : List ℕ) (now : Session)
-      → session_of (changed w (SetTitle mount text)).house.live other ≡ Some now → now.stream.bytes ≡ sent now.number ++ of_client (Title him text) now.number []
+      → session_of (changed w (SetTitle mount text)).house.live other ≡ Some now
+      → now.stream.bytes ≡ sent now.number ++ of_client (Title him text) now.number []
   titled_whole him mount text feeding other now e =
       titled_cases w s mount text him feeding other now e
       (λ session same found number one. subst (λ (x : Session). x.stream.bytes ≡ sent x.number ++ of_client (Title him text) x.number []) one
@@ -304,7 +307,8 @@ module _ (w : World) (s : IsSound w) (sent : ℕ → List ℕ) (h : Sent w sent)
     nothing : (id : ℕ) → sent id ≡ [] → ((mount : List ℕ) → standing_of w id ≡ Feeds mount → ⊥) → sent id ++ delivered_at w event id ≡ []
     nothing id none not = ap (λ xs. xs ++ delivered_at w event id) none ∙ brings_nothing event (outcome w event) (way_of w event) id not
 
-    by_before : (id : ℕ) (peer : Peer) → (standing_of w id ≡ Undecided peer) ⊎ ((w.house.last_id < id) × (passes w.house.lists peer ≡ true)) → sent id ++ delivered_at w event id ≡ []
+    by_before : (id : ℕ) (peer : Peer) → (standing_of w id ≡ Undecided peer) ⊎ ((w.house.last_id < id) × (passes w.house.lists peer ≡ true))
+        → sent id ++ delivered_at w event id ≡ []
     by_before id peer (inl before) = nothing id (h.none_yet id peer before) (λ mount f. cc)
     by_before id peer (inr new) = nothing id (h.none_above id new.0) (λ mount f. let unknown : standing_of w id ≡ Unknown = s.numbered id new.0 in cc)
 

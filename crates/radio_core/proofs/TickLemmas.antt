@@ -1,5 +1,6 @@
 -- what the clock ends, and that nobody outstays it
-use Rattle.std.proofs.Common.{◌≡◌, ◌⊎◌, inl, inr, Bool, true, false, ℕ, zero, suc, ◌≤◌, ◌==◌, Option, Some, None, List, [], ◌∷◌, length, refl, ap, sym, subst, ◌∙◌, arith}
+use Rattle.std.proofs.Common.{◌≡◌, ◌⊎◌, inl, inr, Bool, true, false, ℕ, zero, suc, ◌≤◌, ◌==◌, Option, Some, None, List, [], ◌∷◌, length, refl, ap}
+use Rattle.std.proofs.Common.{sym, subst, ◌∙◌, arith}
 use Rattle.std.specs.Prelude.{if◌then◌else◌, map, find, not}
 use Rattle.std.specs.Option.{option_map}
 use Rattle.std.specs.Str.{bytes_eq}
@@ -40,11 +41,13 @@ use Rattle.radio_core.proofs.Standings.{Turns, Loses, turns_ended_by, silenced}
 -- clients who have asked for nothing in their time
 
 module _ (seconds ms : ℕ) where
-  clients_after : (clients : List Client) (id : ℕ) → client_of (map (timed_out seconds ms) clients) id ≡ option_map (timed_out seconds ms) (client_of clients id)
+  clients_after : (clients : List Client) (id : ℕ)
+      → client_of (map (timed_out seconds ms) clients) id ≡ option_map (timed_out seconds ms) (client_of clients id)
   clients_after clients id = find_mapped (is_client id) (timed_out seconds ms) (λ client. refl) clients
 
   -- who asks too late after that, by whatever measure, was as he is
-  late_at : (client : Client) (b : Bool) (seconds' ms' : ℕ) → asks_too_late seconds' ms' (with_state (if b then Ended HeaderTimeout else client.state) client) ≡ true
+  late_at : (client : Client) (b : Bool) (seconds' ms' : ℕ)
+      → asks_too_late seconds' ms' (with_state (if b then Ended HeaderTimeout else client.state) client) ≡ true
       → with_state (if b then Ended HeaderTimeout else client.state) client ≡ client
   late_at client true seconds' ms' e = cc
   late_at client false seconds' ms' e = refl
@@ -101,7 +104,8 @@ module _ (w : World) (s : IsSound w) (ms : ℕ) where
     by_found (Some seat) h = let sat : standing_of w id ≡ Sits = s.sitting id seat h in cc
 
   timeout_at : (id : ℕ) (client : Client) → client_of w.house.clients id ≡ Some client → (b : Bool) → asks_too_late timeout ms client ≡ b
-      → client_of after_timeouts.house.clients id ≡ Some (with_state (if b then Ended HeaderTimeout else client.state) client) → Fate w after_timeouts (Clock ms) id
+      → client_of after_timeouts.house.clients id ≡ Some (with_state (if b then Ended HeaderTimeout else client.state) client)
+      → Fate w after_timeouts (Clock ms) id
   timeout_at id client found true late now =
       let is_new : client.state ≡ IsNew = asking_at timeout ms client.arrived client.state late in
       let undecided : standing_of w id ≡ Undecided client.peer = stood_in id (Some client) found ∙ new_by (listener_of w.seats id) client is_new in
@@ -114,7 +118,8 @@ module _ (w : World) (s : IsSound w) (ms : ℕ) where
   timeout_fate id = by_found (client_of w.house.clients id) refl where
     by_found : (found : Option Client) → client_of w.house.clients id ≡ found → Fate w after_timeouts (Clock ms) id
     by_found None none =
-        let now : client_of after_timeouts.house.clients id ≡ None = clients_after timeout ms w.house.clients id ∙ ap (option_map (timed_out timeout ms)) none in
+        let now : client_of after_timeouts.house.clients id ≡ None = clients_after timeout ms w.house.clients id
+        ∙ ap (option_map (timed_out timeout ms)) none in
         GoesOn (stands_in id None now ∙ sym (stood_in id None none)) refl (λ mount e. refl) (λ seat e. refl)
     by_found (Some client) found =
         let now : client_of after_timeouts.house.clients id ≡ Some (timed_out timeout ms client) =
@@ -165,7 +170,8 @@ module _ (w : World) (s : IsSound w) (ms : ℕ) (now : w.house.time ≡ ms) (ses
   turned = turns_ended_by ended session.number SourceSilent (λ u. by_end u (silenced w mount session.number)) where
     by_end : standing_of (session_ended w session.mount) session.number ≡ Unknown
         → (standing_of (session_ended w session.mount) session.number ≡ standing_of w session.number)
-        ⊎ Loses (listener_of w.seats session.number) (standing_of w session.number) (standing_of (session_ended w session.mount) session.number) session.mount → ⊥
+        ⊎ Loses (listener_of w.seats session.number) (standing_of w session.number) (standing_of (session_ended w session.mount) session.number) session.mount
+        → ⊥
     by_end u (inl same) = let fed : standing_of w session.number ≡ Feeds session.mount = s.fed session.mount session live_there in cc
     by_end u (inr loses) = let finished : standing_of (session_ended w session.mount) session.number ≡ Finished NotLive = loses.finished in cc
 
@@ -259,7 +265,8 @@ module _ (w : World) (s : IsSound w) (ms : ℕ) (now : w.house.time ≡ ms) (ses
             → client_of (session_silenced w session).house.clients session.number ≡ Some client → client_of w.house.clients id ≡ Some client
         by_found None none h = none_there (ap (standing_in (listener_of w.seats session.number)) none)
         by_found (Some old) there h =
-            let both : Some (with_state (Ended SourceSilent) old) ≡ Some client = sym (does w.house.clients session.number (Ended SourceSilent) old there) ∙ h in
+            let both : Some (with_state (Ended SourceSilent) old) ≡ Some client = sym (does w.house.clients session.number (Ended SourceSilent) old there)
+            ∙ h in
             let one : with_state (Ended SourceSilent) old ≡ client = cc in
             let not_late : asks_too_late seconds moment client ≡ false = ap (λ (x : Client). asks_too_late seconds moment x) (sym one) in
             cc

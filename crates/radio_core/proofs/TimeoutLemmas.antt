@@ -30,7 +30,8 @@ sat_out (Some seconds) since now = (
   (λ h. let same : seconds ≡ h.0 = cc in (back seconds since now).1 (subst (λ (n : ℕ). 1000 * n ≤ now - since) (sym same) h.2)),
 )
 
-asked_nothing : (seconds now arrived : ℕ) (state : ClientState) → (asks_nothing seconds now arrived state ≡ true) ↔ ((state ≡ Undecided) × (1000 * seconds ≤ now - arrived))
+asked_nothing : (seconds now arrived : ℕ) (state : ClientState)
+    → (asks_nothing seconds now arrived state ≡ true) ↔ ((state ≡ Undecided) × (1000 * seconds ≤ now - arrived))
 asked_nothing seconds now arrived Undecided = ((λ e. (refl, (back seconds arrived now).0 e)), (λ h. (back seconds arrived now).1 h.1))
 asked_nothing seconds now arrived (Feeds mount) = ((λ e. cc), (λ h. absurd (let other : Feeds mount ≡ Undecided = h.0 in cc)))
 asked_nothing seconds now arrived Listens = ((λ e. cc), (λ h. absurd (let other : Listens ≡ Undecided = h.0 in cc)))

@@ -1,5 +1,6 @@
 -- the law of totals
-use Rattle.std.proofs.Common.{◌≡◌, ◌⊎◌, inl, inr, Bool, true, ℕ, zero, suc, ◌+◌, not, Option, Some, None, is_some, List, [], ◌∷◌, length, refl, ap, sym, subst, ◌∙◌, arith}
+use Rattle.std.proofs.Common.{◌≡◌, ◌⊎◌, inl, inr, Bool, true, ℕ, zero, suc, ◌+◌, not, Option, Some, None, is_some, List, [], ◌∷◌, length, refl, ap}
+use Rattle.std.proofs.Common.{sym, subst, ◌∙◌, arith}
 use Rattle.std.specs.Prelude.{map, if◌then◌else◌}
 use Rattle.std.proofs.lemmas.List.{length-map}
 use Rattle.std.proofs.lemmas.List.Filters.{length-filter_both}
@@ -26,7 +27,8 @@ use Rattle.radio_core.specs.declared.reply.Reply.TheVariants.{Noted, Stray}
 use Rattle.radio_core.specs.declared.standing.Standing.{Standing}
 use Rattle.radio_core.specs.declared.standing.Standing.TheVariants.{Unknown, Undecided, Feeds, Answered}
 use Rattle.radio_core.specs.Clients.{is_client, client_of, in_state, with_state, newcomer}
-use Rattle.radio_core.specs.Changes.{changed, session_ended, received, taken_in, timed_out_by, durations_over, first_silent, session_silenced, on_silent, silence, ticked}
+use Rattle.radio_core.specs.Changes.{changed, session_ended, received, taken_in, timed_out_by, durations_over, first_silent, session_silenced}
+use Rattle.radio_core.specs.Changes.{on_silent, silence, ticked}
 use Rattle.radio_core.specs.Facts.{live_end}
 use Rattle.radio_core.specs.Leave.{leaves_from}
 use Rattle.radio_core.specs.Listen.{first_seat}
@@ -37,13 +39,16 @@ use Rattle.radio_core.specs.Source.{shown_for}
 use Rattle.radio_core.specs.Step.{outcome, reply_to, world_after}
 use Rattle.radio_core.specs.Timeouts.{lags_behind, has_sat_out, timed_out}
 use Rattle.radio_core.specs.Totals.{arrivals, departures, seatings, listeners_leaving, has_seat, clients_there, seats_there, seats_lost, AddsUp}
-use Rattle.radio_core.specs.Ways.{Way, Misplaced, IsFinished, IsDenied, IsRefused, IsAdmitted, Begins, Receives, SetsTitle, TakesSeat, HandsOut, Ends, EndsAndLeaves, Leaves, HasPassed, Ticks}
+use Rattle.radio_core.specs.Ways.{Way, Misplaced, IsFinished, IsDenied, IsRefused, IsAdmitted, Begins, Receives, SetsTitle, TakesSeat, HandsOut, Ends}
+use Rattle.radio_core.specs.Ways.{EndsAndLeaves, Leaves, HasPassed, Ticks}
 use Rattle.radio_core.specs.World.{World, opening, standing_of, standing_in, standing_by, standing_seated, standing_of_listener}
 use Rattle.radio_core.proofs.Effects.{IsSwept, GoesOnAs, IsOut, lag_swept, swept}
-use Rattle.radio_core.proofs.NumberLists.{IsRising, IsFree, has, without, placed_rising, placed_length, placed_free, kept_rising, one_less, kept_free, taken_free, numbers_updated, numbers_mapped, numbers_placed, numbers_without, number_found, number_free}
+use Rattle.radio_core.proofs.NumberLists.{IsRising, IsFree, has, without, placed_rising, placed_length, placed_free, kept_rising, one_less, kept_free}
+use Rattle.radio_core.proofs.NumberLists.{taken_free, numbers_updated, numbers_mapped, numbers_placed, numbers_without, number_found, number_free}
 use Rattle.radio_core.proofs.SoundEnds.{turns_ended}
 use Rattle.radio_core.proofs.SoundRuns.{sound_after, sound_opening}
-use Rattle.radio_core.proofs.Standings.{Turns, Loses, kept_of, turns_answered, turns_feeding, turns_sitting, turns_forgotten, turns_admitted, stays_hearing, silenced}
+use Rattle.radio_core.proofs.Standings.{Turns, Loses, kept_of, turns_answered, turns_feeding, turns_sitting, turns_forgotten, turns_admitted}
+use Rattle.radio_core.proofs.Standings.{stays_hearing, silenced}
 use Rattle.radio_core.proofs.TickLemmas.{ticked_fates}
 use Rattle.radio_core.proofs.Ways.{way_of}
 use Rattle.radio_seats.specs.SeatLaws.{listener_seated}

@@ -2,7 +2,8 @@
 use Rattle.std.proofs.Common.{◌≡◌, true, false, ℕ, Bool, ◌==◌, not, ◌&&◌, Option, Some, None, is_some, List, [], ◌∷◌, refl, ap, sym, ◌∙◌}
 use Rattle.std.specs.Prelude.{if◌then◌else◌, nat_lt}
 use Rattle.radio_policy.specs.declared.rule.Rule.{Rule}
-use Rattle.radio_policy.specs.declared.rule.Rule.TheVariants.{AddressDenied, AddressNotAllowed, TooManyClients, BadMount, SourcePassword, TooManySources, MountInUse}
+use Rattle.radio_policy.specs.declared.rule.Rule.TheVariants.{AddressDenied, AddressNotAllowed, TooManyClients, BadMount, SourcePassword}
+use Rattle.radio_policy.specs.declared.rule.Rule.TheVariants.{TooManySources, MountInUse}
 use Rattle.radio_policy.specs.declared.rule.Rule.TheVariants.{ContentType, NumbersSpent}
 use Rattle.radio_policy.specs.declared.judgement.Verdict.{Verdict}
 use Rattle.radio_policy.specs.declared.judgement.Verdict.TheVariants.{Allow, Deny as Denied}
@@ -29,7 +30,8 @@ use Rattle.radio_seats.specs.WalkLaws.{stopped_where_it_begins}
 use Rattle.radio_core.specs.declared.standing.Standing.{Standing}
 use Rattle.radio_core.specs.declared.standing.Standing.TheVariants.{Unknown, Undecided, Feeds, Sits, Answered, Finished}
 use Rattle.radio_core.specs.World.{World, standing_of}
-use Rattle.radio_core.specs.Facts.{largest_number, session_at, is_live, is_known, sight_of, arrive_facts, source_facts, rows_to_arrive, rows_to_feed, rows_to_push, rows_to_listen}
+use Rattle.radio_core.specs.Facts.{largest_number, session_at, is_live, is_known, sight_of, arrive_facts, source_facts, rows_to_arrive, rows_to_feed}
+use Rattle.radio_core.specs.Facts.{rows_to_push, rows_to_listen}
 use Rattle.radio_core.specs.Outcomes.{says, on_verdict, out_of_place, if_undecided, if_feeding, if_sitting}
 use Rattle.radio_core.specs.Arrive.{admits_client}
 use Rattle.radio_core.specs.Source.{begins}
@@ -40,7 +42,8 @@ use Rattle.radio_core.specs.Leave.{leaves_from}
 use Rattle.radio_seats.specs.Seats.{seat_of}
 use Rattle.radio_core.specs.Sessions.{Session, session_of}
 use Rattle.radio_core.specs.Step.{outcome}
-use Rattle.radio_core.specs.Ways.{Way, Misplaced, IsFinished, IsDenied, IsRefused, IsAdmitted, Begins, Receives, SetsTitle, TakesSeat, HandsOut, Ends, EndsAndLeaves, Leaves, HasPassed, Ticks, client_in, rows_for, IsUndecided}
+use Rattle.radio_core.specs.Ways.{Way, Misplaced, IsFinished, IsDenied, IsRefused, IsAdmitted, Begins, Receives, SetsTitle, TakesSeat, HandsOut, Ends}
+use Rattle.radio_core.specs.Ways.{EndsAndLeaves, Leaves, HasPassed, Ticks, client_in, rows_for, IsUndecided}
 
 module _ (w : World) (event : Event) where
   by_verdict : (denied : Change) (allowed : Outcome) (v : Verdict) → ((rule : Rule) → v ≡ Denied rule → Way w event (says (Deny rule) denied))
@@ -92,7 +95,8 @@ at_name w path b e name = rw name refl
 
 -- where a source may begin, its mount has no session
 free_by : (named its full live refused : Bool)
-    → verdict_in (row BadMount (not named) ∷ row SourcePassword (not its) ∷ row TooManySources full ∷ row MountInUse live ∷ row ContentType refused ∷ []) ≡ Allow
+    → verdict_in (row BadMount (not named) ∷ row SourcePassword (not its) ∷ row TooManySources full ∷ row MountInUse live ∷ row ContentType refused ∷ [])
+    ≡ Allow
     → (named ≡ true) × (live ≡ false)
 free_by true true false false refused v = (refl, refl)
 free_by true true false true refused v = cc

@@ -7,7 +7,8 @@ use Rattle.radio_core.specs.declared.clients.ClientState.{ClientState}
 use Rattle.radio_core.specs.declared.clients.ClientState.TheVariants.{Feeds, Listens, Answered, Ended}
 use Rattle.radio_core.specs.declared.house.House.{House}
 use Rattle.radio_core.specs.declared.outcome.Change.{Change}
-use Rattle.radio_core.specs.declared.outcome.Change.TheVariants.{Nothing, Answer, Admit, Begin, Receive, SetTitle, TakeSeat, Advance, End, EndAndLeave, Forget, Tick}
+use Rattle.radio_core.specs.declared.outcome.Change.TheVariants.{Nothing, Answer, Admit, Begin, Receive, SetTitle, TakeSeat, Advance, End}
+use Rattle.radio_core.specs.declared.outcome.Change.TheVariants.{EndAndLeave, Forget, Tick}
 use Rattle.radio_core.specs.Clients.{newcomer, with_client, in_state, without_client}
 use Rattle.radio_core.specs.Sessions.{Session, opened, with_session, fed, titled, without_session}
 use Rattle.radio_seats.specs.Seats.{with_seat, with_place, finished_at, with_ended, without_listener}

@@ -4,7 +4,7 @@ use Rattle.radio_tables.specs.Lists.{Each}
 use Rattle.radio_core.specs.Kept.{kept_from, kept_of}
 use Rattle.radio_core.specs.Lagging.{EachSeat}
 use Rattle.radio_core.specs.Sessions.{Session}
-use Rattle.radio_core.specs.Sound.{AreRising}
+use Rattle.radio_core.specs.Sound.{AreRising, IsSound}
 use Rattle.radio_core.specs.Stream.{end_of}
 use Rattle.radio_core.specs.World.{World}
 
@@ -21,3 +21,5 @@ pub record StandsFor (core w : World) : Type 0 where
   pub shows : core ≡ kept_of w
   pub rise : Each HasRisingStarts w.house.live
   pub kept : SeatsAreKept w
+  -- the state is as each of a run is
+  pub sound : IsSound w

@@ -3,7 +3,8 @@
 ghost use Rattle.std.specs.Prelude.{◌≡◌};
 ghost use Rattle.std.specs.Option.{option_copied};
 ghost use Rattle.radio_settings.specs.Options.{options_for};
-ghost use Rattle.radio_core.specs.Facts.{arrive_facts, source_facts, facts_at, listen_facts, asker_of, is_full, is_live, is_in_settings, is_known, is_source_of};
+ghost use Rattle.radio_core.specs.Facts.{arrive_facts, source_facts, facts_at, listen_facts, asker_of, is_full, is_live, is_in_settings, is_known};
+ghost use Rattle.radio_core.specs.Facts.{is_source_of};
 
 use crate::house::House;
 use crate::{ListenRequest, SourceRequest};

@@ -43,7 +43,7 @@ impl House {
     pub(crate) fn session(&self, mount: &MountName) -> Option<&Session>
         ensures { option_copied result ≡ session_of self.now.live mount.now }
     {
-        self.live.get(*mount)
+        self.live.get(mount)
     }
 
     /// The session of the mount of this path, if the path names one and it is live.
@@ -83,7 +83,7 @@ impl House {
     pub(crate) fn set_state(&mut self, id: u64, state: ClientState)
         ensures { self.new ≡ now_in_state self.old id state }
     {
-        self.clients.change(id, &SetState { state });
+        self.clients.change(&id, &SetState { state });
     }
 
     /// A client has come, and has this number. `OutOfMemory` where memory was refused; nothing has
@@ -137,7 +137,7 @@ impl House {
             moment: self.time,
             limit: self.settings.limits.queue_size.get() as u64,
         };
-        self.live.try_change(*mount, &change)
+        self.live.try_change(mount, &change)
     }
 
     /// The mount's session has this title from now on. It takes no memory.
@@ -145,7 +145,7 @@ impl House {
         ensures { self.new ≡ retitled self.old mount.now title }
     {
         let mut new = NewTitle { title: Some(title) };
-        self.live.swap(*mount, &mut new);
+        self.live.swap(mount, &mut new);
     }
 
     /// It is this moment, and the clients who have asked for nothing in their time are finished. It

@@ -28,21 +28,26 @@ use radio_policy::denials_name_the_first_rule;
 
 /// The law of denials.
 pub fn denials_are_the_policys()
-    // whatever has happened, what is denied is what the policy denies then, by its first rule, and nothing has changed but that an undecided client has had his answer
-    ensures denied { (settings : Settings) (lists : Lists) (events : List Event) (event : Event) → DenialsAreThePolicys (run_after settings lists events) event }
+    // whatever has happened, what is denied is what the policy denies then, by its first rule, and
+    // nothing has changed but that an undecided client has had his answer
+    ensures denied { (settings : Settings) (lists : Lists) (events : List Event) (event : Event)
+        → DenialsAreThePolicys (run_after settings lists events) event }
 {
     denials_name_the_first_rule();
 }
 
 /// The law of denials, for those who are told that they were finished.
 pub fn finished_are_told()
-    // whoever is told that he was finished by a rule was finished by that rule at an earlier event, at which its condition held: the end of his mount's session, a block that left him too far behind, or a moment at which his time was over
+    // whoever is told that he was finished by a rule was finished by that rule at an earlier event,
+    // at which its condition held: the end of his mount's session, a block that left him too far
+    // behind, or a moment at which his time was over
     ensures finished { (settings : Settings) (lists : Lists) (events : List Event) (event : Event) → FinishedAreTold settings lists events event }
 {}
 
 /// The law of access.
 pub fn access_is_kept()
-    // whatever has happened, data is handed out to a draw alone, and it stands at the listener's place in the stream of the mount where his seat is, which is open to him
+    // whatever has happened, data is handed out to a draw alone, and it stands at the listener's
+    // place in the stream of the mount where his seat is, which is open to him
     ensures access { (settings : Settings) (lists : Lists) (events : List Event) (event : Event) → AccessIsKept (run_after settings lists events) event }
 {}
 
@@ -62,7 +67,9 @@ pub fn nobody_lags()
 
 /// The law of admission.
 pub fn listeners_begin_at_a_block()
-    // whatever has happened, only who asks to hear a mount is seated, in the session that the mount has then, and he begins at the earliest start of one of its blocks, or at its end, that his burst allows
+    // whatever has happened, only who asks to hear a mount is seated, in the session that the mount
+    // has then, and he begins at the earliest start of one of its blocks, or at its end, that his
+    // burst allows
     ensures seated { (settings : Settings) (lists : Lists) (events : List Event) (event : Event) → BeginsAtABlock (run_after settings lists events) event }
 {}
 
@@ -76,15 +83,19 @@ pub fn whoever_may_is_served()
 
 /// The law of stretches.
 pub fn stretches_are_whole()
-    // over every run, all that a listener is handed is stretches, one for each of his sittings: each a contiguous slice, without gap or repeat, of what the source delivered in whose session he sat
+    // over every run, all that a listener is handed is stretches, one for each of his sittings:
+    // each a contiguous slice, without gap or repeat, of what the source delivered in whose session
+    // he sat
     ensures stretches { (settings : Settings) (lists : Lists) (events : List Event) → StretchesAreWhole settings lists events }
     // and through each event a listener who keeps his seat keeps its mount and session, and does not go back
-    ensures mounts { (settings : Settings) (lists : Lists) (events : List Event) (event : Event) → SeatsKeepTheirMounts (run_after settings lists events) event }
+    ensures mounts { (settings : Settings) (lists : Lists) (events : List Event) (event : Event)
+        → SeatsKeepTheirMounts (run_after settings lists events) event }
 {}
 
 /// The law of titles.
 pub fn listeners_are_told_titles()
-    // over every run, whoever is handed data is told the last title that the source has set in whose session he sits, by a title that was noted, or none where it has set none
+    // over every run, whoever is handed data is told the last title that the source has set in
+    // whose session he sits, by a title that was noted, or none where it has set none
     ensures told { (settings : Settings) (lists : Lists) (events : List Event) (event : Event) → TitlesAreTold settings lists events event }
 {}
 
@@ -100,7 +111,9 @@ pub fn events_are_of_their_clients()
 
 /// The law of time.
 pub fn nobody_outstays()
-    // whatever has happened, a moment that has passed changes nothing; and when any other was heard, no listener is there who has sat as long as his mount allows, no client who has asked for nothing in the time for it, and no source that has sent nothing in the time for it
+    // whatever has happened, a moment that has passed changes nothing; and when any other was
+    // heard, no listener is there who has sat as long as his mount allows, no client who has asked
+    // for nothing in the time for it, and no source that has sent nothing in the time for it
     ensures in_time { (settings : Settings) (lists : Lists) (events : List Event) (ms : ℕ) → NobodyOutstays (run_after settings lists events) ms }
     // and what that time is, and how far behind is too far, in numbers
     ensures tests { TestsAreInNumbers }
@@ -109,16 +122,20 @@ pub fn nobody_outstays()
 /// The law of those who have left.
 pub fn who_left_is_gone()
     // whoever was given a number and leaves is no client then
-    ensures left { (settings : Settings) (lists : Lists) (events : List Event) (id : ℕ) → id ≤ (run_after settings lists events).house.last_id → HasLeft (run_after settings lists (events ++ Leave id ∷ [])) id }
+    ensures left { (settings : Settings) (lists : Lists) (events : List Event) (id : ℕ) → id ≤ (run_after settings lists events).house.last_id
+        → HasLeft (run_after settings lists (events ++ Leave id ∷ [])) id }
     // whatever happens in the name of one who has left is out of place, and changes nothing
-    ensures strays { (settings : Settings) (lists : Lists) (events : List Event) (event : Event) (id : ℕ) → HasLeft (run_after settings lists events) id → client_in event ≡ Some id → IsOutOfPlace (run_after settings lists events) event }
+    ensures strays { (settings : Settings) (lists : Lists) (events : List Event) (event : Event) (id : ℕ) → HasLeft (run_after settings lists events) id
+        → client_in event ≡ Some id → IsOutOfPlace (run_after settings lists events) event }
     // and whatever else happens, he does not come back: his number is given to nobody, he is handed nothing more, and nothing more comes from him
-    ensures gone { (settings : Settings) (lists : Lists) (events more : List Event) (id : ℕ) → HasLeft (run_after settings lists events) id → StaysGone (run_after settings lists events) more id }
+    ensures gone { (settings : Settings) (lists : Lists) (events more : List Event) (id : ℕ) → HasLeft (run_after settings lists events) id
+        → StaysGone (run_after settings lists events) more id }
 {}
 
 /// What a source is replied goes by its data, and not by how they are cut into blocks.
 pub fn sources_are_told_by_their_data()
-    // in each state a block is replied to as its data are; while the source goes on, more data are replied to as if all had come at once; and what a rule has ended stays ended by it
+    // in each state a block is replied to as its data are; while the source goes on, more data are
+    // replied to as if all had come at once; and what a rule has ended stays ended by it
     ensures blocks { SourcesAreToldByTheirData }
     // and so is the end of the data
     ensures ends { EndsAreTold }

@@ -85,7 +85,9 @@ impl Core {
     /// `OutOfMemory` where memory was refused; nothing has changed then.
     pub fn step3(&mut self, event: Event) -> Result<[Reply; 3], OutOfMemory>
         // whatever state the core stands for, the replies are that of a step from it, and the core stands for the state after it
-        ensures step { (w : World) → Represents self.old w → IfOk result (λ replies. (reply : ReplyOf) × (w' : World) × Step w event reply w' × (replies ≡ reply ∷ reply ∷ reply ∷ []) × Represents self.new w') }
+        ensures step { (w : World) → Represents self.old w
+            → IfOk result (λ replies. (reply : ReplyOf) × (w' : World) × Step w event reply w' × (replies ≡ reply ∷ reply ∷ reply ∷ [])
+            × Represents self.new w') }
         // the end of a session and of a connection, and the clock, are never refused
         ensures frees { TakesNoMemory event → IsOk result }
         ensures err { OnErr result (self.new ≡ self.old) }

@@ -9,6 +9,7 @@ ghost use Rattle.radio_core.specs.Totals.{AddsUp};
 
 /// The law of totals.
 pub fn clients_and_seats_add_up()
-    // whatever has happened, clients and listeners are there after an event who were there before it or came by it, and did not leave by it, as many as they are
+    // whatever has happened, clients and listeners are there after an event who were there before
+    // it or came by it, and did not leave by it, as many as they are
     ensures add_up { (settings : Settings) (lists : Lists) (events : List Event) (event : Event) → AddsUp (run_after settings lists events) event }
 {}

@@ -16,7 +16,8 @@ abbrev lines_of : ℕ → WorldExchange → List ℕ
 lines_of label x = told_lines label x.exchange.bytes x.exchange.state
 
 -- the reply ends the connection
-shuts_with : (state : ScriptState) (label : ℕ) (conversation : Conversation) (event : Event) (reply : Reply) (bytes word : List ℕ) → reply_to state.world event ≡ reply → EndsWith (said conversation.says reply) bytes word → ShutsWith state label conversation event bytes word
+shuts_with : (state : ScriptState) (label : ℕ) (conversation : Conversation) (event : Event) (reply : Reply) (bytes word : List ℕ)
+    → reply_to state.world event ≡ reply → EndsWith (said conversation.says reply) bytes word → ShutsWith state label conversation event bytes word
 shuts_with state label conversation event reply bytes word replied ends events =
     let w = state.world in
     let told = said conversation.says (reply_to w event) in

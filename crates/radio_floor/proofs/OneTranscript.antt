@@ -12,7 +12,9 @@ use Rattle.radio_floor.specs.Transcript.{conduct}
 use Rattle.radio_script.specs.Laws.{IsDetermined}
 
 -- where a connection does one thing, so does its label
-one_on_connection : (state : ScriptState) (On : Conversation → Performed → Type 0) → ((conversation : Conversation) (p q : Performed) → On conversation p → On conversation q → p ≡ q) → (o : Option (Option Conversation)) (p q : Performed) → on_connection state On p o → on_connection state On q o → p ≡ q
+one_on_connection : (state : ScriptState) (On : Conversation → Performed → Type 0)
+    → ((conversation : Conversation) (p q : Performed) → On conversation p → On conversation q → p ≡ q) → (o : Option (Option Conversation)) (p q : Performed)
+    → on_connection state On p o → on_connection state On q o → p ≡ q
 one_on_connection state On one None p q h k = h ∙ sym k
 one_on_connection state On one (Some None) p q h k = h ∙ sym k
 one_on_connection state On one (Some (Some conversation)) p q h k = one conversation p q h k

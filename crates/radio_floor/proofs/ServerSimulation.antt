@@ -23,30 +23,41 @@ server_conduct old delivery lines new = Performs old.core old.connections delive
 abbrev Same : ScriptServer → ScriptState → Type 0
 Same server state = (w : World) × Represents server.core w × (state ≡ script_state_of w server.connections)
 
-does : (server server' : ScriptServer) (state : ScriptState) (delivery : Delivery) (lines : Option (List ℕ)) → Same server state → server_conduct server delivery lines server' → (state' : ScriptState) × Same server' state' × conduct state delivery lines state'
+does : (server server' : ScriptServer) (state : ScriptState) (delivery : Delivery) (lines : Option (List ℕ)) → Same server state
+    → server_conduct server delivery lines server' → (state' : ScriptState) × Same server' state' × conduct state delivery lines state'
 does server server' state delivery lines same performs =
     let d = performs same.0 same.1 in
     let state' = script_state_of d.0 server'.connections in
     (state', (d.0, d.1, refl), subst (λ (f : ScriptState). conduct f delivery lines state') (sym same.2) d.2)
 
 -- a new server stands for the opening state
-opens : (server : ScriptServer) (settings : Settings) (lists : Lists) → Represents server.core (opening settings lists) → server.connections ≡ [] → Same server (opening_script settings lists)
+opens : (server : ScriptServer) (settings : Settings) (lists : Lists) → Represents server.core (opening settings lists) → server.connections ≡ []
+    → Same server (opening_script settings lists)
 opens server settings lists stands none = (opening settings lists, stands, ap (script_state_of (opening settings lists)) (sym none))
 
-pub server_runs : (server last : ScriptServer) (settings : Settings) (lists : Lists) (deliveries : List Delivery) (text : List ℕ) (stop : Option ℕ) → Represents server.core (opening settings lists) → server.connections ≡ [] → Runs server_conduct server 1 deliveries text stop last → IsTranscriptOf settings lists deliveries text stop
+pub server_runs : (server last : ScriptServer) (settings : Settings) (lists : Lists) (deliveries : List Delivery) (text : List ℕ) (stop : Option ℕ)
+    → Represents server.core (opening settings lists) → server.connections ≡ [] → Runs server_conduct server 1 deliveries text stop last
+    → IsTranscriptOf settings lists deliveries text stop
 server_runs server last settings lists deliveries text stop stands none r =
-    let t = runs server_conduct conduct Same does deliveries server last (opening_script settings lists) 1 text stop (opens server settings lists stands none) r in
+    let t =
+    runs server_conduct conduct Same does deliveries server last (opening_script settings lists) 1 text stop (opens server settings lists stands none) r in
     (t.0, t.2)
 
-pub server_plays : (server last : ScriptServer) (settings : Settings) (lists : Lists) (script left : List ℕ) (result : Result (Unit {0}) PlayFault) (written : List ℕ) (turns : ℕ) → Represents server.core (opening settings lists) → server.connections ≡ [] → Plays server_conduct server 1 script left result written turns last → PlaysScript settings lists script left result written turns
+pub server_plays : (server last : ScriptServer) (settings : Settings) (lists : Lists) (script left : List ℕ) (result : Result (Unit {0}) PlayFault)
+    (written : List ℕ) (turns : ℕ) → Represents server.core (opening settings lists) → server.connections ≡ []
+    → Plays server_conduct server 1 script left result written turns last → PlaysScript settings lists script left result written turns
 server_plays server last settings lists script left result written turns stands none h =
-    plays server_conduct conduct Same does server last (opening_script settings lists) 1 script left result written turns (opens server settings lists stands none) h
+    plays server_conduct conduct Same does server last (opening_script settings lists) 1 script left result written turns
+    (opens server settings lists stands none) h
 
 -- what holds of known bytes may be weakened
-pub known-weaker : (old new : Option (List ℕ)) (P Q : List ℕ → List ℕ → Type 0) → ((script left : List ℕ) → P script left → Q script left) → IfKnown old new P → IfKnown old new Q
+pub known-weaker : (old new : Option (List ℕ)) (P Q : List ℕ → List ℕ → Type 0) → ((script left : List ℕ) → P script left → Q script left) → IfKnown old new P
+    → IfKnown old new Q
 known-weaker None new P Q h k = tt
 known-weaker (Some script) None P Q h k = k
 known-weaker (Some script) (Some left) P Q h k = h script left k
 
-pub writes-weaker : (old new : Option (List ℕ)) (before after : ℕ) (P Q : List ℕ → ℕ → Type 0) → ((written : List ℕ) (turns : ℕ) → P written turns → Q written turns) → Writes old new before after P → Writes old new before after Q
-writes-weaker old new before after P Q h w = record { written = w.written; most_calls = w.most_calls; appends = w.appends; called = w.called; holds = h w.written w.most_calls w.holds }
+pub writes-weaker : (old new : Option (List ℕ)) (before after : ℕ) (P Q : List ℕ → ℕ → Type 0)
+    → ((written : List ℕ) (turns : ℕ) → P written turns → Q written turns) → Writes old new before after P → Writes old new before after Q
+writes-weaker old new before after P Q h w =
+    record { written = w.written; most_calls = w.most_calls; appends = w.appends; called = w.called; holds = h w.written w.most_calls w.holds }

@@ -1,4 +1,5 @@
--- From the bytes of a script to those of its transcript: behind his head a listener is given slices of what sources have brought. It is defined, and not proved: it waits until moves are in.
+-- From the bytes of a script to those of its transcript: behind his head a listener is given slices of what sources have brought. It is
+-- defined, and not proved: it waits until moves are in.
 use Rattle.std.specs.Prelude.{◌≡◌, ◌==◌, ℕ, ◌≤◌, ◌⊎◌, if◌then◌else◌, List, [], ◌∷◌, ◌++◌, length, Option, Some}
 use Rattle.std.specs.List.{flat_map}
 use Rattle.radio_addr.specs.declared.peer.Peer.{Peer}
@@ -72,7 +73,8 @@ AreSlices settings lists deliveries (stretch ∷ others) bytes =
     (shown : Shown) × (slice : List ℕ) × (rest : List ℕ) × IsSliceOf settings lists deliveries stretch shown slice
     × (bytes ≡ slice ++ rest) × AreSlices settings lists deliveries others rest
 
--- A listener was admitted: behind his head come his draws, woven at the interval that it names; the data in them are slices of what sources brought, the first of one whose stream shows what the head shows.
+-- A listener was admitted: behind his head come his draws, woven at the interval that it names; the data in them are slices of what sources
+-- brought, the first of one whose stream shows what the head shows.
 pub record IsListener (settings : Settings) (lists : Lists) (deliveries : List Delivery) (bytes : List ℕ) : Type 0 where
   pub shown : Shown
   pub interval : Option ℕ

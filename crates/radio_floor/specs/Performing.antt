@@ -16,6 +16,7 @@ Performs core connections delivery lines core' connections' = (w : World) → Re
 
 -- the delivery is performed, or its label is at fault; of want of memory nothing is said
 abbrev pub PerformsAs : Result (Unit {0}) PerformFault → World → List Labelled → Delivery → List ℕ → List ℕ → World → List Labelled → Type 0
-PerformsAs (Ok done) core connections delivery lines lines' core' connections' = (text : List ℕ) × (lines' ≡ lines ++ text) × Performs core connections delivery (Some text) core' connections'
+PerformsAs (Ok done) core connections delivery lines lines' core' connections' = (text : List ℕ) × (lines' ≡ lines ++ text)
+    × Performs core connections delivery (Some text) core' connections'
 PerformsAs (Err Label) core connections delivery lines lines' core' connections' = Performs core connections delivery None core' connections'
 PerformsAs (Err OutOfMemory) core connections delivery lines lines' core' connections' = ⊤

@@ -14,4 +14,5 @@ performed_as lines w connections = record { lines = lines; state = script_state_
 -- Some text was added to the lines, and whatever state the core stood for, it comes of it so, and the core stands for the state after it.
 abbrev pub DoesAs : World → World → List Labelled → List ℕ → List ℕ → (World → Performed → Type 0) → Type 0
 DoesAs core core' connections' lines lines' Done =
-    (text : List ℕ) × (lines' ≡ lines ++ text) × ((w : World) → Represents core w → (w' : World) × Represents core' w' × Done w (performed_as (Some text) w' connections'))
+    (text : List ℕ) × (lines' ≡ lines ++ text)
+    × ((w : World) → Represents core w → (w' : World) × Represents core' w' × Done w (performed_as (Some text) w' connections'))

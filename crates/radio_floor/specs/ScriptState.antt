@@ -90,7 +90,12 @@ opens state label peer =
     let told = said asking reply in
     record {
       lines = Some (told_lines label told.bytes told.state);
-      state = record { world = world_after state.world (Arrive peer); connections = placed by_label (record { label = label; connection = taken_in peer reply }) state.connections };
+      state =
+          record {
+            world = world_after state.world (Arrive peer);
+            connections =
+                placed by_label (record { label = label; connection = taken_in peer reply }) state.connections;
+          };
     }
 
 -- the conversation, unless its connection was shut
@@ -104,7 +109,12 @@ exchanges state label conversation events =
     let x = exchanged state.world conversation.id conversation.says events in
     record {
       lines = Some (told_lines label x.exchange.bytes x.exchange.state);
-      state = record { world = x.world; connections = with_connection state.connections label (conversation_unless (saying_now conversation x.exchange.says) x.exchange.state) };
+      state =
+          record {
+            world = x.world;
+            connections =
+                with_connection state.connections label (conversation_unless (saying_now conversation x.exchange.says) x.exchange.state);
+          };
     }
 
 -- the peer has closed the connection

@@ -18,4 +18,5 @@ IsTranscriptOf settings lists deliveries text stop = (last : ScriptState) × Run
 
 -- a script was played so: what was left unread, the result, what was written, and in how many turns
 abbrev pub PlaysScript : Settings → Lists → List ℕ → List ℕ → Result (Unit {0}) PlayFault → List ℕ → ℕ → Type 0
-PlaysScript settings lists script left result written turns = (last : ScriptState) × Plays conduct (opening_script settings lists) 1 script left result written turns last
+PlaysScript settings lists script left result written turns = (last : ScriptState)
+    × Plays conduct (opening_script settings lists) 1 script left result written turns last

@@ -83,7 +83,8 @@ impl ScriptServer {
         lines: &mut Vec<u8>,
     ) -> Result<(), OutOfMemory>
         ensures { OnOk result (DoesAs self.old.core self.new.core self.new.connections lines.old.items lines.new.items
-            (λ w done. exchanges (script_state_of w self.old.connections) label connection (Event.Title connection.id (cleaned max_title text.now) ∷ []) ≡ done)) }
+            (λ w done. exchanges (script_state_of w self.old.connections) label connection (Event.Title connection.id (cleaned max_title text.now) ∷ [])
+            ≡ done)) }
     {
         let id = connection.id();
         let text = Title::clean(self.alloc, text)?;

@@ -145,7 +145,7 @@ fn if_stays(connection: Connection, state: State) -> Option<Connection>
 pub(crate) fn has_label(connections: &Table<Labelled>, label: u32) -> bool
     ensures { result ≡ is_some (connection_of connections.now label) }
 {
-    connections.get(label).is_some()
+    connections.get(&label).is_some()
 }
 
 /// Sets what has become of a label, and answers what it was: `None` where it was not opened, and
@@ -162,7 +162,7 @@ pub(crate) fn swap_connection(
         connection,
         found: None,
     };
-    connections.swap(label, &mut puts);
+    connections.swap(&label, &mut puts);
     puts.found
 }
 
@@ -177,7 +177,8 @@ fn arrive(
     ensures { IfOk result (λ arrived. (w : World) → Represents core.old w →
         let reply = reply_to w (Arrive peer) in
         let told = said asking reply in
-        Represents core.new (world_after w (Arrive peer)) × (out.new.items ≡ out.old.items ++ told.bytes) × (arrived.0 ≡ taken_in peer reply) × (arrived.1 ≡ told.state)) }
+        Represents core.new (world_after w (Arrive peer)) × (out.new.items ≡ out.old.items ++ told.bytes) × (arrived.0 ≡ taken_in peer reply) × (arrived.1
+        ≡ told.state)) }
 {
     let reply = core.step(Event::Arrive { peer })?;
     let connection = taken_in(alloc, peer, &reply)?;

@@ -29,7 +29,8 @@ pub fn run(
     // the transcript is that of all deliveries
     ensures ok { IfOk result (λ transcript. IsTranscriptOf settings lists deliveries.now transcript.items None) }
     // the fault comes only at a delivery whose label is at fault
-    ensures delivery { (number : ℕ) → result ≡ Err (RunFault.Delivery number) → (text : List ℕ) × IsTranscriptOf settings lists deliveries.now text (Some number) }
+    ensures delivery { (number : ℕ) → result ≡ Err (RunFault.Delivery number)
+        → (text : List ℕ) × IsTranscriptOf settings lists deliveries.now text (Some number) }
 {
     let mut server = ScriptServer::new(alloc, settings, lists);
     run_with(alloc, &mut server, deliveries)

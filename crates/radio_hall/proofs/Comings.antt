@@ -12,7 +12,8 @@ use Rattle.radio_hall.specs.Course.{newcomer, stranger, arrives, turned_away}
 use Rattle.radio_hall.specs.Admission.{IsTakenIn}
 use Rattle.radio_hall.proofs.Standing.{stands_so}
 
-pub comes_in : (peer : Peer) (id : ℕ) (given taken : List ℕ) (calls : Calls) (ms : ℕ) → IsTakenIn peer (Arrived id) given taken (newly_come id peer given taken calls ms)
+pub comes_in : (peer : Peer) (id : ℕ) (given taken : List ℕ) (calls : Calls) (ms : ℕ)
+    → IsTakenIn peer (Arrived id) given taken (newly_come id peer given taken calls ms)
 comes_in peer id given taken calls ms g t =
     let c = newly_come id peer given taken calls ms in
     stands_so c [] _ (newcomer peer id) Open (arrives peer) (sym g) refl refl refl refl refl refl (λ o. refl) (sym (ap (λ (xs : List ℕ). xs ++ []) t))
@@ -20,7 +21,8 @@ comes_in peer id given taken calls ms g t =
 module _ (peer : Peer) (given taken : List ℕ) (ms : ℕ) (c : Connection) where
   is_denied : (rule : Rule) → IsTurnedAway (Deny rule) given taken ms c → IsTakenIn peer (Deny rule) given taken c
   is_denied rule away g t =
-      stands_so c [] [] (stranger peer rule) Ended (turned_away peer rule) (sym (away.given_so_far ∙ g)) refl refl (ap (λ (s : Status). s.sits) (sym away.status))
+      stands_so c [] [] (stranger peer rule) Ended (turned_away peer rule) (sym (away.given_so_far ∙ g)) refl refl
+      (ap (λ (s : Status). s.sits) (sym away.status))
       (ap (λ (s : Status). s.has_left) (sym away.status)) (ap (λ (s : Status). s.fate) away.status) refl (λ o. absurd (cc))
       (sym away.owed ∙ ap (λ (xs : List ℕ). xs ++ c.owed) (sym (away.taken_so_far ∙ t)))
 

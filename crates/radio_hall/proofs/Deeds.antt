@@ -1,5 +1,6 @@
 -- Entries made for a connection, one after another.
-use Rattle.std.proofs.Common.{◌≡◌, ◌⊎◌, inl, inr, ◌<◌, ◌≤◌, ◌-◌, ◌==◌, nat_le, suc, length, lt_irrefl, arith, ℕ, true, false, List, take, drop, ap, [], ◌∷◌, ◌++◌, refl, sym, subst, ◌∙◌, append_assoc, append-nil}
+use Rattle.std.proofs.Common.{◌≡◌, ◌⊎◌, inl, inr, ◌<◌, ◌≤◌, ◌-◌, ◌==◌, nat_le, suc, length, lt_irrefl, arith, ℕ, true, false, List, take, drop, ap}
+use Rattle.std.proofs.Common.{[], ◌∷◌, ◌++◌, refl, sym, subst, ◌∙◌, append_assoc, append-nil}
 use Rattle.std.proofs.lemmas.Bool.{false≢true}
 use Rattle.std.proofs.lemmas.Bool.Decides.{nat_tests}
 use Rattle.std.proofs.lemmas.List.{take-append-drop}
@@ -101,7 +102,8 @@ served_then a b c xs ys f g = record {
 
 -- no entry was made
 pub served_by_none : (a b : Connection) → b.id ≡ a.id → IsLater a b → ((past : List Entry) → Stands a past → Stands b past) → IsServed a [] b
-served_by_none a b same later keeps = record { same = same; stands = λ past st. subst (λ (zs : List Entry). Stands b zs) (sym (append-nil past)) (keeps past st); later = later }
+served_by_none a b same later keeps =
+    record { same = same; stands = λ past st. subst (λ (zs : List Entry). Stands b zs) (sym (append-nil past)) (keeps past st); later = later }
 
 -- the same, told of an equal connection
 
@@ -119,50 +121,65 @@ answered_as_one {a} {b} {c} {event} {xs} e = subst (λ (o : Connection). IsAnswe
 
 -- it is cut off
 pub served_by_cut : (c c' : Connection) → IsOne c c' → IsLater c c' → c'.given ≡ c.given → c'.taken ≡ c.taken → c'.status.fate ≡ Cut → IsServed c [] c'
-served_by_cut c c' one calls given taken fate = served_by_none c c' one.id calls (λ past st. cut_off c c' [] past one st [] (given ∙ sym (append-nil c.given)) taken fate)
+served_by_cut c c' one calls given taken fate =
+    served_by_none c c' one.id calls (λ past st. cut_off c c' [] past one st [] (given ∙ sym (append-nil c.given)) taken fate)
 
 -- or was cut off with an event
-pub answered_by_cut : (c c' : Connection) (event : Event) → IsOne c c' → IsLater c c' → c'.given ≡ c.given → c'.taken ≡ c.taken → c'.status.fate ≡ Cut → IsAnswered event c [] c'
+pub answered_by_cut : (c c' : Connection) (event : Event) → IsOne c c' → IsLater c c' → c'.given ≡ c.given → c'.taken ≡ c.taken → c'.status.fate ≡ Cut
+    → IsAnswered event c [] c'
 answered_by_cut c c' event one calls given taken fate = record {
   same = one.id;
   made = λ goes. absurd (not_cut (sym fate ∙ goes));
   seat = λ other. one.sits;
   stands = λ later past st.
       subst (λ (es : List Event). StandsBefore es c' (past ++ [])) (ap (λ (f : Fate). later_by f later) (sym fate))
-      (subst (λ (es : List Entry). Stands c' es) (sym (append-nil past)) (cut_off c c' (event ∷ later) past one st [] (given ∙ sym (append-nil c.given)) taken fate));
+      (subst (λ (es : List Entry). Stands c' es) (sym (append-nil past))
+      (cut_off c c' (event ∷ later) past one st [] (given ∙ sym (append-nil c.given)) taken fate));
   later = calls;
 }
 
 -- its line takes some of what is owed
-pub served_by_write : (c c' : Connection) (n : ℕ) → IsOne c c' → IsLater c c' → IsWritten c.status.fate → c'.owed ≡ drop n c.owed → c'.given ≡ c.given → c'.taken ≡ c.taken ++ take n c.owed → c'.session ≡ c.session
+pub served_by_write : (c c' : Connection) (n : ℕ) → IsOne c c' → IsLater c c' → IsWritten c.status.fate → c'.owed ≡ drop n c.owed → c'.given ≡ c.given
+    → c'.taken ≡ c.taken ++ take n c.owed → c'.session ≡ c.session
     → c'.status.fate ≡ c.status.fate → IsServed c [] c'
 served_by_write c c' n one calls goes owed given taken session fate =
-    served_by_none c c' one.id calls (λ past st. taken_on c c' past one st goes (take n c.owed) (sym (take-append-drop n c.owed) ∙ ap (λ (xs : List ℕ). take n c.owed ++ xs) (sym owed)) given taken session fate)
+    served_by_none c c' one.id calls
+    (λ past st. taken_on c c' past one st goes (take n c.owed) (sym (take-append-drop n c.owed)
+    ∙ ap (λ (xs : List ℕ). take n c.owed ++ xs) (sym owed)) given taken session fate)
 
 -- other things are noted
 pub served_by_note : (c c' : Connection) → IsOne c c' → IsLater c c' → IsSame c c' → c'.status.fate ≡ c.status.fate → IsServed c [] c'
-served_by_note c c' one calls same fate = served_by_none c c' one.id calls (λ past st. still c c' [] past one st same.given same.taken same.owed same.session fate)
+served_by_note c c' one calls same fate =
+    served_by_none c c' one.id calls (λ past st. still c c' [] past one st same.given same.taken same.owed same.session fate)
 
 -- a draw is answered
-pub served_by_draw : (c c' : Connection) (room : ℕ) (entries : List Entry) → c.status.fate ≡ Open → IsAnswered (Draw c.id room) c entries c' → IsServed c entries c'
+pub served_by_draw : (c c' : Connection) (room : ℕ) (entries : List Entry) → c.status.fate ≡ Open → IsAnswered (Draw c.id room) c entries c'
+    → IsServed c entries c'
 served_by_draw c c' room entries goes a = record {
   same = a.same;
-  stands = λ past st. subst (λ (es : List Event). StandsBefore es c' (past ++ entries)) (later_by_nil c'.status.fate) (a.stands [] past (room_on c past goes room st));
+  stands =
+      λ past st. subst (λ (es : List Event). StandsBefore es c' (past ++ entries)) (later_by_nil c'.status.fate)
+      (a.stands [] past (room_on c past goes room st));
   later = a.later;
 }
 
 -- bytes that its line gave are heard, and answered
-pub heard_so : (c m c' : Connection) (bytes : List ℕ) (heard : Heard) (entries : List Entry) → c.status.fate ≡ Open → IsHeard c.session bytes heard → IsOne c m → IsLater c m → m.given ≡ c.given
-    → m.taken ≡ c.taken → m.owed ≡ c.owed → m.session ≡ heard.conversation → m.status.fate ≡ c.status.fate → AreAnswered heard.events m entries c' → IsHeardOn bytes c entries c'
+pub heard_so : (c m c' : Connection) (bytes : List ℕ) (heard : Heard) (entries : List Entry) → c.status.fate ≡ Open → IsHeard c.session bytes heard → IsOne c m
+    → IsLater c m → m.given ≡ c.given
+    → m.taken ≡ c.taken → m.owed ≡ c.owed → m.session ≡ heard.conversation → m.status.fate ≡ c.status.fate → AreAnswered heard.events m entries c'
+    → IsHeardOn bytes c entries c'
 heard_so c m c' bytes heard entries goes is one calls given taken owed session fate a = record {
   same = a.same ∙ one.id;
   stands = λ before past now st.
-      a.stands past (heard_on (record c { given = before }) m past (record { id = one.id; sits = one.sits; left = one.left }) st goes bytes heard is (given ∙ now) taken owed session fate);
+      a.stands past
+      (heard_on (record c { given = before }) m past (record { id = one.id; sits = one.sits; left = one.left }) st goes bytes heard is (given
+      ∙ now) taken owed session fate);
   later = later_then c m c' calls a.later;
 }
 
 -- or are not heard
-pub heard_by_cut : (c c' : Connection) (bytes : List ℕ) → IsOne c c' → IsLater c c' → c'.given ≡ c.given → c'.taken ≡ c.taken → c'.status.fate ≡ Cut → IsHeardOn bytes c [] c'
+pub heard_by_cut : (c c' : Connection) (bytes : List ℕ) → IsOne c c' → IsLater c c' → c'.given ≡ c.given → c'.taken ≡ c.taken → c'.status.fate ≡ Cut
+    → IsHeardOn bytes c [] c'
 heard_by_cut c c' bytes one calls given taken fate = record {
   same = one.id;
   stands = λ before past now st.
@@ -175,29 +192,39 @@ pub heard_on_one : {a b c : Connection} {bytes : List ℕ} {xs : List Entry} →
 heard_on_one {a} {b} {c} {bytes} {xs} e = subst (λ (o : Connection). IsHeardOn bytes o xs c) e
 
 -- its line gives bytes, and they are heard
-pub served_by_hearing : (c m c' : Connection) (bytes : List ℕ) (entries : List Entry) → IsOne c m → IsLater c m → m.given ≡ c.given ++ bytes → m.taken ≡ c.taken → m.owed ≡ c.owed → m.session ≡ c.session
+pub served_by_hearing : (c m c' : Connection) (bytes : List ℕ) (entries : List Entry) → IsOne c m → IsLater c m → m.given ≡ c.given ++ bytes
+    → m.taken ≡ c.taken → m.owed ≡ c.owed → m.session ≡ c.session
     → m.status.fate ≡ c.status.fate → IsHeardOn bytes m entries c' → IsServed c entries c'
 served_by_hearing c m c' bytes entries one calls given taken owed session fate h = record {
   same = h.same ∙ one.id;
   stands = λ past st.
-      h.stands c.given past given (still c (record m { given = c.given }) [] past (record { id = one.id; sits = one.sits; left = one.left }) st refl taken owed session fate);
+      h.stands c.given past given
+      (still c (record m { given = c.given }) [] past (record { id = one.id; sits = one.sits; left = one.left }) st refl taken owed session fate);
   later = later_then c m c' calls h.later;
 }
 
 -- its line has closed
-pub served_by_close : (c c' : Connection) → IsOne c c' → IsLater c c' → IsWritten c.status.fate → c.owed ≡ [] → c'.given ≡ c.given → c'.taken ≡ c.taken → c'.status.fate ≡ Closed → IsServed c [] c'
+pub served_by_close : (c c' : Connection) → IsOne c c' → IsLater c c' → IsWritten c.status.fate → c.owed ≡ [] → c'.given ≡ c.given → c'.taken ≡ c.taken
+    → c'.status.fate ≡ Closed → IsServed c [] c'
 served_by_close c c' one calls goes owed given taken fate = served_by_none c c' one.id calls (λ past st. closed_out c c' past one st goes owed given taken fate)
 
 -- what came after its end is passed over
-pub served_by_passing : (c c' : Connection) (bytes : List ℕ) → IsOne c c' → IsLater c c' → c.status.fate ≡ Ended → c'.given ≡ c.given ++ bytes → c'.taken ≡ c.taken → c'.owed ≡ c.owed → c'.status.fate ≡ Ended → IsServed c [] c'
-served_by_passing c c' bytes one calls ended given taken owed fate = served_by_none c c' one.id calls (λ past st. passed_over c c' past one st ended bytes given taken owed fate)
+pub served_by_passing : (c c' : Connection) (bytes : List ℕ) → IsOne c c' → IsLater c c' → c.status.fate ≡ Ended → c'.given ≡ c.given ++ bytes
+    → c'.taken ≡ c.taken → c'.owed ≡ c.owed → c'.status.fate ≡ Ended → IsServed c [] c'
+served_by_passing c c' bytes one calls ended given taken owed fate =
+    served_by_none c c' one.id calls (λ past st. passed_over c c' past one st ended bytes given taken owed fate)
 
-pub served_by_read_on : (c c' : Connection) (answer : Received) (buffer : List ℕ) → IsOne c c' → IsLater c c' → c.status.fate ≡ Ended → HasGiven answer buffer c.given c'.given → c'.taken ≡ c.taken → c'.owed ≡ c.owed
+pub served_by_read_on : (c c' : Connection) (answer : Received) (buffer : List ℕ) → IsOne c c' → IsLater c c' → c.status.fate ≡ Ended
+    → HasGiven answer buffer c.given c'.given → c'.taken ≡ c.taken → c'.owed ≡ c.owed
     → c'.session ≡ c.session → c'.status.fate ≡ Ended → IsServed c [] c'
-served_by_read_on c c' (Bytes n) buffer one calls ended given taken owed session fate = served_by_passing c c' (take n buffer) one calls ended given.1 taken owed fate
-served_by_read_on c c' Nothing buffer one calls ended given taken owed session fate = served_by_note c c' one calls (record { id = one.id; given = given; taken = taken; owed = owed; session = session }) (fate ∙ sym ended)
-served_by_read_on c c' HasClosed buffer one calls ended given taken owed session fate = served_by_note c c' one calls (record { id = one.id; given = given; taken = taken; owed = owed; session = session }) (fate ∙ sym ended)
-served_by_read_on c c' Fault buffer one calls ended given taken owed session fate = served_by_note c c' one calls (record { id = one.id; given = given; taken = taken; owed = owed; session = session }) (fate ∙ sym ended)
+served_by_read_on c c' (Bytes n) buffer one calls ended given taken owed session fate =
+    served_by_passing c c' (take n buffer) one calls ended given.1 taken owed fate
+served_by_read_on c c' Nothing buffer one calls ended given taken owed session fate =
+    served_by_note c c' one calls (record { id = one.id; given = given; taken = taken; owed = owed; session = session }) (fate ∙ sym ended)
+served_by_read_on c c' HasClosed buffer one calls ended given taken owed session fate =
+    served_by_note c c' one calls (record { id = one.id; given = given; taken = taken; owed = owed; session = session }) (fate ∙ sym ended)
+served_by_read_on c c' Fault buffer one calls ended given taken owed session fate =
+    served_by_note c c' one calls (record { id = one.id; given = given; taken = taken; owed = owed; session = session }) (fate ∙ sym ended)
 
 module _ {S : Type 0} (steps : Steps S) where
   pub chain_then : (from mid to : S) (xs ys : List Entry) → Chain steps from xs mid → Chain steps mid ys to → Chain steps from (xs ++ ys) to
@@ -208,7 +235,8 @@ module _ {S : Type 0} (steps : Steps S) where
   chain_one from to e s = (to, s, refl)
 
   -- its client leaves
-  pub leaves_so : (from to : S) (c c' : Connection) → ((reply : Reply) × steps from (Leave c.id) reply to) → is_open c.status.fate ≡ false → c.status.has_left ≡ false → IsSame c c' → c'.calls ≡ c.calls
+  pub leaves_so : (from to : S) (c c' : Connection) → ((reply : Reply) × steps from (Leave c.id) reply to) → is_open c.status.fate ≡ false
+      → c.status.has_left ≡ false → IsSame c c' → c'.calls ≡ c.calls
       → c'.status.fate ≡ c.status.fate → c'.status.sits ≡ c.status.sits → c'.status.has_left ≡ true → Leaves steps from c to c'
   leaves_so from to c c' r over here same calls fate sits left = record {
     entries = entry (Leave c.id) r.0 ∷ [];
@@ -249,7 +277,8 @@ module _ {S : Type 0} (steps : Steps S) where
   draws_nothing from c idle = ([], refl, served_by_none c c refl (later_none c) (λ past st. st), (λ sits goes. absurd (idle sits goes)), refl)
 
   -- a connection is read from, and then drawn for
-  pub works_in_turn : {from mid to : S} {a b m n c : Connection} → a ≡ b → a.status.fate ≡ Open → m.calls ≡ a.calls → IsServed a [] m → Listens steps from m mid n → Draws steps mid n to c → Works steps from b to c
+  pub works_in_turn : {from mid to : S} {a b m n c : Connection} → a ≡ b → a.status.fate ≡ Open → m.calls ≡ a.calls → IsServed a [] m
+      → Listens steps from m mid n → Draws steps mid n to c → Works steps from b to c
   works_in_turn {from} {mid} {to} {a} {b} {m} {n} {c} e goes calls first heard drew = subst (λ (o : Connection). Works steps from o to c) e (record {
     entries = heard.0 ++ drew.0;
     chain = chain_then from mid to heard.0 drew.0 heard.1 drew.1;
@@ -262,7 +291,8 @@ module _ {S : Type 0} (steps : Steps S) where
   })
 
   -- the server is not asked for one who does not go on
-  pub rests_in_turn : (from : S) {c c' : Connection} → IsServed c [] c' → (c.status.fate ≡ Open → ⊥) → (c'.status.fate ≡ Open → ⊥) → (c'.status.fate ≡ Cut → c.status.fate ≡ Cut) → Works steps from c from c'
+  pub rests_in_turn : (from : S) {c c' : Connection} → IsServed c [] c' → (c.status.fate ≡ Open → ⊥) → (c'.status.fate ≡ Open → ⊥)
+      → (c'.status.fate ≡ Cut → c.status.fate ≡ Cut) → Works steps from c from c'
   rests_in_turn from {c} {c'} served over_before over cut = record {
     entries = [];
     chain = refl;
@@ -273,7 +303,8 @@ module _ {S : Type 0} (steps : Steps S) where
   }
 
   -- why it is cut off, once it was worked for
-  cause_of : {from one : S} {ms patience : ℕ} {a b c d e f : Connection} → IsFlushed ms a b → b.owed ≡ [] → Works steps from b one c → IsLater c d → d.status.fate ≡ c.status.fate → IsFlushed ms d e → IsLater e f → f.status.fate ≡ e.status.fate
+  cause_of : {from one : S} {ms patience : ℕ} {a b c d e f : Connection} → IsFlushed ms a b → b.owed ≡ [] → Works steps from b one c → IsLater c d
+      → d.status.fate ≡ c.status.fate → IsFlushed ms d e → IsLater e f → f.status.fate ≡ e.status.fate
       → f.status.fate ≡ Cut → Cause ms patience a f
   cause_of {from} {one} {ms} {patience} {a} {b} {c} {d} {e} {f} first none works on left last over same cut = by_last (last.cut (sym same ∙ cut)) where
     grown : b.calls.faults ≤ f.calls.faults
@@ -292,22 +323,31 @@ module _ {S : Type 0} (steps : Steps S) where
     by_last (inr more) = HasFailed (omega (arith, first.served.later.faults, works.served.later.faults, on.faults, more, over.faults))
 
   -- a connection is written to and worked for, its client leaves if it is over, and it is written to again
-  pub served_in_turn : {from one two to : S} {ms patience : ℕ} {a b c d e f : Connection} → IsFlushed ms a b → b.owed ≡ [] → Works steps from b one c → Leaves steps one c two d → IsFlushed ms d e → Leaves steps two e to f
+  pub served_in_turn : {from one two to : S} {ms patience : ℕ} {a b c d e f : Connection} → IsFlushed ms a b → b.owed ≡ [] → Works steps from b one c
+      → Leaves steps one c two d → IsFlushed ms d e → Leaves steps two e to f
       → ServesInTurn steps ms patience from a to f
   served_in_turn {from} {one} {two} {to} {ms} {patience} {a} {b} {c} {d} {e} {f} first none works left last over = record {
     entries = works.entries ++ (left.entries ++ over.entries);
-    chain = chain_then from one to works.entries (left.entries ++ over.entries) works.chain (chain_then one two to left.entries over.entries left.chain over.chain);
+    chain =
+        chain_then from one to works.entries (left.entries ++ over.entries) works.chain (chain_then one two to left.entries over.entries left.chain over.chain);
     served =
         served_then a b f [] (works.entries ++ (left.entries ++ over.entries)) first.served
-        (served_then b c f works.entries (left.entries ++ over.entries) works.served (served_then c d f left.entries over.entries left.served (served_then d e f [] over.entries last.served over.served)));
+        (served_then b c f works.entries (left.entries ++ over.entries) works.served
+        (served_then c d f left.entries over.entries left.served (served_then d e f [] over.entries last.served over.served)));
     drawn = λ nothing goes sits.
         let at_e = sym over.fate ∙ goes in
         let at_c = sym left.fate ∙ last.goes at_e in
         let drawn = works.drawn (first.none nothing) at_c (sym left.sits ∙ sym last.sits ∙ sym over.sits ∙ sits) in
-        let alone : works.entries ++ (left.entries ++ over.entries) ≡ works.entries = ap (λ (xs : List Entry). works.entries ++ (xs ++ over.entries)) (left.alone at_c) ∙ ap (λ (xs : List Entry). works.entries ++ xs) (over.alone at_e) ∙ append-nil works.entries in
+        let alone : works.entries ++ (left.entries ++ over.entries) ≡ works.entries =
+        ap (λ (xs : List Entry). works.entries ++ (xs ++ over.entries)) (left.alone at_c) ∙ ap (λ (xs : List Entry). works.entries ++ xs) (over.alone at_e)
+        ∙ append-nil works.entries in
         subst (λ (id : ℕ). EndsWithDraw id (works.entries ++ (left.entries ++ over.entries))) first.served.same (drawn.0, drawn.1, alone ∙ drawn.2);
-    asked = λ goes nothing. omega (arith, first.served.later.reads, works.asked (first.idle nothing ∙ goes), left.served.later.reads, last.served.later.reads, over.served.later.reads);
-    given = λ goes some. omega (arith, first.given goes some, works.served.later.writes, left.served.later.writes, last.served.later.writes, over.served.later.writes);
+    asked =
+        λ goes nothing. omega
+        (arith, first.served.later.reads, works.asked (first.idle nothing ∙ goes), left.served.later.reads, last.served.later.reads, over.served.later.reads);
+    given =
+        λ goes some. omega
+        (arith, first.given goes some, works.served.later.writes, left.served.later.writes, last.served.later.writes, over.served.later.writes);
     waited = inl (rest.taken.0, rest.taken.1 ∙ ap (λ (xs : List ℕ). xs ++ rest.taken.0) (first.all none));
     cut = cause_of first none works left.served.later left.fate last over.served.later over.fate;
   } where
@@ -315,7 +355,8 @@ module _ {S : Type 0} (steps : Steps S) where
     rest = later_then b c f works.served.later (later_then c d f left.served.later (later_then d e f last.served.later over.served.later))
 
   -- a connection is written to, and still owed something
-  pub kept_in_turn : {from to : S} {ms patience : ℕ} {a b m c : Connection} → IsFlushed ms a b → (b.owed ≡ [] → ⊥) → IsPatient ms patience b m → Leaves steps from m to c → ServesInTurn steps ms patience from a to c
+  pub kept_in_turn : {from to : S} {ms patience : ℕ} {a b m c : Connection} → IsFlushed ms a b → (b.owed ≡ [] → ⊥) → IsPatient ms patience b m
+      → Leaves steps from m to c → ServesInTurn steps ms patience from a to c
   kept_in_turn {from} {to} {ms} {patience} {a} {b} {m} {c} first some rests left = record {
     entries = left.entries;
     chain = left.chain;
@@ -323,7 +364,12 @@ module _ {S : Type 0} (steps : Steps S) where
     drawn = λ none goes sits. absurd (some (first.none none));
     asked = λ goes none. absurd (some (first.none none));
     given = λ goes owed. omega (arith, first.given goes owed, rests.served.later.writes, left.served.later.writes);
-    waited = inr (left.unread ∙ rests.unread ∙ first.unread, subst (λ (id : ℕ). IsAtMostLeaving id left.entries) (rests.served.same ∙ first.served.same) left.leaving);
+    waited =
+        inr (
+          left.unread ∙ rests.unread
+              ∙ first.unread,
+          subst (λ (id : ℕ). IsAtMostLeaving id left.entries) (rests.served.same ∙ first.served.same) left.leaving,
+        );
     cut = λ cut. by_wait (rests.cut (sym left.fate ∙ cut));
   } where
     by_moment : (b.status.moved_ms ≡ a.status.moved_ms) ⊎ (b.status.moved_ms ≡ ms) → HasStalled ms patience b → HasStalled ms patience a

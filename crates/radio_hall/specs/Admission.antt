@@ -9,14 +9,16 @@ use Rattle.radio_session.specs.Exchanges.{Steps}
 use Rattle.radio_hall.specs.Connections.{Connection}
 use Rattle.radio_hall.specs.Turns.{Stands}
 
--- By this reply to his arrival, his connection stands as it must, if its line has given and taken nothing yet: a client with his arrival, one who was denied with no entry.
+-- By this reply to his arrival, his connection stands as it must, if its line has given and taken nothing yet: a client with his arrival,
+-- one who was denied with no entry.
 abbrev pub IsTakenIn : Peer → Reply → List ℕ → List ℕ → Connection → Type 0
 IsTakenIn peer (Arrived id) given taken c = given ≡ [] → taken ≡ [] → Stands c (entry (Arrive peer) (Arrived id) ∷ [])
 IsTakenIn peer (Deny rule) given taken c = given ≡ [] → taken ≡ [] → Stands c []
 IsTakenIn peer reply given taken c = Unit {0}
 
 -- the arrival was applied, and the connection is added behind the others
-pub record IsAdmission {S : Type 0} (steps : Steps S) (peer : Peer) (given taken : List ℕ) (from : S) (conns : List Connection) (to : S) (conns' : List Connection) : Type 0 where
+pub record IsAdmission {S : Type 0} (steps : Steps S) (peer : Peer) (given taken : List ℕ) (from : S) (conns : List Connection) (to : S)
+    (conns' : List Connection) : Type 0 where
   pub reply : Reply
   pub newcomer : Connection
   pub step : steps from (Arrive peer) reply to

@@ -13,11 +13,13 @@ use Rattle.radio_hall.specs.Course.{fate_by, is_listen}
 use Rattle.radio_hall.specs.Duties.{IsLater}
 use Rattle.radio_hall.specs.Turns.{StandsBefore, Stands}
 
--- With this fate, a connection was told the reply: its bytes are owed behind the others, and its session stands as it does then. Where it is cut off, nothing is said.
+-- With this fate, a connection was told the reply: its bytes are owed behind the others, and its session stands as it does then. Where it
+-- is cut off, nothing is said.
 abbrev pub IsToldAs : Fate → Reply → Conversation → List ℕ → Conversation → List ℕ → Type 0
 IsToldAs Cut reply session owed session' owed' = Unit {0}
 IsToldAs fate reply session owed session' owed' =
-    (fate ≡ fate_by (said session.says reply).state) × (session' ≡ saying_now session (said session.says reply).says) × (owed' ≡ owed ++ (said session.says reply).bytes)
+    (fate ≡ fate_by (said session.says reply).state) × (session' ≡ saying_now session (said session.says reply).says)
+    × (owed' ≡ owed ++ (said session.says reply).bytes)
 
 -- what is still to be applied of a connection that goes on
 abbrev pub later_by : Fate → List Event → List Event
@@ -30,7 +32,8 @@ pub record IsAnswered (event : Event) (c : Connection) (entries : List Entry) (c
   -- where it goes on, there is an entry of it; and to another event than a request to hear a mount, no seat is given
   pub made : c'.status.fate ≡ Open → (reply : Reply) × (entries ≡ entry event reply ∷ [])
   pub seat : is_listen event ≡ false → c'.status.sits ≡ c.status.sits
-  pub stands : (later : List Event) (past : List Entry) → StandsBefore (event ∷ later) c past → StandsBefore (later_by c'.status.fate later) c' (past ++ entries)
+  pub stands : (later : List Event) (past : List Entry) → StandsBefore (event ∷ later) c past
+      → StandsBefore (later_by c'.status.fate later) c' (past ++ entries)
   pub later : IsLater c c'
 
 -- its events were applied, up to its end

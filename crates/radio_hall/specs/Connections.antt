@@ -13,7 +13,8 @@ abbrev pub is_open : Fate → Bool
 is_open Open = true
 is_open fate = false
 
--- the number of its client, all that its line gave and took, how often it was called, what is owed to the line, how its session stands, and what its worker notes of it
+-- the number of its client, all that its line gave and took, how often it was called, what is owed to the line, how its session stands, and
+-- what its worker notes of it
 pub record Connection : Type 0 where
   -- 0 where it is nobody's
   pub id : ℕ
@@ -30,7 +31,8 @@ status_at fate has_left ms = record { fate = fate; has_left = has_left; sits = f
 
 -- a client was let in, whose line gave and took this, and was called so often
 abbrev pub newly_come : ℕ → Peer → List ℕ → List ℕ → Calls → ℕ → Connection
-newly_come id peer given taken calls ms = record { id = id; given = given; taken = taken; calls = calls; owed = []; session = fresh id peer; status = status_at Open false ms }
+newly_come id peer given taken calls ms =
+    record { id = id; given = given; taken = taken; calls = calls; owed = []; session = fresh id peer; status = status_at Open false ms }
 
 -- it is still to be served: it is not over, or its client has not left
 abbrev pub stays_with : Fate → Bool → Bool

@@ -37,11 +37,33 @@ pub record Standing : Type 0 where
 
 -- a client whose connection has just come
 abbrev pub newcomer : Peer → ℕ → Standing
-newcomer peer id = record { given = []; entries = entry (Arrive peer) (Arrived id) ∷ []; text = []; session = fresh id peer; pending = []; sits = false; fate = Open; has_left = false }
+newcomer peer id =
+    record {
+      given = [];
+      entries = entry (Arrive peer) (Arrived id) ∷ [];
+      text = [];
+      session = fresh id peer;
+      pending = [];
+      sits = false;
+      fate =
+          Open;
+      has_left = false;
+    }
 
 -- one whose connection is not taken in: it is told of the denial, and is nobody's client
 abbrev pub stranger : Peer → Rule → Standing
-stranger peer rule = record { given = []; entries = []; text = (said asking (Deny rule)).bytes; session = fresh 0 peer; pending = []; sits = false; fate = Ended; has_left = true }
+stranger peer rule =
+    record {
+      given = [];
+      entries = [];
+      text = (said asking (Deny rule)).bytes;
+      session = fresh 0 peer;
+      pending = [];
+      sits = false;
+      fate = Ended;
+      has_left =
+          true;
+    }
 
 abbrev pub is_listen : Event → Bool
 is_listen (Listen asked) = true

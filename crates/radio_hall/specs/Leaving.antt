@@ -70,4 +70,5 @@ module _ {S : Type 0} (steps : Steps S) where
   -- whatever was done, one who has a seat has drawn
   abbrev pub Draws : S → Connection → S → Connection → Type 0
   Draws from c to c' =
-      (entries : List Entry) × Chain steps from entries to × IsServed c entries c' × (c.status.sits ≡ true → IsOneDraw c.id 16384 entries c') × (c'.status.sits ≡ c.status.sits)
+      (entries : List Entry) × Chain steps from entries to × IsServed c entries c' × (c.status.sits ≡ true → IsOneDraw c.id 16384 entries c')
+      × (c'.status.sits ≡ c.status.sits)

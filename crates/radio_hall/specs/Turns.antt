@@ -76,7 +76,8 @@ module _ {S : Type 0} (steps : Steps S) where
   abbrev pub ServesEach : ℕ → ℕ → S → List Connection → S → List Connection → Type 0
   ServesEach ms patience from [] to served = (to ≡ from) × (served ≡ [])
   ServesEach ms patience from (c ∷ cs) to served =
-      (mid : S) × (c' : Connection) × (others : List Connection) × ServesInTurn ms patience from c mid c' × ServesEach ms patience mid cs to others × (served ≡ c' ∷ others)
+      (mid : S) × (c' : Connection) × (others : List Connection) × ServesInTurn ms patience from c mid c' × ServesEach ms patience mid cs to others
+      × (served ≡ c' ∷ others)
 
   -- the event was applied, or refused for want of memory by a server that may refuse it
   abbrev pub HasApplied : (S → Event → Type 0) → Bool → S → Event → S → Type 0
@@ -91,7 +92,8 @@ module _ {S : Type 0} (steps : Steps S) where
       ⊎ ((after ≡ before) × refuses before.server (Clock ms)))
 
   -- A turn at this moment: the server is told the time if it is due, each connection is served, and those that are over are closed.
-  pub record IsTurn (refuses : S → Event → Type 0) (ms : ℕ) (before : WorkerOf S) (conns : List Connection) (after : WorkerOf S) (conns' : List Connection) : Type 0 where
+  pub record IsTurn (refuses : S → Event
+      → Type 0) (ms : ℕ) (before : WorkerOf S) (conns : List Connection) (after : WorkerOf S) (conns' : List Connection) : Type 0 where
     pub mid : WorkerOf S
     pub served : List Connection
     pub ticks : Ticks refuses ms before mid

@@ -61,7 +61,9 @@ impl<C: Chronicle, H: House> Hall<C, H> {
         event: Event,
     ) -> Result<Receipt, OutOfMemory>
         ensures event { IfOk result (λ receipt. receipt.event ≡ event) }
-        // whoever called before, there is a history that is a run from the opening state, and the reply is that of a step after it; where entries are stored, the receipt's place is the one behind it
+        // whoever called before, there is a history that is a run from the opening state, and the
+        // reply is that of a step after it; where entries are stored, the receipt's place is the
+        // one behind it
         ensures legal { IfOk result (λ receipt. ∥ IsLegal C.KEEPS H.opening receipt ∥₁) }
         // where entries are stored, the pass gains the receipt; where they are not, nothing is noted
         ensures pass { C.KEEPS ≡ true → IfOk result (λ receipt. pass.new ≡ pass.old ++ receipt ∷ []) }

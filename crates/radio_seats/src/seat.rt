@@ -1,7 +1,8 @@
 //! A listener, and his seat.
 
 ghost use Rattle.std.specs.Prelude.{◌≡◌};
-ghost use Rattle.radio_seats.specs.Seats.{is_seat_at, is_user_at};
+ghost use Rattle.std.specs.Option.{option_copied};
+ghost use Rattle.radio_seats.specs.Seats.{seat_held, is_seat_at, is_user_at};
 
 use radio_addr::Peer;
 use radio_blocks::Place;
@@ -13,14 +14,15 @@ use radio_tables::Row;
 /// A listener's seat at a mount.
 #[derive(Drop)]
 pub struct Seat {
-    /// The mount that he asked for.
-    pub home: MountName,
-    /// The mount that he hears.
-    pub mount: MountName,
+    // what a draw reads comes first, and lies together
+    /// How far he has heard the stream of his session.
+    pub place: Place,
     /// The number of the session that he hears.
     pub session: u64,
-    /// How far he has heard its stream.
-    pub place: Place,
+    /// The mount that he hears.
+    pub mount: MountName,
+    /// The mount that he asked for.
+    pub home: MountName,
     /// The address that he came from.
     pub peer: Peer,
     /// The user and the password that he sent, if he did.
@@ -41,6 +43,16 @@ pub enum Seating {
 }
 
 impl Seating {
+    /// The seat, if it is one.
+    pub fn seat(&self) -> Option<&Seat>
+        ensures { option_copied result ≡ seat_held self.now }
+    {
+        match self {
+            Seating::Sits(seat) => Some(seat),
+            Seating::Finished(_) => None,
+        }
+    }
+
     /// Whether it is a seat at the mount.
     pub fn is_at(&self, mount: &MountName) -> bool
         ensures { result ≡ is_seat_at mount.now self.now }

@@ -4,7 +4,8 @@ ghost use Rattle.std.specs.Prelude.{◌≡◌, [], OnOk, OnErr};
 ghost use Rattle.std.specs.Option.{option_copied};
 ghost use Rattle.std.specs.Map.Iter.{ShowsInOrder, deref};
 ghost use Rattle.radio_seats.specs.declared.seat.Listener.{Listener as ListenerOf};
-ghost use Rattle.radio_seats.specs.Seats.{listener_of, with_seat, with_place, finished_at, with_ended, without_listener, count_at, sits_there, AreByNumber};
+ghost use Rattle.radio_seats.specs.Seats.{listener_of, seat_of, with_seat, with_place, finished_at, with_ended, without_listener, count_at};
+ghost use Rattle.radio_seats.specs.Seats.{sits_there, AreByNumber};
 
 use crate::changes::{Advances, FinishesFrom, FinishesIf};
 use crate::{Listener, OutOfMemory, Seat, SeatTest, Seating};
@@ -45,7 +46,17 @@ impl Seats {
     pub fn get(&self, id: u64) -> Option<&Listener>
         ensures { option_copied result ≡ listener_of self.now id }
     {
-        self.rows.get(id)
+        self.rows.get(&id)
+    }
+
+    /// The seat of the listener of this number, if he has one.
+    pub fn seat(&self, id: u64) -> Option<&Seat>
+        ensures { option_copied result ≡ seat_of self.now id }
+    {
+        let Some(listener) = self.rows.get(&id) else {
+            return None;
+        };
+        listener.seating.seat()
     }
 
     /// The client is a listener from now on, and has this seat; of one who was a listener before,
@@ -63,7 +74,7 @@ impl Seats {
     pub fn advance(&mut self, id: u64, place: Place)
         ensures { self.new ≡ with_place self.old id place }
     {
-        self.rows.change(id, &Advances { place });
+        self.rows.change(&id, &Advances { place });
     }
 
     /// All who sit at the mount lose their seats by the rule. It takes no memory.
@@ -84,7 +95,7 @@ impl Seats {
     pub fn remove(&mut self, id: u64)
         ensures { self.new ≡ without_listener self.old id }
     {
-        self.rows.remove(id);
+        self.rows.remove(&id);
     }
 
     /// The listeners, in the order of their numbers.

@@ -1,5 +1,6 @@
 -- However bytes are cut, they are heard alike.
-use Rattle.std.proofs.Common.{◌≡◌, ℕ, Bool, true, false, List, [], ◌∷◌, ◌++◌, drop, map, ap, sym, ◌∙◌, refl, subst, Result, Ok, Err, append_assoc, Option, None, Some, append-nil}
+use Rattle.std.proofs.Common.{◌≡◌, ℕ, Bool, true, false, List, [], ◌∷◌, ◌++◌, drop, map, ap, sym, ◌∙◌, refl, subst, Result, Ok, Err, append_assoc}
+use Rattle.std.proofs.Common.{Option, None, Some, append-nil}
 use Rattle.std.specs.Prelude.{codes, if◌then◌else◌}
 use Rattle.std.specs.Str.{bytes_eq}
 use Rattle.std.proofs.lemmas.List.{drop-append-le, map-append}
@@ -24,10 +25,12 @@ use Rattle.radio_source.specs.Feeding.{unfed}
 use Rattle.radio_session.specs.Conversation.{Conversation}
 use Rattle.radio_session.specs.Pushes.{pushes}
 use Rattle.radio_session.specs.Asking.{asks_to_feed}
-use Rattle.radio_session.specs.Hearing.{Heard, HearsAs, IsHeard, head_heard, request_heard, source_heard, listener_heard, body_heard, delivered, closes_with, greeted, refuses, nothing_held, going_on}
+use Rattle.radio_session.specs.Hearing.{Heard, HearsAs, IsHeard, head_heard, request_heard, source_heard, listener_heard, body_heard, delivered}
+use Rattle.radio_session.specs.Hearing.{closes_with, greeted, refuses, nothing_held, going_on}
 use Rattle.radio_policy.specs.declared.rule.Rule.TheVariants.{BadHead, BadMethod}
 use Rattle.radio_session.proofs.HearingLemmas.{heard-alike, hearing_is_one}
-use Rattle.radio_session.specs.Cuts.{Atom, datum, atoms_of, atoms, answered, AreHeardAlike, IsCutting, IsHeardIn, unheard, heard_then, CutsDoNotMatter, PiecesAreHeardAsOne}
+use Rattle.radio_session.specs.Cuts.{Atom, datum, atoms_of, atoms, answered, AreHeardAlike, IsCutting, IsHeardIn, unheard, heard_then}
+use Rattle.radio_session.specs.Cuts.{CutsDoNotMatter, PiecesAreHeardAsOne}
 
 -- lists of atoms joined
 atoms-append : (xs ys : List Event) → atoms (xs ++ ys) ≡ atoms xs ++ atoms ys

@@ -1,5 +1,6 @@
 -- However bytes are cut, they are told alike.
-use Rattle.std.proofs.Common.{◌≡◌, ℕ, Bool, true, false, List, [], ◌∷◌, ◌++◌, drop, ap, sym, ◌∙◌, refl, subst, inl, inr, IsErr, Result, Ok, Err, append-nil, Option, None, Some}
+use Rattle.std.proofs.Common.{◌≡◌, ℕ, Bool, true, false, List, [], ◌∷◌, ◌++◌, drop, ap, sym, ◌∙◌, refl, subst, inl, inr, IsErr, Result, Ok, Err}
+use Rattle.std.proofs.Common.{append-nil, Option, None, Some}
 use Rattle.std.specs.Prelude.{codes}
 use Rattle.std.specs.Str.{bytes_eq}
 use Rattle.radio_heads.specs.declared.outcome.Progress.{Progress}

@@ -10,7 +10,8 @@ use Rattle.radio_session.specs.declared.state.State.TheVariants.{Running, Shut}
 use Rattle.radio_session.specs.declared.state.Ending.{Ending}
 use Rattle.radio_session.specs.Saying.{Said, said}
 use Rattle.radio_session.specs.Laws.{CoresExchangeAsTheirStates}
-use Rattle.radio_session.specs.Exchanges.{Steps, Exchange, prefixed, ended_with, is_leave, LeavesAfter, GoesOn, Exchanges, core_steps, WorldExchange, left_after, then_exchanged, ExchangesAs, exchanged}
+use Rattle.radio_session.specs.Exchanges.{Steps, Exchange, prefixed, ended_with, is_leave, LeavesAfter, GoesOn, Exchanges, core_steps, WorldExchange}
+use Rattle.radio_session.specs.Exchanges.{left_after, then_exchanged, ExchangesAs, exchanged}
 
 left_by : (w mid core' : World) (id : ℕ) (b : Bool) (event : Event) → is_leave event ≡ b → Represents mid w → LeavesAfter core_steps id b mid core'
     → Represents core' (left_after w id event)

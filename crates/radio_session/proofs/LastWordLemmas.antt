@@ -13,7 +13,8 @@ use Rattle.radio_session.specs.declared.session.Greeting.{Greeting}
 use Rattle.radio_session.specs.declared.session.Greeting.TheVariants.{Welcome, Continue}
 use Rattle.radio_session.specs.declared.state.Ending.TheVariants.{By, Done, BadBody}
 use Rattle.radio_session.specs.Saying.{denial, denial_with, body_text, noted}
-use Rattle.radio_session.specs.LastWords.{EndsWith, IsAbout, DenialsNameTheirRule, RulesWithoutStatusAreSilent, LateDenialsAreSilent, FinishesAreSilent, RefusalsNameTheirRule, WholeBodiesAreDone, FaultyBodiesAreSilent}
+use Rattle.radio_session.specs.LastWords.{EndsWith, IsAbout, DenialsNameTheirRule, RulesWithoutStatusAreSilent, LateDenialsAreSilent}
+use Rattle.radio_session.specs.LastWords.{FinishesAreSilent, RefusalsNameTheirRule, WholeBodiesAreDone, FaultyBodiesAreSilent}
 
 -- the text of a denial, by the rule's status
 denial_is : (rule : Rule) (status : Option Status) → status_of rule ≡ status → denial rule ≡ denial_with status rule

@@ -1,5 +1,6 @@
 -- What bytes come to that are told in pieces: what they are heard as in one, but for where blocks are cut.
-use Rattle.std.proofs.Common.{◌≡◌, ℕ, Bool, true, false, List, [], ◌∷◌, ◌++◌, drop, ap, sym, ◌∙◌, refl, subst, Result, Ok, Err, append_assoc, append-nil, Option, None, Some}
+use Rattle.std.proofs.Common.{◌≡◌, ℕ, Bool, true, false, List, [], ◌∷◌, ◌++◌, drop, ap, sym, ◌∙◌, refl, subst, Result, Ok, Err, append_assoc}
+use Rattle.std.proofs.Common.{append-nil, Option, None, Some}
 use Rattle.std.specs.Prelude.{codes}
 use Rattle.std.specs.Str.{bytes_eq}
 use Rattle.std.proofs.lemmas.List.{drop-append-le}
@@ -28,7 +29,8 @@ use Rattle.radio_source.specs.Feeding.{unfed}
 use Rattle.radio_session.specs.Asking.{asks_to_feed}
 use Rattle.radio_session.specs.Conversation.{Conversation, saying_now}
 use Rattle.radio_session.specs.Pushes.{pushes}
-use Rattle.radio_session.specs.Hearing.{Heard, HearsAs, head_heard, source_heard, listener_heard, body_heard, delivered, closes_with, greeted, refuses, nothing_held, going_on}
+use Rattle.radio_session.specs.Hearing.{Heard, HearsAs, head_heard, source_heard, listener_heard, body_heard, delivered, closes_with, greeted}
+use Rattle.radio_session.specs.Hearing.{refuses, nothing_held, going_on}
 use Rattle.radio_session.specs.Exchanges.{Steps, Exchange, nothing_exchanged, prefixed, Exchanges}
 use Rattle.radio_session.specs.Cuts.{IsCutting, unheard}
 use Rattle.radio_session.specs.CutTelling.{IsTold, ThenTold, IsToldIn}

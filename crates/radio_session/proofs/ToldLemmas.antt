@@ -20,7 +20,8 @@ use Rattle.radio_session.specs.declared.state.State.TheVariants.{Running, Shut}
 use Rattle.radio_session.specs.Draws.{draw, drawn, after_draw, drawn_by, interval_told, joined_draws}
 use Rattle.radio_session.specs.Exchanges.{WorldExchange, exchanged, then_exchanged}
 use Rattle.radio_session.specs.Saying.{Said, said, denied, noted, one_less, seated}
-use Rattle.radio_session.specs.Told.{told, while_open, draws_of, AdmitNobody, DrawsFollowTheHead, PlainDrawsAreTheirData, JoinedDrawsAreWoven, DrawsAreTakenOutAgain, replies_to, ExchangesTellReplies}
+use Rattle.radio_session.specs.Told.{told, while_open, draws_of, AdmitNobody, DrawsFollowTheHead, PlainDrawsAreTheirData, JoinedDrawsAreWoven}
+use Rattle.radio_session.specs.Told.{DrawsAreTakenOutAgain, replies_to, ExchangesTellReplies}
 
 no_draws : (w : Option Weaving) → drawn_by w [] ≡ []
 no_draws None = refl

@@ -3,7 +3,8 @@
 ghost use Rattle.std.specs.Prelude.{◌≡◌, codes};
 ghost use Rattle.radio_session.specs.Conversation.{ending_word};
 ghost use Rattle.radio_session.specs.declared.state.Ending.TheVariants.{Done};
-ghost use Rattle.radio_session.specs.LastWords.{DenialsNameTheirRule, RulesWithoutStatusAreSilent, LateDenialsAreSilent, FinishesAreSilent, RefusalsNameTheirRule, WholeBodiesAreDone, FaultyBodiesAreSilent};
+ghost use Rattle.radio_session.specs.LastWords.{DenialsNameTheirRule, RulesWithoutStatusAreSilent, LateDenialsAreSilent, FinishesAreSilent};
+ghost use Rattle.radio_session.specs.LastWords.{RefusalsNameTheirRule, WholeBodiesAreDone, FaultyBodiesAreSilent};
 ghost use Rattle.radio_session.specs.Bodies.{PlainBodiesAreHeard, SizedBodiesAreHeard, ChunkedBodiesAreHeard};
 ghost use Rattle.radio_session.specs.Cuts.{CutsDoNotMatter, PiecesAreHeardAsOne};
 ghost use Rattle.radio_session.specs.CutTelling.{CutsAreToldAlike, PiecesAreToldAsOne};

@@ -80,13 +80,14 @@ pub(crate) struct Says {
 /// In contracts it is a `Conversation`.
 #[derive(Drop)]
 pub struct Session {
+    // what a listener's draw reads comes first, and lies together
     alloc: Global,
     id: u64,
+    has_failed: bool,
+    says: Says,
     peer: Peer,
     held: Vec<u8>,
     hears: Hears,
-    says: Says,
-    has_failed: bool,
 }
 
 impl Model for Session {
@@ -118,16 +119,16 @@ impl Session {
         Session {
             alloc,
             id,
-            peer,
-            held: Vec::new(alloc),
-            hears: Hears::Head,
+            has_failed: false,
             says: Says {
                 is_admitted: false,
                 greeting: Greeting::Welcome,
                 closing: None,
                 weaver: None,
             },
-            has_failed: false,
+            peer,
+            held: Vec::new(alloc),
+            hears: Hears::Head,
         }
     }
 

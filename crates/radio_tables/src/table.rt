@@ -42,17 +42,17 @@ impl<R: Row> Table<R> {
     }
 
     /// The row of this key.
-    pub fn get(&self, key: R::Key) -> Option<&R>
-        ensures { option_copied result ≡ find (R.has_key key) self.now }
+    pub fn get(&self, key: &R::Key) -> Option<&R>
+        ensures { option_copied result ≡ find (R.has_key key.now) self.now }
     {
-        self.rows.get(&key)
+        self.rows.get(key)
     }
 
     /// Changes the row of this key, if there is one. It takes no memory.
-    pub fn change<C: Change<R>>(&mut self, key: R::Key, change: &C)
-        ensures { self.new ≡ update_first (R.has_key key) (C.gives change.now) self.old }
+    pub fn change<C: Change<R>>(&mut self, key: &R::Key, change: &C)
+        ensures { self.new ≡ update_first (R.has_key key.now) (C.gives change.now) self.old }
     {
-        let Some(row) = self.rows.get_mut(&key) else {
+        let Some(row) = self.rows.get_mut(key) else {
             return;
         };
         change.apply(row);
@@ -62,24 +62,24 @@ impl<R: Row> Table<R> {
     /// memory; nothing has changed then.
     pub fn try_change<C: TryChange<R>>(
         &mut self,
-        key: R::Key,
+        key: &R::Key,
         change: &C,
     ) -> Result<(), OutOfMemory>
-        ensures ok { OnOk result (self.new ≡ update_first (R.has_key key) (C.gives change.now) self.old) }
+        ensures ok { OnOk result (self.new ≡ update_first (R.has_key key.now) (C.gives change.now) self.old) }
         ensures err { OnErr result (self.new ≡ self.old) }
     {
-        let Some(row) = self.rows.get_mut(&key) else {
+        let Some(row) = self.rows.get_mut(key) else {
             return Ok(());
         };
         change.try_apply(row)
     }
 
     /// Swaps something in the row of this key, if there is one. It takes no memory.
-    pub fn swap<S: Swap<R>>(&mut self, key: R::Key, swap: &mut S)
-        ensures row { self.new ≡ update_first (R.has_key key) (S.gives swap.old) self.old }
-        ensures taken { swap.new ≡ option_map_or (S.takes swap.old) (find (R.has_key key) self.old) swap.old }
+    pub fn swap<S: Swap<R>>(&mut self, key: &R::Key, swap: &mut S)
+        ensures row { self.new ≡ update_first (R.has_key key.now) (S.gives swap.old) self.old }
+        ensures taken { swap.new ≡ option_map_or (S.takes swap.old) (find (R.has_key key.now) self.old) swap.old }
     {
-        let Some(row) = self.rows.get_mut(&key) else {
+        let Some(row) = self.rows.get_mut(key) else {
             return;
         };
         swap.swap(row);
@@ -118,11 +118,11 @@ impl<R: Row> Table<R> {
     }
 
     /// Removes the row of this key, and gives it back. It takes no memory.
-    pub fn remove(&mut self, key: R::Key) -> Option<R>
-        ensures removed { self.new ≡ filter (λ row. not (R.has_key key row)) self.old }
-        ensures value { result ≡ find (R.has_key key) self.old }
+    pub fn remove(&mut self, key: &R::Key) -> Option<R>
+        ensures removed { self.new ≡ filter (λ row. not (R.has_key key.now row)) self.old }
+        ensures value { result ≡ find (R.has_key key.now) self.old }
     {
-        self.rows.remove(&key)
+        self.rows.remove(key)
     }
 
     /// How many rows there are.

@@ -94,7 +94,7 @@ impl State {
     pub(super) fn end_session(&mut self, mount: MountName)
         ensures { self.new ≡ session_ended self.old mount }
     {
-        self.house.live.remove(mount);
+        self.house.live.remove(&mount);
         self.seats.finish_at(mount, Rule::NotLive);
     }
 
@@ -103,6 +103,6 @@ impl State {
         ensures { self.new ≡ forgotten self.old id }
     {
         self.seats.remove(id);
-        self.house.clients.remove(id);
+        self.house.clients.remove(&id);
     }
 }

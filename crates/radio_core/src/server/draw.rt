@@ -1,46 +1,38 @@
 ghost use Rattle.std.specs.Prelude.{◌≡◌, Some, IfOk};
-ghost use Rattle.radio_core.specs.Draw.{draws, hands_out, hands_out_at};
-ghost use Rattle.radio_core.specs.Outcomes.{if_sitting};
-ghost use Rattle.radio_seats.specs.Seats.{listener_of, seat_of};
+ghost use Rattle.radio_core.specs.Draw.{draws, hands_out};
+ghost use Rattle.radio_core.specs.Outcomes.{out_of_place};
+ghost use Rattle.radio_seats.specs.Seats.{seat_of};
 ghost use Rattle.radio_core.specs.Sessions.{session_of};
 ghost use Rattle.radio_core.specs.Step.{StandsForSome};
-ghost use Rattle.radio_core.specs.World.{standing_of_listener};
+ghost use Rattle.radio_core.specs.World.{standing_of};
 
 use super::state::State;
-use crate::clients::ClientState;
 use crate::outcome::{Change, Outcome};
+use crate::standing::Standing;
 use crate::{OutOfMemory, Reply};
 use radio_blocks::Pieces;
-use radio_seats::{Seat, Seating};
+use radio_seats::Seat;
 
 impl State {
-    /// A listener has room for so many bytes. `OutOfMemory` where memory was refused.
+    /// A listener has room for so many bytes. Whoever has a seat is a client who sits, so only of
+    /// one who has none the client is looked up. `OutOfMemory` where memory was refused.
     pub(super) fn draw(&self, id: u64, room: u32) -> Result<Outcome, OutOfMemory>
         requires { StandsForSome self.now }
         ensures { IfOk result (λ o. o ≡ draws self.now id room) }
     {
-        let Some(client) = self.house.clients.get(id) else {
-            return Ok(Outcome::stray());
-        };
-        let state = client.state;
-        match state {
-            ClientState::Listens => self.draw_listener(id, room),
-            ClientState::Ended(rule) => Ok(Outcome::finished(rule)),
-            _ => Ok(Outcome::stray()),
+        match self.seats.seat(id) {
+            Some(seat) => self.hand_out(id, seat, room),
+            None => Ok(self.draw_without_seat(id)),
         }
     }
 
-    /// One who was admitted as a listener has room for so many bytes. His row is looked up once.
-    fn draw_listener(&self, id: u64, room: u32) -> Result<Outcome, OutOfMemory>
-        requires { StandsForSome self.now }
-        ensures { IfOk result (λ o. o ≡ if_sitting (standing_of_listener (listener_of self.now.seats id)) (hands_out_at self.now.house id room (seat_of self.now.seats id))) }
+    /// One who has no seat has room for bytes.
+    fn draw_without_seat(&self, id: u64) -> Outcome
+        ensures { result ≡ out_of_place (standing_of self.now id) }
     {
-        let Some(listener) = self.seats.get(id) else {
-            return Ok(Outcome::stray());
-        };
-        match &listener.seating {
-            Seating::Sits(seat) => self.hand_out(id, seat, room),
-            Seating::Finished(rule) => Ok(Outcome::finished(*rule)),
+        match self.standing(id) {
+            Standing::Finished(rule) => Outcome::finished(rule),
+            _ => Outcome::stray(),
         }
     }
 

@@ -27,7 +27,9 @@ impl State {
 
     /// The address of the client, if he may hear the mount, or what else comes of his asking.
     fn may_listen(&self, asked: &ListenRequest) -> Result<Peer, Outcome>
-        ensures { MatchResult result (λ peer. asks_to_hear self.now asked.now ≡ takes_seat self.now.house asked.now peer (session_at self.now.house asked.now.mount)) (λ other. other ≡ asks_to_hear self.now asked.now) }
+        ensures { MatchResult result
+            (λ peer. asks_to_hear self.now asked.now ≡ takes_seat self.now.house asked.now peer (session_at self.now.house asked.now.mount)) (λ other. other
+            ≡ asks_to_hear self.now asked.now) }
     {
         let peer = match self.standing(asked.id) {
             Standing::Undecided(peer) => peer,

@@ -97,7 +97,7 @@ impl State {
     pub(super) fn standing(&self, id: u64) -> Standing
         ensures { result ≡ standing_of self.now id }
     {
-        let Some(client) = self.house.clients.get(id) else {
+        let Some(client) = self.house.clients.get(&id) else {
             return Standing::Unknown;
         };
         let state = client.state;

@@ -1,5 +1,6 @@
 ghost use Rattle.std.specs.Prelude.{◌≡◌, ◌≤◌, [], ◌∷◌, ◌++◌, drop, length, take, true, IfOk, IsErr, OnErr};
-ghost use Rattle.radio_session.specs.Hearing.{IsHeard, HearsAs, request_heard, source_heard, listener_heard, body_heard, closes_with, refuses, nothing_held, going_on};
+ghost use Rattle.radio_session.specs.Hearing.{IsHeard, HearsAs, request_heard, source_heard, listener_heard, body_heard, closes_with, refuses};
+ghost use Rattle.radio_session.specs.Hearing.{nothing_held, going_on};
 ghost use Rattle.radio_session.specs.Conversation.{IsOpen};
 ghost use Rattle.radio_session.specs.Framing.{framing_of};
 ghost use Rattle.radio_source.specs.Feeding.{unfed};
@@ -62,7 +63,8 @@ impl Session {
         bytes: &[u8],
     ) -> Result<Vec<Event>, OutOfMemory>
         requires { body ≡ unfed body.place }
-        ensures { IfOk result (λ all. body_heard (nothing_held self.old) events.items body.place bytes.now ≡ record { events = all.items; conversation = self.new }) }
+        ensures { IfOk result
+            (λ all. body_heard (nothing_held self.old) events.items body.place bytes.now ≡ record { events = all.items; conversation = self.new }) }
     {
         let mut body = body;
         let mut events = events;
@@ -96,7 +98,8 @@ impl Session {
 
     /// A whole head, and the bytes behind it.
     fn take_request(&mut self, head: &Head, behind: &[u8]) -> Result<Vec<Event>, OutOfMemory>
-        ensures { IfOk result (λ events. request_heard (nothing_held self.old) head.now behind.now ≡ record { events = events.items; conversation = self.new }) }
+        ensures { IfOk result
+            (λ events. request_heard (nothing_held self.old) head.now behind.now ≡ record { events = events.items; conversation = self.new }) }
     {
         if is_source(head) {
             self.take_source(head, behind)
@@ -120,7 +123,9 @@ impl Session {
 
     /// A source's head, and the first of its data.
     fn take_source(&mut self, head: &Head, behind: &[u8]) -> Result<Vec<Event>, OutOfMemory>
-        ensures { IfOk result (λ events. source_heard (nothing_held self.old) head.now behind.now (framing_of head.now) ≡ record { events = events.items; conversation = self.new }) }
+        ensures { IfOk result
+            (λ events. source_heard (nothing_held self.old) head.now behind.now (framing_of head.now)
+            ≡ record { events = events.items; conversation = self.new }) }
     {
         let Some(framing) = framing_of(head) else {
             return self.refuse(Rule::BadHead);

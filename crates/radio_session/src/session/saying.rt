@@ -95,7 +95,8 @@ impl Session {
         shown: &Shown,
         out: &mut Vec<u8>,
     ) -> Result<State, OutOfMemory>
-        ensures bytes { IfOk result (λ _. out.new.items ≡ out.old.items ++ listener_head shown.now.content_type shown.now.name shown.now.genre (interval_told interval)) }
+        ensures bytes { IfOk result
+            (λ _. out.new.items ≡ out.old.items ++ listener_head shown.now.content_type shown.now.name shown.now.genre (interval_told interval)) }
         ensures state { IfOk result (λ state. state ≡ Running) }
         ensures says { IfOk result (λ _. self.new ≡ saying_now self.old (seated self.old.says interval)) }
         ensures silent { OnErr result (out.new.items ≡ out.old.items) }

@@ -12,4 +12,5 @@ loop-receipt-preserved c =
     (subst (λ s. StandsIn history s) item.is (c.stands_in.ensures.0 c.if-not-stands_in.false))
 
 pub returns-clause-none : goal.returns-clause-none
-returns-clause-none c = All-whole (StandsIn c.args.history.now) c.args.receipts.now c.loop-receipt.receipt-index c.loop-receipt-test.false c.loop-receipt.invariant
+returns-clause-none c =
+    All-whole (StandsIn c.args.history.now) c.args.receipts.now c.loop-receipt.receipt-index c.loop-receipt-test.false c.loop-receipt.invariant

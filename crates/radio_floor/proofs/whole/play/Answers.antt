@@ -14,10 +14,13 @@ returns-clause-plays g c =
     let old = c.args.writer.now in
     let new = c.play_with.new.writer in
     known-weaker (remaining c.args.reader.now) (remaining c.play_with.new.reader)
-    (λ script left. Writes (contents old) (contents new) (calls old) (calls new) (λ written turns. Plays server_conduct server 1 script left result written turns last))
-    (λ script left. Writes (contents old) (contents new) (calls old) (calls new) (λ written turns. PlaysScript c.args.settings c.args.lists script left result written turns))
+    (λ script left. Writes (contents old) (contents new) (calls old) (calls new)
+    (λ written turns. Plays server_conduct server 1 script left result written turns last))
+    (λ script left. Writes (contents old) (contents new) (calls old) (calls new)
+    (λ written turns. PlaysScript c.args.settings c.args.lists script left result written turns))
     (λ script left. writes-weaker (contents old) (contents new) (calls old) (calls new)
     (λ written turns. Plays server_conduct server 1 script left result written turns last)
     (λ written turns. PlaysScript c.args.settings c.args.lists script left result written turns)
-    (λ written turns. server_plays server last c.args.settings c.args.lists script left result written turns c.new-server.ensures.core c.new-server.ensures.connections))
+    (λ written turns. server_plays server last c.args.settings c.args.lists script left result written turns c.new-server.ensures.core
+    c.new-server.ensures.connections))
     c.play_with.ensures.plays

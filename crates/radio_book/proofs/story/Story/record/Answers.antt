@@ -20,12 +20,17 @@ pub returns-in-Ok-clause-alike : goal.returns-in-Ok-clause-alike
 returns-in-Ok-clause-alike g c =
     let self = c.args.self.now in
     let r = c.apart-noted.result in
-    sym (alike g.C.Chronicle.KEEPS g.H.House.opening (g.C.Chronicle.entries self.chronicle) self.core c.step3.new.self c.args.event c.in-Ok.replies r.0 r.1 r.2 c.step3.result c.in-Ok.is c.apart-noted.ensures c.step3.ensures.step self.told).1
+    sym (alike g.C.Chronicle.KEEPS g.H.House.opening
+    (g.C.Chronicle.entries self.chronicle) self.core c.step3.new.self c.args.event c.in-Ok.replies r.0 r.1 r.2 c.step3.result c.in-Ok.is
+    c.apart-noted.ensures c.step3.ensures.step self.told).1
 
 pub returns-in-Ok-clause-noted : goal.returns-in-Ok-clause-noted
 returns-in-Ok-clause-noted g c =
     let self = c.args.self.now in
     let r = c.apart-noted.result in
     let stored = g.C.Chronicle.entries self.chronicle in
-    let same = (alike g.C.Chronicle.KEEPS g.H.House.opening stored self.core c.step3.new.self c.args.event c.in-Ok.replies r.0 r.1 r.2 c.step3.result c.in-Ok.is c.apart-noted.ensures c.step3.ensures.step self.told).0 in
-    c.note.ensures.kept c.requires.keeps ∙ ap (λ (e : Event). stored ++ entry e r.0 ∷ []) c.requires.copy ∙ ap (λ (x : Reply). stored ++ entry c.args.event x ∷ []) same
+    let same =
+    (alike g.C.Chronicle.KEEPS g.H.House.opening stored self.core c.step3.new.self c.args.event c.in-Ok.replies r.0 r.1 r.2 c.step3.result c.in-Ok.is
+    c.apart-noted.ensures c.step3.ensures.step self.told).0 in
+    c.note.ensures.kept c.requires.keeps ∙ ap (λ (e : Event). stored ++ entry e r.0 ∷ []) c.requires.copy
+    ∙ ap (λ (x : Reply). stored ++ entry c.args.event x ∷ []) same

@@ -54,7 +54,8 @@ returns-in-Ok c =
           let done = performed_as (Some does.0) d.0 after.connections in (
             d.0,
             d.1,
-            open-label (script_state_of w connections) label conversation (λ conversation done. ComesTo (script_state_of w connections) label conversation input done) done was
+            open-label (script_state_of w connections) label conversation
+                (λ conversation done. ComesTo (script_state_of w connections) label conversation input done) done was
                 (comes_to-mid w mid connections label conversation input done c.swap_connection.ensures.set d.2),
           ),
     )

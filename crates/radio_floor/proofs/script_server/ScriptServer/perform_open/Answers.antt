@@ -16,6 +16,10 @@ returns-in-Ok c =
       does.0,
       does.1,
       λ w stands.
-          let d = does.2 w stands in
-          (d.0, d.1, new-label (script_state_of w connections) label (opens (script_state_of w connections) label c.args.peer) (performed_as (Some does.0) d.0 c.open.new.self.connections) is_new d.2),
+          let d = does.2 w stands in (
+            d.0,
+            d.1,
+            new-label (script_state_of w connections) label (opens (script_state_of w connections) label c.args.peer)
+                (performed_as (Some does.0) d.0 c.open.new.self.connections) is_new d.2,
+          ),
     )

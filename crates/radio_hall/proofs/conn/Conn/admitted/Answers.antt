@@ -15,7 +15,8 @@ returns-in-Arrived g c =
     let given = g.L.Line.given c.args.line in
     let taken = g.L.Line.taken c.args.line in
     subst (λ (r : Reply). IsTakenIn c.args.peer r given taken c.new.result) (sym c.in-Arrived.is)
-    (subst (λ (x : Connection). IsTakenIn c.args.peer (Arrived c.in-Arrived.id) given taken x) (sym c.new.ensures) (comes_in c.args.peer c.in-Arrived.id given taken (g.L.Line.calls c.args.line) c.args.ms))
+    (subst (λ (x : Connection). IsTakenIn c.args.peer (Arrived c.in-Arrived.id) given taken x) (sym c.new.ensures)
+    (comes_in c.args.peer c.in-Arrived.id given taken (g.L.Line.calls c.args.line) c.args.ms))
 
 pub returns-in_default : goal.returns-in_default
 returns-in_default g c =

@@ -14,7 +14,9 @@ returns-in-Ok g c =
     let made = entry c.args.event c.in-Ok.reply in
     let before = c.conn.inside.status in
     let goes : before.fate ≡ Open = ap (λ (o : Connection). o.status.fate) c.conn.view_is ∙ c.requires in
-    let sits = ap (λ (s : Status). s.sits) c.note.ensures ∙ ap (λ (b : Bool). b || before.sits) (c.both-sits.ensures ∙ ap (λ (b : Bool). b && c.is_seated.result) c.is_listen-listens.ensures ∙ ap (λ (b : Bool). is_listen c.args.event && b) c.is_seated.ensures) in
+    let sits = ap (λ (s : Status). s.sits) c.note.ensures
+    ∙ ap (λ (b : Bool). b || before.sits) (c.both-sits.ensures ∙ ap (λ (b : Bool). b && c.is_seated.result) c.is_listen-listens.ensures
+    ∙ ap (λ (b : Bool). is_listen c.args.event && b) c.is_seated.ensures) in
     let left = ap (λ (s : Status). s.has_left) c.note.ensures ∙ ap (λ (b : Bool). b || before.has_left) c.is_leave-leaves.ensures in (
       made ∷ [],
       chain_one g.S.Server.steps c.args.server.now c.apply.new.self made c.in-Ok.ensures.ok,
@@ -22,10 +24,17 @@ returns-in-Ok g c =
         same = refl;
         made = λ goes. (c.in-Ok.reply, refl);
         seat = λ other. sits ∙ ap (λ (b : Bool). (b && is_seated c.in-Ok.reply) || before.sits) other;
-        stands = λ later past st. answered_as _ _ c.args.event later past c.in-Ok.reply goes refl refl refl sits left st c.tell-conn-inside.result refl c.tell-conn-inside.ensures;
+        stands =
+            λ later past st. answered_as _ _ c.args.event later past c.in-Ok.reply goes refl refl refl sits left st c.tell-conn-inside.result refl
+            c.tell-conn-inside.ensures;
         later = later_same refl refl;
       }),
     )
 
 pub returns-in-Err : goal.returns-in-Err
-returns-in-Err g c = ([], c.in-Err.ensures.err, answered_as_one c.conn.view_is (answered_by_cut _ _ c.args.event (record { id = refl; sits = refl; left = refl }) (later_same refl refl) refl refl refl))
+returns-in-Err g c = (
+  [],
+  c.in-Err.ensures.err,
+  answered_as_one c.conn.view_is
+      (answered_by_cut _ _ c.args.event (record { id = refl; sits = refl; left = refl }) (later_same refl refl) refl refl refl),
+)

@@ -13,7 +13,8 @@ use Rattle.radio_hall.proofs.Deeds.{chain_then, open_from, later_by_over}
 use Rattle.radio_hall.proofs.serving.answering.answer_all.Goals as goal
 
 -- one more event is applied
-one_more : (start before now : Connection) (event : Event) (events rest all : List Event) (so_far made : List Entry) → events ≡ event ∷ rest → IsAnswered event before made now
+one_more : (start before now : Connection) (event : Event) (events rest all : List Event) (so_far made : List Entry) → events ≡ event ∷ rest
+    → IsAnswered event before made now
     → ((past : List Entry) → StandsBefore all start past → StandsBefore events before (past ++ so_far))
     → (past : List Entry) → StandsBefore all start past → StandsBefore (later_by now.status.fate rest) now (past ++ (so_far ++ made))
 one_more start before now event events rest all so_far made left a stands past st =
@@ -36,14 +37,17 @@ pub returns-then-not-is_open : goal.returns-then-not-is_open
 returns-then-not-is_open g c =
     let inv = c.loop-event.invariant in
     let a = c.answer.ensures in
-    let over : is_open c.answer.new.conn.status.fate ≡ _ = ap (λ (o : Connection). is_open o.status.fate) (sym c.conn.view_is) ∙ sym c.is_open.ensures ∙ c.if-not-is_open.true in (
+    let over : is_open c.answer.new.conn.status.fate ≡ _ = ap (λ (o : Connection). is_open o.status.fate) (sym c.conn.view_is) ∙ sym c.is_open.ensures
+    ∙ c.if-not-is_open.true in (
       inv.entries ++ a.0,
       chain_then g.S.Server.steps _ _ _ inv.entries a.0 inv.chain a.1,
       record {
         same = a.2.same ∙ inv.same;
         stands = λ past st.
-            subst (λ (es : List Event). StandsBefore es c.answer.new.conn (past ++ (inv.entries ++ a.0))) (later_by_over c.answer.new.conn.status.fate (into_iter_items c.next.new.self) over)
-            (one_more _ _ _ c.in-Some.event (into_iter_items c.loop-event.event-iterator) (into_iter_items c.next.new.self) _ inv.entries a.0 c.in-Some.ensures.steps.0 a.2 inv.stands past st);
+            subst (λ (es : List Event). StandsBefore es c.answer.new.conn (past ++ (inv.entries ++ a.0)))
+            (later_by_over c.answer.new.conn.status.fate (into_iter_items c.next.new.self) over)
+            (one_more _ _ _ c.in-Some.event (into_iter_items c.loop-event.event-iterator)
+            (into_iter_items c.next.new.self) _ inv.entries a.0 c.in-Some.ensures.steps.0 a.2 inv.stands past st);
         later = later_then _ _ _ inv.later a.2.later;
       },
     )
@@ -52,7 +56,9 @@ pub loop-event-preserved : goal.loop-event-preserved
 loop-event-preserved g c =
     let inv = c.loop-event.invariant in
     let a = c.answer.ensures in
-    let goes : c.answer.new.conn.status.fate ≡ Open = open_from c.answer.new.conn.status.fate (ap (λ (o : Connection). is_open o.status.fate) (sym c.conn.view_is) ∙ sym c.is_open.ensures ∙ c.if-not-is_open.false) in record {
+    let goes : c.answer.new.conn.status.fate ≡ Open =
+    open_from c.answer.new.conn.status.fate (ap (λ (o : Connection). is_open o.status.fate) (sym c.conn.view_is) ∙ sym c.is_open.ensures
+    ∙ c.if-not-is_open.false) in record {
       entries = inv.entries ++ a.0;
       chain = chain_then g.S.Server.steps _ _ _ inv.entries a.0 inv.chain a.1;
       same = a.2.same ∙ inv.same;
@@ -60,14 +66,21 @@ loop-event-preserved g c =
       later = later_then _ _ _ inv.later a.2.later;
       stands = λ past st.
           subst (λ (f : Fate). StandsBefore (later_by f (into_iter_items c.next.new.self)) c.answer.new.conn (past ++ (inv.entries ++ a.0))) goes
-          (one_more _ _ _ c.in-Some.event (into_iter_items c.loop-event.event-iterator) (into_iter_items c.next.new.self) _ inv.entries a.0 c.in-Some.ensures.steps.0 a.2 inv.stands past st);
+          (one_more _ _ _ c.in-Some.event (into_iter_items c.loop-event.event-iterator)
+          (into_iter_items c.next.new.self) _ inv.entries a.0 c.in-Some.ensures.steps.0 a.2 inv.stands past st);
     }
 
 pub returns : goal.returns
 returns g c =
     let inv = c.loop-event.invariant in
-    let none : into_iter_items c.loop-event.event-iterator ≡ [] = nil_from_length (into_iter_items c.loop-event.event-iterator) (omega (arith, c.loop-event.event-iterator.rest.ok.0, c.in-None.ensures.steps.0)) in (
+    let none : into_iter_items c.loop-event.event-iterator ≡ [] =
+    nil_from_length (into_iter_items c.loop-event.event-iterator) (omega (arith, c.loop-event.event-iterator.rest.ok.0, c.in-None.ensures.steps.0)) in (
       inv.entries,
       inv.chain,
-      record { same = inv.same; stands = λ past st. subst (λ (es : List Event). StandsBefore es c.loop-event.conn (past ++ inv.entries)) none (inv.stands past st); later = inv.later },
+      record {
+        same = inv.same;
+        stands =
+            λ past st. subst (λ (es : List Event). StandsBefore es c.loop-event.conn (past ++ inv.entries)) none (inv.stands past st);
+        later = inv.later;
+      },
     )

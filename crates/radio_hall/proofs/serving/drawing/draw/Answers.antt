@@ -8,7 +8,8 @@ use Rattle.radio_hall.proofs.serving.drawing.draw.Goals as goal
 pub returns-then-not-is_open : goal.returns-then-not-is_open
 returns-then-not-is_open g c =
     draws_nothing g.S.Server.steps c.args.server.now c.args.conn.now
-    (λ sits goes. not_over c.conn.inside.status.fate (sym c.is_open.ensures ∙ c.if-not-is_open.true) (ap (λ (o : Connection). o.status.fate) c.conn.view_is ∙ goes))
+    (λ sits goes. not_over c.conn.inside.status.fate (sym c.is_open.ensures ∙ c.if-not-is_open.true) (ap (λ (o : Connection). o.status.fate) c.conn.view_is
+    ∙ goes))
 
 pub returns-then-conn : goal.returns-then-conn
 returns-then-conn g c =
@@ -21,11 +22,14 @@ returns-then-is_past g c =
     draws_as g.S.Server.steps c.conn.view_is (
       d.0,
       d.1,
-      served_then _ _ _ [] d.0 (served_by_note _ _ (record { id = refl; sits = refl; left = refl }) (later_same refl refl) (record { id = refl; given = refl; taken = refl; owed = refl; session = refl }) refl) d.2,
+      served_then _ _ _ [] d.0
+          (served_by_note _ _ (record { id = refl; sits = refl; left = refl }) (later_same refl refl)
+          (record { id = refl; given = refl; taken = refl; owed = refl; session = refl }) refl) d.2,
       (λ sits. absurd (false≢true (sym c.if-conn.false ∙ sits))),
       d.4,
     )
 
 pub returns-else-is_past : goal.returns-else-is_past
 returns-else-is_past g c =
-    draws_nothing g.S.Server.steps c.args.server.now c.args.conn.now (λ sits goes. false≢true (sym c.if-conn.false ∙ ap (λ (o : Connection). o.status.sits) c.conn.view_is ∙ sits))
+    draws_nothing g.S.Server.steps c.args.server.now c.args.conn.now
+    (λ sits goes. false≢true (sym c.if-conn.false ∙ ap (λ (o : Connection). o.status.sits) c.conn.view_is ∙ sits))

@@ -8,5 +8,6 @@ use Rattle.radio_hall.proofs.serving.drawing.draw_for.Goals as goal
 pub returns : goal.returns
 returns g c =
     let a = c.answer.ensures in
-    let answered = subst (λ (n : ℕ). IsAnswered (Draw n c.args.room) c.args.conn.now a.0 c.answer.new.conn) (ap (λ (o : Connection). o.id) c.conn.view_is) a.2 in
+    let answered =
+    subst (λ (n : ℕ). IsAnswered (Draw n c.args.room) c.args.conn.now a.0 c.answer.new.conn) (ap (λ (o : Connection). o.id) c.conn.view_is) a.2 in
     (a.0, a.1, served_by_draw c.args.conn.now c.answer.new.conn c.args.room a.0 c.requires answered, answered.made, answered.seat refl)

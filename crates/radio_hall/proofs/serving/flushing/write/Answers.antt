@@ -16,12 +16,15 @@ returns-in-Took g c =
     let taken = c.in-Took.ensures.taken.2 ∙ ap (λ (xs : List ℕ). g.L.Line.taken c.conn.inside.line ++ take c.in-Took.count xs) c.rest.ensures in
     flushed_as c.conn.view_is (record {
       served =
-          served_by_write _ _ c.in-Took.count (record { id = refl; sits = refl; left = refl }) (later_by_write (Took c.in-Took.count) (take c.in-Took.count c.conn.inside.owed) c.in-Took.ensures.calls taken)
-          (subst (λ (o : Connection). IsWritten o.status.fate) (sym c.conn.view_is) c.requires.fate) c.take_off.ensures c.write-sent.ensures.given taken refl refl;
+          served_by_write _ _ c.in-Took.count (record { id = refl; sits = refl; left = refl })
+          (later_by_write (Took c.in-Took.count) (take c.in-Took.count c.conn.inside.owed) c.in-Took.ensures.calls taken)
+          (subst (λ (o : Connection). IsWritten o.status.fate) (sym c.conn.view_is) c.requires.fate) c.take_off.ensures c.write-sent.ensures.given taken refl
+          refl;
       goes = λ e. e;
       sits = refl;
       none = λ e. c.take_off.ensures ∙ ap (λ (xs : List ℕ). drop c.in-Took.count xs) e ∙ drop_nil c.in-Took.count;
-      all = λ e. taken ∙ ap (λ (xs : List ℕ). g.L.Line.taken c.conn.inside.line ++ xs) (taken_all c.in-Took.count c.conn.inside.owed (sym c.take_off.ensures ∙ e));
+      all = λ e. taken
+          ∙ ap (λ (xs : List ℕ). g.L.Line.taken c.conn.inside.line ++ xs) (taken_all c.in-Took.count c.conn.inside.owed (sym c.take_off.ensures ∙ e));
       idle = λ e. refl;
       unread = unread_by_write _ _ (Took c.in-Took.count) c.in-Took.ensures.calls;
       given = λ goes owed. written_once _ _ (Took c.in-Took.count) c.in-Took.ensures.calls;
@@ -33,7 +36,8 @@ pub returns-in-Nothing : goal.returns-in-Nothing
 returns-in-Nothing g c =
     flushed_as c.conn.view_is (record {
       served =
-          served_by_note _ _ (record { id = refl; sits = refl; left = refl }) (later_by_write Nothing [] c.in-Nothing.ensures.calls (c.in-Nothing.ensures.taken ∙ sym (append-nil _)))
+          served_by_note _ _ (record { id = refl; sits = refl; left = refl })
+          (later_by_write Nothing [] c.in-Nothing.ensures.calls (c.in-Nothing.ensures.taken ∙ sym (append-nil _)))
           (record { id = refl; given = c.write-sent.ensures.given; taken = c.in-Nothing.ensures.taken; owed = refl; session = refl }) refl;
       goes = λ e. e;
       sits = refl;
@@ -50,7 +54,8 @@ pub returns-in-Fault : goal.returns-in-Fault
 returns-in-Fault g c =
     flushed_as c.conn.view_is (record {
       served =
-          served_by_cut _ _ (record { id = refl; sits = refl; left = refl }) (later_by_write Fault [] c.in-Fault.ensures.calls (c.in-Fault.ensures.taken ∙ sym (append-nil _))) c.write-sent.ensures.given
+          served_by_cut _ _ (record { id = refl; sits = refl; left = refl })
+          (later_by_write Fault [] c.in-Fault.ensures.calls (c.in-Fault.ensures.taken ∙ sym (append-nil _))) c.write-sent.ensures.given
           c.in-Fault.ensures.taken refl;
       goes = λ e. absurd (not_cut e);
       sits = refl;

@@ -9,4 +9,5 @@ pub returns-clause-served : goal.returns-clause-served
 returns-clause-served g c =
     let ended : c.conn.inside.status.fate ≡ Ended = ap (λ (o : Connection). o.status.fate) c.conn.view_is ∙ c.requires in
     served_as c.conn.view_is
-    (served_by_read_on _ _ c.read.result c.read.new.buffer (record { id = refl; sits = refl; left = refl }) (later_by_read c.read.result c.read.ensures.calls c.read.ensures.taken) ended c.read.ensures.given c.read.ensures.taken refl refl ended)
+    (served_by_read_on _ _ c.read.result c.read.new.buffer (record { id = refl; sits = refl; left = refl })
+    (later_by_read c.read.result c.read.ensures.calls c.read.ensures.taken) ended c.read.ensures.given c.read.ensures.taken refl refl ended)

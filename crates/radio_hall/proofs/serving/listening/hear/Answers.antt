@@ -14,8 +14,14 @@ returns-in-Ok g c =
       a.0,
       a.1,
       heard_on_one c.conn.view_is
-          (heard_so _ _ _ c.args.bytes.now heard a.0 goes c.in-Ok.ensures.heard (record { id = refl; sits = refl; left = refl }) (later_same refl refl) refl refl refl refl refl a.2),
+          (heard_so _ _ _ c.args.bytes.now heard a.0 goes c.in-Ok.ensures.heard (record { id = refl; sits = refl; left = refl })
+          (later_same refl refl) refl refl refl refl refl a.2),
     )
 
 pub returns-in-Err : goal.returns-in-Err
-returns-in-Err g c = ([], refl, heard_on_one c.conn.view_is (heard_by_cut _ _ c.args.bytes.now (record { id = refl; sits = refl; left = refl }) (later_same refl refl) refl refl refl))
+returns-in-Err g c = (
+  [],
+  refl,
+  heard_on_one c.conn.view_is
+      (heard_by_cut _ _ c.args.bytes.now (record { id = refl; sits = refl; left = refl }) (later_same refl refl) refl refl refl),
+)

@@ -12,7 +12,9 @@ returns-in-Bytes g c =
       h.0,
       h.1,
       served_as c.conn.view_is
-          (served_by_hearing _ _ _ _ h.0 (record { id = refl; sits = refl; left = refl }) (later_by_read (Bytes c.in-Bytes.count) c.in-Bytes.ensures.calls c.read.ensures.taken) c.in-Bytes.ensures.given.1 c.read.ensures.taken refl refl refl h.2),
+          (served_by_hearing _ _ _ _ h.0 (record { id = refl; sits = refl; left = refl })
+          (later_by_read (Bytes c.in-Bytes.count) c.in-Bytes.ensures.calls c.read.ensures.taken) c.in-Bytes.ensures.given.1 c.read.ensures.taken refl refl
+          refl h.2),
       asked_by_read (Bytes c.in-Bytes.count) c.conn.view_is c.in-Bytes.ensures.calls h.2.later,
     )
 
@@ -33,7 +35,8 @@ returns-in-Closed g c =
       [],
       refl,
       served_as c.conn.view_is
-          (served_by_close _ _ (record { id = refl; sits = refl; left = refl }) (later_by_read Closed c.in-Closed.ensures.calls c.read.ensures.taken) (open_is_written _ goes) none c.in-Closed.ensures.given
+          (served_by_close _ _ (record { id = refl; sits = refl; left = refl }) (later_by_read Closed c.in-Closed.ensures.calls c.read.ensures.taken)
+          (open_is_written _ goes) none c.in-Closed.ensures.given
           c.read.ensures.taken refl),
       asked_once _ Closed c.conn.view_is c.in-Closed.ensures.calls,
     )
@@ -45,7 +48,8 @@ returns-in-Fault g c =
       [],
       refl,
       served_as c.conn.view_is
-          (served_by_close _ _ (record { id = refl; sits = refl; left = refl }) (later_by_read Fault c.in-Fault.ensures.calls c.read.ensures.taken) (open_is_written _ goes) none c.in-Fault.ensures.given
+          (served_by_close _ _ (record { id = refl; sits = refl; left = refl }) (later_by_read Fault c.in-Fault.ensures.calls c.read.ensures.taken)
+          (open_is_written _ goes) none c.in-Fault.ensures.given
           c.read.ensures.taken refl),
       asked_once _ Fault c.conn.view_is c.in-Fault.ensures.calls,
     )

@@ -8,12 +8,14 @@ use Rattle.radio_hall.proofs.serving.round.work.Goals as goal
 pub returns-in-Open : goal.returns-in-Open
 returns-in-Open g c =
     works_in_turn g.S.Server.steps c.conn.view_is c.in-Open.is refl
-    (served_by_note _ _ (record { id = refl; sits = refl; left = refl }) (later_same refl refl) (record { id = refl; given = refl; taken = refl; owed = refl; session = refl }) refl)
+    (served_by_note _ _ (record { id = refl; sits = refl; left = refl }) (later_same refl refl)
+    (record { id = refl; given = refl; taken = refl; owed = refl; session = refl }) refl)
     c.listen.ensures c.draw.ensures
 
 pub returns-in-Ended : goal.returns-in-Ended
 returns-in-Ended g c =
-    rests_in_turn g.S.Server.steps c.args.server.now c.linger.ensures.served (ended_not_open _ (sym (ap (λ (o : Connection). o.status.fate) c.conn.view_is) ∙ c.in-Ended.is))
+    rests_in_turn g.S.Server.steps c.args.server.now c.linger.ensures.served
+    (ended_not_open _ (sym (ap (λ (o : Connection). o.status.fate) c.conn.view_is) ∙ c.in-Ended.is))
     (not_over _ c.linger.ensures.over) (λ e. absurd (c.linger.ensures.whole e))
 
 pub returns-in-Closed : goal.returns-in-Closed

@@ -10,7 +10,7 @@ invariant_of-self g c =
     record {
       own = subst (AreOwn g.R.Key.Ord.cmp g.R.Row.key) (sym c.remove.ensures.entries) (own-removed
           g.R.Key.Ord.cmp g.met.R.Key.Ord.total g.R.Row.key g.R.Row.has_key g.met.R.Row.has_key_is
-          c.args.key c.self.inside.rows.entries c.self.invariant.own);
+          c.args.key.now c.self.inside.rows.entries c.self.invariant.own);
       rising = c.remove.ensures.ordered;
     }
 
@@ -18,12 +18,12 @@ pub returns-clause-removed : goal.returns-clause-removed
 returns-clause-removed g c =
     ap values_of c.remove.ensures.entries
     ∙ values-removed g.R.Key.Ord.cmp g.met.R.Key.Ord.total g.R.Row.key g.R.Row.has_key g.met.R.Row.has_key_is
-    c.args.key c.self.inside.rows.entries c.self.invariant.own c.self.invariant.rising
-    ∙ ap (filter (λ row. not (g.R.Row.has_key c.args.key row))) c.self.view_is
+    c.args.key.now c.self.inside.rows.entries c.self.invariant.own c.self.invariant.rising
+    ∙ ap (filter (λ row. not (g.R.Row.has_key c.args.key.now row))) c.self.view_is
 
 pub returns-clause-value : goal.returns-clause-value
 returns-clause-value g c =
     c.remove.ensures.value
     ∙ lookup_finds g.R.Key.Ord.cmp g.met.R.Key.Ord.total g.R.Row.key g.R.Row.has_key g.met.R.Row.has_key_is
-    c.args.key c.self.inside.rows.entries c.self.invariant.own
-    ∙ ap (find (g.R.Row.has_key c.args.key)) c.self.view_is
+    c.args.key.now c.self.inside.rows.entries c.self.invariant.own
+    ∙ ap (find (g.R.Row.has_key c.args.key.now)) c.self.view_is
