@@ -61,7 +61,8 @@ module _ (conversation : Conversation) where
   of_head : (bytes : List ℕ) (reading : Result (Progress RequestParts) HeadFault)
       → (head_heard conversation bytes reading).conversation.id ≡ conversation.id
   of_head bytes (Ok More) = refl
-  of_head bytes (Ok (Whole request length)) = of_request (nothing_held conversation) request (drop length bytes) (is_source request) (bytes_eq request.method (codes "GET"))
+  of_head bytes (Ok (Whole request length)) =
+      of_request (nothing_held conversation) request (drop length bytes) (is_source request) (bytes_eq request.method (codes "GET"))
   of_head bytes (Err fault) = refl
 
   of_heard : (hears : Hears) (bytes : List ℕ) (heard : Heard) → HearsAs hears conversation bytes heard → heard.conversation.id ≡ conversation.id

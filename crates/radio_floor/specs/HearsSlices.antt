@@ -82,24 +82,25 @@ DrawsAreStretches settings lists events id =
 
 -- A script, and the events that it comes to.
 module _ (settings : Settings) (lists : Lists) (deliveries : List Delivery) (events : List Event) where
-  -- The client of this number is a source: on the connection of some label it asks to feed a mount, and what it delivers by the events is
-  -- a front of the data that come behind that.
-  pub record IsSource (number : ℕ) (asked : SourceRequest) : Type 0 where
+  -- The source in whose session the sitting is, by its number, is the client of some label: on its connection it asks to feed the mount of
+  -- the sitting, and what it delivers by the events is a front of the data that come behind that.
+  pub record IsSourceOf (sitting : Sitting) (asked : SourceRequest) : Type 0 where
     pub label : ℕ
-    pub is_client : IsClientOf settings lists deliveries label number
+    pub is_client : IsClientOf settings lists deliveries label sitting.source
+    pub is_its_mount : asked.mount ≡ sitting.mount
     pub behind : List Event
     pub is_request : IsRequest (brought deliveries label) (Source asked) behind
     pub undelivered : List ℕ
-    pub is_front : pushed behind ≡ delivered (opening settings lists) events number ++ undelivered
+    pub is_front : pushed behind ≡ delivered (opening settings lists) events sitting.source ++ undelivered
 
-  -- a listener who asked so has sat down, first in the session of a source of the mount that he asked for, and each time in that of some source
+  -- a listener who asked so has sat down, first at the mount that he asked for, and each time in the session of a source
   pub record SitsWithSources (asked : ListenRequest) (first : SourceRequest) (sat : List Sitting) : Type 0 where
     pub sitting : Sitting
     pub others : List Sitting
     pub in_order : sat ≡ sitting ∷ others
-    pub is_first : IsSource sitting.source first
-    pub is_his_mount : first.mount ≡ asked.mount
-    pub are_sources : AllByRecursion (λ other. (feeding : SourceRequest) × IsSource other.source feeding) others
+    pub is_his_mount : sitting.mount ≡ asked.mount
+    pub is_first : IsSourceOf sitting first
+    pub are_sources : AllByRecursion (λ other. (feeding : SourceRequest) × IsSourceOf other feeding) others
 
   -- the interval of a listener who asked so, by the settings
   abbrev pub his_interval : ListenRequest → Option ℕ
