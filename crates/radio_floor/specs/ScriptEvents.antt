@@ -25,16 +25,16 @@ IsAskedBy conversation (Room room) asked = asked ≡ Draw conversation.id room �
 IsAskedBy conversation (Named text) asked = asked ≡ Title conversation.id (cleaned max_title text) ∷ []
 IsAskedBy conversation End asked = asked ≡ Leave conversation.id ∷ []
 
--- of what is asked, these events come about: all, or the first up to the one that ends the connection, whose client then leaves
+-- of what is asked for a client, the first events come about, and behind them he may leave; how many is told by the state that they lead to
 pub record ComeAbout (id : ℕ) (asked events : List Event) : Type 0 where
   pub front : List Event
   pub rest : List Event
   pub in_order : asked ≡ front ++ rest
   pub come : (events ≡ front) ⊎ (events ≡ front ++ Leave id ∷ [])
 
--- a delivery comes to these events
+-- a delivery comes to these events, if they lead to the state that it leads to
 pub data ComesToEvents (state : ScriptState) : Delivery → List Event → Type 0 where
-  -- its label is at fault, or its connection was shut before
+  -- nothing happens: its label is at fault, or its connection was shut before
   Nothing : (delivery : Delivery) → ComesToEvents state delivery []
   Arrives : (label : ℕ) (peer : Peer) → ComesToEvents state (Open label peer) (Arrive peer ∷ [])
   Ticks : (ms : ℕ) → ComesToEvents state (ClockIs ms) (Clock ms ∷ [])

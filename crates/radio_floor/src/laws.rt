@@ -35,8 +35,8 @@ pub fn last_words_are_told()
 
 /// The events of a script: the first part of the law from bytes to bytes.
 pub fn scripts_come_to_events()
-    // a script that comes to a transcript comes to events: delivery by delivery those that the bytes
-    // of its connections are heard as, up to each one's end; they lead the server from state to state
+    // a script that comes to a transcript comes to events: delivery by delivery the first of those
+    // that are asked on its connection, or all, which lead the server from its state to the next
     ensures { ScriptsComeToEvents }
 {}
 
