@@ -14,13 +14,14 @@ use Rattle.radio_core.specs.World.{World, opening}
 abbrev pub between : ℕ → ℕ → List ℕ → List ℕ
 between start stop bytes = take (stop - start) (drop start bytes)
 
--- a listener sits down: in the session of this source, and this is the first place of its stream that he hears
+-- a listener sits down: at this mount, in the session of this source, and this is the first place of its stream that he hears
 pub record Sitting : Type 0 where
+  pub mount : List ℕ
   pub source : ℕ
   pub start : ℕ
 
 abbrev pub sitting_in : Seat → Sitting
-sitting_in seat = record { source = seat.session; start = seat.place }
+sitting_in seat = record { mount = seat.mount; source = seat.session; start = seat.place }
 
 -- the sitting that begins where his seat was the one and is the other now: a seat in another session is a new sitting
 abbrev pub begun_sittings : Option Seat → Option Seat → List Sitting

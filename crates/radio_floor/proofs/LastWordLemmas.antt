@@ -1,12 +1,12 @@
 -- The lines of a delivery show the last word of its connection.
-use Rattle.std.proofs.Common.{◌≡◌, ℕ, List, [], ◌∷◌, Option, Some, refl, ap, sym, subst, ◌∙◌}
+use Rattle.std.proofs.Common.{◌≡◌, ℕ, List, Some, ap, sym, subst, ◌∙◌}
 use Rattle.radio_core.specs.declared.event.Event.{Event}
 use Rattle.radio_core.specs.declared.reply.Reply.{Reply}
 use Rattle.radio_core.specs.Step.{reply_to, world_after}
 use Rattle.radio_script.specs.TranscriptLines.{answer_lines}
 use Rattle.radio_session.specs.declared.state.State.{State}
 use Rattle.radio_session.specs.Conversation.{Conversation, ending_word}
-use Rattle.radio_session.specs.Saying.{Said, said}
+use Rattle.radio_session.specs.Saying.{said}
 use Rattle.radio_session.specs.Exchanges.{WorldExchange, then_exchanged, exchanged}
 use Rattle.radio_session.specs.LastWords.{EndsWith, DenialsNameTheirRule, FinishesAreSilent}
 use Rattle.radio_floor.specs.ScriptState.{ScriptState, told_lines}

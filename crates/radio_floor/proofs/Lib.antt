@@ -2,3 +2,5 @@ mod ScriptStateLemmas
 mod ServerSimulation
 mod OneTranscript
 mod LastWordLemmas
+mod EventLemmas
+mod DrawLemmas

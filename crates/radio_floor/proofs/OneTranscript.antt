@@ -1,11 +1,11 @@
 -- Each delivery comes to one thing.
-use Rattle.std.proofs.Common.{◌≡◌, ℕ, List, [], ◌∷◌, Option, None, Some, ap, sym, ◌∙◌}
+use Rattle.std.proofs.Common.{◌≡◌, ℕ, Option, None, Some, ap, sym, ◌∙◌}
 use Rattle.radio_script.specs.declared.delivery.Delivery.{Delivery}
 use Rattle.radio_script.specs.declared.delivery.Delivery.TheVariants.{Open, To, Clock}
 use Rattle.radio_script.specs.declared.delivery.Input.{Input}
 use Rattle.radio_script.specs.declared.delivery.Input.TheVariants.{Data, Room, Title, End}
 use Rattle.radio_session.specs.Conversation.{Conversation}
-use Rattle.radio_session.specs.Hearing.{Heard, IsHeard}
+use Rattle.radio_session.specs.Hearing.{Heard}
 use Rattle.radio_session.specs.Laws.{HearingIsOne}
 use Rattle.radio_floor.specs.ScriptState.{ScriptState, Performed, ComesTo, IsPerformed, on_connection, connection_of, exchanges}
 use Rattle.radio_floor.specs.Transcript.{conduct}

@@ -1,10 +1,9 @@
--- From the bytes of a script to those of its transcript: behind his head a listener is given slices of what sources have brought. It is
--- defined, and not proved: it waits until moves are in.
-use Rattle.std.specs.Prelude.{◌≡◌, ◌==◌, ℕ, ◌≤◌, ◌⊎◌, if◌then◌else◌, List, [], ◌∷◌, ◌++◌, length, Option, Some}
-use Rattle.std.specs.List.{flat_map}
+-- From the bytes of a script to those of its transcript: behind his head a listener is given slices of what sources have brought, one for
+-- each time that he sat down, of the source in whose session he sat. It is defined, and not proved: it waits until moves are in.
+use Rattle.std.specs.Prelude.{◌≡◌, ◌==◌, ℕ, if◌then◌else◌, List, [], ◌∷◌, ◌++◌, Option, None, Some}
+use Rattle.std.specs.List.{flat_map, AllByRecursion}
 use Rattle.radio_addr.specs.declared.peer.Peer.{Peer}
 use Rattle.radio_settings.specs.declared.settings.Settings.{Settings}
-use Rattle.radio_settings.specs.declared.field.Shown.{Shown}
 use Rattle.radio_access.specs.Lists.{Lists}
 use Rattle.radio_policy.specs.declared.rule.Rule.{Rule}
 use Rattle.radio_policy.specs.declared.rule.Status.{Status}
@@ -16,17 +15,24 @@ use Rattle.radio_core.specs.declared.event.Event.{Event}
 use Rattle.radio_core.specs.declared.event.Event.TheVariants.{Source, Listen, Push}
 use Rattle.radio_core.specs.declared.event.SourceRequest.{SourceRequest}
 use Rattle.radio_core.specs.declared.event.ListenRequest.{ListenRequest}
+use Rattle.radio_core.specs.Handing.{of_client, delivered}
+use Rattle.radio_core.specs.Listen.{interval_for}
 use Rattle.radio_core.specs.Source.{shown_for}
-use Rattle.radio_core.specs.Stretches.{between}
-use Rattle.radio_core.specs.World.{opening}
-use Rattle.radio_session.specs.Conversation.{fresh}
+use Rattle.radio_core.specs.Step.{reply_to, world_after}
+use Rattle.radio_core.specs.Stretches.{Sitting, sittings, AreStretches}
+use Rattle.radio_core.specs.World.{World, opening}
+use Rattle.radio_session.specs.Conversation.{Conversation, fresh}
 use Rattle.radio_session.specs.Draws.{interval_told, joined_draws}
 use Rattle.radio_session.specs.Hearing.{Heard, IsHeard}
+use Rattle.radio_session.specs.Told.{draws_of}
 use Rattle.radio_script.specs.declared.delivery.Delivery.{Delivery}
 use Rattle.radio_script.specs.declared.delivery.Delivery.TheVariants.{To}
 use Rattle.radio_script.specs.declared.delivery.Input.TheVariants.{Data}
 use Rattle.radio_script.specs.Given.{TranscriptLine, AreLines, written, given}
-use Rattle.radio_floor.specs.Transcript.{IsTranscriptOf}
+use Rattle.radio_script.specs.Runs.{Runs}
+use Rattle.radio_floor.specs.ScriptState.{ScriptState, opening_script, connection_of}
+use Rattle.radio_floor.specs.ScriptEvents.{ComeToEvents}
+use Rattle.radio_floor.specs.Transcript.{conduct, IsTranscriptOf}
 
 -- the bytes that come on the connection of the label, joined in their order
 abbrev pub brought : List Delivery → ℕ → List ℕ
@@ -38,7 +44,7 @@ abbrev pub pushed_by : Event → List ℕ
 pushed_by (Push id block) = block
 pushed_by event = []
 
--- the data that a source delivers by these events
+-- the data that a source brings by these events
 abbrev pub pushed : List Event → List ℕ
 pushed events = flat_map pushed_by events
 
@@ -50,57 +56,88 @@ pub record IsRequest (bytes : List ℕ) (request : Event) (behind : List Event) 
   pub is_heard : IsHeard (fresh id peer) bytes heard
   pub begins : heard.events ≡ request ∷ behind
 
--- a part of what the source of a label has brought
-pub record Stretch : Type 0 where
-  pub label : ℕ
-  pub start : ℕ
-  pub stop : ℕ
+-- the draws that the events hand to the listener of this number, in their order
+abbrev pub draws_to : World → List Event → ℕ → List Call
+draws_to w [] id = []
+draws_to w (event ∷ events) id = of_client event id (draws_of (reply_to w event ∷ [])) ++ draws_to (world_after w event) events id
 
--- a source asks on this connection, the stretch is a slice of its data, and its session shows this
-pub record IsSliceOf (settings : Settings) (lists : Lists) (deliveries : List Delivery) (stretch : Stretch) (shown : Shown) (slice : List ℕ) : Type 0 where
-  pub asked : SourceRequest
-  pub behind : List Event
-  pub is_source : IsRequest (brought deliveries stretch.label) (Source asked) behind
-  pub in_order : stretch.start ≤ stretch.stop
-  pub within : stretch.stop ≤ length (pushed behind)
-  pub is_slice : slice ≡ between stretch.start stretch.stop (pushed behind)
-  pub shows : shown ≡ shown_for (opening settings lists).house asked.mount asked.shown
+-- at some point of the script the connection of the label is that of the client of this number
+pub record IsClientOf (settings : Settings) (lists : Lists) (deliveries : List Delivery) (label id : ℕ) : Type 0 where
+  pub before : List Delivery
+  pub after : List Delivery
+  pub in_order : deliveries ≡ before ++ after
+  pub text : List ℕ
+  pub state : ScriptState
+  pub runs : Runs conduct (opening_script settings lists) 1 before text None state
+  pub conversation : Conversation
+  pub is_connected : connection_of state.connections label ≡ Some (Some conversation)
+  pub is_his : conversation.id ≡ id
 
--- data are the slices of these stretches, joined in order
-abbrev pub AreSlices : Settings → Lists → List Delivery → List Stretch → List ℕ → Type 0
-AreSlices settings lists deliveries [] bytes = bytes ≡ []
-AreSlices settings lists deliveries (stretch ∷ others) bytes =
-    (shown : Shown) × (slice : List ℕ) × (rest : List ℕ) × IsSliceOf settings lists deliveries stretch shown slice
-    × (bytes ≡ slice ++ rest) × AreSlices settings lists deliveries others rest
+-- the data in the draws of a listener are slices joined in order, one for each of his sittings: of what the source delivered in whose session
+-- he sat, from where he sat down
+abbrev pub DrawsAreStretches : Settings → Lists → List Event → ℕ → Type 0
+DrawsAreStretches settings lists events id =
+    let w = opening settings lists in
+    AreStretches (delivered w events) (sittings w events id) (sound_of_calls (draws_to w events id))
 
--- A listener was admitted: behind his head come his draws, woven at the interval that it names; the data in them are slices of what sources
--- brought, the first of one whose stream shows what the head shows.
-pub record IsListener (settings : Settings) (lists : Lists) (deliveries : List Delivery) (bytes : List ℕ) : Type 0 where
-  pub shown : Shown
-  pub interval : Option ℕ
-  pub draws : List Call
-  pub first : Stretch
-  pub others : List Stretch
-  pub slice : List ℕ
-  pub rest : List ℕ
-  pub head_and_draws :
-      bytes ≡ listener_head shown.content_type shown.name shown.genre (interval_told interval) ++ joined_draws interval draws
-  pub is_slice : IsSliceOf settings lists deliveries first shown slice
-  pub are_slices : AreSlices settings lists deliveries others rest
-  pub joined : sound_of_calls draws ≡ slice ++ rest
+-- A script, and the events that it comes to.
+module _ (settings : Settings) (lists : Lists) (deliveries : List Delivery) (events : List Event) where
+  -- The source in whose session the sitting is, by its number, is the client of some label: on its connection it asks to feed the mount of
+  -- the sitting, and what it delivers by the events is a front of the data that come behind that.
+  pub record IsSourceOf (sitting : Sitting) (asked : SourceRequest) : Type 0 where
+    pub label : ℕ
+    pub is_client : IsClientOf settings lists deliveries label sitting.source
+    pub is_its_mount : asked.mount ≡ sitting.mount
+    pub behind : List Event
+    pub is_request : IsRequest (brought deliveries label) (Source asked) behind
+    pub undelivered : List ℕ
+    pub is_front : pushed behind ≡ delivered (opening settings lists) events sitting.source ++ undelivered
+
+  -- a listener who asked so has sat down, first at the mount that he asked for, and each time in the session of a source
+  pub record SitsWithSources (asked : ListenRequest) (first : SourceRequest) (sat : List Sitting) : Type 0 where
+    pub sitting : Sitting
+    pub others : List Sitting
+    pub in_order : sat ≡ sitting ∷ others
+    pub is_his_mount : sitting.mount ≡ asked.mount
+    pub is_first : IsSourceOf sitting first
+    pub are_sources : AllByRecursion (λ other. (feeding : SourceRequest) × IsSourceOf other feeding) others
+
+  -- the interval of a listener who asked so, by the settings
+  abbrev pub his_interval : ListenRequest → Option ℕ
+  his_interval asked = interval_for (opening settings lists).house asked.mount asked.wants_metadata
+
+  -- his head where this is the source: it shows what the stream of the source shows, by the settings, and his interval
+  abbrev pub head_for : ListenRequest → SourceRequest → List ℕ
+  head_for asked source =
+      let shown = shown_for (opening settings lists).house source.mount source.shown in
+      listener_head shown.content_type shown.name shown.genre (interval_told (his_interval asked))
+
+  -- The client of this number is a listener who asked so, and is given these bytes: a head that shows what the stream of his first source
+  -- shows, and then his draws, woven at his interval; the data in them are slices of what his sources delivered.
+  pub record IsListener (id : ℕ) (asked : ListenRequest) (bytes : List ℕ) : Type 0 where
+    pub first : SourceRequest
+    pub sits : SitsWithSources asked first (sittings (opening settings lists) events id)
+    pub head_and_draws : bytes ≡ head_for asked first ++ joined_draws (his_interval asked) (draws_to (opening settings lists) events id)
+    pub are_slices : DrawsAreStretches settings lists events id
 
 -- nothing was said to him, or that he is denied by a rule
 pub data IsNoListener : List ℕ → Type 0 where
   Unanswered : IsNoListener []
   Denied : (status : Status) (rule : Rule) → status_of rule ≡ Some status → IsNoListener (denial_text status (word_of rule))
 
--- whoever asks to hear a mount is given no data, or is a listener
-abbrev pub IsGivenSlices : Settings → Lists → List Delivery → List ℕ → Type 0
-IsGivenSlices settings lists deliveries bytes = IsNoListener bytes ⊎ IsListener settings lists deliveries bytes
+-- whoever asks so on the connection of the label is given no data and has never sat, or is a listener
+pub data IsGivenSlices (settings : Settings) (lists : Lists) (deliveries : List Delivery) (events : List Event) (label : ℕ) (asked : ListenRequest)
+    (bytes : List ℕ) : Type 0 where
+  NoData : IsNoListener bytes → ((id : ℕ) → IsClientOf settings lists deliveries label id → sittings (opening settings lists) events id ≡ [])
+      → IsGivenSlices settings lists deliveries events label asked bytes
+  Slices : (id : ℕ) → IsClientOf settings lists deliveries label id → IsListener settings lists deliveries events id asked bytes
+      → IsGivenSlices settings lists deliveries events label asked bytes
 
--- Of each label on whose connection a mount is asked for, the lines of the transcript give slices.
+-- A script comes to its transcript and to some events. However the transcript is read as lines, each label on whose connection a mount is
+-- asked for is given slices, of the sources in whose sessions its client sat through these events.
 abbrev pub ListenersHearSlices : Settings → Lists → List Delivery → List ℕ → Option ℕ → Type 0
 ListenersHearSlices settings lists deliveries text stop = IsTranscriptOf settings lists deliveries text stop →
-    (lines : List TranscriptLine) × AreLines lines × (written lines ≡ text)
-    × ((label : ℕ) (asked : ListenRequest) (behind : List Event) → IsRequest (brought deliveries label) (Listen asked) behind
-    → IsGivenSlices settings lists deliveries (given lines label))
+    (events : List Event) × ComeToEvents settings lists deliveries text stop events
+    × ((lines : List TranscriptLine) → AreLines lines → written lines ≡ text
+    → (label : ℕ) (asked : ListenRequest) (behind : List Event) → IsRequest (brought deliveries label) (Listen asked) behind
+    → IsGivenSlices settings lists deliveries events label asked (given lines label))

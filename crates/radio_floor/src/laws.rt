@@ -1,9 +1,16 @@
 //! Laws on the transcript, which run no code.
 
+ghost use Rattle.std.specs.Prelude.{ℕ, List};
+ghost use Rattle.radio_settings.specs.declared.settings.Settings.{Settings};
+ghost use Rattle.radio_access.specs.Lists.{Lists};
+ghost use Rattle.radio_core.specs.declared.event.Event.{Event};
 ghost use Rattle.radio_script.specs.Laws.{GoesOnAsItBegan, HasOneTranscript, IsDetermined};
 ghost use Rattle.radio_floor.specs.Transcript.{conduct};
 ghost use Rattle.radio_floor.specs.LastWords.{DenialsAreTold, FinishesAreTold, ClosedOnesAreDone};
+ghost use Rattle.radio_floor.specs.ScriptEvents.{ScriptsComeToEvents};
+ghost use Rattle.radio_floor.specs.HearsSlices.{DrawsAreStretches};
 
+use radio_core::stretches_are_whole;
 use radio_session::{hearing_is_one, last_words_name_the_rule};
 
 /// The server does one thing at each delivery. So a script has one transcript, and what the whole
@@ -24,4 +31,20 @@ pub fn last_words_are_told()
     ensures done { ClosedOnesAreDone }
 {
     last_words_name_the_rule();
+}
+
+/// The events of a script: the first part of the law from bytes to bytes.
+pub fn scripts_come_to_events()
+    // a script that comes to a transcript comes to events: delivery by delivery the first of those
+    // that are asked on its connection, or all, which lead the server from its state to the next
+    ensures { ScriptsComeToEvents }
+{}
+
+/// The draws of a listener, another part of that law.
+pub fn draws_are_stretches()
+    // over every run, the data in the draws that a listener is handed are slices, one for each of his
+    // sittings, of what the source delivered in whose session he sat
+    ensures { (settings : Settings) (lists : Lists) (events : List Event) (id : ℕ) → DrawsAreStretches settings lists events id }
+{
+    stretches_are_whole();
 }

@@ -3,7 +3,8 @@
 //! - [`play`]: a script from a reader, its transcript to a writer; [`run`]: a list of deliveries.
 //! - The server as the performer of deliveries: `script_server` (its core, and the connections of the
 //!   labels), `connection`, and `performing`.
-//! - Laws, which run no code: [`the_transcript_is_one`], [`last_words_are_told`].
+//! - Laws, which run no code: [`the_transcript_is_one`], [`last_words_are_told`],
+//!   [`scripts_come_to_events`], [`draws_are_stretches`].
 //!
 //! The lines of scripts and of transcripts, and the devices, are those of `radio_script`; what a
 //! connection hears and says is `radio_session`'s.
@@ -15,7 +16,9 @@ mod performing;
 mod script_server;
 mod whole;
 
-pub use laws::{last_words_are_told, the_transcript_is_one};
+pub use laws::{
+    draws_are_stretches, last_words_are_told, scripts_come_to_events, the_transcript_is_one,
+};
 pub use radio_script::{
     Counted, CountedRead, CountedWrite, Delivery, Input, PlayFault, RunFault, Tally,
 };

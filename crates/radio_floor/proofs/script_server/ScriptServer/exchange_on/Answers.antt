@@ -1,5 +1,4 @@
-use Rattle.std.proofs.Common.{◌≡◌, ◌++◌, List, ℕ, Option, Some, sym, ap, ◌∙◌}
-use Rattle.radio_core.specs.Step.{Represents}
+use Rattle.std.proofs.Common.{◌≡◌, ◌++◌, List, ℕ, Some, sym, ap, ◌∙◌}
 use Rattle.radio_session.specs.declared.state.State.{State}
 use Rattle.radio_floor.specs.declared.script_server.Labelled.{Labelled}
 use Rattle.radio_session.specs.Conversation.{Conversation, saying_now}

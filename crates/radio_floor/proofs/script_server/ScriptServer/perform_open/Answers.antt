@@ -1,5 +1,4 @@
-use Rattle.std.proofs.Common.{◌≡◌, List, Some, false, is_some, ap, ◌∙◌}
-use Rattle.radio_floor.specs.declared.script_server.Labelled.{Labelled}
+use Rattle.std.proofs.Common.{◌≡◌, Some, false, is_some}
 use Rattle.radio_floor.specs.ScriptState.{connection_of, opens}
 use Rattle.radio_floor.specs.ScriptServer.{script_state_of, performed_as, DoesAs}
 use Rattle.radio_floor.proofs.ScriptStateLemmas.{new-label}

@@ -1,0 +1,173 @@
+-- Deliveries come to events.
+use Rattle.std.proofs.Common.{◌≡◌, ℕ, Bool, true, false, cond, List, [], ◌∷◌, ◌++◌, Option, None, Some, Result, Ok, Err, inl, inr, refl, sym, ap, subst, ◌∙◌}
+use Rattle.std.specs.Prelude.{drop, codes}
+use Rattle.std.specs.Str.{bytes_eq}
+use Rattle.radio_addr.specs.declared.peer.Peer.{Peer}
+use Rattle.radio_settings.specs.declared.settings.Settings.{Settings}
+use Rattle.radio_access.specs.Lists.{Lists}
+use Rattle.radio_heads.specs.declared.outcome.Progress.{Progress}
+use Rattle.radio_heads.specs.declared.outcome.Progress.TheVariants.{More, Whole}
+use Rattle.radio_heads.specs.declared.outcome.HeadFault.{HeadFault}
+use Rattle.radio_heads.specs.Head.{RequestParts}
+use Rattle.radio_policy.specs.declared.rule.Rule.TheVariants.{BadMethod}
+use Rattle.radio_core.specs.declared.event.Event.{Event}
+use Rattle.radio_core.specs.declared.event.Event.TheVariants.{Arrive, Draw, Title, Leave, Clock}
+use Rattle.radio_core.specs.Run.{world_after_all}
+use Rattle.radio_core.specs.Step.{reply_to, world_after}
+use Rattle.radio_core.specs.World.{World}
+use Rattle.radio_icy.specs.Cleaning.{cleaned}
+use Rattle.radio_icy.specs.Limits.{max_title}
+use Rattle.radio_session.specs.declared.session.Hears.{Hears}
+use Rattle.radio_session.specs.declared.session.Hears.TheVariants.{Head, Body, Nothing}
+use Rattle.radio_session.specs.declared.session.Says.{Says}
+use Rattle.radio_session.specs.declared.state.State.{State}
+use Rattle.radio_session.specs.declared.state.State.TheVariants.{Running, Shut}
+use Rattle.radio_session.specs.Conversation.{Conversation}
+use Rattle.radio_session.specs.Exchanges.{WorldExchange, is_leave, exchanged, then_exchanged}
+use Rattle.radio_session.specs.Framing.{is_source, framing_of}
+use Rattle.radio_session.specs.Hearing.{Heard, HearsAs, delivered, greeted, head_heard, listener_heard, nothing_held}
+use Rattle.radio_session.specs.Hearing.{refuses, source_heard}
+use Rattle.radio_session.specs.Saying.{Said, said}
+use Rattle.radio_script.specs.declared.delivery.Delivery.{Delivery}
+use Rattle.radio_script.specs.declared.delivery.Delivery.TheVariants.{Open, To, Clock as ClockIs}
+use Rattle.radio_script.specs.declared.delivery.Input.{Input}
+use Rattle.radio_script.specs.declared.delivery.Input.TheVariants.{Data, Room, Title as Named, End}
+use Rattle.radio_script.proofs.SimulationLemmas.{runs}
+use Rattle.radio_floor.specs.ScriptEvents.{ComeAbout, ComesToEvents, Nothing as NoEvents, Arrives, Ticks, Exchanges, IsAskedBy, Traced, traces, ComeToEvents}
+use Rattle.radio_floor.specs.ScriptState.{ScriptState, Performed, ComesTo, IsPerformed, on_connection, connection_of, opening_script}
+use Rattle.radio_floor.specs.ScriptState.{opens, closes, exchanges, for_new_label}
+use Rattle.radio_floor.specs.Transcript.{conduct, IsTranscriptOf}
+
+-- what is heard on a connection is of its client still
+module _ (conversation : Conversation) where
+  of_choice : {A : Type 0} (heard : Option A → Heard) → (heard None).conversation.id ≡ conversation.id
+      → ((a : A) → (heard (Some a)).conversation.id ≡ conversation.id) → (choice : Option A) → (heard choice).conversation.id ≡ conversation.id
+  of_choice heard none some None = none
+  of_choice heard none some (Some a) = some a
+
+  of_source : (request : RequestParts) (behind : List ℕ) → (source_heard conversation request behind (framing_of request)).conversation.id ≡ conversation.id
+  of_source request behind =
+      of_choice (source_heard conversation request behind) refl
+      (λ framing. of_choice (delivered (greeted conversation request) _ _) refl (λ word. refl) _) (framing_of request)
+
+  of_request : (request : RequestParts) (behind : List ℕ) (feeds hears : Bool)
+      → (cond feeds (source_heard conversation request behind (framing_of request))
+      (cond hears (listener_heard conversation request) (refuses conversation BadMethod))).conversation.id ≡ conversation.id
+  of_request request behind true hears = of_source request behind
+  of_request request behind false true = refl
+  of_request request behind false false = refl
+
+module _ (conversation : Conversation) where
+  of_head : (bytes : List ℕ) (reading : Result (Progress RequestParts) HeadFault)
+      → (head_heard conversation bytes reading).conversation.id ≡ conversation.id
+  of_head bytes (Ok More) = refl
+  of_head bytes (Ok (Whole request length)) =
+      of_request (nothing_held conversation) request (drop length bytes) (is_source request) (bytes_eq request.method (codes "GET"))
+  of_head bytes (Err fault) = refl
+
+  of_heard : (hears : Hears) (bytes : List ℕ) (heard : Heard) → HearsAs hears conversation bytes heard → heard.conversation.id ≡ conversation.id
+  of_heard Head bytes heard h = ap (λ (x : Heard). x.conversation.id) h.2 ∙ of_head (conversation.held ++ bytes) h.0
+  of_heard (Body body) bytes heard h =
+      ap (λ (x : Heard). x.conversation.id) h ∙ of_choice conversation (delivered (nothing_held conversation) _ _) refl (λ word. refl) _
+  of_heard Nothing bytes heard h = ap (λ (x : Heard). x.conversation.id) h
+
+-- these events come about of what is asked for a client, and lead from the one state to the other
+abbrev LeadBy : World → ℕ → List Event → World → Type 0
+LeadBy w id asked later = (events : List Event) × ComeAbout id asked events × (later ≡ world_after_all w events)
+
+-- one event more in front
+one_more : (id : ℕ) (event : Event) (asked events : List Event) → ComeAbout id asked events → ComeAbout id (event ∷ asked) (event ∷ events)
+one_more id event asked events c = record {
+  front = event ∷ c.front;
+  rest = c.rest;
+  in_order = ap (λ (xs : List Event). event ∷ xs) c.in_order;
+  come = elim c.come [
+    | inl e ↦ inl (ap (λ (xs : List Event). event ∷ xs) e)
+    | inr e ↦ inr (ap (λ (xs : List Event). event ∷ xs) e)
+  ];
+}
+
+-- the connection has ended with the event, and its client leaves, unless that is what it was
+left_by : (w : World) (id : ℕ) (event : Event) (asked : List Event) (leaves : Bool)
+    → LeadBy w id (event ∷ asked) (cond leaves (world_after w event) (world_after (world_after w event) (Leave id)))
+left_by w id event asked true = (event ∷ [], record { front = event ∷ []; rest = asked; in_order = refl; come = inl refl }, refl)
+left_by w id event asked false = (event ∷ Leave id ∷ [], record { front = event ∷ []; rest = asked; in_order = refl; come = inr refl }, refl)
+
+then_lead : (w : World) (id : ℕ) (event : Event) (asked : List Event) (told : Said) (state : State) (others : WorldExchange)
+    → LeadBy (world_after w event) id asked others.world
+    → LeadBy w id (event ∷ asked) (then_exchanged (world_after w event) id event told state others).world
+then_lead w id event asked told Running others (events, come, leads) = (event ∷ events, one_more id event asked events come, leads)
+then_lead w id event asked told (Shut ending) others lead = left_by w id event asked (is_leave event)
+
+-- what is exchanged for a client leads by some of its events
+exchanges_lead : (w : World) (id : ℕ) (says : Says) (asked : List Event) → LeadBy w id asked (exchanged w id says asked).world
+exchanges_lead w id says [] = ([], record { front = []; rest = []; in_order = refl; come = inl refl }, refl)
+exchanges_lead w id says (event ∷ asked) =
+    let told = said says (reply_to w event) in
+    then_lead w id event asked told told.state (exchanged (world_after w event) id told.says asked) (exchanges_lead (world_after w event) id told.says asked)
+
+-- a delivery comes to events that lead to the state after it
+abbrev Comes : ScriptState → Delivery → ScriptState → Type 0
+Comes state delivery later = (events : List Event) × ComesToEvents state delivery events × (later.world ≡ world_after_all state.world events)
+
+comes_as : (state : ScriptState) (delivery : Delivery) (p q : Performed) → p ≡ q → Comes state delivery q.state → Comes state delivery p.state
+comes_as state delivery p q e c = subst (λ (x : Performed). Comes state delivery x.state) (sym e) c
+
+module _ (state : ScriptState) (label : ℕ) where
+  opened : (peer : Peer) (found : Option (Option Conversation)) → Comes state (Open label peer) (for_new_label state (opens state label peer) found).state
+  opened peer None = (Arrive peer ∷ [], Arrives label peer, refl)
+  opened peer (Some connection) = ([], NoEvents (Open label peer), refl)
+
+  module _ (conversation : Conversation) (connected : connection_of state.connections label ≡ Some (Some conversation)) where
+    exchange_comes : (input : Input) (now : Conversation) (asked : List Event) → now.id ≡ conversation.id → IsAskedBy conversation input asked
+        → Comes state (To label input) (exchanges state label now asked).state
+    exchange_comes input now asked his is_asked =
+        let lead = exchanges_lead state.world now.id now.says asked in
+        let come = subst (λ (id : ℕ). ComeAbout id asked lead.0) his lead.1 in
+        (lead.0, Exchanges label input conversation asked lead.0 connected is_asked come, lead.2)
+
+    input_comes : (input : Input) (p : Performed) → ComesTo state label conversation input p → Comes state (To label input) p.state
+    input_comes (Data bytes) p h =
+        comes_as state (To label (Data bytes)) p _ (sym h.2)
+        (exchange_comes (Data bytes) h.0.conversation h.0.events (of_heard conversation conversation.hears bytes h.0 h.1) (h.0, h.1, refl))
+    input_comes (Room room) p h =
+        comes_as state (To label (Room room)) p _ (sym h) (exchange_comes (Room room) conversation (Draw conversation.id room ∷ []) refl refl)
+    input_comes (Named text) p h =
+        comes_as state (To label (Named text)) p _ (sym h)
+        (exchange_comes (Named text) conversation (Title conversation.id (cleaned max_title text) ∷ []) refl refl)
+    input_comes End p h =
+        comes_as state (To label End) p (closes state label conversation) (sym h) (
+          Leave conversation.id ∷ [],
+          Exchanges label End conversation (Leave conversation.id ∷ []) (Leave conversation.id ∷ []) connected refl
+              (record { front = Leave conversation.id ∷ []; rest = []; in_order = refl; come = inl refl }),
+          refl,
+        )
+
+  label_comes : (input : Input) (p : Performed) (found : Option (Option Conversation)) → connection_of state.connections label ≡ found
+      → on_connection state (λ conversation done. ComesTo state label conversation input done) p found → Comes state (To label input) p.state
+  label_comes input p None known h = comes_as state (To label input) p _ h ([], NoEvents (To label input), refl)
+  label_comes input p (Some None) known h = comes_as state (To label input) p _ h ([], NoEvents (To label input), refl)
+  label_comes input p (Some (Some conversation)) known h = input_comes conversation known input p h
+
+delivery_comes : (state : ScriptState) (delivery : Delivery) (p : Performed) → IsPerformed state delivery p → Comes state delivery p.state
+delivery_comes state (Open label peer) p h = comes_as state (Open label peer) p _ h (opened state label peer (connection_of state.connections label))
+delivery_comes state (To label input) p h = label_comes state label input p (connection_of state.connections label) refl h
+delivery_comes state (ClockIs ms) p h = comes_as state (ClockIs ms) p _ h (Clock ms ∷ [], Ticks ms, refl)
+
+-- the run goes on in this state
+abbrev Stands : ScriptState → Traced → Type 0
+Stands state traced = state ≡ traced.state
+
+traced_on : (old new : ScriptState) (traced : Traced) (delivery : Delivery) (lines : Option (List ℕ)) → Stands old traced → conduct old delivery lines new
+    → (next : Traced) × Stands new next × traces traced delivery lines next
+traced_on old new traced delivery lines same performed =
+    let here : conduct traced.state delivery lines new = subst (λ (s : ScriptState). conduct s delivery lines new) same performed in
+    let c = delivery_comes traced.state delivery (record { lines = lines; state = new }) here in
+    (record { state = new; events = traced.events ++ c.0 }, refl, (here, c.0, c.1, refl, c.2))
+
+pub scripts_come : (settings : Settings) (lists : Lists) (deliveries : List Delivery) (text : List ℕ) (stop : Option ℕ)
+    → IsTranscriptOf settings lists deliveries text stop → (events : List Event) × ComeToEvents settings lists deliveries text stop events
+scripts_come settings lists deliveries text stop (last, run) =
+    let start : Traced = record { state = opening_script settings lists; events = [] } in
+    let r = runs conduct traces Stands traced_on deliveries (opening_script settings lists) last start 1 text stop refl run in
+    (r.0.events, (r.0.state, r.2))

@@ -1,0 +1,65 @@
+-- The events that deliveries come to.
+use Rattle.std.specs.Prelude.{◌≡◌, ◌⊎◌, ℕ, List, [], ◌∷◌, ◌++◌, Option, Some}
+use Rattle.radio_addr.specs.declared.peer.Peer.{Peer}
+use Rattle.radio_icy.specs.Cleaning.{cleaned}
+use Rattle.radio_icy.specs.Limits.{max_title}
+use Rattle.radio_settings.specs.declared.settings.Settings.{Settings}
+use Rattle.radio_access.specs.Lists.{Lists}
+use Rattle.radio_core.specs.declared.event.Event.{Event}
+use Rattle.radio_core.specs.declared.event.Event.TheVariants.{Arrive, Draw, Title, Leave, Clock}
+use Rattle.radio_core.specs.Run.{world_after_all}
+use Rattle.radio_session.specs.Conversation.{Conversation}
+use Rattle.radio_session.specs.Hearing.{Heard, IsHeard}
+use Rattle.radio_script.specs.declared.delivery.Delivery.{Delivery}
+use Rattle.radio_script.specs.declared.delivery.Delivery.TheVariants.{Open, To, Clock as ClockIs}
+use Rattle.radio_script.specs.declared.delivery.Input.{Input}
+use Rattle.radio_script.specs.declared.delivery.Input.TheVariants.{Data, Room, Title as Named, End}
+use Rattle.radio_script.specs.Runs.{Conduct, Runs}
+use Rattle.radio_floor.specs.ScriptState.{ScriptState, opening_script, connection_of}
+use Rattle.radio_floor.specs.Transcript.{conduct, IsTranscriptOf}
+
+-- what is asked of the server when something comes to a connection
+abbrev pub IsAskedBy : Conversation → Input → List Event → Type 0
+IsAskedBy conversation (Data bytes) asked = (heard : Heard) × IsHeard conversation bytes heard × (asked ≡ heard.events)
+IsAskedBy conversation (Room room) asked = asked ≡ Draw conversation.id room ∷ []
+IsAskedBy conversation (Named text) asked = asked ≡ Title conversation.id (cleaned max_title text) ∷ []
+IsAskedBy conversation End asked = asked ≡ Leave conversation.id ∷ []
+
+-- of what is asked for a client, the first events come about, and behind them he may leave; how many is told by the state that they lead to
+pub record ComeAbout (id : ℕ) (asked events : List Event) : Type 0 where
+  pub front : List Event
+  pub rest : List Event
+  pub in_order : asked ≡ front ++ rest
+  pub come : (events ≡ front) ⊎ (events ≡ front ++ Leave id ∷ [])
+
+-- a delivery comes to these events, if they lead to the state that it leads to
+pub data ComesToEvents (state : ScriptState) : Delivery → List Event → Type 0 where
+  -- nothing happens: its label is at fault, or its connection was shut before
+  Nothing : (delivery : Delivery) → ComesToEvents state delivery []
+  Arrives : (label : ℕ) (peer : Peer) → ComesToEvents state (Open label peer) (Arrive peer ∷ [])
+  Ticks : (ms : ℕ) → ComesToEvents state (ClockIs ms) (Clock ms ∷ [])
+  Exchanges : (label : ℕ) (input : Input) (conversation : Conversation) (asked events : List Event)
+      → connection_of state.connections label ≡ Some (Some conversation) → IsAskedBy conversation input asked → ComeAbout conversation.id asked events
+      → ComesToEvents state (To label input) events
+
+-- how things stand, and the events that have led there from the opening state
+pub record Traced : Type 0 where
+  pub state : ScriptState
+  pub events : List Event
+
+-- a delivery is performed, and the events that it comes to, which lead the server from its state to the next, are noted behind those before
+abbrev pub traces : Conduct Traced
+traces old delivery lines new =
+    conduct old.state delivery lines new.state
+    × (events : List Event) × ComesToEvents old.state delivery events × (new.events ≡ old.events ++ events)
+    × (new.state.world ≡ world_after_all old.state.world events)
+
+-- the deliveries come to this text and to these events, in their order
+abbrev pub ComeToEvents : Settings → Lists → List Delivery → List ℕ → Option ℕ → List Event → Type 0
+ComeToEvents settings lists deliveries text stop events = (last : ScriptState)
+    × Runs traces (record { state = opening_script settings lists; events = [] }) 1 deliveries text stop (record { state = last; events = events })
+
+-- deliveries that come to a transcript come to events
+abbrev pub ScriptsComeToEvents : Type 0
+ScriptsComeToEvents = (settings : Settings) (lists : Lists) (deliveries : List Delivery) (text : List ℕ) (stop : Option ℕ)
+    → IsTranscriptOf settings lists deliveries text stop → (events : List Event) × ComeToEvents settings lists deliveries text stop events
