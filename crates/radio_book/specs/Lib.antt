@@ -4,3 +4,4 @@ pub mod Clients
 pub mod Books
 pub mod Settling
 pub mod Totals
+pub mod Words

@@ -2,33 +2,64 @@
 
 ghost use Rattle.std.specs.Prelude.{◌≡◌, ◌↔◌, ◌<◌, ◌≤◌, ◌^◌, ◌∷◌, [], ◌++◌, ℕ, length, IsTrue, IfOk, IfErr, IfSome, OnOk, IfNone, IsPermutation, Any};
 ghost use Rattle.std.specs.Prelude.{All, sum_by};
+ghost use Rattle.std.specs.Fmt.{IsPlainFormatter, WritesOnOk};
 ghost use Rattle.std.specs.List.{range_with_len};
 ghost use Rattle.radio_book.specs.History.{IsRun, StandsIn};
+ghost use Rattle.radio_book.specs.Words.{count_text, order_text};
 ghost use Rattle.radio_book.specs.Settling.{Falls, IsStrange, Rises, Shows, ShowsBySerials, all_serials, serials, times};
 
 use crate::{Book, Entry, House, Kept, OutOfMemory, Pass, Receipt};
 use std::alloc::Global;
-use thiserror::Error;
+use std::error::Error;
+use std::fmt;
 
 /// What is wrong with the passes of a book.
-#[derive(Clone, Copy, Debug, PartialEq, Eq, Error)]
+#[derive(Clone, Copy, Debug, PartialEq, Eq)]
 pub enum SettleFault {
     /// The entry of the receipt of this serial does not stand there in the book's history.
-    #[error("strange receipt {serial}")]
     Strange { serial: u64 },
     /// Two receipts have this serial.
-    #[error("receipt {serial} twice")]
     Twice { serial: u64 },
     /// In one pass a receipt of the serial `got` comes after one of `seen`, and is not above it.
-    #[error("receipt {got} after {seen}")]
     OutOfOrder { seen: u64, got: u64 },
     /// The book has so many entries, and the passes have so many receipts.
-    #[error("{book} entries, {passes} receipts")]
     Count { book: u64, passes: u64 },
     /// Memory ran out.
-    #[error("out of memory")]
     OutOfMemory,
 }
+
+impl fmt::Display for SettleFault {
+    ghost use Rattle.std.specs.Prelude.{Some};
+    ghost use Rattle.radio_book.specs.Words.{fault_text};
+
+    ghost output = { λ fault. Some (fault_text fault) };
+
+    fn fmt<W: fmt::Write>(&self, f: &mut fmt::Formatter<W>) -> fmt::Result {
+        match self {
+            SettleFault::Strange { serial } => write!(f, "strange receipt {serial}"),
+            SettleFault::Twice { serial } => write!(f, "receipt {serial} twice"),
+            SettleFault::OutOfOrder { seen, got } => write_order(f, *seen, *got),
+            SettleFault::Count { book, passes } => write_count(f, *book, *passes),
+            SettleFault::OutOfMemory => f.write_str("out of memory"),
+        }
+    }
+}
+
+/// Writes a serial that does not rise.
+fn write_order<W: fmt::Write>(f: &mut fmt::Formatter<W>, seen: u64, got: u64) -> fmt::Result
+    ensures { IsPlainFormatter f.old → WritesOnOk W.write_str_gives f.old result (order_text seen got) f.new }
+{
+    write!(f, "receipt {got} after {seen}")
+}
+
+/// Writes a number of entries, and one of receipts.
+fn write_count<W: fmt::Write>(f: &mut fmt::Formatter<W>, book: u64, passes: u64) -> fmt::Result
+    ensures { IsPlainFormatter f.old → WritesOnOk W.write_str_gives f.old result (count_text book passes) f.new }
+{
+    write!(f, "{book} entries, {passes} receipts")
+}
+
+impl Error for SettleFault {}
 
 impl From<OutOfMemory> for SettleFault {
     fn from(_: OutOfMemory) -> SettleFault {

@@ -1,6 +1,7 @@
 //! Whether events, and whether replies, are equal.
 
 ghost use Rattle.std.specs.Prelude.{◌≡◌, ◌↔◌, IsTrue};
+ghost use Rattle.radio_core.specs.Step.{TakesNoMemory};
 
 use crate::data::is_same_data;
 use crate::{Event, ListenRequest, Reply, SourceRequest};
@@ -21,7 +22,6 @@ impl Event {
             (Event::Push { id: a, block: x }, Event::Push { id: b, block: y }) => {
                 are_same(*a, x.as_bytes(), *b, y.as_bytes())
             }
-            (Event::SourceEnd { id: a }, Event::SourceEnd { id: b }) => *a == *b,
             (Event::Title { id: a, text: x }, Event::Title { id: b, text: y }) => {
                 are_same(*a, x.as_slice(), *b, y.as_slice())
             }
@@ -29,10 +29,20 @@ impl Event {
             (Event::Draw { id: a, room: x }, Event::Draw { id: b, room: y }) => {
                 *a == *b && *x == *y
             }
-            (Event::Leave { id: a }, Event::Leave { id: b }) => *a == *b,
-            (Event::Clock { ms: a }, Event::Clock { ms: b }) => *a == *b,
-            _ => false,
+            _ => is_same_end_or_clock(self, other),
         }
+    }
+}
+
+/// Whether both are one end of a source, one end of a connection or one moment.
+fn is_same_end_or_clock(a: &Event, b: &Event) -> bool
+    ensures { IsTrue result ↔ TakesNoMemory a.now × (a.now ≡ b.now) }
+{
+    match (a, b) {
+        (Event::SourceEnd { id: a }, Event::SourceEnd { id: b }) => *a == *b,
+        (Event::Leave { id: a }, Event::Leave { id: b }) => *a == *b,
+        (Event::Clock { ms: a }, Event::Clock { ms: b }) => *a == *b,
+        _ => false,
     }
 }
 

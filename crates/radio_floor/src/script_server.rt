@@ -181,9 +181,37 @@ fn arrive(
         ≡ told.state)) }
 {
     let reply = core.step(Event::Arrive { peer })?;
+    answer_arrival(alloc, peer, reply, out)
+}
+
+/// What comes of the reply to an arrival: the connection, if it is taken in, and whether it goes
+/// on.
+fn answer_arrival(
+    alloc: Global,
+    peer: Peer,
+    reply: Reply,
+    out: &mut Vec<u8>,
+) -> Result<(Option<Connection>, State), OutOfMemory>
+    ensures { let told = said asking reply in
+        IfOk result (λ arrived. (out.new.items ≡ out.old.items ++ told.bytes) × (arrived.0 ≡ taken_in peer reply) × (arrived.1 ≡ told.state)) }
+{
     let connection = taken_in(alloc, peer, &reply)?;
-    let state = Session::new(alloc, 0, peer).give(reply, out)?;
+    let state = tell_arrival(alloc, peer, reply, out)?;
     Ok((connection, state))
+}
+
+/// What a peer is told who has just come.
+fn tell_arrival(
+    alloc: Global,
+    peer: Peer,
+    reply: Reply,
+    out: &mut Vec<u8>,
+) -> Result<State, OutOfMemory>
+    ensures { let told = said asking reply in
+        IfOk result (λ state. (out.new.items ≡ out.old.items ++ told.bytes) × (state ≡ told.state)) }
+{
+    let mut session = Session::new(alloc, 0, peer);
+    session.give(reply, out)
 }
 
 /// The new connection, if the server takes it in.

@@ -33,7 +33,9 @@ pub fn run(
         → (text : List ℕ) × IsTranscriptOf settings lists deliveries.now text (Some number) }
 {
     let mut server = ScriptServer::new(alloc, settings, lists);
-    run_with(alloc, &mut server, deliveries)
+    let transcript = run_with(alloc, &mut server, deliveries);
+    drop(server);
+    transcript
 }
 
 /// Plays a script: reads it line by line, runs each delivery through a server of these settings and lists,
@@ -64,5 +66,7 @@ pub fn play<R: CountedRead, W: CountedWrite>(
     ensures flushed { result ≢ Err PlayFault.Write → W.is_flushed writer.old ≡ true → W.is_flushed writer.new ≡ true }
 {
     let mut server = ScriptServer::new(alloc, settings, lists);
-    play_with(alloc, &mut server, reader, writer)
+    let played = play_with(alloc, &mut server, reader, writer);
+    drop(server);
+    played
 }

@@ -1,8 +1,10 @@
 //! A worker, who serves connections.
 
-ghost use Rattle.std.specs.Prelude.{◌≡◌, ◌*◌, OnOk, OnErr};
+ghost use Rattle.std.specs.Prelude.{◌≡◌, ◌*◌, IfOk, OnOk, OnErr};
+ghost use Rattle.radio_core.specs.declared.event.Event.TheVariants.{Arrive};
+ghost use Rattle.radio_core.specs.declared.reply.Reply.{Reply};
 ghost use Rattle.radio_hall.specs.Turns.{Ticks, IsTurn};
-ghost use Rattle.radio_hall.specs.Admission.{IsAdmission};
+ghost use Rattle.radio_hall.specs.Admission.{IsAdmission, IsTakenIn};
 
 use crate::serving::leaving::apply_quietly;
 use crate::serving::round::serve_each;
@@ -78,10 +80,19 @@ impl<S: Server + Drop> Worker<S> {
         ensures told { (self.new.told_ms ≡ self.old.told_ms) × (self.new.patience_ms ≡ self.old.patience_ms) }
     {
         conns.reserve(1)?;
-        let reply = self.server.apply(Event::Arrive { peer })?;
-        let conn = Conn::admitted(self.alloc, peer, line, reply, ms)?;
+        let conn = self.arrival(line, peer, ms)?;
         conns.push_reserved(conn);
         Ok(())
+    }
+
+    /// The connection of a peer who has come, as the server replies to his arrival.
+    fn arrival<L: Line>(&mut self, line: L, peer: Peer, ms: u64) -> Result<Conn<L>, OutOfMemory>
+        ensures applied { IfOk result (λ conn. (reply : Reply) × S.steps self.old.server (Arrive peer) reply self.new.server
+            × IsTakenIn peer reply (L.given line) (L.taken line) conn) }
+        ensures told { (self.new.told_ms ≡ self.old.told_ms) × (self.new.patience_ms ≡ self.old.patience_ms) }
+    {
+        let reply = self.server.apply(Event::Arrive { peer })?;
+        Conn::admitted(self.alloc, peer, line, reply, ms)
     }
 
     /// Serves each connection once, at this moment in milliseconds, and closes those that are over.

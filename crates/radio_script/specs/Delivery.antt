@@ -4,7 +4,6 @@ use Rattle.std.specs.Str.{bytes_eq}
 use Rattle.std.specs.Prelude.{codes}
 use Rattle.radio_script.specs.declared.delivery.Delivery.{Delivery}
 use Rattle.radio_script.specs.declared.delivery.Delivery.TheVariants.{Open, To, Clock}
-use Rattle.radio_script.specs.declared.delivery.Input.{Input}
 use Rattle.radio_script.specs.declared.delivery.Input.TheVariants.{Data, Room, Title, End}
 use Rattle.radio_script.specs.Steps.{◌>>=◌}
 use Rattle.radio_texts.specs.Cuts.{cut}
@@ -70,13 +69,18 @@ clock_of fields = do
   ms ← number_of 10 18446744073709551615 fields
   Some (Clock ms)
 
+-- the delivery of a word and its fields, if they are one
+abbrev pub fields_of : List ℕ → List ℕ → Option Delivery
+fields_of word fields =
+    if bytes_eq word (codes "open") then open_of fields else
+    (if bytes_eq word (codes "in") then in_of fields else
+    (if bytes_eq word (codes "room") then room_of fields else
+    (if bytes_eq word (codes "title") then title_of fields else
+    (if bytes_eq word (codes "end") then end_of fields else
+    (if bytes_eq word (codes "clock") then clock_of fields else None)))))
+
 -- the delivery that a line stands for, if it is one
 unfoldable pub delivery_of : List ℕ → Option Delivery
 delivery_of line = do
   parts ← cut 32 line
-  if bytes_eq parts.0 (codes "open") then open_of parts.1 else
-      (if bytes_eq parts.0 (codes "in") then in_of parts.1 else
-      (if bytes_eq parts.0 (codes "room") then room_of parts.1 else
-      (if bytes_eq parts.0 (codes "title") then title_of parts.1 else
-      (if bytes_eq parts.0 (codes "end") then end_of parts.1 else
-      (if bytes_eq parts.0 (codes "clock") then clock_of parts.1 else None)))))
+  fields_of parts.0 parts.1

@@ -1,7 +1,7 @@
 //! What a script delivers, a line each.
 
 ghost use Rattle.std.specs.Prelude.{◌≡◌, IfOk};
-ghost use Rattle.radio_script.specs.Delivery.{clock_of, decimal_of, delivery_of, end_of, in_of, label_of, open_of, room_of, text_fields, title_of};
+ghost use Rattle.radio_script.specs.Delivery.{clock_of, decimal_of, delivery_of, end_of, fields_of, in_of, label_of, open_of, room_of, text_fields, title_of};
 
 use crate::OutOfMemory;
 use crate::escapes::unescape;
@@ -40,9 +40,15 @@ pub enum Delivery {
 pub fn read_delivery(alloc: Global, line: &[u8]) -> Result<Option<Delivery>, OutOfMemory>
     ensures { IfOk result (λ delivery. delivery ≡ delivery_of line.now) }
 {
-    let Some((word, fields)) = cut(line, b' ') else {
-        return Ok(None);
-    };
+    match cut(line, b' ') {
+        Some((word, fields)) => read_fields(alloc, word, fields),
+        None => Ok(None),
+    }
+}
+
+fn read_fields(alloc: Global, word: &[u8], fields: &[u8]) -> Result<Option<Delivery>, OutOfMemory>
+    ensures { IfOk result (λ delivery. delivery ≡ fields_of word.now fields.now) }
+{
     if word == b"open".as_slice() {
         return Ok(read_open(fields));
     }

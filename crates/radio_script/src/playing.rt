@@ -5,8 +5,9 @@ ghost use Rattle.radio_script.specs.Answers.{AnswersLine, IsPerformed, PlaysLine
 ghost use Rattle.radio_script.specs.Plays.{EndsThere, IfKnown, Plays, Writes};
 ghost use Rattle.radio_script.specs.Reading.{reader_failures, writer_failures};
 ghost use Rattle.radio_script.specs.Limits.{max_line, max_lines};
+ghost use Rattle.radio_script.specs.Script.{meaning_of};
 
-use crate::delivery::read_delivery;
+use crate::delivery::{Delivery, read_delivery};
 use crate::devices::{CountedRead, CountedWrite};
 use crate::faults::{PerformFault, PlayFault};
 use crate::limits::MAX_LINES;
@@ -160,13 +161,26 @@ fn perform_line<P: Performer>(
     ensures { IsPerformed P.performs performer.old number line.now
         result text.new.items performer.new }
 {
+    match read_delivery(alloc, line) {
+        Err(_) => Err(PlayFault::OutOfMemory),
+        Ok(None) => Err(PlayFault::Line { number }),
+        Ok(Some(delivery)) => perform_delivery(alloc, performer, number, &delivery, text),
+    }
+}
+
+// Performs the delivery of a line, and leaves what it comes to as the text.
+fn perform_delivery<P: Performer>(
+    alloc: Global,
+    performer: &mut P,
+    number: u32,
+    delivery: &Delivery,
+    text: &mut Vec<u8>,
+) -> Result<(), PlayFault>
+    ensures { (line : List ℕ) → meaning_of number line ≡ Ok delivery.now
+        → IsPerformed P.performs performer.old number line result text.new.items performer.new }
+{
     text.clear();
-    let delivery = match read_delivery(alloc, line) {
-        Err(_) => return Err(PlayFault::OutOfMemory),
-        Ok(None) => return Err(PlayFault::Line { number }),
-        Ok(Some(delivery)) => delivery,
-    };
-    match performer.perform(alloc, &delivery, text) {
+    match performer.perform(alloc, delivery, text) {
         Ok(()) => Ok(()),
         Err(PerformFault::Label) => Err(PlayFault::Line { number }),
         Err(PerformFault::OutOfMemory) => Err(PlayFault::OutOfMemory),

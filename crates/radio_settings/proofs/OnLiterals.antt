@@ -2,7 +2,7 @@
 use Rattle.std.specs.Prelude.{⊤}
 use Rattle.std.specs.Str.{is_utf8, chars}
 use Rattle.toml.proofs.OnLiterals.{toml_on_literals}
-use Rattle.radio_settings.specs.Keys.{word}
+use Rattle.radio_settings.specs.Keys.{stream_word, word}
 use Rattle.radio_settings.specs.Lookup.{value_at, text_at, text_or, table_at, table_or_empty, list_at, tables_at}
 use Rattle.radio_settings.specs.MountName.{is_mount_name}
 use Rattle.radio_settings.specs.Rows.{fault_at, table_fault, list_fault}
@@ -12,6 +12,6 @@ use Rattle.radio_settings.specs.Relays.{relay_of}
 use Rattle.radio_settings.specs.Document.{document_faults, reading_of}
 
 unfoldable pub on_literals : ⊤
-unfolding toml_on_literals is_utf8 chars word value_at text_at text_or table_at table_or_empty list_at tables_at
+unfolding toml_on_literals is_utf8 chars word stream_word value_at text_at text_or table_at table_or_empty list_at tables_at
     is_mount_name fault_at table_fault list_fault first_repeat mount_of relay_of document_faults reading_of
 on_literals = tt

@@ -1,5 +1,5 @@
 -- The keys of the settings, and the words for them.
-use Rattle.std.specs.Prelude.{ℕ, List, codes}
+use Rattle.std.specs.Prelude.{ℕ, List, [], codes}
 use Rattle.radio_settings.specs.declared.key.Key.{Key}
 use Rattle.radio_settings.specs.declared.key.Key.TheVariants.{SourcePassword, AdminUser, AdminPassword, RelayUser, RelayPassword, DenyIp, AllowIp, Listen}
 use Rattle.radio_settings.specs.declared.key.Key.TheVariants.{Address, Port, Workers, Limits, Clients, Sources, QueueSize, BurstSize, SourceTimeout}
@@ -7,6 +7,35 @@ use Rattle.radio_settings.specs.declared.key.Key.TheVariants.{HeaderTimeout, Mou
 use Rattle.radio_settings.specs.declared.key.Key.TheVariants.{FallbackMount, FallbackOverride, FallbackWhenFull, Hidden, Mp3MetadataInterval, StreamName, Genre}
 use Rattle.radio_settings.specs.declared.key.Key.TheVariants.{Htpasswd, AllowDuplicateUsers, Relay, Server, LocalMount, OnDemand, Slave, MasterServer}
 use Rattle.radio_settings.specs.declared.key.Key.TheVariants.{MasterPort, MasterUsername, MasterPassword, MasterUpdateInterval}
+
+-- the word for a key of the tables of mounts and relays and of the slave, or for one of their names
+unfoldable pub stream_word : Key → List ℕ
+stream_word Mount = codes "mount"
+stream_word MountName = codes "mount-name"
+stream_word Username = codes "username"
+stream_word Password = codes "password"
+stream_word MaxListeners = codes "max-listeners"
+stream_word MaxListenerDuration = codes "max-listener-duration"
+stream_word FallbackMount = codes "fallback-mount"
+stream_word FallbackOverride = codes "fallback-override"
+stream_word FallbackWhenFull = codes "fallback-when-full"
+stream_word Hidden = codes "hidden"
+stream_word Mp3MetadataInterval = codes "mp3-metadata-interval"
+stream_word StreamName = codes "stream-name"
+stream_word Genre = codes "genre"
+stream_word Htpasswd = codes "htpasswd"
+stream_word AllowDuplicateUsers = codes "allow_duplicate_users"
+stream_word Relay = codes "relay"
+stream_word Server = codes "server"
+stream_word LocalMount = codes "local-mount"
+stream_word OnDemand = codes "on-demand"
+stream_word Slave = codes "slave"
+stream_word MasterServer = codes "master-server"
+stream_word MasterPort = codes "master-port"
+stream_word MasterUsername = codes "master-username"
+stream_word MasterPassword = codes "master-password"
+stream_word MasterUpdateInterval = codes "master-update-interval"
+stream_word _ = []
 
 -- the word for a key in the settings
 unfoldable pub word : Key → List ℕ
@@ -28,28 +57,4 @@ word QueueSize = codes "queue-size"
 word BurstSize = codes "burst-size"
 word SourceTimeout = codes "source-timeout"
 word HeaderTimeout = codes "header-timeout"
-word Mount = codes "mount"
-word MountName = codes "mount-name"
-word Username = codes "username"
-word Password = codes "password"
-word MaxListeners = codes "max-listeners"
-word MaxListenerDuration = codes "max-listener-duration"
-word FallbackMount = codes "fallback-mount"
-word FallbackOverride = codes "fallback-override"
-word FallbackWhenFull = codes "fallback-when-full"
-word Hidden = codes "hidden"
-word Mp3MetadataInterval = codes "mp3-metadata-interval"
-word StreamName = codes "stream-name"
-word Genre = codes "genre"
-word Htpasswd = codes "htpasswd"
-word AllowDuplicateUsers = codes "allow_duplicate_users"
-word Relay = codes "relay"
-word Server = codes "server"
-word LocalMount = codes "local-mount"
-word OnDemand = codes "on-demand"
-word Slave = codes "slave"
-word MasterServer = codes "master-server"
-word MasterPort = codes "master-port"
-word MasterUsername = codes "master-username"
-word MasterPassword = codes "master-password"
-word MasterUpdateInterval = codes "master-update-interval"
+word key = stream_word key

@@ -5,13 +5,14 @@ use Rattle.toml.specs.Data.{Members, no_members}
 use Rattle.radio_settings.specs.declared.key.Key.TheVariants.{Listen, Limits, Slave}
 use Rattle.radio_settings.specs.declared.fault.SettingsFault.{SettingsFault}
 use Rattle.radio_settings.specs.declared.reading.document.Basics.{Basics}
+use Rattle.radio_settings.specs.declared.reading.document.NamedStreams.{NamedStreams}
 use Rattle.radio_settings.specs.declared.reading.document.Streams.{Streams}
 use Rattle.radio_settings.specs.declared.settings.AccessSettings.{AccessSettings}
 use Rattle.radio_settings.specs.declared.settings.LimitSettings.{LimitSettings}
 use Rattle.radio_settings.specs.declared.settings.ListenSettings.{ListenSettings}
-use Rattle.radio_settings.specs.declared.settings.MountOptions.{MountOptions}
 use Rattle.radio_settings.specs.declared.settings.MountSetting.{MountSetting}
 use Rattle.radio_settings.specs.declared.settings.RelaySetting.{RelaySetting}
+use Rattle.radio_settings.specs.declared.settings.Settings.{Settings}
 use Rattle.radio_settings.specs.declared.settings.SlaveSetting.{SlaveSetting}
 use Rattle.radio_settings.specs.Access.{access_fault, access_of}
 use Rattle.radio_settings.specs.Document.{limits_faults, listen_faults, local_mounts, mount_names, mounts_faults, relays_faults, repeat_fault, slave_faults}
@@ -70,15 +71,10 @@ unfoldable pub lists_fault : Members → Option SettingsFault
 lists_fault document = first_fault (mounts_fault document ∷ relays_fault document ∷ optional_slave_fault document ∷ [])
 
 -- what they set, in the order of the text
-pub record Listed : Type 0 where
-  pub mounts : List MountSetting
-  pub relays : List RelaySetting
-  pub slave : Option SlaveSetting
-
-abbrev pub listed : List MountSetting → List RelaySetting → Option SlaveSetting → Listed
+abbrev pub listed : List MountSetting → List RelaySetting → Option SlaveSetting → NamedStreams
 listed mounts relays slave = record { mounts = mounts; relays = relays; slave = slave }
 
-abbrev pub listed_in : AccessSettings → LimitSettings → Members → Listed
+abbrev pub listed_in : AccessSettings → LimitSettings → Members → NamedStreams
 listed_in access limits document =
     listed (mounts_of access limits document) (relays_of document) (option_map slave_of (table_at Slave document))
 
@@ -86,16 +82,27 @@ listed_in access limits document =
 unfoldable pub apart_fault : List MountSetting → List RelaySetting → Option SettingsFault
 apart_fault mounts relays = first_fault (repeat_fault (mount_names mounts) ∷ repeat_fault (local_mounts relays) ∷ [])
 
-abbrev pub streams_with : MountOptions → Listed → Streams
-streams_with other_mounts l = record { mounts = l.mounts; other_mounts = other_mounts; relays = l.relays; slave = l.slave }
-
 -- the tables of streams, and then their names
 unfoldable pub streams_fault : AccessSettings → LimitSettings → Members → Option SettingsFault
 streams_fault access limits document =
     first_fault (lists_fault document ∷ apart_fault (mounts_of access limits document) (relays_of document) ∷ [])
 
-abbrev pub streams_of : AccessSettings → LimitSettings → Members → Streams
-streams_of access limits document = streams_with (options_of access limits no_members) (listed_in access limits document)
+abbrev pub streams_of : Basics → Members → Streams
+streams_of basics document = record {
+  named = listed_in basics.access basics.limits document;
+  other_mounts = options_of basics.access basics.limits no_members;
+}
+
+abbrev pub settings_with : Basics → Streams → Settings
+settings_with basics streams = record {
+  access = basics.access;
+  listen = basics.listen;
+  limits = basics.limits;
+  mounts = streams.named.mounts;
+  other_mounts = streams.other_mounts;
+  relays = streams.named.relays;
+  slave = streams.named.slave;
+}
 
 -- the first fault of a document, by the first faults of its parts
 abbrev pub fault_by_parts : Members → Option SettingsFault

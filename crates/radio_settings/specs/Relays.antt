@@ -13,16 +13,27 @@ use Rattle.radio_settings.specs.Rows.{Row, row, faults_in, first_fault, text, no
 abbrev pub pair_rows : List Row
 pair_rows = row Username text (required_with Password) ∷ row Password text (required_with Username) ∷ []
 
+-- the mount to pull, and the mount that it feeds
+abbrev pub relay_mount_rows : List Row
+relay_mount_rows = row Mount mount_name required ∷ row LocalMount mount_name optional ∷ []
+
 abbrev pub relay_rows : List Row
-relay_rows =
-    master_rows Server Port
-    ++ row Mount mount_name required
-    ∷ row LocalMount mount_name optional
-    ∷ (pair_rows ++ row OnDemand no_flag optional ∷ [])
+relay_rows = master_rows Server Port ++ (relay_mount_rows ++ (pair_rows ++ row OnDemand no_flag optional ∷ []))
 
 abbrev pub login_from : Option (List ℕ) → Option (List ℕ) → Option Login
 login_from (Some username) (Some password) = Some (record { username = username; password = password })
 login_from _ _ = None
+
+-- the first fault of the two mounts
+unfoldable pub mounts_fault : Members → Option SettingsFault
+mounts_fault table = first_fault (faults_in relay_mount_rows table)
+
+abbrev pub mount_of : Members → List ℕ
+mount_of table = text_or Mount table []
+
+-- by default the mount that it pulls
+abbrev pub local_mount_of : Members → List ℕ
+local_mount_of table = text_or LocalMount table (mount_of table)
 
 -- the first fault of the two keys
 unfoldable pub pair_fault : Members → Option SettingsFault
@@ -38,8 +49,8 @@ relay_fault table = first_fault (faults_in relay_rows table)
 unfoldable pub relay_of : Members → RelaySetting
 relay_of table = record {
   master = master_of Server Port table;
-  mount = text_or Mount table [];
-  local_mount = text_or LocalMount table (text_or Mount table []);
+  mount = mount_of table;
+  local_mount = local_mount_of table;
   login = pair_of table;
   on_demand = flag_or OnDemand table false;
 }

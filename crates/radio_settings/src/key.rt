@@ -1,6 +1,6 @@
 //! The keys of the settings.
 ghost use Rattle.std.specs.Prelude.{◌≡◌};
-ghost use Rattle.radio_settings.specs.Keys.{word};
+ghost use Rattle.radio_settings.specs.Keys.{stream_word, word};
 
 use std::fmt;
 
@@ -78,6 +78,16 @@ impl Key {
             Key::BurstSize => "burst-size",
             Key::SourceTimeout => "source-timeout",
             Key::HeaderTimeout => "header-timeout",
+            _ => self.stream_word(),
+        }
+    }
+
+    /// The word for a key of the tables `[[mount]]`, `[[relay]]` and `[slave]`, or for one of their names.
+    #[tactic(auto, unfolding(crate::specs::Keys::stream_word))]
+    fn stream_word(self) -> &'static str
+        ensures { result.now ≡ stream_word self }
+    {
+        match self {
             Key::Mount => "mount",
             Key::MountName => "mount-name",
             Key::Username => "username",
@@ -103,6 +113,7 @@ impl Key {
             Key::MasterUsername => "master-username",
             Key::MasterPassword => "master-password",
             Key::MasterUpdateInterval => "master-update-interval",
+            _ => "",
         }
     }
 }

@@ -123,9 +123,22 @@ impl Listening {
         worker: &mut Worker<S>,
     ) -> ServeFault {
         let mut conns = Vec::new(self.alloc);
+        let fault = self.serve_turns(clock, waits, worker, &mut conns);
+        drop(conns);
+        drop(self);
+        fault
+    }
+
+    fn serve_turns<C: Clock, W: Wait, S: Server + Drop>(
+        &mut self,
+        clock: &C,
+        waits: &W,
+        worker: &mut Worker<S>,
+        conns: &mut Vec<Conn<SocketLine>>,
+    ) -> ServeFault {
         let began_ms = moment(clock);
         for _ in waits.forever() {
-            if let Err(fault) = self.turn(clock, began_ms, worker, &mut conns) {
+            if let Err(fault) = self.turn(clock, began_ms, worker, conns) {
                 return fault;
             }
         }
@@ -229,30 +242,47 @@ impl Listening {
     fn line_of(&mut self, mut stream: TcpStream) -> io::Result<SocketLine> {
         stream.set_nodelay(true)?;
         let (number, readiness) = self.free_readiness()?;
-        let both = Interest::READABLE | Interest::WRITABLE;
-        self.poll
-            .registry()
-            .register(&mut stream, Token(number), both)?;
+        self.register(&mut stream, number)?;
         readiness.reset();
         let has_moved = self.has_moved.clone()?;
         Ok(SocketLine::new(stream, readiness, has_moved))
     }
 
+    /// From now on the system tells of the socket, by this number.
+    fn register(&self, stream: &mut TcpStream, number: usize) -> io::Result<()> {
+        let both = Interest::READABLE | Interest::WRITABLE;
+        self.poll.registry().register(stream, Token(number), both)
+    }
+
     /// A number that no line has, behind the one that was given last, and what is told of it.
     fn free_readiness(&mut self) -> Result<(usize, Rc<Readiness>), OutOfMemory> {
+        match self.unused_readiness()? {
+            Some(unused) => Ok(unused),
+            None => self.new_readiness(),
+        }
+    }
+
+    /// The same among those that a line has had, if one is free.
+    fn unused_readiness(&mut self) -> Result<Option<(usize, Rc<Readiness>)>, OutOfMemory> {
         let count = self.readiness.len();
         for _ in 0..count {
             self.next = if self.next < count { self.next + 1 } else { 0 };
             if let Some(readiness) = self.readiness.get(self.next) {
                 if Rc::strong_count(readiness) == 1 {
-                    return Ok((self.next, readiness.clone()?));
+                    return Ok(Some((self.next, readiness.clone()?)));
                 }
             }
         }
+        Ok(None)
+    }
+
+    /// One more.
+    fn new_readiness(&mut self) -> Result<(usize, Rc<Readiness>), OutOfMemory> {
         let readiness = Rc::new(self.alloc, Readiness::new())?;
         let shared = readiness.clone()?;
+        let number = self.readiness.len();
         self.readiness.push(readiness)?;
-        Ok((count, shared))
+        Ok((number, shared))
     }
 }
 

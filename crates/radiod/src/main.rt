@@ -42,26 +42,36 @@ fn run<W: Wait>(rt: &HostRuntime, waits: &W) -> Result<(), Fault> {
 
 /// Serves connections, with the settings of this file, until a fault.
 fn serve_file<W: Wait>(rt: &HostRuntime, waits: &W, path: &str) -> Result<(), Fault> {
-    let settings = read_settings(rt, path)?;
-    let lists = read_lists(rt, &settings)?;
+    let (settings, lists) = read_station(rt, path)?;
     Err(serve_station(rt, waits, settings, lists))
 }
 
 /// Plays the script on standard input, with the settings of this file.
 fn play_script(rt: &HostRuntime, path: &str) -> Result<(), Fault> {
+    let (settings, lists) = read_station(rt, path)?;
+    play_with_settings(rt, settings, lists)
+}
+
+/// The settings of this file, and what the files hold that they name.
+fn read_station(rt: &HostRuntime, path: &str) -> Result<(Settings, Lists), Fault> {
     let settings = read_settings(rt, path)?;
     let lists = read_lists(rt, &settings)?;
-    play_with_settings(rt, settings, lists)
+    Ok((settings, lists))
 }
 
 /// Plays the script on standard input.
 fn play_with_settings(rt: &HostRuntime, settings: Settings, lists: Lists) -> Result<(), Fault> {
     let Ok(input) = BufReader::new(rt.alloc(), rt.stdin()) else {
+        drop(settings);
+        drop(lists);
         return Err(Fault::OutOfMemory);
     };
     let mut reader = Tally::new(input);
     let mut writer = Tally::new(rt.stdout());
-    match play(rt.alloc(), settings, lists, &mut reader, &mut writer) {
+    let played = play(rt.alloc(), settings, lists, &mut reader, &mut writer);
+    drop(reader);
+    drop(writer);
+    match played {
         Ok(()) => Ok(()),
         Err(fault) => Err(Fault::Play(fault)),
     }

@@ -30,7 +30,11 @@ pub fn serve_station<W: Wait>(
             listening,
             Blank::new(PASSES),
         )),
-        Err(fault) => fault,
+        Err(fault) => {
+            drop(settings);
+            drop(lists);
+            fault
+        }
     }
 }
 
@@ -64,7 +68,9 @@ fn serve_in<W: Wait, H: House>(
 {
     let patience = patience_of(&settings);
     let hall: Hall<Unkept, H> = Hall::new(rt.alloc(), settings, lists, blank);
-    serve_through(rt, waits, &hall, listening, patience)
+    let fault = serve_through(rt, waits, &hall, listening, patience);
+    drop(hall);
+    fault
 }
 
 /// Serves connections by a worker who asks this hall.
@@ -78,7 +84,9 @@ fn serve_through<'a, W: Wait, H: House>(
     match hall.pass(waits) {
         Some(pass) => {
             let mut worker = Worker::new(rt.alloc(), Caller::new(waits, hall, pass), patience);
-            listening.serve(rt, waits, &mut worker)
+            let fault = listening.serve(rt, waits, &mut worker);
+            drop(worker);
+            fault
         }
         None => ServeFault::OutOfMemory,
     }

@@ -21,41 +21,36 @@ impl State {
         ensures frees { NeedsNoMemory change → IsOk result }
     {
         match change {
-            Change::Nothing => Ok(()),
-            Change::Answer { id } => {
-                self.house.set_state(id, ClientState::Answered);
-                Ok(())
-            }
             Change::Admit { id, peer } => self.house.admit(id, peer),
             Change::Begin { id, mount, shown } => self.house.begin(self.alloc, id, mount, shown),
             Change::Receive { mount, block } => self.take_in(mount, block),
-            Change::SetTitle { mount, title } => {
-                self.house.set_title(&mount, title);
-                Ok(())
-            }
             Change::TakeSeat { id, seat } => self.seat_listener(id, seat),
-            Change::Advance { id, place } => {
-                self.seats.advance(id, place);
+            change => {
+                self.commit_in_place(change);
                 Ok(())
             }
+        }
+    }
+
+    /// Makes a change that takes no memory.
+    fn commit_in_place(&mut self, change: Change)
+        ensures { NeedsNoMemory change → self.new ≡ changed self.old change }
+    {
+        match change {
+            Change::Answer { id } => self.house.set_state(id, ClientState::Answered),
+            Change::SetTitle { mount, title } => self.house.set_title(&mount, title),
+            Change::Advance { id, place } => self.seats.advance(id, place),
             Change::End { id, mount } => {
                 self.end_session(mount);
                 self.house.set_state(id, ClientState::Answered);
-                Ok(())
             }
             Change::EndAndLeave { id, mount } => {
                 self.end_session(mount);
                 self.forget(id);
-                Ok(())
             }
-            Change::Forget { id } => {
-                self.forget(id);
-                Ok(())
-            }
-            Change::Tick { ms } => {
-                self.tick(ms);
-                Ok(())
-            }
+            Change::Forget { id } => self.forget(id),
+            Change::Tick { ms } => self.tick(ms),
+            other => drop(other),
         }
     }
 

@@ -1,7 +1,9 @@
 //! The keys above all tables.
 ghost use Rattle.toml.specs.View.{table_view};
 ghost use Rattle.radio_settings.specs.Access.{access_fault, access_of, addresses_fault, addresses_of, relay_access_fault, relay_access_of};
+ghost use Rattle.std.specs.Prelude.{[], ◌∷◌};
 ghost use Rattle.radio_settings.specs.Reading.{Reads};
+ghost use Rattle.radio_settings.specs.Rows.{first_fault};
 
 use super::logins::login;
 use super::values::{required_text, text, text_or};
@@ -15,12 +17,27 @@ pub fn access(alloc: Global, document: &Table) -> Result<AccessSettings, Setting
     ensures { let t = table_view document.now in
         Reads (access_fault t) (access_of t) result }
 {
+    let source_password = required_text(alloc, document, Key::SourcePassword)?;
+    let admin = login(alloc, document, Key::AdminUser, "admin", Key::AdminPassword)?;
+    let (relays, addresses) = relays_and_addresses(alloc, document)?;
     Ok(AccessSettings {
-        source_password: required_text(alloc, document, Key::SourcePassword)?,
-        admin: login(alloc, document, Key::AdminUser, "admin", Key::AdminPassword)?,
-        relays: relay_access(alloc, document)?,
-        addresses: addresses(alloc, document)?,
+        source_password,
+        admin,
+        relays,
+        addresses,
     })
+}
+
+fn relays_and_addresses(
+    alloc: Global,
+    document: &Table,
+) -> Result<(RelayAccess, AddressLists), SettingsFault>
+    ensures { let t = table_view document.now in
+        Reads (first_fault (relay_access_fault t ∷ addresses_fault t ∷ [])) (relay_access_of t, addresses_of t) result }
+{
+    let relays = relay_access(alloc, document)?;
+    let addresses = addresses(alloc, document)?;
+    Ok((relays, addresses))
 }
 
 #[tactic(auto, unfolding(crate::specs::Access::relay_access_fault, crate::specs::Access::relay_access_of))]

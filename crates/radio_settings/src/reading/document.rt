@@ -4,7 +4,7 @@ ghost use Rattle.toml.specs.Parse.{parse_document};
 ghost use Rattle.toml.specs.View.{table_view};
 ghost use Rattle.radio_settings.specs.Document.{reading_of, settings_of};
 ghost use Rattle.radio_settings.specs.Parts.{apart_fault, basics_fault, basics_of, fault_by_parts, listed, listed_in, listen_and_limits_fault};
-ghost use Rattle.radio_settings.specs.Parts.{listen_and_limits_of, listen_with, lists_fault, optional_slave_fault, streams_fault, streams_of};
+ghost use Rattle.radio_settings.specs.Parts.{listen_and_limits_of, listen_with, lists_fault, optional_slave_fault, settings_with, streams_fault, streams_of};
 ghost use Rattle.radio_settings.specs.Lookup.{table_at};
 ghost use Rattle.radio_settings.specs.Slave.{slave_of};
 ghost use Rattle.radio_settings.specs.declared.key.Key.TheVariants.{Slave};
@@ -68,16 +68,8 @@ fn settings(alloc: Global, document: &Table) -> Result<Settings, SettingsFault>
         Reads (fault_by_parts d) (settings_of d) result }
 {
     let basics = read_basics(alloc, document)?;
-    let streams = read_streams(alloc, document, &basics.access, &basics.limits)?;
-    Ok(Settings {
-        access: basics.access,
-        listen: basics.listen,
-        limits: basics.limits,
-        mounts: streams.mounts,
-        other_mounts: streams.other_mounts,
-        relays: streams.relays,
-        slave: streams.slave,
-    })
+    let streams = read_streams(alloc, document, &basics)?;
+    Ok(basics.with(streams))
 }
 
 /// What is set for the whole station.
@@ -86,6 +78,24 @@ struct Basics {
     access: AccessSettings,
     listen: ListenSettings,
     limits: LimitSettings,
+}
+
+impl Basics {
+    /// All settings, with those of streams.
+    fn with(self, streams: Streams) -> Settings
+        ensures { result ≡ settings_with self streams }
+    {
+        let named = streams.named;
+        Settings {
+            access: self.access,
+            listen: self.listen,
+            limits: self.limits,
+            mounts: named.mounts,
+            other_mounts: streams.other_mounts,
+            relays: named.relays,
+            slave: named.slave,
+        }
+    }
 }
 
 /// The keys above all tables, `[listen]` and `[limits]`.
@@ -119,29 +129,45 @@ fn listen_and_limits(
 /// What is set for streams.
 #[derive(Drop)]
 struct Streams {
-    mounts: MountSettings,
+    named: NamedStreams,
     other_mounts: MountOptions,
+}
+
+fn read_streams(alloc: Global, document: &Table, basics: &Basics) -> Result<Streams, SettingsFault>
+    ensures { let d = table_view document.now in
+        Reads (streams_fault basics.now.access basics.now.limits d) (streams_of basics.now d) result }
+{
+    let named = read_named(alloc, document, &basics.access, &basics.limits)?;
+    let other_mounts = default_options(alloc, &basics.access, &basics.limits)?;
+    Ok(Streams {
+        named,
+        other_mounts,
+    })
+}
+
+/// What is set for streams by their names.
+#[derive(Drop)]
+struct NamedStreams {
+    mounts: MountSettings,
     relays: RelaySettings,
     slave: Option<SlaveSetting>,
 }
 
 /// The mounts, the relays and `[slave]`; then the names that stand twice.
 #[tactic(auto, unfolding(crate::specs::Parts::streams_fault, crate::specs::Parts::apart_fault))]
-fn read_streams(
+fn read_named(
     alloc: Global,
     document: &Table,
     access: &AccessSettings,
     limits: &LimitSettings,
-) -> Result<Streams, SettingsFault>
+) -> Result<NamedStreams, SettingsFault>
     ensures { let d = table_view document.now in
-        Reads (streams_fault access.now limits.now d) (streams_of access.now limits.now d) result }
+        Reads (streams_fault access.now limits.now d) (listed_in access.now limits.now d) result }
 {
     let lists = read_lists(alloc, document, access, limits)?;
     let (mounts, relays) = apart(alloc, lists.mounts, lists.relays)?;
-    let other_mounts = default_options(alloc, access, limits)?;
-    Ok(Streams {
+    Ok(NamedStreams {
         mounts,
-        other_mounts,
         relays,
         slave: lists.slave,
     })

@@ -1,5 +1,5 @@
 //! The tables `[[mount]]`.
-ghost use Rattle.std.specs.Prelude.{◌≡◌, IfOk, map};
+ghost use Rattle.std.specs.Prelude.{◌≡◌, IfOk, [], ◌∷◌, map};
 ghost use Rattle.toml.specs.Data.{no_members};
 ghost use Rattle.std.specs.List.{flat_map};
 ghost use Rattle.toml.specs.View.{table_view};
@@ -76,12 +76,28 @@ fn options(
     ensures { let t = table_view table.now in
         Reads (options_fault t) (options_of access.now limits.now t) result }
 {
+    let source = source(alloc, table, access)?;
+    let listeners = listeners(table)?;
+    let (stream, users) = stream_and_users(alloc, table, limits)?;
     Ok(MountOptions {
-        source: source(alloc, table, access)?,
-        listeners: listeners(table)?,
-        stream: stream(alloc, table, limits)?,
-        users: users(alloc, table)?,
+        source,
+        listeners,
+        stream,
+        users,
     })
+}
+
+fn stream_and_users(
+    alloc: Global,
+    table: &Table,
+    limits: &LimitSettings,
+) -> Result<(StreamOptions, UserOptions), SettingsFault>
+    ensures { let t = table_view table.now in
+        Reads (first_fault (stream_fault t ∷ users_fault t ∷ [])) (stream_of limits.now t, users_of t) result }
+{
+    let stream = stream(alloc, table, limits)?;
+    let users = users(alloc, table)?;
+    Ok((stream, users))
 }
 
 #[tactic(auto, unfolding(crate::specs::Mounts::source_fault, crate::specs::Mounts::source_of))]

@@ -3,14 +3,14 @@ ghost use Rattle.std.specs.Prelude.{◌≡◌, map};
 ghost use Rattle.std.specs.List.{flat_map};
 ghost use Rattle.toml.specs.View.{table_view};
 ghost use Rattle.radio_settings.specs.Parts.{relays_fault};
-ghost use Rattle.radio_settings.specs.Relays.{login_from, pair_fault, pair_of, relay_fault, relay_rows, relay_of, relays_of};
+ghost use Rattle.radio_settings.specs.Relays.{local_mount_of, login_from, mount_of, mounts_fault, pair_fault, pair_of, relay_fault, relay_rows, relay_of, relays_of};
 ghost use Rattle.radio_settings.specs.Rows.{faults_in, first_fault};
 ghost use Rattle.radio_settings.specs.Reading.{Reads, ReadsAs};
 
 use super::masters::master;
 use super::tables::tables_at;
 use super::values::{name_or, no_flag, required_name, text_with};
-use crate::{Key, Login, RelaySetting, SettingsFault, Text};
+use crate::{Key, Login, MountName, RelaySetting, SettingsFault, Text};
 use std::alloc::Global;
 use toml::Table;
 
@@ -41,14 +41,25 @@ fn relay(alloc: Global, table: &Table) -> Result<RelaySetting, SettingsFault>
         Reads (relay_fault t) (relay_of t) result }
 {
     let master = master(alloc, table, Key::Server, Key::Port)?;
-    let mount = required_name(table, Key::Mount)?;
+    let (mount, local_mount) = mounts(table)?;
     Ok(RelaySetting {
         master,
         mount,
-        local_mount: name_or(table, Key::LocalMount, mount)?,
+        local_mount,
         login: pair(alloc, table)?,
         on_demand: no_flag(table, Key::OnDemand)?,
     })
+}
+
+/// The mount to pull, and the mount that it feeds.
+#[tactic(auto, unfolding(crate::specs::Relays::mounts_fault))]
+fn mounts(table: &Table) -> Result<(MountName, MountName), SettingsFault>
+    ensures { let t = table_view table.now in
+        Reads (mounts_fault t) (mount_of t, local_mount_of t) result }
+{
+    let mount = required_name(table, Key::Mount)?;
+    let local_mount = name_or(table, Key::LocalMount, mount)?;
+    Ok((mount, local_mount))
 }
 
 /// A user and a password: both, or neither.

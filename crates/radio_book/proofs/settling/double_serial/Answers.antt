@@ -1,4 +1,4 @@
-use Rattle.std.proofs.Common.{refl, get_or, ◌-◌, arith}
+use Rattle.std.proofs.Common.{get_or, ◌-◌, arith}
 use Rattle.radio_book.proofs.Settled.{counted_twice, neighbour}
 use Rattle.radio_book.proofs.settling.double_serial.Goals as goal
 

@@ -6,14 +6,14 @@ use Rattle.radio_floor.proofs.whole.play.Goals as goal
 pub returns-clause-plays : goal.returns-clause-plays
 returns-clause-plays g c =
     let server = c.new-server.result in
-    let last = c.play_with.new.performer in
-    let result = c.play_with.result in
+    let last = c.play_with-played.new.performer in
+    let result = c.play_with-played.result in
     let remaining = g.R.Read.remaining in
     let contents = g.W.Write.contents in
     let calls = g.W.Counted.calls in
     let old = c.args.writer.now in
-    let new = c.play_with.new.writer in
-    known-weaker (remaining c.args.reader.now) (remaining c.play_with.new.reader)
+    let new = c.play_with-played.new.writer in
+    known-weaker (remaining c.args.reader.now) (remaining c.play_with-played.new.reader)
     (λ script left. Writes (contents old) (contents new) (calls old) (calls new)
     (λ written turns. Plays server_conduct server 1 script left result written turns last))
     (λ script left. Writes (contents old) (contents new) (calls old) (calls new)
@@ -23,4 +23,4 @@ returns-clause-plays g c =
     (λ written turns. PlaysScript c.args.settings c.args.lists script left result written turns)
     (λ written turns. server_plays server last c.args.settings c.args.lists script left result written turns c.new-server.ensures.core
     c.new-server.ensures.connections))
-    c.play_with.ensures.plays
+    c.play_with-played.ensures.plays

@@ -7,18 +7,18 @@ use Rattle.radio_floor.proofs.whole.run.Goals as goal
 
 pub returns-clause-ok : goal.returns-clause-ok
 returns-clause-ok c =
-    IfOk-weaker c.run_with.result
-    (λ text. Runs server_conduct c.new-server.result 1 c.args.deliveries.now text.items None c.run_with.new.performer)
+    IfOk-weaker c.run_with-transcript.result
+    (λ text. Runs server_conduct c.new-server.result 1 c.args.deliveries.now text.items None c.run_with-transcript.new.performer)
     (λ text. IsTranscriptOf c.args.settings c.args.lists c.args.deliveries.now text.items None)
-    (λ text r. server_runs c.new-server.result c.run_with.new.performer c.args.settings c.args.lists c.args.deliveries.now text.items None
+    (λ text r. server_runs c.new-server.result c.run_with-transcript.new.performer c.args.settings c.args.lists c.args.deliveries.now text.items None
     c.new-server.ensures.core c.new-server.ensures.connections r)
-    c.run_with.ensures.ok
+    c.run_with-transcript.ensures.ok
 
 pub returns-clause-delivery : goal.returns-clause-delivery
 returns-clause-delivery c number e =
-    let d : (text : List ℕ) × Runs server_conduct c.new-server.result 1 c.args.deliveries.now text (Some number) c.run_with.new.performer =
-    c.run_with.ensures.delivery number e in (
+    let d : (text : List ℕ) × Runs server_conduct c.new-server.result 1 c.args.deliveries.now text (Some number) c.run_with-transcript.new.performer =
+    c.run_with-transcript.ensures.delivery number e in (
       d.0,
-      server_runs c.new-server.result c.run_with.new.performer c.args.settings c.args.lists c.args.deliveries.now d.0
+      server_runs c.new-server.result c.run_with-transcript.new.performer c.args.settings c.args.lists c.args.deliveries.now d.0
           (Some number) c.new-server.ensures.core c.new-server.ensures.connections d.1,
     )

@@ -1,4 +1,4 @@
-use Rattle.std.proofs.Common.{rules, true, false, sym, ◌∙◌, ◌≡◌}
+use Rattle.std.proofs.Common.{rules, false, sym, ◌∙◌, ◌≡◌}
 use Rattle.std.proofs.lemmas.Bool.{false≢true}
 use Rattle.radio_book.proofs.Telling.{legal}
 use Rattle.radio_book.proofs.book.Book.apply.Goals as goal
