@@ -101,16 +101,21 @@ fn are(alloc: Global, pieces: &Pieces, bytes: &[u8]) -> Result<bool, OutOfMemory
     Ok(written.as_slice() == bytes)
 }
 
-fn is_kept(alloc: Global, kept: &Kept) -> Result<bool, OutOfMemory> {
-    let queue = queue_of(alloc, kept.limit, kept.pushed)?;
+/// Whether the queue begins and ends where it is to.
+fn has_places(queue: &BlockQueue, kept: &Kept) -> bool {
+    queue.offset() == Place::new(kept.offset) && queue.end() == Place::new(kept.end)
+}
+
+/// Whether all that the queue keeps is drawn at once.
+fn draws_all(alloc: Global, queue: &BlockQueue, kept: &Kept) -> Result<bool, OutOfMemory> {
     let mut pieces = Pieces::new(alloc);
     let drawn = queue.draw(queue.offset(), 1000, &mut pieces);
-    let same = are(alloc, &pieces, kept.bytes)?;
-    Ok(
-        same && queue.offset() == Place::new(kept.offset)
-            && queue.end() == Place::new(kept.end)
-            && drawn == Ok(Place::new(kept.end)),
-    )
+    Ok(drawn == Ok(Place::new(kept.end)) && are(alloc, &pieces, kept.bytes)?)
+}
+
+fn is_kept(alloc: Global, kept: &Kept) -> Result<bool, OutOfMemory> {
+    let queue = queue_of(alloc, kept.limit, kept.pushed)?;
+    Ok(has_places(&queue, kept) && draws_all(alloc, &queue, kept)?)
 }
 
 #[test]

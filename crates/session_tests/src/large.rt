@@ -76,10 +76,16 @@ fn count_taken(session: &mut Session, bytes: &[u8]) -> Result<usize, OutOfMemory
 }
 
 /// How many events the data are behind a source's head.
+fn count_behind_head(session: &mut Session, bytes: &[u8]) -> Result<usize, OutOfMemory> {
+    count_taken(session, b"SOURCE /a HTTP/1.0\r\n\r\n")?;
+    count_taken(session, bytes)
+}
+
 fn count_blocks(alloc: Global, bytes: &[u8]) -> Result<usize, OutOfMemory> {
     let mut session = Session::new(alloc, 1, Peer::of_v4(0x0a00_0001));
-    count_taken(&mut session, b"SOURCE /a HTTP/1.0\r\n\r\n")?;
-    count_taken(&mut session, bytes)
+    let count = count_behind_head(&mut session, bytes);
+    drop(session);
+    count
 }
 
 fn blocks_of_a_mebibyte(alloc: Global) -> Result<usize, OutOfMemory> {
@@ -158,7 +164,20 @@ fn the_largest_heads_in_pieces(rt: HostRuntime) -> Result<(), Fail> {
     Ok(())
 }
 
-/// What a listener is told of a draw, who has such metadata.
+/// A listener is admitted, who has such metadata, and draws; what he is told of the draw.
+fn tell_draw_alone(
+    alloc: Global,
+    session: &mut Session,
+    interval: Option<u32>,
+    bytes: &[u8],
+    out: &mut Vec<u8>,
+) -> Result<(), OutOfMemory> {
+    tell_seat(alloc, session, interval, out)?;
+    out.clear();
+    tell_draw(alloc, session, bytes, out)?;
+    Ok(())
+}
+
 fn told_of_draw(
     alloc: Global,
     interval: Option<u32>,
@@ -166,9 +185,9 @@ fn told_of_draw(
 ) -> Result<Vec<u8>, OutOfMemory> {
     let mut session = Session::new(alloc, 1, Peer::of_v4(0x0a00_0001));
     let mut out = Vec::new(alloc);
-    tell_seat(alloc, &mut session, interval, &mut out)?;
-    out.clear();
-    tell_draw(alloc, &mut session, bytes, &mut out)?;
+    let done = tell_draw_alone(alloc, &mut session, interval, bytes, &mut out);
+    drop(session);
+    done?;
     Ok(out)
 }
 

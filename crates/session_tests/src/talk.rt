@@ -205,7 +205,9 @@ pub fn converse(alloc: Global, server: Server, comes: &[&[u8]]) -> Result<Talk, 
         told: Vec::new(alloc),
         state: State::Running,
     };
-    converse_on(alloc, server, &mut session, comes, &mut talk)?;
+    let done = converse_on(alloc, server, &mut session, comes, &mut talk);
+    drop(session);
+    done?;
     Ok(talk)
 }
 

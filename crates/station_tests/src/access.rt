@@ -40,13 +40,25 @@ fn lets_in(lists: &Lists, path: &[u8], pair: Option<&Pair>) -> bool {
     }
 }
 
-/// As the row says at `/a`, and at `/b`, which has no users, whatever he sends.
+/// Whether `/a` lets who sends this in, as is wanted, and `/b`, which has no users, whatever he sends.
+fn lets_sender_in(
+    alloc: Global,
+    lists: &Lists,
+    value: &[u8],
+    wanted: bool,
+) -> Result<bool, OutOfMemory> {
+    let pair = basic(alloc, value)?;
+    let there = lets_in(lists, b"/a", pair.as_ref());
+    Ok(there == wanted && lets_in(lists, b"/b", pair.as_ref()))
+}
+
+/// As the row says.
 fn is_let_in(alloc: Global, row: &UserRow) -> Result<bool, OutOfMemory> {
     let (text, value, wanted) = *row;
     let lists = lists_of(alloc, text)?;
-    let pair = basic(alloc, value)?;
-    let there = lets_in(&lists, b"/a", pair.as_ref());
-    Ok(there == wanted && lets_in(&lists, b"/b", pair.as_ref()))
+    let is_so = lets_sender_in(alloc, &lists, value, wanted);
+    drop(lists);
+    is_so
 }
 
 #[test]
@@ -154,7 +166,9 @@ fn are_pairs(alloc: Global, settings: &Settings) -> bool {
 
 fn station_has_its_pairs(alloc: Global) -> Result<bool, SettingsFault> {
     let settings = Settings::read(alloc, STATION)?;
-    Ok(are_pairs(alloc, &settings))
+    let are_pairs = are_pairs(alloc, &settings);
+    drop(settings);
+    Ok(are_pairs)
 }
 
 #[test]
@@ -180,13 +194,22 @@ fn content_types_are_refused(rt: HostRuntime) {
     }
 }
 
-/// Whether one more connection is taken in; `None` where memory was refused, or it is denied by another rule.
-fn takes_in(alloc: Global, core: &mut Core) -> Option<bool> {
-    match core.step(Call::Arrive.event(alloc).ok()?).ok()? {
+/// Whether a connection was taken in; `None` where it was denied by another rule.
+fn is_taken_in(reply: &Reply) -> Option<bool> {
+    match reply {
         Reply::Arrived(_) => Some(true),
         Reply::Deny(Rule::TooManyClients) => Some(false),
         _ => None,
     }
+}
+
+/// Whether one more connection is; `None` where memory was refused, too.
+fn takes_in(alloc: Global, core: &mut Core) -> Option<bool> {
+    let event = Call::Arrive.event(alloc).ok()?;
+    let reply = core.step(event).ok()?;
+    let is_taken_in = is_taken_in(&reply);
+    drop(reply);
+    is_taken_in
 }
 
 /// How many connections a core takes in before it denies one; `None` where it denies none of 200.

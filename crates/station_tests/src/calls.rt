@@ -8,6 +8,7 @@ use radio_core::{Core, Event, ListenRequest, OutOfMemory, Reply, SourceRequest};
 use radio_creds::basic;
 use radio_settings::{Settings, SettingsFault, Shown};
 use std::alloc::Global;
+use std::fmt;
 use std::process::Abort;
 use std::test::Fail;
 
@@ -23,7 +24,7 @@ const ANN: &[u8] = b"Basic YW5uOmFiYw==";
 const BOB: &[u8] = b"Basic Ym9iOmFiYw==";
 
 /// An event of a table, by its client's number, and the mount, the data or the room.
-#[derive(Clone, Copy, Debug)]
+#[derive(Clone, Copy)]
 pub enum Call {
     Arrive,
     /// A source that tells of its stream: `audio/aac`, the name `Night`.
@@ -62,6 +63,41 @@ impl Call {
             Call::Leave(id) => Ok(Event::Leave { id: *id }),
             Call::Clock(ms) => Ok(Event::Clock { ms: *ms }),
         }
+    }
+}
+
+impl Call {
+    fn name(&self) -> &'static str {
+        match self {
+            Call::Arrive => "Arrive",
+            Call::Source(..) => "Source",
+            Call::PlainSource(..) => "PlainSource",
+            Call::Push(..) => "Push",
+            Call::SourceEnd(..) => "SourceEnd",
+            Call::Listen(..) => "Listen",
+            Call::ListenAsAnn(..) => "ListenAsAnn",
+            Call::ListenAsBob(..) => "ListenAsBob",
+            Call::Draw(..) => "Draw",
+            Call::Leave(..) => "Leave",
+            Call::Clock(..) => "Clock",
+        }
+    }
+
+    /// Its client, or the moment.
+    fn number(&self) -> u64 {
+        match self {
+            Call::Arrive => 0,
+            Call::Source(id, _) | Call::PlainSource(id, _) | Call::Push(id, _) => *id,
+            Call::Listen(id, _) | Call::ListenAsAnn(id, _) | Call::ListenAsBob(id, _) => *id,
+            Call::SourceEnd(id) | Call::Draw(id, _) | Call::Leave(id) => *id,
+            Call::Clock(ms) => *ms,
+        }
+    }
+}
+
+impl fmt::Debug for Call {
+    fn fmt<W: fmt::Write>(&self, f: &mut fmt::Formatter<W>) -> fmt::Result {
+        write!(f, "{}({})", self.name(), self.number())
     }
 }
 
@@ -128,7 +164,9 @@ pub fn exercised<R: Abort, E: Exercise>(
     mut core: Core,
     asked: &E,
 ) -> Result<(), Fail> {
-    asked.exercise(rt, alloc, &mut core)
+    let done = asked.exercise(rt, alloc, &mut core);
+    drop(core);
+    done
 }
 
 /// It replies as one table says, and then as the next.
@@ -212,7 +250,9 @@ fn check_three(
 ) -> Result<(), Fail> {
     let event = call.event(alloc)?;
     let three = core.step3(event)?;
-    check_replies(rt, alloc, &three, call, want)
+    let checked = check_replies(rt, alloc, &three, call, want);
+    drop(three);
+    checked
 }
 
 fn check_replies(
@@ -236,7 +276,9 @@ pub fn check_words(rt: &impl Abort, call: &Call, words: &str, want: &str) {
 pub fn told_after(alloc: Global, core: &mut Core, call: &Call) -> Result<String, OutOfMemory> {
     let event = call.event(alloc)?;
     let reply = core.step(event)?;
-    told(alloc, &reply)
+    let words = told(alloc, &reply);
+    drop(reply);
+    words
 }
 
 /// A reply in words.

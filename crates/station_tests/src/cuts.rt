@@ -1,14 +1,15 @@
 //! Scripts of which one delivery comes in two: the transcript is the same wherever it is cut.
 
 use crate::scripts::{
-    EIGHT_BYTES, EIGHT_BYTES_TRANSCRIPT, PUT_CHUNKED, PUT_CHUNKED_TRANSCRIPT, deliveries, settings,
+    EIGHT_BYTES, EIGHT_BYTES_TRANSCRIPT, PUT_CHUNKED, PUT_CHUNKED_TRANSCRIPT, deliveries,
+    run_at_station,
 };
 use bytes::Bytes;
-use radio_access::Lists;
 use radio_core::OutOfMemory;
-use radio_floor::{Delivery, Input, run};
+use radio_floor::{Delivery, Input};
 use radio_settings::SettingsFault;
 use std::alloc::Global;
+use std::mem;
 use std::process::Abort;
 
 // How many bytes the delivery of that place brings; none where it brings no bytes.
@@ -24,6 +25,26 @@ fn length_of(all: &[Delivery], place: usize) -> usize {
     }
 }
 
+// Two deliveries of these bytes, of which the first has so many at most.
+fn parts(
+    alloc: Global,
+    label: u32,
+    bytes: &[u8],
+    at: usize,
+) -> Result<(Delivery, Delivery), OutOfMemory> {
+    let (first, second) = bytes.split_at(at.min(bytes.len()));
+    let first = Bytes::copy_from_slice(alloc, first)?;
+    let second = Bytes::copy_from_slice(alloc, second)?;
+    Ok((data_to(label, first), data_to(label, second)))
+}
+
+fn data_to(label: u32, bytes: Bytes) -> Delivery {
+    Delivery::To {
+        label,
+        input: Input::Data(bytes),
+    }
+}
+
 // The delivery of that place comes in two, of which the first has so many bytes at most; one that
 // brings no bytes is left whole.
 fn cut(alloc: Global, all: &mut Vec<Delivery>, place: usize, at: usize) -> Result<(), OutOfMemory> {
@@ -36,21 +57,9 @@ fn cut(alloc: Global, all: &mut Vec<Delivery>, place: usize, at: usize) -> Resul
     else {
         return Ok(());
     };
-    let label = *label;
-    let at = at.min(bytes.len());
-    let first = Bytes::copy_from_slice(alloc, &bytes[..at])?;
-    let second = Bytes::copy_from_slice(alloc, &bytes[at..])?;
-    all[place] = Delivery::To {
-        label,
-        input: Input::Data(first),
-    };
-    all.insert(
-        place + 1,
-        Delivery::To {
-            label,
-            input: Input::Data(second),
-        },
-    )?;
+    let (first, second) = parts(alloc, *label, bytes, at)?;
+    drop(mem::replace(&mut all[place], first));
+    all.insert(place + 1, second)?;
     Ok(())
 }
 
@@ -64,12 +73,7 @@ fn runs_cut_to(
 ) -> Result<bool, SettingsFault> {
     let mut all = deliveries(alloc, script)?;
     cut(alloc, &mut all, place, at)?;
-    match run(
-        alloc,
-        settings(alloc, 8)?,
-        Lists::new(alloc),
-        all.as_slice(),
-    ) {
+    match run_at_station(alloc, all.as_slice())? {
         Ok(text) => Ok(text.as_slice() == transcript),
         Err(_) => Ok(false),
     }

@@ -25,9 +25,15 @@ const TABLE: &[(Call, &str)] = &[
 /// The reply in words, where memory may be refused once on the way.
 fn told_at_last(alloc: Global, core: &mut Core, call: &Call) -> Result<String, OutOfMemory> {
     let reply = step_at_last(alloc, core, call)?;
-    match told(alloc, &reply) {
+    let words = words_at_last(alloc, &reply);
+    drop(reply);
+    words
+}
+
+fn words_at_last(alloc: Global, reply: &Reply) -> Result<String, OutOfMemory> {
+    match told(alloc, reply) {
         Ok(words) => Ok(words),
-        Err(_) => told(alloc, &reply),
+        Err(_) => told(alloc, reply),
     }
 }
 

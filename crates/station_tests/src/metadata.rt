@@ -10,10 +10,10 @@ use std::alloc::Global;
 use std::test::Fail;
 
 /// What is drawn at once, and the title that the mount has then.
-type Drawing = (&'static str, Option<&'static str>);
+type Drawing<'a> = (&'a str, Option<&'a str>);
 
 /// Draws at an interval, and what goes out behind the head.
-type Woven = (Option<u32>, &'static [Drawing], &'static str);
+type Woven = (Option<u32>, &'static [Drawing<'static>], &'static str);
 
 const WOVEN: &[Woven] = &[
     // a title between the data, which is not sent again
@@ -88,27 +88,69 @@ fn seated(alloc: Global, interval: Option<u32>) -> Result<Reply, OutOfMemory> {
     Ok(Reply::Seated { interval, shown })
 }
 
-fn listener(
+fn session(alloc: Global) -> Session {
+    Session::new(alloc, 1, Peer::of_v4(0x0a00_0001))
+}
+
+/// A listener is admitted.
+fn seat(
     alloc: Global,
+    session: &mut Session,
     interval: Option<u32>,
     out: &mut Vec<u8>,
-) -> Result<Session, OutOfMemory> {
-    let mut session = Session::new(alloc, 1, Peer::of_v4(0x0a00_0001));
+) -> Result<(), OutOfMemory> {
     let reply = seated(alloc, interval)?;
     session.give(reply, out)?;
-    Ok(session)
+    Ok(())
+}
+
+/// He draws once.
+fn draw(
+    alloc: Global,
+    session: &mut Session,
+    drawing: &Drawing,
+    out: &mut Vec<u8>,
+) -> Result<(), OutOfMemory> {
+    let (data, text) = *drawing;
+    let title = title_of(alloc, text)?;
+    let reply = drawn(alloc, data, title)?;
+    session.give(reply, out)?;
+    Ok(())
+}
+
+/// What goes out behind the head of one who is admitted and draws.
+fn draw_all(
+    alloc: Global,
+    session: &mut Session,
+    interval: Option<u32>,
+    drawings: &[Drawing],
+    out: &mut Vec<u8>,
+) -> Result<(), OutOfMemory> {
+    seat(alloc, session, interval, out)?;
+    out.clear();
+    for drawing in drawings {
+        draw(alloc, session, drawing, out)?;
+    }
+    Ok(())
+}
+
+/// The same of a session of his own.
+fn woven(
+    alloc: Global,
+    interval: Option<u32>,
+    drawings: &[Drawing],
+    out: &mut Vec<u8>,
+) -> Result<(), OutOfMemory> {
+    let mut session = session(alloc);
+    let done = draw_all(alloc, &mut session, interval, drawings, out);
+    drop(session);
+    done
 }
 
 fn is_woven(alloc: Global, row: &Woven) -> Result<bool, OutOfMemory> {
     let (interval, drawings, want) = row;
     let mut out = Vec::new(alloc);
-    let mut session = listener(alloc, *interval, &mut out)?;
-    out.clear();
-    for (data, text) in *drawings {
-        let title = title_of(alloc, *text)?;
-        let reply = drawn(alloc, data, title)?;
-        session.give(reply, &mut out)?;
-    }
+    woven(alloc, *interval, drawings, &mut out)?;
     Ok(out.as_slice() == want.as_bytes())
 }
 
@@ -133,9 +175,17 @@ const HEADS: &[(Option<u32>, &str)] = &[
     ),
 ];
 
+/// What goes out to one who is admitted.
+fn head(alloc: Global, interval: Option<u32>, out: &mut Vec<u8>) -> Result<(), OutOfMemory> {
+    let mut session = session(alloc);
+    let done = seat(alloc, &mut session, interval, out);
+    drop(session);
+    done
+}
+
 fn is_told(alloc: Global, interval: Option<u32>, want: &str) -> Result<bool, OutOfMemory> {
     let mut out = Vec::new(alloc);
-    listener(alloc, interval, &mut out)?;
+    head(alloc, interval, &mut out)?;
     Ok(out.as_slice() == want.as_bytes())
 }
 
@@ -149,21 +199,25 @@ fn the_head_tells_the_interval(rt: HostRuntime) -> Result<(), Fail> {
 
 /// How many bytes go out for one byte of data and a title of so many letters, which is cut to 4065.
 fn length_with_title(alloc: Global, letters: usize) -> Result<usize, OutOfMemory> {
-    let mut out = Vec::new(alloc);
-    let mut session = listener(alloc, Some(1), &mut out)?;
-    out.clear();
     let text = "x".repeat(alloc, letters)?;
-    let title = title_of(alloc, Some(text.as_str()))?;
-    let reply = drawn(alloc, "a", title)?;
-    session.give(reply, &mut out)?;
+    let mut out = Vec::new(alloc);
+    woven(alloc, Some(1), &[("a", Some(text.as_str()))], &mut out)?;
     Ok(out.len())
 }
 
+/// Whether a title of so many letters fills a block.
+fn fills_a_block(alloc: Global, letters: usize) -> Result<bool, OutOfMemory> {
+    Ok(length_with_title(alloc, letters)? == 4082)
+}
+
+/// One letter less than the longest title has, as many, and one more.
+const LENGTHS: &[usize] = &[4064, 4065, 4066];
+
 #[test]
 fn the_longest_title_fills_a_block(rt: HostRuntime) -> Result<(), Fail> {
-    assert_eq!(rt; length_with_title(rt.alloc(), 4064)?, 4082);
-    assert_eq!(rt; length_with_title(rt.alloc(), 4065)?, 4082);
-    assert_eq!(rt; length_with_title(rt.alloc(), 4066)?, 4082);
+    for letters in LENGTHS {
+        assert!(rt; fills_a_block(rt.alloc(), *letters)?, "{letters}");
+    }
     Ok(())
 }
 
@@ -180,14 +234,25 @@ const ASKING: &[(&str, bool)] = &[
     ("Range: bytes=0-\r\nIcy-MetaData: 1\r\n", true),
 ];
 
+/// The events of a session's first bytes.
+fn heard(alloc: Global, bytes: &[u8]) -> Result<Vec<Event>, OutOfMemory> {
+    let mut session = session(alloc);
+    let events = session.take(bytes);
+    drop(session);
+    events
+}
+
+fn wants_metadata(events: &[Event]) -> bool {
+    match events.first() {
+        Some(Event::Listen(asked)) => asked.wants_metadata,
+        _ => false,
+    }
+}
+
 fn asks_for_metadata(alloc: Global, headers: &str) -> Result<bool, OutOfMemory> {
     let head = format!(in alloc; "GET /a HTTP/1.0\r\n{headers}\r\n")?;
-    let mut session = Session::new(alloc, 1, Peer::of_v4(0x0a00_0001));
-    let events = session.take(head.as_bytes())?;
-    match events.first() {
-        Some(Event::Listen(asked)) => Ok(asked.wants_metadata),
-        _ => Ok(false),
-    }
+    let events = heard(alloc, head.as_bytes())?;
+    Ok(wants_metadata(events.as_slice()))
 }
 
 #[test]
@@ -215,8 +280,11 @@ const NAMES: &[(&str, &str)] = &[
 
 fn told_by_source(alloc: Global, headers: &str) -> Result<String, OutOfMemory> {
     let head = format!(in alloc; "SOURCE /a HTTP/1.0\r\n{headers}\r\n")?;
-    let mut session = Session::new(alloc, 1, Peer::of_v4(0x0a00_0001));
-    let events = session.take(head.as_bytes())?;
+    let events = heard(alloc, head.as_bytes())?;
+    words_of_first(alloc, events.as_slice())
+}
+
+fn words_of_first(alloc: Global, events: &[Event]) -> Result<String, OutOfMemory> {
     match events.first() {
         Some(Event::Source(asked)) => words_of(alloc, &asked.shown),
         _ => "nothing".to_string(alloc),
@@ -230,14 +298,15 @@ fn words_of(alloc: Global, shown: &Shown) -> Result<String, OutOfMemory> {
     format!(in alloc; "{content_type},{name},{genre}")
 }
 
+/// Whether it tells that by these headers.
+fn source_tells(alloc: Global, headers: &str, want: &str) -> Result<bool, OutOfMemory> {
+    Ok(told_by_source(alloc, headers)?.as_str() == want)
+}
+
 #[test]
 fn a_source_names_its_stream(rt: HostRuntime) -> Result<(), Fail> {
     for (headers, want) in NAMES {
-        assert_eq!(rt;
-            told_by_source(rt.alloc(), headers)?.as_str(),
-            *want,
-            "at {headers:?}"
-        );
+        assert!(rt; source_tells(rt.alloc(), headers, want)?, "at {headers:?}");
     }
     Ok(())
 }

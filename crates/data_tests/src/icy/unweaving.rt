@@ -122,11 +122,16 @@ fn is_told_at_each_cut(alloc: Global, stream: &[u8], want: &[u8]) -> Result<bool
     Ok(true)
 }
 
+/// Whether the longest title is told of its stream, wherever that is cut.
+fn is_longest_told(alloc: Global, stream: &[u8]) -> Result<bool, OutOfMemory> {
+    let want = enclosed(alloc, b"abcd<StreamTitle='", LONGEST, b"';>ef")?;
+    is_told_at_each_cut(alloc, stream, want.as_slice())
+}
+
 #[test]
 fn longest_block_cut_at_each_byte(rt: HostRuntime) -> Result<(), OutOfMemory> {
     let stream = enclosed(rt.alloc(), b"abcd\xffStreamTitle='", LONGEST, b"';ef")?;
-    let want = enclosed(rt.alloc(), b"abcd<StreamTitle='", LONGEST, b"';>ef")?;
-    assert!(rt; is_told_at_each_cut(rt.alloc(), stream.as_slice(), want.as_slice())?);
+    assert!(rt; is_longest_told(rt.alloc(), stream.as_slice())?);
     Ok(())
 }
 
@@ -154,9 +159,10 @@ fn room(alloc: Global) -> Result<Vec<u8>, OutOfMemory> {
 /// The stream of a title between sound, in pieces.
 const X_PIECES: &[&[u8]] = &[b"abcd\x01Stream", b"Title='X", b"';efgh\0"];
 
-fn feed_x(unweaver: &mut Unweaver, told: &mut Vec<u8>) -> Result<(), OutOfMemory> {
+fn feed_x(alloc: Global, told: &mut Vec<u8>) -> Result<(), OutOfMemory> {
+    let mut unweaver = Unweaver::new(alloc, 4);
     for piece in X_PIECES {
-        feed_or_repeat(unweaver, piece, told)?;
+        feed_or_repeat(&mut unweaver, piece, told)?;
     }
     Ok(())
 }
@@ -164,8 +170,7 @@ fn feed_x(unweaver: &mut Unweaver, told: &mut Vec<u8>) -> Result<(), OutOfMemory
 #[test]
 fn refused_unweaving_changes_nothing(rt: HostRuntime) -> Result<(), OutOfMemory> {
     let mut told = room(rt.alloc())?;
-    let mut unweaver = Unweaver::new(rt.alloc(), 4);
-    feed_x(&mut unweaver, &mut told)?;
+    feed_x(rt.alloc(), &mut told)?;
     assert!(rt; told.as_slice() == X_TOLD);
     Ok(())
 }

@@ -119,12 +119,23 @@ fn weave_or_repeat(weaver: &mut Weaver, piece: &[u8], out: &mut Vec<u8>) -> bool
         || out.len() == before && weaver.weave(piece, Some(b"X"), out).is_ok()
 }
 
+/// The sound of `X_STREAM`, in pieces.
+const X_SOUND: &[&[u8]] = &[b"abc", b"def", b"gh"];
+
+/// Whether each of them is woven in the end.
+fn weave_x(alloc: Global, out: &mut Vec<u8>) -> bool {
+    let mut weaver = Weaver::new(alloc, 4);
+    for piece in X_SOUND {
+        if !weave_or_repeat(&mut weaver, piece, out) {
+            return false;
+        }
+    }
+    true
+}
+
 #[test]
 fn refused_weaving_changes_nothing(rt: HostRuntime) {
-    let mut weaver = Weaver::new(rt.alloc(), 4);
     let mut out = Vec::new(rt.alloc());
-    for piece in [b"abc".as_slice(), b"def", b"gh"] {
-        assert!(rt; weave_or_repeat(&mut weaver, piece, &mut out));
-    }
+    assert!(rt; weave_x(rt.alloc(), &mut out));
     assert!(rt; out.as_slice() == X_STREAM);
 }

@@ -282,10 +282,12 @@ fn is_station(settings: &Settings, want: &Station) -> bool {
 
 /// Whether a text sets this station.
 fn sets(alloc: Global, text: &str, want: &Station) -> bool {
-    match Settings::read(alloc, text) {
-        Ok(settings) => is_station(&settings, want),
-        Err(_) => false,
-    }
+    let Ok(settings) = Settings::read(alloc, text) else {
+        return false;
+    };
+    let is_wanted = is_station(&settings, want);
+    drop(settings);
+    is_wanted
 }
 
 /// Texts, and what they set.

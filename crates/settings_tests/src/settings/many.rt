@@ -39,10 +39,12 @@ fn has_all(settings: &Settings, size: usize) -> bool {
 
 /// Whether a text sets so many mounts and relays.
 fn sets(alloc: Global, text: &str, size: usize) -> bool {
-    match Settings::read(alloc, text) {
-        Ok(settings) => has_all(&settings, size),
-        Err(_) => false,
-    }
+    let Ok(settings) = Settings::read(alloc, text) else {
+        return false;
+    };
+    let is_wanted = has_all(&settings, size);
+    drop(settings);
+    is_wanted
 }
 
 #[test]
