@@ -55,8 +55,13 @@ fn play_script(rt: &HostRuntime, path: &str) -> Result<(), Fault> {
 /// The settings of this file, and what the files hold that they name.
 fn read_station(rt: &HostRuntime, path: &str) -> Result<(Settings, Lists), Fault> {
     let settings = read_settings(rt, path)?;
-    let lists = read_lists(rt, &settings)?;
-    Ok((settings, lists))
+    match read_lists(rt, &settings) {
+        Ok(lists) => Ok((settings, lists)),
+        Err(fault) => {
+            drop(settings);
+            Err(fault)
+        }
+    }
 }
 
 /// Plays the script on standard input.
