@@ -3,7 +3,8 @@ ghost use Rattle.std.specs.Prelude.{◌≡◌, map};
 ghost use Rattle.std.specs.List.{flat_map};
 ghost use Rattle.toml.specs.View.{table_view};
 ghost use Rattle.radio_settings.specs.Parts.{relays_fault};
-ghost use Rattle.radio_settings.specs.Relays.{local_mount_of, login_from, mount_of, mounts_fault, pair_fault, pair_of, relay_fault, relay_rows, relay_of, relays_of};
+ghost use Rattle.radio_settings.specs.Relays.{local_mount_of, login_from, mount_of, mounts_fault, pair_fault};
+ghost use Rattle.radio_settings.specs.Relays.{pair_of, relay_fault, relay_rows, relay_of, relays_of};
 ghost use Rattle.radio_settings.specs.Rows.{faults_in, first_fault};
 ghost use Rattle.radio_settings.specs.Reading.{Reads, ReadsAs};
 
