@@ -107,10 +107,24 @@ fn serve_all<R: Wait + AllocGlobal>(
         start: 0,
         bytes: Vec::new(rt.alloc()),
     };
+    let served = serve_forever(rt, poll, listener, events, &mut lines, &mut kept);
+    drop(lines);
+    drop(kept);
+    served
+}
+
+fn serve_forever<R: Wait>(
+    rt: &R,
+    poll: &mut Poll,
+    listener: &TcpListener,
+    events: &mut Events<Global>,
+    lines: &mut Vec<Line>,
+    kept: &mut Kept,
+) -> Result<()> {
     let mut wait_ms = IDLE_MS;
     for _ in rt.forever() {
         wait(poll, events, wait_ms)?;
-        let has_moved = serve_turn(poll, listener, events, &mut lines, &mut kept)?;
+        let has_moved = serve_turn(poll, listener, events, lines, kept)?;
         wait_ms = if has_moved { 0 } else { IDLE_MS };
     }
     Ok(())

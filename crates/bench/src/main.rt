@@ -86,9 +86,7 @@ where
 {
     let mut has_subject = false;
     for word in env::args(rt)?.skip(1) {
-        if measure_owned(rt, word, is_full)? {
-            has_subject = true;
-        }
+        has_subject = measure_owned(rt, word, is_full)? || has_subject;
     }
     Ok(has_subject)
 }
