@@ -64,26 +64,87 @@ impl Kept {
 
 /// Serves until it is killed. The port is one that is free, which is told.
 pub fn serve<R: Net + Print + Wait + AllocGlobal>(rt: &R) -> Result<()> {
-    let alloc = rt.alloc();
     let mut poll = Poll::new(rt)?;
-    let mut events = Events::with_capacity(alloc, 1024)?;
+    let served = serve_polled(rt, &mut poll);
+    drop(poll);
+    served
+}
+
+fn serve_polled<R: Net + Print + Wait + AllocGlobal>(rt: &R, poll: &mut Poll) -> Result<()> {
     let mut listener = TcpListener::bind(rt, SocketAddr::from((Ipv4Addr::LOCALHOST, 0)))?;
+    let served = serve_bound(rt, poll, &mut listener);
+    drop(listener);
+    served
+}
+
+fn serve_bound<R: Print + Wait + AllocGlobal>(
+    rt: &R,
+    poll: &mut Poll,
+    listener: &mut TcpListener,
+) -> Result<()> {
+    register(rt, poll, listener)?;
+    let mut events = Events::with_capacity(rt.alloc(), 1024)?;
+    let served = serve_all(rt, poll, listener, &mut events);
+    drop(events);
+    served
+}
+
+fn register<R: Print>(rt: &R, poll: &Poll, listener: &mut TcpListener) -> Result<()> {
     println!(rt; "listening on {}", listener.local_addr()?)?;
     poll.registry()
-        .register(&mut listener, LISTENER, Interest::READABLE)?;
-    let mut lines = Vec::new(alloc);
+        .register(listener, LISTENER, Interest::READABLE)?;
+    Ok(())
+}
+
+fn serve_all<R: Wait + AllocGlobal>(
+    rt: &R,
+    poll: &mut Poll,
+    listener: &TcpListener,
+    events: &mut Events<Global>,
+) -> Result<()> {
+    let mut lines = Vec::new(rt.alloc());
     let mut kept = Kept {
         start: 0,
-        bytes: Vec::new(alloc),
+        bytes: Vec::new(rt.alloc()),
     };
+    let served = serve_forever(rt, poll, listener, events, &mut lines, &mut kept);
+    drop(lines);
+    drop(kept);
+    served
+}
+
+fn serve_forever<R: Wait>(
+    rt: &R,
+    poll: &mut Poll,
+    listener: &TcpListener,
+    events: &mut Events<Global>,
+    lines: &mut Vec<Line>,
+    kept: &mut Kept,
+) -> Result<()> {
     let mut wait_ms = IDLE_MS;
     for _ in rt.forever() {
-        poll.poll(&mut events, Some(Duration::from_millis(wait_ms)))?;
-        mark(&events, &mut lines);
-        accept_all(&poll, &listener, &mut lines)?;
-        let has_moved = turn(&mut lines, &mut kept)?;
+        wait(poll, events, wait_ms)?;
+        let has_moved = serve_turn(poll, listener, events, lines, kept)?;
         wait_ms = if has_moved { 0 } else { IDLE_MS };
     }
+    Ok(())
+}
+
+/// Takes in who waits, and serves each who is ready. Whether a byte moved.
+fn serve_turn(
+    poll: &Poll,
+    listener: &TcpListener,
+    events: &Events<Global>,
+    lines: &mut Vec<Line>,
+    kept: &mut Kept,
+) -> Result<bool> {
+    mark(events, lines);
+    accept_all(poll, listener, lines)?;
+    turn(lines, kept)
+}
+
+fn wait(poll: &mut Poll, events: &mut Events<Global>, ms: u64) -> Result<()> {
+    poll.poll(events, Some(Duration::from_millis(ms)))?;
     Ok(())
 }
 

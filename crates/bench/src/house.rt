@@ -49,7 +49,7 @@ impl Answers for Core {
 
     fn hands_out(&mut self, event: Event) -> Result<bool, OutOfMemory> {
         match self.step(event) {
-            Ok(reply) => Ok(has_data(&reply)),
+            Ok(reply) => Ok(hands_data_out(reply)),
             Err(refused) => Err(refused),
         }
     }
@@ -117,13 +117,18 @@ fn write_ratio(rt: &(impl Clock + Print + AllocGlobal + Wait), rounds: u32) -> R
     for _ in 0..5 {
         let by_core = draws_by_core(rt, rounds)?;
         let through_hall = draws_through_hall(rt, rounds)?;
-        let percent = through_hall.micros.saturating_mul(100) / by_core.micros.max(1);
-        println!(rt;
-            "  core {} ns a draw, hall {} ns, {percent} %",
-            nanos(by_core),
-            nanos(through_hall)
-        )?;
+        write_both(rt, by_core, through_hall)?;
     }
+    Ok(())
+}
+
+fn write_both(rt: &impl Print, by_core: Draws, through_hall: Draws) -> Result<()> {
+    let percent = through_hall.micros.saturating_mul(100) / by_core.micros.max(1);
+    println!(rt;
+        "  core {} ns a draw, hall {} ns, {percent} %",
+        nanos(by_core),
+        nanos(through_hall)
+    )?;
     Ok(())
 }
 
@@ -311,7 +316,15 @@ fn draws_data<A: Answers>(who: &mut A, id: u64) -> Result<bool, OutOfMemory> {
 }
 
 fn has_handed_out(receipt: Receipt) -> bool {
-    has_data(receipt.reply())
+    let has_data = has_data(receipt.reply());
+    drop(receipt);
+    has_data
+}
+
+fn hands_data_out(reply: Reply) -> bool {
+    let has_data = has_data(&reply);
+    drop(reply);
+    has_data
 }
 
 fn has_data(reply: &Reply) -> bool {

@@ -1,4 +1,4 @@
-//! Benchmarks: `bench [full] [creds] [house] [icy] [queue] [settings] [source] [threads] [FILE..]`, and `bench fanout`.
+//! Benchmarks: `bench [full] [creds] [delivery] [house] [icy] [queue] [settings] [source] [threads] [FILE..]`, and `bench fanout`.
 //!
 //! Each subject that is named is measured, and all where none is. Without `full` little is done, and only counts
 //! and sizes are written, which never change. With it much is done, and times are written too. Each other word is the
@@ -8,6 +8,7 @@
 #![tactic(auto)]
 
 mod creds;
+mod delivery;
 mod fanout;
 mod house;
 mod icy;
@@ -27,6 +28,7 @@ use std::thread::Threads;
 #[derive(Clone, Copy, PartialEq, Eq)]
 enum Subject {
     Creds,
+    Delivery,
     House,
     Icy,
     Queue,
@@ -41,8 +43,9 @@ const FULL: &str = "full";
 /// The word that asks for a bare fan-out.
 const FANOUT: &str = "fanout";
 
-const ALL: [Subject; 7] = [
+const ALL: [Subject; 8] = [
     Subject::Creds,
+    Subject::Delivery,
     Subject::House,
     Subject::Icy,
     Subject::Queue,
@@ -52,15 +55,26 @@ const ALL: [Subject; 7] = [
 ];
 
 fn main(rt: HostRuntime) -> Result<()> {
-    if env::args(&rt)?.any(|word| word.as_str() == FANOUT) {
+    if has_word(&rt, FANOUT)? {
         return fanout::serve(&rt);
     }
-    let is_full = env::args(&rt)?.any(|word| word.as_str() == FULL);
+    let is_full = has_word(&rt, FULL)?;
     if measure_words(&rt, is_full)? {
         return Ok(());
     }
+    measure_all(&rt, is_full)
+}
+
+fn has_word(rt: &(impl Env + AllocGlobal), wanted: &str) -> Result<bool> {
+    Ok(env::args(rt)?.any(|word| word.as_str() == wanted))
+}
+
+fn measure_all<R: Clock + Print + AllocGlobal + Threads + Wait + Sync>(
+    rt: &R,
+    is_full: bool,
+) -> Result<()> {
     for subject in ALL {
-        measure(&rt, subject, is_full)?;
+        measure(rt, subject, is_full)?;
     }
     Ok(())
 }
@@ -72,11 +86,18 @@ where
 {
     let mut has_subject = false;
     for word in env::args(rt)?.skip(1) {
-        if measure_word(rt, word.as_str(), is_full)? {
-            has_subject = true;
-        }
+        has_subject = measure_owned(rt, word, is_full)? || has_subject;
     }
     Ok(has_subject)
+}
+
+fn measure_owned<R>(rt: &R, word: String, is_full: bool) -> Result<bool>
+where
+    R: Clock + Files + Print + AllocGlobal + Threads + Wait + Sync,
+{
+    let is_subject = measure_word(rt, word.as_str(), is_full);
+    drop(word);
+    is_subject
 }
 
 /// Does what a word asks for, and tells whether it is a subject.
@@ -98,6 +119,7 @@ where
 fn subject_of(word: &str) -> Option<Subject> {
     match word {
         "creds" => Some(Subject::Creds),
+        "delivery" => Some(Subject::Delivery),
         "house" => Some(Subject::House),
         "icy" => Some(Subject::Icy),
         "queue" => Some(Subject::Queue),
@@ -115,6 +137,7 @@ fn measure<R: Clock + Print + AllocGlobal + Threads + Wait + Sync>(
 ) -> Result<()> {
     match subject {
         Subject::Creds => creds::measure(rt, is_full),
+        Subject::Delivery => delivery::measure(rt, is_full),
         Subject::House => house::measure(rt, is_full),
         Subject::Icy => icy::measure(rt, is_full),
         Subject::Queue => queue::measure(rt, is_full),

@@ -29,13 +29,35 @@ const ROOM: u32 = 16384;
 pub fn measure(rt: &(impl Clock + Print + AllocGlobal), is_full: bool) -> Result<()> {
     let data = vec![in rt.alloc(); 0x55; BLOCK]?;
     let mut queue = BlockQueue::new(rt.alloc(), LIMIT);
-    let first = push_sample(rt, &mut queue, data.as_slice())?;
+    let measured = measure_queue(rt, &mut queue, data.as_slice(), is_full);
+    drop(queue);
+    measured
+}
+
+fn measure_queue(
+    rt: &(impl Clock + Print + AllocGlobal),
+    queue: &mut BlockQueue,
+    data: &[u8],
+    is_full: bool,
+) -> Result<()> {
+    push_all(rt, queue, data, is_full)?;
+    write_kept(rt, queue)?;
+    draw_all(rt, queue, data, is_full)
+}
+
+/// Pushes a sample, and in full the other samples, of which it writes what a push costs.
+fn push_all(
+    rt: &(impl Clock + Print + AllocGlobal),
+    queue: &mut BlockQueue,
+    data: &[u8],
+    is_full: bool,
+) -> Result<()> {
+    let first = push_sample(rt, queue, data)?;
     if is_full {
-        let last = push_on(rt, &mut queue, data.as_slice())?;
+        let last = push_on(rt, queue, data)?;
         write_pushes(rt, first, last)?;
     }
-    write_kept(rt, &queue)?;
-    draw_all(rt, &queue, data.as_slice(), is_full)
+    Ok(())
 }
 
 /// Pushes the other samples: how long the last one took.

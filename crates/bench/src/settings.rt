@@ -23,17 +23,37 @@ pub fn measure(rt: &(impl Clock + Print + AllocGlobal), is_full: bool) -> Result
 /// Reads a settings file, and writes what is in it.
 pub fn read_file(rt: &(impl Files + Print + AllocGlobal), path: &str) -> Result<()> {
     let text = fs::read_to_string(rt, path)?;
-    match counts(rt.alloc(), text.as_str()) {
-        Ok((mounts, relays)) => println!(rt; "{path}: {mounts} mounts, {relays} relays")?,
-        Err(fault) => println!(rt; "{path}: {fault}")?,
+    write_counts(rt, path, text.as_str())
+}
+
+/// Writes how many mounts and relays a text sets, or its fault.
+fn write_counts(rt: &(impl Print + AllocGlobal), path: &str, text: &str) -> Result<()> {
+    match counts(rt.alloc(), text) {
+        Ok((mounts, relays)) => write_sizes(rt, path, mounts, relays),
+        Err(fault) => {
+            let written = write_fault(rt, path, &fault);
+            drop(fault);
+            written
+        }
     }
+}
+
+fn write_sizes(rt: &impl Print, path: &str, mounts: usize, relays: usize) -> Result<()> {
+    println!(rt; "{path}: {mounts} mounts, {relays} relays")?;
+    Ok(())
+}
+
+fn write_fault(rt: &impl Print, path: &str, fault: &SettingsFault) -> Result<()> {
+    println!(rt; "{path}: {fault}")?;
     Ok(())
 }
 
 /// How many mounts and relays a text sets.
 fn counts(alloc: Global, text: &str) -> Result<(usize, usize), SettingsFault> {
     let settings = Settings::read(alloc, text)?;
-    Ok(counts_in(&settings))
+    let counts = counts_in(&settings);
+    drop(settings);
+    Ok(counts)
 }
 
 fn counts_in(settings: &Settings) -> (usize, usize) {

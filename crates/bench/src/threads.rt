@@ -11,7 +11,7 @@ use crate::house::{Answers, Caller, draw_all, open_station, push, station_settin
 use crate::times::micros;
 use anyhow::Result;
 use radio_access::Lists;
-use radio_book::{Chronicle, House, Kept, OutOfMemory, PASSES, Pass, Unkept};
+use radio_book::{Chronicle, House, Kept, OutOfMemory, PASSES, Pass, SettleFault, Unkept};
 use radio_hall::{Hall, settle};
 use radio_settings::Settings;
 use std::alloc::{AllocError, Global};
@@ -56,6 +56,10 @@ fn measure_unkept<R: Clock + Print + AllocGlobal + Threads + Wait + Sync>(
 ) -> Result<()> {
     let settings = station_settings(rt.alloc())?;
     let time = time_unkept::<Brand, R>(rt, settings, Blank::new(PASSES), blocks)?;
+    write_unkept(rt, time, blocks, is_full)
+}
+
+fn write_unkept(rt: &impl Print, time: u64, blocks: u32, is_full: bool) -> Result<()> {
     println!(rt; "four threads, nothing stored: {blocks} blocks each")?;
     if is_full {
         println!(rt; "  {} ns a call", nanos_a_call(time, blocks))?;
@@ -92,6 +96,10 @@ fn measure_kept<R: Clock + Print + AllocGlobal + Threads + Wait + Sync>(
 ) -> Result<()> {
     let settings = station_settings(rt.alloc())?;
     let settled = time_kept::<Brand, R>(rt, settings, Blank::new(PASSES), blocks)?;
+    write_kept(rt, settled, blocks, is_full)
+}
+
+fn write_kept(rt: &impl Print, settled: Settled, blocks: u32, is_full: bool) -> Result<()> {
     println!(rt;
         "four threads, all stored: {} entries settled",
         settled.entries
@@ -131,11 +139,39 @@ fn time_settling<H: House, R: Clock + AllocGlobal>(
     passes: Vec<Pass<Kept, H>>,
     calls: u64,
 ) -> Result<Settled> {
-    let start = Instant::now(rt)?;
-    let history = settle(rt.alloc(), hall, passes)?;
-    let settling = micros(start.elapsed(rt)?);
+    match now(rt) {
+        Ok(start) => settle_since(rt, start, hall, passes, calls),
+        Err(fault) => {
+            drop(passes);
+            drop(hall);
+            Err(fault)
+        }
+    }
+}
+
+fn count_settled<H: House>(
+    alloc: Global,
+    hall: Hall<Kept, H>,
+    passes: Vec<Pass<Kept, H>>,
+) -> Result<usize, SettleFault> {
+    Ok(settle(alloc, hall, passes)?.len())
+}
+
+fn now(rt: &impl Clock) -> Result<Instant> {
+    Ok(Instant::now(rt)?)
+}
+
+fn settle_since<H: House, R: Clock + AllocGlobal>(
+    rt: &R,
+    start: Instant,
+    hall: Hall<Kept, H>,
+    passes: Vec<Pass<Kept, H>>,
+    calls: u64,
+) -> Result<Settled> {
+    let entries = count_settled(rt.alloc(), hall, passes)?;
+    let settling = micros_since(rt, start)?;
     Ok(Settled {
-        entries: history.len(),
+        entries,
         calls,
         settling,
     })
@@ -148,10 +184,28 @@ where
     H: House + Send + Sync,
     R: Clock + AllocGlobal + Threads + Wait + Sync,
 {
-    let start = Instant::now(rt)?;
+    let start = now(rt)?;
     let passes = passes_of_four(rt, rt.alloc(), hall, blocks)?;
-    let time = start.elapsed(rt)?;
-    Ok((passes, micros(time)))
+    with_time(rt, start, passes)
+}
+
+/// The passes, and the time since then, in microseconds.
+fn with_time<C: Chronicle, H: House>(
+    rt: &impl Clock,
+    start: Instant,
+    passes: Vec<Pass<C, H>>,
+) -> Result<(Vec<Pass<C, H>>, u64)> {
+    match micros_since(rt, start) {
+        Ok(time) => Ok((passes, time)),
+        Err(fault) => {
+            drop(passes);
+            Err(fault)
+        }
+    }
+}
+
+fn micros_since(rt: &impl Clock, start: Instant) -> Result<u64> {
+    Ok(micros(start.elapsed(rt)?))
 }
 
 /// The passes of four threads, when they have ended.
@@ -204,8 +258,20 @@ fn push_both<C: Chronicle, H: House>(
     both: Both<C, H>,
 ) -> Result<(), OutOfMemory> {
     let (first, second) = both;
-    passes.push(first?)?;
-    passes.push(second?)?;
+    match push_one(passes, first) {
+        Ok(()) => push_one(passes, second),
+        Err(refused) => {
+            drop(second);
+            Err(refused)
+        }
+    }
+}
+
+fn push_one<C: Chronicle, H: House>(
+    passes: &mut Vec<Pass<C, H>>,
+    worked: Worked<C, H>,
+) -> Result<(), OutOfMemory> {
+    passes.push(worked?)?;
     Ok(())
 }
 
