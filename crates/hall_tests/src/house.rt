@@ -5,12 +5,12 @@ ghost use Rattle.radio_access.specs.Lists.{no_lists};
 ghost use Rattle.radio_core.specs.World.{opening};
 
 use crate::memory_line::giving;
-use crate::rows::{EIGHT_BYTES, HEARD, INTERVAL, LATE_LISTENER, NIGHT, TITLED};
+use crate::rows::{EIGHT_BYTES, HEARD, INTERVAL, LATE_LISTENER, NIGHT, TITLED, serve_source};
 use crate::stations::*;
 use radio_access::Lists;
 use radio_book::{House, Kept, OutOfMemory, PASSES, Pass, SettleFault};
 use radio_core::Event;
-use radio_hall::{Caller, Gate, Hall, settle};
+use radio_hall::{Caller, Gate, Hall, Server, settle};
 use radio_icy::Title;
 use radio_settings::Settings;
 use std::alloc::Global;
@@ -32,6 +32,13 @@ fn set_title<H: House, R: Wait>(
     Ok(())
 }
 
+/// A listener comes then, and hears the title.
+fn hears_night<S: Server + Drop>(station: &mut Station<S>) -> Result<bool, OutOfMemory> {
+    station.come(giving(TITLED), 2)?;
+    station.turns(3, 1, 1);
+    Ok(station.took(1, NIGHT))
+}
+
 /// A source is served, a title is set, and a listener hears it.
 fn hears_title<H: House, R: Wait>(
     rt: &R,
@@ -40,12 +47,26 @@ fn hears_title<H: House, R: Wait>(
     other: &mut Pass<Kept, H>,
     station: &mut Station<Caller<R, Kept, H>>,
 ) -> Result<bool, OutOfMemory> {
-    station.come(giving(EIGHT_BYTES), 0)?;
-    station.turns(1, 1, 2);
+    serve_source(station)?;
     set_title(rt, alloc, hall, other)?;
-    station.come(giving(TITLED), 2)?;
-    station.turns(3, 1, 1);
-    Ok(station.took(1, NIGHT))
+    hears_night(station)
+}
+
+/// The pass of the worker, and whether the title was heard that the other caller set.
+fn heard_beside<H: House, R: Wait>(
+    rt: &R,
+    alloc: Global,
+    hall: &Hall<Kept, H>,
+    other: &mut Pass<Kept, H>,
+    passes: &mut Vec<Pass<Kept, H>>,
+) -> Result<bool, OutOfMemory> {
+    let Some(pass) = hall.pass(rt) else {
+        return Ok(false);
+    };
+    let mut station = Station::new(alloc, Caller::new(rt, hall, pass));
+    let heard = hears_title(rt, alloc, hall, other, &mut station);
+    passes.push(station.into_server().into_pass())?;
+    heard
 }
 
 /// Both callers' passes, and whether the title was heard.
@@ -58,12 +79,7 @@ fn titled<H: House, R: Wait>(
     let Some(mut other) = hall.pass(rt) else {
         return Ok(false);
     };
-    let Some(pass) = hall.pass(rt) else {
-        return Ok(false);
-    };
-    let mut station = Station::new(alloc, Caller::new(rt, hall, pass));
-    let heard = hears_title(rt, alloc, hall, &mut other, &mut station);
-    passes.push(station.into_server().into_pass())?;
+    let heard = heard_beside(rt, alloc, hall, &mut other, passes);
     passes.push(other)?;
     heard
 }

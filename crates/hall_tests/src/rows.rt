@@ -21,13 +21,19 @@ pub const LATE_LISTENER: &[&[u8]] = &[b"", b"", b"", LISTEN_HEAD];
 pub const HEARD: &[u8] =
     b"HTTP/1.0 200 OK\r\nContent-Type: audio/mpeg\r\nConnection: close\r\n\r\nabcdefgh";
 
-/// A source of eight bytes comes and is served, and a listener comes then, at 2 milliseconds.
+/// A source of eight bytes comes and is served.
+pub fn serve_source<S: Server + Drop>(station: &mut Station<S>) -> Result<(), OutOfMemory> {
+    station.come(giving(EIGHT_BYTES), 0)?;
+    station.turns(1, 1, 2);
+    Ok(())
+}
+
+/// The same, and a listener comes then, at 2 milliseconds.
 pub fn source_and_listener<S: Server + Drop>(
     station: &mut Station<S>,
     listener: Manners,
 ) -> Result<(), OutOfMemory> {
-    station.come(giving(EIGHT_BYTES), 0)?;
-    station.turns(1, 1, 2);
+    serve_source(station)?;
     station.come(listener, 2)
 }
 

@@ -86,18 +86,27 @@ const SHORT_QUEUE: &str = "[limits]\nqueue-size = 10\n";
 /// For how many turns a stalled line takes nothing.
 const STALLED: u64 = 4;
 
-/// A source, a listener whose line takes nothing for some turns, and another. Whether the other one
-/// hears all that comes meanwhile, and the first hears so much once his line takes again.
+/// A source is served these blocks; a listener comes whose line takes nothing for some turns, and
+/// another.
+fn come_beside_a_stalled_one(
+    station: &mut Station<Core>,
+    blocks: &'static [&'static [u8]],
+) -> Result<(), OutOfMemory> {
+    station.come(giving(blocks), 0)?;
+    station.turns(1, 1, 2);
+    station.come(slow_listener(usize::MAX, 0, STALLED), 2)?;
+    station.come(giving(LISTENER), 2)
+}
+
+/// Whether the other one hears all that comes meanwhile, and the first hears so much once his line
+/// takes again.
 fn is_behind(
     station: &mut Station<Core>,
     blocks: &'static [&'static [u8]],
     others: &[u8],
     his: &[u8],
 ) -> Result<bool, OutOfMemory> {
-    station.come(giving(blocks), 0)?;
-    station.turns(1, 1, 2);
-    station.come(slow_listener(usize::MAX, 0, STALLED), 2)?;
-    station.come(giving(LISTENER), 2)?;
+    come_beside_a_stalled_one(station, blocks)?;
     station.turns(3, 1, STALLED);
     let unnoticed = station.took(1, b"") && station.took(2, others);
     station.turns(100, 1, 1);

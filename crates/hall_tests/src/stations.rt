@@ -56,6 +56,7 @@ impl Server for Refusing {
         let refuses = self.calls == self.refuses_at;
         self.calls = self.calls.saturating_add(1);
         if refuses {
+            drop(event);
             return Err(AllocError);
         }
         self.core.step(event)
