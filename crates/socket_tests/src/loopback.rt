@@ -84,7 +84,9 @@ fn visited<V: Visit>(
         conns: Vec::new(rt.alloc()),
         began_ms: moment(rt),
     };
-    who.visit(rt, &mut station)
+    let goes_well = who.visit(rt, &mut station);
+    drop(station);
+    goes_well
 }
 
 /// A worker over a core of its own.
@@ -99,7 +101,10 @@ fn goes_well<V: Visit>(rt: &HostRuntime, who: &V) -> Result<bool, Fail> {
     let worker = worker(rt.alloc())?;
     match Listening::bind(rt, rt.alloc(), "127.0.0.1", 0) {
         Ok(listening) => Ok(visited(rt, listening, worker, who)?),
-        Err(_) => Ok(false),
+        Err(_) => {
+            drop(worker);
+            Ok(false)
+        }
     }
 }
 
