@@ -34,7 +34,7 @@ pub record ComeAbout (id : ℕ) (asked events : List Event) : Type 0 where
 
 -- a delivery comes to these events, if they lead to the state that it leads to
 pub data ComesToEvents (state : ScriptState) : Delivery → List Event → Type 0 where
-  -- nothing happens: its label is at fault, or its connection was shut before
+  -- none: its label is at fault, its connection was shut before, or what it comes to changes nothing and is left out
   Nothing : (delivery : Delivery) → ComesToEvents state delivery []
   Arrives : (label : ℕ) (peer : Peer) → ComesToEvents state (Open label peer) (Arrive peer ∷ [])
   Ticks : (ms : ℕ) → ComesToEvents state (ClockIs ms) (Clock ms ∷ [])
