@@ -1,4 +1,5 @@
 mod ScriptStateLemmas
+mod VisitLemmas
 mod ServerSimulation
 mod OneTranscript
 mod LastWordLemmas

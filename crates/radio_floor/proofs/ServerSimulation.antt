@@ -17,11 +17,11 @@ use Rattle.radio_script.proofs.SimulationLemmas.{runs, plays}
 
 -- what the server does
 abbrev pub server_conduct : Conduct ScriptServer
-server_conduct old delivery lines new = Performs old.core old.connections delivery lines new.core new.connections
+server_conduct old delivery lines new = Performs old.handler.core old.connections delivery lines new.handler.core new.connections
 
 -- the server's core stands for the state's state, and the connections are the same
 abbrev Same : ScriptServer → ScriptState → Type 0
-Same server state = (w : World) × Represents server.core w × (state ≡ script_state_of w server.connections)
+Same server state = (w : World) × Represents server.handler.core w × (state ≡ script_state_of w server.connections)
 
 does : (server server' : ScriptServer) (state : ScriptState) (delivery : Delivery) (lines : Option (List ℕ)) → Same server state
     → server_conduct server delivery lines server' → (state' : ScriptState) × Same server' state' × conduct state delivery lines state'
@@ -31,12 +31,12 @@ does server server' state delivery lines same performs =
     (state', (d.0, d.1, refl), subst (λ (f : ScriptState). conduct f delivery lines state') (sym same.2) d.2)
 
 -- a new server stands for the opening state
-opens : (server : ScriptServer) (settings : Settings) (lists : Lists) → Represents server.core (opening settings lists) → server.connections ≡ []
+opens : (server : ScriptServer) (settings : Settings) (lists : Lists) → Represents server.handler.core (opening settings lists) → server.connections ≡ []
     → Same server (opening_script settings lists)
 opens server settings lists stands none = (opening settings lists, stands, ap (script_state_of (opening settings lists)) (sym none))
 
 pub server_runs : (server last : ScriptServer) (settings : Settings) (lists : Lists) (deliveries : List Delivery) (text : List ℕ) (stop : Option ℕ)
-    → Represents server.core (opening settings lists) → server.connections ≡ [] → Runs server_conduct server 1 deliveries text stop last
+    → Represents server.handler.core (opening settings lists) → server.connections ≡ [] → Runs server_conduct server 1 deliveries text stop last
     → IsTranscriptOf settings lists deliveries text stop
 server_runs server last settings lists deliveries text stop stands none r =
     let t =
@@ -44,7 +44,7 @@ server_runs server last settings lists deliveries text stop stands none r =
     (t.0, t.2)
 
 pub server_plays : (server last : ScriptServer) (settings : Settings) (lists : Lists) (script left : List ℕ) (result : Result (Unit {0}) PlayFault)
-    (written : List ℕ) (turns : ℕ) → Represents server.core (opening settings lists) → server.connections ≡ []
+    (written : List ℕ) (turns : ℕ) → Represents server.handler.core (opening settings lists) → server.connections ≡ []
     → Plays server_conduct server 1 script left result written turns last → PlaysScript settings lists script left result written turns
 server_plays server last settings lists script left result written turns stands none h =
     plays server_conduct conduct Same does server last (opening_script settings lists) 1 script left result written turns

@@ -22,7 +22,7 @@ use Rattle.radio_script.specs.declared.delivery.Delivery.{Delivery}
 use Rattle.radio_script.specs.declared.delivery.Delivery.TheVariants.{Open, To, Clock as ClockIs}
 use Rattle.radio_script.specs.declared.delivery.Input.{Input}
 use Rattle.radio_script.specs.declared.delivery.Input.TheVariants.{Data, Room, Title as Named, End}
-use Rattle.radio_floor.specs.declared.script_server.Labelled.{Labelled}
+use Rattle.radio_floor.specs.declared.labelled.Labelled.{Labelled}
 use Rattle.radio_script.specs.TranscriptLines.{answer_lines}
 use Rattle.radio_session.specs.Conversation.{asking, Conversation, fresh, saying_now, ending_word}
 use Rattle.radio_session.specs.Hearing.{Heard, IsHeard}

@@ -154,17 +154,32 @@ pub find_same : {X : Type 0} (p : X → Bool) (f : X → X) → ((x : X) → p (
 find_same p f same_test [] x h = cc
 find_same p f same_test (a ∷ xs) x h = same_at p f a xs x (p a) refl (same_test a) (find_same p f same_test xs x) h
 
--- of two changes of the first that passes, where the first change lets it pass still, the second stands
-twice_at : {X : Type 0} (p : X → Bool) (f g : X → X) → ((x : X) → p x ≡ true → p (f x) ≡ true) → ((x : X) → g (f x) ≡ g x)
-    → (x : X) (xs : List X) (b : Bool) → p x ≡ b → update_first p g (update_first p f xs) ≡ update_first p g xs
-    → update_first p g (if b then f x ∷ xs else x ∷ update_first p f xs) ≡ (if b then g x ∷ xs else x ∷ update_first p g xs)
-twice_at p f g stays same x xs true e h = rw (stays x e) (ap (λ y. y ∷ xs) (same x))
-twice_at p f g stays same x xs false e h = rw e (ap (λ ys. x ∷ ys) h)
+-- who is found changes alike by two changes that make the same of him
+module _ {X : Type 0} (p : X → Bool) (f g : X → X) (x : X) (same : f x ≡ g x) where
+  changed_alike_at : (a : X) (xs : List X) (b : Bool) → p a ≡ b → (find p xs ≡ Some x → update_first p f xs ≡ update_first p g xs)
+      → find p (a ∷ xs) ≡ Some x → (if b then f a ∷ xs else a ∷ update_first p f xs) ≡ (if b then g a ∷ xs else a ∷ update_first p g xs)
+  changed_alike_at a xs true e later h =
+      let here : find p (a ∷ xs) ≡ Some a = find_here p a xs e in
+      let him : a ≡ x = cc in
+      ap (λ y. y ∷ xs) (ap f him ∙ same ∙ ap g (sym him))
+  changed_alike_at a xs false e later h = ap (λ ys. a ∷ ys) (later (sym (find_later p a xs e) ∙ h))
 
-pub update_first-twice : {X : Type 0} (p : X → Bool) (f g : X → X) → ((x : X) → p x ≡ true → p (f x) ≡ true) → ((x : X) → g (f x) ≡ g x)
-    → (xs : List X) → update_first p g (update_first p f xs) ≡ update_first p g xs
-update_first-twice p f g stays same [] = refl
-update_first-twice p f g stays same (x ∷ xs) = twice_at p f g stays same x xs (p x) refl (update_first-twice p f g stays same xs)
+  pub changed_alike : (xs : List X) → find p xs ≡ Some x → update_first p f xs ≡ update_first p g xs
+  changed_alike [] h = refl
+  changed_alike (a ∷ xs) h = changed_alike_at a xs (p a) refl (changed_alike xs) h
+
+-- and nothing changes by one that leaves him as he is
+module _ {X : Type 0} (p : X → Bool) where
+  itself_at : (x : X) (xs : List X) (b : Bool) → update_first p (λ y. y) xs ≡ xs → (if b then x ∷ xs else x ∷ update_first p (λ y. y) xs) ≡ x ∷ xs
+  itself_at x xs true later = refl
+  itself_at x xs false later = ap (λ ys. x ∷ ys) later
+
+  itself : (xs : List X) → update_first p (λ y. y) xs ≡ xs
+  itself [] = refl
+  itself (x ∷ xs) = itself_at x xs (p x) (itself xs)
+
+  pub unchanged : (f : X → X) (x : X) → f x ≡ x → (xs : List X) → find p xs ≡ Some x → update_first p f xs ≡ xs
+  unchanged f x same xs h = changed_alike p f (λ y. y) x same xs h ∙ itself xs
 
 -- what is taken away is found no more, and all else as before
 module _ {X : Type 0} (p q : X → Bool) where

@@ -3,3 +3,4 @@ pub mod Entries
 pub mod FindLaws
 pub mod KeyLaws
 pub mod Lists
+pub mod Visits

@@ -47,3 +47,23 @@ pub trait Swap<R: Row> {
     // The key stays.
     ghost keeps_key: { (swap : Self) (row : R) → R.key (gives swap row) ≡ R.key row };
 }
+
+/// What deals with a row in its place, and answers.
+pub trait Visit<R: Row> {
+    /// What comes to the row.
+    type Given;
+
+    /// What is answered.
+    type Answer;
+
+    // What a visit comes to: the answer, and the visitor and the row after it.
+    ghost visits: { Self → Self.Given → R → Self.Answer → Self → R → Type 0 };
+
+    /// Deals with the row.
+    fn visit(&mut self, row: &mut R, given: &Self::Given) -> Self::Answer
+        ensures { visits self.old given.now row.old result self.new row.new };
+
+    // The key stays.
+    ghost keeps_key: { (visitor visitor' : Self) (given : Self.Given) (row row' : R) (answer : Self.Answer)
+        → visits visitor given row answer visitor' row' → R.key row' ≡ R.key row };
+}

@@ -6,8 +6,9 @@ ghost use Rattle.std.specs.List.Sorted.{IsStrictlySortedBy};
 ghost use Rattle.std.specs.Map.Iter.{ShowsInOrder, deref};
 ghost use Rattle.std.specs.declared.cmp.Ordering.TheVariants.{Less};
 ghost use Rattle.radio_tables.specs.Lists.{update_first, placed, Each};
+ghost use Rattle.radio_tables.specs.Visits.{IsVisited};
 
-use crate::{Change, OutOfMemory, Row, Swap, TryChange};
+use crate::{Change, OutOfMemory, Row, Swap, TryChange, Visit};
 use std::alloc::Global;
 use std::collections::BTreeMap;
 use std::collections::btree_map::Values;
@@ -83,6 +84,22 @@ impl<R: Row> Table<R> {
             return;
         };
         swap.swap(row);
+    }
+
+    /// Deals with the row of this key in its place, and answers; `None` where there is none, and
+    /// nothing has changed then. The row is looked up once.
+    pub fn visit<V: Visit<R>>(
+        &mut self,
+        key: &R::Key,
+        visitor: &mut V,
+        given: &V::Given,
+    ) -> Option<V::Answer>
+        ensures { IsVisited V.visits (R.has_key key.now) visitor.old given.now self.old result visitor.new self.new }
+    {
+        let Some(row) = self.rows.get_mut(key) else {
+            return None;
+        };
+        Some(visitor.visit(row, given))
     }
 
     /// Changes all rows. It takes no memory.

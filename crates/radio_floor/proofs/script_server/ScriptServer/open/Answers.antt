@@ -3,7 +3,7 @@ use Rattle.radio_core.specs.declared.event.Event.TheVariants.{Arrive}
 use Rattle.radio_core.specs.Step.{reply_to, world_after}
 use Rattle.radio_tables.specs.Lists.{placed}
 use Rattle.radio_session.specs.declared.state.State.{State}
-use Rattle.radio_floor.specs.declared.script_server.Labelled.{Labelled}
+use Rattle.radio_floor.specs.declared.labelled.Labelled.{Labelled}
 use Rattle.radio_session.specs.Saying.{said}
 use Rattle.radio_session.specs.Conversation.{asking, Conversation}
 use Rattle.radio_floor.specs.ScriptState.{taken_in, told_lines, by_label}

@@ -1,61 +1,52 @@
-use Rattle.std.proofs.Common.{◌≡◌, [], Option, None, Some, sym, ap, ◌∙◌, append-nil}
-use Rattle.radio_session.specs.Conversation.{Conversation}
-use Rattle.radio_floor.specs.ScriptState.{connection_of, ComesTo}
-use Rattle.radio_floor.specs.ScriptServer.{script_state_of, performed_as, DoesAs}
-use Rattle.radio_floor.proofs.ScriptStateLemmas.{unknown-label, shut-label, open-label, comes_to-mid}
+use Rattle.std.proofs.Common.{◌≡◌, [], None, Option, Result, Ok, Some, append-nil, ap, subst, sym, ◌∙◌}
+use Rattle.std.specs.declared.alloc.AllocError.{AllocError}
+use Rattle.radio_core.specs.World.{World}
+use Rattle.radio_core.specs.Step.{Represents}
+use Rattle.radio_tables.specs.Visits.{IsVisited, was_visited}
+use Rattle.radio_script.specs.declared.delivery.Delivery.TheVariants.{To}
+use Rattle.radio_script.specs.declared.delivery.Input.{Input}
+use Rattle.radio_floor.specs.declared.handler.Handler.{Handler}
+use Rattle.radio_floor.specs.declared.handler.Told.{Told}
+use Rattle.radio_floor.specs.declared.labelled.Labelled.{Labelled}
+use Rattle.radio_floor.specs.ScriptServer.{AnswersUnder}
+use Rattle.radio_floor.specs.ScriptState.{has_label, told_lines}
+use Rattle.radio_floor.proofs.VisitLemmas.{shut-label, answered-label, performs-written}
 use Rattle.radio_floor.proofs.script_server.ScriptServer.perform_input.Goals as goal
 
--- the label was not opened
-pub returns-in-None : goal.returns-in-None
-returns-in-None c w stands =
-    let connections = c.args.self.now.connections in
-    let label = c.args.label in
-    let was : None ≡ connection_of connections label = sym c.in-None.is ∙ c.swap_connection.ensures.was in (
-      w,
-      stands,
-      unknown-label w connections c.swap_connection.new.connections label
-          (λ conversation done. ComesTo (script_state_of w connections) label conversation c.args.input.now done) was c.swap_connection.ensures.set,
-    )
+abbrev Answer : Type 0
+Answer = Result (Option Told) AllocError
+
+abbrev Visits : Handler → Input → Labelled → Answer → Handler → Labelled → Type 0
+Visits handler input row answer handler' row' = AnswersUnder handler.core input row answer handler'.core row'
 
 -- its connection was shut
-pub returns-in-Some-None : goal.returns-in-Some-None
-returns-in-Some-None c =
-    let connections = c.args.self.now.connections in
-    let label = c.args.label in
-    let was : Some None ≡ connection_of connections label =
-    ap (λ (o : Option Conversation). Some o) (sym c.in-Some-None.field-0-is) ∙ sym c.in-Some-None.is ∙ c.swap_connection.ensures.was in (
-      [],
-      sym (append-nil c.args.lines.now.items),
-      λ w stands. (
-        w,
-        stands,
-        shut-label w connections c.swap_connection.new.connections label
-            (λ conversation done. ComesTo (script_state_of w connections) label conversation c.args.input.now done) was c.swap_connection.ensures.set,
-      ),
-    )
-
--- its connection is there
-pub returns-in-Ok : goal.returns-in-Ok
-returns-in-Ok c =
-    let connections = c.args.self.now.connections in
-    let mid = c.swap_connection.new.connections in
+pub returns-in-Some-Ok-None : goal.returns-in-Some-Ok-None
+returns-in-Some-Ok-None c =
+    let old = c.args.self.now in
     let label = c.args.label in
     let input = c.args.input.now in
-    let conversation = c.in-Some-Some.connection in
-    let was : Some (Some conversation) ≡ connection_of connections label =
-    ap (λ (o : Option Conversation). Some o) (sym c.in-Some-Some.field-0-is) ∙ sym c.in-Some-Some.is ∙ c.swap_connection.ensures.was in
-    let after = c.input_on.new.self in
-    let does : DoesAs c.args.self.now.core after.core after.connections c.args.lines.now.items c.input_on.new.lines.items
-    (λ w done. ComesTo (script_state_of w mid) label conversation input done) = c.in-Ok.ensures in (
-      does.0,
-      does.1,
-      λ w stands.
-          let d = does.2 w stands in
-          let done = performed_as (Some does.0) d.0 after.connections in (
-            d.0,
-            d.1,
-            open-label (script_state_of w connections) label conversation
-                (λ conversation done. ComesTo (script_state_of w connections) label conversation input done) done was
-                (comes_to-mid w mid connections label conversation input done c.swap_connection.ensures.set d.2),
-          ),
-    )
+    let is : c.visit.result ≡ Some (Ok None) =
+    c.in-Some-Ok-None.is ∙ ap (λ (a : Answer). Some a) (c.in-Some-Ok-None.field-0-is ∙ ap (λ (t : Option Told). Ok t) c.in-Some-Ok-None.field-0-0-is) in
+    let visited = was_visited Visits (has_label label) old.handler input old.connections c.visit.new.visitor c.visit.new.self (Ok None)
+    (subst (λ (a : Option Answer). IsVisited Visits (has_label label) old.handler input old.connections a c.visit.new.visitor c.visit.new.self)
+    is c.visit.ensures) in
+    let shut = shut-label label input old.connections c.visit.new.self old.handler.core c.visit.new.visitor.core visited.0 visited.1 visited.2 visited.3
+    visited.4 in
+    ([], sym (append-nil c.args.lines.now.items), λ w stands. (w, subst (λ (core : World). Represents core w) (sym shut.0) stands, shut.1 w))
+
+-- its connection is there
+pub returns-in-Some-Ok-Some : goal.returns-in-Some-Ok-Some
+returns-in-Some-Ok-Some c =
+    let old = c.args.self.now in
+    let label = c.args.label in
+    let input = c.args.input.now in
+    let told = c.in-Some-Ok-Some.told in
+    let is : c.visit.result ≡ Some (Ok (Some told)) =
+    c.in-Some-Ok-Some.is ∙ ap (λ (a : Answer). Some a) (c.in-Some-Ok-Some.field-0-is ∙ ap (λ (t : Option Told). Ok t) c.in-Some-Ok-Some.field-0-0-is) in
+    let visited = was_visited Visits (has_label label) old.handler input old.connections c.visit.new.visitor c.visit.new.self (Ok (Some told))
+    (subst (λ (a : Option Answer). IsVisited Visits (has_label label) old.handler input old.connections a c.visit.new.visitor c.visit.new.self)
+    is c.visit.ensures) in
+    performs-written c.write_told.result old.handler.core old.connections (To label input) c.args.lines.now.items c.write_told.new.lines.items
+    (told_lines label told.bytes.items told.state) c.visit.new.visitor.core c.visit.new.self c.write_told.ensures
+    (answered-label label input old.connections c.visit.new.self old.handler.core c.visit.new.visitor.core visited.0 visited.1 visited.2 visited.3
+    told visited.4)

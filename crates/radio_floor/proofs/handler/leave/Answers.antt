@@ -1,7 +1,7 @@
 use Rattle.std.proofs.Common.{subst}
 use Rattle.radio_core.specs.World.{World}
 use Rattle.radio_core.specs.Step.{Represents}
-use Rattle.radio_floor.proofs.script_server.leave.Goals as goal
+use Rattle.radio_floor.proofs.handler.leave.Goals as goal
 
 pub returns : goal.returns
 returns c w stands =

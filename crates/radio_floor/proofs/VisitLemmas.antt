@@ -1,0 +1,98 @@
+-- What comes of a delivery for a label, from what comes of the visit of its row.
+use Rattle.std.proofs.Common.{◌≡◌, ℕ, List, [], ◌++◌, Option, None, Some, Result, Ok, Err, refl, sym, ap, subst, ◌∙◌}
+use Rattle.std.specs.Prelude.{find, MatchResult}
+use Rattle.std.specs.Option.{option_map}
+use Rattle.radio_core.specs.World.{World}
+use Rattle.radio_core.specs.Step.{Represents}
+use Rattle.radio_script.specs.declared.delivery.Delivery.{Delivery}
+use Rattle.radio_script.specs.declared.delivery.Input.{Input}
+use Rattle.radio_script.specs.declared.faults.PerformFault.{PerformFault}
+use Rattle.radio_script.specs.declared.faults.PerformFault.TheVariants.{OutOfMemory}
+use Rattle.radio_session.specs.Conversation.{Conversation}
+use Rattle.radio_tables.specs.FindLaws.{changed_alike, unchanged}
+use Rattle.radio_tables.specs.Lists.{update_first}
+use Rattle.radio_floor.specs.declared.handler.Told.{Told}
+use Rattle.radio_floor.specs.declared.labelled.Labelled.{Labelled}
+use Rattle.radio_floor.specs.Performing.{Performs, PerformsAs}
+use Rattle.radio_floor.specs.ScriptState.{Performed, ComesTo, for_label, has_label, holding, on_connection, told_lines, with_connection}
+use Rattle.radio_floor.specs.ScriptServer.{AnswersOn, AnswersUnder, answered_under, performed_as, script_state_of}
+
+module _ (label : ℕ) (input : Input) (connections connections' : List Labelled) where
+  abbrev pub Comes : World → Performed → Type 0
+  Comes w done =
+      let state = script_state_of w connections in
+      for_label state label (λ conversation done. ComesTo state label conversation input done) done
+
+  -- as it comes where this became of the label
+  abbrev ComesOf : World → Performed → Option (Option Conversation) → Type 0
+  ComesOf w done o =
+      let state = script_state_of w connections in
+      on_connection state (λ conversation done. ComesTo state label conversation input done) done o
+
+  abbrev became : Option Labelled → Option (Option Conversation)
+  became = option_map (λ (l : Labelled). l.connection)
+
+  -- the label was not opened
+  pub unknown-label : (w : World) → find (has_label label) connections ≡ None → connections' ≡ connections → Comes w (performed_as None w connections')
+  unknown-label w e same = subst (ComesOf w (performed_as None w connections')) (sym (ap became e)) (ap (λ (xs : List Labelled). performed_as None w xs) same)
+
+  module _ (core core' : World) (l l' : Labelled) (found : find (has_label label) connections ≡ Some l)
+      (changed : connections' ≡ update_first (has_label label) (λ _. l') connections) where
+    -- its connection was shut
+    shut_at : (o o' : Option Conversation) → l.connection ≡ o → l'.connection ≡ o' → AnswersOn core input o (Ok None) core' o'
+        → (core' ≡ core) × (l.connection ≡ None) × (l'.connection ≡ None)
+    shut_at None o' e e' h = (h.1, e, e' ∙ h.2)
+    shut_at (Some conversation) o' e e' h = let none : None ≡ Some h.0 = h.1 in cc
+
+    pub shut-label : AnswersUnder core input l (Ok None) core' l' → (core' ≡ core) × ((w : World) → Comes w (performed_as (Some []) w connections'))
+    shut-label h =
+        let shut = shut_at l.connection l'.connection refl refl h.1 in
+        let row : l' ≡ l =
+        ap (λ (n : ℕ). let r : Labelled = record { label = n; connection = l'.connection } in r) h.0
+        ∙ ap (λ (o : Option Conversation). let r : Labelled = record { label = l.label; connection = o } in r) (shut.2 ∙ sym shut.1) in
+        let same : connections' ≡ connections = changed ∙ unchanged (has_label label) (λ _. l') l row connections found in
+        let was : became (find (has_label label) connections) ≡ Some None = ap became found ∙ ap (λ (o : Option Conversation). Some o) shut.1 in (
+          shut.0,
+          λ w. subst (ComesOf w (performed_as (Some []) w connections')) (sym was) (ap (λ (xs : List Labelled). performed_as (Some []) w xs) same),
+        )
+
+    -- its connection is there, and this is told on it
+    abbrev pub TellsOn : Told → Type 0
+    TellsOn told = (w : World) → Represents core w
+        → (w' : World) × Represents core' w' × Comes w (performed_as (Some (told_lines label told.bytes.items told.state)) w' connections')
+
+    told_at : (o o' : Option Conversation) (told : Told) → l.connection ≡ o → l'.connection ≡ o' → l'.label ≡ l.label
+        → AnswersOn core input o (Ok (Some told)) core' o' → TellsOn told
+    told_at None o' told e e' same h w stands = let none : Ok (Some told) ≡ Ok None = h.0 in cc
+    told_at (Some conversation) o' told e e' same h w stands =
+        let t = h.0 in
+        let a = h.2 w stands in
+        let is : Some told ≡ Some t = h.1 in
+        let one : t ≡ told = cc in
+        let row : l' ≡ holding o' l =
+        ap (λ (n : ℕ). let r : Labelled = record { label = n; connection = l'.connection } in r) same
+        ∙ ap (λ (p : Option Conversation). holding p l) e' in
+        let set : connections' ≡ with_connection connections label o' =
+        changed ∙ changed_alike (has_label label) (λ _. l') (holding o') l row connections found in
+        let was : became (find (has_label label) connections) ≡ Some (Some conversation) =
+        ap became found ∙ ap (λ (p : Option Conversation). Some p) e in
+        let done = performed_as (Some (told_lines label told.bytes.items told.state)) a.0 connections' in
+        let same_done : answered_under connections label (record { connection = o'; told = t }) a.0 ≡ done =
+        ap (λ (x : Told). answered_under connections label (record { connection = o'; told = x }) a.0) one
+        ∙ ap (λ (xs : List Labelled). performed_as (Some (told_lines label told.bytes.items told.state)) a.0 xs) (sym set) in (
+          a.0,
+          a.1,
+          subst (ComesOf w done) (sym was)
+              (subst (λ (x : Performed). ComesTo (script_state_of w connections) label conversation input x) same_done (a.2 connections label)),
+        )
+
+    pub answered-label : (told : Told) → AnswersUnder core input l (Ok (Some told)) core' l' → TellsOn told
+    answered-label told h = told_at l.connection l'.connection told refl refl h.0 h.1
+
+-- the lines are written of what was performed, or memory was refused
+pub performs-written : (r : Result (Unit {0}) PerformFault) (core : World) (connections : List Labelled) (delivery : Delivery) (lines lines' text : List ℕ)
+    (core' : World) (connections' : List Labelled) → MatchResult r (λ _. lines' ≡ lines ++ text) (λ fault. fault ≡ OutOfMemory)
+    → Performs core connections delivery (Some text) core' connections' → PerformsAs r core connections delivery lines lines' core' connections'
+performs-written (Ok done) core connections delivery lines lines' text core' connections' written performs = (text, written, performs)
+performs-written (Err fault) core connections delivery lines lines' text core' connections' refused performs =
+    subst (λ (f : PerformFault). PerformsAs (Err f) core connections delivery lines lines' core' connections') (sym refused) tt

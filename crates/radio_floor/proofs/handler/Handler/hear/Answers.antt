@@ -1,0 +1,20 @@
+use Rattle.std.proofs.Common.{◌≡◌}
+use Rattle.std.proofs.lemmas.Result.{IfOk-weaker}
+use Rattle.radio_session.specs.Hearing.{Heard, IsHeard}
+use Rattle.radio_floor.specs.ScriptState.{exchanges}
+use Rattle.radio_floor.specs.ScriptServer.{AnswersAs}
+use Rattle.radio_floor.proofs.handler.Handler.hear.Goals as goal
+
+pub returns : goal.returns
+returns c =
+    let heard : Heard = record { events = c.in_ok-events.events.items; conversation = c.take.new.self } in
+    let old = c.args.self.now.core in
+    let new = c.exchange.new.self.core in
+    IfOk-weaker c.exchange.result
+    (λ answered. AnswersAs old new answered (λ state label done. exchanges state label heard.conversation heard.events ≡ done))
+    (λ answered. AnswersAs old new answered
+    (λ state label done. (h : Heard) × IsHeard c.args.connection c.args.bytes.now h × (exchanges state label h.conversation h.events ≡ done)))
+    (λ answered answers w stands.
+    let a = answers w stands in
+    (a.0, a.1, λ connections label. (heard, c.in_ok-events.ensures.heard, a.2 connections label)))
+    c.exchange.ensures

@@ -1,0 +1,38 @@
+//! The labels of a script.
+
+ghost use Rattle.std.specs.Prelude.{◌≡◌, is_some};
+ghost use Rattle.radio_floor.specs.ScriptState.{connection_of};
+
+use crate::connection::Connection;
+use radio_tables::{Row, Table};
+
+/// A label that was opened, and its connection until that is shut.
+#[derive(Drop)]
+pub(crate) struct Labelled {
+    pub(crate) label: u32,
+    pub(crate) connection: Option<Connection>,
+}
+
+impl Row for Labelled {
+    type Key = u32;
+
+    ghost use Rattle.radio_tables.specs.KeyLaws.{number_is};
+    ghost use Rattle.radio_floor.specs.ScriptState.{has_label};
+
+    ghost key = { λ labelled. labelled.label };
+
+    ghost has_key = { has_label };
+
+    ghost has_key_is = { λ label labelled. number_is label labelled.label };
+
+    fn key(&self) -> u32 {
+        self.label
+    }
+}
+
+/// Whether the label was opened.
+pub(crate) fn has_label(connections: &Table<Labelled>, label: u32) -> bool
+    ensures { result ≡ is_some (connection_of connections.now label) }
+{
+    connections.get(&label).is_some()
+}
