@@ -78,7 +78,7 @@ impl Block {
     }
 
     /// Its bytes, as a shared slice.
-    pub(crate) fn into_bytes(self) -> Bytes
+    pub fn into_bytes(self) -> Bytes
         ensures { result ≡ self }
     {
         self.bytes
@@ -103,54 +103,4 @@ fn with_little_room(alloc: Global, bytes: Vec<u8>) -> Result<Vec<u8>, OutOfMemor
         return Ok(bytes);
     }
     Vec::from_slice(alloc, bytes.as_slice())
-}
-
-/// How many bytes of memory a block keeps. It must be the only one that shares them.
-#[cfg(test)]
-pub(crate) fn memory_of(block: Block) -> usize {
-    let Ok(bytes) = block.into_bytes().try_into_mut() else {
-        return usize::MAX;
-    };
-    match bytes.into_vec() {
-        Ok(vec) => vec.capacity(),
-        Err(_) => usize::MAX,
-    }
-}
-
-#[cfg(test)]
-mod tests {
-    use super::*;
-
-    /// The room of bytes in memory for more, as a block keeps it.
-    fn room_of(alloc: Global, bytes: &[u8], room: usize) -> Result<usize, OutOfMemory> {
-        let mut loose = Vec::with_capacity(alloc, room)?;
-        loose.extend_from_slice(bytes)?;
-        Ok(with_little_room(alloc, loose)?.capacity())
-    }
-
-    // no contract of std says how much memory a copy takes at most
-    #[test]
-    fn little_room(rt: HostRuntime) {
-        assert!(rt; room_of(rt.alloc(), b"a", 4096) == Ok(1));
-        assert!(rt; room_of(rt.alloc(), b"abcd", 8) == Ok(8));
-        assert!(rt; room_of(rt.alloc(), b"abcd", 9) == Ok(4));
-    }
-
-    /// The memory of a block that was made of these bytes by each call that copies.
-    fn memory_of_copies(alloc: Global, bytes: &[u8]) -> Result<(usize, usize), OutOfMemory> {
-        let mut loose = Vec::with_capacity(alloc, 4096)?;
-        loose.extend_from_slice(bytes)?;
-        if loose.is_empty() || loose.len() > MAX_BLOCK {
-            return Ok((0, 0));
-        }
-        let copied = Block::copied(alloc, loose.as_slice())?;
-        let made = Block::of_vec(alloc, loose)?;
-        Ok((memory_of(copied), memory_of(made)))
-    }
-
-    #[test]
-    fn copies_keep_their_bytes_alone(rt: HostRuntime) {
-        assert!(rt; memory_of_copies(rt.alloc(), b"a") == Ok((1, 1)));
-        assert!(rt; memory_of_copies(rt.alloc(), b"abcdef") == Ok((6, 6)));
-    }
 }

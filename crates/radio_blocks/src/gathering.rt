@@ -114,32 +114,3 @@ fn push_block(alloc: Global, blocks: &mut Vec<Block>, bytes: Vec<u8>) -> Result<
     blocks.push(block)?;
     Ok(())
 }
-
-#[cfg(test)]
-mod tests {
-    use super::*;
-    use crate::block::memory_of;
-
-    /// Whether each block of these parts, of which at most so many bytes were expected, keeps at most twice its bytes.
-    fn keep_little(alloc: Global, expected: usize, parts: &[&[u8]]) -> Result<bool, OutOfMemory> {
-        let mut gathering = Gathering::new(alloc, expected);
-        for part in parts {
-            gathering.add(*part)?;
-        }
-        for block in gathering.into_blocks()? {
-            let size = block.len();
-            if size * 2 < memory_of(block) {
-                return Ok(false);
-            }
-        }
-        Ok(true)
-    }
-
-    // no contract of std or of `bytes` says how much memory bytes keep
-    #[test]
-    fn blocks_of_few_bytes_keep_little(rt: HostRuntime) {
-        assert!(rt; keep_little(rt.alloc(), 1_048_576, &[b"a"]) == Ok(true));
-        assert!(rt; keep_little(rt.alloc(), 4096, &[b"a", b"b"]) == Ok(true));
-        assert!(rt; keep_little(rt.alloc(), 5000, &[&[7; 4096], &[7; 700]]) == Ok(true));
-    }
-}

@@ -1,5 +1,5 @@
 -- What it means that all passes of a book are settled.
-use Rattle.std.specs.Prelude.{◌≡◌, ◌⊎◌, ℕ, ◌<◌, ◌≤◌, ◌==◌, List, [], ◌∷◌, All, Any, count_by, length, map, sum_by}
+use Rattle.std.specs.Prelude.{◌≡◌, ◌≢◌, ◌⊎◌, ℕ, ◌+◌, ◌<◌, ◌≤◌, ◌==◌, List, [], ◌∷◌, All, Any, count_by, get_or, length, map, sum_by}
 use Rattle.std.specs.List.{flat_map}
 use Rattle.radio_book.specs.declared.entry.Entry.{Entry}
 use Rattle.radio_book.specs.declared.settling.SettleFault.{SettleFault}
@@ -27,6 +27,10 @@ Falls last seen got (x ∷ xs) = ((seen ≡ last) × (got ≡ x) × (got ≤ see
 -- how often the serial stands there
 abbrev pub times : ℕ → List ℕ → ℕ
 times serial xs = count_by (λ x. x == serial) xs
+
+-- no serial stands beside its equal
+abbrev pub HasNoTwins : List ℕ → Type 0
+HasNoTwins xs = (i : ℕ) → i + 1 < length xs → get_or xs i 0 ≢ get_or xs (i + 1) 0
 
 -- the receipt has this serial, and does not stand in the history
 abbrev pub IsStrange : List Entry → ℕ → Stamp → Type 0

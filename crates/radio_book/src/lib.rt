@@ -20,8 +20,6 @@ mod pass;
 mod receipt;
 mod settling;
 mod story;
-#[cfg(test)]
-mod tests;
 
 pub use book::{Book, PASSES};
 pub use chronicle::{Chronicle, Kept, Unkept};

@@ -6,7 +6,7 @@ ghost use Rattle.std.specs.Fmt.{IsPlainFormatter, WritesOnOk};
 ghost use Rattle.std.specs.List.{range_with_len};
 ghost use Rattle.radio_book.specs.History.{IsRun, StandsIn};
 ghost use Rattle.radio_book.specs.Words.{count_text, order_text};
-ghost use Rattle.radio_book.specs.Settling.{Falls, IsStrange, Rises, Shows, ShowsBySerials, all_serials, serials, times};
+ghost use Rattle.radio_book.specs.Settling.{Falls, IsStrange, Rises, Shows, ShowsBySerials, all_serials, serials, times, HasNoTwins};
 
 use crate::{Book, Entry, House, Kept, OutOfMemory, Pass, Receipt};
 use std::alloc::Global;
@@ -158,7 +158,7 @@ fn strange_serial<H: House>(history: &[Entry], passes: &[Pass<Kept, H>]) -> Opti
 }
 
 /// The serial of the first of these receipts that does not stand in the history.
-pub(crate) fn strange_receipt(history: &[Entry], receipts: &[Receipt]) -> Option<u64>
+fn strange_receipt(history: &[Entry], receipts: &[Receipt]) -> Option<u64>
     ensures none { IfNone result (All (StandsIn history.now) receipts.now) }
     ensures some { IfSome result (λ serial. Any (IsStrange history.now serial) receipts.now) }
 {
@@ -208,8 +208,9 @@ fn add_serials(all: &mut Vec<u64>, receipts: &[Receipt]) -> Result<(), OutOfMemo
 }
 
 /// The first serial that stands beside itself.
-pub(crate) fn double_serial(sorted: &[u64]) -> Option<u64>
-    ensures { IfSome result (λ serial. 2 ≤ times serial sorted.now) }
+fn double_serial(sorted: &[u64]) -> Option<u64>
+    ensures none { IfNone result (HasNoTwins sorted.now) }
+    ensures some { IfSome result (λ serial. 2 ≤ times serial sorted.now) }
 {
     for i in 1..sorted.len() {
         if sorted[i - 1] == sorted[i] {
@@ -233,7 +234,7 @@ fn fall<H: House>(passes: &[Pass<Kept, H>]) -> Option<(u64, u64)>
 }
 
 /// The first two serials, one after the other, of which the second is not above the first.
-pub(crate) fn fall_in(receipts: &[Receipt]) -> Option<(u64, u64)>
+fn fall_in(receipts: &[Receipt]) -> Option<(u64, u64)>
     ensures none { IfNone result (Rises 0 (serials receipts.now)) }
     ensures some { IfSome result (λ pair. Falls 0 pair.0 pair.1 (serials receipts.now)) }
 {

@@ -7,4 +7,7 @@ returns-then-sorted-i c =
     let xs = c.args.sorted.now in
     let before = c.loop-i.i - 1 in
     let at = neighbour xs c.loop-i.i 0 c.loop-i.auto.i in
-    counted_twice xs before (get_or xs c.loop-i.i 0) 0 (omega (arith, c.loop-i.auto.i, c.loop-i-test.true)) c.if-sorted-i.true at
+    record {
+      none = tt;
+      some = counted_twice xs before (get_or xs c.loop-i.i 0) 0 (omega (arith, c.loop-i.auto.i, c.loop-i-test.true)) c.if-sorted-i.true at;
+    }
