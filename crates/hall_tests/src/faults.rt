@@ -57,13 +57,21 @@ fn is_beside_a_failing_one(
     row: Row,
     failure: Failure,
 ) -> Result<bool, OutOfMemory> {
-    source_and_listener(station, failing(row.listener, failure))?;
-    station.come(giving(row.listener), 2)?;
+    come_with_a_failing_one(station, row, failure)?;
     station.turns(3, 1, 1);
     let front = station.took_front(1, row.heard);
     station.turns(4, 1, CALLS);
     let others = station.took(0, SOURCE_ANSWER) && station.took(1, row.heard);
     Ok(front && others && station.count() == 2 && !station.has(2))
+}
+
+fn come_with_a_failing_one(
+    station: &mut Station<Titling>,
+    row: Row,
+    failure: Failure,
+) -> Result<(), OutOfMemory> {
+    source_and_listener(station, failing(row.listener, failure))?;
+    station.come(giving(row.listener), 2)
 }
 
 fn beside_a_failing_one(alloc: Global, row: Row, failure: Failure) -> Result<bool, SettingsFault> {

@@ -1,17 +1,35 @@
-//! Tests of a worker's turn as its callers see it, over lines in memory: what no clause says.
+//! Tests of book, hall, a worker's turn and sockets as their callers see them: what no clause says.
+//! They stand in one crate, since what a crate of tests costs to link is the same for a few tests
+//! as for many.
 //!
+//! Of the book and the hall:
+//! - `calls`: the calls of a caller who feeds a mount and listens to it.
+//! - `two_callers`: two threads, with a pass each, over one hall; and what settles no history.
+//! - `unkept`: the same calls over a hall that stores nothing, beside a core.
+//!
+//! Of a worker's turn:
 //! - `memory_line`: a line that gives what a table says, and takes as much as it says.
 //! - `stations`: a worker over a core, and connections over such lines.
 //! - `rows`: sources and listeners who are served, turn after turn.
 //! - `house`: the same over a hall, beside another caller.
 //! - `slow`: lines that take little or nothing.
 //! - `faults`: lines that fail, at each call; and memory that is refused.
+//!
+//! Of sockets (what clients do to a running station is in `scripts/serve`):
+//! - `accepting`: how many connections in a row may not be accepted.
+//! - `loopback`: a source and listeners over TCP, in one process.
 #![tactic(auto)]
 
+#[cfg(test)]
+mod accepting;
+#[cfg(test)]
+mod calls;
 #[cfg(test)]
 mod faults;
 #[cfg(test)]
 mod house;
+#[cfg(test)]
+mod loopback;
 #[cfg(test)]
 mod memory_line;
 #[cfg(test)]
@@ -20,3 +38,7 @@ mod rows;
 mod slow;
 #[cfg(test)]
 mod stations;
+#[cfg(test)]
+mod two_callers;
+#[cfg(test)]
+mod unkept;

@@ -1,6 +1,6 @@
 use Rattle.radio_access.specs.Lists.{no_lists}
 use Rattle.radio_core.specs.World.{opening}
-use Rattle.book_tests.proofs.two_callers.a_pass_is_left_out.Given as goal
+use Rattle.hall_tests.proofs.two_callers.a_pass_is_left_out.Given as goal
 
 -- the house that is opened here
 abbrev pub ghosts-history_of_two-H-House : goal.ghosts-history_of_two-H-House

@@ -133,9 +133,18 @@ impl Visit for EightBytes {
         let mut source = station.client(rt, SOURCE)?;
         let listener = listener_of(rt, station, &mut source);
         drop(source);
-        let is_over = station.serve(rt) && is_over(listener?)?;
-        Ok(is_over && station.serve(rt) && station.conns.is_empty())
+        is_left(rt, station, listener?)
     }
+}
+
+/// Whether this listener is closed at his station, and nobody is left there.
+fn is_left(
+    rt: &HostRuntime,
+    station: &mut Station,
+    listener: Option<TcpStream>,
+) -> io::Result<bool> {
+    let is_over = station.serve(rt) && is_over(listener)?;
+    Ok(is_over && station.serve(rt) && station.conns.is_empty())
 }
 
 /// A listener who has heard the eight bytes of this source.

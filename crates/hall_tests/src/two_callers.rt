@@ -37,9 +37,16 @@ fn arrive<H: House, R: Wait>(
     hall: &Hall<Kept, H>,
     pass: &mut Pass<Kept, H>,
 ) -> Result<u64, OutOfMemory> {
-    match call(rt, hall, pass, arrival())? {
-        Reply::Arrived(id) => Ok(id),
-        _ => Ok(0),
+    let reply = call(rt, hall, pass, arrival())?;
+    let number = number_given(&reply);
+    drop(reply);
+    Ok(number)
+}
+
+fn number_given(reply: &Reply) -> u64 {
+    match reply {
+        Reply::Arrived(id) => *id,
+        _ => 0,
     }
 }
 
@@ -108,10 +115,27 @@ fn passes_of_two<H: House + Send + Sync, R: Threads + Wait + Sync>(
 ) -> Result<Vec<Pass<Kept, H>>, OutOfMemory> {
     let mut passes = Vec::new(alloc);
     if let Some((first, second)) = serve_both(rt, alloc, hall) {
-        passes.push(first?)?;
-        passes.push(second?)?;
+        add_both(&mut passes, first, second)?;
     }
     Ok(passes)
+}
+
+fn add_both<H: House>(
+    passes: &mut Vec<Pass<Kept, H>>,
+    first: Called<H>,
+    second: Called<H>,
+) -> Result<(), OutOfMemory> {
+    let added = add_called(passes, first);
+    add_called(passes, second)?;
+    added
+}
+
+fn add_called<H: House>(
+    passes: &mut Vec<Pass<Kept, H>>,
+    called: Called<H>,
+) -> Result<(), OutOfMemory> {
+    passes.push(called?)?;
+    Ok(())
 }
 
 /// The history of two threads, as so many of their passes settle it.
@@ -174,6 +198,14 @@ fn is_drawn(reply: &Reply) -> bool {
     }
 }
 
+/// Whether it is the history of two callers: a core replies all of it again, and it has their draws.
+fn is_of_two(alloc: Global, history: Vec<Entry>) -> Result<bool, Fail> {
+    let again = replayed(alloc, history.as_slice());
+    let drawn = count_drawn(history.as_slice());
+    drop(history);
+    Ok(again? == 2 * CALLS && drawn == 2 * DRAWS)
+}
+
 fn passes_of<H: House>(
     alloc: Global,
     pass: Option<Pass<Kept, H>>,
@@ -204,8 +236,7 @@ fn history_of_none<H: House, R: Wait>(
 fn two_callers(rt: HostRuntime) -> Result<(), Fail> {
     let settings = station(rt.alloc())?;
     let history = history_of_two::<Brand, _>(&rt, rt.alloc(), settings, Blank::new(PASSES), 2)?;
-    assert_eq!(&rt; replayed(rt.alloc(), history.as_slice())?, 2 * CALLS);
-    assert_eq!(&rt; count_drawn(history.as_slice()), 2 * DRAWS);
+    assert!(&rt; is_of_two(rt.alloc(), history)?);
     Ok(())
 }
 

@@ -59,7 +59,11 @@ fn is_alike<H: House, R: Wait>(
     event: Event,
 ) -> Result<bool, OutOfMemory> {
     match step_copy(core, &event) {
-        Ok(want) => is_answered(rt, hall, pass, event, &want),
+        Ok(want) => {
+            let alike = is_answered(rt, hall, pass, event, &want);
+            drop(want);
+            alike
+        }
         Err(refused) => {
             drop(event);
             Err(refused)

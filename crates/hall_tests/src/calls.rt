@@ -58,15 +58,44 @@ pub fn events_of(
     listener: u64,
 ) -> Result<Vec<Event>, OutOfMemory> {
     let mut events = Vec::new(alloc);
+    push_requests(alloc, &mut events, path, source, listener)?;
+    push_titled(alloc, &mut events, source, listener)?;
+    push_leaving(&mut events, source, listener)?;
+    Ok(events)
+}
+
+/// They say what they want.
+fn push_requests(
+    alloc: Global,
+    events: &mut Vec<Event>,
+    path: &str,
+    source: u64,
+    listener: u64,
+) -> Result<(), OutOfMemory> {
     events.push(source_event(alloc, source, path)?)?;
     events.push(listen_event(alloc, listener, path)?)?;
+    Ok(())
+}
+
+/// Titles are set, and blocks are delivered and drawn after each.
+fn push_titled(
+    alloc: Global,
+    events: &mut Vec<Event>,
+    source: u64,
+    listener: u64,
+) -> Result<(), OutOfMemory> {
     for title in TITLES {
         events.push(title_event(alloc, source, title)?)?;
-        push_rounds(alloc, &mut events, source, listener)?;
+        push_rounds(alloc, events, source, listener)?;
     }
+    Ok(())
+}
+
+/// They leave.
+fn push_leaving(events: &mut Vec<Event>, source: u64, listener: u64) -> Result<(), OutOfMemory> {
     events.push(Event::Leave { id: listener })?;
     events.push(Event::Leave { id: source })?;
-    Ok(events)
+    Ok(())
 }
 
 /// Blocks are delivered and drawn.
