@@ -1,7 +1,7 @@
-//! Tests over tables of texts and over devices that fail.
+//! Tests over devices that fail, and over lists of deliveries. Lines of scripts and transcripts are rows and cases of the
+//! end-to-end scripts.
 
 mod devices;
 mod echo;
-mod lines;
 mod play;
 mod run;

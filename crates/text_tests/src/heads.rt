@@ -6,34 +6,21 @@ mod faults;
 mod requests;
 mod responses;
 
-use radio_heads::{HeadFault, Progress, read_request, read_response};
+use radio_heads::{HeadFault, Progress, read_request};
 
-/// What a reading gave, without the head itself.
-#[derive(Clone, Copy, Debug, PartialEq, Eq)]
-enum Seen {
-    More,
-    Whole(usize),
-    Fault(HeadFault),
-}
+/// What a reading gave: the length of the head, or 0 where more is waited for.
+type Seen = Result<usize, HeadFault>;
 
-const BAD: Seen = Seen::Fault(HeadFault::BadHead);
-
-const MANY: Seen = Seen::Fault(HeadFault::TooManyHeaders);
-
-const LONG: Seen = Seen::Fault(HeadFault::HeadTooLong);
+const BAD: Seen = Err(HeadFault::BadHead);
 
 fn seen_of<T: Drop>(reading: Result<Progress<T>, HeadFault>) -> Seen {
     match reading {
-        Ok(Progress::More) => Seen::More,
-        Ok(Progress::Whole(_, length)) => Seen::Whole(length),
-        Err(fault) => Seen::Fault(fault),
+        Ok(Progress::More) => Ok(0),
+        Ok(Progress::Whole(_, length)) => Ok(length),
+        Err(fault) => Err(fault),
     }
 }
 
 fn seen_in_request(bytes: &[u8]) -> Seen {
     seen_of(read_request(bytes))
-}
-
-fn seen_in_response(bytes: &[u8]) -> Seen {
-    seen_of(read_response(bytes))
 }

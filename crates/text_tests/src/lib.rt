@@ -1,7 +1,7 @@
-//! Tests of what is read from texts and written as texts, as callers see it: what no clause says. Each call succeeds
-//! with ample memory, and the definitions mean what the standards and the rules say, on examples from outside.
+//! Tests of what is read from texts and written as texts, as callers see it: what no clause says and no program shows.
+//! Lists of addresses and of users, and what they let in, are rows of the end-to-end scripts.
 //!
-//! - `texts`: numbers and cuts; `addresses`: peers and address lists; `credentials`: pairs and user lists.
+//! - `addresses`: peers as texts; `credentials`: values that no head can hold, and secrets.
 //! - `heads`: heads of requests and answers, and texts of answers.
 #![tactic(auto)]
 
@@ -11,5 +11,3 @@ mod addresses;
 mod credentials;
 #[cfg(test)]
 mod heads;
-#[cfg(test)]
-mod texts;

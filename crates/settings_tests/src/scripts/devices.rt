@@ -1,18 +1,16 @@
-//! Devices for tests: they fail at one of their calls, take or give few bytes a call, count for
-//! themselves, or keep back what they take.
+//! Devices for tests: they fail at one of their calls, take or give a byte a call and count for themselves, or keep back
+//! what they take.
 
 use std::io;
 use std::io::{Error, ErrorKind, Read, Write};
 
-/// A device that fails once, with an interrupted call, and gives or takes at most so many bytes a
-/// call. It counts its calls and its failures itself.
+/// A device that fails once, with an interrupted call, and gives or takes at most a byte a call. It counts its calls and
+/// its failures itself.
 #[derive(Drop)]
 pub struct Frail<D> {
     pub device: D,
     /// How many calls go well before the one that fails.
     pub sound: u64,
-    /// How many bytes a call gives or takes at most.
-    pub most: usize,
     /// How often it was called to read or to write.
     pub calls: u64,
     /// How often it failed.
@@ -20,12 +18,11 @@ pub struct Frail<D> {
 }
 
 impl<D> Frail<D> {
-    /// It moves a byte a call, and fails once, after so many sound calls.
+    /// It fails once, after so many sound calls.
     pub fn new(device: D, sound: u64) -> Frail<D> {
         Frail {
             device,
             sound,
-            most: 1,
             calls: 0,
             failures: 0,
         }
@@ -46,7 +43,7 @@ impl<D: Read> Read for Frail<D> {
         if self.fails() {
             return Err(Error::from(ErrorKind::Interrupted));
         }
-        let most = self.most.min(buffer.len());
+        let most = buffer.len().min(1);
         self.device.read(&mut buffer[..most])
     }
 }
@@ -56,7 +53,7 @@ impl<D: Write> Write for Frail<D> {
         if self.fails() {
             return Err(Error::from(ErrorKind::Interrupted));
         }
-        let most = self.most.min(buffer.len());
+        let most = buffer.len().min(1);
         self.device.write(&buffer[..most])
     }
 

@@ -1,9 +1,10 @@
 //! Every key given once and read back, and every default.
 
-use super::*;
 use radio_settings::{
-    AccessSettings, Field, LimitSettings, Login, MountOptions, RelaySetting, SlaveSetting, Text,
+    AccessSettings, Field, LimitSettings, ListenSettings, Login, MountName, MountOptions,
+    RelaySetting, Settings, SlaveSetting, Text,
 };
+use std::alloc::Global;
 
 const EVERY_KEY: &str = "
 source-password = \"sp\"
@@ -73,51 +74,62 @@ master-password = \"spw\"
 /// What a text sets, with `-` for what is absent and 0 for no limit: of the mount `/a`, of the mount `/b`, which has no
 /// table, and of the relay that feeds `/e`.
 struct Station {
-    access: &'static [&'static str],
+    access: [&'static str; 7],
     address: &'static str,
-    listen: &'static [u32],
-    limits: &'static [u32],
-    mount: &'static [&'static str],
-    mount_numbers: &'static [u32],
-    mount_flags: &'static [bool],
-    other_mount: &'static [&'static str],
-    other_numbers: &'static [u32],
-    relay: &'static [&'static str],
-    slave: &'static [&'static str],
+    listen: [u32; 2],
+    limits: [u32; 6],
+    mount: Mount,
+    other_mount: Mount,
+    relay: [&'static str; 5],
     relay_port: u32,
-    slave_numbers: &'static [u32],
+    slave: [&'static str; 3],
+    slave_numbers: [u32; 2],
+}
+
+struct Mount {
+    texts: [&'static str; 6],
+    numbers: [u32; 4],
+    flags: [bool; 4],
 }
 
 const EVERY_KEY_SET: Station = Station {
-    access: &["sp", "au", "ap", "ru", "rp", "d", "a"],
+    access: ["sp", "au", "ap", "ru", "rp", "d", "a"],
     address: "::",
-    listen: &[1, 2],
-    limits: &[3, 4, 5, 6, 7, 8],
-    mount: &["mu", "mp", "/b", "Night", "Talk", "h"],
-    mount_numbers: &[9, 10, 11, 12],
-    mount_flags: &[true, true, true, false],
-    other_mount: &["source", "sp", "-", "-", "-", "-"],
-    other_numbers: &[0, 0, 6, 16000],
-    relay: &["s", "/c", "/e", "u", "p"],
-    slave: &["m", "su", "spw"],
+    listen: [1, 2],
+    limits: [3, 4, 5, 6, 7, 8],
+    mount: Mount {
+        texts: ["mu", "mp", "/b", "Night", "Talk", "h"],
+        numbers: [9, 10, 11, 12],
+        flags: [true, true, true, false],
+    },
+    other_mount: Mount {
+        texts: ["source", "sp", "-", "-", "-", "-"],
+        numbers: [0, 0, 6, 16000],
+        flags: [false, false, false, true],
+    },
+    relay: ["s", "/c", "/e", "u", "p"],
     relay_port: 13,
-    slave_numbers: &[14, 15],
+    slave: ["m", "su", "spw"],
+    slave_numbers: [14, 15],
+};
+
+const DEFAULT_MOUNT: Mount = Mount {
+    texts: ["source", "sp", "-", "-", "-", "-"],
+    numbers: [0, 0, 65_536, 16000],
+    flags: [false, false, false, true],
 };
 
 const DEFAULTS: Station = Station {
-    access: &["sp", "admin", "ap", "relay", "-", "-", "-"],
+    access: ["sp", "admin", "ap", "relay", "-", "-", "-"],
     address: "127.0.0.1",
-    listen: &[8000, 4],
-    limits: &[100, 2, 524_288, 65_536, 10, 15],
-    mount: &["source", "sp", "-", "-", "-", "-"],
-    mount_numbers: &[0, 0, 65_536, 16000],
-    mount_flags: &[false, false, false, true],
-    other_mount: &["source", "sp", "-", "-", "-", "-"],
-    other_numbers: &[0, 0, 65_536, 16000],
-    relay: &["s", "/e", "/e", "-", "-"],
-    slave: &["m", "relay", "spw"],
+    listen: [8000, 4],
+    limits: [100, 2, 524_288, 65_536, 10, 15],
+    mount: DEFAULT_MOUNT,
+    other_mount: DEFAULT_MOUNT,
+    relay: ["s", "/e", "/e", "-", "-"],
     relay_port: 8000,
-    slave_numbers: &[8000, 120],
+    slave: ["m", "relay", "spw"],
+    slave_numbers: [8000, 120],
 };
 
 fn access_texts(access: &AccessSettings) -> [&str; 7] {
@@ -214,53 +226,57 @@ fn name_or_dash(name: &Option<MountName>) -> &str {
     }
 }
 
+fn is_listen(listen: &ListenSettings, want: &Station) -> bool {
+    listen.address.as_str() == want.address
+        && [listen.port.get(), listen.workers.get()] == want.listen
+}
+
 /// Whether the keys above all tables, `[listen]` and `[limits]` are as wanted.
 fn has_basics(settings: &Settings, want: &Station) -> bool {
-    access_texts(&settings.access).as_slice() == want.access
-        && settings.listen.address.as_str() == want.address
-        && [settings.listen.port.get(), settings.listen.workers.get()].as_slice() == want.listen
-        && limit_numbers(&settings.limits).as_slice() == want.limits
+    access_texts(&settings.access) == want.access
+        && is_listen(&settings.listen, want)
+        && limit_numbers(&settings.limits) == want.limits
 }
 
-fn has_mount(settings: &Settings, want: &Station) -> bool {
-    let Some(name) = MountName::read(b"/a") else {
-        return false;
-    };
-    let options = settings.options(&name);
-    mount_texts(options).as_slice() == want.mount
-        && mount_numbers(options).as_slice() == want.mount_numbers
-        && mount_flags(options).as_slice() == want.mount_flags
+fn is_mount(options: &MountOptions, want: &Mount) -> bool {
+    mount_texts(options) == want.texts
+        && mount_numbers(options) == want.numbers
+        && mount_flags(options) == want.flags
 }
 
-fn has_other_mount(settings: &Settings, want: &Station) -> bool {
-    let Some(name) = MountName::read(b"/b") else {
-        return false;
-    };
-    let options = settings.options(&name);
-    mount_texts(options).as_slice() == want.other_mount
-        && mount_numbers(options).as_slice() == want.other_numbers
-        && mount_flags(options) == [false, false, false, true]
+fn has_mount(settings: &Settings, path: &[u8], want: &Mount) -> bool {
+    match MountName::read(path) {
+        Some(name) => is_mount(settings.options(&name), want),
+        None => false,
+    }
 }
 
-fn has_relay(settings: &Settings, want: &Station) -> bool {
-    let Some(name) = MountName::read(b"/e") else {
-        return false;
-    };
-    let Some(relay) = settings.relays.get(&name) else {
-        return false;
-    };
-    relay_texts(relay).as_slice() == want.relay
+fn is_relay(relay: &RelaySetting, want: &Station) -> bool {
+    relay_texts(relay) == want.relay
         && !relay.on_demand
         && relay.master.port.get() == want.relay_port
 }
 
+fn has_relay(settings: &Settings, path: &[u8], want: &Station) -> bool {
+    match MountName::read(path) {
+        Some(name) => settings
+            .relays
+            .get(&name)
+            .is_some_and(|relay| is_relay(relay, want)),
+        None => false,
+    }
+}
+
+fn is_slave(slave: &SlaveSetting, want: &Station) -> bool {
+    slave_texts(slave) == want.slave
+        && [slave.master.port.get(), slave.master_update_interval.get()] == want.slave_numbers
+}
+
 fn has_slave(settings: &Settings, want: &Station) -> bool {
-    let Some(slave) = &settings.slave else {
-        return false;
-    };
-    slave_texts(slave).as_slice() == want.slave
-        && [slave.master.port.get(), slave.master_update_interval.get()].as_slice()
-            == want.slave_numbers
+    match &settings.slave {
+        Some(slave) => is_slave(slave, want),
+        None => false,
+    }
 }
 
 fn slave_texts(slave: &SlaveSetting) -> [&str; 3] {
@@ -274,9 +290,9 @@ fn slave_texts(slave: &SlaveSetting) -> [&str; 3] {
 /// Whether the settings are those of a station.
 fn is_station(settings: &Settings, want: &Station) -> bool {
     has_basics(settings, want)
-        && has_mount(settings, want)
-        && has_other_mount(settings, want)
-        && has_relay(settings, want)
+        && has_mount(settings, b"/a", &want.mount)
+        && has_mount(settings, b"/b", &want.other_mount)
+        && has_relay(settings, b"/e", want)
         && has_slave(settings, want)
 }
 
@@ -291,11 +307,11 @@ fn sets(alloc: Global, text: &str, want: &Station) -> bool {
 }
 
 /// Texts, and what they set.
-const STATIONS: &[(&str, Station)] = &[(EVERY_KEY, EVERY_KEY_SET), (NEEDED_KEYS, DEFAULTS)];
+const STATIONS: &[(&str, &Station)] = &[(EVERY_KEY, &EVERY_KEY_SET), (NEEDED_KEYS, &DEFAULTS)];
 
 #[test]
 fn every_key_and_its_default(rt: HostRuntime) {
     for (text, want) in STATIONS {
-        assert!(rt; sets(rt.alloc(), text, want), "{text}");
+        assert!(rt; sets(rt.alloc(), text, want));
     }
 }

@@ -1,7 +1,8 @@
 //! Want of memory is told as such, and leaves nothing behind. Run it with each request for memory refused in turn, by
 //! `rt try --test --fail-alloc N`.
 
-use super::*;
+use radio_settings::{Settings, SettingsFault};
+use std::alloc::Global;
 
 const STATION: &str = "
 source-password = \"a\"
@@ -20,10 +21,21 @@ master-server = \"s\"
 master-password = \"p\"
 ";
 
+/// The fault of the station's text; `None` where it has none.
+fn fault_of_station(alloc: Global) -> Option<SettingsFault> {
+    Settings::read(alloc, STATION).err()
+}
+
+/// Whether the station is read, if need be at a second reading, behind one for which memory was refused.
+fn is_read_after_refusals(alloc: Global) -> bool {
+    match fault_of_station(alloc) {
+        Some(SettingsFault::OutOfMemory) => fault_of_station(alloc).is_none(),
+        Some(_) => false,
+        None => true,
+    }
+}
+
 #[test]
 fn refusals_are_told(rt: HostRuntime) {
-    if let Some(fault) = fault_of(rt.alloc(), STATION) {
-        assert_eq!(rt; fault, SettingsFault::OutOfMemory);
-        assert_eq!(rt; fault_of(rt.alloc(), STATION), None);
-    }
+    assert!(rt; is_read_after_refusals(rt.alloc()));
 }

@@ -1,5 +1,5 @@
 //! Heads of responses as masters send them, and their parts.
-use super::{BAD, Seen, seen_in_response};
+use super::{BAD, Seen, seen_of};
 use radio_heads::{Progress, Version, read_response};
 
 /// A response's length, version, status and content type.
@@ -27,17 +27,17 @@ fn parts_of(bytes: &[u8]) -> Option<Parts<'_>> {
 #[test]
 fn parts_of_responses(rt: HostRuntime) {
     for (bytes, want) in RESPONSES {
-        assert!(rt; parts_of(bytes) == Some(*want), "{bytes:?}");
+        assert!(rt; parts_of(bytes) == Some(*want));
     }
 }
 
 const STATUS_LINES: &[(&[u8], Seen)] = &[
-    (b"", Seen::More),
-    (b"HTTP/1.0 200 OK\r\n\r", Seen::More),
-    (b"HTTP/1.0 200 OK\r\n\r\n", Seen::Whole(19)),
-    (b"HTTP/1.0 200 \r\n\r\n", Seen::Whole(17)),
-    (b"HTTP/1.0 200\r\n\r\n", Seen::Whole(16)),
-    (b"HTTP/1.0 200 \xe9t\xe9\r\n\r\n", Seen::Whole(20)),
+    (b"", Ok(0)),
+    (b"HTTP/1.0 200 OK\r\n\r", Ok(0)),
+    (b"HTTP/1.0 200 OK\r\n\r\n", Ok(19)),
+    (b"HTTP/1.0 200 \r\n\r\n", Ok(17)),
+    (b"HTTP/1.0 200\r\n\r\n", Ok(16)),
+    (b"HTTP/1.0 200 \xe9t\xe9\r\n\r\n", Ok(20)),
     (b"ICY 200 OK\r\n\r\n", BAD),
     (b"HTTP/2 200 OK\r\n\r\n", BAD),
     (b"HTTP/1.0 20 OK\r\n\r\n", BAD),
@@ -51,6 +51,6 @@ const STATUS_LINES: &[(&[u8], Seen)] = &[
 #[test]
 fn status_lines(rt: HostRuntime) {
     for (bytes, want) in STATUS_LINES {
-        assert!(rt; seen_in_response(bytes) == *want, "{bytes:?}");
+        assert!(rt; seen_of(read_response(bytes)) == *want);
     }
 }
