@@ -1,7 +1,7 @@
-//! Tests of settings and of scripts, as callers see them: what no clause says. Each call succeeds with ample memory, and
-//! the definitions mean what the rules say, on texts, and over devices that fail.
+//! Tests of settings and of scripts, as callers see them: what no clause says and no program shows. Each call succeeds
+//! with ample memory, every key is read back, and scripts are played over devices that fail.
 //!
-//! - `settings`: texts with their settings and faults; `scripts`: lines of scripts and transcripts, and whole scripts.
+//! - `settings`: keys, names and want of memory; `scripts`: whole scripts, and lists of deliveries.
 #![tactic(auto)]
 
 #[cfg(test)]

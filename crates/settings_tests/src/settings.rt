@@ -4,4 +4,3 @@
 mod every_key;
 mod memory;
 mod names;
-mod texts;

@@ -24,25 +24,13 @@ impl Performer for Echo {
         lines: &mut Vec<u8>,
     ) -> Result<(), PerformFault> {
         match delivery {
-            Delivery::To { label, input } => answer_input(alloc, lines, *label, input),
+            Delivery::To { label, input } => match input {
+                Input::Data(bytes) => answer(alloc, lines, *label, bytes.as_slice(), None),
+                Input::End => answer(alloc, lines, *label, &[], Some("done")),
+                Input::Room(_) | Input::Title(_) => Ok(()),
+            },
             _ => Ok(()),
         }
-    }
-}
-
-// Bytes come back, and the end is answered.
-fn answer_input(
-    alloc: Global,
-    lines: &mut Vec<u8>,
-    label: u32,
-    input: &Input,
-) -> Result<(), PerformFault>
-    ensures { OnOk result ((text : List ℕ) × (lines.new.items ≡ lines.old.items ++ text)) }
-{
-    match input {
-        Input::Data(bytes) => answer(alloc, lines, label, bytes.as_slice(), None),
-        Input::Room(_) | Input::Title(_) => Ok(()),
-        Input::End => answer(alloc, lines, label, &[], Some("done")),
     }
 }
 

@@ -1,8 +1,7 @@
 //! Every key given once and read back, and every default.
 
 use radio_settings::{
-    AccessSettings, Field, LimitSettings, ListenSettings, Login, MountName, MountOptions,
-    RelaySetting, Settings, SlaveSetting, Text,
+    Field, Login, MountName, MountOptions, RelaySetting, Settings, SlaveSetting, Text, Within,
 };
 use std::alloc::Global;
 
@@ -74,10 +73,8 @@ master-password = \"spw\"
 /// What a text sets, with `-` for what is absent and 0 for no limit: of the mount `/a`, of the mount `/b`, which has no
 /// table, and of the relay that feeds `/e`.
 struct Station {
-    access: [&'static str; 7],
-    address: &'static str,
-    listen: [u32; 2],
-    limits: [u32; 6],
+    texts: [&'static str; 8],
+    numbers: [u32; 8],
     mount: Mount,
     other_mount: Mount,
     relay: [&'static str; 5],
@@ -93,10 +90,8 @@ struct Mount {
 }
 
 const EVERY_KEY_SET: Station = Station {
-    access: ["sp", "au", "ap", "ru", "rp", "d", "a"],
-    address: "::",
-    listen: [1, 2],
-    limits: [3, 4, 5, 6, 7, 8],
+    texts: ["sp", "au", "ap", "ru", "rp", "d", "a", "::"],
+    numbers: [1, 2, 3, 4, 5, 6, 7, 8],
     mount: Mount {
         texts: ["mu", "mp", "/b", "Night", "Talk", "h"],
         numbers: [9, 10, 11, 12],
@@ -120,10 +115,8 @@ const DEFAULT_MOUNT: Mount = Mount {
 };
 
 const DEFAULTS: Station = Station {
-    access: ["sp", "admin", "ap", "relay", "-", "-", "-"],
-    address: "127.0.0.1",
-    listen: [8000, 4],
-    limits: [100, 2, 524_288, 65_536, 10, 15],
+    texts: ["sp", "admin", "ap", "relay", "-", "-", "-", "127.0.0.1"],
+    numbers: [8000, 4, 100, 2, 524_288, 65_536, 10, 15],
     mount: DEFAULT_MOUNT,
     other_mount: DEFAULT_MOUNT,
     relay: ["s", "/e", "/e", "-", "-"],
@@ -132,7 +125,9 @@ const DEFAULTS: Station = Station {
     slave_numbers: [8000, 120],
 };
 
-fn access_texts(access: &AccessSettings) -> [&str; 7] {
+/// The texts above all tables, and the address.
+fn basic_texts(settings: &Settings) -> [&str; 8] {
+    let access = &settings.access;
     [
         access.source_password.as_str(),
         access.admin.username.as_str(),
@@ -141,11 +136,16 @@ fn access_texts(access: &AccessSettings) -> [&str; 7] {
         or_dash(&access.relays.password),
         or_dash(&access.addresses.deny_ip),
         or_dash(&access.addresses.allow_ip),
+        settings.listen.address.as_str(),
     ]
 }
 
-fn limit_numbers(limits: &LimitSettings) -> [u32; 6] {
+/// The numbers of `[listen]` and of `[limits]`.
+fn basic_numbers(settings: &Settings) -> [u32; 8] {
+    let limits = &settings.limits;
     [
+        settings.listen.port.get(),
+        settings.listen.workers.get(),
         limits.clients.get(),
         limits.sources.get(),
         limits.queue_size.get(),
@@ -168,14 +168,18 @@ fn mount_texts(options: &MountOptions) -> [&str; 6] {
 
 fn mount_numbers(options: &MountOptions) -> [u32; 4] {
     [
-        options.listeners.max_listeners.map_or(0, |most| most.get()),
-        options
-            .listeners
-            .max_listener_duration
-            .map_or(0, |longest| longest.get()),
+        or_zero(options.listeners.max_listeners),
+        or_zero(options.listeners.max_listener_duration),
         options.stream.burst_size.get(),
         options.stream.mp3_metadata_interval.get(),
     ]
+}
+
+fn or_zero<const LOW: u32, const HIGH: u32>(limit: Option<Within<LOW, HIGH>>) -> u32 {
+    match limit {
+        Some(limit) => limit.get(),
+        None => 0,
+    }
 }
 
 fn mount_flags(options: &MountOptions) -> [bool; 4] {
@@ -226,16 +230,17 @@ fn name_or_dash(name: &Option<MountName>) -> &str {
     }
 }
 
-fn is_listen(listen: &ListenSettings, want: &Station) -> bool {
-    listen.address.as_str() == want.address
-        && [listen.port.get(), listen.workers.get()] == want.listen
+/// Whether another handle on a text has the same text.
+fn is_shared(text: &Text) -> bool {
+    match text.clone() {
+        Ok(other) => other.as_str() == text.as_str(),
+        Err(_) => false,
+    }
 }
 
 /// Whether the keys above all tables, `[listen]` and `[limits]` are as wanted.
 fn has_basics(settings: &Settings, want: &Station) -> bool {
-    access_texts(&settings.access) == want.access
-        && is_listen(&settings.listen, want)
-        && limit_numbers(&settings.limits) == want.limits
+    basic_texts(settings) == want.texts && basic_numbers(settings) == want.numbers
 }
 
 fn is_mount(options: &MountOptions, want: &Mount) -> bool {
@@ -257,12 +262,14 @@ fn is_relay(relay: &RelaySetting, want: &Station) -> bool {
         && relay.master.port.get() == want.relay_port
 }
 
+/// The relay that feeds a mount.
+fn relay_at<'a>(settings: &'a Settings, path: &[u8]) -> Option<&'a RelaySetting> {
+    settings.relays.get(&MountName::read(path)?)
+}
+
 fn has_relay(settings: &Settings, path: &[u8], want: &Station) -> bool {
-    match MountName::read(path) {
-        Some(name) => settings
-            .relays
-            .get(&name)
-            .is_some_and(|relay| is_relay(relay, want)),
+    match relay_at(settings, path) {
+        Some(relay) => is_relay(relay, want),
         None => false,
     }
 }
@@ -290,6 +297,7 @@ fn slave_texts(slave: &SlaveSetting) -> [&str; 3] {
 /// Whether the settings are those of a station.
 fn is_station(settings: &Settings, want: &Station) -> bool {
     has_basics(settings, want)
+        && is_shared(&settings.access.source_password)
         && has_mount(settings, b"/a", &want.mount)
         && has_mount(settings, b"/b", &want.other_mount)
         && has_relay(settings, b"/e", want)
