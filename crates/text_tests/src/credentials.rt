@@ -1,5 +1,5 @@
-//! Values that no head can hold, what is answered without memory, and what is shown of secrets. Pairs and user lists are
-//! rows of the end-to-end scripts.
+//! Values that no head can hold, what is answered without memory, and what is shown of secrets.
+//! Pairs and user lists are rows of the end-to-end scripts.
 
 use radio_creds::{Pair, Users, basic};
 use std::alloc::Global;

@@ -1,11 +1,11 @@
-//! Devices for tests: they fail at one of their calls, take or give a byte a call and count for themselves, or keep back
-//! what they take.
+//! Devices for tests: they fail at one of their calls, take or give a byte a call and count for
+//! themselves, or keep back what they take.
 
 use std::io;
 use std::io::{Error, ErrorKind, Read, Write};
 
-/// A device that fails once, with an interrupted call, and gives or takes at most a byte a call. It counts its calls and
-/// its failures itself.
+/// A device that fails once, with an interrupted call, and gives or takes at most a byte a call. It
+/// counts its calls and its failures itself.
 #[derive(Drop)]
 pub struct Frail<D> {
     pub device: D,

@@ -73,7 +73,9 @@ master-password = \"spw\"
 /// What a text sets, with `-` for what is absent and 0 for no limit: of the mount `/a`, of the mount `/b`, which has no
 /// table, and of the relay that feeds `/e`.
 struct Station {
+    /// The texts above all tables, and the address.
     texts: [&'static str; 8],
+    /// The numbers of `[listen]` and of `[limits]`.
     numbers: [u32; 8],
     mount: Mount,
     other_mount: Mount,
@@ -83,6 +85,7 @@ struct Station {
     slave_numbers: [u32; 2],
 }
 
+/// What holds for a mount, in the order of `mount_texts`, `mount_numbers` and `mount_flags`.
 struct Mount {
     texts: [&'static str; 6],
     numbers: [u32; 4],
