@@ -98,8 +98,16 @@ fn history_of_titled<H: House, R: Wait>(
     let hall: Hall<Kept, H> = Hall::new(alloc, settings, Lists::new(alloc), blank);
     let mut passes = Vec::new(alloc);
     let heard = titled(rt, alloc, &hall, &mut passes);
-    let entries = settle(alloc, hall, passes)?.len();
+    let entries = entries_settled(alloc, hall, passes)?;
     Ok((heard?, entries))
+}
+
+fn entries_settled<H: House>(
+    alloc: Global,
+    hall: Hall<Kept, H>,
+    passes: Vec<Pass<Kept, H>>,
+) -> Result<usize, SettleFault> {
+    Ok(settle(alloc, hall, passes)?.len())
 }
 
 #[test]
