@@ -7,7 +7,7 @@ use crate::address::{Address, read_address};
 use radio_texts::{cut, read_number, without_blanks, without_return};
 
 /// The addresses that agree with `address` in its first `bits` bits.
-#[derive(Debug, Clone, Copy, PartialEq, Eq)]
+#[derive(Clone, Copy)]
 pub struct AddressRange {
     /// The address that others are compared with.
     pub address: Address,
@@ -16,7 +16,7 @@ pub struct AddressRange {
 }
 
 /// What a line of an address list says.
-#[derive(Debug, Clone, Copy)]
+#[derive(Clone, Copy)]
 pub enum Line {
     /// Nothing: it is empty, or a comment.
     Passed,

@@ -12,7 +12,7 @@ use std::fmt;
 use std::marker::Model;
 
 /// A list of addresses, as one that a server denies or allows.
-#[derive(Debug, Drop)]
+#[derive(Drop)]
 pub struct AddressList {
     ranges: Vec<AddressRange>,
 }

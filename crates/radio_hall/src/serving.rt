@@ -12,7 +12,7 @@ ghost use Rattle.std.specs.Prelude.{◌≡◌, ◌-◌, nat_le};
 
 /// The moment of a turn, and how long a line may take nothing of what is owed to it, in
 /// milliseconds.
-#[derive(Clone, Copy, Debug)]
+#[derive(Clone, Copy)]
 pub(crate) struct Now {
     pub(crate) ms: u64,
     pub(crate) patience_ms: u64,

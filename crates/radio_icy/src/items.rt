@@ -9,7 +9,7 @@ use std::marker::Model;
 use std::mem;
 
 /// A part of a woven stream.
-#[derive(Debug, Drop)]
+#[derive(Drop)]
 pub enum Item {
     /// A run of sound, of one byte at least.
     Sound(Vec<u8>),

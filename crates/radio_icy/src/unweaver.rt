@@ -12,7 +12,7 @@ use std::alloc::Global;
 use std::marker::Model;
 
 /// Takes the sound and the texts out of a woven stream, however it is cut (ICY convention: `icy-metaint`).
-#[derive(Debug, Drop)]
+#[derive(Drop)]
 pub struct Unweaver {
     alloc: Global,
     /// Bytes of sound from one block to the next.

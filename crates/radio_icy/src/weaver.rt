@@ -16,7 +16,7 @@ use std::marker::Model;
 /// After each interval of sound stands a metadata block. It carries the stream's title, where there is one that differs
 /// from the last one sent through this weaver, or none was sent; else it is one zero byte. The count of the interval
 /// goes on from call to call.
-#[derive(Debug, Drop)]
+#[derive(Drop)]
 pub struct Weaver {
     alloc: Global,
     /// Bytes of sound from one block to the next.

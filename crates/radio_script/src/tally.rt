@@ -10,7 +10,7 @@ use std::io;
 use std::io::{Error, ErrorKind, Read, Write};
 
 /// A reader or a writer with the counts of its calls and its failures.
-#[derive(Debug, Drop)]
+#[derive(Drop)]
 pub struct Tally<D> {
     device: D,
     calls: u64,

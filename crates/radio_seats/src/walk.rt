@@ -33,7 +33,7 @@ pub trait View {
 }
 
 /// What a walk finds at a mount.
-#[derive(Clone, Copy, Debug, PartialEq, Eq)]
+#[derive(Clone, Copy)]
 pub struct Found {
     /// The mount has a live source.
     pub is_live: bool,
@@ -65,7 +65,7 @@ impl Found {
 }
 
 /// Where a walk ends.
-#[derive(Clone, Copy, Debug, PartialEq, Eq)]
+#[derive(Clone, Copy)]
 pub enum Landing {
     /// At this mount, where he may sit.
     Lands(MountName),
@@ -86,7 +86,7 @@ impl Landing {
 }
 
 /// A walk.
-#[derive(Clone, Copy, Debug, PartialEq, Eq)]
+#[derive(Clone, Copy)]
 pub struct Walk {
     /// What it found at the mount that it began from.
     pub first: Found,

@@ -29,7 +29,7 @@ pub(crate) enum Hears {
 }
 
 /// What a source is told that is admitted.
-#[derive(Clone, Copy, Debug, PartialEq, Eq)]
+#[derive(Clone, Copy)]
 pub(crate) enum Greeting {
     /// That it is admitted.
     Welcome,
@@ -38,7 +38,7 @@ pub(crate) enum Greeting {
 }
 
 /// What a connection tells last of itself.
-#[derive(Clone, Copy, Debug, PartialEq, Eq)]
+#[derive(Clone, Copy)]
 pub(crate) enum LastWord {
     /// What came is refused by the connection's own rule.
     Refusal(Rule),
@@ -49,7 +49,7 @@ pub(crate) enum LastWord {
 }
 
 /// How a connection closes by itself.
-#[derive(Clone, Copy, Debug, PartialEq, Eq)]
+#[derive(Clone, Copy)]
 pub(crate) struct Closing {
     /// How many replies come before that with which it tells its last word.
     pub(crate) awaits: usize,

@@ -11,7 +11,7 @@ use std::alloc::Global;
 use std::marker::Model;
 
 /// The body of a source's request, however it is cut: plain, sized or chunked (RFC 9112, sections 6 and 7.1).
-#[derive(Debug, Drop)]
+#[derive(Drop)]
 pub struct Body {
     alloc: Global,
     position: Position,

@@ -5,7 +5,7 @@ ghost use Rattle.radio_source.specs.ChunkLine.{chunk_line_in};
 use httparse::{Status, parse_chunk_size};
 
 /// What some bytes hold of a chunk line.
-#[derive(Clone, Copy, Debug, PartialEq, Eq)]
+#[derive(Clone, Copy)]
 pub enum LineReading {
     /// A part of one.
     Unfinished,

@@ -19,7 +19,7 @@ pub const MAX_CHUNK_LINE: usize = 256;
 pub const MAX_TRAILERS: usize = 4096;
 
 /// What comes next in a body.
-#[derive(Clone, Copy, Debug)]
+#[derive(Clone, Copy)]
 pub enum Stage {
     /// Data without an end.
     Plain,
@@ -46,7 +46,7 @@ pub enum Stage {
 }
 
 /// Where the bytes of a body have led: what comes next, and what has come of a chunk line.
-#[derive(Debug, Drop)]
+#[derive(Drop)]
 pub struct Position {
     stage: Stage,
     line: ArrayVec<u8, MAX_CHUNK_LINE>,

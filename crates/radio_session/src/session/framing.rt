@@ -12,7 +12,7 @@ use radio_texts::read_number;
 use std::alloc::Global;
 
 /// How the data of a source come (RFC 9112, section 6).
-#[derive(Clone, Copy, Debug, PartialEq, Eq)]
+#[derive(Clone, Copy)]
 pub(crate) enum Framing {
     /// They are all that comes, and have no end.
     Plain,
