@@ -12,16 +12,12 @@ use std::fmt;
 use std::process::Abort;
 use std::test::Fail;
 
-/// The settings of a station, up to the limits that it sets.
-const STATION: &str = "source-password = \"hackme\"\nadmin-password = \"letmein\"\n[limits]\n";
+/// The settings of a station, up to the burst size.
+const STATION: &str =
+    "source-password = \"hackme\"\nadmin-password = \"letmein\"\n[limits]\nburst-size = ";
 
 /// What its sources send: the user `source` and that password.
 const SOURCE_PAIR: &[u8] = b"Basic c291cmNlOmhhY2ttZQ==";
-
-/// What listeners of two users send: `ann:abc` and `bob:abc`.
-const ANN: &[u8] = b"Basic YW5uOmFiYw==";
-
-const BOB: &[u8] = b"Basic Ym9iOmFiYw==";
 
 /// An event of a table, by its client's number, and the mount, the data or the room.
 #[derive(Clone, Copy)]
@@ -29,18 +25,11 @@ pub enum Call {
     Arrive,
     /// A source that tells of its stream: `audio/aac`, the name `Night`.
     Source(u64, &'static str),
-    /// A source that tells nothing.
-    PlainSource(u64, &'static str),
     Push(u64, &'static str),
     SourceEnd(u64),
     Listen(u64, &'static str),
-    /// A listener who sends the user `ann`.
-    ListenAsAnn(u64, &'static str),
-    /// A listener who sends the user `bob`.
-    ListenAsBob(u64, &'static str),
     Draw(u64, u32),
     Leave(u64),
-    Clock(u64),
 }
 
 impl Call {
@@ -49,19 +38,15 @@ impl Call {
             Call::Arrive => Ok(Event::Arrive {
                 peer: Peer::of_v4(0x0a00_0001),
             }),
-            Call::Source(id, path) => source_event(alloc, *id, path, b"audio/aac", b"Night"),
-            Call::PlainSource(id, path) => source_event(alloc, *id, path, b"audio/mpeg", b""),
+            Call::Source(id, path) => source_event(alloc, *id, path),
             Call::Push(id, text) => push_event(alloc, *id, text),
             Call::SourceEnd(id) => Ok(Event::SourceEnd { id: *id }),
-            Call::Listen(id, path) => listen_event(alloc, *id, path, b""),
-            Call::ListenAsAnn(id, path) => listen_event(alloc, *id, path, ANN),
-            Call::ListenAsBob(id, path) => listen_event(alloc, *id, path, BOB),
+            Call::Listen(id, path) => listen_event(alloc, *id, path),
             Call::Draw(id, room) => Ok(Event::Draw {
                 id: *id,
                 room: *room,
             }),
             Call::Leave(id) => Ok(Event::Leave { id: *id }),
-            Call::Clock(ms) => Ok(Event::Clock { ms: *ms }),
         }
     }
 }
@@ -71,26 +56,20 @@ impl Call {
         match self {
             Call::Arrive => "Arrive",
             Call::Source(..) => "Source",
-            Call::PlainSource(..) => "PlainSource",
             Call::Push(..) => "Push",
             Call::SourceEnd(..) => "SourceEnd",
             Call::Listen(..) => "Listen",
-            Call::ListenAsAnn(..) => "ListenAsAnn",
-            Call::ListenAsBob(..) => "ListenAsBob",
             Call::Draw(..) => "Draw",
             Call::Leave(..) => "Leave",
-            Call::Clock(..) => "Clock",
         }
     }
 
-    /// Its client, or the moment.
+    /// Its client.
     fn number(&self) -> u64 {
         match self {
             Call::Arrive => 0,
-            Call::Source(id, _) | Call::PlainSource(id, _) | Call::Push(id, _) => *id,
-            Call::Listen(id, _) | Call::ListenAsAnn(id, _) | Call::ListenAsBob(id, _) => *id,
+            Call::Source(id, _) | Call::Push(id, _) | Call::Listen(id, _) => *id,
             Call::SourceEnd(id) | Call::Draw(id, _) | Call::Leave(id) => *id,
-            Call::Clock(ms) => *ms,
         }
     }
 }
@@ -101,32 +80,20 @@ impl fmt::Debug for Call {
     }
 }
 
-fn source_event(
-    alloc: Global,
-    id: u64,
-    path: &str,
-    content_type: &[u8],
-    name: &[u8],
-) -> Result<Event, OutOfMemory> {
+fn source_event(alloc: Global, id: u64, path: &str) -> Result<Event, OutOfMemory> {
     Ok(Event::Source(SourceRequest {
         id,
         mount: Bytes::copy_from_slice(alloc, path.as_bytes())?,
         pair: basic(alloc, SOURCE_PAIR)?,
-        shown: Shown::clean(alloc, content_type, name, b"")?,
+        shown: Shown::clean(alloc, b"audio/aac", b"Night", b"")?,
     }))
 }
 
-/// The pair is that of the credentials, if they are ones.
-fn listen_event(
-    alloc: Global,
-    id: u64,
-    path: &str,
-    credentials: &[u8],
-) -> Result<Event, OutOfMemory> {
+fn listen_event(alloc: Global, id: u64, path: &str) -> Result<Event, OutOfMemory> {
     Ok(Event::Listen(ListenRequest {
         id,
         mount: Bytes::copy_from_slice(alloc, path.as_bytes())?,
-        pair: basic(alloc, credentials)?,
+        pair: None,
         wants_metadata: false,
     }))
 }
@@ -139,15 +106,9 @@ fn push_event(alloc: Global, id: u64, text: &str) -> Result<Event, OutOfMemory> 
     }
 }
 
-/// A core with this burst-size.
+/// A core of a station with this burst size.
 pub fn core_with_burst(alloc: Global, burst: u32) -> Result<Core, SettingsFault> {
-    let options = format!(in alloc; "burst-size = {burst}\n")?;
-    core_with(alloc, options.as_str())
-}
-
-/// A core of a station with these limits and tables.
-pub fn core_with(alloc: Global, options: &str) -> Result<Core, SettingsFault> {
-    let text = format!(in alloc; "{STATION}{options}")?;
+    let text = format!(in alloc; "{STATION}{burst}\n")?;
     let settings = Settings::read(alloc, text.as_str())?;
     Ok(Core::new(alloc, settings, Lists::new(alloc)))
 }
@@ -195,27 +156,8 @@ pub fn replies_in_turn(
     exercised(rt, alloc, core, &InTurn { first, next })
 }
 
-/// A core with these lines of limits and tables replies as the table says.
-pub fn replies_with(
-    rt: &impl Abort,
-    alloc: Global,
-    options: &str,
-    table: &[(Call, &'static str)],
-) -> Result<(), Fail> {
-    let core = core_with(alloc, options)?;
-    exercised(
-        rt,
-        alloc,
-        core,
-        &InTurn {
-            first: table,
-            next: &[],
-        },
-    )
-}
-
 /// Each call of the table is replied to as the table says.
-pub fn replies(
+fn replies(
     rt: &impl Abort,
     alloc: Global,
     core: &mut Core,
@@ -273,7 +215,7 @@ pub fn check_words(rt: &impl Abort, call: &Call, words: &str, want: &str) {
     assert_eq!(rt; words, want, "at {call:?}");
 }
 
-pub fn told_after(alloc: Global, core: &mut Core, call: &Call) -> Result<String, OutOfMemory> {
+fn told_after(alloc: Global, core: &mut Core, call: &Call) -> Result<String, OutOfMemory> {
     let event = call.event(alloc)?;
     let reply = core.step(event)?;
     let words = told(alloc, &reply);
