@@ -1,6 +1,6 @@
-//! Tests of book, hall, a worker's turn and sockets as their callers see them: what no clause says.
-//! They stand in one crate, since what a crate of tests costs to link is the same for a few tests
-//! as for many.
+//! Tests of book, hall and a worker's turn as their callers see them: what no clause says. What
+//! clients do to a running station is in `scripts/serve`. They stand in one crate, since what a
+//! crate of tests costs to link is the same for a few tests as for many.
 //!
 //! Of the book and the hall:
 //! - `calls`: the calls of a caller who feeds a mount and listens to it.
@@ -14,22 +14,14 @@
 //! - `house`: the same over a hall, beside another caller.
 //! - `slow`: lines that take little or nothing.
 //! - `faults`: lines that fail, at each call; and memory that is refused.
-//!
-//! Of sockets (what clients do to a running station is in `scripts/serve`):
-//! - `accepting`: how many connections in a row may not be accepted.
-//! - `loopback`: a source and listeners over TCP, in one process.
 #![tactic(auto)]
 
-#[cfg(test)]
-mod accepting;
 #[cfg(test)]
 mod calls;
 #[cfg(test)]
 mod faults;
 #[cfg(test)]
 mod house;
-#[cfg(test)]
-mod loopback;
 #[cfg(test)]
 mod memory_line;
 #[cfg(test)]
