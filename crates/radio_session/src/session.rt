@@ -29,7 +29,7 @@ pub(crate) enum Hears {
 }
 
 /// What a source is told that is admitted.
-#[derive(Clone, Copy)]
+#[derive(Clone, Copy, PartialEq, Eq)]
 pub(crate) enum Greeting {
     /// That it is admitted.
     Welcome,
