@@ -1,6 +1,6 @@
-//! Data cut into blocks.
+//! The first of several blocks, and how much memory a block keeps.
 
-use radio_blocks::{Block, Gathering, MAX_BLOCK, OutOfMemory, first_block};
+use radio_blocks::{Block, MAX_BLOCK, OutOfMemory, first_block};
 use std::alloc::Global;
 
 /// So many bytes.
@@ -55,27 +55,4 @@ fn blocks_keep_little_room(rt: HostRuntime) {
     assert!(rt; memory_of_made(rt.alloc(), b"abcd", 8) == Ok(8));
     assert!(rt; memory_of_made(rt.alloc(), b"abcd", 9) == Ok(4));
     assert!(rt; memory_of_copied(rt.alloc(), b"abcdef") == Ok(6));
-}
-
-/// Whether each block of these parts, of which at most so many bytes were expected, keeps at most
-/// twice its bytes.
-fn keep_little(alloc: Global, expected: usize, parts: &[&[u8]]) -> Result<bool, OutOfMemory> {
-    let mut gathering = Gathering::new(alloc, expected);
-    for part in parts {
-        gathering.add(*part)?;
-    }
-    for block in gathering.into_blocks()? {
-        let size = block.len();
-        if size * 2 < memory_of(block) {
-            return Ok(false);
-        }
-    }
-    Ok(true)
-}
-
-#[test]
-fn blocks_of_few_bytes_keep_little(rt: HostRuntime) {
-    assert!(rt; keep_little(rt.alloc(), 1_048_576, &[b"a"]) == Ok(true));
-    assert!(rt; keep_little(rt.alloc(), 4096, &[b"a", b"b"]) == Ok(true));
-    assert!(rt; keep_little(rt.alloc(), 5000, &[&[7; 4096], &[7; 700]]) == Ok(true));
 }

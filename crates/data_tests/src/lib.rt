@@ -1,14 +1,23 @@
-//! Tests of data and of tables, as callers see them: what no clause says. Each call succeeds with ample memory, and the
-//! definitions mean what the standards and the rules say, on examples from outside.
+//! Tests of data, texts and tables, as callers see them: what no clause says and no program shows. Each call succeeds
+//! with ample memory, and the definitions mean what the standards and the rules say, on examples from outside. More such
+//! examples are rows and cases of the end-to-end scripts.
 //!
-//! - `blocks`: data cut into blocks; `queue`: the blocks that are kept; `tables`: rows by number and by name.
-//! - `bodies`: what sources send; `icy`: sound with titles woven into it.
+//! - `tables`: rows by number and by name; `blocks`: the memory of blocks; `queue`: the blocks that are kept.
+//! - `bodies`: feeds behind an end or a fault; `icy`: sound with titles woven into it and taken out.
+//! - `addresses`: peers as texts; `credentials`: values that no head can hold, and secrets.
+//! - `heads`: queries, faults, heads of responses, and answers with a body.
 #![tactic(auto)]
 
+#[cfg(test)]
+mod addresses;
 #[cfg(test)]
 mod blocks;
 #[cfg(test)]
 mod bodies;
+#[cfg(test)]
+mod credentials;
+#[cfg(test)]
+mod heads;
 #[cfg(test)]
 mod icy;
 #[cfg(test)]

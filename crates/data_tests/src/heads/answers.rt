@@ -1,76 +1,6 @@
-//! The text of each answer, as the format page shows it.
+//! Values of headers, and answers with a body, which the server does not write yet.
 use radio_heads::{Answer, FieldValue, Progress, TextKind, Welcome, read_response, write_answer};
-use radio_policy::Status;
 use std::alloc::Global;
-
-/// What a listener is told, and the text of it: type, name, genre, interval, text.
-type Told = (
-    &'static [u8],
-    &'static [u8],
-    &'static [u8],
-    Option<u32>,
-    &'static [u8],
-);
-
-const WELCOMES: &[Told] = &[
-    (
-        b"audio/mpeg",
-        b"Radio X",
-        b"Talk",
-        Some(16000),
-        b"HTTP/1.0 200 OK\r\n\
-Content-Type: audio/mpeg\r\n\
-icy-name: Radio X\r\n\
-icy-genre: Talk\r\n\
-icy-metaint: 16000\r\n\
-Connection: close\r\n\
-\r\n",
-    ),
-    (
-        b"",
-        b"",
-        b"",
-        None,
-        b"HTTP/1.0 200 OK\r\n\
-Content-Type: \r\n\
-Connection: close\r\n\
-\r\n",
-    ),
-];
-
-/// The answer to a listener, if these may be values of headers.
-fn welcomed<'a>(
-    content_type: &'a [u8],
-    name: &'a [u8],
-    genre: &'a [u8],
-    interval: Option<u32>,
-) -> Option<Answer<'a>> {
-    Some(Answer::Listener(Welcome {
-        content_type: FieldValue::read(content_type)?,
-        name: FieldValue::read(name)?,
-        genre: FieldValue::read(genre)?,
-        interval,
-    }))
-}
-
-/// Whether a listener is told this text. Where memory was refused there is none, and `or` is told.
-fn is_welcome(alloc: Global, told: &Told, or: bool) -> bool {
-    let (content_type, name, genre, interval, text) = told;
-    match welcomed(*content_type, *name, *genre, *interval) {
-        Some(answer) => is_text(alloc, &answer, *text, or),
-        None => false,
-    }
-}
-
-/// Whether each listener is told his text, as in `is_welcome`.
-fn are_welcomes(alloc: Global, or: bool) -> bool {
-    for told in WELCOMES {
-        if !is_welcome(alloc, told, or) {
-            return false;
-        }
-    }
-    true
-}
 
 /// Bytes, and whether they may be a header's value: none that would end its line, or bring another one.
 const VALUES: &[(&[u8], bool)] = &[
@@ -95,15 +25,6 @@ fn values_of_headers(rt: HostRuntime) {
         assert!(rt; FieldValue::read(bytes).is_some() == *is_value);
     }
 }
-
-/// The text of a denial by the rule `listener-password`. The end-to-end cases have the others.
-const DENIAL: &[u8] = b"HTTP/1.0 401 Unauthorized\r\n\
-Content-Type: text/plain; charset=utf-8\r\n\
-Content-Length: 26\r\n\
-WWW-Authenticate: Basic realm=\"radio\"\r\n\
-Connection: close\r\n\
-\r\n\
-denied: listener-password\n";
 
 /// Bodies, and the texts of the answers that have them.
 const TEXTS: &[(TextKind, &[u8], &[u8])] = &[
@@ -136,16 +57,7 @@ fn is_text(alloc: Global, answer: &Answer, want: &[u8], or: bool) -> bool {
     }
 }
 
-/// Whether the denial has its text, as in `is_text`.
-fn is_denial(alloc: Global, or: bool) -> bool {
-    let answer = Answer::Denial {
-        status: Status::Unauthorized,
-        rule: "listener-password",
-    };
-    is_text(alloc, &answer, DENIAL, or)
-}
-
-/// Whether each answer with a body has its text, as in `is_text`.
+/// Whether each of these answers has its text, as in `is_text`.
 fn are_texts(alloc: Global, or: bool) -> bool {
     for (kind, body, text) in TEXTS {
         let kind = *kind;
@@ -156,20 +68,15 @@ fn are_texts(alloc: Global, or: bool) -> bool {
     true
 }
 
-/// Whether all of these have their texts, as in `is_text`.
-fn are_answers(alloc: Global, or: bool) -> bool {
-    is_denial(alloc, or) && are_texts(alloc, or) && are_welcomes(alloc, or)
-}
-
 #[test]
 fn answers(rt: HostRuntime) {
-    assert!(rt; are_answers(rt.alloc(), false));
+    assert!(rt; are_texts(rt.alloc(), false));
 }
 
 /// Where memory runs out there is an error, and else the whole text.
 #[test]
 fn refused_memory(rt: HostRuntime) {
-    assert!(rt; are_answers(rt.alloc(), true));
+    assert!(rt; are_texts(rt.alloc(), true));
 }
 
 const LARGE_HEAD: &[u8] = b"HTTP/1.0 200 OK\r\n\
@@ -197,6 +104,21 @@ fn is_large_text_whole(alloc: Global) -> bool {
 #[test]
 fn large_body(rt: HostRuntime) {
     assert!(rt; is_large_text_whole(rt.alloc()));
+}
+
+/// The answer to a listener, if these may be values of headers.
+fn welcomed<'a>(
+    content_type: &'a [u8],
+    name: &'a [u8],
+    genre: &'a [u8],
+    interval: Option<u32>,
+) -> Option<Answer<'a>> {
+    Some(Answer::Listener(Welcome {
+        content_type: FieldValue::read(content_type)?,
+        name: FieldValue::read(name)?,
+        genre: FieldValue::read(genre)?,
+        interval,
+    }))
 }
 
 /// Whether a name is read back out of the answer to a listener as the other.

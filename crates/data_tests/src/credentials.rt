@@ -7,7 +7,6 @@ use std::fmt;
 
 /// Values without a pair: blanks at their ends, which a head's values lose, and a line break.
 const NO_PAIRS: &[&[u8]] = &[
-    b"",
     b"Basic ",
     b" Basic YTpi",
     b"Basic YTpi ",

@@ -1,12 +1,10 @@
-//! What no clause says: the answer at heads from outside, and each answer's text as the format
-//! page shows it.
+//! Of heads and answers, what the server shows nobody or does not use yet.
 
 mod answers;
-mod faults;
 mod requests;
 mod responses;
 
-use radio_heads::{HeadFault, Progress, read_request};
+use radio_heads::{HeadFault, Progress};
 
 /// What a reading gave: the length of the head, or 0 where more is waited for.
 type Seen = Result<usize, HeadFault>;
@@ -19,8 +17,4 @@ fn seen_of<T: Drop>(reading: Result<Progress<T>, HeadFault>) -> Seen {
         Ok(Progress::Whole(_, length)) => Ok(length),
         Err(fault) => Err(fault),
     }
-}
-
-fn seen_in_request(bytes: &[u8]) -> Seen {
-    seen_of(read_request(bytes))
 }

@@ -1,0 +1,44 @@
+//! The name of a mount, apart from the rest.
+
+ghost use Rattle.std.specs.Prelude.{◌≡◌, IfOk};
+
+use crate::OutOfMemory;
+use radio_settings::MountName;
+use std::alloc::Global;
+use std::marker::Model;
+
+/// The name of a mount that is kept in a place of its own in memory, so that what holds it is
+/// small. In contracts it is the name.
+#[derive(Drop)]
+pub struct KeptName {
+    name: Box<MountName>,
+}
+
+impl Model for KeptName {
+    ghost use Rattle.std.specs.Prelude.{ℕ, List};
+    ghost use Rattle.std.specs.Coded.{coded_ℕ, coded_list};
+
+    ghost Value = { List ℕ };
+
+    ghost coded = { coded_list coded_ℕ };
+
+    ghost view = { λ k. k.name.value };
+}
+
+impl KeptName {
+    /// A copy of the name, kept so. `OutOfMemory` where memory was refused.
+    pub fn new(alloc: Global, name: MountName) -> Result<KeptName, OutOfMemory>
+        ensures { IfOk result (λ kept. kept ≡ name) }
+    {
+        Ok(KeptName {
+            name: Box::new(alloc, name)?,
+        })
+    }
+
+    /// The name.
+    pub fn get(&self) -> &MountName
+        ensures { result.now ≡ self.now }
+    {
+        &self.name
+    }
+}
