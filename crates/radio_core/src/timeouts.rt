@@ -83,7 +83,7 @@ impl SeatTest for HasSatOut<'_> {
     fn passes(&self, seat: &Seat) -> bool {
         match self
             .settings
-            .options(&seat.home)
+            .options(seat.home.get())
             .listeners
             .max_listener_duration
         {

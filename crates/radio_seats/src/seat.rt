@@ -4,6 +4,7 @@ ghost use Rattle.std.specs.Prelude.{◌≡◌};
 ghost use Rattle.std.specs.Option.{option_copied};
 ghost use Rattle.radio_seats.specs.Seats.{seat_held, is_seat_at, is_user_at};
 
+use crate::KeptName;
 use radio_addr::Peer;
 use radio_blocks::Place;
 use radio_creds::Pair;
@@ -17,12 +18,12 @@ pub struct Seat {
     // what a draw reads comes first, and lies together
     /// How far he has heard the stream of his session.
     pub place: Place,
-    /// The number of the session that he hears.
-    pub session: u64,
     /// The mount that he hears.
     pub mount: MountName,
+    /// The number of the session that he hears.
+    pub session: u64,
     /// The mount that he asked for.
-    pub home: MountName,
+    pub home: KeptName,
     /// The address that he came from.
     pub peer: Peer,
     /// The user and the password that he sent, if he did.

@@ -3,10 +3,10 @@
 ghost use Rattle.std.specs.Prelude.{◌≡◌};
 ghost use Rattle.radio_session.specs.Conversation.{Conversation, fresh};
 
+use feeding::KeptBody;
 use radio_addr::Peer;
 use radio_icy::Weaver;
 use radio_policy::Rule;
-use radio_source::Body;
 use std::alloc::Global;
 use std::marker::Model;
 
@@ -23,7 +23,7 @@ pub(crate) enum Hears {
     /// The head of a request, of which a part may have come.
     Head,
     /// A source's body.
-    Body(Body),
+    Body(KeptBody),
     /// Nothing: they are passed over.
     Nothing,
 }
@@ -59,12 +59,12 @@ pub(crate) struct Closing {
 /// How replies are told.
 #[derive(Drop)]
 pub(crate) struct Says {
-    /// A source or a listener was admitted: a denial is told by closing alone.
-    pub(crate) is_admitted: bool,
-    pub(crate) greeting: Greeting,
     pub(crate) closing: Option<Closing>,
     /// What puts metadata between a listener's data, if he is sent any.
     pub(crate) weaver: Option<Weaver>,
+    /// A source or a listener was admitted: a denial is told by closing alone.
+    pub(crate) is_admitted: bool,
+    pub(crate) greeting: Greeting,
 }
 
 /// One connection: the number of its client, its peer, the bytes of an unfinished head, and how it

@@ -11,8 +11,9 @@ use crate::standing::Standing;
 use crate::{ListenRequest, OutOfMemory, Reply};
 use radio_addr::Peer;
 use radio_policy::{Action, Verdict, judge};
-use radio_seats::Seat;
+use radio_seats::{KeptName, Seat};
 use radio_settings::MountName;
+use std::alloc::Global;
 
 impl State {
     /// A client wants to hear a mount. `OutOfMemory` where memory was refused.
@@ -49,7 +50,7 @@ impl State {
         ensures { IfOk result (λ o. o ≡ takes_seat self.now.house asked peer (session_at self.now.house asked.mount)) }
     {
         match self.house.session_at(asked.mount.as_slice()) {
-            Some(session) => self.house.welcome(asked, peer, session),
+            Some(session) => self.house.welcome(self.alloc, asked, peer, session),
             None => Ok(Outcome::stray()),
         }
     }
@@ -59,6 +60,7 @@ impl House {
     /// A listener is welcome in the session. `OutOfMemory` where memory was refused.
     fn welcome(
         &self,
+        alloc: Global,
         asked: ListenRequest,
         peer: Peer,
         session: &Session,
@@ -67,7 +69,7 @@ impl House {
     {
         let shown = session.shown.clone()?;
         let id = asked.id;
-        let seat = self.first_seat(asked, peer, session);
+        let seat = self.first_seat(alloc, asked, peer, session)?;
         Ok(Outcome {
             reply: Reply::Seated {
                 interval: seat.interval,
@@ -103,15 +105,21 @@ impl House {
         }
     }
 
-    /// The seat of a new listener in the session.
-    fn first_seat(&self, asked: ListenRequest, peer: Peer, session: &Session) -> Seat
-        ensures { result ≡ first_seat self.now asked peer session.now }
+    /// The seat of a new listener in the session. `OutOfMemory` where memory was refused.
+    fn first_seat(
+        &self,
+        alloc: Global,
+        asked: ListenRequest,
+        peer: Peer,
+        session: &Session,
+    ) -> Result<Seat, OutOfMemory>
+        ensures { IfOk result (λ seat. seat ≡ first_seat self.now asked peer session.now) }
     {
         let mount = session.mount;
         let burst = self.burst_of(&mount);
         let interval = self.interval_for(&mount, asked.wants_metadata);
-        Seat {
-            home: mount,
+        Ok(Seat {
+            home: KeptName::new(alloc, mount)?,
             mount,
             session: session.number,
             place: session.stream.burst_start(burst),
@@ -119,6 +127,6 @@ impl House {
             pair: asked.pair,
             interval,
             since: self.time,
-        }
+        })
     }
 }

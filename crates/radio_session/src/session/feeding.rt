@@ -15,10 +15,52 @@ use radio_blocks::Block;
 use radio_core::Event;
 use radio_source::{Blocks, Body, BodyFault};
 use std::alloc::{AllocError, Global};
+use std::marker::Model;
+
+/// A source's body, which has a place of its own in memory, so that a connection without one is
+/// small.
+#[derive(Drop)]
+pub(crate) struct KeptBody {
+    body: Box<Body>,
+}
+
+impl Model for KeptBody {
+    ghost use Rattle.radio_source.specs.Feeding.{Feeding};
+
+    ghost Value = { Feeding };
+
+    ghost view = { λ k. k.body.value };
+}
+
+impl KeptBody {
+    /// It is kept from now on. `OutOfMemory` where memory was refused.
+    pub(super) fn new(alloc: Global, body: Body) -> Result<KeptBody, OutOfMemory>
+        ensures { IfOk result (λ kept. kept ≡ body) }
+    {
+        Ok(KeptBody {
+            body: Box::new(alloc, body)?,
+        })
+    }
+
+    /// Feeds it what comes next, and answers its data in blocks, and how it closes the connection,
+    /// if it does. `OutOfMemory` where memory was refused.
+    pub(super) fn read(
+        &mut self,
+        alloc: Global,
+        bytes: &[u8],
+    ) -> Result<(Vec<Block>, Option<LastWord>), OutOfMemory>
+        requires { self.old ≡ unfed self.old.place }
+        ensures blocks { IfOk result (λ found. found.0.items ≡ blocks_of (data_of self.old.place bytes.now)) }
+        ensures word { IfOk result (λ found. found.1 ≡ body_closes (has_ended (after self.old.place bytes.now)) (fault_at (after self.old.place bytes.now))) }
+        ensures body { IfOk result (λ found. found.1 ≡ None → self.new ≡ unfed (after self.old.place bytes.now)) }
+    {
+        read(alloc, &mut self.body, bytes)
+    }
+}
 
 /// Feeds a body what comes next, and answers its data in blocks, and how it closes the connection,
 /// if it does. `OutOfMemory` where memory was refused.
-pub(super) fn read(
+fn read(
     alloc: Global,
     body: &mut Body,
     bytes: &[u8],

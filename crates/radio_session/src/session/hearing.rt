@@ -7,13 +7,12 @@ ghost use Rattle.radio_source.specs.Feeding.{unfed};
 
 use crate::OutOfMemory;
 use crate::session::asking::{asks_to_feed, asks_to_hear};
-use crate::session::feeding::{push_blocks, read};
+use crate::session::feeding::{KeptBody, push_blocks};
 use crate::session::framing::{body, framing_of, greeting, is_source};
 use crate::session::{Closing, Hears, LastWord, Session};
 use radio_core::Event;
 use radio_heads::{Head, Progress, read_request_from};
 use radio_policy::Rule;
-use radio_source::Body;
 use std::alloc::{AllocError, Global};
 use std::mem;
 
@@ -58,7 +57,7 @@ impl Session {
     /// Bytes of a body, whose events come behind these.
     fn take_body(
         &mut self,
-        body: Body,
+        body: KeptBody,
         events: Vec<Event>,
         bytes: &[u8],
     ) -> Result<Vec<Event>, OutOfMemory>
@@ -68,7 +67,7 @@ impl Session {
     {
         let mut body = body;
         let mut events = events;
-        let (blocks, word) = read(self.alloc, &mut body, bytes)?;
+        let (blocks, word) = body.read(self.alloc, bytes)?;
         push_blocks(self.id, blocks, &mut events)?;
         match word {
             None => {
@@ -134,7 +133,8 @@ impl Session {
         let mut events = Vec::new(self.alloc);
         events.push(event)?;
         self.says.greeting = greeting(head);
-        self.take_body(body(self.alloc, framing), events, behind)
+        let body = KeptBody::new(self.alloc, body(self.alloc, framing))?;
+        self.take_body(body, events, behind)
     }
 
     /// The connection refuses by its own rule: the client leaves, and is told then.
