@@ -1,11 +1,10 @@
 //! What the sockets cost alone: one connection's bytes to all others, by the calls of the system that a station makes,
 //! and without any server.
 
-use anyhow::Result;
 use mio::net::{TcpListener, TcpStream};
 use mio::{Events, Interest, Poll, Token};
 use std::alloc::Global;
-use std::io::{ErrorKind, Read, Write};
+use std::io::{ErrorKind, Read, Result, Write};
 use std::net::{Ipv4Addr, Net, SocketAddr};
 use std::sync::Wait;
 use std::time::Duration;
@@ -123,32 +122,27 @@ fn serve_forever<R: Wait>(
 ) -> Result<()> {
     let mut wait_ms = IDLE_MS;
     for _ in rt.forever() {
-        wait(poll, events, wait_ms)?;
-        let has_moved = serve_turn(poll, listener, events, lines, kept)?;
-        wait_ms = if has_moved { 0 } else { IDLE_MS };
+        poll.poll(events, Some(Duration::from_millis(wait_ms)))?;
+        wait_ms = serve_turn(poll, listener, events, lines, kept)?;
     }
     Ok(())
 }
 
-/// Takes in who waits, and serves each who is ready. Whether a byte moved.
+/// Takes in who waits, and serves each who is ready. How long to wait for the next turn.
 fn serve_turn(
     poll: &Poll,
     listener: &TcpListener,
     events: &Events<Global>,
     lines: &mut Vec<Line>,
     kept: &mut Kept,
-) -> Result<bool> {
-    mark(events, lines);
+) -> Result<u64> {
+    mark(events, lines.as_mut_slice());
     accept_all(poll, listener, lines)?;
-    turn(lines, kept)
+    let has_moved = turn(lines.as_mut_slice(), kept)?;
+    Ok(if has_moved { 0 } else { IDLE_MS })
 }
 
-fn wait(poll: &mut Poll, events: &mut Events<Global>, ms: u64) -> Result<()> {
-    poll.poll(events, Some(Duration::from_millis(ms)))?;
-    Ok(())
-}
-
-fn mark(events: &Events<Global>, lines: &mut Vec<Line>) {
+fn mark(events: &Events<Global>, lines: &mut [Line]) {
     for event in events {
         if let Some(line) = lines.get_mut(event.token().0) {
             line.is_ready = true;
@@ -158,35 +152,47 @@ fn mark(events: &Events<Global>, lines: &mut Vec<Line>) {
 
 fn accept_all(poll: &Poll, listener: &TcpListener, lines: &mut Vec<Line>) -> Result<()> {
     for _ in 0..1024 {
-        let Ok((mut stream, _)) = listener.accept() else {
+        let Ok((stream, _)) = listener.accept() else {
             return Ok(());
         };
-        stream.set_nodelay(true)?;
-        let both = Interest::READABLE | Interest::WRITABLE;
-        poll.registry()
-            .register(&mut stream, Token(lines.len()), both)?;
-        lines.push(Line {
-            stream,
-            place: 0,
-            is_ready: true,
-        })?;
+        take_in(poll, stream, lines)?;
     }
     Ok(())
 }
 
+fn take_in(poll: &Poll, stream: TcpStream, lines: &mut Vec<Line>) -> Result<()> {
+    let mut stream = stream;
+    stream.set_nodelay(true)?;
+    let both = Interest::READABLE | Interest::WRITABLE;
+    poll.registry()
+        .register(&mut stream, Token(lines.len()), both)?;
+    lines.push(Line {
+        stream,
+        place: 0,
+        is_ready: true,
+    })?;
+    Ok(())
+}
+
 /// One read of the first connection, and one write to each other. Whether a byte moved.
-fn turn(lines: &mut Vec<Line>, kept: &mut Kept) -> Result<bool> {
-    let mut lines = lines.iter_mut();
-    let Some(source) = lines.next() else {
-        return Ok(false);
-    };
-    let mut has_moved = read_from(source, kept)?;
+fn turn(lines: &mut [Line], kept: &mut Kept) -> Result<bool> {
+    match lines.split_first_mut() {
+        Some((source, others)) => {
+            let has_read = read_from(source, kept)?;
+            Ok(write_all(others, kept) || has_read)
+        }
+        None => Ok(false),
+    }
+}
+
+fn write_all(lines: &mut [Line], kept: &Kept) -> bool {
+    let mut has_moved = false;
     for line in lines {
-        if write_to(line, kept)? {
+        if write_to(line, kept) {
             has_moved = true;
         }
     }
-    Ok(has_moved)
+    has_moved
 }
 
 fn read_from(source: &mut Line, kept: &mut Kept) -> Result<bool> {
@@ -207,18 +213,18 @@ fn read_from(source: &mut Line, kept: &mut Kept) -> Result<bool> {
     }
 }
 
-fn write_to(line: &mut Line, kept: &Kept) -> Result<bool> {
+fn write_to(line: &mut Line, kept: &Kept) -> bool {
     if !line.is_ready || line.place >= kept.end() {
-        return Ok(false);
+        return false;
     }
     match line.stream.write(kept.at(line.place)) {
         Ok(count) => {
             line.place = line.place.max(kept.start).saturating_add(count);
-            Ok(count > 0)
+            count > 0
         }
         Err(_) => {
             line.is_ready = false;
-            Ok(false)
+            false
         }
     }
 }

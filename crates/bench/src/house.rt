@@ -6,13 +6,14 @@ ghost use Rattle.std.specs.Prelude.{◌≡◌, ◌^◌};
 ghost use Rattle.radio_access.specs.Lists.{no_lists};
 ghost use Rattle.radio_core.specs.World.{opening};
 
-use crate::times::micros;
+use crate::lines::{write_line, write_named};
+use crate::times::{Measured, Work, nanos_each, time_turns, write_ratio};
 use anyhow::{Context, Result};
 use bytes::Bytes;
 use radio_access::Lists;
 use radio_addr::Peer;
 use radio_blocks::Block;
-use radio_book::{Chronicle, House, OutOfMemory, PASSES, Pass, Receipt, Unkept};
+use radio_book::{Chronicle, House, OutOfMemory, PASSES, Pass, Unkept};
 use radio_core::{Core, Event, ListenRequest, Reply, SourceRequest};
 use radio_creds::basic;
 use radio_hall::Hall;
@@ -22,7 +23,6 @@ use std::marker::Brand;
 use std::rt::Clock;
 use std::sync::Wait;
 use std::sync::ledger::Blank;
-use std::time::Instant;
 
 /// How many listeners draw in turn.
 const LISTENERS: u32 = 1000;
@@ -35,21 +35,35 @@ const SOURCE_PAIR: &[u8] = b"Basic c291cmNlOmhhY2ttZQ==";
 
 /// Whoever answers events: a core, or a hall.
 pub trait Answers {
-    /// The reply.
-    fn answer(&mut self, event: Event) -> Result<Reply, OutOfMemory>;
+    /// What the reply is, as far as it matters here.
+    fn answer(&mut self, event: Event) -> Result<Answer, OutOfMemory>;
+}
 
-    /// Whether the reply hands data out.
-    fn hands_out(&mut self, event: Event) -> Result<bool, OutOfMemory>;
+/// What matters of a reply.
+#[derive(Clone, Copy)]
+pub enum Answer {
+    /// A client came, and has this number.
+    Arrived(u64),
+    /// Data are handed out.
+    Data,
+    /// Anything else.
+    Other,
+}
+
+impl Answer {
+    fn of(reply: &Reply) -> Answer {
+        match reply {
+            Reply::Arrived(id) => Answer::Arrived(*id),
+            Reply::Drawn { pieces, .. } if !pieces.slices().is_empty() => Answer::Data,
+            _ => Answer::Other,
+        }
+    }
 }
 
 impl Answers for Core {
-    fn answer(&mut self, event: Event) -> Result<Reply, OutOfMemory> {
-        self.step(event)
-    }
-
-    fn hands_out(&mut self, event: Event) -> Result<bool, OutOfMemory> {
+    fn answer(&mut self, event: Event) -> Result<Answer, OutOfMemory> {
         match self.step(event) {
-            Ok(reply) => Ok(hands_data_out(reply)),
+            Ok(reply) => Ok(answer_in(reply)),
             Err(refused) => Err(refused),
         }
     }
@@ -60,21 +74,22 @@ impl Answers for Core {
 pub struct Caller<'a, C: Chronicle, H: House, R: Wait> {
     pub rt: &'a R,
     pub hall: &'a Hall<C, H>,
-    pub pass: Pass<C, H>,
+    pub pass: &'a mut Pass<C, H>,
 }
 
 impl<C: Chronicle, H: House, R: Wait> Answers for Caller<'_, C, H, R> {
-    fn answer(&mut self, event: Event) -> Result<Reply, OutOfMemory> {
-        let receipt = self.hall.apply(self.rt, &mut self.pass, event)?;
-        Ok(receipt.into_reply())
-    }
-
-    fn hands_out(&mut self, event: Event) -> Result<bool, OutOfMemory> {
-        match self.hall.apply(self.rt, &mut self.pass, event) {
-            Ok(receipt) => Ok(has_handed_out(receipt)),
+    fn answer(&mut self, event: Event) -> Result<Answer, OutOfMemory> {
+        match self.hall.apply(self.rt, self.pass, event) {
+            Ok(receipt) => Ok(answer_in(receipt.into_reply())),
             Err(refused) => Err(refused),
         }
     }
+}
+
+fn answer_in(reply: Reply) -> Answer {
+    let answer = Answer::of(&reply);
+    drop(reply);
+    answer
 }
 
 /// The source and the listeners of a mount.
@@ -84,11 +99,20 @@ pub struct Station {
     pub listeners: Vec<u64>,
 }
 
-/// How many draws there were, and what they took in microseconds.
-#[derive(Clone, Copy)]
-struct Draws {
-    count: usize,
-    micros: u64,
+/// Each listener draws.
+#[derive(Drop)]
+struct Drawing<'a, A: Answers> {
+    who: &'a mut A,
+    listeners: &'a [u64],
+}
+
+impl<A: Answers> Work for Drawing<'_, A> {
+    type Fault = OutOfMemory;
+
+    /// How many were handed a block.
+    fn turn(&mut self, _number: u64) -> Result<u64, OutOfMemory> {
+        draw_all(self.who, self.listeners)
+    }
 }
 
 /// The settings of a station that lets enough clients in.
@@ -103,49 +127,40 @@ pub fn station_settings(alloc: Global) -> Result<Settings, SettingsFault> {
 pub fn measure(rt: &(impl Clock + Print + AllocGlobal + Wait), is_full: bool) -> Result<()> {
     let rounds = if is_full { 100 } else { 1 };
     let by_core = draws_by_core(rt, rounds)?;
-    write_draws(rt, "core", by_core, is_full)?;
+    write_draws(rt, "core", &by_core, is_full)?;
     let through_hall = draws_through_hall(rt, rounds)?;
-    write_draws(rt, "hall", through_hall, is_full)?;
+    write_draws(rt, "hall", &through_hall, is_full)?;
     if is_full {
-        write_ratio(rt, rounds)?;
+        return write_ratios(rt, rounds);
     }
     Ok(())
 }
 
 /// Writes what both take in turn, five times.
-fn write_ratio(rt: &(impl Clock + Print + AllocGlobal + Wait), rounds: u32) -> Result<()> {
+fn write_ratios(rt: &(impl Clock + Print + AllocGlobal + Wait), rounds: u32) -> Result<()> {
     for _ in 0..5 {
         let by_core = draws_by_core(rt, rounds)?;
         let through_hall = draws_through_hall(rt, rounds)?;
-        write_both(rt, by_core, through_hall)?;
+        write_ratio(
+            rt,
+            "  core {} ns a draw, hall {} ns, {} %",
+            &by_core,
+            &through_hall,
+        )?;
     }
     Ok(())
 }
 
-fn write_both(rt: &impl Print, by_core: Draws, through_hall: Draws) -> Result<()> {
-    let percent = through_hall.micros.saturating_mul(100) / by_core.micros.max(1);
-    println!(rt;
-        "  core {} ns a draw, hall {} ns, {percent} %",
-        nanos(by_core),
-        nanos(through_hall)
-    )?;
-    Ok(())
-}
-
-/// What a draw took, in nanoseconds.
-fn nanos(draws: Draws) -> u64 {
-    draws.micros.saturating_mul(1000) / (draws.count as u64).max(1)
-}
-
-fn write_draws(rt: &impl Print, name: &str, draws: Draws, is_full: bool) -> Result<()> {
-    println!(rt; "{name}: {} draws of 4096 bytes", draws.count)?;
+fn write_draws(rt: &impl Print, name: &str, draws: &Measured, is_full: bool) -> Result<()> {
+    write_named(rt, name, ": {} draws of 4096 bytes", &[draws.count])?;
     if is_full {
-        println!(rt; "  {} ns a draw", nanos(draws))?;
+        let nanos = nanos_each(draws.micros, draws.count);
+        return write_line(rt, "  {} ns a draw", &[nanos]);
     }
     Ok(())
 }
 
-fn draws_by_core(rt: &(impl Clock + AllocGlobal), rounds: u32) -> Result<Draws> {
+fn draws_by_core(rt: &(impl Clock + AllocGlobal), rounds: u32) -> Result<Measured> {
     let mut core = station_core(rt.alloc())?;
     let draws = time_draws(rt, &mut core, rounds);
     drop(core);
@@ -156,7 +171,7 @@ fn station_core(alloc: Global) -> Result<Core, SettingsFault> {
     Ok(Core::new(alloc, station_settings(alloc)?, Lists::new(alloc)))
 }
 
-fn draws_through_hall(rt: &(impl Clock + AllocGlobal + Wait), rounds: u32) -> Result<Draws> {
+fn draws_through_hall(rt: &(impl Clock + AllocGlobal + Wait), rounds: u32) -> Result<Measured> {
     let settings = station_settings(rt.alloc())?;
     draws_in_hall::<Brand, _>(rt, settings, Blank::new(PASSES), rounds)
 }
@@ -166,7 +181,7 @@ fn draws_in_hall<H: House, R: Clock + AllocGlobal + Wait>(
     settings: Settings,
     blank: Blank,
     rounds: u32,
-) -> Result<Draws>
+) -> Result<Measured>
     requires opening { H.opening ≡ opening settings no_lists }
     requires ledger { (blank.name ≡ H.name) × (blank.parts ≡ H.parts) × (blank.parts ≡ 2 ^ 32) }
 {
@@ -178,9 +193,13 @@ fn draws_of_caller<H: House, R: Clock + AllocGlobal + Wait>(
     rt: &R,
     hall: &Hall<Unkept, H>,
     rounds: u32,
-) -> Result<Draws> {
-    let pass = hall.pass(rt).context("no pass")?;
-    let mut caller = Caller { rt, hall, pass };
+) -> Result<Measured> {
+    let mut pass = hall.pass(rt).context("no pass")?;
+    let mut caller = Caller {
+        rt,
+        hall,
+        pass: &mut pass,
+    };
     time_draws(rt, &mut caller, rounds)
 }
 
@@ -189,7 +208,7 @@ fn time_draws<A: Answers>(
     rt: &(impl Clock + AllocGlobal),
     who: &mut A,
     rounds: u32,
-) -> Result<Draws> {
+) -> Result<Measured> {
     let station = open_station(rt.alloc(), who, "/a", LISTENERS)?;
     time_rounds(rt, who, &station, rounds)
 }
@@ -199,14 +218,14 @@ fn time_rounds<A: Answers>(
     who: &mut A,
     station: &Station,
     rounds: u32,
-) -> Result<Draws> {
-    let mut draws = Draws {
+) -> Result<Measured> {
+    let mut draws = Measured {
         count: 0,
         micros: 0,
     };
     for _ in 0..rounds {
         push(rt.alloc(), who, station.source)?;
-        draws = time_round(rt, who, station.listeners.as_slice(), draws)?;
+        draws = time_round(rt, who, station.listeners.as_slice(), &draws)?;
     }
     Ok(draws)
 }
@@ -215,14 +234,12 @@ fn time_round<A: Answers>(
     rt: &impl Clock,
     who: &mut A,
     listeners: &[u64],
-    before: Draws,
-) -> Result<Draws> {
-    let start = Instant::now(rt)?;
-    let drawn = draw_all(who, listeners)?;
-    let time = micros(start.elapsed(rt)?);
-    Ok(Draws {
-        count: before.count.saturating_add(drawn),
-        micros: before.micros.saturating_add(time),
+    before: &Measured,
+) -> Result<Measured> {
+    let drawn = time_turns(rt, &mut Drawing { who, listeners }, 1)?;
+    Ok(Measured {
+        count: before.count.saturating_add(drawn.count),
+        micros: before.micros.saturating_add(drawn.micros),
     })
 }
 
@@ -232,74 +249,74 @@ fn time_round<A: Answers>(
 pub fn open_station<A: Answers>(
     alloc: Global,
     who: &mut A,
-    path: &str,
+    path: &'static str,
     listeners: u32,
 ) -> Result<Station, OutOfMemory> {
     let source = arrive(who)?;
-    drop(who.answer(source_event(alloc, source, path)?)?);
-    let listeners = seat_all(alloc, who, path, listeners)?;
+    who.answer(source_event(alloc, source, path)?)?;
+    let listeners = seat_all(who, path, listeners, Vec::new(alloc))?;
     Ok(Station { source, listeners })
 }
 
+/// So many listeners sit down, who stand behind those that did before.
 fn seat_all<A: Answers>(
-    alloc: Global,
     who: &mut A,
-    path: &str,
+    path: &'static str,
     count: u32,
+    before: Vec<u64>,
 ) -> Result<Vec<u64>, OutOfMemory> {
-    let mut listeners = Vec::new(alloc);
+    let mut listeners = before;
     for _ in 0..count {
-        listeners.push(seat_one(alloc, who, path)?)?;
+        listeners.push(seat_one(who, path)?)?;
     }
     Ok(listeners)
 }
 
-fn seat_one<A: Answers>(alloc: Global, who: &mut A, path: &str) -> Result<u64, OutOfMemory> {
+fn seat_one<A: Answers>(who: &mut A, path: &'static str) -> Result<u64, OutOfMemory> {
     let id = arrive(who)?;
-    drop(who.answer(listen_event(alloc, id, path)?)?);
+    who.answer(listen_event(id, path))?;
     Ok(id)
 }
 
 /// A connection comes; its number, 0 where it was denied.
 fn arrive<A: Answers>(who: &mut A) -> Result<u64, OutOfMemory> {
-    let reply = who.answer(Event::Arrive {
-        peer: Peer::of_v4(0x0a00_0001),
-    })?;
-    match reply {
-        Reply::Arrived(id) => Ok(id),
+    let peer = Peer::of_v4(0x0a00_0001);
+    match who.answer(Event::Arrive { peer })? {
+        Answer::Arrived(id) => Ok(id),
         _ => Ok(0),
     }
 }
 
-fn source_event(alloc: Global, id: u64, path: &str) -> Result<Event, OutOfMemory> {
+fn source_event(alloc: Global, id: u64, path: &'static str) -> Result<Event, OutOfMemory> {
+    let pair = basic(alloc, SOURCE_PAIR)?;
     Ok(Event::Source(SourceRequest {
         id,
-        mount: Bytes::copy_from_slice(alloc, path.as_bytes())?,
-        pair: basic(alloc, SOURCE_PAIR)?,
+        mount: Bytes::from_static(path.as_bytes()),
+        pair,
         shown: Shown::clean(alloc, b"audio/mpeg", b"Night", b"")?,
     }))
 }
 
-fn listen_event(alloc: Global, id: u64, path: &str) -> Result<Event, OutOfMemory> {
-    Ok(Event::Listen(ListenRequest {
+fn listen_event(id: u64, path: &'static str) -> Event {
+    Event::Listen(ListenRequest {
         id,
-        mount: Bytes::copy_from_slice(alloc, path.as_bytes())?,
+        mount: Bytes::from_static(path.as_bytes()),
         pair: None,
         wants_metadata: false,
-    }))
+    })
 }
 
 /// The source delivers a block.
 pub fn push<A: Answers>(alloc: Global, who: &mut A, id: u64) -> Result<(), OutOfMemory> {
     if let Some(block) = Block::new(Bytes::copy_from_slice(alloc, &[0x55; SIZE])?) {
-        drop(who.answer(Event::Push { id, block })?);
+        who.answer(Event::Push { id, block })?;
     }
     Ok(())
 }
 
 /// Each listener draws a block; how many were handed one.
-pub fn draw_all<A: Answers>(who: &mut A, listeners: &[u64]) -> Result<usize, OutOfMemory> {
-    let mut drawn = 0usize;
+pub fn draw_all<A: Answers>(who: &mut A, listeners: &[u64]) -> Result<u64, OutOfMemory> {
+    let mut drawn = 0u64;
     for id in listeners {
         if draws_data(who, *id)? {
             drawn = drawn.saturating_add(1);
@@ -309,27 +326,6 @@ pub fn draw_all<A: Answers>(who: &mut A, listeners: &[u64]) -> Result<usize, Out
 }
 
 fn draws_data<A: Answers>(who: &mut A, id: u64) -> Result<bool, OutOfMemory> {
-    who.hands_out(Event::Draw {
-        id,
-        room: SIZE as u32,
-    })
-}
-
-fn has_handed_out(receipt: Receipt) -> bool {
-    let has_data = has_data(receipt.reply());
-    drop(receipt);
-    has_data
-}
-
-fn hands_data_out(reply: Reply) -> bool {
-    let has_data = has_data(&reply);
-    drop(reply);
-    has_data
-}
-
-fn has_data(reply: &Reply) -> bool {
-    match reply {
-        Reply::Drawn { pieces, .. } => !pieces.slices().is_empty(),
-        _ => false,
-    }
+    let room = SIZE as u32;
+    Ok(matches!(who.answer(Event::Draw { id, room })?, Answer::Data))
 }

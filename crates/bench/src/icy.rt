@@ -4,12 +4,12 @@
 //! Sound is copied and woven draw by draw into one buffer, so that no fresh page is touched.
 ghost use Rattle.std.specs.Prelude.{◌≤◌};
 
-use crate::times::{Measured, copy_pieces, write_speeds};
+use crate::lines::write_line;
+use crate::times::{Intake, Measured, copy_pieces, time_pieces, write_speeds};
 use anyhow::Result;
 use radio_icy::{Item, MAX_TITLE, OutOfMemory, Unweaver, Weaver};
 use std::alloc::Global;
 use std::rt::Clock;
-use std::time::{Duration, Instant};
 
 const SMALL: usize = 64 * 1024;
 
@@ -19,13 +19,60 @@ const DRAW: usize = 16384;
 
 const PIECE: usize = 1400;
 
+/// Copies each draw into one buffer.
+#[derive(Drop)]
+struct Copying {
+    out: Vec<u8>,
+}
+
+impl Intake for Copying {
+    type Fault = OutOfMemory;
+
+    fn take(&mut self, piece: &[u8]) -> Result<u64, OutOfMemory> {
+        self.out.clear();
+        self.out.extend_from_slice(piece)?;
+        Ok(self.out.len() as u64)
+    }
+}
+
+/// Weaves each draw into one buffer.
+#[derive(Drop)]
+struct Weaving {
+    weaver: Weaver,
+    out: Vec<u8>,
+}
+
+impl Intake for Weaving {
+    type Fault = OutOfMemory;
+
+    fn take(&mut self, piece: &[u8]) -> Result<u64, OutOfMemory> {
+        self.out.clear();
+        self.weaver.weave(piece, Some(b"A - B"), &mut self.out)?;
+        Ok(self.out.len() as u64)
+    }
+}
+
+/// Takes a stream apart.
+#[derive(Drop)]
+struct Unweaving {
+    unweaver: Unweaver,
+}
+
+impl Intake for Unweaving {
+    type Fault = OutOfMemory;
+
+    /// How many bytes of sound the piece has.
+    fn take(&mut self, piece: &[u8]) -> Result<u64, OutOfMemory> {
+        let items = self.unweaver.feed(piece)?;
+        Ok(sound_size(items.as_slice()))
+    }
+}
+
 /// Measures a long interval and the shortest.
 pub fn measure(rt: &(impl Clock + Print + AllocGlobal), is_full: bool) -> Result<()> {
     let sound = vec![in rt.alloc(); 0x55; if is_full { FULL } else { SMALL }]?;
-    for interval in [16000, 1] {
-        weave_and_unweave(rt, interval, sound.as_slice(), is_full)?;
-    }
-    Ok(())
+    weave_and_unweave(rt, 16000, sound.as_slice(), is_full)?;
+    weave_and_unweave(rt, 1, sound.as_slice(), is_full)
 }
 
 /// Weaves and unweaves the sound at one interval, and writes a line about it.
@@ -39,21 +86,19 @@ fn weave_and_unweave(
 {
     let woven = weave_draws(rt, interval, sound)?;
     let unwoven = unweave_pieces(rt, interval, sound)?;
-    write_sizes(rt, interval, sound.len(), (woven.count, unwoven.count))?;
+    write_line(
+        rt,
+        "interval {}: {} bytes of sound, {} woven, {} unwoven",
+        &[
+            interval as u64,
+            sound.len() as u64,
+            woven.count,
+            unwoven.count,
+        ],
+    )?;
     if is_full {
-        write_beside_copies(rt, sound, woven.time, unwoven.time)?;
+        return write_beside_copies(rt, sound, woven.micros, unwoven.micros);
     }
-    Ok(())
-}
-
-fn write_sizes(
-    rt: &impl Print,
-    interval: usize,
-    sound: usize,
-    sizes: (usize, usize),
-) -> Result<()> {
-    let (woven, unwoven) = sizes;
-    println!(rt; "interval {interval}: {sound} bytes of sound, {woven} woven, {unwoven} unwoven")?;
     Ok(())
 }
 
@@ -61,66 +106,31 @@ fn write_sizes(
 fn write_beside_copies(
     rt: &(impl Clock + Print + AllocGlobal),
     sound: &[u8],
-    weaving: Duration,
-    unweaving: Duration,
+    weaving: u64,
+    unweaving: u64,
 ) -> Result<()> {
     let copied = copy_draws(rt, sound)?;
-    write_speeds(rt, ("copy", "weave"), &copied, weaving)?;
+    write_speeds(rt, ("  copy", "  weave"), &copied, weaving)?;
     let copied = copy_pieces(rt, sound, PIECE)?;
-    write_speeds(rt, ("copy in pieces", "unweave"), &copied, unweaving)
+    write_speeds(rt, ("  copy in pieces", "  unweave"), &copied, unweaving)
 }
 
 /// Copies the sound, draw by draw.
 fn copy_draws(rt: &(impl Clock + AllocGlobal), sound: &[u8]) -> Result<Measured> {
-    let mut out = Vec::with_capacity(rt.alloc(), DRAW)?;
-    let start = Instant::now(rt)?;
-    let count = copied_size(sound, &mut out)?;
-    let time = start.elapsed(rt)?;
-    Ok(Measured { count, time })
-}
-
-/// How many bytes the draws of the sound have, each copied into the buffer.
-fn copied_size(sound: &[u8], out: &mut Vec<u8>) -> Result<usize, OutOfMemory> {
-    let mut size = 0usize;
-    for draw in sound.chunks(DRAW) {
-        out.clear();
-        out.extend_from_slice(draw)?;
-        size = size.saturating_add(out.len());
-    }
-    Ok(size)
+    let out = Vec::with_capacity(rt.alloc(), DRAW)?;
+    time_pieces(rt, &mut Copying { out }, sound, DRAW)
 }
 
 /// Weaves the sound, draw by draw.
 fn weave_draws(rt: &(impl Clock + AllocGlobal), interval: usize, sound: &[u8]) -> Result<Measured>
     requires { 1 ≤ interval }
 {
-    let mut out = Vec::with_capacity(rt.alloc(), 2 * DRAW + MAX_TITLE)?;
-    let start = Instant::now(rt)?;
-    let count = woven_size(rt.alloc(), interval, sound, &mut out)?;
-    let time = start.elapsed(rt)?;
-    Ok(Measured { count, time })
+    let out = Vec::with_capacity(rt.alloc(), 2 * DRAW + MAX_TITLE)?;
+    let weaver = Weaver::new(rt.alloc(), interval);
+    time_pieces(rt, &mut Weaving { weaver, out }, sound, DRAW)
 }
 
-/// How many bytes the draws of the sound come to, each woven into the buffer.
-fn woven_size(
-    alloc: Global,
-    interval: usize,
-    sound: &[u8],
-    out: &mut Vec<u8>,
-) -> Result<usize, OutOfMemory>
-    requires { 1 ≤ interval }
-{
-    let mut weaver = Weaver::new(alloc, interval);
-    let mut size = 0usize;
-    for draw in sound.chunks(DRAW) {
-        out.clear();
-        weaver.weave(draw, Some(b"A - B"), out)?;
-        size = size.saturating_add(out.len());
-    }
-    Ok(size)
-}
-
-/// Takes the stream of the sound apart in pieces as they come from a network.
+/// Takes the stream of the sound apart in pieces as they come from a network: how many bytes of sound it has.
 fn unweave_pieces(
     rt: &(impl Clock + AllocGlobal),
     interval: usize,
@@ -129,10 +139,8 @@ fn unweave_pieces(
     requires { 1 ≤ interval }
 {
     let stream = woven(rt.alloc(), interval, sound)?;
-    let start = Instant::now(rt)?;
-    let count = sound_size(rt.alloc(), interval, stream.as_slice())?;
-    let time = start.elapsed(rt)?;
-    Ok(Measured { count, time })
+    let unweaver = Unweaver::new(rt.alloc(), interval);
+    time_pieces(rt, &mut Unweaving { unweaver }, stream.as_slice(), PIECE)
 }
 
 /// The stream of the sound.
@@ -144,18 +152,13 @@ fn woven(alloc: Global, interval: usize, sound: &[u8]) -> Result<Vec<u8>, OutOfM
     Ok(out)
 }
 
-/// How many bytes of sound a stream has, taken apart in pieces as they come from a network.
-fn sound_size(alloc: Global, interval: usize, stream: &[u8]) -> Result<usize, OutOfMemory>
-    requires { 1 ≤ interval }
-{
-    let mut unweaver = Unweaver::new(alloc, interval);
-    let mut size = 0usize;
-    for piece in stream.chunks(PIECE) {
-        for item in &unweaver.feed(piece)? {
-            if let Item::Sound(sound) = item {
-                size = size.saturating_add(sound.len());
-            }
+/// How many bytes of sound there are.
+fn sound_size(items: &[Item]) -> u64 {
+    let mut size = 0u64;
+    for item in items {
+        if let Item::Sound(sound) = item {
+            size = size.saturating_add(sound.len() as u64);
         }
     }
-    Ok(size)
+    size
 }

@@ -12,6 +12,7 @@ mod delivery;
 mod fanout;
 mod house;
 mod icy;
+mod lines;
 mod queue;
 mod settings;
 mod source;
@@ -20,12 +21,13 @@ mod times;
 
 use anyhow::Result;
 use std::env;
+use std::net::Net;
 use std::rt::{Clock, Env, Files};
 use std::sync::Wait;
 use std::thread::Threads;
 
 /// What can be measured.
-#[derive(Clone, Copy, PartialEq, Eq)]
+#[derive(Clone, Copy)]
 enum Subject {
     Creds,
     Delivery,
@@ -55,64 +57,42 @@ const ALL: [Subject; 8] = [
 ];
 
 fn main(rt: HostRuntime) -> Result<()> {
-    if has_word(&rt, FANOUT)? {
-        return fanout::serve(&rt);
-    }
-    let is_full = has_word(&rt, FULL)?;
-    if measure_words(&rt, is_full)? {
-        return Ok(());
-    }
-    measure_all(&rt, is_full)
+    let words = words(&rt)?;
+    obey(&rt, words.as_slice())
 }
 
-fn has_word(rt: &(impl Env + AllocGlobal), wanted: &str) -> Result<bool> {
-    Ok(env::args(rt)?.any(|word| word.as_str() == wanted))
+/// The words behind the program's name.
+fn words(rt: &(impl Env + AllocGlobal)) -> Result<Vec<String>> {
+    Ok(env::args(rt)?.skip(1).collect(rt.alloc())?)
 }
 
-fn measure_all<R: Clock + Print + AllocGlobal + Threads + Wait + Sync>(
-    rt: &R,
-    is_full: bool,
-) -> Result<()> {
-    for subject in ALL {
-        measure(rt, subject, is_full)?;
-    }
-    Ok(())
-}
-
-/// Does what the words ask for, and tells whether a subject is among them.
-fn measure_words<R>(rt: &R, is_full: bool) -> Result<bool>
+/// Does what the words ask for.
+fn obey<R>(rt: &R, words: &[String]) -> Result<()>
 where
-    R: Clock + Env + Files + Print + AllocGlobal + Threads + Wait + Sync,
+    R: Clock + Files + Net + Print + AllocGlobal + Threads + Wait + Sync,
 {
-    let mut has_subject = false;
-    for word in env::args(rt)?.skip(1) {
-        has_subject = measure_owned(rt, word, is_full)? || has_subject;
+    if has_word(words, FANOUT) {
+        return Ok(fanout::serve(rt)?);
     }
-    Ok(has_subject)
+    measure_words(rt, words, has_word(words, FULL))
 }
 
-fn measure_owned<R>(rt: &R, word: String, is_full: bool) -> Result<bool>
-where
-    R: Clock + Files + Print + AllocGlobal + Threads + Wait + Sync,
-{
-    let is_subject = measure_word(rt, word.as_str(), is_full);
-    drop(word);
-    is_subject
+fn has_word(words: &[String], wanted: &str) -> bool {
+    for word in words {
+        if word.as_str() == wanted {
+            return true;
+        }
+    }
+    false
 }
 
-/// Does what a word asks for, and tells whether it is a subject.
-fn measure_word<R>(rt: &R, word: &str, is_full: bool) -> Result<bool>
-where
-    R: Clock + Files + Print + AllocGlobal + Threads + Wait + Sync,
-{
-    if let Some(subject) = subject_of(word) {
-        measure(rt, subject, is_full)?;
-        return Ok(true);
+fn has_subject(words: &[String]) -> bool {
+    for word in words {
+        if subject_of(word.as_str()).is_some() {
+            return true;
+        }
     }
-    if word != FULL {
-        settings::read_file(rt, word)?;
-    }
-    Ok(false)
+    false
 }
 
 /// The subject of a word.
@@ -127,6 +107,42 @@ fn subject_of(word: &str) -> Option<Subject> {
         "source" => Some(Subject::Source),
         "threads" => Some(Subject::Threads),
         _ => None,
+    }
+}
+
+fn measure_all<R: Clock + Print + AllocGlobal + Threads + Wait + Sync>(
+    rt: &R,
+    is_full: bool,
+) -> Result<()> {
+    for subject in ALL {
+        measure(rt, subject, is_full)?;
+    }
+    Ok(())
+}
+
+/// Does what each word asks for, and measures all subjects where none asks for one.
+fn measure_words<R>(rt: &R, words: &[String], is_full: bool) -> Result<()>
+where
+    R: Clock + Files + Print + AllocGlobal + Threads + Wait + Sync,
+{
+    for word in words {
+        measure_word(rt, word.as_str(), is_full)?;
+    }
+    if has_subject(words) {
+        return Ok(());
+    }
+    measure_all(rt, is_full)
+}
+
+/// Does what a word asks for: a subject is measured, and any other word but one is the path of a settings file.
+fn measure_word<R>(rt: &R, word: &str, is_full: bool) -> Result<()>
+where
+    R: Clock + Files + Print + AllocGlobal + Threads + Wait + Sync,
+{
+    match subject_of(word) {
+        Some(subject) => measure(rt, subject, is_full),
+        None if word == FULL => Ok(()),
+        None => settings::read_file(rt, word),
     }
 }
 

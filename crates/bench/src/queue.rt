@@ -1,14 +1,13 @@
 //! A bounded queue of blocks: what a push costs early and late in a long stream, and what a draw costs beside a copy of
 //! the same bytes. Without `full` ten thousand blocks are pushed, in full a million.
-ghost use Rattle.std.specs.Prelude.{◌≤◌};
 
-use crate::times::{Measured, micros, percent_of};
+use crate::lines::write_line;
+use crate::times::{Measured, Work, nanos_each, percent_of, time_turns};
 use anyhow::Result;
 use bytes::Bytes;
 use radio_blocks::{Block, BlockQueue, OutOfMemory, Pieces, Place};
 use std::alloc::Global;
 use std::rt::Clock;
-use std::time::{Duration, Instant};
 
 /// How many bytes the queue is to keep.
 const LIMIT: u64 = 1024 * 1024;
@@ -17,167 +16,175 @@ const LIMIT: u64 = 1024 * 1024;
 const BLOCK: usize = 1400;
 
 /// How many pushes are timed together, and how many draws.
-const SAMPLE: usize = 10_000;
+const SAMPLE: u64 = 10_000;
 
 /// How many samples of pushes a long stream has.
-const SAMPLES: usize = 100;
+const SAMPLES: u64 = 100;
 
 /// How many bytes are drawn at once.
 const ROOM: u32 = 16384;
 
+/// A queue, and the data of each block that is pushed.
+#[derive(Drop)]
+struct Stream {
+    alloc: Global,
+    queue: BlockQueue,
+    data: Vec<u8>,
+}
+
+impl Work for Stream {
+    type Fault = OutOfMemory;
+
+    /// Pushes a block, in memory of its own.
+    fn turn(&mut self, _number: u64) -> Result<u64, OutOfMemory> {
+        let bytes = Bytes::copy_from_slice(self.alloc, self.data.as_slice())?;
+        if let Some(block) = Block::new(bytes) {
+            self.queue.push(block)?;
+        }
+        Ok(1)
+    }
+}
+
+/// Draws from the queue.
+#[derive(Clone, Copy)]
+struct Drawing<'a> {
+    stream: &'a Stream,
+}
+
+impl Work for Drawing<'_> {
+    type Fault = OutOfMemory;
+
+    /// Draws that far behind the start of what is kept: how many slices there are.
+    fn turn(&mut self, number: u64) -> Result<u64, OutOfMemory> {
+        Ok(drawn_slices(self.stream.alloc, &self.stream.queue, number))
+    }
+}
+
+/// Copies as many bytes as are drawn.
+#[derive(Clone, Copy)]
+struct Copying<'a> {
+    stream: &'a Stream,
+}
+
+impl Work for Copying<'_> {
+    type Fault = OutOfMemory;
+
+    fn turn(&mut self, _number: u64) -> Result<u64, OutOfMemory> {
+        joined(self.stream.alloc, self.stream.data.as_slice())
+    }
+}
+
 /// Pushes blocks, and draws.
 pub fn measure(rt: &(impl Clock + Print + AllocGlobal), is_full: bool) -> Result<()> {
-    let data = vec![in rt.alloc(); 0x55; BLOCK]?;
-    let mut queue = BlockQueue::new(rt.alloc(), LIMIT);
-    let measured = measure_queue(rt, &mut queue, data.as_slice(), is_full);
-    drop(queue);
+    let mut stream = Stream {
+        alloc: rt.alloc(),
+        queue: BlockQueue::new(rt.alloc(), LIMIT),
+        data: vec![in rt.alloc(); 0x55; BLOCK]?,
+    };
+    let measured = measure_stream(rt, &mut stream, is_full);
+    drop(stream);
     measured
 }
 
-fn measure_queue(
+fn measure_stream(
     rt: &(impl Clock + Print + AllocGlobal),
-    queue: &mut BlockQueue,
-    data: &[u8],
+    stream: &mut Stream,
     is_full: bool,
 ) -> Result<()> {
-    push_all(rt, queue, data, is_full)?;
-    write_kept(rt, queue)?;
-    draw_all(rt, queue, data, is_full)
+    push_all(rt, stream, is_full)?;
+    write_kept(rt, &stream.queue)?;
+    draw_all(rt, stream, is_full)
 }
 
 /// Pushes a sample, and in full the other samples, of which it writes what a push costs.
 fn push_all(
     rt: &(impl Clock + Print + AllocGlobal),
-    queue: &mut BlockQueue,
-    data: &[u8],
+    stream: &mut Stream,
     is_full: bool,
 ) -> Result<()> {
-    let first = push_sample(rt, queue, data)?;
+    let first = time_turns(rt, stream, SAMPLE)?;
     if is_full {
-        let last = push_on(rt, queue, data)?;
-        write_pushes(rt, first, last)?;
+        return push_on(rt, stream, &first);
     }
     Ok(())
 }
 
-/// Pushes the other samples: how long the last one took.
+/// Pushes the other samples, and writes what a push costs in the first sample and in the last.
 fn push_on(
-    rt: &(impl Clock + AllocGlobal),
-    queue: &mut BlockQueue,
-    data: &[u8],
-) -> Result<Duration> {
-    let mut last = Duration::from_secs(0);
+    rt: &(impl Clock + Print + AllocGlobal),
+    stream: &mut Stream,
+    first: &Measured,
+) -> Result<()> {
+    let mut last = *first;
     for _ in 1..SAMPLES {
-        last = push_sample(rt, queue, data)?;
+        last = time_turns(rt, stream, SAMPLE)?;
     }
-    Ok(last)
-}
-
-/// Pushes a sample of blocks: how long it took.
-fn push_sample(
-    rt: &(impl Clock + AllocGlobal),
-    queue: &mut BlockQueue,
-    data: &[u8],
-) -> Result<Duration> {
-    let start = Instant::now(rt)?;
-    for _ in 0..SAMPLE {
-        push(rt.alloc(), queue, data)?;
-    }
-    Ok(start.elapsed(rt)?)
-}
-
-/// Pushes a block of these data, in memory of its own.
-fn push(alloc: Global, queue: &mut BlockQueue, data: &[u8]) -> Result<(), OutOfMemory> {
-    match Block::new(Bytes::copy_from_slice(alloc, data)?) {
-        Some(block) => queue.push(block),
-        None => Ok(()),
-    }
-}
-
-fn write_pushes(rt: &impl Print, first: Duration, last: Duration) -> Result<()> {
-    let early = micros(first).saturating_mul(1000) / SAMPLE as u64;
-    let late = micros(last).saturating_mul(1000) / SAMPLE as u64;
-    println!(rt; "  a push among the first: {early} ns, among the last of a million: {late} ns")?;
-    Ok(())
+    write_line(
+        rt,
+        "  a push among the first: {} ns, among the last of a million: {} ns",
+        &[
+            nanos_each(first.micros, SAMPLE),
+            nanos_each(last.micros, SAMPLE),
+        ],
+    )
 }
 
 fn write_kept(rt: &impl Print, queue: &BlockQueue) -> Result<()> {
     let end = queue.end().bytes_before();
     let kept = end.saturating_sub(queue.offset().bytes_before());
-    println!(rt; "queue of {LIMIT} bytes: {end} bytes pushed, {kept} kept")?;
-    Ok(())
+    write_line(
+        rt,
+        "queue of {} bytes: {} bytes pushed, {} kept",
+        &[LIMIT, end, kept],
+    )
 }
 
 /// Draws at one place after another, and writes how many slices there were.
-fn draw_all(
-    rt: &(impl Clock + Print + AllocGlobal),
-    queue: &BlockQueue,
-    data: &[u8],
-    is_full: bool,
-) -> Result<()> {
-    let drawn = time_draws(rt, queue)?;
-    let slices = drawn.count;
-    println!(rt; "draws of {ROOM} bytes: {slices} slices")?;
+fn draw_all(rt: &(impl Clock + Print + AllocGlobal), stream: &Stream, is_full: bool) -> Result<()> {
+    let drawn = time_turns(rt, &mut Drawing { stream }, SAMPLE)?;
+    write_line(
+        rt,
+        "draws of {} bytes: {} slices",
+        &[u64::from(ROOM), drawn.count],
+    )?;
     if is_full {
-        write_draws(rt, data, drawn.time)?;
+        return write_draws(rt, stream, drawn.micros);
     }
     Ok(())
 }
 
-/// How many slices a sample of draws has, and how long it took.
-fn time_draws(rt: &(impl Clock + AllocGlobal), queue: &BlockQueue) -> Result<Measured> {
-    let start = Instant::now(rt)?;
-    let mut count = 0usize;
-    for turn in 0..SAMPLE {
-        count = count.saturating_add(drawn_slices(rt.alloc(), queue, turn as u64)?);
-    }
-    let time = start.elapsed(rt)?;
-    Ok(Measured { count, time })
-}
-
 /// How many slices a draw has, that far behind the start of what is kept.
-fn drawn_slices(alloc: Global, queue: &BlockQueue, behind: u64) -> Result<usize, OutOfMemory> {
+fn drawn_slices(alloc: Global, queue: &BlockQueue, behind: u64) -> u64 {
     let place = Place::new(queue.offset().bytes_before().saturating_add(behind));
     let mut pieces = Pieces::new(alloc);
     match queue.draw(place, ROOM, &mut pieces) {
-        Ok(_) => Ok(pieces.slices().len()),
-        Err(_) => Ok(0),
+        Ok(_) => pieces.slices().len() as u64,
+        Err(_) => 0,
     }
 }
 
 /// Writes what a draw costs beside a copy of as many bytes.
 fn write_draws(
     rt: &(impl Clock + Print + AllocGlobal),
-    data: &[u8],
-    drawn: Duration,
+    stream: &Stream,
+    micros: u64,
 ) -> Result<()> {
-    let copied = copy_time(rt, data)?;
-    let each = micros(drawn).saturating_mul(1000) / SAMPLE as u64;
-    let percent = percent_of(copied, drawn);
-    println!(rt; "  a draw: {each} ns, {percent} % of a copy's time")?;
-    Ok(())
-}
-
-/// How long it takes to copy as many bytes as are drawn, as often.
-fn copy_time(rt: &(impl Clock + AllocGlobal), data: &[u8]) -> Result<Duration> {
-    let start = Instant::now(rt)?;
-    let mut size = 0usize;
-    for _ in 0..SAMPLE {
-        size = size.saturating_add(joined(rt.alloc(), data)?);
-    }
-    let time = start.elapsed(rt)?;
-    Ok(if size > 0 {
-        time
-    } else {
-        Duration::from_secs(0)
-    })
+    let copied = time_turns(rt, &mut Copying { stream }, SAMPLE)?;
+    write_line(
+        rt,
+        "  a draw: {} ns, {} % of a copy's time",
+        &[
+            nanos_each(micros, SAMPLE),
+            percent_of(copied.micros, micros),
+        ],
+    )
 }
 
 /// Copies the data block by block, until there are as many bytes as a draw has: how many.
-fn joined(alloc: Global, data: &[u8]) -> Result<usize, OutOfMemory> {
+fn joined(alloc: Global, data: &[u8]) -> Result<u64, OutOfMemory> {
     let mut bytes = Vec::new(alloc);
     for _ in 0..ROOM as usize / BLOCK {
         bytes.extend_from_slice(data)?;
     }
-    Ok(bytes.len())
+    Ok(bytes.len() as u64)
 }

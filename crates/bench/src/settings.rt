@@ -1,13 +1,30 @@
 //! Reading settings of 10 mounts beside those of 10,000. In full 200,000 mounts of each size are read, and it is written
 //! how long one takes, in nanoseconds, and the ratio of the two.
 
-use crate::times::{Measured, micros, percent_of};
+use crate::lines::{write_line, write_named};
+use crate::times::{Measured, Work, time_turns, write_ratio};
 use anyhow::Result;
 use radio_settings::{OutOfMemory, Settings, SettingsFault};
 use std::alloc::Global;
 use std::fs;
 use std::rt::{Clock, Files};
-use std::time::{Duration, Instant};
+
+/// Reads the same settings again and again.
+#[derive(Clone, Copy)]
+struct Reading<'a> {
+    alloc: Global,
+    text: &'a str,
+}
+
+impl Work for Reading<'_> {
+    type Fault = SettingsFault;
+
+    /// How many mounts were read.
+    fn turn(&mut self, _number: u64) -> Result<u64, SettingsFault> {
+        let (mounts, _) = counts(self.alloc, self.text)?;
+        Ok(mounts)
+    }
+}
 
 /// Measures both sizes.
 pub fn measure(rt: &(impl Clock + Print + AllocGlobal), is_full: bool) -> Result<()> {
@@ -15,7 +32,12 @@ pub fn measure(rt: &(impl Clock + Print + AllocGlobal), is_full: bool) -> Result
     let few = read_size(rt, 10, 1000 * scale)?;
     let many = read_size(rt, 10000, scale)?;
     if is_full {
-        write_ratio(rt, few, many)?;
+        return write_ratio(
+            rt,
+            "  {} ns a mount among 10, {} ns among 10000, {} %",
+            &few,
+            &many,
+        );
     }
     Ok(())
 }
@@ -29,7 +51,9 @@ pub fn read_file(rt: &(impl Files + Print + AllocGlobal), path: &str) -> Result<
 /// Writes how many mounts and relays a text sets, or its fault.
 fn write_counts(rt: &(impl Print + AllocGlobal), path: &str, text: &str) -> Result<()> {
     match counts(rt.alloc(), text) {
-        Ok((mounts, relays)) => write_sizes(rt, path, mounts, relays),
+        Ok((mounts, relays)) => {
+            write_named(rt, path, ": {} mounts, {} relays", &[mounts, relays])
+        }
         Err(fault) => {
             let written = write_fault(rt, path, &fault);
             drop(fault);
@@ -38,48 +62,36 @@ fn write_counts(rt: &(impl Print + AllocGlobal), path: &str, text: &str) -> Resu
     }
 }
 
-fn write_sizes(rt: &impl Print, path: &str, mounts: usize, relays: usize) -> Result<()> {
-    println!(rt; "{path}: {mounts} mounts, {relays} relays")?;
-    Ok(())
-}
-
 fn write_fault(rt: &impl Print, path: &str, fault: &SettingsFault) -> Result<()> {
     println!(rt; "{path}: {fault}")?;
     Ok(())
 }
 
 /// How many mounts and relays a text sets.
-fn counts(alloc: Global, text: &str) -> Result<(usize, usize), SettingsFault> {
+fn counts(alloc: Global, text: &str) -> Result<(u64, u64), SettingsFault> {
     let settings = Settings::read(alloc, text)?;
     let counts = counts_in(&settings);
     drop(settings);
     Ok(counts)
 }
 
-fn counts_in(settings: &Settings) -> (usize, usize) {
+fn counts_in(settings: &Settings) -> (u64, u64) {
     (
-        settings.mounts.as_slice().len(),
-        settings.relays.as_slice().len(),
+        settings.mounts.as_slice().len() as u64,
+        settings.relays.as_slice().len() as u64,
     )
 }
 
-/// Reads settings of so many mounts in so many rounds, and tells how long it took.
-fn read_size(rt: &(impl Clock + Print + AllocGlobal), size: u32, rounds: u32) -> Result<Duration> {
-    let read = read_station(rt, size, rounds)?;
-    println!(rt; "{size} mounts: {} read", read.count)?;
-    Ok(read.time)
-}
-
-fn read_station(rt: &(impl Clock + AllocGlobal), size: u32, rounds: u32) -> Result<Measured> {
+/// Reads settings of so many mounts in so many rounds: how many were read, and how long it took.
+fn read_size(rt: &(impl Clock + Print + AllocGlobal), size: u32, rounds: u64) -> Result<Measured> {
     let text = station(rt.alloc(), size)?;
-    time_reading(rt, text.as_str(), rounds)
-}
-
-fn time_reading(rt: &(impl Clock + AllocGlobal), text: &str, rounds: u32) -> Result<Measured> {
-    let start = Instant::now(rt)?;
-    let count = read_rounds(rt.alloc(), text, rounds)?;
-    let time = start.elapsed(rt)?;
-    Ok(Measured { count, time })
+    let mut reading = Reading {
+        alloc: rt.alloc(),
+        text: text.as_str(),
+    };
+    let read = time_turns(rt, &mut reading, rounds)?;
+    write_line(rt, "{} mounts: {} read", &[u64::from(size), read.count])?;
+    Ok(read)
 }
 
 /// Settings with the mounts `/mount0`, `/mount1` and so on.
@@ -92,25 +104,4 @@ fn station(alloc: Global, size: u32) -> Result<String, OutOfMemory> {
         text.push_str(table.as_str())?;
     }
     Ok(text)
-}
-
-/// How many mounts were read in all rounds.
-fn read_rounds(alloc: Global, text: &str, rounds: u32) -> Result<usize, SettingsFault> {
-    let mut mounts = 0usize;
-    for _ in 0..rounds {
-        let (read, _) = counts(alloc, text)?;
-        mounts = mounts.saturating_add(read);
-    }
-    Ok(mounts)
-}
-
-/// Writes how long one of 200,000 mounts took; a two hundredth of all their microseconds is its nanoseconds.
-fn write_ratio(rt: &impl Print, few: Duration, many: Duration) -> Result<()> {
-    let percent = percent_of(few, many);
-    println!(rt;
-        "  {} ns a mount among 10, {} ns among 10000, {percent} %",
-        micros(few) / 200,
-        micros(many) / 200
-    )?;
-    Ok(())
 }

@@ -3,12 +3,13 @@
 //! are copied, piece by piece.
 ghost use Rattle.std.specs.Prelude.{◌≤◌};
 
-use crate::times::{Measured, copy_pieces, write_speeds};
+use crate::lines::write_named;
+use crate::times::{Intake, copy_pieces, time_pieces, write_speeds};
 use anyhow::Result;
-use radio_source::{Body, OutOfMemory};
+use radio_blocks::Block;
+use radio_source::{Body, BodyFault, OutOfMemory};
 use std::alloc::Global;
 use std::rt::Clock;
-use std::time::Instant;
 
 const SMALL: usize = 64 * 1024;
 
@@ -16,31 +17,36 @@ const FULL: usize = 64 * 1024 * 1024;
 
 const PIECE: usize = 4096;
 
+impl Intake for Body {
+    type Fault = BodyFault;
+
+    /// How many bytes of data the piece brings.
+    fn take(&mut self, piece: &[u8]) -> Result<u64, BodyFault> {
+        let fed = self.feed(piece)?;
+        Ok(data_size(fed.blocks.as_slice()))
+    }
+}
+
 /// Measures each kind of body.
 pub fn measure(rt: &(impl Clock + Print + AllocGlobal), is_full: bool) -> Result<()> {
     let data = vec![in rt.alloc(); 0x55; if is_full { FULL } else { SMALL }]?;
-    feed_unframed(rt, data.as_slice(), is_full)?;
-    for chunk_size in [1, 1400, 65536] {
-        feed_chunks(rt, chunk_size, data.as_slice(), is_full)?;
-    }
-    Ok(())
+    feed_all(rt, data.as_slice(), is_full)
 }
 
-/// A body that ends with the connection, and one of a known size.
-fn feed_unframed(
-    rt: &(impl Clock + Print + AllocGlobal),
-    data: &[u8],
-    is_full: bool,
-) -> Result<()> {
-    let mut plain = Body::plain(rt.alloc());
-    feed(rt, "plain", &mut plain, data, is_full)?;
-    let mut sized = Body::sized(rt.alloc(), data.len() as u64);
-    feed(rt, "sized", &mut sized, data, is_full)
+/// A body that ends with the connection, one of a known size, and chunked ones.
+fn feed_all(rt: &(impl Clock + Print + AllocGlobal), data: &[u8], is_full: bool) -> Result<()> {
+    feed(rt, "plain", Body::plain(rt.alloc()), data, is_full)?;
+    let sized = Body::sized(rt.alloc(), data.len() as u64);
+    feed(rt, "sized", sized, data, is_full)?;
+    feed_chunks(rt, "chunks of 1", 1, data, is_full)?;
+    feed_chunks(rt, "chunks of 1400", 1400, data, is_full)?;
+    feed_chunks(rt, "chunks of 65536", 65536, data, is_full)
 }
 
 /// A body in chunks of one size.
 fn feed_chunks(
     rt: &(impl Clock + Print + AllocGlobal),
+    name: &str,
     chunk_size: usize,
     data: &[u8],
     is_full: bool,
@@ -48,23 +54,25 @@ fn feed_chunks(
     requires { 1 ≤ chunk_size }
 {
     let bytes = chunked(rt.alloc(), chunk_size, data)?;
-    feed_chunked(rt, chunk_size, bytes.as_slice(), is_full)
-}
-
-/// The bytes of such a body.
-fn feed_chunked(
-    rt: &(impl Clock + Print + AllocGlobal),
-    chunk_size: usize,
-    bytes: &[u8],
-    is_full: bool,
-) -> Result<()> {
-    let name = format!(in rt.alloc(); "chunks of {chunk_size}")?;
-    let mut body = Body::chunked(rt.alloc());
-    feed(rt, name.as_str(), &mut body, bytes, is_full)
+    let body = Body::chunked(rt.alloc());
+    feed(rt, name, body, bytes.as_slice(), is_full)
 }
 
 /// Copies and feeds the bytes of a body in pieces, and writes a line about it.
 fn feed(
+    rt: &(impl Clock + Print + AllocGlobal),
+    name: &str,
+    body: Body,
+    bytes: &[u8],
+    is_full: bool,
+) -> Result<()> {
+    let mut body = body;
+    let fed = feed_body(rt, name, &mut body, bytes, is_full);
+    drop(body);
+    fed
+}
+
+fn feed_body(
     rt: &(impl Clock + Print + AllocGlobal),
     name: &str,
     body: &mut Body,
@@ -72,38 +80,26 @@ fn feed(
     is_full: bool,
 ) -> Result<()> {
     let copied = copy_pieces(rt, bytes, PIECE)?;
-    let fed = feed_pieces(rt, body, bytes)?;
-    write_counts(rt, name, copied.count, fed.count)?;
+    let fed = time_pieces(rt, body, bytes, PIECE)?;
+    write_named(
+        rt,
+        name,
+        ": {} bytes fed, {} of data",
+        &[copied.count, fed.count],
+    )?;
     if is_full {
-        write_speeds(rt, ("copy", "feed"), &copied, fed.time)?;
+        return write_speeds(rt, ("  copy", "  feed"), &copied, fed.micros);
     }
     Ok(())
 }
 
-fn write_counts(rt: &impl Print, name: &str, bytes: usize, data: usize) -> Result<()> {
-    println!(rt; "{name}: {bytes} bytes fed, {data} of data")?;
-    Ok(())
-}
-
-/// Feeds a body in pieces: how many bytes of data it has.
-fn feed_pieces(rt: &impl Clock, body: &mut Body, bytes: &[u8]) -> Result<Measured> {
-    let start = Instant::now(rt)?;
-    let mut count = 0usize;
-    for piece in bytes.chunks(PIECE) {
-        count = count.saturating_add(fed_size(body, piece)?);
+/// How many bytes the blocks have.
+fn data_size(blocks: &[Block]) -> u64 {
+    let mut size = 0u64;
+    for block in blocks {
+        size = size.saturating_add(block.len() as u64);
     }
-    let time = start.elapsed(rt)?;
-    Ok(Measured { count, time })
-}
-
-/// How many bytes of data one feed of a body brings.
-fn fed_size(body: &mut Body, piece: &[u8]) -> Result<usize> {
-    let fed = body.feed(piece)?;
-    let mut size = 0usize;
-    for block in &fed.blocks {
-        size = size.saturating_add(block.len());
-    }
-    Ok(size)
+    size
 }
 
 /// A chunked body of this data, in chunks of one size.

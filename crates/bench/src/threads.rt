@@ -8,33 +8,50 @@ ghost use Rattle.radio_access.specs.Lists.{no_lists};
 ghost use Rattle.radio_core.specs.World.{opening};
 
 use crate::house::{Answers, Caller, draw_all, open_station, push, station_settings};
-use crate::times::micros;
+use crate::lines::write_line;
+use crate::times::{micros, micros_since, nanos_each};
 use anyhow::Result;
 use radio_access::Lists;
-use radio_book::{Chronicle, House, Kept, OutOfMemory, PASSES, Pass, SettleFault, Unkept};
+use radio_book::{Chronicle, House, Kept, OutOfMemory, PASSES, Pass, Unkept};
 use radio_hall::{Hall, settle};
 use radio_settings::Settings;
 use std::alloc::{AllocError, Global};
 use std::marker::Brand;
 use std::rt::Clock;
 use std::sync::Wait;
+use std::sync::atomic::{AtomicUsize, Ordering};
 use std::sync::ledger::Blank;
-use std::thread::{Threads, join};
+use std::thread::{Threads, for_each_mut};
 use std::time::Instant;
 
 /// How many listeners a thread has.
 const LISTENERS: u32 = 4;
 
-/// A pass, or want of memory.
-type Worked<C, H> = Result<Pass<C, H>, OutOfMemory>;
+/// How many threads there are.
+const THREADS: usize = 4;
 
-/// The passes of two threads.
-type Both<C, H> = (Worked<C, H>, Worked<C, H>);
+/// What four threads share.
+#[derive(Drop)]
+struct Shift<'a, C: Chronicle, H: House, R> {
+    rt: &'a R,
+    alloc: Global,
+    hall: &'a Hall<C, H>,
+    blocks: u32,
+    /// How many threads have made all their calls.
+    done: AtomicUsize,
+}
+
+/// What the calls of four threads took, in microseconds, and when they had ended.
+#[derive(Clone, Copy)]
+struct Worked {
+    micros: u64,
+    end: Instant,
+}
 
 /// How many entries were settled, and what the calls and the settling took, in microseconds.
 #[derive(Clone, Copy)]
 struct Settled {
-    entries: usize,
+    entries: u64,
     calls: u64,
     settling: u64,
 }
@@ -55,14 +72,18 @@ fn measure_unkept<R: Clock + Print + AllocGlobal + Threads + Wait + Sync>(
     is_full: bool,
 ) -> Result<()> {
     let settings = station_settings(rt.alloc())?;
-    let time = time_unkept::<Brand, R>(rt, settings, Blank::new(PASSES), blocks)?;
-    write_unkept(rt, time, blocks, is_full)
+    let worked = time_unkept::<Brand, R>(rt, settings, Blank::new(PASSES), blocks)?;
+    write_unkept(rt, worked.micros, blocks, is_full)
 }
 
-fn write_unkept(rt: &impl Print, time: u64, blocks: u32, is_full: bool) -> Result<()> {
-    println!(rt; "four threads, nothing stored: {blocks} blocks each")?;
+fn write_unkept(rt: &impl Print, calls: u64, blocks: u32, is_full: bool) -> Result<()> {
+    write_line(
+        rt,
+        "four threads, nothing stored: {} blocks each",
+        &[u64::from(blocks)],
+    )?;
     if is_full {
-        println!(rt; "  {} ns a call", nanos_a_call(time, blocks))?;
+        return write_line(rt, "  {} ns a call", &[nanos_a_call(calls, blocks)]);
     }
     Ok(())
 }
@@ -70,7 +91,7 @@ fn write_unkept(rt: &impl Print, time: u64, blocks: u32, is_full: bool) -> Resul
 /// What one of the calls of four threads took, which deliver so many blocks each and draw each four times, in
 /// nanoseconds.
 fn nanos_a_call(micros: u64, blocks: u32) -> u64 {
-    micros.saturating_mul(1000) / u64::from(blocks).saturating_mul(20).max(1)
+    nanos_each(micros, u64::from(blocks).saturating_mul(20))
 }
 
 fn time_unkept<H: House + Send + Sync, R: Clock + AllocGlobal + Threads + Wait + Sync>(
@@ -78,14 +99,16 @@ fn time_unkept<H: House + Send + Sync, R: Clock + AllocGlobal + Threads + Wait +
     settings: Settings,
     blank: Blank,
     blocks: u32,
-) -> Result<u64>
+) -> Result<Worked>
     requires opening { H.opening ≡ opening settings no_lists }
     requires ledger { (blank.name ≡ H.name) × (blank.parts ≡ H.parts) × (blank.parts ≡ 2 ^ 32) }
 {
     let hall: Hall<Unkept, H> = Hall::new(rt.alloc(), settings, Lists::new(rt.alloc()), blank);
-    let (passes, time) = time_four(rt, &hall, blocks)?;
+    let mut passes = Vec::new(rt.alloc());
+    let worked = time_four(rt, &hall, &mut passes, blocks);
     drop(passes);
-    Ok(time)
+    drop(hall);
+    worked
 }
 
 /// The same where everything is stored, and then all passes are settled.
@@ -96,20 +119,21 @@ fn measure_kept<R: Clock + Print + AllocGlobal + Threads + Wait + Sync>(
 ) -> Result<()> {
     let settings = station_settings(rt.alloc())?;
     let settled = time_kept::<Brand, R>(rt, settings, Blank::new(PASSES), blocks)?;
-    write_kept(rt, settled, blocks, is_full)
+    write_kept(rt, &settled, blocks, is_full)
 }
 
-fn write_kept(rt: &impl Print, settled: Settled, blocks: u32, is_full: bool) -> Result<()> {
-    println!(rt;
+fn write_kept(rt: &impl Print, settled: &Settled, blocks: u32, is_full: bool) -> Result<()> {
+    write_line(
+        rt,
         "four threads, all stored: {} entries settled",
-        settled.entries
+        &[settled.entries],
     )?;
     if is_full {
-        println!(rt;
+        return write_line(
+            rt,
             "  {} ns a call, settled in {} ms",
-            nanos_a_call(settled.calls, blocks),
-            settled.settling / 1000
-        )?;
+            &[nanos_a_call(settled.calls, blocks), settled.settling / 1000],
+        );
     }
     Ok(())
 }
@@ -124,23 +148,9 @@ fn time_kept<H: House + Send + Sync, R: Clock + AllocGlobal + Threads + Wait + S
     requires ledger { (blank.name ≡ H.name) × (blank.parts ≡ H.parts) × (blank.parts ≡ 2 ^ 32) }
 {
     let hall: Hall<Kept, H> = Hall::new(rt.alloc(), settings, Lists::new(rt.alloc()), blank);
-    match time_four(rt, &hall, blocks) {
-        Ok((passes, calls)) => time_settling(rt, hall, passes, calls),
-        Err(fault) => {
-            drop(hall);
-            Err(fault)
-        }
-    }
-}
-
-fn time_settling<H: House, R: Clock + AllocGlobal>(
-    rt: &R,
-    hall: Hall<Kept, H>,
-    passes: Vec<Pass<Kept, H>>,
-    calls: u64,
-) -> Result<Settled> {
-    match now(rt) {
-        Ok(start) => settle_since(rt, start, hall, passes, calls),
+    let mut passes = Vec::new(rt.alloc());
+    match time_four(rt, &hall, &mut passes, blocks) {
+        Ok(worked) => settle_all(rt, hall, passes, &worked),
         Err(fault) => {
             drop(passes);
             drop(hall);
@@ -149,178 +159,122 @@ fn time_settling<H: House, R: Clock + AllocGlobal>(
     }
 }
 
-fn count_settled<H: House>(
-    alloc: Global,
+fn settle_all<H: House>(
+    rt: &(impl Clock + AllocGlobal),
     hall: Hall<Kept, H>,
     passes: Vec<Pass<Kept, H>>,
-) -> Result<usize, SettleFault> {
-    Ok(settle(alloc, hall, passes)?.len())
-}
-
-fn now(rt: &impl Clock) -> Result<Instant> {
-    Ok(Instant::now(rt)?)
-}
-
-fn settle_since<H: House, R: Clock + AllocGlobal>(
-    rt: &R,
-    start: Instant,
-    hall: Hall<Kept, H>,
-    passes: Vec<Pass<Kept, H>>,
-    calls: u64,
+    worked: &Worked,
 ) -> Result<Settled> {
-    let entries = count_settled(rt.alloc(), hall, passes)?;
-    let settling = micros_since(rt, start)?;
+    let entries = settle(rt.alloc(), hall, passes)?.len() as u64;
+    let settling = micros_since(rt, worked.end)?;
     Ok(Settled {
         entries,
-        calls,
+        calls: worked.micros,
         settling,
     })
 }
 
-/// The passes of four threads, and what their calls took, in microseconds.
-fn time_four<C, H, R>(rt: &R, hall: &Hall<C, H>, blocks: u32) -> Result<(Vec<Pass<C, H>>, u64)>
+/// The calls of four threads, each of which adds its pass.
+fn time_four<C, H, R>(
+    rt: &R,
+    hall: &Hall<C, H>,
+    passes: &mut Vec<Pass<C, H>>,
+    blocks: u32,
+) -> Result<Worked>
 where
     C: Chronicle + Send + Sync,
     H: House + Send + Sync,
     R: Clock + AllocGlobal + Threads + Wait + Sync,
 {
-    let start = now(rt)?;
-    let passes = passes_of_four(rt, rt.alloc(), hall, blocks)?;
-    with_time(rt, start, passes)
-}
-
-/// The passes, and the time since then, in microseconds.
-fn with_time<C: Chronicle, H: House>(
-    rt: &impl Clock,
-    start: Instant,
-    passes: Vec<Pass<C, H>>,
-) -> Result<(Vec<Pass<C, H>>, u64)> {
-    match micros_since(rt, start) {
-        Ok(time) => Ok((passes, time)),
-        Err(fault) => {
-            drop(passes);
-            Err(fault)
-        }
-    }
-}
-
-fn micros_since(rt: &impl Clock, start: Instant) -> Result<u64> {
-    Ok(micros(start.elapsed(rt)?))
-}
-
-/// The passes of four threads, when they have ended.
-fn passes_of_four<C, H, R>(
-    rt: &R,
-    alloc: Global,
-    hall: &Hall<C, H>,
-    blocks: u32,
-) -> Result<Vec<Pass<C, H>>, OutOfMemory>
-where
-    C: Chronicle + Send + Sync,
-    H: House + Send + Sync,
-    R: Threads + Wait + Sync,
-{
-    let (first, second) = work_four(rt, alloc, hall, blocks);
-    let mut passes = Vec::new(alloc);
-    push_four(&mut passes, first, second)?;
-    Ok(passes)
+    let start = Instant::now(rt)?;
+    work_four(rt, rt.alloc(), hall, passes, blocks)?;
+    let end = Instant::now(rt)?;
+    Ok(Worked {
+        micros: micros(end.saturating_duration_since(start)),
+        end,
+    })
 }
 
 fn work_four<C, H, R>(
     rt: &R,
     alloc: Global,
     hall: &Hall<C, H>,
+    passes: &mut Vec<Pass<C, H>>,
     blocks: u32,
-) -> (Both<C, H>, Both<C, H>)
+) -> Result<(), OutOfMemory>
 where
     C: Chronicle + Send + Sync,
     H: House + Send + Sync,
     R: Threads + Wait + Sync,
 {
-    join(
+    add_passes(rt, hall, passes)?;
+    let shift = Shift {
         rt,
-        || -> Both<C, H> { work_both(rt, alloc, hall, "/a", "/b", blocks) },
-        || -> Both<C, H> { work_both(rt, alloc, hall, "/c", "/d", blocks) },
-    )
-}
-
-fn push_four<C: Chronicle, H: House>(
-    passes: &mut Vec<Pass<C, H>>,
-    first: Both<C, H>,
-    second: Both<C, H>,
-) -> Result<(), OutOfMemory> {
-    push_both(passes, first)?;
-    push_both(passes, second)
-}
-
-fn push_both<C: Chronicle, H: House>(
-    passes: &mut Vec<Pass<C, H>>,
-    both: Both<C, H>,
-) -> Result<(), OutOfMemory> {
-    let (first, second) = both;
-    match push_one(passes, first) {
-        Ok(()) => push_one(passes, second),
-        Err(refused) => {
-            drop(second);
-            Err(refused)
-        }
+        alloc,
+        hall,
+        blocks,
+        done: AtomicUsize::new(0),
+    };
+    work_all(&shift, passes.as_mut_slice());
+    if shift.done.load(Ordering::SeqCst) < THREADS {
+        return Err(AllocError);
     }
-}
-
-fn push_one<C: Chronicle, H: House>(
-    passes: &mut Vec<Pass<C, H>>,
-    worked: Worked<C, H>,
-) -> Result<(), OutOfMemory> {
-    passes.push(worked?)?;
     Ok(())
 }
 
-/// Two threads, with a mount each.
-fn work_both<C, H, R>(
-    rt: &R,
-    alloc: Global,
+/// A pass for each thread.
+fn add_passes<C: Chronicle, H: House>(
+    rt: &impl Wait,
     hall: &Hall<C, H>,
-    path: &str,
-    other: &str,
-    blocks: u32,
-) -> Both<C, H>
+    passes: &mut Vec<Pass<C, H>>,
+) -> Result<(), OutOfMemory> {
+    for _ in 0..THREADS {
+        let Some(pass) = hall.pass(rt) else {
+            return Err(AllocError);
+        };
+        passes.push(pass)?;
+    }
+    Ok(())
+}
+
+/// Works with each pass in a thread of its own.
+fn work_all<C, H, R>(shift: &Shift<'_, C, H, R>, passes: &mut [Pass<C, H>])
 where
     C: Chronicle + Send + Sync,
     H: House + Send + Sync,
     R: Threads + Wait + Sync,
 {
-    join(
-        rt,
-        || -> Worked<C, H> { work(rt, alloc, hall, path, blocks) },
-        || -> Worked<C, H> { work(rt, alloc, hall, other, blocks) },
-    )
+    for_each_mut(
+        shift.rt,
+        passes,
+        THREADS,
+        &|number, pass| { work(shift, number, pass) },
+    );
 }
 
-/// The pass of one thread, after its calls; want of memory where it got none.
+/// Makes the calls of one thread.
 fn work<C: Chronicle, H: House, R: Wait>(
-    rt: &R,
-    alloc: Global,
-    hall: &Hall<C, H>,
-    path: &str,
-    blocks: u32,
-) -> Worked<C, H> {
-    let Some(pass) = hall.pass(rt) else {
-        return Err(AllocError);
+    shift: &Shift<'_, C, H, R>,
+    number: usize,
+    pass: &mut Pass<C, H>,
+) {
+    let mut caller = Caller {
+        rt: shift.rt,
+        hall: shift.hall,
+        pass,
     };
-    let mut caller = Caller { rt, hall, pass };
-    match serve(alloc, &mut caller, path, blocks) {
-        Ok(()) => {
-            let Caller {
-                rt: _,
-                hall: _,
-                pass,
-            } = caller;
-            Ok(pass)
-        }
-        Err(refused) => {
-            drop(caller);
-            Err(refused)
-        }
+    if serve(shift.alloc, &mut caller, path_of(number), shift.blocks).is_ok() {
+        shift.done.fetch_add(1, Ordering::SeqCst);
+    }
+}
+
+/// The mount of a thread.
+fn path_of(number: usize) -> &'static str {
+    match number {
+        0 => "/a",
+        1 => "/b",
+        2 => "/c",
+        _ => "/d",
     }
 }
 
@@ -328,7 +282,7 @@ fn work<C: Chronicle, H: House, R: Wait>(
 fn serve<A: Answers>(
     alloc: Global,
     who: &mut A,
-    path: &str,
+    path: &'static str,
     blocks: u32,
 ) -> Result<(), OutOfMemory> {
     let station = open_station(alloc, who, path, LISTENERS)?;

@@ -1,21 +1,14 @@
 //! A caller who feeds a mount and listens to it: 100 calls.
 
 use bytes::Bytes;
-use radio_access::Lists;
 use radio_addr::Peer;
 use radio_blocks::Block;
 use radio_book::OutOfMemory;
-use radio_core::{Core, Event, ListenRequest, SourceRequest};
+use radio_core::{Core, Event, ListenRequest, Reply, SourceRequest};
 use radio_creds::basic;
 use radio_icy::Title;
-use radio_settings::{Settings, SettingsFault, Shown};
+use radio_settings::Shown;
 use std::alloc::Global;
-
-/// How often a block is delivered and drawn, after each title.
-const ROUNDS: u32 = 23;
-
-/// The titles, one after the other.
-const TITLES: [&[u8]; 2] = [b"Evening", b"Night"];
 
 /// How many calls a caller makes: a source and a listener arrive and say what they want, then titles
 /// are set and blocks are delivered and drawn, and the two leave.
@@ -30,92 +23,150 @@ pub const DATA: &[u8] = b"abcd";
 /// What its sources send: the user `source` and that password.
 const SOURCE_PAIR: &[u8] = b"Basic c291cmNlOmhhY2ttZQ==";
 
-/// The settings of a small station.
-pub fn station(alloc: Global) -> Result<Settings, SettingsFault> {
-    Settings::read(
-        alloc,
-        "source-password = \"hackme\"\nadmin-password = \"letmein\"\n",
-    )
+/// What he does once his source and his listener have arrived.
+#[derive(Clone, Copy)]
+enum Call {
+    Source,
+    Listen,
+    Title(&'static [u8]),
+    Push,
+    Draw,
+    ListenerLeaves,
+    SourceLeaves,
 }
 
-/// A core of that station.
-pub fn core_of_station(alloc: Global) -> Result<Core, SettingsFault> {
-    Ok(Core::new(alloc, station(alloc)?, Lists::new(alloc)))
+/// Calls that are made one after the other, so many times.
+struct Rounds {
+    count: u32,
+    calls: &'static [Call],
+}
+
+/// They say what they want, titles are set, blocks are delivered and drawn after each, and they leave.
+const ALL_ROUNDS: &[Rounds] = &[
+    Rounds {
+        count: 1,
+        calls: &[Call::Source, Call::Listen, Call::Title(b"Evening")],
+    },
+    Rounds {
+        count: 23,
+        calls: &[Call::Push, Call::Draw],
+    },
+    Rounds {
+        count: 1,
+        calls: &[Call::Title(b"Night")],
+    },
+    Rounds {
+        count: 23,
+        calls: &[Call::Push, Call::Draw],
+    },
+    Rounds {
+        count: 1,
+        calls: &[Call::ListenerLeaves, Call::SourceLeaves],
+    },
+];
+
+/// Whom he calls.
+pub trait Callee {
+    /// The number that the reply to an event gives, 0 where it gives none; `None` where memory was
+    /// refused.
+    fn call(&mut self, event: Event) -> Option<u64>;
+}
+
+/// The caller's mount, and the numbers of the two.
+#[derive(Clone, Copy)]
+struct Pair<'a> {
+    path: &'a str,
+    source: u64,
+    listener: u64,
+}
+
+/// Makes the 100 calls. Whether each was replied to.
+pub fn serve<C: Callee>(alloc: Global, callee: &mut C, path: &str) -> bool {
+    let Some(source) = callee.call(arrival()) else {
+        return false;
+    };
+    let Some(listener) = callee.call(arrival()) else {
+        return false;
+    };
+    let pair = Pair {
+        path,
+        source,
+        listener,
+    };
+    serve_pair(alloc, callee, pair)
+}
+
+/// The number that a reply gives to who arrives, 0 where it gives none.
+pub fn number_given(reply: &Reply) -> u64 {
+    match reply {
+        Reply::Arrived(id) => *id,
+        _ => 0,
+    }
+}
+
+fn serve_pair<C: Callee>(alloc: Global, callee: &mut C, pair: Pair) -> bool {
+    for rounds in ALL_ROUNDS {
+        if !serve_rounds(alloc, callee, pair, rounds) {
+            return false;
+        }
+    }
+    true
+}
+
+fn serve_rounds<C: Callee>(alloc: Global, callee: &mut C, pair: Pair, rounds: &Rounds) -> bool {
+    for _ in 0..rounds.count {
+        if !serve_round(alloc, callee, pair, rounds.calls) {
+            return false;
+        }
+    }
+    true
+}
+
+fn serve_round<C: Callee>(alloc: Global, callee: &mut C, pair: Pair, calls: &[Call]) -> bool {
+    for call in calls {
+        if !serve_call(alloc, callee, pair, *call) {
+            return false;
+        }
+    }
+    true
+}
+
+fn serve_call<C: Callee>(alloc: Global, callee: &mut C, pair: Pair, call: Call) -> bool {
+    match event_of(alloc, pair, call) {
+        Ok(event) => callee.call(event).is_some(),
+        Err(_) => false,
+    }
+}
+
+fn event_of(alloc: Global, pair: Pair, call: Call) -> Result<Event, OutOfMemory> {
+    match call {
+        Call::Source => source_event(alloc, pair.source, pair.path),
+        Call::Listen => listen_event(alloc, pair.listener, pair.path),
+        Call::Title(title) => title_event(alloc, pair.source, title),
+        Call::Push => push_event(alloc, pair.source),
+        Call::Draw => Ok(Event::Draw {
+            id: pair.listener,
+            room: 4,
+        }),
+        Call::ListenerLeaves => Ok(Event::Leave { id: pair.listener }),
+        Call::SourceLeaves => Ok(Event::Leave { id: pair.source }),
+    }
+}
+
+/// What a core replies to a copy of the event.
+pub fn step_copy(core: &mut Core, event: &Event) -> Result<Reply, OutOfMemory> {
+    core.step(event.again()?)
 }
 
 /// A connection comes.
-pub fn arrival() -> Event {
+fn arrival() -> Event {
     Event::Arrive {
         peer: Peer::of_v4(0x0a00_0001),
     }
 }
 
-/// What the two do who have arrived with these numbers.
-pub fn events_of(
-    alloc: Global,
-    path: &str,
-    source: u64,
-    listener: u64,
-) -> Result<Vec<Event>, OutOfMemory> {
-    let mut events = Vec::new(alloc);
-    push_requests(alloc, &mut events, path, source, listener)?;
-    push_titled(alloc, &mut events, source, listener)?;
-    push_leaving(&mut events, source, listener)?;
-    Ok(events)
-}
-
-/// They say what they want.
-fn push_requests(
-    alloc: Global,
-    events: &mut Vec<Event>,
-    path: &str,
-    source: u64,
-    listener: u64,
-) -> Result<(), OutOfMemory> {
-    events.push(source_event(alloc, source, path)?)?;
-    events.push(listen_event(alloc, listener, path)?)?;
-    Ok(())
-}
-
-/// Titles are set, and blocks are delivered and drawn after each.
-fn push_titled(
-    alloc: Global,
-    events: &mut Vec<Event>,
-    source: u64,
-    listener: u64,
-) -> Result<(), OutOfMemory> {
-    for title in TITLES {
-        events.push(title_event(alloc, source, title)?)?;
-        push_rounds(alloc, events, source, listener)?;
-    }
-    Ok(())
-}
-
-/// They leave.
-fn push_leaving(events: &mut Vec<Event>, source: u64, listener: u64) -> Result<(), OutOfMemory> {
-    events.push(Event::Leave { id: listener })?;
-    events.push(Event::Leave { id: source })?;
-    Ok(())
-}
-
-/// Blocks are delivered and drawn.
-fn push_rounds(
-    alloc: Global,
-    events: &mut Vec<Event>,
-    source: u64,
-    listener: u64,
-) -> Result<(), OutOfMemory> {
-    for _ in 0..ROUNDS {
-        events.push(push_event(alloc, source)?)?;
-        events.push(Event::Draw {
-            id: listener,
-            room: 4,
-        })?;
-    }
-    Ok(())
-}
-
-fn title_event(alloc: Global, id: u64, title: &[u8]) -> Result<Event, OutOfMemory> {
+/// This title is set by this client.
+pub fn title_event(alloc: Global, id: u64, title: &[u8]) -> Result<Event, OutOfMemory> {
     Ok(Event::Title {
         id,
         text: Title::clean(alloc, title)?,

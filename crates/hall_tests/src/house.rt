@@ -1,122 +1,99 @@
 //! A worker over a hall: another caller who sets a title, and a gate that asks for the lock.
 
-ghost use Rattle.std.specs.Prelude.{◌≡◌, ◌^◌};
-ghost use Rattle.radio_access.specs.Lists.{no_lists};
-ghost use Rattle.radio_core.specs.World.{opening};
-
-use crate::memory_line::giving;
-use crate::rows::{EIGHT_BYTES, HEARD, INTERVAL, LATE_LISTENER, NIGHT, TITLED, serve_source};
-use crate::stations::*;
-use radio_access::Lists;
-use radio_book::{House, Kept, OutOfMemory, PASSES, Pass, SettleFault};
-use radio_core::Event;
-use radio_hall::{Caller, Gate, Hall, Server, settle};
-use radio_icy::Title;
-use radio_settings::Settings;
+use crate::calls::{Callee, title_event};
+use crate::halls::{PassCaller, Visit, visit_hall};
+use crate::memory_line::Look;
+use crate::rows::*;
+use crate::stations::Station;
+use crate::steps::Step;
+use radio_book::{House, Kept, Pass};
+use radio_hall::{Caller, Gate, Hall};
 use std::alloc::Global;
 use std::cell::Cell;
-use std::marker::Brand;
 use std::sync::Wait;
-use std::sync::ledger::Blank;
 use std::test::Fail;
 
-/// The source's mount has this title from now on.
-fn set_title<H: House, R: Wait>(
+/// The source's mount has this title from now on. Whether it has: it has not where memory is refused.
+fn sets_title<H: House, R: Wait>(
     rt: &R,
     alloc: Global,
     hall: &Hall<Kept, H>,
     pass: &mut Pass<Kept, H>,
-) -> Result<(), OutOfMemory> {
-    let text = Title::clean(alloc, b"Night")?;
-    drop(hall.apply(rt, pass, Event::Title { id: 1, text })?);
-    Ok(())
+) -> bool {
+    match title_event(alloc, 1, b"Night") {
+        Ok(event) => {
+            let mut caller = PassCaller { rt, hall, pass };
+            caller.call(event).is_some()
+        }
+        Err(_) => false,
+    }
 }
+
+/// A worker over a hall, with a pass and no connection.
+type HallStation<'a, R, H> = Station<Caller<'a, R, Kept, H>>;
+
+fn open_station<'a, H: House, R: Wait>(
+    rt: &'a R,
+    alloc: Global,
+    hall: &'a Hall<Kept, H>,
+) -> Option<HallStation<'a, R, H>> {
+    let pass = hall.pass(rt)?;
+    Some(Station::new(alloc, Caller::new(rt, hall, pass)))
+}
+
+/// Adds the worker's pass, when he serves no more. Whether there was memory for it.
+fn adds_pass<H: House, R: Wait>(
+    station: HallStation<R, H>,
+    passes: &mut Vec<Pass<Kept, H>>,
+) -> bool {
+    let pass = station.into_server().into_pass();
+    passes.push(pass).is_ok()
+}
+
+/// A source is served.
+const SERVED: &[Step] = &[Step::Comes(SOURCE, 0), Step::Turns(1, 1, 2)];
 
 /// A listener comes then, and hears the title.
-fn hears_night<S: Server + Drop>(station: &mut Station<S>) -> Result<bool, OutOfMemory> {
-    station.come(giving(TITLED), 2)?;
-    station.turns(3, 1, 1);
-    Ok(station.took(1, NIGHT))
-}
+const HEARS_NIGHT: &[Step] = &[
+    Step::Comes(TITLED, 2),
+    Step::Turns(3, 1, 1),
+    Step::Shows(1, Look::Took(NIGHT)),
+];
 
-/// A source is served, a title is set, and a listener hears it.
-fn hears_title<H: House, R: Wait>(
-    rt: &R,
-    alloc: Global,
-    hall: &Hall<Kept, H>,
-    other: &mut Pass<Kept, H>,
-    station: &mut Station<Caller<R, Kept, H>>,
-) -> Result<bool, OutOfMemory> {
-    serve_source(station)?;
-    set_title(rt, alloc, hall, other)?;
-    hears_night(station)
-}
-
-/// The pass of the worker, and whether the title was heard that the other caller set.
-fn heard_beside<H: House, R: Wait>(
+/// A worker whose pass is added, and whether the title was heard that the other caller set.
+fn is_heard<H: House, R: Wait>(
     rt: &R,
     alloc: Global,
     hall: &Hall<Kept, H>,
     other: &mut Pass<Kept, H>,
     passes: &mut Vec<Pass<Kept, H>>,
-) -> Result<bool, OutOfMemory> {
-    let Some(pass) = hall.pass(rt) else {
-        return Ok(false);
+) -> bool {
+    let Some(mut station) = open_station(rt, alloc, hall) else {
+        return false;
     };
-    let mut station = Station::new(alloc, Caller::new(rt, hall, pass));
-    let heard = hears_title(rt, alloc, hall, other, &mut station);
-    passes.push(station.into_server().into_pass())?;
-    heard
+    let is_heard = station.plays(SERVED)
+        && sets_title(rt, alloc, hall, other)
+        && station.plays(HEARS_NIGHT);
+    adds_pass(station, passes) && is_heard
 }
 
-/// Both callers' passes, and whether the title was heard.
-fn titled<H: House, R: Wait>(
+/// The same beside a pass of another caller, who sets the title; it is added too.
+pub fn is_title_heard<H: House, R: Wait>(
     rt: &R,
     alloc: Global,
     hall: &Hall<Kept, H>,
     passes: &mut Vec<Pass<Kept, H>>,
-) -> Result<bool, OutOfMemory> {
+) -> bool {
     let Some(mut other) = hall.pass(rt) else {
-        return Ok(false);
+        return false;
     };
-    let heard = heard_beside(rt, alloc, hall, &mut other, passes);
-    passes.push(other)?;
-    heard
-}
-
-/// Whether the title was heard, and how many entries the history has then: two arrivals, what the
-/// two asked for, a block, a title, and a draw.
-fn history_of_titled<H: House, R: Wait>(
-    rt: &R,
-    alloc: Global,
-    settings: Settings,
-    blank: Blank,
-) -> Result<(bool, usize), SettleFault>
-    requires opening { H.opening ≡ opening settings no_lists }
-    requires ledger { (blank.name ≡ H.name) × (blank.parts ≡ H.parts) × (blank.parts ≡ 2 ^ 32) }
-{
-    let hall: Hall<Kept, H> = Hall::new(alloc, settings, Lists::new(alloc), blank);
-    let mut passes = Vec::new(alloc);
-    let heard = titled(rt, alloc, &hall, &mut passes);
-    let entries = entries_settled(alloc, hall, passes)?;
-    Ok((heard?, entries))
-}
-
-fn entries_settled<H: House>(
-    alloc: Global,
-    hall: Hall<Kept, H>,
-    passes: Vec<Pass<Kept, H>>,
-) -> Result<usize, SettleFault> {
-    Ok(settle(alloc, hall, passes)?.len())
+    let is_heard = is_heard(rt, alloc, hall, &mut other, passes);
+    passes.push(other).is_ok() && is_heard
 }
 
 #[test]
 fn title_between_bytes(rt: HostRuntime) -> Result<(), Fail> {
-    let alloc = rt.alloc();
-    let settings = settings(alloc, INTERVAL)?;
-    let told = history_of_titled::<Brand, _>(&rt, alloc, settings, Blank::new(PASSES))?;
-    assert!(&rt; told == (true, 7));
-    Ok(())
+    visit_hall(&rt, INTERVAL, Visit::Titling)
 }
 
 /// A gate at which the hall is asked for a pass before and after each write, without waiting for its
@@ -153,7 +130,7 @@ impl<'a, H: House> Gate for Knocking<'a, H> {
 /// listener.
 fn is_free_in_turns<H: House, R: Wait>(
     hall: &Hall<Kept, H>,
-    station: &mut Station<Caller<R, Kept, H>>,
+    station: &mut HallStation<R, H>,
 ) -> bool {
     let gate = Knocking {
         hall,
@@ -166,47 +143,34 @@ fn is_free_in_turns<H: House, R: Wait>(
     gate.knocks.get() == 4 && !gate.was_held.get()
 }
 
-/// The same, of a source and a listener who come.
-fn is_free_for<H: House, R: Wait>(
+/// A source and a listener come.
+const BOTH_COME: &[Step] = &[Step::Comes(SOURCE, 0), Step::Comes(LATE_LISTENER, 0)];
+
+fn is_free_for_both<H: House, R: Wait>(
     hall: &Hall<Kept, H>,
-    station: &mut Station<Caller<R, Kept, H>>,
-) -> Result<bool, OutOfMemory> {
-    both_come(station)?;
-    Ok(is_free_in_turns(hall, station) && station.took(1, HEARD))
+    station: &mut HallStation<R, H>,
+) -> bool {
+    station.plays(BOTH_COME)
+        && is_free_in_turns(hall, station)
+        && station.shows(1, Look::Took(HEARD))
 }
 
-fn both_come<H: House, R: Wait>(
-    station: &mut Station<Caller<R, Kept, H>>,
-) -> Result<(), OutOfMemory> {
-    station.come(giving(EIGHT_BYTES), 0)?;
-    station.come(giving(LATE_LISTENER), 0)
-}
-
-fn is_free<H: House, R: Wait>(
+/// They are served through a gate that knocks, by a worker whose pass is added.
+pub fn is_lock_free<H: House, R: Wait>(
     rt: &R,
     alloc: Global,
-    settings: Settings,
-    blank: Blank,
-) -> Result<bool, OutOfMemory>
-    requires opening { H.opening ≡ opening settings no_lists }
-    requires ledger { (blank.name ≡ H.name) × (blank.parts ≡ H.parts) × (blank.parts ≡ 2 ^ 32) }
-{
-    let hall: Hall<Kept, H> = Hall::new(alloc, settings, Lists::new(alloc), blank);
-    let Some(pass) = hall.pass(rt) else {
-        return Ok(false);
+    hall: &Hall<Kept, H>,
+    passes: &mut Vec<Pass<Kept, H>>,
+) -> bool {
+    let Some(mut station) = open_station(rt, alloc, hall) else {
+        return false;
     };
-    let mut station = Station::new(alloc, Caller::new(rt, &hall, pass));
-    let free = is_free_for(&hall, &mut station);
-    drop(station);
-    free
+    let is_free = is_free_for_both(hall, &mut station);
+    adds_pass(station, passes) && is_free
 }
 
 /// A lock that is held is found without waiting for it, so this ends whoever holds it.
 #[test]
 fn the_lock_is_free_while_writing(rt: HostRuntime) -> Result<(), Fail> {
-    let alloc = rt.alloc();
-    let settings = settings(alloc, "")?;
-    let free = is_free::<Brand, _>(&rt, alloc, settings, Blank::new(PASSES))?;
-    assert!(rt; free);
-    Ok(())
+    visit_hall(&rt, "", Visit::Knocking)
 }

@@ -4,12 +4,14 @@
 //!
 //! Of the book and the hall:
 //! - `calls`: the calls of a caller who feeds a mount and listens to it.
+//! - `halls`: a hall, what is done there, and all passes settled then.
 //! - `two_callers`: two threads, with a pass each, over one hall; and what settles no history.
 //! - `unkept`: the same calls over a hall that stores nothing, beside a core.
 //!
 //! Of a worker's turn:
 //! - `memory_line`: a line that gives what a table says, and takes as much as it says.
 //! - `stations`: a worker over a core, and connections over such lines.
+//! - `steps`: what happens at a station and is seen there, as tables.
 //! - `rows`: sources and listeners who are served, turn after turn.
 //! - `house`: the same over a hall, beside another caller.
 //! - `slow`: lines that take little or nothing.
@@ -21,6 +23,8 @@ mod calls;
 #[cfg(test)]
 mod faults;
 #[cfg(test)]
+mod halls;
+#[cfg(test)]
 mod house;
 #[cfg(test)]
 mod memory_line;
@@ -30,6 +34,8 @@ mod rows;
 mod slow;
 #[cfg(test)]
 mod stations;
+#[cfg(test)]
+mod steps;
 #[cfg(test)]
 mod two_callers;
 #[cfg(test)]

@@ -24,16 +24,27 @@ pub struct Manners {
     pub fails_at: u64,
 }
 
-/// A line that gives this, and takes everything.
-pub fn giving(gives: &'static [&'static [u8]]) -> Manners {
-    Manners {
-        gives,
-        closes_at: u64::MAX,
-        takes: usize::MAX,
-        stalls_at: u64::MAX,
-        resumes_at: u64::MAX,
-        fails_at: u64::MAX,
-    }
+/// A line that gives nothing, and takes everything.
+pub const SILENT: Manners = Manners {
+    gives: &[],
+    closes_at: u64::MAX,
+    takes: usize::MAX,
+    stalls_at: u64::MAX,
+    resumes_at: u64::MAX,
+    fails_at: u64::MAX,
+};
+
+/// What a line is to show.
+#[derive(Clone, Copy)]
+pub enum Look {
+    /// It has taken just that.
+    Took(&'static [u8]),
+    /// It has taken the front of that.
+    TookFront(&'static [u8]),
+    /// It was told that nothing more is written, behind these bytes.
+    FinishedBehind(&'static [u8]),
+    /// It was not told so.
+    Open,
 }
 
 /// Why a line gives nothing any more.
@@ -72,14 +83,15 @@ impl MemoryLine {
         }
     }
 
-    /// All that it took.
-    pub fn taken(&self) -> &[u8] {
-        self.taken.as_slice()
-    }
-
-    /// Whether it was told that nothing more is written.
-    pub fn is_finished(&self) -> bool {
-        self.is_finished
+    /// Whether it shows that.
+    pub fn shows(&self, look: Look) -> bool {
+        let taken = self.taken.as_slice();
+        match look {
+            Look::Took(bytes) => taken == bytes,
+            Look::TookFront(bytes) => bytes.starts_with(taken),
+            Look::FinishedBehind(bytes) => self.is_finished && taken.ends_with(bytes),
+            Look::Open => !self.is_finished,
+        }
     }
 
     /// Whether the next call fails.

@@ -1,74 +1,92 @@
 //! Lines that take little or nothing, and clients who say nothing.
 
-use crate::memory_line::{Manners, giving};
+use crate::memory_line::{Look, Manners, SILENT};
 use crate::rows::*;
-use crate::stations::*;
-use radio_core::{Core, OutOfMemory};
-use radio_settings::SettingsFault;
-use std::alloc::Global;
+use crate::steps::{Step, play};
 use std::test::Fail;
 
-/// A listener whose line takes so many bytes in a write, and nothing from one write to another.
-fn slow_listener(takes: usize, stalls_at: u64, resumes_at: u64) -> Manners {
-    let mut manners = giving(LISTENER);
-    manners.takes = takes;
-    manners.stalls_at = stalls_at;
-    manners.resumes_at = resumes_at;
-    manners
-}
+/// A listener whose line takes one byte in a write.
+const BYTE_BY_BYTE: Manners = Manners {
+    takes: 1,
+    ..LISTENER
+};
+
+const A_BYTE_A_TURN: &[Step] = &[
+    Step::Comes(SOURCE, 0),
+    Step::Turns(1, 1, 2),
+    Step::Comes(BYTE_BY_BYTE, 2),
+    Step::Turns(3, 1, 80),
+    Step::Shows(0, Look::Took(SOURCE_ANSWER)),
+    Step::Shows(1, Look::Took(HEARD)),
+];
 
 /// A line that takes one byte in a write takes all, in as many turns.
 #[test]
 fn a_byte_a_turn(rt: HostRuntime) -> Result<(), Fail> {
-    assert!(rt;
-        hears(
-            rt.alloc(),
-            "",
-            slow_listener(1, u64::MAX, u64::MAX),
-            80,
-            HEARD
-        )?
-    );
-    Ok(())
+    play(&rt, "", A_BYTE_A_TURN)
 }
 
-/// A listener whose line takes three bytes once, and then nothing for good, and one whose line takes
-/// all; then a turn so many milliseconds after the three bytes. Whether the second heard all, and
-/// the first is still there, with his three bytes, if he is to be.
-fn is_beside_a_stalled_one(
-    station: &mut Station<Core>,
-    later_ms: u64,
-    stays: bool,
-) -> Result<bool, OutOfMemory> {
-    source_and_listener(station, slow_listener(3, 1, u64::MAX))?;
-    station.come(giving(LISTENER), 2)?;
-    station.turns(3, later_ms, 2);
-    Ok(station.last_took(HEARD) && station.has(2) == stays && station.took(1, b"HTT") == stays)
-}
+/// A listener whose line takes three bytes once, and then nothing for good.
+const STALLED: Manners = Manners {
+    takes: 3,
+    stalls_at: 1,
+    ..LISTENER
+};
 
-fn beside_a_stalled_one(alloc: Global, later_ms: u64, stays: bool) -> Result<bool, SettingsFault> {
-    let mut station = make_station(alloc, "")?;
-    let held = is_beside_a_stalled_one(&mut station, later_ms, stays);
-    drop(station);
-    Ok(held?)
-}
+/// A turn less than the source timeout after the three bytes: the line is still there, and another
+/// listener, whose line takes all, heard all.
+const KEPT: &[Step] = &[
+    Step::Comes(SOURCE, 0),
+    Step::Turns(1, 1, 2),
+    Step::Comes(STALLED, 2),
+    Step::Comes(LISTENER, 2),
+    Step::Turns(3, 9_999, 2),
+    Step::Clients(&[1, 2, 3]),
+    Step::Shows(1, Look::Took(b"HTT")),
+    Step::Shows(2, Look::Took(HEARD)),
+];
 
 #[test]
 fn a_stalled_line_is_kept_for_the_source_timeout(rt: HostRuntime) -> Result<(), Fail> {
-    assert!(rt; beside_a_stalled_one(rt.alloc(), 9_999, true)?);
-    Ok(())
+    play(&rt, "", KEPT)
 }
+
+/// A turn a millisecond later: it is gone.
+const CLOSED: &[Step] = &[
+    Step::Comes(SOURCE, 0),
+    Step::Turns(1, 1, 2),
+    Step::Comes(STALLED, 2),
+    Step::Comes(LISTENER, 2),
+    Step::Turns(3, 10_000, 2),
+    Step::Clients(&[1, 3]),
+    Step::Shows(1, Look::Took(HEARD)),
+];
 
 #[test]
 fn a_stalled_line_is_closed_then(rt: HostRuntime) -> Result<(), Fail> {
-    assert!(rt; beside_a_stalled_one(rt.alloc(), 10_000, false)?);
-    Ok(())
+    play(&rt, "", CLOSED)
 }
 
-/// Sources whose last blocks come when their listeners have heard the first.
-const TWO_MORE: &[&[u8]] = &[SOURCE_HEAD, b"abcd", b"", b"efgh", b"ijkl"];
+/// A queue of ten bytes, beside which one who is three blocks of four behind lags.
+const SHORT_QUEUE: &str = "[limits]\nqueue-size = 10\n";
 
-const THREE_MORE: &[&[u8]] = &[SOURCE_HEAD, b"abcd", b"", b"efgh", b"ijkl", b"mnop"];
+/// Sources whose last blocks come when their listeners have heard the first.
+const TWO_MORE: Manners = Manners {
+    gives: &[SOURCE_HEAD, b"abcd", b"", b"efgh", b"ijkl"],
+    ..SILENT
+};
+
+const THREE_MORE: Manners = Manners {
+    gives: &[SOURCE_HEAD, b"abcd", b"", b"efgh", b"ijkl", b"mnop"],
+    ..SILENT
+};
+
+/// A listener whose line takes nothing for four turns.
+const STALLED_FOR_FOUR: Manners = Manners {
+    stalls_at: 0,
+    resumes_at: 4,
+    ..LISTENER
+};
 
 /// What listeners hear of these bytes.
 const ONE_BLOCK: &[u8] =
@@ -80,153 +98,122 @@ const THREE_BLOCKS: &[u8] =
 const FOUR_BLOCKS: &[u8] =
     b"HTTP/1.0 200 OK\r\nContent-Type: audio/mpeg\r\nConnection: close\r\n\r\nabcdefghijklmnop";
 
-/// A queue of ten bytes, beside which one who is three blocks of four behind lags.
-const SHORT_QUEUE: &str = "[limits]\nqueue-size = 10\n";
+/// One who is two blocks behind hears them once his line takes again; another hears all meanwhile.
+const FALLS_BEHIND: &[Step] = &[
+    Step::Comes(TWO_MORE, 0),
+    Step::Turns(1, 1, 2),
+    Step::Comes(STALLED_FOR_FOUR, 2),
+    Step::Comes(LISTENER, 2),
+    Step::Turns(3, 1, 4),
+    Step::Shows(1, Look::Took(b"")),
+    Step::Shows(2, Look::Took(THREE_BLOCKS)),
+    Step::Turns(100, 1, 1),
+    Step::Shows(1, Look::Took(THREE_BLOCKS)),
+    Step::Shows(0, Look::Took(SOURCE_ANSWER)),
+];
 
-/// For how many turns a stalled line takes nothing.
-const STALLED: u64 = 4;
-
-/// A source is served these blocks; a listener comes whose line takes nothing for some turns, and
-/// another.
-fn come_beside_a_stalled_one(
-    station: &mut Station<Core>,
-    blocks: &'static [&'static [u8]],
-) -> Result<(), OutOfMemory> {
-    station.come(giving(blocks), 0)?;
-    station.turns(1, 1, 2);
-    station.come(slow_listener(usize::MAX, 0, STALLED), 2)?;
-    station.come(giving(LISTENER), 2)
-}
-
-/// Whether the other one hears all that comes meanwhile, and the first hears so much once his line
-/// takes again.
-fn is_behind(
-    station: &mut Station<Core>,
-    blocks: &'static [&'static [u8]],
-    others: &[u8],
-    his: &[u8],
-) -> Result<bool, OutOfMemory> {
-    come_beside_a_stalled_one(station, blocks)?;
-    station.turns(3, 1, STALLED);
-    let unnoticed = station.took(1, b"") && station.took(2, others);
-    station.turns(100, 1, 1);
-    Ok(unnoticed && station.took(1, his) && station.took(0, SOURCE_ANSWER))
-}
-
-fn behind(
-    alloc: Global,
-    blocks: &'static [&'static [u8]],
-    others: &[u8],
-    his: &[u8],
-) -> Result<bool, SettingsFault> {
-    let mut station = make_station(alloc, SHORT_QUEUE)?;
-    let held = is_behind(&mut station, blocks, others, his);
-    drop(station);
-    Ok(held?)
-}
-
-/// One who is two blocks behind hears them once his line takes again.
 #[test]
 fn a_stalled_listener_falls_behind(rt: HostRuntime) -> Result<(), Fail> {
-    assert!(rt; behind(rt.alloc(), TWO_MORE, THREE_BLOCKS, THREE_BLOCKS)?);
-    Ok(())
+    play(&rt, SHORT_QUEUE, FALLS_BEHIND)
 }
 
 /// One who is three blocks behind was finished by the push of the third: he hears what he was owed
-/// before, and nothing more.
+/// before, and nothing more; another hears all meanwhile.
+const LAGS: &[Step] = &[
+    Step::Comes(THREE_MORE, 0),
+    Step::Turns(1, 1, 2),
+    Step::Comes(STALLED_FOR_FOUR, 2),
+    Step::Comes(LISTENER, 2),
+    Step::Turns(3, 1, 4),
+    Step::Shows(1, Look::Took(b"")),
+    Step::Shows(2, Look::Took(FOUR_BLOCKS)),
+    Step::Turns(100, 1, 1),
+    Step::Shows(1, Look::Took(ONE_BLOCK)),
+    Step::Shows(0, Look::Took(SOURCE_ANSWER)),
+];
+
 #[test]
 fn a_stalled_listener_lags(rt: HostRuntime) -> Result<(), Fail> {
-    assert!(rt; behind(rt.alloc(), THREE_MORE, FOUR_BLOCKS, ONE_BLOCK)?);
-    Ok(())
+    play(&rt, SHORT_QUEUE, LAGS)
 }
 
-/// A listener whose peer has closed behind his head, and whose line takes one byte in a write. He is
-/// there up to the last byte that he is owed, and has left when that is taken.
-fn is_left_with_the_last_byte(station: &mut Station<Core>) -> Result<bool, OutOfMemory> {
-    let mut closing = slow_listener(1, u64::MAX, u64::MAX);
-    closing.closes_at = 1;
-    source_and_listener(station, closing)?;
-    let Some((_, front)) = HEARD.split_last() else {
-        return Ok(false);
-    };
-    station.turns(3, 1, front.len() as u64);
-    let waits = station.has(2) && station.took(1, front);
-    station.turns(200, 1, 1);
-    Ok(waits && station.has(1) && !station.has(2))
-}
+/// A listener whose peer has closed behind his head, and whose line takes one byte in a write.
+const CLOSED_WHILE_OWED: Manners = Manners {
+    closes_at: 1,
+    ..BYTE_BY_BYTE
+};
 
-fn closes_while_owed(alloc: Global) -> Result<bool, SettingsFault> {
-    let mut station = make_station(alloc, "")?;
-    let held = is_left_with_the_last_byte(&mut station);
-    drop(station);
-    Ok(held?)
-}
+/// All that he is owed but the last byte: 71 bytes.
+const ALL_BUT_ONE: &[u8] =
+    b"HTTP/1.0 200 OK\r\nContent-Type: audio/mpeg\r\nConnection: close\r\n\r\nabcdefg";
+
+/// He is there up to the last byte that he is owed, and has left when that is taken.
+const CLOSES_WHILE_OWED: &[Step] = &[
+    Step::Comes(SOURCE, 0),
+    Step::Turns(1, 1, 2),
+    Step::Comes(CLOSED_WHILE_OWED, 2),
+    Step::Turns(3, 1, 71),
+    Step::Clients(&[1, 2]),
+    Step::Shows(1, Look::Took(ALL_BUT_ONE)),
+    Step::Turns(200, 1, 1),
+    Step::Clients(&[1]),
+];
 
 #[test]
 fn one_who_closes_while_he_is_owed(rt: HostRuntime) -> Result<(), Fail> {
-    assert!(rt; closes_while_owed(rt.alloc())?);
-    Ok(())
+    play(&rt, "", CLOSES_WHILE_OWED)
 }
 
-/// A source that falls silent, for a turn each second after its bytes. Whether it is there, as it is
-/// to be.
-fn is_silent(station: &mut Station<Core>, seconds: u64, stays: bool) -> Result<bool, OutOfMemory> {
-    station.come(giving(EIGHT_BYTES), 0)?;
-    station.turns(1, 1, 2);
-    station.turns(1000, 1000, seconds);
-    let is_over = match station.line(0) {
-        Some(line) => line.is_finished(),
-        None => true,
-    };
-    Ok(is_over != stays)
-}
+/// A source that falls silent is there up to its timeout of ten seconds, for a turn each second.
+const SILENT_SOURCE: &[Step] = &[
+    Step::Comes(SOURCE, 0),
+    Step::Turns(1, 1, 2),
+    Step::Turns(1000, 1000, 9),
+    Step::Shows(0, Look::Open),
+];
 
-fn silent(alloc: Global, seconds: u64, stays: bool) -> Result<bool, SettingsFault> {
-    let mut station = make_station(alloc, "")?;
-    let held = is_silent(&mut station, seconds, stays);
-    drop(station);
-    Ok(held?)
-}
-
-/// A silent source is there up to its timeout of ten seconds.
 #[test]
 fn a_silent_source_stays(rt: HostRuntime) -> Result<(), Fail> {
-    assert!(rt; silent(rt.alloc(), 9, true)?);
-    Ok(())
+    play(&rt, "", SILENT_SOURCE)
 }
 
-/// It hears of its end within a second.
+/// It hears of its end within a second, and is closed a second later.
+const ENDED_SOURCE: &[Step] = &[
+    Step::Comes(SOURCE, 0),
+    Step::Turns(1, 1, 2),
+    Step::Turns(1000, 1000, 11),
+    Step::Shows(0, Look::FinishedBehind(SOURCE_ANSWER)),
+    Step::Turns(12_000, 1000, 1),
+    Step::Clients(&[]),
+];
+
 #[test]
 fn a_silent_source_hears_of_its_end(rt: HostRuntime) -> Result<(), Fail> {
-    assert!(rt; silent(rt.alloc(), 12, false)?);
-    Ok(())
+    play(&rt, "", ENDED_SOURCE)
 }
 
-/// One who says nothing, for so many turns, half a second apart. Whether he is there, as he is to
-/// be.
-fn is_there(station: &mut Station<Core>, count: u64, stays: bool) -> Result<bool, OutOfMemory> {
-    station.come(giving(&[]), 0)?;
-    station.turns(0, 500, count);
-    Ok(station.has(1) == stays)
-}
+const SHORT_TIMEOUT: &str = "[limits]\nheader-timeout = 3\n";
 
-fn says_nothing(alloc: Global, count: u64, stays: bool) -> Result<bool, SettingsFault> {
-    let mut station = make_station(alloc, "[limits]\nheader-timeout = 3\n")?;
-    let held = is_there(&mut station, count, stays);
-    drop(station);
-    Ok(held?)
-}
+/// One who says nothing is there before the header timeout.
+const SAYS_NOTHING: &[Step] = &[
+    Step::Comes(SILENT, 0),
+    Step::Turns(0, 500, 6),
+    Step::Clients(&[1]),
+];
 
-/// He is there before the header timeout.
 #[test]
 fn one_who_says_nothing_stays(rt: HostRuntime) -> Result<(), Fail> {
-    assert!(rt; says_nothing(rt.alloc(), 6, true)?);
-    Ok(())
+    play(&rt, SHORT_TIMEOUT, SAYS_NOTHING)
 }
 
 /// He hears of it within a second, and is closed a second later.
+const SAID_NOTHING: &[Step] = &[
+    Step::Comes(SILENT, 0),
+    Step::Turns(0, 500, 12),
+    Step::Clients(&[]),
+];
+
 #[test]
 fn one_who_says_nothing_is_closed(rt: HostRuntime) -> Result<(), Fail> {
-    assert!(rt; says_nothing(rt.alloc(), 12, false)?);
-    Ok(())
+    play(&rt, SHORT_TIMEOUT, SAID_NOTHING)
 }

@@ -4,129 +4,110 @@ ghost use Rattle.std.specs.Prelude.{◌≡◌, ◌^◌};
 ghost use Rattle.radio_access.specs.Lists.{no_lists};
 ghost use Rattle.radio_core.specs.World.{opening};
 
-use crate::calls::*;
+use crate::calls::{CALLS, Callee, number_given, serve, step_copy};
+use crate::stations::{core, settings};
 use radio_access::Lists;
-use radio_book::{House, OutOfMemory, PASSES, Pass, Receipt, Unkept};
+use radio_book::{House, PASSES, Pass, Receipt, Unkept};
 use radio_core::{Core, Event, Reply};
 use radio_hall::Hall;
-use radio_settings::Settings;
+use radio_settings::{Settings, SettingsFault};
 use std::alloc::Global;
 use std::marker::Brand;
 use std::sync::Wait;
 use std::sync::ledger::Blank;
 use std::test::Fail;
 
-/// The 100 calls of one caller.
-fn all_events(alloc: Global) -> Result<Vec<Event>, OutOfMemory> {
-    let mut events = Vec::new(alloc);
-    events.push(arrival())?;
-    events.push(arrival())?;
-    for event in events_of(alloc, "/a", 1, 2)? {
-        events.push(event)?;
-    }
-    Ok(events)
+/// A hall that stores nothing, beside a core that is called alike.
+#[derive(Drop)]
+struct Beside<'a, R: Wait, H: House> {
+    rt: &'a R,
+    hall: &'a Hall<Unkept, H>,
+    pass: &'a mut Pass<Unkept, H>,
+    core: &'a mut Core,
+    /// How many calls were answered alike.
+    alike: usize,
 }
 
-/// What a core replies to a copy of the event.
-fn step_copy(core: &mut Core, event: &Event) -> Result<Reply, OutOfMemory> {
-    core.step(event.again()?)
-}
-
-/// One call is answered as was wanted, and nothing is noted.
-fn is_answered<H: House, R: Wait>(
-    rt: &R,
-    hall: &Hall<Unkept, H>,
-    pass: &mut Pass<Unkept, H>,
-    event: Event,
-    want: &Reply,
-) -> Result<bool, OutOfMemory> {
-    let receipt = hall.apply(rt, pass, event)?;
-    let is_wanted = is_unnoted(&receipt, want);
-    drop(receipt);
-    Ok(is_wanted)
-}
-
-fn is_unnoted(receipt: &Receipt, want: &Reply) -> bool {
-    receipt.serial() == 0 && receipt.reply().same(want)
-}
-
-/// One call is answered alike.
-fn is_alike<H: House, R: Wait>(
-    rt: &R,
-    core: &mut Core,
-    hall: &Hall<Unkept, H>,
-    pass: &mut Pass<Unkept, H>,
-    event: Event,
-) -> Result<bool, OutOfMemory> {
-    match step_copy(core, &event) {
-        Ok(want) => {
-            let alike = is_answered(rt, hall, pass, event, &want);
-            drop(want);
-            alike
+impl<'a, R: Wait, H: House> Beside<'a, R, H> {
+    /// Calls the hall; the reply is counted, if it is as was wanted and nothing is noted.
+    fn call_hall(&mut self, event: Event, want: &Reply) -> Option<u64> {
+        match self.hall.apply(self.rt, self.pass, event) {
+            Ok(receipt) => {
+                self.count(&receipt, want);
+                drop(receipt);
+                Some(number_given(want))
+            }
+            Err(_) => None,
         }
-        Err(refused) => {
-            drop(event);
-            Err(refused)
+    }
+
+    fn count(&mut self, receipt: &Receipt, want: &Reply) {
+        if receipt.serial() == 0 && receipt.reply().same(want) {
+            self.alike = self.alike.saturating_add(1);
         }
     }
 }
 
-/// So many calls are answered alike.
+impl<'a, R: Wait, H: House> Callee for Beside<'a, R, H> {
+    fn call(&mut self, event: Event) -> Option<u64> {
+        match step_copy(self.core, &event) {
+            Ok(want) => {
+                let number = self.call_hall(event, &want);
+                drop(want);
+                number
+            }
+            Err(_) => {
+                drop(event);
+                None
+            }
+        }
+    }
+}
+
+/// So many of the 100 calls are answered alike.
 fn count_alike<H: House, R: Wait>(
     rt: &R,
     alloc: Global,
     core: &mut Core,
     settings: Settings,
     blank: Blank,
-    events: Vec<Event>,
-) -> Result<usize, OutOfMemory>
+) -> usize
     requires opening { H.opening ≡ opening settings no_lists }
     requires ledger { (blank.name ≡ H.name) × (blank.parts ≡ H.parts) × (blank.parts ≡ 2 ^ 32) }
 {
     let hall: Hall<Unkept, H> = Hall::new(alloc, settings, Lists::new(alloc), blank);
     match hall.pass(rt) {
-        Some(mut pass) => count_through(rt, core, &hall, &mut pass, events),
-        None => Ok(0),
+        Some(mut pass) => count_through(rt, alloc, core, &hall, &mut pass),
+        None => 0,
     }
 }
 
 fn count_through<H: House, R: Wait>(
     rt: &R,
+    alloc: Global,
     core: &mut Core,
     hall: &Hall<Unkept, H>,
     pass: &mut Pass<Unkept, H>,
-    events: Vec<Event>,
-) -> Result<usize, OutOfMemory> {
-    let mut alike = 0usize;
-    for event in events {
-        if is_alike(rt, core, hall, pass, event)? {
-            alike = alike.saturating_add(1);
-        }
-    }
-    Ok(alike)
+) -> usize {
+    let mut beside = Beside {
+        rt,
+        hall,
+        pass,
+        core,
+        alike: 0,
+    };
+    serve(alloc, &mut beside, "/a");
+    beside.alike
 }
 
-/// Of the 100 calls, beside this core.
-fn alike_beside<R: Wait>(rt: &R, alloc: Global, core: &mut Core) -> Result<usize, Fail> {
-    let events = all_events(alloc)?;
-    match station(alloc) {
-        Ok(settings) => Ok(count_alike::<Brand, R>(
-            rt,
-            alloc,
-            core,
-            settings,
-            Blank::new(PASSES),
-            events,
-        )?),
-        Err(fault) => {
-            drop(events);
-            Err(fault.into())
-        }
-    }
+fn alike_beside<R: Wait>(rt: &R, alloc: Global, core: &mut Core) -> Result<usize, SettingsFault> {
+    let settings = settings(alloc, "")?;
+    let blank = Blank::new(PASSES);
+    Ok(count_alike::<Brand, R>(rt, alloc, core, settings, blank))
 }
 
-fn alike(rt: &impl Wait, alloc: Global) -> Result<usize, Fail> {
-    let mut core = core_of_station(alloc)?;
+fn alike(rt: &impl Wait, alloc: Global) -> Result<usize, SettingsFault> {
+    let mut core = core(alloc, "")?;
     let alike = alike_beside(rt, alloc, &mut core);
     drop(core);
     alike

@@ -1,0 +1,163 @@
+//! A hall that stores its entries, what is done there, and all passes settled then.
+
+ghost use Rattle.std.specs.Prelude.{◌≡◌, ◌^◌};
+ghost use Rattle.radio_access.specs.Lists.{no_lists};
+ghost use Rattle.radio_core.specs.World.{opening};
+
+use crate::calls::{Callee, number_given};
+use crate::house::{is_lock_free, is_title_heard};
+use crate::stations::settings;
+use crate::two_callers::{are_served, is_of_two};
+use radio_access::Lists;
+use radio_book::{Entry, House, Kept, PASSES, Pass, SettleFault};
+use radio_core::Event;
+use radio_hall::{Hall, settle};
+use radio_settings::{Settings, SettingsFault};
+use std::alloc::Global;
+use std::marker::Brand;
+use std::process::Abort;
+use std::sync::Wait;
+use std::sync::ledger::Blank;
+use std::test::Fail;
+use std::thread::Threads;
+
+/// A caller of a hall, through a pass.
+#[derive(Drop)]
+pub struct PassCaller<'a, R: Wait, H: House> {
+    pub rt: &'a R,
+    pub hall: &'a Hall<Kept, H>,
+    pub pass: &'a mut Pass<Kept, H>,
+}
+
+impl<'a, R: Wait, H: House> Callee for PassCaller<'a, R, H> {
+    fn call(&mut self, event: Event) -> Option<u64> {
+        match self.hall.apply(self.rt, self.pass, event) {
+            Ok(receipt) => {
+                let number = number_given(receipt.reply());
+                drop(receipt);
+                Some(number)
+            }
+            Err(_) => None,
+        }
+    }
+}
+
+/// What is done at a hall.
+#[derive(Clone, Copy)]
+pub enum Visit {
+    /// Two threads make their calls, with a pass each.
+    TwoCallers,
+    /// The same, and only one of the passes is given to be settled.
+    LeftOut,
+    /// A pass is taken, which nobody uses.
+    Unused,
+    /// A source is served, another caller sets a title, and a listener hears it.
+    Titling,
+    /// A source and a listener are served through a gate that knocks.
+    Knocking,
+}
+
+impl Visit {
+    /// Whether the passes are settled as they are to be.
+    fn is_settled(self, alloc: Global, settled: &Result<Vec<Entry>, SettleFault>) -> bool {
+        match settled {
+            Ok(history) => self.leaves(alloc, history.as_slice()),
+            Err(fault) => self.is_left_out() && *fault == LEFT_OUT,
+        }
+    }
+
+    /// Whether it leaves that history. A title that is heard has two arrivals, what the two asked
+    /// for, a block, a title, and a draw.
+    fn leaves(self, alloc: Global, history: &[Entry]) -> bool {
+        match self {
+            Visit::TwoCallers => is_of_two(alloc, history),
+            Visit::LeftOut => false,
+            Visit::Unused => history.is_empty(),
+            Visit::Titling => history.len() == 7,
+            Visit::Knocking => true,
+        }
+    }
+
+    fn is_left_out(self) -> bool {
+        matches!(self, Visit::LeftOut)
+    }
+}
+
+/// What is wrong with one pass of two.
+const LEFT_OUT: SettleFault = SettleFault::Count {
+    book: 200,
+    passes: 100,
+};
+
+/// Does it, and adds the passes. Whether it went as it is to go.
+fn visit_with<H: House + Send + Sync, R: Threads + Wait + Sync>(
+    rt: &R,
+    alloc: Global,
+    hall: &Hall<Kept, H>,
+    passes: &mut Vec<Pass<Kept, H>>,
+    visit: Visit,
+) -> bool {
+    match visit {
+        Visit::TwoCallers => are_served(rt, alloc, hall, passes),
+        Visit::LeftOut => {
+            let are_served = are_served(rt, alloc, hall, passes);
+            passes.truncate(1);
+            are_served
+        }
+        Visit::Unused => takes_pass(rt, hall, passes),
+        Visit::Titling => is_title_heard(rt, alloc, hall, passes),
+        Visit::Knocking => is_lock_free(rt, alloc, hall, passes),
+    }
+}
+
+/// Takes a pass, and adds it. Whether there was one, and memory for it.
+pub fn takes_pass<H: House, R: Wait>(
+    rt: &R,
+    hall: &Hall<Kept, H>,
+    passes: &mut Vec<Pass<Kept, H>>,
+) -> bool {
+    match hall.pass(rt) {
+        Some(pass) => passes.push(pass).is_ok(),
+        None => false,
+    }
+}
+
+fn goes_well<H: House + Send + Sync, R: Threads + Wait + Sync>(
+    rt: &R,
+    alloc: Global,
+    settings: Settings,
+    blank: Blank,
+    visit: Visit,
+) -> bool
+    requires opening { H.opening ≡ opening settings no_lists }
+    requires ledger { (blank.name ≡ H.name) × (blank.parts ≡ H.parts) × (blank.parts ≡ 2 ^ 32) }
+{
+    let hall: Hall<Kept, H> = Hall::new(alloc, settings, Lists::new(alloc), blank);
+    let mut passes = Vec::new(alloc);
+    let went = visit_with(rt, alloc, &hall, &mut passes, visit);
+    let settled = settle(alloc, hall, passes);
+    let is_settled = visit.is_settled(alloc, &settled);
+    drop(settled);
+    went && is_settled
+}
+
+fn went_well<R: Threads + Wait + Sync>(
+    rt: &R,
+    alloc: Global,
+    more: &str,
+    visit: Visit,
+) -> Result<bool, SettingsFault> {
+    let settings = settings(alloc, more)?;
+    let blank = Blank::new(PASSES);
+    Ok(goes_well::<Brand, R>(rt, alloc, settings, blank, visit))
+}
+
+/// At a hall with these settings more, the visit goes as it is to go.
+pub fn visit_hall<R: Abort + AllocGlobal + Threads + Wait + Sync>(
+    rt: &R,
+    more: &str,
+    visit: Visit,
+) -> Result<(), Fail> {
+    assert!(rt; went_well(rt, rt.alloc(), more, visit)?);
+    Ok(())
+}

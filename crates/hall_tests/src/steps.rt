@@ -1,0 +1,59 @@
+//! What happens at a station, step by step.
+
+use crate::memory_line::{Look, Manners};
+use crate::stations::{NO_MEDDLING, Station, make_station};
+use radio_hall::Server;
+use radio_settings::SettingsFault;
+use std::alloc::Global;
+use std::process::Abort;
+use std::test::Fail;
+
+/// What happens at a station, or what is to be seen there.
+#[derive(Clone, Copy)]
+pub enum Step {
+    /// A connection comes with a line of these manners, at this millisecond.
+    Comes(Manners, u64),
+    /// Turns: the first at this millisecond, each so many after the one before it, and so many.
+    Turns(u64, u64, u64),
+    /// The connections are those of these clients, and no others.
+    Clients(&'static [u64]),
+    /// The line of the connection at this place shows that.
+    Shows(usize, Look),
+}
+
+impl<S: Server + Drop> Station<S> {
+    /// Whether each of the steps can be taken in turn, and what is to be seen is seen.
+    pub fn plays(&mut self, steps: &[Step]) -> bool {
+        for step in steps {
+            if !self.takes(*step) {
+                return false;
+            }
+        }
+        true
+    }
+
+    fn takes(&mut self, step: Step) -> bool {
+        match step {
+            Step::Comes(manners, ms) => self.comes(manners, ms),
+            Step::Turns(from_ms, step_ms, count) => {
+                self.turns(from_ms, step_ms, count);
+                true
+            }
+            Step::Clients(ids) => self.is_of(ids),
+            Step::Shows(at, look) => self.shows(at, look),
+        }
+    }
+}
+
+fn are_played(alloc: Global, more: &str, steps: &[Step]) -> Result<bool, SettingsFault> {
+    let mut station = make_station(alloc, more, NO_MEDDLING)?;
+    let played = station.plays(steps);
+    drop(station);
+    Ok(played)
+}
+
+/// A station with these settings more plays these steps.
+pub fn play<R: Abort + AllocGlobal>(rt: &R, more: &str, steps: &[Step]) -> Result<(), Fail> {
+    assert!(rt; are_played(rt.alloc(), more, steps)?);
+    Ok(())
+}
