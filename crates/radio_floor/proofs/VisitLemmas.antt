@@ -42,7 +42,7 @@ module _ (label : ℕ) (input : Input) (connections connections' : List Labelled
     shut_at : (o o' : Option Conversation) → l.connection ≡ o → l'.connection ≡ o' → AnswersOn core input o (Ok None) core' o'
         → (core' ≡ core) × (l.connection ≡ None) × (l'.connection ≡ None)
     shut_at None o' e e' h = (h.1, e, e' ∙ h.2)
-    shut_at (Some conversation) o' e e' h = let none : None ≡ Some h.0 = h.1 in cc
+    shut_at (Some conversation) o' e e' h = let none : None ≡ Some h.0 = h.2 in cc
 
     pub shut-label : AnswersUnder core input l (Ok None) core' l' → (core' ≡ core) × ((w : World) → Comes w (performed_as (Some []) w connections'))
     shut-label h =
@@ -66,8 +66,8 @@ module _ (label : ℕ) (input : Input) (connections connections' : List Labelled
     told_at None o' told e e' same h w stands = let none : Ok (Some told) ≡ Ok None = h.0 in cc
     told_at (Some conversation) o' told e e' same h w stands =
         let t = h.0 in
-        let a = h.2 w stands in
-        let is : Some told ≡ Some t = h.1 in
+        let a = h.4 w stands in
+        let is : Some told ≡ Some t = h.2 in
         let one : t ≡ told = cc in
         let row : l' ≡ holding o' l =
         ap (λ (n : ℕ). let r : Labelled = record { label = n; connection = l'.connection } in r) same
@@ -77,8 +77,10 @@ module _ (label : ℕ) (input : Input) (connections connections' : List Labelled
         let was : became (find (has_label label) connections) ≡ Some (Some conversation) =
         ap became found ∙ ap (λ (p : Option Conversation). Some p) e in
         let done = performed_as (Some (told_lines label told.bytes.items told.state)) a.0 connections' in
-        let same_done : answered_under connections label (record { connection = o'; told = t }) a.0 ≡ done =
-        ap (λ (x : Told). answered_under connections label (record { connection = o'; told = x }) a.0) one
+        let done_of = λ (x : Told) (o : Option Conversation).
+        performed_as (Some (told_lines label x.bytes.items x.state)) a.0 (with_connection connections label o) in
+        let same_done : answered_under connections label t h.1 a.0 ≡ done =
+        ap (done_of t) (sym h.3) ∙ ap (λ (x : Told). done_of x o') one
         ∙ ap (λ (xs : List Labelled). performed_as (Some (told_lines label told.bytes.items told.state)) a.0 xs) (sym set) in (
           a.0,
           a.1,

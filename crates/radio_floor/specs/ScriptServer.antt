@@ -6,10 +6,9 @@ use Rattle.radio_core.specs.World.{World}
 use Rattle.radio_core.specs.Step.{Represents}
 use Rattle.radio_script.specs.declared.delivery.Input.{Input}
 use Rattle.radio_session.specs.Conversation.{Conversation}
-use Rattle.radio_floor.specs.declared.handler.Answered.{Answered}
 use Rattle.radio_floor.specs.declared.handler.Told.{Told}
 use Rattle.radio_floor.specs.declared.labelled.Labelled.{Labelled}
-use Rattle.radio_floor.specs.ScriptState.{ScriptState, Performed, ComesTo, opens, told_lines, with_connection}
+use Rattle.radio_floor.specs.ScriptState.{ScriptState, Performed, ComesTo, opens, told_lines, with_connection, conversation_unless}
 
 abbrev pub script_state_of : World → List Labelled → ScriptState
 script_state_of w connections = record { world = w; connections = connections }
@@ -24,23 +23,25 @@ OpensAs core connections label peer lines core' connections' lines' =
     × ((w : World) → Represents core w
     → (w' : World) × Represents core' w' × (opens (script_state_of w connections) label peer ≡ performed_as (Some text) w' connections'))
 
--- what was answered on the connection of a label, as what is performed
-abbrev pub answered_under : List Labelled → ℕ → Answered → World → Performed
-answered_under connections label answered w =
-    performed_as (Some (told_lines label answered.told.bytes.items answered.told.state)) w (with_connection connections label answered.connection)
+-- a connection of a label that is now so was told this, as what is performed
+abbrev pub answered_under : List Labelled → ℕ → Told → Conversation → World → Performed
+answered_under connections label told conversation w =
+    performed_as (Some (told_lines label told.bytes.items told.state)) w
+    (with_connection connections label (conversation_unless conversation told.state))
 
 -- Whatever state the core stood for, and whatever the labels are: it comes of it so, and the core stands for the state after it.
-abbrev pub AnswersAs : World → World → Answered → (ScriptState → ℕ → Performed → Type 0) → Type 0
-AnswersAs core core' answered Done =
+abbrev pub AnswersAs : World → World → Told → Conversation → (ScriptState → ℕ → Performed → Type 0) → Type 0
+AnswersAs core core' told conversation Done =
     (w : World) → Represents core w → (w' : World) × Represents core' w'
-    × ((connections : List Labelled) (label : ℕ) → Done (script_state_of w connections) label (answered_under connections label answered w'))
+    × ((connections : List Labelled) (label : ℕ) → Done (script_state_of w connections) label (answered_under connections label told conversation w'))
 
 -- something comes to what became of a label: its connection is dealt with, if it has one; of want of memory nothing is said
 abbrev pub AnswersOn : World → Input → Option Conversation → Result (Option Told) AllocError → World → Option Conversation → Type 0
 AnswersOn core input None result core' connection' = (result ≡ Ok None) × (core' ≡ core) × (connection' ≡ None)
 AnswersOn core input (Some conversation) result core' connection' =
-    IfOk result (λ told. (t : Told) × (told ≡ Some t)
-    × AnswersAs core core' (record { connection = connection'; told = t }) (λ state label done. ComesTo state label conversation input done))
+    IfOk result (λ answer. (told : Told) × (conversation' : Conversation) × (answer ≡ Some told)
+    × (connection' ≡ conversation_unless conversation' told.state)
+    × AnswersAs core core' told conversation' (λ state label done. ComesTo state label conversation input done))
 
 -- something comes to a label, which stays that label
 abbrev pub AnswersUnder : World → Input → Labelled → Result (Option Told) AllocError → World → Labelled → Type 0

@@ -98,10 +98,14 @@ opens state label peer =
           };
     }
 
+-- what became of a label, unless its connection was shut
+abbrev pub connection_unless : Option Conversation → State → Option Conversation
+connection_unless connection Running = connection
+connection_unless connection (Shut ending) = None
+
 -- the conversation, unless its connection was shut
 abbrev pub conversation_unless : Conversation → State → Option Conversation
-conversation_unless conversation Running = Some conversation
-conversation_unless conversation (Shut ending) = None
+conversation_unless conversation state = connection_unless (Some conversation) state
 
 -- a connection's events are exchanged with the server
 abbrev pub exchanges : ScriptState → ℕ → Conversation → List Event → Performed

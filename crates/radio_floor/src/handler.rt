@@ -7,16 +7,15 @@ ghost use Rattle.radio_core.specs.World.{World};
 ghost use Rattle.radio_core.specs.declared.event.Event.TheVariants.{Leave, Clock};
 ghost use Rattle.radio_core.specs.Step.{Represents, world_after};
 ghost use Rattle.radio_session.specs.Hearing.{Heard, IsHeard};
-ghost use Rattle.radio_floor.specs.ScriptState.{exchanges, closes, ComesTo, conversation_unless};
+ghost use Rattle.radio_floor.specs.ScriptState.{exchanges, closes, connection_unless, ComesTo};
 ghost use Rattle.radio_floor.specs.ScriptServer.{AnswersAs};
 
 use crate::OutOfMemory;
-use crate::connection::Connection;
 use crate::labelled::Labelled;
 use radio_core::{Core, Event};
 use radio_icy::Title;
 use radio_script::Input;
-use radio_session::{Ending, State, cores_exchange_as_their_states};
+use radio_session::{Ending, Session, State, cores_exchange_as_their_states, exchange};
 use radio_tables::Visit;
 use std::alloc::Global;
 
@@ -27,14 +26,6 @@ pub(crate) struct Told {
     pub(crate) state: State,
 }
 
-/// What a delivery to a connection comes to: what it is told, and the connection, unless it has
-/// ended.
-#[derive(Drop)]
-pub(crate) struct Answered {
-    pub(crate) connection: Option<Connection>,
-    pub(crate) told: Told,
-}
-
 /// Deals with what comes to a connection, with the server's core.
 #[derive(Drop)]
 pub(crate) struct Handler {
@@ -43,10 +34,10 @@ pub(crate) struct Handler {
 }
 
 impl Handler {
-    /// Something comes to a connection.
-    fn answer(&mut self, connection: Connection, input: &Input) -> Result<Answered, OutOfMemory>
-        ensures { IfOk result (λ answered. AnswersAs self.old.core self.new.core answered
-            (λ state label done. ComesTo state label connection input.now done)) }
+    /// Something comes to a connection: what it is told.
+    fn answer(&mut self, connection: &mut Session, input: &Input) -> Result<Told, OutOfMemory>
+        ensures { IfOk result (λ told. AnswersAs self.old.core self.new.core told connection.new
+            (λ state label done. ComesTo state label connection.old input.now done)) }
     {
         match input {
             Input::Data(bytes) => self.hear(connection, bytes.as_slice()),
@@ -57,28 +48,27 @@ impl Handler {
     }
 
     /// Bytes come on it.
-    fn hear(&mut self, connection: Connection, bytes: &[u8]) -> Result<Answered, OutOfMemory>
-        ensures { IfOk result (λ answered. AnswersAs self.old.core self.new.core answered
-            (λ state label done. (heard : Heard) × IsHeard connection bytes.now heard × (exchanges state label heard.conversation heard.events ≡ done))) }
+    fn hear(&mut self, connection: &mut Session, bytes: &[u8]) -> Result<Told, OutOfMemory>
+        ensures { IfOk result (λ told. AnswersAs self.old.core self.new.core told connection.new
+            (λ state label done. (heard : Heard) × IsHeard connection.old bytes.now heard × (exchanges state label heard.conversation heard.events ≡ done))) }
     {
-        let mut connection = connection;
         let events = connection.take(bytes)?;
         self.exchange(connection, events)
     }
 
     /// There is room for so many bytes on it.
-    fn draw(&mut self, connection: Connection, room: u32) -> Result<Answered, OutOfMemory>
-        ensures { IfOk result (λ answered. AnswersAs self.old.core self.new.core answered
-            (λ state label done. exchanges state label connection (Event.Draw connection.id room ∷ []) ≡ done)) }
+    fn draw(&mut self, connection: &mut Session, room: u32) -> Result<Told, OutOfMemory>
+        ensures { IfOk result (λ told. AnswersAs self.old.core self.new.core told connection.new
+            (λ state label done. exchanges state label connection.old (Event.Draw connection.old.id room ∷ []) ≡ done)) }
     {
         let id = connection.id();
         self.event(connection, Event::Draw { id, room })
     }
 
     /// Its source names what is on the air.
-    fn title(&mut self, connection: Connection, text: &[u8]) -> Result<Answered, OutOfMemory>
-        ensures { IfOk result (λ answered. AnswersAs self.old.core self.new.core answered
-            (λ state label done. exchanges state label connection (Event.Title connection.id (cleaned max_title text.now) ∷ []) ≡ done)) }
+    fn title(&mut self, connection: &mut Session, text: &[u8]) -> Result<Told, OutOfMemory>
+        ensures { IfOk result (λ told. AnswersAs self.old.core self.new.core told connection.new
+            (λ state label done. exchanges state label connection.old (Event.Title connection.old.id (cleaned max_title text.now) ∷ []) ≡ done)) }
     {
         let id = connection.id();
         let text = Title::clean(self.alloc, text)?;
@@ -86,24 +76,20 @@ impl Handler {
     }
 
     /// The peer has closed it.
-    fn close(&mut self, connection: Connection) -> Result<Answered, OutOfMemory>
-        ensures { IfOk result (λ answered. AnswersAs self.old.core self.new.core answered (λ state label done. closes state label connection ≡ done)) }
+    fn close(&mut self, connection: &Session) -> Result<Told, OutOfMemory>
+        ensures { IfOk result (λ told. AnswersAs self.old.core self.new.core told connection.now (λ state label done. closes state label connection.now ≡ done)) }
     {
         leave(&mut self.core, connection.id())?;
-        let told = Told {
+        Ok(Told {
             bytes: Vec::new(self.alloc),
             state: State::Shut(Ending::Done),
-        };
-        Ok(Answered {
-            connection: None,
-            told,
         })
     }
 
     /// One event is exchanged on it.
-    fn event(&mut self, connection: Connection, event: Event) -> Result<Answered, OutOfMemory>
-        ensures { IfOk result (λ answered. AnswersAs self.old.core self.new.core answered
-            (λ state label done. exchanges state label connection (event ∷ []) ≡ done)) }
+    fn event(&mut self, connection: &mut Session, event: Event) -> Result<Told, OutOfMemory>
+        ensures { IfOk result (λ told. AnswersAs self.old.core self.new.core told connection.new
+            (λ state label done. exchanges state label connection.old (event ∷ []) ≡ done)) }
     {
         let mut events = Vec::new(self.alloc);
         events.push(event)?;
@@ -113,20 +99,16 @@ impl Handler {
     /// Its events are exchanged with the server.
     fn exchange(
         &mut self,
-        connection: Connection,
+        connection: &mut Session,
         events: Vec<Event>,
-    ) -> Result<Answered, OutOfMemory>
-        ensures { IfOk result (λ answered. AnswersAs self.old.core self.new.core answered
-            (λ state label done. exchanges state label connection events.items ≡ done)) }
+    ) -> Result<Told, OutOfMemory>
+        ensures { IfOk result (λ told. AnswersAs self.old.core self.new.core told connection.new
+            (λ state label done. exchanges state label connection.old events.items ≡ done)) }
     {
         cores_exchange_as_their_states();
-        let mut connection = connection;
         let mut bytes = Vec::new(self.alloc);
-        let state = connection.exchange(&mut self.core, events, &mut bytes)?;
-        Ok(Answered {
-            connection: if_stays(connection, state),
-            told: Told { bytes, state },
-        })
+        let state = exchange(&mut self.core, connection, events, &mut bytes)?;
+        Ok(Told { bytes, state })
     }
 }
 
@@ -142,22 +124,21 @@ impl Visit<Labelled> for Handler {
     ghost keeps_key = { λ handler handler' input row row' answer visited. visited.0 };
 
     fn visit(&mut self, row: &mut Labelled, input: &Input) -> Result<Option<Told>, OutOfMemory> {
-        let Some(connection) = row.connection.take() else {
+        let Some(connection) = &mut row.connection else {
             return Ok(None);
         };
-        let Answered { connection, told } = self.answer(connection, input)?;
-        row.connection = connection;
+        let told = self.answer(connection, input)?;
+        close_if_shut(&mut row.connection, told.state);
         Ok(Some(told))
     }
 }
 
-/// The connection, unless it has ended.
-fn if_stays(connection: Connection, state: State) -> Option<Connection>
-    ensures { result ≡ conversation_unless connection state }
+/// Nothing is left of a connection that was shut.
+fn close_if_shut(connection: &mut Option<Session>, state: State)
+    ensures { connection.new ≡ connection_unless connection.old state }
 {
-    match state {
-        State::Running => Some(connection),
-        State::Shut(_) => None,
+    if let State::Shut(_) = state {
+        *connection = None;
     }
 }
 

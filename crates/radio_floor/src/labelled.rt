@@ -3,14 +3,15 @@
 ghost use Rattle.std.specs.Prelude.{◌≡◌, is_some};
 ghost use Rattle.radio_floor.specs.ScriptState.{connection_of};
 
-use crate::connection::Connection;
+use radio_session::Session;
 use radio_tables::{Row, Table};
 
-/// A label that was opened, and its connection until that is shut.
+/// A label that was opened, and its connection until that is shut. What a draw reads of both lies
+/// together.
 #[derive(Drop)]
 pub(crate) struct Labelled {
     pub(crate) label: u32,
-    pub(crate) connection: Option<Connection>,
+    pub(crate) connection: Option<Session>,
 }
 
 impl Row for Labelled {

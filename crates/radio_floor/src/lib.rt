@@ -2,7 +2,7 @@
 //!
 //! - [`play`]: a script from a reader, its transcript to a writer; [`run`]: a list of deliveries.
 //! - The server as the performer of deliveries: `script_server` (its core, and the connections of the
-//!   labels), `labelled`, `connection`, `handler` (what comes to a connection), and `performing`.
+//!   labels), `labelled`, `handler` (what comes to a connection), and `performing`.
 //! - Laws, which run no code: [`the_transcript_is_one`], [`last_words_are_told`],
 //!   [`scripts_come_to_events`], [`draws_are_stretches`].
 //!
@@ -10,7 +10,6 @@
 //! connection hears and says is `radio_session`'s.
 #![tactic(auto)]
 
-mod connection;
 mod handler;
 mod labelled;
 mod laws;

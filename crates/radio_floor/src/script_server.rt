@@ -10,7 +10,6 @@ ghost use Rattle.radio_floor.specs.ScriptState.{taken_in, told_lines};
 ghost use Rattle.radio_floor.specs.ScriptServer.{OpensAs};
 
 use crate::OutOfMemory;
-use crate::connection::Connection;
 use crate::handler::Handler;
 use crate::labelled::Labelled;
 use radio_access::Lists;
@@ -71,7 +70,7 @@ fn arrive(
     core: &mut Core,
     peer: Peer,
     out: &mut Vec<u8>,
-) -> Result<(Option<Connection>, State), OutOfMemory>
+) -> Result<(Option<Session>, State), OutOfMemory>
     ensures { IfOk result (λ arrived. (w : World) → Represents core.old w →
         let reply = reply_to w (Arrive peer) in
         let told = said asking reply in
@@ -89,11 +88,11 @@ fn answer_arrival(
     peer: Peer,
     reply: Reply,
     out: &mut Vec<u8>,
-) -> Result<(Option<Connection>, State), OutOfMemory>
+) -> Result<(Option<Session>, State), OutOfMemory>
     ensures { let told = said asking reply in
         IfOk result (λ arrived. (out.new.items ≡ out.old.items ++ told.bytes) × (arrived.0 ≡ taken_in peer reply) × (arrived.1 ≡ told.state)) }
 {
-    let connection = taken_in(alloc, peer, &reply)?;
+    let connection = taken_in(alloc, peer, &reply);
     let state = tell_arrival(alloc, peer, reply, out)?;
     Ok((connection, state))
 }
@@ -113,12 +112,12 @@ fn tell_arrival(
 }
 
 /// The new connection, if the server takes it in.
-fn taken_in(alloc: Global, peer: Peer, reply: &Reply) -> Result<Option<Connection>, OutOfMemory>
-    ensures { IfOk result (λ connection. connection ≡ taken_in peer reply.now) }
+fn taken_in(alloc: Global, peer: Peer, reply: &Reply) -> Option<Session>
+    ensures { result ≡ taken_in peer reply.now }
 {
     match reply {
-        Reply::Arrived(id) => Ok(Some(Connection::new(alloc, Session::new(alloc, *id, peer))?)),
-        _ => Ok(None),
+        Reply::Arrived(id) => Some(Session::new(alloc, *id, peer)),
+        _ => None,
     }
 }
 

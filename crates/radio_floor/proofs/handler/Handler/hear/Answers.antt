@@ -11,10 +11,10 @@ returns c =
     let old = c.args.self.now.core in
     let new = c.exchange.new.self.core in
     IfOk-weaker c.exchange.result
-    (λ answered. AnswersAs old new answered (λ state label done. exchanges state label heard.conversation heard.events ≡ done))
-    (λ answered. AnswersAs old new answered
-    (λ state label done. (h : Heard) × IsHeard c.args.connection c.args.bytes.now h × (exchanges state label h.conversation h.events ≡ done)))
-    (λ answered answers w stands.
+    (λ told. AnswersAs old new told c.exchange.new.connection (λ state label done. exchanges state label heard.conversation heard.events ≡ done))
+    (λ told. AnswersAs old new told c.exchange.new.connection
+    (λ state label done. (h : Heard) × IsHeard c.args.connection.now c.args.bytes.now h × (exchanges state label h.conversation h.events ≡ done)))
+    (λ told answers w stands.
     let a = answers w stands in
     (a.0, a.1, λ connections label. (heard, c.in_ok-events.ensures.heard, a.2 connections label)))
     c.exchange.ensures

@@ -1,14 +1,13 @@
-use Rattle.std.proofs.Common.{Ok, Option, Some, refl, subst}
+use Rattle.std.proofs.Common.{Ok, Option, Some, refl, subst, sym}
 use Rattle.radio_session.specs.Conversation.{Conversation}
 use Rattle.radio_floor.specs.ScriptServer.{AnswersOn}
 use Rattle.radio_floor.proofs.handler.HandlerVisitLabelled.visit.Goals as goal
 
 pub returns : goal.returns
 returns c =
-    let answered = c.in_ok-connection.field-0 in
-    let old = c.args.self.now.core in
-    let new = c.answer.new.self.core in (
+    let told = c.in_ok-told.told in
+    let later = c.close_if_shut.new.connection in (
       refl,
-      subst (λ (o : Option Conversation). AnswersOn old c.args.input.now o (Ok (Some answered.told)) new answered.connection)
-          c.in-Some.ensures.value (answered.told, refl, c.in_ok-connection.ensures),
+      subst (λ (o : Option Conversation). AnswersOn c.args.self.now.core c.args.input.now o (Ok (Some told)) c.answer.new.self.core later)
+          (sym c.in-Some.is) (told, c.answer.new.connection, refl, c.close_if_shut.ensures, c.in_ok-told.ensures),
     )
