@@ -18,6 +18,7 @@ use radio_access::Lists;
 use radio_addr::Peer;
 use radio_blocks::Block;
 use radio_icy::Title;
+use radio_seats::KeptName;
 use radio_settings::{Field, MountName, Settings, Shown};
 use radio_tables::Table;
 use std::alloc::Global;
@@ -115,7 +116,7 @@ impl House {
         ensures err { OnErr result (self.new ≡ self.old) }
     {
         self.live.insert(Session {
-            mount,
+            mount: KeptName::new(alloc, mount)?,
             number: id,
             stream: Stream::new(alloc),
             title: None,

@@ -4,6 +4,7 @@ use crate::OutOfMemory;
 use crate::stream::Stream;
 use radio_blocks::Block;
 use radio_icy::Title;
+use radio_seats::KeptName;
 use radio_settings::{MountName, Shown};
 use radio_tables::{Row, Swap, TryChange};
 use std::marker::Model;
@@ -12,7 +13,7 @@ use std::mem;
 /// What a source feeds to a mount, from its admission on.
 #[derive(Drop)]
 pub(crate) struct Session {
-    pub(crate) mount: MountName,
+    pub(crate) mount: KeptName,
     /// The number of the client that feeds it.
     pub(crate) number: u64,
     pub(crate) stream: Stream,
@@ -45,7 +46,7 @@ impl Row for Session {
     ghost has_key_is = { λ mount session. name_is mount session.mount };
 
     fn key(&self) -> MountName {
-        self.mount
+        *self.mount.get()
     }
 }
 

@@ -64,7 +64,8 @@ impl SeatTest for LagsBehind {
 
     fn passes(&self, seat: &Seat) -> bool {
         let end = self.end.bytes_before();
-        seat.mount == self.mount && end.saturating_sub(seat.place.bytes_before()) > self.queue
+        *seat.mount.get() == self.mount
+            && end.saturating_sub(seat.place.bytes_before()) > self.queue
     }
 }
 

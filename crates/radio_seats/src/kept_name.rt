@@ -6,23 +6,25 @@ use crate::OutOfMemory;
 use radio_settings::MountName;
 use std::alloc::Global;
 use std::marker::Model;
+use std::sync::Arc;
 
 /// The name of a mount that is kept in a place of its own in memory, so that what holds it is
-/// small. In contracts it is the name.
+/// small. A clone shares that place. In contracts it is the name.
 #[derive(Drop)]
 pub struct KeptName {
-    name: Box<MountName>,
+    name: Arc<MountName>,
 }
 
 impl Model for KeptName {
     ghost use Rattle.std.specs.Prelude.{ℕ, List};
     ghost use Rattle.std.specs.Coded.{coded_ℕ, coded_list};
+    ghost use Rattle.std.specs.Arc.{arc_value};
 
     ghost Value = { List ℕ };
 
     ghost coded = { coded_list coded_ℕ };
 
-    ghost view = { λ k. k.name.value };
+    ghost view = { λ k. arc_value k.name };
 }
 
 impl KeptName {
@@ -31,7 +33,7 @@ impl KeptName {
         ensures { IfOk result (λ kept. kept ≡ name) }
     {
         Ok(KeptName {
-            name: Box::new(alloc, name)?,
+            name: Arc::new(alloc, name)?,
         })
     }
 
@@ -40,5 +42,15 @@ impl KeptName {
         ensures { result.now ≡ self.now }
     {
         &self.name
+    }
+}
+
+impl Clone for KeptName {
+    ghost is_clone = { λ name other. other ≡ name };
+
+    fn clone(&self) -> Result<KeptName, OutOfMemory> {
+        Ok(KeptName {
+            name: self.name.clone()?,
+        })
     }
 }

@@ -2,7 +2,7 @@
 //!
 //! - [`Seats`]: the table. Contracts see the list of its listeners, in the order of their numbers.
 //! - [`Listener`], [`Seating`], [`Seat`]: its rows. A [`SeatTest`] asks something of a seat.
-//! - [`KeptName`]: the name of a mount, apart from the rest of a seat.
+//! - [`KeptName`]: the name of a mount, apart from the rest of a seat; who sits at one mount share it.
 //! - [`Seats::walk`]: a walk over what a [`View`] shows of the server: what it [`Found`], and its [`Landing`].
 //! - What is found after each change, for proofs: `specs/SeatLaws.antt`, `specs/EndLaws.antt` and `specs/CountLaws.antt`.
 #![tactic(auto)]

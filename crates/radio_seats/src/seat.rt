@@ -19,7 +19,7 @@ pub struct Seat {
     /// How far he has heard the stream of his session.
     pub place: Place,
     /// The mount that he hears.
-    pub mount: MountName,
+    pub mount: KeptName,
     /// The number of the session that he hears.
     pub session: u64,
     /// The mount that he asked for.
@@ -59,7 +59,7 @@ impl Seating {
         ensures { result ≡ is_seat_at mount.now self.now }
     {
         match self {
-            Seating::Sits(seat) => seat.mount == *mount,
+            Seating::Sits(seat) => *seat.mount.get() == *mount,
             Seating::Finished(_) => false,
         }
     }
@@ -69,7 +69,7 @@ impl Seating {
         ensures { result ≡ is_user_at mount.now user.now self.now }
     {
         match self {
-            Seating::Sits(seat) => seat.mount == *mount && seat.has_user(user),
+            Seating::Sits(seat) => *seat.mount.get() == *mount && seat.has_user(user),
             Seating::Finished(_) => false,
         }
     }

@@ -89,7 +89,7 @@ impl State {
     pub(super) fn end_session(&mut self, mount: MountName)
         ensures { self.new ≡ session_ended self.old mount }
     {
-        self.house.live.remove(&mount);
+        drop(self.house.live.remove(&mount));
         self.seats.finish_at(mount, Rule::NotLive);
     }
 

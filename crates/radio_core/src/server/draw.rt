@@ -42,7 +42,7 @@ impl State {
         requires sits { seat_of self.now.seats id ≡ Some seat.now }
         ensures { IfOk result (λ o. o ≡ hands_out id seat.now room (session_of self.now.house.live seat.now.mount)) }
     {
-        let Some(session) = self.house.session(&seat.mount) else {
+        let Some(session) = self.house.session(seat.mount.get()) else {
             return Ok(Outcome::stray());
         };
         let mut pieces = Pieces::new(self.alloc);

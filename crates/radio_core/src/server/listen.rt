@@ -11,9 +11,8 @@ use crate::standing::Standing;
 use crate::{ListenRequest, OutOfMemory, Reply};
 use radio_addr::Peer;
 use radio_policy::{Action, Verdict, judge};
-use radio_seats::{KeptName, Seat};
+use radio_seats::Seat;
 use radio_settings::MountName;
-use std::alloc::Global;
 
 impl State {
     /// A client wants to hear a mount. `OutOfMemory` where memory was refused.
@@ -50,7 +49,7 @@ impl State {
         ensures { IfOk result (λ o. o ≡ takes_seat self.now.house asked peer (session_at self.now.house asked.mount)) }
     {
         match self.house.session_at(asked.mount.as_slice()) {
-            Some(session) => self.house.welcome(self.alloc, asked, peer, session),
+            Some(session) => self.house.welcome(asked, peer, session),
             None => Ok(Outcome::stray()),
         }
     }
@@ -60,7 +59,6 @@ impl House {
     /// A listener is welcome in the session. `OutOfMemory` where memory was refused.
     fn welcome(
         &self,
-        alloc: Global,
         asked: ListenRequest,
         peer: Peer,
         session: &Session,
@@ -69,7 +67,7 @@ impl House {
     {
         let shown = session.shown.clone()?;
         let id = asked.id;
-        let seat = self.first_seat(alloc, asked, peer, session)?;
+        let seat = self.first_seat(asked, peer, session)?;
         Ok(Outcome {
             reply: Reply::Seated {
                 interval: seat.interval,
@@ -108,19 +106,18 @@ impl House {
     /// The seat of a new listener in the session. `OutOfMemory` where memory was refused.
     fn first_seat(
         &self,
-        alloc: Global,
         asked: ListenRequest,
         peer: Peer,
         session: &Session,
     ) -> Result<Seat, OutOfMemory>
         ensures { IfOk result (λ seat. seat ≡ first_seat self.now asked peer session.now) }
     {
-        let mount = session.mount;
-        let burst = self.burst_of(&mount);
-        let interval = self.interval_for(&mount, asked.wants_metadata);
+        let mount = session.mount.get();
+        let burst = self.burst_of(mount);
+        let interval = self.interval_for(mount, asked.wants_metadata);
         Ok(Seat {
-            home: KeptName::new(alloc, mount)?,
-            mount,
+            home: session.mount.clone()?,
+            mount: session.mount.clone()?,
             session: session.number,
             place: session.stream.burst_start(burst),
             peer,

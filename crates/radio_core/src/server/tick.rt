@@ -51,7 +51,7 @@ impl State {
         let Some(session) = self.house.first_silent() else {
             return false;
         };
-        let mount = session.mount;
+        let mount = *session.mount.get();
         let number = session.number;
         self.end_session(mount);
         self.house
