@@ -1,8 +1,7 @@
-//! Benchmarks: `bench [full] [creds] [delivery] [house] [icy] [queue] [settings] [source] [threads] [FILE..]`, and `bench fanout`.
+//! Benchmarks: `bench [full] [creds] [delivery] [house] [icy] [queue] [settings] [source] [threads]`, and `bench fanout`.
 //!
 //! Each subject that is named is measured, and all where none is. Without `full` little is done, and only counts
-//! and sizes are written, which never change. With it much is done, and times are written too. Each other word is the
-//! path of a settings file, of which it is written how many mounts and relays it has, or its fault.
+//! and sizes are written, which never change. With it much is done, and times are written too.
 //!
 //! `bench fanout` serves, until it is killed, beside which `scripts/bench_serve` measures a station.
 #![tactic(auto)]
@@ -22,7 +21,7 @@ mod times;
 use anyhow::Result;
 use std::env;
 use std::net::Net;
-use std::rt::{Clock, Env, Files};
+use std::rt::{Clock, Env};
 use std::sync::Wait;
 use std::thread::Threads;
 
@@ -69,7 +68,7 @@ fn words(rt: &(impl Env + AllocGlobal)) -> Result<Vec<String>> {
 /// Does what the words ask for.
 fn obey<R>(rt: &R, words: &[String]) -> Result<()>
 where
-    R: Clock + Files + Net + Print + AllocGlobal + Threads + Wait + Sync,
+    R: Clock + Net + Print + AllocGlobal + Threads + Wait + Sync,
 {
     if has_word(words, FANOUT) {
         return Ok(fanout::serve(rt)?);
@@ -123,7 +122,7 @@ fn measure_all<R: Clock + Print + AllocGlobal + Threads + Wait + Sync>(
 /// Does what each word asks for, and measures all subjects where none asks for one.
 fn measure_words<R>(rt: &R, words: &[String], is_full: bool) -> Result<()>
 where
-    R: Clock + Files + Print + AllocGlobal + Threads + Wait + Sync,
+    R: Clock + Print + AllocGlobal + Threads + Wait + Sync,
 {
     for word in words {
         measure_word(rt, word.as_str(), is_full)?;
@@ -134,15 +133,14 @@ where
     measure_all(rt, is_full)
 }
 
-/// Does what a word asks for: a subject is measured, and any other word but one is the path of a settings file.
+/// Measures the subject of a word, if it has one.
 fn measure_word<R>(rt: &R, word: &str, is_full: bool) -> Result<()>
 where
-    R: Clock + Files + Print + AllocGlobal + Threads + Wait + Sync,
+    R: Clock + Print + AllocGlobal + Threads + Wait + Sync,
 {
     match subject_of(word) {
         Some(subject) => measure(rt, subject, is_full),
-        None if word == FULL => Ok(()),
-        None => settings::read_file(rt, word),
+        None => Ok(()),
     }
 }
 

@@ -1,13 +1,12 @@
 //! Reading settings of 10 mounts beside those of 10,000. In full 200,000 mounts of each size are read, and it is written
 //! how long one takes, in nanoseconds, and the ratio of the two.
 
-use crate::lines::{write_line, write_named};
+use crate::lines::write_line;
 use crate::times::{Measured, Work, time_turns, write_ratio};
 use anyhow::Result;
 use radio_settings::{OutOfMemory, Settings, SettingsFault};
 use std::alloc::Global;
-use std::fs;
-use std::rt::{Clock, Files};
+use std::rt::Clock;
 
 /// Reads the same settings again and again.
 #[derive(Clone, Copy)]
@@ -21,8 +20,7 @@ impl Work for Reading<'_> {
 
     /// How many mounts were read.
     fn turn(&mut self, _number: u64) -> Result<u64, SettingsFault> {
-        let (mounts, _) = counts(self.alloc, self.text)?;
-        Ok(mounts)
+        count_mounts(self.alloc, self.text)
     }
 }
 
@@ -42,44 +40,12 @@ pub fn measure(rt: &(impl Clock + Print + AllocGlobal), is_full: bool) -> Result
     Ok(())
 }
 
-/// Reads a settings file, and writes what is in it.
-pub fn read_file(rt: &(impl Files + Print + AllocGlobal), path: &str) -> Result<()> {
-    let text = fs::read_to_string(rt, path)?;
-    write_counts(rt, path, text.as_str())
-}
-
-/// Writes how many mounts and relays a text sets, or its fault.
-fn write_counts(rt: &(impl Print + AllocGlobal), path: &str, text: &str) -> Result<()> {
-    match counts(rt.alloc(), text) {
-        Ok((mounts, relays)) => {
-            write_named(rt, path, ": {} mounts, {} relays", &[mounts, relays])
-        }
-        Err(fault) => {
-            let written = write_fault(rt, path, &fault);
-            drop(fault);
-            written
-        }
-    }
-}
-
-fn write_fault(rt: &impl Print, path: &str, fault: &SettingsFault) -> Result<()> {
-    println!(rt; "{path}: {fault}")?;
-    Ok(())
-}
-
-/// How many mounts and relays a text sets.
-fn counts(alloc: Global, text: &str) -> Result<(u64, u64), SettingsFault> {
+/// How many mounts a text sets.
+fn count_mounts(alloc: Global, text: &str) -> Result<u64, SettingsFault> {
     let settings = Settings::read(alloc, text)?;
-    let counts = counts_in(&settings);
+    let count = settings.mounts.as_slice().len() as u64;
     drop(settings);
-    Ok(counts)
-}
-
-fn counts_in(settings: &Settings) -> (u64, u64) {
-    (
-        settings.mounts.as_slice().len() as u64,
-        settings.relays.as_slice().len() as u64,
-    )
+    Ok(count)
 }
 
 /// Reads settings of so many mounts in so many rounds: how many were read, and how long it took.

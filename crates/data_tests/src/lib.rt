@@ -1,4 +1,4 @@
-//! Tests of data, texts and tables, as callers see them: what no clause says and no program shows. Each call succeeds
+//! Tests of data, texts, tables, settings and scripts, as callers see them: what no clause says and no program shows. Each call succeeds
 //! with ample memory, and the definitions mean what the standards and the rules say, on examples from outside. More such
 //! examples are rows and cases of the end-to-end scripts.
 //!
@@ -6,6 +6,8 @@
 //! - `bodies`: feeds behind an end or a fault; `icy`: sound with titles woven into it and taken out.
 //! - `addresses`: peers as texts; `credentials`: values that no head can hold, and secrets.
 //! - `heads`: queries, faults, heads of responses, and answers with a body.
+//! - `settings`: every key read back, names and want of memory; `scripts`: whole scripts over devices that fail, and
+//!   lists of deliveries.
 #![tactic(auto)]
 
 #[cfg(test)]
@@ -22,5 +24,9 @@ mod heads;
 mod icy;
 #[cfg(test)]
 mod queue;
+#[cfg(test)]
+mod scripts;
+#[cfg(test)]
+mod settings;
 #[cfg(test)]
 mod tables;

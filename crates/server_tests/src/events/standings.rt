@@ -1,10 +1,8 @@
 //! Each event at each standing of a client.
 
-use crate::calls::*;
-use radio_core::Core;
+use super::words::*;
+use radio_settings::SettingsFault;
 use std::alloc::Global;
-use std::process::Abort;
-use std::test::Fail;
 
 /// A source is 1, a listener is 2, and 3 has asked for nothing.
 const THREE_CLIENTS: &[(Call, &str)] = &[
@@ -16,13 +14,9 @@ const THREE_CLIENTS: &[(Call, &str)] = &[
     (Call::Listen(2, "/a"), "seated audio/aac,Night,"),
 ];
 
-/// What follows upon them.
-fn three_clients(
-    rt: &impl Abort,
-    alloc: Global,
-    table: &[(Call, &'static str)],
-) -> Result<(), Fail> {
-    replies_in_turn(rt, alloc, 8, THREE_CLIENTS, table)
+/// Whether they are replied to so, and then what the table has.
+fn three_clients(alloc: Global, table: &[(Call, &str)]) -> Result<bool, SettingsFault> {
+    replies_in_turn(alloc, THREE_CLIENTS, table)
 }
 
 /// What does not fit a client is stray, and changes nothing.
@@ -41,8 +35,9 @@ const STRAY_EVENTS: &[(Call, &str)] = &[
 ];
 
 #[test]
-fn stray_events(rt: HostRuntime) -> Result<(), Fail> {
-    three_clients(&rt, rt.alloc(), STRAY_EVENTS)
+fn stray_events(rt: HostRuntime) -> Result<(), SettingsFault> {
+    assert!(rt; three_clients(rt.alloc(), STRAY_EVENTS)?);
+    Ok(())
 }
 
 /// A listener is handed the stream piece by piece, as he has room and as it grows.
@@ -56,8 +51,9 @@ const PIECE_BY_PIECE: &[(Call, &str)] = &[
 ];
 
 #[test]
-fn draws_piece_by_piece(rt: HostRuntime) -> Result<(), Fail> {
-    three_clients(&rt, rt.alloc(), PIECE_BY_PIECE)
+fn draws_piece_by_piece(rt: HostRuntime) -> Result<(), SettingsFault> {
+    assert!(rt; three_clients(rt.alloc(), PIECE_BY_PIECE)?);
+    Ok(())
 }
 
 /// Each kind of reply.
@@ -75,21 +71,11 @@ const EACH_REPLY: &[(Call, &str)] = &[
     (Call::Leave(4), "stray"),
 ];
 
-/// Each of the three replies to a call is as the table says.
-#[derive(Clone, Copy)]
-struct ThreeTimes;
-
-impl Exercise for ThreeTimes {
-    fn exercise<R: Abort>(&self, rt: &R, alloc: Global, core: &mut Core) -> Result<(), Fail> {
-        replies_three_times(rt, alloc, core, EACH_REPLY)
-    }
-}
-
 /// A record of an event, its client and its caller each have its reply.
 #[test]
-fn three_equal_replies(rt: HostRuntime) -> Result<(), Fail> {
-    let core = core_with_burst(rt.alloc(), 8)?;
-    exercised(&rt, rt.alloc(), core, &ThreeTimes)
+fn three_equal_replies(rt: HostRuntime) -> Result<(), SettingsFault> {
+    assert!(rt; replies_three_times(rt.alloc(), EACH_REPLY)?);
+    Ok(())
 }
 
 /// The end of a session finishes its listeners, and theirs alone, until they leave.
@@ -108,8 +94,9 @@ const SOURCE_ENDS: &[(Call, &str)] = &[
 ];
 
 #[test]
-fn source_that_ends(rt: HostRuntime) -> Result<(), Fail> {
-    three_clients(&rt, rt.alloc(), SOURCE_ENDS)
+fn source_that_ends(rt: HostRuntime) -> Result<(), SettingsFault> {
+    assert!(rt; three_clients(rt.alloc(), SOURCE_ENDS)?);
+    Ok(())
 }
 
 /// A source that leaves ends its session too; a listener of the next one hears that one alone.
@@ -124,8 +111,9 @@ const SOURCE_LEAVES: &[(Call, &str)] = &[
 ];
 
 #[test]
-fn source_that_leaves(rt: HostRuntime) -> Result<(), Fail> {
-    three_clients(&rt, rt.alloc(), SOURCE_LEAVES)
+fn source_that_leaves(rt: HostRuntime) -> Result<(), SettingsFault> {
+    assert!(rt; three_clients(rt.alloc(), SOURCE_LEAVES)?);
+    Ok(())
 }
 
 /// Each rule of the policy that can be met in a test; one who is denied has had his answer.
@@ -145,16 +133,16 @@ const DENIALS: &[(Call, &str)] = &[
 ];
 
 #[test]
-fn denials(rt: HostRuntime) -> Result<(), Fail> {
-    three_clients(&rt, rt.alloc(), DENIALS)
+fn denials(rt: HostRuntime) -> Result<(), SettingsFault> {
+    assert!(rt; three_clients(rt.alloc(), DENIALS)?);
+    Ok(())
 }
 
 /// Numbers are not given again.
+const NEXT_NUMBER: &[(Call, &str)] = &[(Call::Leave(3), "noted"), (Call::Arrive, "arrived 4")];
+
 #[test]
-fn numbers_rise(rt: HostRuntime) -> Result<(), Fail> {
-    three_clients(
-        &rt,
-        rt.alloc(),
-        &[(Call::Leave(3), "noted"), (Call::Arrive, "arrived 4")],
-    )
+fn numbers_rise(rt: HostRuntime) -> Result<(), SettingsFault> {
+    assert!(rt; three_clients(rt.alloc(), NEXT_NUMBER)?);
+    Ok(())
 }

@@ -1,9 +1,14 @@
-//! Tests of book, hall and a worker's turn as their callers see them: what no clause says. What
-//! clients do to a running station is in `scripts/serve`. They stand in one crate, since what a
-//! crate of tests costs to link is the same for a few tests as for many.
+//! Tests of the server, of book and hall and of a worker's turn as their callers see them: what no clause says. Each
+//! call succeeds with ample memory, and the definitions mean what the rules say, on rows that were worked out by hand.
+//! What a script can show is a case of `scripts/run`, and what clients do to a running station is in `scripts/serve`.
+//! They stand in one crate, since what a crate of tests costs to link is the same for a few tests as for many.
+//!
+//! Of the server:
+//! - `events`: events and replies of the core, in tables.
+//! - `scripts`: lists of deliveries, among them large ones.
 //!
 //! Of the book and the hall:
-//! - `calls`: the calls of a caller who feeds a mount and listens to it.
+//! - `calls`: events, and the calls of a caller who feeds a mount and listens to it.
 //! - `halls`: a hall, what is done there, and all passes settled then.
 //! - `two_callers`: two threads, with a pass each, over one hall; and what settles no history.
 //! - `unkept`: the same calls over a hall that stores nothing, beside a core.
@@ -21,6 +26,8 @@
 #[cfg(test)]
 mod calls;
 #[cfg(test)]
+mod events;
+#[cfg(test)]
 mod faults;
 #[cfg(test)]
 mod halls;
@@ -30,6 +37,8 @@ mod house;
 mod memory_line;
 #[cfg(test)]
 mod rows;
+#[cfg(test)]
+mod scripts;
 #[cfg(test)]
 mod slow;
 #[cfg(test)]

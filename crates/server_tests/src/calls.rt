@@ -1,4 +1,4 @@
-//! A caller who feeds a mount and listens to it: 100 calls.
+//! Events, and a caller who feeds a mount and listens to it: 100 calls.
 
 use bytes::Bytes;
 use radio_addr::Peer;
@@ -143,7 +143,7 @@ fn event_of(alloc: Global, pair: Pair, call: Call) -> Result<Event, OutOfMemory>
         Call::Source => source_event(alloc, pair.source, pair.path),
         Call::Listen => listen_event(alloc, pair.listener, pair.path),
         Call::Title(title) => title_event(alloc, pair.source, title),
-        Call::Push => push_event(alloc, pair.source),
+        Call::Push => push_event(alloc, pair.source, DATA),
         Call::Draw => Ok(Event::Draw {
             id: pair.listener,
             room: 4,
@@ -159,7 +159,7 @@ pub fn step_copy(core: &mut Core, event: &Event) -> Result<Reply, OutOfMemory> {
 }
 
 /// A connection comes.
-fn arrival() -> Event {
+pub fn arrival() -> Event {
     Event::Arrive {
         peer: Peer::of_v4(0x0a00_0001),
     }
@@ -173,16 +173,18 @@ pub fn title_event(alloc: Global, id: u64, title: &[u8]) -> Result<Event, OutOfM
     })
 }
 
-fn source_event(alloc: Global, id: u64, path: &str) -> Result<Event, OutOfMemory> {
+/// This client would be a source, and tells of its stream: `audio/aac`, the name `Night`.
+pub fn source_event(alloc: Global, id: u64, path: &str) -> Result<Event, OutOfMemory> {
     Ok(Event::Source(SourceRequest {
         id,
         mount: Bytes::copy_from_slice(alloc, path.as_bytes())?,
         pair: basic(alloc, SOURCE_PAIR)?,
-        shown: Shown::clean(alloc, b"audio/mpeg", b"Night", b"")?,
+        shown: Shown::clean(alloc, b"audio/aac", b"Night", b"")?,
     }))
 }
 
-fn listen_event(alloc: Global, id: u64, path: &str) -> Result<Event, OutOfMemory> {
+/// This client would be a listener.
+pub fn listen_event(alloc: Global, id: u64, path: &str) -> Result<Event, OutOfMemory> {
     Ok(Event::Listen(ListenRequest {
         id,
         mount: Bytes::copy_from_slice(alloc, path.as_bytes())?,
@@ -191,9 +193,9 @@ fn listen_event(alloc: Global, id: u64, path: &str) -> Result<Event, OutOfMemory
     }))
 }
 
-/// A block that cannot be made is none; a stray event stands in its place.
-fn push_event(alloc: Global, id: u64) -> Result<Event, OutOfMemory> {
-    match Block::new(Bytes::copy_from_slice(alloc, DATA)?) {
+/// This client delivers these data. Of no data there is no block: a stray event stands in its place.
+pub fn push_event(alloc: Global, id: u64, data: &[u8]) -> Result<Event, OutOfMemory> {
+    match Block::new(Bytes::copy_from_slice(alloc, data)?) {
         Some(block) => Ok(Event::Push { id, block }),
         None => Ok(Event::Leave { id: 0 }),
     }

@@ -1,6 +1,6 @@
 use Rattle.radio_access.specs.Lists.{no_lists}
 use Rattle.radio_core.specs.World.{opening}
-use Rattle.hall_tests.proofs.unkept.alike_beside.Given as goal
+use Rattle.server_tests.proofs.unkept.alike_beside.Given as goal
 
 -- the house that is opened here
 abbrev pub ghosts-count_alike-H-House : goal.ghosts-count_alike-H-House

@@ -1,0 +1,4 @@
+//! Events and replies of a core, in tables: among them what no connection asks for.
+
+mod standings;
+mod words;

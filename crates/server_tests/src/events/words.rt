@@ -1,0 +1,175 @@
+//! Events in tables, and replies in words.
+
+use crate::calls::{arrival, listen_event, push_event, source_event};
+use radio_access::Lists;
+use radio_blocks::Pieces;
+use radio_core::{Core, Event, OutOfMemory, Reply};
+use radio_settings::{Settings, SettingsFault, Shown};
+use std::alloc::Global;
+
+/// The settings of a station.
+const STATION: &str =
+    "source-password = \"hackme\"\nadmin-password = \"letmein\"\n[limits]\nburst-size = 8\n";
+
+/// An event of a table, by its client's number, and the mount, the data or the room.
+#[derive(Clone, Copy)]
+pub enum Call {
+    Arrive,
+    /// A source that tells of its stream: `audio/aac`, the name `Night`.
+    Source(u64, &'static str),
+    Push(u64, &'static str),
+    SourceEnd(u64),
+    Listen(u64, &'static str),
+    Draw(u64, u32),
+    Leave(u64),
+}
+
+impl Call {
+    fn event(&self, alloc: Global) -> Result<Event, OutOfMemory> {
+        match self {
+            Call::Arrive => Ok(arrival()),
+            Call::Source(id, path) => source_event(alloc, *id, path),
+            Call::Push(id, text) => push_event(alloc, *id, text.as_bytes()),
+            Call::SourceEnd(id) => Ok(Event::SourceEnd { id: *id }),
+            Call::Listen(id, path) => listen_event(alloc, *id, path),
+            Call::Draw(id, room) => Ok(Event::Draw {
+                id: *id,
+                room: *room,
+            }),
+            Call::Leave(id) => Ok(Event::Leave { id: *id }),
+        }
+    }
+}
+
+/// The core of a station, with a burst of eight bytes.
+fn station(alloc: Global) -> Result<Core, SettingsFault> {
+    let settings = Settings::read(alloc, STATION)?;
+    Ok(Core::new(alloc, settings, Lists::new(alloc)))
+}
+
+/// Whether a core replies as one table says, and then as the next.
+pub fn replies_in_turn(
+    alloc: Global,
+    first: &[(Call, &str)],
+    next: &[(Call, &str)],
+) -> Result<bool, SettingsFault> {
+    let mut core = station(alloc)?;
+    let replied = are_replied_in_turn(alloc, &mut core, first, next);
+    drop(core);
+    Ok(replied?)
+}
+
+fn are_replied_in_turn(
+    alloc: Global,
+    core: &mut Core,
+    first: &[(Call, &str)],
+    next: &[(Call, &str)],
+) -> Result<bool, OutOfMemory> {
+    Ok(are_replied(alloc, core, first)? && are_replied(alloc, core, next)?)
+}
+
+/// Whether each call of the table is replied to as the table says.
+fn are_replied(
+    alloc: Global,
+    core: &mut Core,
+    table: &[(Call, &str)],
+) -> Result<bool, OutOfMemory> {
+    for (call, want) in table {
+        if !is_replied(alloc, core, call, want)? {
+            return Ok(false);
+        }
+    }
+    Ok(true)
+}
+
+fn is_replied(
+    alloc: Global,
+    core: &mut Core,
+    call: &Call,
+    want: &str,
+) -> Result<bool, OutOfMemory> {
+    let event = call.event(alloc)?;
+    let reply = core.step(event)?;
+    let told = is_told(alloc, &reply, want);
+    drop(reply);
+    told
+}
+
+/// Whether each of the three replies of a core to a call is as the table says.
+pub fn replies_three_times(alloc: Global, table: &[(Call, &str)]) -> Result<bool, SettingsFault> {
+    let mut core = station(alloc)?;
+    let replied = are_replied_three_times(alloc, &mut core, table);
+    drop(core);
+    Ok(replied?)
+}
+
+fn are_replied_three_times(
+    alloc: Global,
+    core: &mut Core,
+    table: &[(Call, &str)],
+) -> Result<bool, OutOfMemory> {
+    for (call, want) in table {
+        if !is_replied_three_times(alloc, core, call, want)? {
+            return Ok(false);
+        }
+    }
+    Ok(true)
+}
+
+fn is_replied_three_times(
+    alloc: Global,
+    core: &mut Core,
+    call: &Call,
+    want: &str,
+) -> Result<bool, OutOfMemory> {
+    let event = call.event(alloc)?;
+    let three = core.step3(event)?;
+    let told = are_told(alloc, &three, want);
+    drop(three);
+    told
+}
+
+fn are_told(alloc: Global, replies: &[Reply], want: &str) -> Result<bool, OutOfMemory> {
+    for reply in replies {
+        if !is_told(alloc, reply, want)? {
+            return Ok(false);
+        }
+    }
+    Ok(true)
+}
+
+fn is_told(alloc: Global, reply: &Reply, want: &str) -> Result<bool, OutOfMemory> {
+    let words = told(alloc, reply)?;
+    Ok(words.as_str() == want)
+}
+
+/// A reply in words.
+fn told(alloc: Global, reply: &Reply) -> Result<String, OutOfMemory> {
+    match reply {
+        Reply::Arrived(id) => format!(in alloc; "arrived {id}"),
+        Reply::Feeding => "feeding".to_string(alloc),
+        Reply::Seated { shown, .. } => told_shown(alloc, shown),
+        Reply::Drawn { pieces, .. } => told_drawn(alloc, pieces),
+        Reply::Noted => "noted".to_string(alloc),
+        Reply::Deny(rule) => format!(in alloc; "deny {rule}"),
+        Reply::Finished(rule) => format!(in alloc; "finished {rule}"),
+        Reply::Stray => "stray".to_string(alloc),
+    }
+}
+
+fn told_shown(alloc: Global, shown: &Shown) -> Result<String, OutOfMemory> {
+    let content_type = shown.content_type.as_str();
+    let name = shown.name.as_str();
+    let genre = shown.genre.as_str();
+    format!(in alloc; "seated {content_type},{name},{genre}")
+}
+
+fn told_drawn(alloc: Global, pieces: &Pieces) -> Result<String, OutOfMemory> {
+    let mut drawn = Vec::new(alloc);
+    pieces.write_to(&mut drawn)?;
+    format!(in alloc; "drawn {}", text(drawn.as_slice()))
+}
+
+fn text(bytes: &[u8]) -> &str {
+    str::from_utf8(bytes).unwrap_or("(no text)")
+}
