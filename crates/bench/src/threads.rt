@@ -188,6 +188,11 @@ where
 {
     let start = Instant::now(rt)?;
     work_four(rt, rt.alloc(), hall, passes, blocks)?;
+    worked_since(rt, start)
+}
+
+/// What was worked since then.
+fn worked_since(rt: &impl Clock, start: Instant) -> Result<Worked> {
     let end = Instant::now(rt)?;
     Ok(Worked {
         micros: micros(end.saturating_duration_since(start)),

@@ -4,13 +4,26 @@
 use super::*;
 use radio_icy::Weaver;
 
-/// Whether a title that is gone for a while, as no session's title ever is, is not sent again.
-fn is_sent_once(alloc: Global) -> Result<bool, OutOfMemory> {
+/// Sound, and the title at its end, which is gone for a while, as no session's title ever is.
+const TITLE_THAT_WAS_GONE: &[(&[u8], Option<&[u8]>)] = &[
+    (b"abcd", Some(b"X")),
+    (b"efgh", None),
+    (b"ijkl", Some(b"X")),
+];
+
+/// What is woven of it.
+fn woven(alloc: Global) -> Result<Vec<u8>, OutOfMemory> {
     let mut out = Vec::new(alloc);
     let mut weaver = Weaver::new(alloc, 4);
-    weaver.weave(b"abcd", Some(b"X"), &mut out)?;
-    weaver.weave(b"efgh", None, &mut out)?;
-    weaver.weave(b"ijkl", Some(b"X"), &mut out)?;
+    for (sound, title) in TITLE_THAT_WAS_GONE {
+        weaver.weave(sound, *title, &mut out)?;
+    }
+    Ok(out)
+}
+
+/// Whether it is not sent again.
+fn is_sent_once(alloc: Global) -> Result<bool, OutOfMemory> {
+    let out = woven(alloc)?;
     Ok(out.as_slice() == b"abcd\x01StreamTitle='X';efgh\0ijkl\0".as_slice())
 }
 

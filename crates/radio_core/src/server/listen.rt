@@ -11,7 +11,7 @@ use crate::standing::Standing;
 use crate::{ListenRequest, OutOfMemory, Reply};
 use radio_addr::Peer;
 use radio_policy::{Action, Verdict, judge};
-use radio_seats::Seat;
+use radio_seats::{KeptName, Seat};
 use radio_settings::MountName;
 
 impl State {
@@ -112,12 +112,13 @@ impl House {
     ) -> Result<Seat, OutOfMemory>
         ensures { IfOk result (λ seat. seat ≡ first_seat self.now asked peer session.now) }
     {
-        let mount = session.mount.get();
-        let burst = self.burst_of(mount);
-        let interval = self.interval_for(mount, asked.wants_metadata);
+        let (home, mount) = twice(&session.mount)?;
+        let name = session.mount.get();
+        let burst = self.burst_of(name);
+        let interval = self.interval_for(name, asked.wants_metadata);
         Ok(Seat {
-            home: session.mount.clone()?,
-            mount: session.mount.clone()?,
+            home,
+            mount,
             session: session.number,
             place: session.stream.burst_start(burst),
             peer,
@@ -126,4 +127,13 @@ impl House {
             since: self.time,
         })
     }
+}
+
+/// A name twice. `OutOfMemory` where memory was refused.
+fn twice(name: &KeptName) -> Result<(KeptName, KeptName), OutOfMemory>
+    ensures first { IfOk result (λ names. names.0 ≡ name.now) }
+    ensures second { IfOk result (λ names. names.1 ≡ name.now) }
+{
+    let first = name.clone()?;
+    Ok((first, name.clone()?))
 }
