@@ -8,22 +8,22 @@ use radio_tables::{Change, OutOfMemory, Row, Table, TryChange};
 use std::test::Fail;
 
 #[derive(Clone, Copy)]
-struct Guest {
+struct Listener {
     id: u64,
-    drinks: u32,
+    seconds: u32,
 }
 
-impl Row for Guest {
+impl Row for Listener {
     type Key = u64;
 
     ghost use Rattle.std.specs.Prelude.{◌==◌};
     ghost use Rattle.radio_tables.specs.KeyLaws.{number_is};
 
-    ghost key = { λ guest. guest.id };
+    ghost key = { λ listener. listener.id };
 
-    ghost has_key = { λ id guest. guest.id == id };
+    ghost has_key = { λ id listener. listener.id == id };
 
-    ghost has_key_is = { λ id guest. number_is id guest.id };
+    ghost has_key_is = { λ id listener. number_is id listener.id };
 
     fn key(&self) -> u64 {
         self.id
@@ -31,49 +31,49 @@ impl Row for Guest {
 }
 
 #[derive(Drop)]
-struct Drinks(u32);
+struct Seconds(u32);
 
-impl Change<Guest> for Drinks {
+impl Change<Listener> for Seconds {
     ghost use Rattle.std.specs.Prelude.{refl};
 
-    ghost gives = { λ change guest. record guest { drinks = change.0 } };
+    ghost gives = { λ change listener. record listener { seconds = change.0 } };
 
-    ghost keeps_key = { λ change guest. refl };
+    ghost keeps_key = { λ change listener. refl };
 
-    fn apply(&self, row: &mut Guest) {
-        row.drinks = self.0;
+    fn apply(&self, row: &mut Listener) {
+        row.seconds = self.0;
     }
 }
 
 // A user of a table needs no proof: its contract is the table's.
-fn serve(guests: &mut Table<Guest>, id: u64, drinks: u32)
-    ensures { guests.new ≡ update_first (λ guest. guest.id == id) (λ guest. record guest { drinks = drinks }) guests.old }
+fn set_seconds(listeners: &mut Table<Listener>, id: u64, seconds: u32)
+    ensures { listeners.new ≡ update_first (λ listener. listener.id == id) (λ listener. record listener { seconds = seconds }) listeners.old }
 {
-    guests.change(&id, &Drinks(drinks));
+    listeners.change(&id, &Seconds(seconds));
 }
 
-fn guest_of(guests: &Table<Guest>, id: u64) -> Option<&Guest>
-    ensures { option_copied result ≡ find (λ guest. guest.id == id) guests.now }
+fn listener_of(listeners: &Table<Listener>, id: u64) -> Option<&Listener>
+    ensures { option_copied result ≡ find (λ listener. listener.id == id) listeners.now }
 {
-    guests.get(&id)
+    listeners.get(&id)
 }
 
 #[derive(Drop)]
-struct MoreDrinks(u32);
+struct MoreSeconds(u32);
 
-impl TryChange<Guest> for MoreDrinks {
+impl TryChange<Listener> for MoreSeconds {
     ghost use Rattle.std.specs.Prelude.{refl};
 
-    ghost gives = { λ change guest. record guest { drinks = change.0 } };
+    ghost gives = { λ change listener. record listener { seconds = change.0 } };
 
-    ghost keeps_key = { λ change guest. refl };
+    ghost keeps_key = { λ change listener. refl };
 
-    // It is refused memory at 13 drinks.
-    fn try_apply(&self, row: &mut Guest) -> Result<(), OutOfMemory> {
+    // It is refused memory at 13 seconds.
+    fn try_apply(&self, row: &mut Listener) -> Result<(), OutOfMemory> {
         if self.0 == 13 {
             return Err(OutOfMemory {});
         }
-        row.drinks = self.0;
+        row.seconds = self.0;
         Ok(())
     }
 }
@@ -107,78 +107,88 @@ impl Row for Station {
 
 const ARRIVING: [u64; 7] = [5, 2, 9, 2, 7, 1, 5];
 
-fn admit(guests: &mut Table<Guest>, ids: &[u64]) -> Result<(), OutOfMemory> {
+fn insert_all(listeners: &mut Table<Listener>, ids: &[u64]) -> Result<(), OutOfMemory> {
     for id in ids {
-        guests.insert(Guest { id: *id, drinks: 0 })?;
+        listeners.insert(Listener {
+            id: *id,
+            seconds: 0,
+        })?;
     }
     Ok(())
 }
 
-fn has_ids(guests: &Table<Guest>, ids: &[u64]) -> bool {
-    guests.len() == ids.len() && guests.iter().zip(ids).all(|(guest, id)| guest.id == *id)
+fn has_ids(listeners: &Table<Listener>, ids: &[u64]) -> bool {
+    listeners.len() == ids.len()
+        && listeners
+            .iter()
+            .zip(ids)
+            .all(|(listener, id)| listener.id == *id)
 }
 
-fn has_drinks(guests: &Table<Guest>, id: u64, drinks: u32) -> bool {
-    match guest_of(guests, id) {
-        Some(guest) => guest.drinks == drinks,
+fn has_seconds(listeners: &Table<Listener>, id: u64, seconds: u32) -> bool {
+    match listener_of(listeners, id) {
+        Some(listener) => listener.seconds == seconds,
         None => false,
     }
 }
 
-fn are_changed(guests: &mut Table<Guest>) -> bool {
-    serve(guests, 2, 4);
-    let one = has_drinks(guests, 2, 4) && has_drinks(guests, 5, 0);
-    guests.change_all(&Drinks(8));
-    one && has_drinks(guests, 1, 8) && has_drinks(guests, 9, 8)
+fn are_changed(listeners: &mut Table<Listener>) -> bool {
+    set_seconds(listeners, 2, 4);
+    let one = has_seconds(listeners, 2, 4) && has_seconds(listeners, 5, 0);
+    listeners.change_all(&Seconds(8));
+    one && has_seconds(listeners, 1, 8) && has_seconds(listeners, 9, 8)
 }
 
-fn are_tried(guests: &mut Table<Guest>) -> bool {
-    let refused = guests.try_change(&7, &MoreDrinks(13)).is_err() && has_drinks(guests, 7, 8);
-    refused && guests.try_change(&7, &MoreDrinks(12)).is_ok() && has_drinks(guests, 7, 12)
+fn are_tried(listeners: &mut Table<Listener>) -> bool {
+    let refused = listeners.try_change(&7, &MoreSeconds(13)).is_err()
+        && has_seconds(listeners, 7, 8);
+    refused && listeners.try_change(&7, &MoreSeconds(12)).is_ok() && has_seconds(listeners, 7, 12)
 }
 
-fn are_removed(guests: &mut Table<Guest>, id: u64) -> bool {
-    guests.remove(&id).is_some() && guests.remove(&id).is_none() && guests.get(&id).is_none()
+fn are_removed(listeners: &mut Table<Listener>, id: u64) -> bool {
+    listeners.remove(&id).is_some()
+        && listeners.remove(&id).is_none()
+        && listeners.get(&id).is_none()
 }
 
 #[test]
 fn rows_stand_in_order_and_are_found(rt: HostRuntime) -> Result<(), Fail> {
-    let mut guests = Table::new(rt.alloc());
-    admit(&mut guests, &ARRIVING)?;
-    assert!(rt; has_ids(&guests, &[1, 2, 5, 7, 9]) && are_changed(&mut guests));
-    assert!(rt; are_tried(&mut guests) && are_removed(&mut guests, 5));
+    let mut listeners = Table::new(rt.alloc());
+    insert_all(&mut listeners, &ARRIVING)?;
+    assert!(rt; has_ids(&listeners, &[1, 2, 5, 7, 9]) && are_changed(&mut listeners));
+    assert!(rt; are_tried(&mut listeners) && are_removed(&mut listeners, 5));
     Ok(())
 }
 
-fn come(guests: &mut Table<Guest>) -> Result<(), OutOfMemory> {
+fn insert_a_thousand(listeners: &mut Table<Listener>) -> Result<(), OutOfMemory> {
     for n in 0..1000u64 {
         let id = n * 389 % 1000;
-        guests.insert(Guest { id, drinks: 0 })?;
+        listeners.insert(Listener { id, seconds: 0 })?;
     }
     Ok(())
 }
 
-fn go(guests: &mut Table<Guest>) -> bool {
+fn remove_a_thousand(listeners: &mut Table<Listener>) -> bool {
     for id in 0..1000u64 {
-        if guests.len() as u64 != 1000 - id || !are_removed(guests, id) {
+        if listeners.len() as u64 != 1000 - id || !are_removed(listeners, id) {
             return false;
         }
     }
-    guests.len() == 0
+    listeners.len() == 0
 }
 
 #[test]
 fn a_thousand_rows_come_and_go(rt: HostRuntime) -> Result<(), Fail> {
-    let mut guests = Table::new(rt.alloc());
-    come(&mut guests)?;
-    assert!(rt; go(&mut guests));
+    let mut listeners = Table::new(rt.alloc());
+    insert_a_thousand(&mut listeners)?;
+    assert!(rt; remove_a_thousand(&mut listeners));
     Ok(())
 }
 
 // How many came until memory was refused, each behind the others.
-fn come_until_refused(guests: &mut Table<Guest>) -> u64 {
+fn insert_until_refused(listeners: &mut Table<Listener>) -> u64 {
     for id in 0..40u64 {
-        if guests.insert(Guest { id, drinks: 0 }).is_err() {
+        if listeners.insert(Listener { id, seconds: 0 }).is_err() {
             return id;
         }
     }
@@ -187,22 +197,24 @@ fn come_until_refused(guests: &mut Table<Guest>) -> u64 {
 
 #[test]
 fn refused_rows_leave_the_others(rt: HostRuntime) {
-    let mut guests = Table::new(rt.alloc());
-    let count = come_until_refused(&mut guests);
-    assert!(rt; guests.len() as u64 == count && guests.iter().all(|guest| guest.id < count));
+    let mut listeners = Table::new(rt.alloc());
+    let count = insert_until_refused(&mut listeners);
+    assert!(rt;
+        listeners.len() as u64 == count && listeners.iter().all(|listener| listener.id < count)
+    );
 }
 
 #[test]
 fn the_first_row_is_pushed(rt: HostRuntime) -> Result<(), Fail> {
-    let mut guests = Table::new(rt.alloc());
-    guests.push(Guest { id: 3, drinks: 1 })?;
-    assert!(rt; has_drinks(&guests, 3, 1));
+    let mut listeners = Table::new(rt.alloc());
+    listeners.push(Listener { id: 3, seconds: 1 })?;
+    assert!(rt; has_seconds(&listeners, 3, 1));
     Ok(())
 }
 
 const NAMES: [[u8; 2]; 4] = [*b"zz", *b"ab", *b"aa", *b"b "];
 
-fn found(stations: &mut Table<Station>, names: &[[u8; 2]]) -> Result<(), OutOfMemory> {
+fn insert_named(stations: &mut Table<Station>, names: &[[u8; 2]]) -> Result<(), OutOfMemory> {
     for name in names {
         let name = Name(*name);
         stations.insert(Station { name })?;
@@ -224,7 +236,7 @@ fn are_told_apart(stations: &Table<Station>) -> bool {
 #[test]
 fn rows_by_name_stand_in_order_of_bytes(rt: HostRuntime) -> Result<(), Fail> {
     let mut stations = Table::new(rt.alloc());
-    found(&mut stations, &NAMES)?;
+    insert_named(&mut stations, &NAMES)?;
     assert!(rt; have_names(&stations, &[*b"aa", *b"ab", *b"b ", *b"zz"]));
     assert!(rt; are_told_apart(&stations));
     Ok(())

@@ -109,7 +109,7 @@ fn come_and_go<L: Ledger>(
     ensures parts { share.new.parts ≡ share.old.parts }
 {
     match (leaver, newcomer) {
-        (Some(id), _) => go(debt, share, clients, id),
+        (Some(id), _) => client_leaves(debt, share, clients, id),
         (None, Some(id)) => {
             debt.grow(share);
             clients.push_reserved(id);
@@ -119,7 +119,12 @@ fn come_and_go<L: Ledger>(
 }
 
 /// One leaves, if he is among the clients; the book then owes an entry less.
-fn go<L: Ledger>(debt: &mut Debt<L>, share: &mut Share<L>, clients: &mut Vec<u64>, id: u64)
+fn client_leaves<L: Ledger>(
+    debt: &mut Debt<L>,
+    share: &mut Share<L>,
+    clients: &mut Vec<u64>,
+    id: u64,
+)
     requires { share.old.amount ≡ vec_len clients.old }
     ensures clients { clients.new.items ≡ clients_by (Some id) None clients.old.items }
     ensures owed { debt.new.owed + vec_len clients.old ≡ debt.old.owed + vec_len clients.new }

@@ -77,7 +77,8 @@ impl Handler {
 
     /// The peer has closed it.
     fn close(&mut self, connection: &Session) -> Result<Told, OutOfMemory>
-        ensures { IfOk result (λ told. AnswersAs self.old.core self.new.core told connection.now (λ state label done. closes state label connection.now ≡ done)) }
+        ensures { IfOk result (λ told. AnswersAs self.old.core self.new.core told connection.now
+            (λ state label done. closes state label connection.now ≡ done)) }
     {
         leave(&mut self.core, connection.id())?;
         Ok(Told {

@@ -15,7 +15,7 @@ mod labelled;
 mod laws;
 mod performing;
 mod script_server;
-mod whole;
+mod scripts;
 
 pub use laws::{
     draws_are_stretches, last_words_are_told, scripts_come_to_events, the_transcript_is_one,
@@ -23,7 +23,7 @@ pub use laws::{
 pub use radio_script::{
     Counted, CountedRead, CountedWrite, Delivery, Input, PlayFault, RunFault, Tally,
 };
-pub use whole::{Transcript, play, run};
+pub use scripts::{Transcript, play, run};
 
 /// Memory ran out.
 pub type OutOfMemory = std::alloc::AllocError;

@@ -3,7 +3,7 @@ use Rattle.std.proofs.lemmas.Result.{IfOk-weaker}
 use Rattle.radio_script.specs.Runs.{Runs}
 use Rattle.radio_floor.specs.Transcript.{IsTranscriptOf}
 use Rattle.radio_floor.proofs.ServerSimulation.{server_conduct, server_runs}
-use Rattle.radio_floor.proofs.whole.run.Goals as goal
+use Rattle.radio_floor.proofs.scripts.run.Goals as goal
 
 pub returns-clause-ok : goal.returns-clause-ok
 returns-clause-ok c =
