@@ -1,7 +1,7 @@
 -- Histories: events with their replies, in the order in which they happened.
 use Rattle.std.specs.Prelude.{◌≡◌, ◌+◌, ◌-◌, ◌<◌, Bool, true, List, [], ◌∷◌, Some, length, map, slice_get}
-use Rattle.radio_core.specs.declared.event.Event.{Event}
-use Rattle.radio_core.specs.declared.reply.Reply.{Reply}
+use Rattle.radio_events.specs.declared.event.Event.{Event}
+use Rattle.radio_events.specs.declared.reply.Reply.{Reply}
 use Rattle.radio_core.specs.World.{World}
 use Rattle.radio_core.specs.Run.{world_after_all}
 use Rattle.radio_core.specs.Step.{reply_to, world_after, Represents}

@@ -2,7 +2,8 @@
 
 ghost use Rattle.std.specs.Prelude.{◌≡◌, ◌+◌, ◌≤◌, ◌<◌, ◌^◌, ◌∷◌, [], ◌++◌, ℕ, length, true, false, IsOk, IfOk, IfSome, OnOk, OnErr, vec_len, vec_capacity};
 ghost use Rattle.radio_core.specs.World.{World};
-ghost use Rattle.radio_core.specs.Step.{Represents, TakesNoMemory, reply_to, world_after};
+ghost use Rattle.radio_core.specs.Step.{Represents, reply_to, world_after};
+ghost use Rattle.radio_events.specs.Events.{TakesNoMemory};
 ghost use Rattle.radio_book.specs.History.{entry_of};
 ghost use Rattle.radio_book.specs.Clients.{is_arrival, room_for};
 
@@ -10,7 +11,7 @@ use crate::debt::Debt;
 use crate::holdings::Holdings;
 use crate::story::Story;
 use crate::{Chronicle, House, OutOfMemory, Receipt};
-use radio_core::Event;
+use radio_events::Event;
 use std::alloc::{AllocError, Global};
 use std::sync::ledger::Share;
 

@@ -2,7 +2,8 @@
 
 ghost use Rattle.std.specs.Prelude.{◌≡◌, ◌<◌, ◌^◌, ◌∷◌, [], ◌++◌, ℕ, length, true, false, IsOk, IfOk, IfSome, OnErr};
 ghost use Rattle.radio_core.specs.World.{World, opening};
-ghost use Rattle.radio_core.specs.Step.{Represents, TakesNoMemory, reply_to, world_after};
+ghost use Rattle.radio_core.specs.Step.{Represents, reply_to, world_after};
+ghost use Rattle.radio_events.specs.Events.{TakesNoMemory};
 ghost use Rattle.radio_book.specs.History.{IsLegal, IsTold, entry_of};
 ghost use Rattle.radio_book.specs.Clients.{is_here};
 
@@ -11,7 +12,8 @@ use crate::debt::Debt;
 use crate::story::Story;
 use crate::{Chronicle, Entry, House, Kept, OutOfMemory, Pass, Receipt};
 use radio_access::Lists;
-use radio_core::{Core, Event};
+use radio_core::Core;
+use radio_events::Event;
 use radio_settings::Settings;
 use std::alloc::Global;
 use std::marker::Model;

@@ -1,6 +1,6 @@
 //! What a history is made of.
 
-use radio_core::{Event, Reply};
+use radio_events::{Event, Reply};
 
 /// One event, and what the server replied.
 #[derive(Drop)]

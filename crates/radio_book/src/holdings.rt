@@ -5,7 +5,7 @@ ghost use Rattle.radio_book.specs.Clients.{clients_by, clients_of, is_arrival, l
 
 use crate::debt::Debt;
 use crate::{OutOfMemory, Receipt};
-use radio_core::{Event, Reply};
+use radio_events::{Event, Reply};
 use std::alloc::Global;
 use std::sync::ledger::{Ledger, Share};
 

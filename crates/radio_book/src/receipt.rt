@@ -1,6 +1,6 @@
 //! Receipts.
 
-use radio_core::{Event, Reply};
+use radio_events::{Event, Reply};
 use std::marker::Model;
 
 /// The receipt of a call of a book: at this place of the house's history stands this entry.

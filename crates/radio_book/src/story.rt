@@ -2,11 +2,13 @@
 
 ghost use Rattle.std.specs.Prelude.{◌≡◌, ◌+◌, ◌≤◌, ◌<◌, ◌∷◌, [], ◌++◌, ℕ, true, false, IsOk, IfOk, OnErr};
 ghost use Rattle.radio_core.specs.World.{World};
-ghost use Rattle.radio_core.specs.Step.{Represents, TakesNoMemory, reply_to, world_after};
+ghost use Rattle.radio_core.specs.Step.{Represents, reply_to, world_after};
+ghost use Rattle.radio_events.specs.Events.{TakesNoMemory};
 ghost use Rattle.radio_book.specs.History.{IsTold, entry};
 
 use crate::{Chronicle, Entry, House, Kept, OutOfMemory};
-use radio_core::{Core, Event, Reply};
+use radio_core::Core;
+use radio_events::{Event, Reply};
 use std::marker::PhantomData;
 
 /// A core and its chronicle: the core stands for the state after a history that is a run, and where

@@ -5,9 +5,9 @@ use Rattle.std.proofs.lemmas.Bool.Decides.{nat_tests}
 use Rattle.radio_settings.specs.declared.field.Shown.{Shown}
 use Rattle.radio_tables.specs.Lists.{Each, Has}
 use Rattle.radio_tables.specs.FindLaws.{find_here, find_later}
-use Rattle.radio_core.specs.declared.event.Event.{Event}
+use Rattle.radio_events.specs.declared.event.Event.{Event}
 use Rattle.radio_core.specs.declared.outcome.Outcome.{Outcome}
-use Rattle.radio_core.specs.declared.reply.Reply.TheVariants.{Drawn, Seated}
+use Rattle.radio_events.specs.declared.reply.Reply.TheVariants.{Drawn, Seated}
 use Rattle.radio_core.specs.World.{World}
 use Rattle.radio_core.specs.Access.{IsHis, AccessIsKept}
 use Rattle.radio_core.specs.Admission.{IsBlockStart, IsEarliestStart, IsSeated, BeginsAtABlock}

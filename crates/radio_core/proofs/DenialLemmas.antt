@@ -4,10 +4,10 @@ use Rattle.radio_policy.specs.declared.rule.Rule.{Rule}
 use Rattle.radio_policy.specs.declared.judgement.Verdict.TheVariants.{Deny as Denied}
 use Rattle.radio_policy.specs.Table.{Row}
 use Rattle.radio_policy.specs.Verdicts.{verdict_in, Denies}
-use Rattle.radio_core.specs.declared.event.Event.{Event}
+use Rattle.radio_events.specs.declared.event.Event.{Event}
 use Rattle.radio_core.specs.declared.outcome.Change.TheVariants.{Answer}
 use Rattle.radio_core.specs.declared.outcome.Outcome.{Outcome}
-use Rattle.radio_core.specs.declared.reply.Reply.TheVariants.{Deny}
+use Rattle.radio_events.specs.declared.reply.Reply.TheVariants.{Deny}
 use Rattle.radio_core.specs.declared.standing.Standing.{Standing}
 use Rattle.radio_core.specs.declared.standing.Standing.TheVariants.{Unknown, Undecided, Feeds, Sits, Answered, Finished}
 use Rattle.radio_core.specs.World.{World, standing_of}
@@ -15,7 +15,8 @@ use Rattle.radio_core.specs.Changes.{changed}
 use Rattle.radio_core.specs.Step.{outcome, reply_to, world_after}
 use Rattle.radio_core.specs.Denials.{answered_if, after_denial, DenialsAreThePolicys}
 use Rattle.radio_core.specs.Ways.{Way, Misplaced, IsFinished, IsDenied, IsRefused, IsAdmitted, Begins, Receives, SetsTitle, TakesSeat, HandsOut, Ends}
-use Rattle.radio_core.specs.Ways.{EndsAndLeaves, Leaves, HasPassed, Ticks, client_in, rows_for, IsUndecided}
+use Rattle.radio_core.specs.Ways.{EndsAndLeaves, Leaves, HasPassed, Ticks, rows_for, IsUndecided}
+use Rattle.radio_events.specs.Events.{client_in}
 use Rattle.radio_core.proofs.Ways.{way_of}
 
 module _ (denies : (rows : List Row) (rule : Rule) → (verdict_in rows ≡ Denied rule) ↔ Denies rows rule) (w : World) where

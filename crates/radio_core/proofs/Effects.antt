@@ -3,12 +3,12 @@ use Rattle.std.proofs.Common.{◌≡◌, true, ℕ, ◌+◌, Some, None, List, r
 use Rattle.radio_addr.specs.declared.peer.Peer.{Peer}
 use Rattle.radio_tables.specs.KeyLaws.{by_number}
 use Rattle.radio_policy.specs.declared.rule.Rule.{Rule}
-use Rattle.radio_core.specs.declared.event.Event.{Event}
-use Rattle.radio_core.specs.declared.event.Event.TheVariants.{Push, Clock}
+use Rattle.radio_events.specs.declared.event.Event.{Event}
+use Rattle.radio_events.specs.declared.event.Event.TheVariants.{Push, Clock}
 use Rattle.radio_core.specs.declared.outcome.Change.TheVariants.{EndAndLeave}
 use Rattle.radio_core.specs.declared.outcome.Outcome.{Outcome}
-use Rattle.radio_core.specs.declared.reply.Reply.{Reply}
-use Rattle.radio_core.specs.declared.reply.Reply.TheVariants.{Arrived}
+use Rattle.radio_events.specs.declared.reply.Reply.{Reply}
+use Rattle.radio_events.specs.declared.reply.Reply.TheVariants.{Arrived}
 use Rattle.radio_core.specs.declared.standing.Standing.{Standing}
 use Rattle.radio_core.specs.declared.standing.Standing.TheVariants.{Unknown, Undecided, Feeds, Sits, Answered, Finished}
 use Rattle.radio_access.specs.Lists.{passes}
@@ -22,7 +22,8 @@ use Rattle.radio_core.specs.Sound.{IsSound}
 use Rattle.radio_core.specs.Source.{shown_for}
 use Rattle.radio_core.specs.Step.{outcome, reply_to, world_after}
 use Rattle.radio_core.specs.Ways.{Way, Misplaced, IsFinished, IsDenied, IsRefused, IsAdmitted, Begins, Receives, SetsTitle, TakesSeat, HandsOut, Ends}
-use Rattle.radio_core.specs.Ways.{EndsAndLeaves, Leaves, HasPassed, Ticks, client_in}
+use Rattle.radio_core.specs.Ways.{EndsAndLeaves, Leaves, HasPassed, Ticks}
+use Rattle.radio_events.specs.Events.{client_in}
 use Rattle.radio_seats.specs.SeatLaws.{is_no_listener, beside_left}
 use Rattle.radio_core.proofs.Lookups.{is_over}
 use Rattle.radio_seats.specs.SeatLaws.{listener_seated}

@@ -6,16 +6,16 @@ use Rattle.radio_settings.specs.declared.settings.Settings.{Settings}
 use Rattle.radio_seats.specs.declared.seat.Listener.{Listener}
 use Rattle.radio_seats.specs.declared.seat.Seat.{Seat}
 use Rattle.radio_seats.specs.declared.seat.Seating.TheVariants.{Finished as HasLostIt}
-use Rattle.radio_seats.specs.declared.walk.Found.{Found}
+use Rattle.radio_fallback.specs.declared.walking.Found.{Found}
 use Rattle.radio_seats.specs.EndLaws.{LosesSeat, same_or_loses}
 use Rattle.radio_seats.specs.Seats.{listener_of, seat_of, seat_in, with_ended}
-use Rattle.radio_seats.specs.Walk.{found_at, stop_of}
-use Rattle.radio_seats.specs.WalkLaws.{stopped_where_it_begins}
+use Rattle.radio_fallback.specs.Walk.{found_at, stop_of}
+use Rattle.radio_fallback.specs.WalkLaws.{stopped_where_it_begins}
 use Rattle.radio_core.specs.declared.clients.Client.{Client}
 use Rattle.radio_core.specs.declared.clients.ClientState.{ClientState}
 use Rattle.radio_core.specs.declared.clients.ClientState.TheVariants.{Undecided as IsNew, Feeds as IsSource, Listens, Answered as HasHisAnswer, Ended}
-use Rattle.radio_core.specs.declared.event.Event.{Event}
-use Rattle.radio_core.specs.declared.event.Event.TheVariants.{Clock}
+use Rattle.radio_events.specs.declared.event.Event.{Event}
+use Rattle.radio_events.specs.declared.event.Event.TheVariants.{Clock}
 use Rattle.radio_core.specs.declared.standing.Standing.{Standing}
 use Rattle.radio_core.specs.declared.standing.Standing.TheVariants.{Unknown, Undecided, Feeds, Sits, Answered, Finished}
 use Rattle.radio_core.specs.Clients.{client_of}

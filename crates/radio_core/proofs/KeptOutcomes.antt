@@ -4,8 +4,8 @@ use Rattle.std.proofs.Math.Path.{fun_ext}
 use Rattle.std.specs.Prelude.{nat_lt, if◌then◌else◌}
 use Rattle.std.specs.Option.{option_map}
 use Rattle.std.proofs.lemmas.List.{length-map}
-use Rattle.radio_policy.specs.declared.facts.Facts.{Facts}
-use Rattle.radio_policy.specs.declared.facts.TheConstants.Facts.{NONE}
+use Rattle.radio_policy.specs.declared.facts.SourceFacts.{SourceFacts}
+use Rattle.radio_policy.specs.declared.facts.ListenFacts.{ListenFacts}
 use Rattle.radio_policy.specs.Table.{source_rows, push_rows, listen_rows}
 use Rattle.radio_policy.specs.Verdicts.{verdict_in}
 use Rattle.radio_addr.specs.declared.peer.Peer.{Peer}
@@ -13,20 +13,21 @@ use Rattle.radio_settings.specs.MountName.{is_mount_name}
 use Rattle.radio_settings.specs.Options.{options_for}
 use Rattle.radio_access.specs.Lists.{lets_in}
 use Rattle.radio_access.specs.ContentTypes.{is_refused_type}
+use Rattle.radio_access.specs.SourcePair.{is_source_pair}
 use Rattle.radio_tables.specs.Lists.{Each}
 use Rattle.radio_tables.specs.FindLaws.{found_has}
 use Rattle.radio_seats.specs.declared.seat.Seat.{Seat}
 use Rattle.radio_seats.specs.Seats.{seat_of}
-use Rattle.radio_seats.specs.Walk.{Sight, found_at, landing, stop_in}
-use Rattle.radio_core.specs.declared.event.SourceRequest.{SourceRequest}
-use Rattle.radio_core.specs.declared.event.ListenRequest.{ListenRequest}
-use Rattle.radio_core.specs.declared.event.Event.{Event}
-use Rattle.radio_core.specs.declared.event.Event.TheVariants.{Arrive, Source, Push, SourceEnd, Title, Listen, Draw, Leave, Clock}
+use Rattle.radio_fallback.specs.Walk.{Sight, found_at, landing, stop_in}
+use Rattle.radio_events.specs.declared.event.SourceRequest.{SourceRequest}
+use Rattle.radio_events.specs.declared.event.ListenRequest.{ListenRequest}
+use Rattle.radio_events.specs.declared.event.Event.{Event}
+use Rattle.radio_events.specs.declared.event.Event.TheVariants.{Arrive, Source, Push, SourceEnd, Title, Listen, Draw, Leave, Clock}
 use Rattle.radio_core.specs.declared.house.House.{House}
 use Rattle.radio_core.specs.declared.outcome.Change.TheVariants.{Nothing, Answer, TakeSeat, Advance}
-use Rattle.radio_core.specs.declared.reply.Reply.TheVariants.{Seated, Drawn}
+use Rattle.radio_events.specs.declared.reply.Reply.TheVariants.{Seated, Drawn}
 use Rattle.radio_core.specs.Draw.{hands_out, hands_out_at}
-use Rattle.radio_core.specs.Facts.{largest_number, is_full, asker_of, session_at, is_live, is_in_settings, is_source_of, sight_of, source_facts, listen_facts}
+use Rattle.radio_core.specs.Facts.{largest_number, is_full, is_in_settings, sight_of, source_facts, listen_facts}
 use Rattle.radio_core.specs.Kept.{kept_session, kept_of}
 use Rattle.radio_core.specs.Listen.{burst_of, interval_for, first_seat, takes_seat}
 use Rattle.radio_core.specs.Outcomes.{says, on_verdict, if_undecided, if_feeding, if_sitting}
@@ -56,31 +57,17 @@ module _ (w : World) (rise : Each HasRisingStarts w.house.live) (kept : SeatsAre
   found_rises : (mount : List ℕ) (session : Session) → session_of w.house.live mount ≡ Some session → HasRisingStarts session
   found_rises mount session e = found_has (is_of mount) HasRisingStarts w.house.live session rise e
 
-  -- the session of a path
-  at_name : (path : List ℕ) (named : Bool) → (if named then session_of kept_house.live path else None)
-      ≡ option_map (kept_session queue) (if named then session_of w.house.live path else None)
-  at_name path true = kept_found queue w.house.live path
-  at_name path false = refl
-
-  at_path : (path : List ℕ) → session_at kept_house path ≡ option_map (kept_session queue) (session_at w.house path)
-  at_path path = at_name path (is_mount_name path)
-
-  named_rises : (path : List ℕ) (named : Bool) (session : Session) → (if named then session_of w.house.live path else None) ≡ Some session
-      → HasRisingStarts session
-  named_rises path true session e = found_rises path session e
-  named_rises path false session e = cc
-
   -- a source asks
   feed_facts : (asked : SourceRequest) → source_facts kept_house asked ≡ source_facts w.house asked
   feed_facts asked =
-      let facts : ℕ → Bool → Facts = λ count live. record NONE {
-        is_source_pair = is_source_of w.house asked.mount asked.pair;
+      let facts : ℕ → Bool → Option SourceFacts = λ count live. (if is_mount_name asked.mount then Some (record {
+        is_source_pair = is_source_pair w.house.settings asked.mount asked.pair;
         sources_are_full = is_full count w.house.settings.limits.sources;
         mount_is_live = live;
         type_is_refused = is_refused_type asked.shown.content_type;
-      } in
-      ap (λ (count : ℕ). facts count (is_live kept_house asked.mount)) (length-map w.house.live (kept_session queue))
-      ∙ ap (facts (length w.house.live)) (ap is_some (at_path asked.mount) ∙ is_some_mapped (kept_session queue) (session_at w.house asked.mount))
+      }) else None) in
+      ap (λ (count : ℕ). facts count (is_some (session_of kept_house.live asked.mount))) (length-map w.house.live (kept_session queue))
+      ∙ ap (facts (length w.house.live)) (has_session asked.mount)
 
   -- a listener asks
   same_sight : sight_of kept_house ≡ sight_of w.house
@@ -93,13 +80,13 @@ module _ (w : World) (rise : Each HasRisingStarts w.house.live) (kept : SeatsAre
 
   hear_facts : (asked : ListenRequest) → listen_facts kept_house w.seats asked ≡ listen_facts w.house w.seats asked
   hear_facts asked =
-      let facts : Sight → Bool → Facts = λ sight live.
-      (if is_mount_name asked.mount then record NONE {
+      let facts : Sight → Bool → Option ListenFacts = λ sight live.
+      (if is_mount_name asked.mount then Some (record {
         mount_is_known = is_in_settings w.house.settings asked.mount || live;
         users_accept = (found_at sight w.seats asked.mount asked.pair).users_accept;
         user_is_twice = (found_at sight w.seats asked.mount asked.pair).user_is_twice;
         walk_stops = stop_in (landing sight w.seats asked.pair asked.mount);
-      } else NONE) in
+      }) else None) in
       ap (λ (sight : Sight). facts sight (is_some (session_of kept_house.live asked.mount))) same_sight
       ∙ ap (facts (sight_of w.house)) (has_session asked.mount)
 
@@ -112,10 +99,10 @@ module _ (w : World) (rise : Each HasRisingStarts w.house.live) (kept : SeatsAre
       (kept_burst queue (burst_of w.house session.mount) session.stream (omega arith) (rises session refl))
 
   hears_alike : (asked : ListenRequest) (peer : Peer)
-      → takes_seat kept_house asked peer (session_at kept_house asked.mount) ≡ takes_seat w.house asked peer (session_at w.house asked.mount)
+      → takes_seat kept_house asked peer (session_of kept_house.live asked.mount) ≡ takes_seat w.house asked peer (session_of w.house.live asked.mount)
   hears_alike asked peer =
-      ap (takes_seat kept_house asked peer) (at_path asked.mount)
-      ∙ sits_alike asked peer (session_at w.house asked.mount) (named_rises asked.mount (is_mount_name asked.mount))
+      ap (takes_seat kept_house asked peer) (kept_found queue w.house.live asked.mount)
+      ∙ sits_alike asked peer (session_of w.house.live asked.mount) (found_rises asked.mount)
 
   -- a listener draws
   hands_alike : (id room : ℕ) (seat : Seat) → seat_of w.seats id ≡ Some seat → (found : Option Session) → session_of w.house.live seat.mount ≡ found
@@ -135,20 +122,20 @@ module _ (w : World) (rise : Each HasRisingStarts w.house.live) (kept : SeatsAre
   unfolding outcome
   outcome_kept (Arrive peer) = refl
   outcome_kept (Source asked) =
-      ap (λ (facts : Facts). if_undecided (standing_of w asked.id) (λ _.
-      on_verdict (verdict_in (source_rows facts (asker_of asked.mount))) (Answer asked.id) (begins w.house asked))) (feed_facts asked)
+      ap (λ (facts : Option SourceFacts). if_undecided (standing_of w asked.id) (λ _.
+      on_verdict (verdict_in (source_rows facts)) (Answer asked.id) (begins w.house asked))) (feed_facts asked)
   outcome_kept (Push id block) =
       ap (if_feeding (standing_of w id)) (fun_ext (λ mount.
-      ap (λ (end : ℕ). on_verdict (verdict_in (push_rows (record NONE { number_is_spent = nat_lt largest_number (end + length block) }))) Nothing
+      ap (λ (end : ℕ). on_verdict (verdict_in (push_rows (record { number_is_spent = nat_lt largest_number (end + length block) }))) Nothing
       (takes_in mount block)) (kept_ends queue w.house.live mount rise)))
   outcome_kept (SourceEnd id) = refl
   outcome_kept (Title id text) = refl
   outcome_kept (Listen asked) =
-      ap (λ (facts : Facts). if_undecided (standing_of w asked.id) (λ peer.
-      on_verdict (verdict_in (listen_rows facts (asker_of asked.mount))) (Answer asked.id)
-      (takes_seat kept_house asked peer (session_at kept_house asked.mount)))) (hear_facts asked)
+      ap (λ (facts : Option ListenFacts). if_undecided (standing_of w asked.id) (λ peer.
+      on_verdict (verdict_in (listen_rows facts)) (Answer asked.id)
+      (takes_seat kept_house asked peer (session_of kept_house.live asked.mount)))) (hear_facts asked)
       ∙ ap (if_undecided (standing_of w asked.id)) (fun_ext (λ peer.
-      ap (on_verdict (verdict_in (listen_rows (listen_facts w.house w.seats asked) (asker_of asked.mount))) (Answer asked.id)) (hears_alike asked peer)))
+      ap (on_verdict (verdict_in (listen_rows (listen_facts w.house w.seats asked))) (Answer asked.id)) (hears_alike asked peer)))
   outcome_kept (Draw id room) = ap (if_sitting (standing_of w id)) (draws_alike id room (seat_of w.seats id) refl)
   outcome_kept (Leave id) = refl
   outcome_kept (Clock ms) = refl

@@ -7,7 +7,7 @@ use Rattle.radio_tables.specs.Lists.{Each}
 use Rattle.radio_tables.specs.FindLaws.{found_has}
 use Rattle.radio_seats.specs.declared.seat.Seat.{Seat}
 use Rattle.radio_seats.specs.Seats.{seat_of}
-use Rattle.radio_core.specs.declared.event.Event.{Event}
+use Rattle.radio_events.specs.declared.event.Event.{Event}
 use Rattle.radio_core.specs.Changes.{changed}
 use Rattle.radio_core.specs.Kept.{first_start, kept_from, kept_session, kept_live}
 use Rattle.radio_core.specs.Lagging.{EachSeat, NobodyLags}

@@ -17,8 +17,8 @@ use Rattle.radio_seats.specs.declared.seat.Seat.{Seat}
 use Rattle.radio_seats.specs.EndLaws.{had_seat, kept_seat}
 use Rattle.radio_seats.specs.Seats.{seat_of, seat_in, with_seat, with_place, without_listener}
 use Rattle.radio_seats.specs.SeatLaws.{beside_moved, beside_left, beside_seated, is_no_listener, has_sat_down, has_heard, sits_still}
-use Rattle.radio_core.specs.declared.event.Event.{Event}
-use Rattle.radio_core.specs.declared.event.ListenRequest.{ListenRequest}
+use Rattle.radio_events.specs.declared.event.Event.{Event}
+use Rattle.radio_events.specs.declared.event.ListenRequest.{ListenRequest}
 use Rattle.radio_core.specs.declared.outcome.Change.TheVariants.{Begin, Receive, SetTitle, TakeSeat, Advance, End, EndAndLeave, Forget}
 use Rattle.radio_core.specs.declared.outcome.Outcome.{Outcome}
 use Rattle.radio_core.specs.Changes.{changed, received, session_ended, timed_out_by, durations_over, first_silent, session_silenced, on_silent, silence, ticked}

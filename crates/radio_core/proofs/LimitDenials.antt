@@ -1,5 +1,6 @@
 -- a listener is denied by a limit only where the limit is reached
 use Rattle.std.proofs.Common.{◌≡◌, inl, inr, Bool, true, false, ℕ, ◌||◌, ◌&&◌, not, Option, Some, None, List, [], ◌∷◌, length, refl, ap, sym, ◌∙◌, arith}
+use Rattle.std.specs.Prelude.{if◌then◌else◌}
 use Rattle.std.specs.List.{list_any}
 use Rattle.std.proofs.lemmas.Bool.Decides.{nat_tests}
 use Rattle.std.proofs.lemmas.Slice.Eq.{bytes_eq-Decides}
@@ -7,22 +8,23 @@ use Rattle.radio_creds.specs.Credentials.{Credentials}
 use Rattle.radio_policy.specs.declared.judgement.Verdict.TheVariants.{Deny as Denied}
 use Rattle.radio_policy.specs.declared.rule.Rule.{Rule}
 use Rattle.radio_policy.specs.declared.rule.Rule.TheVariants.{MountFull, UserTwice}
-use Rattle.radio_policy.specs.Table.{Row}
+use Rattle.radio_policy.specs.Table.{Row, source_rows}
 use Rattle.radio_policy.specs.Verdicts.{verdict_in}
 use Rattle.radio_settings.specs.MountName.{is_mount_name}
 use Rattle.radio_tables.specs.Lists.{Each, Has}
 use Rattle.radio_seats.specs.declared.seat.Listener.{Listener}
-use Rattle.radio_seats.specs.declared.walk.Found.{Found}
+use Rattle.radio_fallback.specs.declared.walking.Found.{Found}
 use Rattle.radio_seats.specs.Seats.{seats_at, is_user_at}
-use Rattle.radio_seats.specs.Walk.{is_full, sits_already}
-use Rattle.radio_core.specs.declared.event.Event.{Event}
-use Rattle.radio_core.specs.declared.event.Event.TheVariants.{Arrive, Source, Push, SourceEnd, Title, Listen, Draw, Leave, Clock}
-use Rattle.radio_core.specs.declared.event.ListenRequest.{ListenRequest}
+use Rattle.radio_fallback.specs.Walk.{is_full, sits_already}
+use Rattle.radio_events.specs.declared.event.Event.{Event}
+use Rattle.radio_events.specs.declared.event.Event.TheVariants.{Arrive, Source, Push, SourceEnd, Title, Listen, Draw, Leave, Clock}
+use Rattle.radio_events.specs.declared.event.SourceRequest.{SourceRequest}
+use Rattle.radio_events.specs.declared.event.ListenRequest.{ListenRequest}
 use Rattle.radio_core.specs.declared.outcome.Outcome.{Outcome}
-use Rattle.radio_core.specs.declared.reply.Reply.TheVariants.{Deny}
+use Rattle.radio_events.specs.declared.reply.Reply.TheVariants.{Deny}
 use Rattle.radio_core.specs.declared.standing.Standing.{Standing}
 use Rattle.radio_core.specs.declared.standing.Standing.TheVariants.{Unknown, Undecided, Feeds, Sits, Answered, Finished}
-use Rattle.radio_core.specs.Facts.{is_known}
+use Rattle.radio_core.specs.Facts.{is_known, source_facts_at}
 use Rattle.radio_core.specs.Limits.{IsFullAt, HasUserAt, DeniesByLimits, most_at, allows_duplicates_at}
 use Rattle.radio_core.specs.Step.{outcome, reply_to}
 use Rattle.radio_core.specs.Ways.{Way, Misplaced, IsFinished, IsDenied, IsRefused, IsAdmitted, Begins, Receives, SetsTitle, TakesSeat, HandsOut, Ends}
@@ -113,19 +115,26 @@ module _ (w : World) where
   no_limit_from block Answered = tt
   no_limit_from block (Finished by) = tt
 
+  -- nor what it asks for
+  no_limit_to_feed : (asked : SourceRequest) (named : Bool)
+      → Each (λ row. is_limit row.rule ≡ false) (source_rows (if named then Some (source_facts_at w.house asked.mount asked) else None))
+  no_limit_to_feed asked true = (refl, (refl, (refl, (refl, tt))))
+  no_limit_to_feed asked false = (refl, tt)
+
   -- the limits deny only who wants to hear a mount
   only_listeners : {A : Type 0} (rule : Rule) → is_limit rule ≡ true → (event : Event) → verdict_in (rows_for w event) ≡ Denied rule
       → ((asked : ListenRequest) → event ≡ Listen asked → verdict_in (rows_for w (Listen asked)) ≡ Denied rule → A) → A
-  only_listeners rule limit (Listen asked) v then = then asked refl v
-  only_listeners rule limit (Arrive peer) v then = absurd (no_limit (rows_for w (Arrive peer)) (refl, (refl, (refl, (refl, tt)))) rule v limit)
-  only_listeners rule limit (Source asked) v then = absurd (no_limit (rows_for w (Source asked)) (refl, (refl, (refl, (refl, (refl, tt))))) rule v limit)
-  only_listeners rule limit (Push id block) v then =
+  only_listeners rule limit (Listen asked) v goes = goes asked refl v
+  only_listeners rule limit (Arrive peer) v goes = absurd (no_limit (rows_for w (Arrive peer)) (refl, (refl, (refl, (refl, tt)))) rule v limit)
+  only_listeners rule limit (Source asked) v goes =
+      absurd (no_limit (rows_for w (Source asked)) (no_limit_to_feed asked (is_mount_name asked.mount)) rule v limit)
+  only_listeners rule limit (Push id block) v goes =
       absurd (no_limit (rows_from w.house block (standing_of w id)) (no_limit_from block (standing_of w id)) rule v limit)
-  only_listeners rule limit (SourceEnd id) v then = cc
-  only_listeners rule limit (Title id text) v then = cc
-  only_listeners rule limit (Draw id room) v then = cc
-  only_listeners rule limit (Leave id) v then = cc
-  only_listeners rule limit (Clock ms) v then = cc
+  only_listeners rule limit (SourceEnd id) v goes = cc
+  only_listeners rule limit (Title id text) v goes = cc
+  only_listeners rule limit (Draw id room) v goes = cc
+  only_listeners rule limit (Leave id) v goes = cc
+  only_listeners rule limit (Clock ms) v goes = cc
 
   abbrev DeniesWhere : Event → (ListenRequest → Type 0) → Type 0
   DeniesWhere event P = (asked : ListenRequest) × (event ≡ Listen asked) × P asked
@@ -151,21 +160,21 @@ module _ (w : World) where
   -- only a verdict of the policy denies
   denied_by : {A : Type 0} (rule : Rule) (event : Event) (o : Outcome) → Way w event o → o.reply ≡ Deny rule
       → (verdict_in (rows_for w event) ≡ Denied rule → A) → A
-  denied_by rule event o (IsDenied _ by v nobody) d then = let same : by ≡ rule = cc in then (v ∙ ap (λ (r : Rule). Denied r) same)
-  denied_by rule event o (IsRefused _ him by v his undecided) d then = let same : by ≡ rule = cc in then (v ∙ ap (λ (r : Rule). Denied r) same)
-  denied_by rule event o (Misplaced _) d then = cc
-  denied_by rule event o (IsFinished _ him by his told) d then = cc
-  denied_by rule event o (IsAdmitted peer allowed) d then = cc
-  denied_by rule event o (Begins asked undecided none) d then = cc
-  denied_by rule event o (Receives him mount block feeding) d then = cc
-  denied_by rule event o (SetsTitle him mount text feeding) d then = cc
-  denied_by rule event o (HasPassed ms e) d then = cc
-  denied_by rule event o (Ticks ms e) d then = cc
-  denied_by rule event o (TakesSeat asked peer session undecided live allowed) d then = cc
-  denied_by rule event o (HandsOut him room seat session sits has live) d then = cc
-  denied_by rule event o (Ends him mount feeding) d then = cc
-  denied_by rule event o (EndsAndLeaves him mount feeding) d then = cc
-  denied_by rule event o (Leaves him other) d then = cc
+  denied_by rule event o (IsDenied _ by v nobody) d goes = let same : by ≡ rule = cc in goes (v ∙ ap (λ (r : Rule). Denied r) same)
+  denied_by rule event o (IsRefused _ him by v his undecided) d goes = let same : by ≡ rule = cc in goes (v ∙ ap (λ (r : Rule). Denied r) same)
+  denied_by rule event o (Misplaced _) d goes = cc
+  denied_by rule event o (IsFinished _ him by his told) d goes = cc
+  denied_by rule event o (IsAdmitted peer allowed) d goes = cc
+  denied_by rule event o (Begins asked undecided none) d goes = cc
+  denied_by rule event o (Receives him mount block feeding) d goes = cc
+  denied_by rule event o (SetsTitle him mount text feeding) d goes = cc
+  denied_by rule event o (HasPassed ms e) d goes = cc
+  denied_by rule event o (Ticks ms e) d goes = cc
+  denied_by rule event o (TakesSeat asked peer session undecided live allowed) d goes = cc
+  denied_by rule event o (HandsOut him room seat session sits has live) d goes = cc
+  denied_by rule event o (Ends him mount feeding) d goes = cc
+  denied_by rule event o (EndsAndLeaves him mount feeding) d goes = cc
+  denied_by rule event o (Leaves him other) d goes = cc
 
   pub limits_deny : (event : Event) → DeniesByLimits w event
   unfolding reply_to

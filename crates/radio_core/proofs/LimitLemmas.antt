@@ -13,9 +13,9 @@ use Rattle.radio_seats.specs.declared.seat.Seat.{Seat}
 use Rattle.radio_seats.specs.Seats.{seats_at, count_at, SitsAs, has_user, sits_there}
 use Rattle.radio_seats.specs.CountLaws.{NobodyCame, nobody_came, nobody_came_twice, nobody_came_hearing, nobody_came_finishing, nobody_came_leaving}
 use Rattle.radio_seats.specs.CountLaws.{one_more_at, no_more_elsewhere, nobody_sits_as}
-use Rattle.radio_seats.specs.Walk.{is_full, sits_already}
-use Rattle.radio_core.specs.declared.event.Event.{Event}
-use Rattle.radio_core.specs.declared.event.ListenRequest.{ListenRequest}
+use Rattle.radio_fallback.specs.Walk.{is_full, sits_already}
+use Rattle.radio_events.specs.declared.event.Event.{Event}
+use Rattle.radio_events.specs.declared.event.ListenRequest.{ListenRequest}
 use Rattle.radio_core.specs.declared.outcome.Outcome.{Outcome}
 use Rattle.radio_core.specs.declared.outcome.Change.TheVariants.{TakeSeat}
 use Rattle.radio_core.specs.declared.standing.Standing.TheVariants.{Undecided}
@@ -154,7 +154,7 @@ module _ (w : World) (s : IsSound w) (l : IsWithinLimits w) where
   within_by event o (HasPassed ms e) = l
   within_by event o (Ticks ms e) = within_still (changed w o.change) (ticked_fates w s ms).settings (nobody_came_ticking w ms)
   within_by event o (SetsTitle him mount text feeding) = within_still (changed w o.change) refl (nobody_came w.seats)
-  within_by event o (TakesSeat asked peer session undecided live allowed) = within_seated asked peer session undecided live (may_listen w asked allowed).1
+  within_by event o (TakesSeat asked peer session undecided live allowed) = within_seated asked peer session undecided live (may_listen w asked allowed)
   within_by event o (HandsOut him room old session sits has live) = within_still (changed w o.change) refl (nobody_came_hearing w.seats him _ old has)
   within_by event o (Ends him mount feeding) = within_still (changed w o.change) refl (nobody_came_finishing w.seats mount _)
   within_by event o (EndsAndLeaves him mount feeding) =

@@ -4,9 +4,9 @@ use Rattle.radio_addr.specs.declared.peer.Peer.{Peer}
 use Rattle.radio_settings.specs.declared.settings.Settings.{Settings}
 use Rattle.radio_access.specs.Lists.{Lists, passes, lets_in}
 use Rattle.radio_tables.specs.KeyLaws.{by_number}
-use Rattle.radio_core.specs.declared.event.Event.{Event}
-use Rattle.radio_core.specs.declared.event.Event.TheVariants.{Push, Clock}
-use Rattle.radio_core.specs.declared.event.ListenRequest.{ListenRequest}
+use Rattle.radio_events.specs.declared.event.Event.{Event}
+use Rattle.radio_events.specs.declared.event.Event.TheVariants.{Push, Clock}
+use Rattle.radio_events.specs.declared.event.ListenRequest.{ListenRequest}
 use Rattle.radio_core.specs.declared.outcome.Outcome.{Outcome}
 use Rattle.radio_core.specs.declared.outcome.Change.TheVariants.{TakeSeat, Advance, Forget}
 use Rattle.radio_seats.specs.declared.seat.Seat.{Seat}
@@ -100,7 +100,7 @@ module _ (w : World) (s : IsSound w) (k : KeepsLists w) where
   seated_by event o (Ticks ms e) id seat h = k.seated id seat (sits_on_still w (ticked w ms) (Clock ms) s (ticked_fates w s ms) id seat h).0
   seated_by event o (SetsTitle him mount text feeding) id seat h = k.seated id seat h
   seated_by event o (TakesSeat asked peer session undecided live allowed) id seat h =
-      seated_new asked peer session undecided live (may_listen w asked allowed).1.accepts id seat h
+      seated_new asked peer session undecided live (may_listen w asked allowed).accepts id seat h
   seated_by event o (HandsOut him room old session sits has live) id seat h = seated_further him room old session sits has live id seat h
   seated_by event o (Ends him mount feeding) id seat h = k.seated id seat (still_sits w mount id seat h).had_a_seat
   seated_by event o (EndsAndLeaves him mount feeding) id seat h =

@@ -1,7 +1,7 @@
 -- whoever has lost his seat has left by it, or was finished
 use Rattle.std.proofs.Common.{◌≡◌, inl, inr, ℕ, Some, None, ap, ◌∙◌}
-use Rattle.radio_core.specs.declared.event.Event.{Event}
-use Rattle.radio_core.specs.declared.event.Event.TheVariants.{Leave}
+use Rattle.radio_events.specs.declared.event.Event.{Event}
+use Rattle.radio_events.specs.declared.event.Event.TheVariants.{Leave}
 use Rattle.radio_core.specs.declared.outcome.Outcome.{Outcome}
 use Rattle.radio_core.specs.declared.standing.Standing.TheVariants.{Unknown, Sits}
 use Rattle.radio_policy.specs.declared.rule.Rule.{Rule}
@@ -13,7 +13,8 @@ use Rattle.radio_core.specs.Others.{StandsOn, LosesNoSeatElse}
 use Rattle.radio_core.specs.Sound.{IsSound}
 use Rattle.radio_core.specs.Step.{outcome, world_after}
 use Rattle.radio_core.specs.Ways.{Way, Misplaced, IsFinished, IsDenied, IsRefused, IsAdmitted, Begins, Receives, SetsTitle, TakesSeat, HandsOut, Ends}
-use Rattle.radio_core.specs.Ways.{EndsAndLeaves, Leaves, HasPassed, Ticks, client_in}
+use Rattle.radio_core.specs.Ways.{EndsAndLeaves, Leaves, HasPassed, Ticks}
+use Rattle.radio_events.specs.Events.{client_in}
 use Rattle.radio_core.specs.World.{World, standing_of}
 use Rattle.radio_core.proofs.FinishLemmas.{others_hold}
 use Rattle.radio_core.proofs.GoneLemmas.{by_own}

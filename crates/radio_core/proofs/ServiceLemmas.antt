@@ -6,19 +6,19 @@ use Rattle.radio_policy.specs.Table.{Row}
 use Rattle.radio_policy.specs.Verdicts.{verdict_in, Allows}
 use Rattle.radio_addr.specs.declared.peer.Peer.{Peer}
 use Rattle.radio_settings.specs.declared.field.Shown.{Shown}
-use Rattle.radio_core.specs.declared.event.Event.{Event}
-use Rattle.radio_core.specs.declared.event.Event.TheVariants.{Arrive, Source, Push, Listen, Draw}
-use Rattle.radio_core.specs.declared.event.SourceRequest.{SourceRequest}
-use Rattle.radio_core.specs.declared.event.ListenRequest.{ListenRequest}
+use Rattle.radio_events.specs.declared.event.Event.{Event}
+use Rattle.radio_events.specs.declared.event.Event.TheVariants.{Arrive, Source, Push, Listen, Draw}
+use Rattle.radio_events.specs.declared.event.SourceRequest.{SourceRequest}
+use Rattle.radio_events.specs.declared.event.ListenRequest.{ListenRequest}
 use Rattle.radio_core.specs.declared.outcome.Change.{Change}
 use Rattle.radio_core.specs.declared.outcome.Outcome.{Outcome}
-use Rattle.radio_core.specs.declared.reply.Reply.TheVariants.{Arrived, Feeding, Seated}
+use Rattle.radio_events.specs.declared.reply.Reply.TheVariants.{Arrived, Feeding, Seated}
 use Rattle.radio_seats.specs.declared.seat.Seat.{Seat}
 use Rattle.radio_core.specs.declared.standing.Standing.{Standing}
 use Rattle.radio_core.specs.declared.standing.Standing.TheVariants.{Unknown, Undecided, Feeds, Sits}
 use Rattle.radio_core.specs.World.{World, standing_of}
 use Rattle.radio_core.specs.Changes.{changed}
-use Rattle.radio_core.specs.Facts.{session_at, rows_to_arrive, rows_to_feed, rows_to_push, rows_to_listen}
+use Rattle.radio_core.specs.Facts.{rows_to_arrive, rows_to_feed, rows_to_push, rows_to_listen}
 use Rattle.radio_core.specs.Outcomes.{on_verdict, if_undecided, if_feeding, if_sitting}
 use Rattle.radio_core.specs.Arrive.{admits_client}
 use Rattle.radio_core.specs.Source.{shown_for, begins}
@@ -36,7 +36,7 @@ use Rattle.radio_core.specs.Ways.{EndsAndLeaves, Leaves, HasPassed, Ticks, IsUnd
 use Rattle.radio_core.proofs.FinishLemmas.{finished_told}
 use Rattle.radio_core.proofs.SeatedLemmas.{seat_of_sitting}
 use Rattle.radio_core.proofs.Standings.{turns_feeding, turns_sitting, turns_admitted}
-use Rattle.radio_core.proofs.Ways.{way_of, found_at_path, may_listen}
+use Rattle.radio_core.proofs.Ways.{way_of, may_listen}
 
 is_allowed : (v : Verdict) (denied : Change) (allowed : Outcome) → v ≡ Allow → on_verdict v denied allowed ≡ allowed
 is_allowed Allow denied allowed e = refl
@@ -76,12 +76,12 @@ module _ (allows : (rows : List Row) → (verdict_in rows ≡ Allow) ↔ Allows 
       ∙ is_allowed (verdict_in (rows_to_push w.house mount block)) _ (takes_in mount block) ((allows (rows_to_push w.house mount block)).1 a)
 
   outcome_listen : (asked : ListenRequest) (peer : Peer) (session : Session) → standing_of w asked.id ≡ Undecided peer
-      → verdict_in (rows_to_listen w asked) ≡ Allow → session_at w.house asked.mount ≡ Some session
+      → verdict_in (rows_to_listen w asked) ≡ Allow → session_of w.house.live asked.mount ≡ Some session
       → outcome w (Listen asked) ≡ takes_seat w.house asked peer (Some session)
   unfolding outcome
   outcome_listen asked peer session e v found =
       goes_undecided (standing_of w asked.id) peer _ e
-      ∙ is_allowed (verdict_in (rows_to_listen w asked)) _ (takes_seat w.house asked peer (session_at w.house asked.mount)) v
+      ∙ is_allowed (verdict_in (rows_to_listen w asked)) _ (takes_seat w.house asked peer (session_of w.house.live asked.mount)) v
       ∙ ap (takes_seat w.house asked peer) found
 
   outcome_draw : (id room : ℕ) (seat : Seat) (session : Session) → standing_of w id ≡ Sits → seat_of w.seats id ≡ Some seat
@@ -104,11 +104,11 @@ module _ (allows : (rows : List Row) → (verdict_in rows ≡ Allow) ↔ Allows 
   received : (asked : ListenRequest) (peer : Peer) → standing_of w asked.id ≡ Undecided peer → Allows (rows_to_listen w asked) → IsTakenIn w asked
   received asked peer e a =
       let v = (allows (rows_to_listen w asked)).1 a in
-      let there = found_there (session_at w.house asked.mount) (may_listen w asked v).0 in
+      let there = found_there (session_of w.house.live asked.mount) (may_listen w asked v).lives in
       let o = outcome_listen asked peer there.0 e v there.1 in
       record {
         session = there.0;
-        is_live = found_at_path w asked.mount there.0 there.1;
+        is_live = there.1;
         is_shown = reply_is (Listen asked) (takes_seat w.house asked peer (Some there.0)) o;
         sits = after_outcome (Listen asked) (takes_seat w.house asked peer (Some there.0)) asked.id Sits o
             (turns_sitting w asked.id (first_seat w.house asked peer there.0) (λ u. cc)).his;

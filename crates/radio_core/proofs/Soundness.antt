@@ -6,7 +6,7 @@ use Rattle.radio_addr.specs.declared.peer.Peer.{Peer}
 use Rattle.radio_tables.specs.Lists.{Each}
 use Rattle.radio_tables.specs.FindLaws.{found_has}
 use Rattle.radio_tables.specs.KeyLaws.{by_number}
-use Rattle.radio_core.specs.declared.event.ListenRequest.{ListenRequest}
+use Rattle.radio_events.specs.declared.event.ListenRequest.{ListenRequest}
 use Rattle.radio_core.specs.declared.outcome.Change.TheVariants.{Answer, Admit, TakeSeat, Forget}
 use Rattle.radio_seats.specs.declared.seat.Seat.{Seat}
 use Rattle.radio_core.specs.declared.standing.Standing.{Standing}

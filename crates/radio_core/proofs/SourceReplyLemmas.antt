@@ -16,8 +16,8 @@ use Rattle.radio_core.specs.declared.clients.Client.{Client}
 use Rattle.radio_core.specs.declared.clients.ClientState.{ClientState}
 use Rattle.radio_core.specs.declared.clients.ClientState.TheVariants.{Undecided, Feeds, Listens, Answered, Ended}
 use Rattle.radio_core.specs.declared.house.House.{House}
-use Rattle.radio_core.specs.declared.reply.Reply.{Reply}
-use Rattle.radio_core.specs.declared.reply.Reply.TheVariants.{Noted, Deny, Finished, Stray}
+use Rattle.radio_events.specs.declared.reply.Reply.{Reply}
+use Rattle.radio_events.specs.declared.reply.Reply.TheVariants.{Noted, Deny, Finished, Stray}
 use Rattle.radio_core.specs.declared.standing.Standing.{Standing}
 use Rattle.radio_core.specs.declared.standing.Standing.TheVariants.{Unknown, Undecided as IsUndecided, Feeds as IsFeeding, Sits}
 use Rattle.radio_core.specs.declared.standing.Standing.TheVariants.{Answered as IsAnswered, Finished as IsFinished}

@@ -1,22 +1,23 @@
 -- one step of the core; the end of a session and of a connection need no memory
 use Rattle.std.specs.Prelude.{if◌then◌else◌, nat_lt}
 use Rattle.std.proofs.Common.{◌≡◌, Bool, true, false, ℕ, List, [], ◌∷◌, Some, Result, Ok, Err, OnOk, OnErr, IfOk, ◌≤◌, refl, ap, sym, subst, ◌∙◌}
-use Rattle.radio_core.specs.declared.event.Event.{Event}
-use Rattle.radio_core.specs.declared.event.Event.TheVariants.{Arrive, Source, Push, SourceEnd, Title, Listen, Draw, Leave, Clock}
+use Rattle.radio_events.specs.declared.event.Event.{Event}
+use Rattle.radio_events.specs.declared.event.Event.TheVariants.{Arrive, Source, Push, SourceEnd, Title, Listen, Draw, Leave, Clock}
 use Rattle.radio_core.specs.declared.outcome.Outcome.{Outcome}
 use Rattle.radio_core.specs.declared.standing.Standing.{Standing}
 use Rattle.radio_core.specs.declared.standing.Standing.TheVariants.{Unknown, Undecided, Feeds, Sits, Answered, Finished}
-use Rattle.radio_core.specs.declared.reply.Reply.{Reply}
-use Rattle.radio_core.specs.declared.reply.Reply.TheVariants.{Noted}
+use Rattle.radio_events.specs.declared.reply.Reply.{Reply}
+use Rattle.radio_events.specs.declared.reply.Reply.TheVariants.{Noted}
 use Rattle.radio_core.specs.declared.outcome.Change.TheVariants.{Nothing, End, Tick}
 use Rattle.radio_core.specs.Leave.{leaves_from}
 use Rattle.radio_core.specs.Outcomes.{says, if_feeding}
-use Rattle.radio_core.specs.Replies.{HoldsNoText}
+use Rattle.radio_events.specs.Replies.{HoldsNoText}
 use Rattle.radio_core.specs.Changes.{changed}
 use Rattle.radio_core.specs.Kept.{first_start}
 use Rattle.radio_core.specs.KeptChanges.{kept_changed}
 use Rattle.radio_core.specs.Sessions.{Session, session_of}
-use Rattle.radio_core.specs.Step.{outcome, reply_to, world_after, Step, Represents, StandsForSome, NeedsNoMemory, TakesNoMemory}
+use Rattle.radio_core.specs.Step.{outcome, reply_to, world_after, Step, Represents, StandsForSome, NeedsNoMemory}
+use Rattle.radio_events.specs.Events.{TakesNoMemory}
 use Rattle.radio_core.specs.Stream.{end_of}
 use Rattle.radio_core.specs.World.{World, opening, standing_of}
 use Rattle.radio_settings.specs.declared.settings.Settings.{Settings}

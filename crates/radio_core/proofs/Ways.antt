@@ -2,35 +2,32 @@
 use Rattle.std.proofs.Common.{◌≡◌, true, false, ℕ, Bool, ◌==◌, not, ◌&&◌, Option, Some, None, is_some, List, [], ◌∷◌, refl, ap, sym, ◌∙◌}
 use Rattle.std.specs.Prelude.{if◌then◌else◌, nat_lt}
 use Rattle.radio_policy.specs.declared.rule.Rule.{Rule}
-use Rattle.radio_policy.specs.declared.rule.Rule.TheVariants.{AddressDenied, AddressNotAllowed, TooManyClients, BadMount, SourcePassword}
-use Rattle.radio_policy.specs.declared.rule.Rule.TheVariants.{TooManySources, MountInUse}
-use Rattle.radio_policy.specs.declared.rule.Rule.TheVariants.{ContentType, NumbersSpent}
+use Rattle.radio_policy.specs.declared.rule.Rule.TheVariants.{AddressDenied, AddressNotAllowed, TooManyClients, NumbersSpent}
 use Rattle.radio_policy.specs.declared.judgement.Verdict.{Verdict}
 use Rattle.radio_policy.specs.declared.judgement.Verdict.TheVariants.{Allow, Deny as Denied}
-use Rattle.radio_policy.specs.declared.facts.Facts.{Facts}
-use Rattle.radio_policy.specs.declared.facts.TheConstants.Facts.{NONE}
-use Rattle.radio_policy.specs.Table.{Row, row, listen_rows}
+use Rattle.radio_policy.specs.declared.facts.ListenFacts.{ListenFacts}
+use Rattle.radio_policy.specs.Table.{Row, row, source_rows, listen_rows}
 use Rattle.radio_policy.specs.Verdicts.{verdict_in}
 use Rattle.radio_addr.specs.declared.peer.Peer.{Peer}
 use Rattle.radio_settings.specs.MountName.{is_mount_name}
 use Rattle.radio_access.specs.Lists.{passes}
-use Rattle.radio_core.specs.declared.event.SourceRequest.{SourceRequest}
-use Rattle.radio_core.specs.declared.event.ListenRequest.{ListenRequest}
-use Rattle.radio_core.specs.declared.event.Event.{Event}
-use Rattle.radio_core.specs.declared.event.Event.TheVariants.{Arrive, Source, Push, SourceEnd, Title, Listen, Draw, Leave, Clock}
+use Rattle.radio_events.specs.declared.event.SourceRequest.{SourceRequest}
+use Rattle.radio_events.specs.declared.event.ListenRequest.{ListenRequest}
+use Rattle.radio_events.specs.declared.event.Event.{Event}
+use Rattle.radio_events.specs.declared.event.Event.TheVariants.{Arrive, Source, Push, SourceEnd, Title, Listen, Draw, Leave, Clock}
 use Rattle.radio_core.specs.declared.house.House.{House}
 use Rattle.radio_core.specs.declared.outcome.Change.{Change}
 use Rattle.radio_core.specs.declared.outcome.Change.TheVariants.{Nothing, Answer, Tick}
 use Rattle.radio_core.specs.declared.outcome.Outcome.{Outcome}
-use Rattle.radio_core.specs.declared.reply.Reply.TheVariants.{Deny, Noted}
+use Rattle.radio_events.specs.declared.reply.Reply.TheVariants.{Deny, Noted}
 use Rattle.radio_seats.specs.declared.seat.Seat.{Seat}
-use Rattle.radio_seats.specs.declared.walk.Found.{Found}
-use Rattle.radio_seats.specs.Walk.{found_at, stop_of}
-use Rattle.radio_seats.specs.WalkLaws.{stopped_where_it_begins}
+use Rattle.radio_fallback.specs.declared.walking.Found.{Found}
+use Rattle.radio_fallback.specs.Walk.{found_at, stop_of}
+use Rattle.radio_fallback.specs.WalkLaws.{stopped_where_it_begins}
 use Rattle.radio_core.specs.declared.standing.Standing.{Standing}
 use Rattle.radio_core.specs.declared.standing.Standing.TheVariants.{Unknown, Undecided, Feeds, Sits, Answered, Finished}
 use Rattle.radio_core.specs.World.{World, standing_of}
-use Rattle.radio_core.specs.Facts.{largest_number, session_at, is_live, is_known, sight_of, arrive_facts, source_facts, rows_to_arrive, rows_to_feed}
+use Rattle.radio_core.specs.Facts.{largest_number, is_known, sight_of, arrive_facts, source_facts_at, rows_to_arrive, rows_to_feed}
 use Rattle.radio_core.specs.Facts.{rows_to_push, rows_to_listen}
 use Rattle.radio_core.specs.Outcomes.{says, on_verdict, out_of_place, if_undecided, if_feeding, if_sitting}
 use Rattle.radio_core.specs.Arrive.{admits_client}
@@ -43,7 +40,8 @@ use Rattle.radio_seats.specs.Seats.{seat_of}
 use Rattle.radio_core.specs.Sessions.{Session, session_of}
 use Rattle.radio_core.specs.Step.{outcome}
 use Rattle.radio_core.specs.Ways.{Way, Misplaced, IsFinished, IsDenied, IsRefused, IsAdmitted, Begins, Receives, SetsTitle, TakesSeat, HandsOut, Ends}
-use Rattle.radio_core.specs.Ways.{EndsAndLeaves, Leaves, HasPassed, Ticks, client_in, rows_for, IsUndecided}
+use Rattle.radio_core.specs.Ways.{EndsAndLeaves, Leaves, HasPassed, Ticks, rows_for, IsUndecided}
+use Rattle.radio_events.specs.Events.{client_in}
 
 module _ (w : World) (event : Event) where
   by_verdict : (denied : Change) (allowed : Outcome) (v : Verdict) → ((rule : Rule) → v ≡ Denied rule → Way w event (says (Deny rule) denied))
@@ -90,15 +88,11 @@ none_there : (found : Option Session) → is_some found ≡ false → found ≡ 
 none_there None e = refl
 none_there (Some session) e = cc
 
-at_name : (w : World) (path : List ℕ) (b : Bool) → is_mount_name path ≡ b → is_mount_name path ≡ true → session_at w.house path ≡ session_of w.house.live path
-at_name w path b e name = rw name refl
-
 -- where a source may begin, its mount has no session
 free_by : (named its full live refused : Bool)
-    → verdict_in (row BadMount (not named) ∷ row SourcePassword (not its) ∷ row TooManySources full ∷ row MountInUse live ∷ row ContentType refused ∷ [])
-    ≡ Allow
-    → (named ≡ true) × (live ≡ false)
-free_by true true false false refused v = (refl, refl)
+    → verdict_in (source_rows (if named then Some (record { is_source_pair = its; sources_are_full = full; mount_is_live = live; type_is_refused = refused })
+    else None)) ≡ Allow → live ≡ false
+free_by true true false false refused v = refl
 free_by true true false true refused v = cc
 free_by true true true live refused v = cc
 free_by true false full live refused v = cc
@@ -106,9 +100,9 @@ free_by false its full live refused v = cc
 
 pub may_begin : (w : World) (asked : SourceRequest) → verdict_in (rows_to_feed w.house asked) ≡ Allow → session_of w.house.live asked.mount ≡ None
 may_begin w asked v =
-    let facts = source_facts w.house asked in
-    let free = free_by (is_mount_name asked.mount) facts.is_source_pair facts.sources_are_full facts.mount_is_live facts.type_is_refused v in
-    sym (at_name w asked.mount (is_mount_name asked.mount) refl free.0) ∙ none_there (session_at w.house asked.mount) free.1
+    let facts = source_facts_at w.house asked.mount asked in
+    none_there (session_of w.house.live asked.mount)
+    (free_by (is_mount_name asked.mount) facts.is_source_pair facts.sources_are_full facts.mount_is_live facts.type_is_refused v)
 
 -- who may arrive passes the address lists, and there is a number left for him
 passes_by : (denied allowed full spent : Bool)
@@ -137,8 +131,8 @@ pub record IsWelcome (found : Found) : Type 0 where
   pub accepts : found.users_accept ≡ true
   pub once : found.user_is_twice ≡ false
 
-abbrev pub facts_from : Bool → Found → Option Rule → Facts
-facts_from known found stop = record NONE {
+abbrev pub facts_from : Bool → Found → Option Rule → ListenFacts
+facts_from known found stop = record {
   mount_is_known = known;
   users_accept = found.users_accept;
   user_is_twice = found.user_is_twice;
@@ -146,12 +140,12 @@ facts_from known found stop = record NONE {
 }
 
 abbrev pub rows_by : Bool → Bool → Found → List Row
-rows_by named known found = listen_rows (if named then facts_from known found (stop_of found) else NONE) (record { names_a_mount = named })
+rows_by named known found = listen_rows (if named then Some (facts_from known found (stop_of found)) else None)
 
 hears_by : (named known live full accepted twice : Bool)
     → verdict_in (rows_by named known (record { is_live = live; is_full = full; users_accept = accepted; user_is_twice = twice })) ≡ Allow
-    → (named ≡ true) × IsWelcome (record { is_live = live; is_full = full; users_accept = accepted; user_is_twice = twice })
-hears_by true true true false true false v = (refl, record { lives = refl; has_room = refl; accepts = refl; once = refl })
+    → IsWelcome (record { is_live = live; is_full = full; users_accept = accepted; user_is_twice = twice })
+hears_by true true true false true false v = record { lives = refl; has_room = refl; accepts = refl; once = refl }
 hears_by true true true true true false v = cc
 hears_by true true false full true false v = cc
 hears_by true true live full true true v = cc
@@ -167,29 +161,20 @@ pub rows_there : (w : World) (asked : ListenRequest)
     → rows_to_listen w asked ≡ rows_by (is_mount_name asked.mount) (is_known w.house asked.mount) (found_by w asked)
 rows_there w asked =
     let here = facts_from (is_known w.house asked.mount) (found_by w asked) in
-    ap (λ stop. listen_rows (if is_mount_name asked.mount then here stop else NONE) (record { names_a_mount = is_mount_name asked.mount }))
+    ap (λ stop. listen_rows (if is_mount_name asked.mount then Some (here stop) else None))
     (stopped_where_it_begins (sight_of w.house) w.seats asked.mount asked.pair)
 
-pub may_listen : (w : World) (asked : ListenRequest) → verdict_in (rows_to_listen w asked) ≡ Allow
-    → (is_live w.house asked.mount ≡ true) × IsWelcome (found_by w asked)
+pub may_listen : (w : World) (asked : ListenRequest) → verdict_in (rows_to_listen w asked) ≡ Allow → IsWelcome (found_by w asked)
 may_listen w asked v =
     let found = found_by w asked in
-    let hears = hears_by (is_mount_name asked.mount) (is_known w.house asked.mount) found.is_live found.is_full found.users_accept found.user_is_twice
-    (ap verdict_in (sym (rows_there w asked)) ∙ v) in
-    (ap is_some (at_name w asked.mount (is_mount_name asked.mount) refl hears.0) ∙ hears.1.lives, hears.1)
-
--- what is at a path is the session of that mount
-pub found_at_path : (w : World) (path : List ℕ) (session : Session) → session_at w.house path ≡ Some session → session_of w.house.live path ≡ Some session
-found_at_path w path session e = by_name (is_mount_name path) e where
-  by_name : (b : Bool) → (if b then session_of w.house.live path else None) ≡ Some session → session_of w.house.live path ≡ Some session
-  by_name true f = f
-  by_name false f = cc
+    hears_by (is_mount_name asked.mount) (is_known w.house asked.mount) found.is_live found.is_full found.users_accept found.user_is_twice
+    (ap verdict_in (sym (rows_there w asked)) ∙ v)
 
 sits : (w : World) (asked : ListenRequest) (peer : Peer) → standing_of w asked.id ≡ Undecided peer → verdict_in (rows_to_listen w asked) ≡ Allow
     → (found : Option Session)
-    → session_at w.house asked.mount ≡ found → Way w (Listen asked) (takes_seat w.house asked peer found)
+    → session_of w.house.live asked.mount ≡ found → Way w (Listen asked) (takes_seat w.house asked peer found)
 sits w asked peer e v None none = Misplaced (Listen asked)
-sits w asked peer e v (Some session) found = TakesSeat asked peer session e (found_at_path w asked.mount session found) v
+sits w asked peer e v (Some session) found = TakesSeat asked peer session e found v
 
 module _ (w : World) (id room : ℕ) (is_sitting : standing_of w id ≡ Sits) where
   hands : (seat : Seat) → seat_of w.seats id ≡ Some seat → (found : Option Session) → session_of w.house.live seat.mount ≡ found
@@ -236,10 +221,10 @@ way_of w (SourceEnd id) = by_feeding w (SourceEnd id) id refl _ (λ mount e. End
 way_of w (Title id text) = by_feeding w (Title id text) id refl _ (λ mount e. SetsTitle id mount text e) (standing_of w id) refl
 way_of w (Listen asked) =
     by_undecided w (Listen asked) asked.id refl _
-    (λ peer e. by_verdict w (Listen asked) (Answer asked.id) (takes_seat w.house asked peer (session_at w.house asked.mount))
+    (λ peer e. by_verdict w (Listen asked) (Answer asked.id) (takes_seat w.house asked peer (session_of w.house.live asked.mount))
     (verdict_in (rows_for w (Listen asked)))
     (λ rule v. IsRefused (Listen asked) asked.id rule v refl (peer, e))
-    (λ v. sits w asked peer e v (session_at w.house asked.mount) refl))
+    (λ v. sits w asked peer e v (session_of w.house.live asked.mount) refl))
     (standing_of w asked.id) refl
 way_of w (Draw id room) = by_sitting w (Draw id room) id refl _ (λ e. hands_at w id room e (seat_of w.seats id) refl) (standing_of w id) refl
 way_of w (Leave id) = by_leaving w id (standing_of w id) refl

@@ -1,7 +1,7 @@
 use Rattle.std.specs.Prelude.{◌≡◌, ℕ, List, Option, Some}
-use Rattle.radio_core.specs.declared.event.Event.{Event}
-use Rattle.radio_core.specs.declared.event.Event.TheVariants.{Draw}
-use Rattle.radio_core.specs.declared.reply.Reply.TheVariants.{Drawn}
+use Rattle.radio_events.specs.declared.event.Event.{Event}
+use Rattle.radio_events.specs.declared.event.Event.TheVariants.{Draw}
+use Rattle.radio_events.specs.declared.reply.Reply.TheVariants.{Drawn}
 use Rattle.radio_seats.specs.declared.seat.Seat.{Seat}
 use Rattle.radio_core.specs.declared.standing.Standing.TheVariants.{Sits}
 use Rattle.radio_core.specs.Open.{IsOpenTo}

@@ -1,14 +1,15 @@
 use Rattle.std.specs.Prelude.{◌≡◌, ℕ, Option, Some, None}
 use Rattle.radio_policy.specs.declared.rule.Rule.{Rule}
 use Rattle.radio_policy.specs.Verdicts.{Denies}
-use Rattle.radio_core.specs.declared.event.Event.{Event}
+use Rattle.radio_events.specs.declared.event.Event.{Event}
 use Rattle.radio_core.specs.declared.outcome.Change.TheVariants.{Answer}
-use Rattle.radio_core.specs.declared.reply.Reply.TheVariants.{Deny}
+use Rattle.radio_events.specs.declared.reply.Reply.TheVariants.{Deny}
 use Rattle.radio_core.specs.declared.standing.Standing.{Standing}
 use Rattle.radio_core.specs.declared.standing.Standing.TheVariants.{Undecided}
 use Rattle.radio_core.specs.Changes.{changed}
 use Rattle.radio_core.specs.Step.{reply_to, world_after}
-use Rattle.radio_core.specs.Ways.{client_in, rows_for}
+use Rattle.radio_core.specs.Ways.{rows_for}
+use Rattle.radio_events.specs.Events.{client_in}
 use Rattle.radio_core.specs.World.{World, standing_of}
 
 -- a client who asked, and had asked for nothing before, has had his answer

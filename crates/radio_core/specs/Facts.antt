@@ -1,11 +1,12 @@
 -- What is looked up in the server for the policy.
-use Rattle.std.specs.Prelude.{ℕ, ◌+◌, ◌-◌, ◌^◌, ◌==◌, nat_lt, Bool, false, not, ◌||◌, if◌then◌else◌, List, length, Option, None, is_some, find}
+use Rattle.std.specs.Prelude.{ℕ, ◌+◌, ◌-◌, ◌^◌, ◌==◌, nat_lt, Bool, not, ◌||◌, if◌then◌else◌, List, length, Option, None, Some, is_some, find}
 use Rattle.std.specs.Option.{option_map_or}
 use Rattle.std.specs.Str.{bytes_eq}
 use Rattle.radio_policy.specs.declared.rule.Rule.{Rule}
-use Rattle.radio_policy.specs.declared.facts.Facts.{Facts}
-use Rattle.radio_policy.specs.declared.facts.Subject.{Subject}
-use Rattle.radio_policy.specs.declared.facts.TheConstants.Facts.{NONE}
+use Rattle.radio_policy.specs.declared.facts.ArriveFacts.{ArriveFacts}
+use Rattle.radio_policy.specs.declared.facts.SourceFacts.{SourceFacts}
+use Rattle.radio_policy.specs.declared.facts.PushFacts.{PushFacts}
+use Rattle.radio_policy.specs.declared.facts.ListenFacts.{ListenFacts}
 use Rattle.radio_policy.specs.Table.{Row, arrive_rows, source_rows, push_rows, listen_rows}
 use Rattle.radio_addr.specs.declared.peer.Peer.{Peer}
 use Rattle.radio_creds.specs.Credentials.{Credentials}
@@ -16,9 +17,9 @@ use Rattle.radio_access.specs.Lists.{is_denied, is_allowed, lets_in}
 use Rattle.radio_access.specs.SourcePair.{is_source_pair}
 use Rattle.radio_access.specs.ContentTypes.{is_refused_type}
 use Rattle.radio_seats.specs.declared.seat.Listener.{Listener}
-use Rattle.radio_seats.specs.Walk.{Sight, found_at, landing, stop_in}
-use Rattle.radio_core.specs.declared.event.SourceRequest.{SourceRequest}
-use Rattle.radio_core.specs.declared.event.ListenRequest.{ListenRequest}
+use Rattle.radio_fallback.specs.Walk.{Sight, found_at, landing, stop_in}
+use Rattle.radio_events.specs.declared.event.SourceRequest.{SourceRequest}
+use Rattle.radio_events.specs.declared.event.ListenRequest.{ListenRequest}
 use Rattle.radio_core.specs.declared.house.House.{House}
 use Rattle.radio_core.specs.Stream.{end_of}
 use Rattle.radio_core.specs.Sessions.{Session, session_of}
@@ -32,17 +33,6 @@ largest_number = 2 ^ 64 - 1
 abbrev pub is_full : ℕ → ℕ → Bool
 is_full count limit = not (nat_lt count limit)
 
--- what is looked up of one who asks for the mount of this path
-abbrev pub asker_of : List ℕ → Subject
-asker_of path = record { names_a_mount = is_mount_name path }
-
--- the session of the mount of this path, if the path names one and it is live
-abbrev pub session_at : House → List ℕ → Option Session
-session_at house path = (if is_mount_name path then session_of house.live path else None)
-
-abbrev pub is_live : House → List ℕ → Bool
-is_live house path = is_some (session_at house path)
-
 -- the settings have a table for the mount, or a relay that feeds it
 abbrev pub is_in_settings : Settings → List ℕ → Bool
 is_in_settings settings mount =
@@ -51,10 +41,6 @@ is_in_settings settings mount =
 -- the settings know the mount, or it is live
 abbrev pub is_known : House → List ℕ → Bool
 is_known house mount = is_in_settings house.settings mount || is_some (session_of house.live mount)
-
--- the path names a mount, and its source sends this pair
-abbrev pub is_source_of : House → List ℕ → Option Credentials → Bool
-is_source_of house path pair = (if is_mount_name path then is_source_pair house.settings path pair else false)
 
 -- what a walk sees of the house
 abbrev pub sight_of : House → Sight
@@ -73,47 +59,49 @@ walk_stops house seats mount pair = stop_in (landing (sight_of house) seats pair
 abbrev pub live_end : House → List ℕ → ℕ
 live_end house mount = option_map_or (λ session. end_of session.stream) (session_of house.live mount) 0
 
--- what is looked up for each action
-abbrev pub arrive_facts : House → Peer → Facts
-arrive_facts house peer = record NONE {
+-- what is looked up for each action; nothing is where the path names no mount
+abbrev pub arrive_facts : House → Peer → ArriveFacts
+arrive_facts house peer = record {
   address_is_denied = is_denied house.lists peer;
   address_is_allowed = is_allowed house.lists peer;
   clients_are_full = is_full (length house.clients) house.settings.limits.clients;
   number_is_spent = house.last_id == largest_number;
 }
 
-abbrev pub source_facts : House → SourceRequest → Facts
-source_facts house asked = record NONE {
-  is_source_pair = is_source_of house asked.mount asked.pair;
+abbrev pub source_facts_at : House → List ℕ → SourceRequest → SourceFacts
+source_facts_at house mount asked = record {
+  is_source_pair = is_source_pair house.settings mount asked.pair;
   sources_are_full = is_full (length house.live) house.settings.limits.sources;
-  mount_is_live = is_live house asked.mount;
+  mount_is_live = is_some (session_of house.live mount);
   type_is_refused = is_refused_type asked.shown.content_type;
 }
 
-abbrev pub push_facts : House → List ℕ → List ℕ → Facts
-push_facts house mount block = record NONE { number_is_spent = nat_lt largest_number (live_end house mount + length block) }
+abbrev pub source_facts : House → SourceRequest → Option SourceFacts
+source_facts house asked = (if is_mount_name asked.mount then Some (source_facts_at house asked.mount asked) else None)
 
-abbrev pub facts_at : House → List Listener → List ℕ → Option Credentials → Facts
-facts_at house seats mount pair = let found = found_at (sight_of house) seats mount pair in record NONE {
+abbrev pub push_facts : House → List ℕ → List ℕ → PushFacts
+push_facts house mount block = record { number_is_spent = nat_lt largest_number (live_end house mount + length block) }
+
+abbrev pub listen_facts_at : House → List Listener → List ℕ → Option Credentials → ListenFacts
+listen_facts_at house seats mount pair = let found = found_at (sight_of house) seats mount pair in record {
   mount_is_known = is_known house mount;
   users_accept = found.users_accept;
   user_is_twice = found.user_is_twice;
   walk_stops = walk_stops house seats mount pair;
 }
 
--- for a path that names no mount, nothing is looked up
-abbrev pub listen_facts : House → List Listener → ListenRequest → Facts
-listen_facts house seats asked = (if is_mount_name asked.mount then facts_at house seats asked.mount asked.pair else NONE)
+abbrev pub listen_facts : House → List Listener → ListenRequest → Option ListenFacts
+listen_facts house seats asked = (if is_mount_name asked.mount then Some (listen_facts_at house seats asked.mount asked.pair) else None)
 
 -- the policy's rows for each action, as things stand
 abbrev pub rows_to_arrive : House → Peer → List Row
 rows_to_arrive house peer = arrive_rows (arrive_facts house peer)
 
 abbrev pub rows_to_feed : House → SourceRequest → List Row
-rows_to_feed house asked = source_rows (source_facts house asked) (asker_of asked.mount)
+rows_to_feed house asked = source_rows (source_facts house asked)
 
 abbrev pub rows_to_push : House → List ℕ → List ℕ → List Row
 rows_to_push house mount block = push_rows (push_facts house mount block)
 
 abbrev pub rows_to_listen : World → ListenRequest → List Row
-rows_to_listen w asked = listen_rows (listen_facts w.house w.seats asked) (asker_of asked.mount)
+rows_to_listen w asked = listen_rows (listen_facts w.house w.seats asked)

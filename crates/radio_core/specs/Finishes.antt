@@ -4,9 +4,9 @@ use Rattle.radio_policy.specs.declared.rule.Rule.TheVariants.{Lagged, TimeOver, 
 use Rattle.radio_settings.specs.declared.settings.Settings.{Settings}
 use Rattle.radio_access.specs.Lists.{Lists}
 use Rattle.radio_core.specs.declared.clients.Client.{Client}
-use Rattle.radio_core.specs.declared.event.Event.{Event}
-use Rattle.radio_core.specs.declared.event.Event.TheVariants.{Push, Clock}
-use Rattle.radio_core.specs.declared.reply.Reply.TheVariants.{Finished}
+use Rattle.radio_events.specs.declared.event.Event.{Event}
+use Rattle.radio_events.specs.declared.event.Event.TheVariants.{Push, Clock}
+use Rattle.radio_events.specs.declared.reply.Reply.TheVariants.{Finished}
 use Rattle.radio_core.specs.declared.standing.Standing.TheVariants.{Feeds, Finished as HasFinished}
 use Rattle.radio_seats.specs.declared.seat.Seat.{Seat}
 use Rattle.radio_core.specs.Clients.{client_of}
@@ -16,7 +16,7 @@ use Rattle.radio_core.specs.Run.{run_after}
 use Rattle.radio_seats.specs.Seats.{seat_of}
 use Rattle.radio_core.specs.Sessions.{Session, session_of}
 use Rattle.radio_core.specs.Step.{reply_to, world_after}
-use Rattle.radio_core.specs.Ways.{client_in}
+use Rattle.radio_events.specs.Events.{client_in}
 use Rattle.radio_core.specs.World.{World, standing_of}
 
 -- what there is about the event by which it finishes the client by the rule, where the state was w and is `later`

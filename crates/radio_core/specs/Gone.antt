@@ -1,7 +1,7 @@
 use Rattle.std.specs.Prelude.{◌≡◌, ℕ, ◌≤◌, List, []}
-use Rattle.radio_core.specs.declared.event.Event.{Event}
+use Rattle.radio_events.specs.declared.event.Event.{Event}
 use Rattle.radio_core.specs.declared.outcome.Change.TheVariants.{Nothing}
-use Rattle.radio_core.specs.declared.reply.Reply.TheVariants.{Stray}
+use Rattle.radio_events.specs.declared.reply.Reply.TheVariants.{Stray}
 use Rattle.radio_core.specs.declared.standing.Standing.TheVariants.{Unknown}
 use Rattle.radio_core.specs.Handing.{handed, delivered}
 use Rattle.radio_core.specs.Outcomes.{says}

@@ -15,7 +15,6 @@ pub mod Draw
 pub mod Leave
 pub mod Clock
 pub mod Changes
-pub mod Replies
 pub mod Sound
 pub mod Kept
 pub mod KeptChanges

@@ -6,10 +6,10 @@ use Rattle.radio_settings.specs.Options.{options_for}
 use Rattle.radio_tables.specs.Lists.{Has}
 use Rattle.radio_seats.specs.declared.seat.Listener.{Listener}
 use Rattle.radio_seats.specs.Seats.{seats_at, SitsAs, has_user, is_user_at}
-use Rattle.radio_core.specs.declared.event.Event.{Event}
-use Rattle.radio_core.specs.declared.event.Event.TheVariants.{Listen}
-use Rattle.radio_core.specs.declared.event.ListenRequest.{ListenRequest}
-use Rattle.radio_core.specs.declared.reply.Reply.TheVariants.{Deny}
+use Rattle.radio_events.specs.declared.event.Event.{Event}
+use Rattle.radio_events.specs.declared.event.Event.TheVariants.{Listen}
+use Rattle.radio_events.specs.declared.event.ListenRequest.{ListenRequest}
+use Rattle.radio_events.specs.declared.reply.Reply.TheVariants.{Deny}
 use Rattle.radio_core.specs.Step.{reply_to}
 use Rattle.radio_core.specs.World.{World}
 

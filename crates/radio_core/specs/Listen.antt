@@ -2,16 +2,16 @@ use Rattle.std.specs.Prelude.{ℕ, min, Bool, if◌then◌else◌, List, Option,
 use Rattle.radio_policy.specs.Verdicts.{verdict_in}
 use Rattle.radio_addr.specs.declared.peer.Peer.{Peer}
 use Rattle.radio_settings.specs.Options.{options_for}
-use Rattle.radio_core.specs.declared.event.ListenRequest.{ListenRequest}
+use Rattle.radio_events.specs.declared.event.ListenRequest.{ListenRequest}
 use Rattle.radio_core.specs.declared.house.House.{House}
-use Rattle.radio_core.specs.declared.reply.Reply.TheVariants.{Seated, Stray}
+use Rattle.radio_events.specs.declared.reply.Reply.TheVariants.{Seated, Stray}
 use Rattle.radio_core.specs.declared.outcome.Change.TheVariants.{Nothing, Answer, TakeSeat}
 use Rattle.radio_core.specs.declared.outcome.Outcome.{Outcome}
 use Rattle.radio_seats.specs.declared.seat.Seat.{Seat}
-use Rattle.radio_core.specs.Sessions.{Session}
+use Rattle.radio_core.specs.Sessions.{Session, session_of}
 use Rattle.radio_core.specs.Stream.{burst_start}
 use Rattle.radio_core.specs.World.{World, standing_of}
-use Rattle.radio_core.specs.Facts.{session_at, rows_to_listen}
+use Rattle.radio_core.specs.Facts.{rows_to_listen}
 use Rattle.radio_core.specs.Outcomes.{says, on_verdict, if_undecided}
 
 -- how many bytes a new listener of the mount may be sent at once
@@ -44,4 +44,4 @@ takes_seat house asked peer (Some session) =
 -- a client wants to hear the mount of this path
 abbrev pub asks_to_hear : World → ListenRequest → Outcome
 asks_to_hear w asked = if_undecided (standing_of w asked.id) (λ peer.
-    on_verdict (verdict_in (rows_to_listen w asked)) (Answer asked.id) (takes_seat w.house asked peer (session_at w.house asked.mount)))
+    on_verdict (verdict_in (rows_to_listen w asked)) (Answer asked.id) (takes_seat w.house asked peer (session_of w.house.live asked.mount)))

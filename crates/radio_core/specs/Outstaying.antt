@@ -1,7 +1,7 @@
 -- After the clock was heard, nobody is there whose time is over.
 use Rattle.std.specs.Prelude.{◌≡◌, ℕ, nat_lt, true, false, List, Some}
 use Rattle.radio_core.specs.declared.clients.Client.{Client}
-use Rattle.radio_core.specs.declared.event.Event.TheVariants.{Clock}
+use Rattle.radio_events.specs.declared.event.Event.TheVariants.{Clock}
 use Rattle.radio_seats.specs.declared.seat.Seat.{Seat}
 use Rattle.radio_seats.specs.Seats.{seat_of}
 use Rattle.radio_core.specs.Clients.{client_of}

@@ -2,10 +2,10 @@
 use Rattle.std.specs.Prelude.{◌≡◌, ℕ, ◌+◌, List, Some}
 use Rattle.radio_policy.specs.Verdicts.{Allows}
 use Rattle.radio_addr.specs.declared.peer.Peer.{Peer}
-use Rattle.radio_core.specs.declared.event.Event.TheVariants.{Arrive, Source, Push, Listen, Draw}
-use Rattle.radio_core.specs.declared.event.SourceRequest.{SourceRequest}
-use Rattle.radio_core.specs.declared.event.ListenRequest.{ListenRequest}
-use Rattle.radio_core.specs.declared.reply.Reply.TheVariants.{Arrived, Feeding, Noted, Seated, Drawn}
+use Rattle.radio_events.specs.declared.event.Event.TheVariants.{Arrive, Source, Push, Listen, Draw}
+use Rattle.radio_events.specs.declared.event.SourceRequest.{SourceRequest}
+use Rattle.radio_events.specs.declared.event.ListenRequest.{ListenRequest}
+use Rattle.radio_events.specs.declared.reply.Reply.TheVariants.{Arrived, Feeding, Noted, Seated, Drawn}
 use Rattle.radio_seats.specs.declared.seat.Seat.{Seat}
 use Rattle.radio_core.specs.declared.standing.Standing.TheVariants.{Undecided, Feeds, Sits}
 use Rattle.radio_core.specs.Facts.{rows_to_arrive, rows_to_feed, rows_to_push, rows_to_listen}

@@ -3,8 +3,8 @@ use Rattle.radio_policy.specs.Verdicts.{verdict_in}
 use Rattle.radio_settings.specs.declared.field.Shown.{Shown}
 use Rattle.radio_settings.specs.Options.{options_for}
 use Rattle.radio_core.specs.declared.house.House.{House}
-use Rattle.radio_core.specs.declared.event.SourceRequest.{SourceRequest}
-use Rattle.radio_core.specs.declared.reply.Reply.TheVariants.{Feeding}
+use Rattle.radio_events.specs.declared.event.SourceRequest.{SourceRequest}
+use Rattle.radio_events.specs.declared.reply.Reply.TheVariants.{Feeding}
 use Rattle.radio_core.specs.declared.outcome.Change.TheVariants.{Answer, Begin}
 use Rattle.radio_core.specs.declared.outcome.Outcome.{Outcome}
 use Rattle.radio_core.specs.World.{World, standing_of}

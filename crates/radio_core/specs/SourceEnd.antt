@@ -1,5 +1,5 @@
 use Rattle.std.specs.Prelude.{ℕ}
-use Rattle.radio_core.specs.declared.reply.Reply.TheVariants.{Noted}
+use Rattle.radio_events.specs.declared.reply.Reply.TheVariants.{Noted}
 use Rattle.radio_core.specs.declared.outcome.Change.TheVariants.{End}
 use Rattle.radio_core.specs.declared.outcome.Outcome.{Outcome}
 use Rattle.radio_core.specs.World.{World, standing_of}

@@ -2,10 +2,10 @@
 use Rattle.std.specs.Prelude.{◌≡◌, ◌⊎◌, ℕ, ◌+◌, nat_lt, Bool, true, false, List, ◌++◌, length, Option, None, Some}
 use Rattle.radio_blocks.specs.Block.{IsBlock}
 use Rattle.radio_policy.specs.declared.rule.Rule.TheVariants.{NumbersSpent}
-use Rattle.radio_core.specs.declared.event.Event.TheVariants.{Push, SourceEnd}
+use Rattle.radio_events.specs.declared.event.Event.TheVariants.{Push, SourceEnd}
 use Rattle.radio_core.specs.declared.house.House.{House}
-use Rattle.radio_core.specs.declared.reply.Reply.{Reply}
-use Rattle.radio_core.specs.declared.reply.Reply.TheVariants.{Noted, Deny, Finished, Stray}
+use Rattle.radio_events.specs.declared.reply.Reply.{Reply}
+use Rattle.radio_events.specs.declared.reply.Reply.TheVariants.{Noted, Deny, Finished, Stray}
 use Rattle.radio_core.specs.declared.standing.Standing.{Standing}
 use Rattle.radio_core.specs.declared.standing.Standing.TheVariants.{Feeds}
 use Rattle.radio_core.specs.Facts.{largest_number}

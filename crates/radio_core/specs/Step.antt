@@ -1,8 +1,8 @@
 -- One event of the server.
 use Rattle.std.specs.Prelude.{◌≡◌}
-use Rattle.radio_core.specs.declared.event.Event.{Event}
-use Rattle.radio_core.specs.declared.event.Event.TheVariants.{Arrive, Source, Push, SourceEnd, Title, Listen, Draw, Leave, Clock}
-use Rattle.radio_core.specs.declared.reply.Reply.{Reply}
+use Rattle.radio_events.specs.declared.event.Event.{Event}
+use Rattle.radio_events.specs.declared.event.Event.TheVariants.{Arrive, Source, Push, SourceEnd, Title, Listen, Draw, Leave, Clock}
+use Rattle.radio_events.specs.declared.reply.Reply.{Reply}
 use Rattle.radio_core.specs.declared.outcome.Change.{Change}
 use Rattle.radio_core.specs.declared.outcome.Change.TheVariants.{Nothing, Answer, SetTitle, Advance, End, EndAndLeave, Forget, Tick}
 use Rattle.radio_core.specs.declared.outcome.Outcome.{Outcome}
@@ -61,10 +61,3 @@ NeedsNoMemory (EndAndLeave id mount) = Unit {0}
 NeedsNoMemory (Forget id) = Unit {0}
 NeedsNoMemory (Tick ms) = Unit {0}
 NeedsNoMemory _ = ⊥
-
--- and so the end of a session and of a connection, and the clock
-abbrev pub TakesNoMemory : Event → Type 0
-TakesNoMemory (SourceEnd id) = Unit {0}
-TakesNoMemory (Leave id) = Unit {0}
-TakesNoMemory (Clock ms) = Unit {0}
-TakesNoMemory _ = ⊥

@@ -2,7 +2,7 @@
 use Rattle.std.specs.Prelude.{◌≡◌, ◌==◌, ℕ, ◌-◌, ◌≤◌, if◌then◌else◌, length, Option, Some, None, List, [], ◌∷◌, ◌++◌, take, drop}
 use Rattle.radio_settings.specs.declared.settings.Settings.{Settings}
 use Rattle.radio_access.specs.Lists.{Lists}
-use Rattle.radio_core.specs.declared.event.Event.{Event}
+use Rattle.radio_events.specs.declared.event.Event.{Event}
 use Rattle.radio_seats.specs.declared.seat.Seat.{Seat}
 use Rattle.radio_core.specs.Handing.{handed, delivered}
 use Rattle.radio_seats.specs.Seats.{seat_of}

@@ -3,10 +3,10 @@ use Rattle.std.specs.Prelude.{◌≡◌, ℕ, ◌+◌, if◌then◌else◌, Bool
 use Rattle.std.specs.Option.{is_some}
 use Rattle.radio_seats.specs.declared.seat.Listener.{Listener}
 use Rattle.radio_seats.specs.Seats.{listener_of, seat_held}
-use Rattle.radio_core.specs.declared.event.Event.{Event}
-use Rattle.radio_core.specs.declared.event.Event.TheVariants.{Leave}
-use Rattle.radio_core.specs.declared.reply.Reply.{Reply}
-use Rattle.radio_core.specs.declared.reply.Reply.TheVariants.{Arrived, Seated, Noted}
+use Rattle.radio_events.specs.declared.event.Event.{Event}
+use Rattle.radio_events.specs.declared.event.Event.TheVariants.{Leave}
+use Rattle.radio_events.specs.declared.reply.Reply.{Reply}
+use Rattle.radio_events.specs.declared.reply.Reply.TheVariants.{Arrived, Seated, Noted}
 use Rattle.radio_core.specs.Step.{reply_to, world_after}
 use Rattle.radio_core.specs.World.{World}
 

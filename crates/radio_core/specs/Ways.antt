@@ -5,14 +5,14 @@ use Rattle.radio_policy.specs.declared.judgement.Verdict.TheVariants.{Allow, Den
 use Rattle.radio_policy.specs.Table.{Row}
 use Rattle.radio_policy.specs.Verdicts.{verdict_in}
 use Rattle.radio_addr.specs.declared.peer.Peer.{Peer}
-use Rattle.radio_core.specs.declared.event.SourceRequest.{SourceRequest}
-use Rattle.radio_core.specs.declared.event.ListenRequest.{ListenRequest}
-use Rattle.radio_core.specs.declared.event.Event.{Event}
-use Rattle.radio_core.specs.declared.event.Event.TheVariants.{Arrive, Source, Push, SourceEnd, Title, Listen, Draw, Leave, Clock}
+use Rattle.radio_events.specs.declared.event.SourceRequest.{SourceRequest}
+use Rattle.radio_events.specs.declared.event.ListenRequest.{ListenRequest}
+use Rattle.radio_events.specs.declared.event.Event.{Event}
+use Rattle.radio_events.specs.declared.event.Event.TheVariants.{Arrive, Source, Push, SourceEnd, Title, Listen, Draw, Leave, Clock}
 use Rattle.radio_core.specs.declared.house.House.{House}
 use Rattle.radio_core.specs.declared.outcome.Change.TheVariants.{Nothing, Answer, Admit, Receive, SetTitle, TakeSeat, Advance, End, EndAndLeave, Forget, Tick}
 use Rattle.radio_core.specs.declared.outcome.Outcome.{Outcome}
-use Rattle.radio_core.specs.declared.reply.Reply.TheVariants.{Arrived, Seated, Drawn, Noted, Deny, Finished, Stray}
+use Rattle.radio_events.specs.declared.reply.Reply.TheVariants.{Arrived, Seated, Drawn, Noted, Deny, Finished, Stray}
 use Rattle.radio_seats.specs.declared.seat.Seat.{Seat}
 use Rattle.radio_core.specs.declared.standing.Standing.{Standing}
 use Rattle.radio_core.specs.declared.standing.Standing.TheVariants.{Undecided, Feeds, Sits, Finished as HasFinished}
@@ -24,18 +24,7 @@ use Rattle.radio_core.specs.Sessions.{Session, session_of}
 use Rattle.radio_core.specs.Source.{begins}
 use Rattle.radio_core.specs.Stream.{data_at}
 use Rattle.radio_core.specs.World.{World, standing_of}
-
--- the client of an event; an arrival and the clock have none
-abbrev pub client_in : Event → Option ℕ
-client_in (Arrive peer) = None
-client_in (Source asked) = Some asked.id
-client_in (Push id block) = Some id
-client_in (SourceEnd id) = Some id
-client_in (Title id text) = Some id
-client_in (Listen asked) = Some asked.id
-client_in (Draw id room) = Some id
-client_in (Leave id) = Some id
-client_in (Clock ms) = None
+use Rattle.radio_events.specs.Events.{client_in}
 
 -- the client has asked for nothing yet
 abbrev pub IsUndecided : World → ℕ → Type 0

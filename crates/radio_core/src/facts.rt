@@ -3,74 +3,60 @@
 ghost use Rattle.std.specs.Prelude.{◌≡◌};
 ghost use Rattle.std.specs.Option.{option_copied};
 ghost use Rattle.radio_settings.specs.Options.{options_for};
-ghost use Rattle.radio_core.specs.Facts.{arrive_facts, source_facts, facts_at, listen_facts, asker_of, is_full, is_live, is_in_settings, is_known};
-ghost use Rattle.radio_core.specs.Facts.{is_source_of};
+ghost use Rattle.radio_core.specs.Facts.{arrive_facts, source_facts_at, listen_facts_at, is_full, is_in_settings, is_known};
 
 use crate::house::House;
-use crate::{ListenRequest, SourceRequest};
 use radio_access::{is_refused_type, is_source_pair};
 use radio_addr::Peer;
 use radio_creds::Pair;
-use radio_policy::{Facts, Subject};
-use radio_seats::{Seats, View, Walk};
+use radio_events::SourceRequest;
+use radio_fallback::{View, Walk, walk_from};
+use radio_policy::{ArriveFacts, ListenFacts, SourceFacts};
+use radio_seats::Seats;
 use radio_settings::{MountName, Settings};
 
 impl House {
     /// What is looked up for a connection that arrives from this address.
-    pub(crate) fn arrive_facts(&self, peer: Peer) -> Facts
+    pub(crate) fn arrive_facts(&self, peer: Peer) -> ArriveFacts
         ensures { result ≡ arrive_facts self.now peer }
     {
-        Facts {
+        ArriveFacts {
             address_is_denied: self.lists.is_denied(peer),
             address_is_allowed: self.lists.is_allowed(peer),
             clients_are_full: is_full(self.clients.len(), self.settings.limits.clients.get()),
             number_is_spent: self.last_id == u64::MAX,
-            ..Facts::NONE
         }
     }
 
-    /// What is looked up for a source that wants to feed a mount.
-    pub(crate) fn source_facts(&self, asked: &SourceRequest) -> Facts
-        ensures { result ≡ source_facts self.now asked.now }
+    /// What is looked up for a source that wants to feed the mount.
+    pub(crate) fn source_facts(&self, mount: &MountName, asked: &SourceRequest) -> SourceFacts
+        ensures { result ≡ source_facts_at self.now mount.now asked.now }
     {
-        let path = asked.mount.as_slice();
-        Facts {
-            is_source_pair: self.is_source_of(path, asked.pair.as_ref()),
+        SourceFacts {
+            is_source_pair: is_source_pair(&self.settings, mount, asked.pair.as_ref()),
             sources_are_full: is_full(self.live.len(), self.settings.limits.sources.get()),
-            mount_is_live: self.is_live(path),
+            mount_is_live: self.session(mount).is_some(),
             type_is_refused: is_refused_type(asked.shown.content_type.as_bytes()),
-            ..Facts::NONE
         }
     }
 
-    /// What is looked up for a listener who wants to hear a mount. At most one digest is made.
-    pub(crate) fn listen_facts(&self, seats: &Seats, asked: &ListenRequest) -> Facts
-        ensures { result ≡ listen_facts self.now seats.now asked.now }
+    /// What is looked up for a listener who sends this pair, or none, and wants to hear the mount. At
+    /// most one digest is made.
+    pub(crate) fn listen_facts(
+        &self,
+        seats: &Seats,
+        mount: &MountName,
+        pair: Option<&Pair>,
+    ) -> ListenFacts
+        ensures { result ≡ listen_facts_at self.now seats.now mount.now (option_copied pair.entry) }
     {
-        match MountName::read(asked.mount.as_slice()) {
-            Some(mount) => self.facts_at(seats, &mount, asked.pair.as_ref()),
-            None => Facts::NONE,
-        }
-    }
-
-    fn facts_at(&self, seats: &Seats, mount: &MountName, pair: Option<&Pair>) -> Facts
-        ensures { result ≡ facts_at self.now seats.now mount.now (option_copied pair.entry) }
-    {
-        let Walk { first, landing } = seats.walk(self, mount, pair);
-        Facts {
+        let Walk { first, landing } = walk_from(self, seats, mount, pair);
+        ListenFacts {
             mount_is_known: self.is_known(mount),
             users_accept: first.users_accept,
             user_is_twice: first.user_is_twice,
             walk_stops: landing.stop(),
-            ..Facts::NONE
         }
-    }
-
-    /// Whether the path names a mount that is live.
-    fn is_live(&self, path: &[u8]) -> bool
-        ensures { result ≡ is_live self.now path.now }
-    {
-        self.session_at(path).is_some()
     }
 
     /// Whether the settings know the mount, or it is live.
@@ -78,16 +64,6 @@ impl House {
         ensures { result ≡ is_known self.now mount.now }
     {
         is_in_settings(&self.settings, mount) || self.session(mount).is_some()
-    }
-
-    /// Whether the path names a mount, and its source sends this pair.
-    fn is_source_of(&self, path: &[u8], pair: Option<&Pair>) -> bool
-        ensures { result ≡ is_source_of self.now path.now (option_copied pair.entry) }
-    {
-        match MountName::read(path) {
-            Some(mount) => is_source_pair(&self.settings, &mount, pair),
-            None => false,
-        }
     }
 }
 
@@ -110,15 +86,6 @@ impl View for House {
 
     fn allows_duplicates(&self, mount: &MountName) -> bool {
         self.settings.options(mount).users.allow_duplicate_users
-    }
-}
-
-/// What is looked up of one who asks for the mount of this path.
-pub(crate) fn asker_of(path: &[u8]) -> Subject
-    ensures { result ≡ asker_of path.now }
-{
-    Subject {
-        names_a_mount: MountName::read(path).is_some(),
     }
 }
 

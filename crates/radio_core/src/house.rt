@@ -3,7 +3,7 @@
 ghost use Rattle.std.specs.Prelude.{◌≡◌, find, unwrap_or, IfOk, OnOk, OnErr};
 ghost use Rattle.std.specs.Option.{option_copied};
 ghost use Rattle.radio_core.specs.Sessions.{session_of};
-ghost use Rattle.radio_core.specs.Facts.{session_at, live_end};
+ghost use Rattle.radio_core.specs.Facts.{live_end};
 ghost use Rattle.radio_core.specs.Source.{shown_for};
 ghost use Rattle.radio_core.specs.Changes.{now_in_state, admitted, begun, retitled, timed_out_by};
 ghost use Rattle.radio_core.specs.KeptChanges.{kept_received};
@@ -45,16 +45,6 @@ impl House {
         ensures { option_copied result ≡ session_of self.now.live mount.now }
     {
         self.live.get(mount)
-    }
-
-    /// The session of the mount of this path, if the path names one and it is live.
-    pub(crate) fn session_at(&self, path: &[u8]) -> Option<&Session>
-        ensures { option_copied result ≡ session_at self.now path.now }
-    {
-        match MountName::read(path) {
-            Some(mount) => self.session(&mount),
-            None => None,
-        }
     }
 
     /// How far the stream of the mount's session goes.

@@ -4,10 +4,10 @@
 ghost use Rattle.std.specs.Prelude.{◌≡◌, ◌≤◌, ℕ, List, [], ◌∷◌, ◌++◌, Some};
 ghost use Rattle.radio_settings.specs.declared.settings.Settings.{Settings};
 ghost use Rattle.radio_access.specs.Lists.{Lists};
-ghost use Rattle.radio_core.specs.declared.event.Event.{Event};
-ghost use Rattle.radio_core.specs.declared.event.Event.TheVariants.{Leave};
+ghost use Rattle.radio_events.specs.declared.event.Event.{Event};
+ghost use Rattle.radio_events.specs.declared.event.Event.TheVariants.{Leave};
 ghost use Rattle.radio_core.specs.Run.{run_after};
-ghost use Rattle.radio_core.specs.Ways.{client_in};
+ghost use Rattle.radio_events.specs.Events.{client_in};
 ghost use Rattle.radio_core.specs.Denials.{DenialsAreThePolicys};
 ghost use Rattle.radio_core.specs.Finishes.{FinishedAreTold};
 ghost use Rattle.radio_core.specs.Access.{AccessIsKept};

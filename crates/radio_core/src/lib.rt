@@ -1,7 +1,6 @@
 //! The server's state, and what each event does to it.
 //!
-//! - [`Core`]: the state; [`Core::step`] is one event.
-//! - [`Event`], [`Reply`]: what happens to the server, and what it replies.
+//! - [`Core`]: the state; [`Core::step`] is one event (`radio_events`).
 //! - [`access_is_kept`] and the other functions of `laws`: what holds of every run of events.
 //!
 //! The state has two parts: the house (the settings, the live mounts' sessions, the clients), and
@@ -9,16 +8,11 @@
 //! under `server`): a reply and a change, which is then committed whole or not at all.
 #![tactic(auto)]
 
-mod again;
 mod clients;
-mod data;
-mod event;
 mod facts;
 mod house;
 mod laws;
 mod outcome;
-mod reply;
-mod same;
 mod server;
 mod sessions;
 mod standing;
@@ -26,14 +20,12 @@ mod stream;
 mod timeouts;
 mod totals;
 
-pub use event::{Event, ListenRequest, SourceRequest};
 pub use laws::{
     access_is_kept, cores_go_by_their_states, denials_are_the_policys, events_are_of_their_clients,
     finished_are_told, limits_are_kept, listeners_are_told_titles, listeners_begin_at_a_block,
     nobody_lags, nobody_outstays, sources_are_told_by_their_data, stretches_are_whole,
     who_left_is_gone, whoever_may_is_served,
 };
-pub use reply::Reply;
 pub use server::Core;
 pub use totals::clients_and_seats_add_up;
 

@@ -1,6 +1,6 @@
 //! What comes of an event: worked out first, and then committed.
 
-use crate::Reply;
+use radio_events::Reply;
 use radio_addr::Peer;
 use radio_blocks::{Block, Place};
 use radio_icy::Title;

@@ -2,13 +2,15 @@
 //! which may be refused memory, and then committed, whole or not at all.
 
 ghost use Rattle.std.specs.Prelude.{◌≡◌, [], ◌∷◌, IsOk, IfOk, OnOk, OnErr};
-ghost use Rattle.radio_core.specs.declared.reply.Reply.{Reply as ReplyOf};
+ghost use Rattle.radio_events.specs.declared.reply.Reply.{Reply as ReplyOf};
 ghost use Rattle.radio_core.specs.World.{World, opening};
-ghost use Rattle.radio_core.specs.Replies.{HoldsNoText};
-ghost use Rattle.radio_core.specs.Step.{Step, Represents, StandsForSome, TakesNoMemory};
+ghost use Rattle.radio_events.specs.Replies.{HoldsNoText};
+ghost use Rattle.radio_core.specs.Step.{Step, Represents, StandsForSome};
+ghost use Rattle.radio_events.specs.Events.{TakesNoMemory};
 
 use crate::outcome::Outcome;
-use crate::{Event, OutOfMemory, Reply};
+use crate::OutOfMemory;
+use radio_events::{Event, Reply};
 use radio_access::Lists;
 use radio_settings::Settings;
 use state::State;

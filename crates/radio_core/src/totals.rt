@@ -3,7 +3,7 @@
 ghost use Rattle.std.specs.Prelude.{List};
 ghost use Rattle.radio_settings.specs.declared.settings.Settings.{Settings};
 ghost use Rattle.radio_access.specs.Lists.{Lists};
-ghost use Rattle.radio_core.specs.declared.event.Event.{Event};
+ghost use Rattle.radio_events.specs.declared.event.Event.{Event};
 ghost use Rattle.radio_core.specs.Run.{run_after};
 ghost use Rattle.radio_core.specs.Totals.{AddsUp};
 

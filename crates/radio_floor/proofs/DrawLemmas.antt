@@ -3,13 +3,13 @@ use Rattle.std.proofs.Common.{◌≡◌, ℕ, Bool, true, false, cond, List, [],
 use Rattle.std.proofs.lemmas.List.Concat.{flat_map-append}
 use Rattle.radio_settings.specs.declared.settings.Settings.{Settings}
 use Rattle.radio_access.specs.Lists.{Lists}
-use Rattle.radio_core.specs.declared.event.Event.{Event}
-use Rattle.radio_core.specs.declared.reply.Reply.{Reply}
-use Rattle.radio_core.specs.declared.reply.Reply.TheVariants.{Arrived, Feeding, Seated, Drawn, Noted, Deny, Finished, Stray}
+use Rattle.radio_events.specs.declared.event.Event.{Event}
+use Rattle.radio_events.specs.declared.reply.Reply.{Reply}
+use Rattle.radio_events.specs.declared.reply.Reply.TheVariants.{Arrived, Feeding, Seated, Drawn, Noted, Deny, Finished, Stray}
 use Rattle.radio_core.specs.Handing.{data_in, is_number, of_client, handed, delivered}
 use Rattle.radio_core.specs.Step.{reply_to, world_after}
 use Rattle.radio_core.specs.Stretches.{sittings, AreStretches, StretchesAreWhole}
-use Rattle.radio_core.specs.Ways.{client_in}
+use Rattle.radio_events.specs.Events.{client_in}
 use Rattle.radio_core.specs.World.{World, opening}
 use Rattle.radio_icy.specs.Weaving.{Call}
 use Rattle.radio_icy.specs.Stream.{sound_of_calls}

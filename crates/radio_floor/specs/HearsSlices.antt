@@ -11,10 +11,10 @@ use Rattle.radio_policy.specs.Words.{word_of, status_of}
 use Rattle.radio_heads.specs.Answer.{listener_head, denial_text}
 use Rattle.radio_icy.specs.Weaving.{Call}
 use Rattle.radio_icy.specs.Stream.{sound_of_calls}
-use Rattle.radio_core.specs.declared.event.Event.{Event}
-use Rattle.radio_core.specs.declared.event.Event.TheVariants.{Source, Listen, Push}
-use Rattle.radio_core.specs.declared.event.SourceRequest.{SourceRequest}
-use Rattle.radio_core.specs.declared.event.ListenRequest.{ListenRequest}
+use Rattle.radio_events.specs.declared.event.Event.{Event}
+use Rattle.radio_events.specs.declared.event.Event.TheVariants.{Source, Listen, Push}
+use Rattle.radio_events.specs.declared.event.SourceRequest.{SourceRequest}
+use Rattle.radio_events.specs.declared.event.ListenRequest.{ListenRequest}
 use Rattle.radio_core.specs.Handing.{of_client, delivered}
 use Rattle.radio_core.specs.Listen.{interval_for}
 use Rattle.radio_core.specs.Source.{shown_for}

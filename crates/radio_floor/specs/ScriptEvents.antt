@@ -5,8 +5,8 @@ use Rattle.radio_icy.specs.Cleaning.{cleaned}
 use Rattle.radio_icy.specs.Limits.{max_title}
 use Rattle.radio_settings.specs.declared.settings.Settings.{Settings}
 use Rattle.radio_access.specs.Lists.{Lists}
-use Rattle.radio_core.specs.declared.event.Event.{Event}
-use Rattle.radio_core.specs.declared.event.Event.TheVariants.{Arrive, Draw, Title, Leave, Clock}
+use Rattle.radio_events.specs.declared.event.Event.{Event}
+use Rattle.radio_events.specs.declared.event.Event.TheVariants.{Arrive, Draw, Title, Leave, Clock}
 use Rattle.radio_core.specs.Run.{world_after_all}
 use Rattle.radio_session.specs.Conversation.{Conversation}
 use Rattle.radio_session.specs.Hearing.{Heard, IsHeard}

@@ -4,7 +4,7 @@ ghost use Rattle.std.specs.Prelude.{◌≡◌, ℕ, List, [], ◌∷◌, ◌++�
 ghost use Rattle.radio_icy.specs.Cleaning.{cleaned};
 ghost use Rattle.radio_icy.specs.Limits.{max_title};
 ghost use Rattle.radio_core.specs.World.{World};
-ghost use Rattle.radio_core.specs.declared.event.Event.TheVariants.{Leave, Clock};
+ghost use Rattle.radio_events.specs.declared.event.Event.TheVariants.{Leave, Clock};
 ghost use Rattle.radio_core.specs.Step.{Represents, world_after};
 ghost use Rattle.radio_session.specs.Hearing.{Heard, IsHeard};
 ghost use Rattle.radio_floor.specs.ScriptState.{exchanges, closes, connection_unless, ComesTo};
@@ -12,7 +12,8 @@ ghost use Rattle.radio_floor.specs.ScriptServer.{AnswersAs};
 
 use crate::OutOfMemory;
 use crate::labelled::Labelled;
-use radio_core::{Core, Event};
+use radio_core::Core;
+use radio_events::Event;
 use radio_icy::Title;
 use radio_script::Input;
 use radio_session::{Ending, Session, State, cores_exchange_as_their_states, exchange};

@@ -3,7 +3,7 @@
 ghost use Rattle.std.specs.Prelude.{ℕ, List};
 ghost use Rattle.radio_settings.specs.declared.settings.Settings.{Settings};
 ghost use Rattle.radio_access.specs.Lists.{Lists};
-ghost use Rattle.radio_core.specs.declared.event.Event.{Event};
+ghost use Rattle.radio_events.specs.declared.event.Event.{Event};
 ghost use Rattle.radio_script.specs.Laws.{GoesOnAsItBegan, HasOneTranscript, IsDetermined};
 ghost use Rattle.radio_floor.specs.Transcript.{conduct};
 ghost use Rattle.radio_floor.specs.LastWords.{DenialsAreTold, FinishesAreTold, ClosedOnesAreDone};

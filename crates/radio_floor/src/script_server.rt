@@ -2,7 +2,7 @@
 
 ghost use Rattle.std.specs.Prelude.{◌≡◌, ℕ, List, [], ◌∷◌, ◌++◌, true, Ok, Err, IfOk, OnOk, is_some, Some, None};
 ghost use Rattle.radio_core.specs.World.{World, opening};
-ghost use Rattle.radio_core.specs.declared.event.Event.TheVariants.{Arrive};
+ghost use Rattle.radio_events.specs.declared.event.Event.TheVariants.{Arrive};
 ghost use Rattle.radio_core.specs.Step.{Represents, reply_to, world_after};
 ghost use Rattle.radio_session.specs.Conversation.{asking};
 ghost use Rattle.radio_session.specs.Saying.{said};
@@ -14,7 +14,8 @@ use crate::handler::Handler;
 use crate::labelled::Labelled;
 use radio_access::Lists;
 use radio_addr::Peer;
-use radio_core::{Core, Event, Reply};
+use radio_core::Core;
+use radio_events::{Event, Reply};
 use radio_script::push_answer;
 use radio_session::{Session, State};
 use radio_settings::Settings;

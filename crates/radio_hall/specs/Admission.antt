@@ -1,9 +1,9 @@
 -- How a connection comes to a worker.
 use Rattle.std.specs.Prelude.{◌≡◌, ℕ, List, [], ◌∷◌, ◌++◌}
 use Rattle.radio_addr.specs.declared.peer.Peer.{Peer}
-use Rattle.radio_core.specs.declared.event.Event.TheVariants.{Arrive}
-use Rattle.radio_core.specs.declared.reply.Reply.{Reply}
-use Rattle.radio_core.specs.declared.reply.Reply.TheVariants.{Arrived, Deny}
+use Rattle.radio_events.specs.declared.event.Event.TheVariants.{Arrive}
+use Rattle.radio_events.specs.declared.reply.Reply.{Reply}
+use Rattle.radio_events.specs.declared.reply.Reply.TheVariants.{Arrived, Deny}
 use Rattle.radio_book.specs.History.{entry}
 use Rattle.radio_session.specs.Exchanges.{Steps}
 use Rattle.radio_hall.specs.Connections.{Connection}

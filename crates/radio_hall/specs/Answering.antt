@@ -1,7 +1,7 @@
 -- Events of a connection, applied one after another.
 use Rattle.std.specs.Prelude.{◌≡◌, ℕ, false, List, [], ◌∷◌, ◌++◌}
-use Rattle.radio_core.specs.declared.event.Event.{Event}
-use Rattle.radio_core.specs.declared.reply.Reply.{Reply}
+use Rattle.radio_events.specs.declared.event.Event.{Event}
+use Rattle.radio_events.specs.declared.reply.Reply.{Reply}
 use Rattle.radio_book.specs.declared.entry.Entry.{Entry}
 use Rattle.radio_book.specs.History.{entry}
 use Rattle.radio_session.specs.Conversation.{Conversation, saying_now}

@@ -1,7 +1,7 @@
 -- Connections, as their worker sees them.
 use Rattle.std.specs.Prelude.{◌≡◌, ℕ, Bool, true, false, not, List, []}
 use Rattle.radio_addr.specs.declared.peer.Peer.{Peer}
-use Rattle.radio_core.specs.declared.reply.Reply.{Reply}
+use Rattle.radio_events.specs.declared.reply.Reply.{Reply}
 use Rattle.radio_session.specs.Conversation.{Conversation, fresh, asking}
 use Rattle.radio_session.specs.Saying.{said}
 use Rattle.radio_hall.specs.declared.conn.Fate.{Fate}

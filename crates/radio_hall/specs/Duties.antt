@@ -1,7 +1,7 @@
 -- What a worker owes to a connection in a turn, and what he may not do to it.
 use Rattle.std.specs.Prelude.{◌≡◌, ◌<◌, ◌≤◌, ◌-◌, ◌⊎◌, ℕ, List, [], ◌∷◌, ◌++◌}
-use Rattle.radio_core.specs.declared.event.Event.TheVariants.{Leave}
-use Rattle.radio_core.specs.declared.reply.Reply.{Reply}
+use Rattle.radio_events.specs.declared.event.Event.TheVariants.{Leave}
+use Rattle.radio_events.specs.declared.reply.Reply.{Reply}
 use Rattle.radio_book.specs.declared.entry.Entry.{Entry}
 use Rattle.radio_book.specs.History.{entry}
 use Rattle.radio_hall.specs.declared.conn.Fate.{Fate}

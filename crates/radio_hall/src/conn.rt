@@ -5,7 +5,7 @@ ghost use Rattle.std.specs.Prelude.{◌≡◌, IfOk};
 use crate::owed::Owed;
 use crate::{Line, OutOfMemory};
 use radio_addr::Peer;
-use radio_core::Reply;
+use radio_events::Reply;
 use radio_session::Session;
 use std::alloc::Global;
 use std::marker::Model;

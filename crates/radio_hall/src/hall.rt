@@ -2,7 +2,7 @@
 
 ghost use Rattle.std.specs.Prelude.{◌≡◌, ◌^◌, ◌∷◌, [], ◌++◌, ℕ, length, true, false, IsOk, IfOk, IfErr, IfSome, List, OnErr, All, IsPermutation, sum_by};
 ghost use Rattle.std.specs.List.{range_with_len};
-ghost use Rattle.radio_core.specs.Step.{TakesNoMemory};
+ghost use Rattle.radio_events.specs.Events.{TakesNoMemory};
 ghost use Rattle.radio_core.specs.World.{opening};
 ghost use Rattle.radio_book.specs.declared.entry.Entry.{Entry as EntryOf};
 ghost use Rattle.radio_book.specs.Clients.{is_here};
@@ -11,7 +11,7 @@ ghost use Rattle.radio_book.specs.Settling.{Rises, Shows, all_serials, serials};
 
 use radio_access::Lists;
 use radio_book::{Book, Chronicle, Entry, House, Kept, OutOfMemory, Pass, Receipt, SettleFault};
-use radio_core::Event;
+use radio_events::Event;
 use radio_settings::Settings;
 use std::alloc::Global;
 use std::sync::ledger::Blank;

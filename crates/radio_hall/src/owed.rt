@@ -4,7 +4,7 @@ ghost use Rattle.std.specs.Prelude.{◌≡◌, ◌≤◌, ◌++◌, [], drop, le
 ghost use Rattle.radio_session.specs.Conversation.{saying_now};
 ghost use Rattle.radio_session.specs.Saying.{said};
 
-use radio_core::Reply;
+use radio_events::Reply;
 use radio_session::{OutOfMemory, Session, State};
 use std::alloc::Global;
 use std::marker::Model;

@@ -4,13 +4,14 @@ ghost use Rattle.std.specs.Prelude.{◌≡◌, IfOk, OnErr};
 
 use crate::{Hall, OutOfMemory};
 use radio_book::{Chronicle, House, Pass};
-use radio_core::{Core, Event, Reply};
+use radio_core::Core;
+use radio_events::{Event, Reply};
 use std::marker::Model;
 use std::sync::Wait;
 
 /// Who applies the events of a worker's connections, one at a time.
 pub trait Server {
-    ghost use Rattle.radio_core.specs.declared.event.Event.{Event as EventOf};
+    ghost use Rattle.radio_events.specs.declared.event.Event.{Event as EventOf};
     ghost use Rattle.radio_session.specs.Exchanges.{Steps};
 
     // from one state the event is answered by the reply, and leaves the other state
@@ -27,7 +28,7 @@ pub trait Server {
 }
 
 impl Server for Core {
-    ghost use Rattle.radio_core.specs.Step.{TakesNoMemory};
+    ghost use Rattle.radio_events.specs.Events.{TakesNoMemory};
     ghost use Rattle.radio_session.specs.Exchanges.{core_steps};
 
     ghost steps = { core_steps };

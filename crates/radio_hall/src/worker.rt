@@ -1,8 +1,8 @@
 //! A worker, who serves connections.
 
 ghost use Rattle.std.specs.Prelude.{◌≡◌, ◌*◌, IfOk, OnOk, OnErr};
-ghost use Rattle.radio_core.specs.declared.event.Event.TheVariants.{Arrive};
-ghost use Rattle.radio_core.specs.declared.reply.Reply.{Reply};
+ghost use Rattle.radio_events.specs.declared.event.Event.TheVariants.{Arrive};
+ghost use Rattle.radio_events.specs.declared.reply.Reply.{Reply};
 ghost use Rattle.radio_hall.specs.Turns.{Ticks, IsTurn};
 ghost use Rattle.radio_hall.specs.Admission.{IsAdmission, IsTakenIn};
 
@@ -11,7 +11,7 @@ use crate::serving::round::serve_each;
 use crate::serving::{Now, SECOND_MS};
 use crate::{Conn, Gate, Line, OutOfMemory, Server};
 use radio_addr::Peer;
-use radio_core::Event;
+use radio_events::Event;
 use std::alloc::Global;
 use std::marker::Model;
 

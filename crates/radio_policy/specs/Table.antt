@@ -3,8 +3,10 @@ use Rattle.radio_policy.specs.declared.rule.Rule.{Rule}
 use Rattle.radio_policy.specs.declared.rule.Rule.TheVariants.{AddressDenied, AddressNotAllowed, TooManyClients, BadMount, SourcePassword}
 use Rattle.radio_policy.specs.declared.rule.Rule.TheVariants.{TooManySources, MountInUse}
 use Rattle.radio_policy.specs.declared.rule.Rule.TheVariants.{ContentType, NoMount, ListenerPassword, UserTwice, NumbersSpent}
-use Rattle.radio_policy.specs.declared.facts.Facts.{Facts}
-use Rattle.radio_policy.specs.declared.facts.Subject.{Subject}
+use Rattle.radio_policy.specs.declared.facts.ArriveFacts.{ArriveFacts}
+use Rattle.radio_policy.specs.declared.facts.SourceFacts.{SourceFacts}
+use Rattle.radio_policy.specs.declared.facts.PushFacts.{PushFacts}
+use Rattle.radio_policy.specs.declared.facts.ListenFacts.{ListenFacts}
 use Rattle.radio_policy.specs.declared.facts.Action.{Action}
 use Rattle.radio_policy.specs.declared.facts.Action.TheVariants.{Arrive, Source, Push, Listen}
 
@@ -17,7 +19,7 @@ abbrev pub row : Rule → Bool → Row
 row name condition = record { rule = name; holds = condition }
 
 -- a connection arrives
-abbrev pub arrive_rows : Facts → List Row
+abbrev pub arrive_rows : ArriveFacts → List Row
 arrive_rows facts =
     row AddressDenied facts.address_is_denied ∷
     row AddressNotAllowed (not facts.address_is_allowed) ∷
@@ -25,10 +27,14 @@ arrive_rows facts =
     row NumbersSpent facts.number_is_spent ∷
     []
 
--- a source wants to feed a mount
-abbrev pub source_rows : Facts → Subject → List Row
-source_rows facts subject =
-    row BadMount (not subject.names_a_mount) ∷
+-- the path of a request names no mount
+abbrev pub bad_mount_rows : List Row
+bad_mount_rows = row BadMount true ∷ []
+
+-- a source wants to feed the mount of a path
+abbrev pub source_rows : Option SourceFacts → List Row
+source_rows None = bad_mount_rows
+source_rows (Some facts) =
     row SourcePassword (not facts.is_source_pair) ∷
     row TooManySources facts.sources_are_full ∷
     row MountInUse facts.mount_is_live ∷
@@ -36,7 +42,7 @@ source_rows facts subject =
     []
 
 -- a source delivers a block
-abbrev pub push_rows : Facts → List Row
+abbrev pub push_rows : PushFacts → List Row
 push_rows facts =
     row NumbersSpent facts.number_is_spent ∷
     []
@@ -46,18 +52,18 @@ abbrev pub walk_rows : Option Rule → List Row
 walk_rows None = []
 walk_rows (Some stops) = row stops true ∷ []
 
--- a listener wants to hear a mount
-abbrev pub listen_rows : Facts → Subject → List Row
-listen_rows facts subject =
-    row BadMount (not subject.names_a_mount) ∷
+-- a listener wants to hear the mount of a path
+abbrev pub listen_rows : Option ListenFacts → List Row
+listen_rows None = bad_mount_rows
+listen_rows (Some facts) =
     row NoMount (not facts.mount_is_known) ∷
     row ListenerPassword (not facts.users_accept) ∷
     row UserTwice facts.user_is_twice ∷
     walk_rows facts.walk_stops
 
 -- the rows of an action, in the order in which they are asked
-abbrev pub table : Facts → Subject → Action → List Row
-table facts subject Arrive = arrive_rows facts
-table facts subject Source = source_rows facts subject
-table facts subject Push = push_rows facts
-table facts subject Listen = listen_rows facts subject
+abbrev pub table : Action → List Row
+table (Arrive facts) = arrive_rows facts
+table (Source facts) = source_rows facts
+table (Push facts) = push_rows facts
+table (Listen facts) = listen_rows facts

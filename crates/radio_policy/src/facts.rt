@@ -1,28 +1,35 @@
 use crate::Rule;
 
-/// What is asked for.
-#[derive(Clone, Copy, Debug, PartialEq, Eq)]
+/// What is asked for, with what was looked up in the server for it: one answer for each condition of
+/// its rules, so that none can be forgotten.
+#[derive(Clone, Copy)]
 pub enum Action {
     /// A connection arrives.
-    Arrive,
-    /// A source wants to feed a mount.
-    Source,
+    Arrive(ArriveFacts),
+    /// A source wants to feed the mount of a path; `None` where the path names no mount.
+    Source(Option<SourceFacts>),
     /// A source delivers a block.
-    Push,
-    /// A listener wants to hear a mount.
-    Listen,
+    Push(PushFacts),
+    /// A listener wants to hear the mount of a path; `None` where the path names no mount.
+    Listen(Option<ListenFacts>),
 }
 
-/// What was looked up in the server, one answer for each condition of the policy. An action reads
-/// those that its rules name.
-#[derive(Clone, Copy, Debug, PartialEq, Eq)]
-pub struct Facts {
+/// What is looked up for a connection that arrives.
+#[derive(Clone, Copy)]
+pub struct ArriveFacts {
     /// The deny list has the peer's address.
     pub address_is_denied: bool,
     /// There is no allow list, or it has the peer's address.
     pub address_is_allowed: bool,
     /// As many clients are there as there may be.
     pub clients_are_full: bool,
+    /// The next number of a client would pass the largest of 64 bits.
+    pub number_is_spent: bool,
+}
+
+/// What is looked up for a source that wants to feed a mount.
+#[derive(Clone, Copy)]
+pub struct SourceFacts {
     /// The pair that was sent is the one of the mount's source.
     pub is_source_pair: bool,
     /// As many sources are live as may be.
@@ -31,6 +38,18 @@ pub struct Facts {
     pub mount_is_live: bool,
     /// The content type is one that the server does not carry.
     pub type_is_refused: bool,
+}
+
+/// What is looked up for a source that delivers a block.
+#[derive(Clone, Copy)]
+pub struct PushFacts {
+    /// The next number of a byte would pass the largest of 64 bits.
+    pub number_is_spent: bool,
+}
+
+/// What is looked up for a listener who wants to hear a mount.
+#[derive(Clone, Copy)]
+pub struct ListenFacts {
     /// The server knows the mount: it is in the settings, a relay feeds it, or it is live.
     pub mount_is_known: bool,
     /// The mount has no users, or they accept the pair that was sent.
@@ -39,31 +58,4 @@ pub struct Facts {
     pub user_is_twice: bool,
     /// The rule that stops the walk from the mount asked for, if one does.
     pub walk_stops: Option<Rule>,
-    /// The next number, of a client or of a byte, would pass the largest of 64 bits.
-    pub number_is_spent: bool,
-}
-
-impl Facts {
-    /// Answers that deny nothing: the start from which those of an action are set.
-    pub const NONE: Facts = Facts {
-        address_is_denied: false,
-        address_is_allowed: true,
-        clients_are_full: false,
-        is_source_pair: true,
-        sources_are_full: false,
-        mount_is_live: false,
-        type_is_refused: false,
-        mount_is_known: true,
-        users_accept: true,
-        user_is_twice: false,
-        walk_stops: None,
-        number_is_spent: false,
-    };
-}
-
-/// What was looked up of the one who asks.
-#[derive(Clone, Copy, Debug, PartialEq, Eq)]
-pub struct Subject {
-    /// The path that he sent is a mount name.
-    pub names_a_mount: bool,
 }

@@ -2,7 +2,7 @@ ghost use Rattle.std.specs.Prelude.{◌≡◌};
 ghost use Rattle.radio_policy.specs.Table.{arrive_rows, source_rows, push_rows, listen_rows, table};
 ghost use Rattle.radio_policy.specs.Verdicts.{verdict_in};
 
-use crate::{Action, Facts, Rule, Subject};
+use crate::{Action, ArriveFacts, ListenFacts, PushFacts, Rule, SourceFacts};
 
 /// What the policy says to something that is asked for.
 #[derive(Clone, Copy, Debug, PartialEq, Eq)]
@@ -14,18 +14,18 @@ pub enum Verdict {
 
 /// The policy's verdict: that of the first row of the action's table whose condition holds. It
 /// takes no memory.
-pub fn judge(facts: &Facts, subject: &Subject, action: &Action) -> Verdict
-    ensures { result ≡ verdict_in (table facts.now subject.now action.now) }
+pub fn judge(action: &Action) -> Verdict
+    ensures { result ≡ verdict_in (table action.now) }
 {
     match action {
-        Action::Arrive => judge_arrive(facts),
-        Action::Source => judge_source(facts, subject),
-        Action::Push => judge_push(facts),
-        Action::Listen => judge_listen(facts, subject),
+        Action::Arrive(facts) => judge_arrive(facts),
+        Action::Source(facts) => judge_source(facts),
+        Action::Push(facts) => judge_push(facts),
+        Action::Listen(facts) => judge_listen(facts),
     }
 }
 
-fn judge_arrive(facts: &Facts) -> Verdict
+fn judge_arrive(facts: &ArriveFacts) -> Verdict
     ensures { result ≡ verdict_in (arrive_rows facts.now) }
 {
     if facts.address_is_denied {
@@ -41,12 +41,13 @@ fn judge_arrive(facts: &Facts) -> Verdict
     }
 }
 
-fn judge_source(facts: &Facts, subject: &Subject) -> Verdict
-    ensures { result ≡ verdict_in (source_rows facts.now subject.now) }
+fn judge_source(facts: &Option<SourceFacts>) -> Verdict
+    ensures { result ≡ verdict_in (source_rows facts.now) }
 {
-    if !subject.names_a_mount {
-        Verdict::Deny(Rule::BadMount)
-    } else if !facts.is_source_pair {
+    let Some(facts) = facts else {
+        return Verdict::Deny(Rule::BadMount);
+    };
+    if !facts.is_source_pair {
         Verdict::Deny(Rule::SourcePassword)
     } else if facts.sources_are_full {
         Verdict::Deny(Rule::TooManySources)
@@ -59,7 +60,7 @@ fn judge_source(facts: &Facts, subject: &Subject) -> Verdict
     }
 }
 
-fn judge_push(facts: &Facts) -> Verdict
+fn judge_push(facts: &PushFacts) -> Verdict
     ensures { result ≡ verdict_in (push_rows facts.now) }
 {
     if facts.number_is_spent {
@@ -69,12 +70,12 @@ fn judge_push(facts: &Facts) -> Verdict
     }
 }
 
-fn judge_listen(facts: &Facts, subject: &Subject) -> Verdict
-    ensures { result ≡ verdict_in (listen_rows facts.now subject.now) }
+fn judge_listen(facts: &Option<ListenFacts>) -> Verdict
+    ensures { result ≡ verdict_in (listen_rows facts.now) }
 {
-    if !subject.names_a_mount {
+    let Some(facts) = facts else {
         return Verdict::Deny(Rule::BadMount);
-    }
+    };
     if !facts.mount_is_known {
         return Verdict::Deny(Rule::NoMount);
     }

@@ -2,5 +2,3 @@ pub mod Seats
 pub mod SeatLaws
 pub mod CountLaws
 pub mod EndLaws
-pub mod Walk
-pub mod WalkLaws

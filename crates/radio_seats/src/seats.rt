@@ -99,7 +99,7 @@ impl Seats {
     }
 
     /// The listeners, in the order of their numbers.
-    pub(crate) fn iter(&self) -> Values<'_, u64, Listener>
+    pub fn iter(&self) -> Values<'_, u64, Listener>
         ensures rest { result ≡ self.now }
         ensures runs { ShowsInOrder (deref {X = ListenerOf}) }
     {

@@ -5,9 +5,9 @@ use Rattle.std.specs.List.{concat, All}
 use Rattle.std.proofs.lemmas.List.Elements.{All-nil, All-head, All-append}
 use Rattle.std.proofs.lemmas.List.Folds.{concat-append}
 use Rattle.radio_blocks.specs.Block.{IsBlock}
-use Rattle.radio_core.specs.declared.event.Event.{Event}
-use Rattle.radio_core.specs.declared.event.Event.TheVariants.{Push, SourceEnd}
-use Rattle.radio_core.specs.declared.reply.Reply.{Reply}
+use Rattle.radio_events.specs.declared.event.Event.{Event}
+use Rattle.radio_events.specs.declared.event.Event.TheVariants.{Push, SourceEnd}
+use Rattle.radio_events.specs.declared.reply.Reply.{Reply}
 use Rattle.radio_session.specs.declared.session.LastWord.{LastWord}
 use Rattle.radio_session.specs.declared.session.Says.{Says}
 use Rattle.radio_session.specs.declared.state.State.{State}

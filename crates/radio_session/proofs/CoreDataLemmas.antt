@@ -1,8 +1,8 @@
 -- Cores go by a source's data.
 use Rattle.std.proofs.Common.{◌≡◌, ◌⊎◌, ◌++◌, sym, subst, ◌∙◌}
-use Rattle.radio_core.specs.declared.event.Event.{Event}
-use Rattle.radio_core.specs.declared.event.Event.TheVariants.{Push, SourceEnd}
-use Rattle.radio_core.specs.declared.reply.Reply.{Reply}
+use Rattle.radio_events.specs.declared.event.Event.{Event}
+use Rattle.radio_events.specs.declared.event.Event.TheVariants.{Push, SourceEnd}
+use Rattle.radio_events.specs.declared.reply.Reply.{Reply}
 use Rattle.radio_core.specs.CoreReplies.{CoresGoByTheirStates}
 use Rattle.radio_core.specs.SourceReplies.{to_data, to_end, IsQuiet, EndsByRule, SourcesAreToldByTheirData, EndsAreTold}
 use Rattle.radio_core.specs.Step.{Represents, StandsForSome, reply_to, world_after}

@@ -6,8 +6,8 @@ use Rattle.std.specs.Str.{bytes_eq}
 use Rattle.std.proofs.lemmas.List.{drop-append-le, map-append}
 use Rattle.std.specs.List.{concat}
 use Rattle.radio_blocks.specs.Cutting.{blocks_of}
-use Rattle.radio_core.specs.declared.event.Event.{Event}
-use Rattle.radio_core.specs.declared.event.Event.TheVariants.{Push, SourceEnd}
+use Rattle.radio_events.specs.declared.event.Event.{Event}
+use Rattle.radio_events.specs.declared.event.Event.TheVariants.{Push, SourceEnd}
 use Rattle.radio_heads.specs.declared.outcome.Progress.{Progress}
 use Rattle.radio_heads.specs.declared.outcome.Progress.TheVariants.{More, Whole}
 use Rattle.radio_heads.specs.declared.outcome.HeadFault.{HeadFault}

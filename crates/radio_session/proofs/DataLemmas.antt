@@ -3,10 +3,10 @@ use Rattle.std.proofs.Common.{◌≡◌, ◌⊎◌, inl, inr, ℕ, List, [], ◌
 use Rattle.std.specs.List.{concat, All}
 use Rattle.std.proofs.lemmas.List.Elements.{All-head, All-tail}
 use Rattle.radio_blocks.specs.Block.{IsBlock}
-use Rattle.radio_core.specs.declared.event.Event.{Event}
-use Rattle.radio_core.specs.declared.event.Event.TheVariants.{Push}
-use Rattle.radio_core.specs.declared.reply.Reply.{Reply}
-use Rattle.radio_core.specs.declared.reply.Reply.TheVariants.{Arrived, Feeding, Seated, Drawn, Noted, Deny, Finished, Stray}
+use Rattle.radio_events.specs.declared.event.Event.{Event}
+use Rattle.radio_events.specs.declared.event.Event.TheVariants.{Push}
+use Rattle.radio_events.specs.declared.reply.Reply.{Reply}
+use Rattle.radio_events.specs.declared.reply.Reply.TheVariants.{Arrived, Feeding, Seated, Drawn, Noted, Deny, Finished, Stray}
 use Rattle.radio_session.specs.declared.session.Says.{Says}
 use Rattle.radio_session.specs.declared.state.State.{State}
 use Rattle.radio_session.specs.declared.state.State.TheVariants.{Running, Shut}

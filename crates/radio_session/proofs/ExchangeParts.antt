@@ -1,8 +1,8 @@
 -- Exchanges taken apart, joined, and told while a last word is awaited.
 use Rattle.std.proofs.Common.{◌≡◌, ℕ, Bool, true, false, List, [], ◌∷◌, ◌++◌, refl, ap, sym, subst, ◌∙◌}
-use Rattle.radio_core.specs.declared.event.Event.{Event}
-use Rattle.radio_core.specs.declared.event.Event.TheVariants.{Leave}
-use Rattle.radio_core.specs.declared.reply.Reply.{Reply}
+use Rattle.radio_events.specs.declared.event.Event.{Event}
+use Rattle.radio_events.specs.declared.event.Event.TheVariants.{Leave}
+use Rattle.radio_events.specs.declared.reply.Reply.{Reply}
 use Rattle.radio_session.specs.declared.session.Says.{Says}
 use Rattle.radio_session.specs.declared.state.State.{State}
 use Rattle.radio_session.specs.declared.state.State.TheVariants.{Running, Shut}

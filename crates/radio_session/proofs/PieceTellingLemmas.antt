@@ -7,8 +7,8 @@ use Rattle.std.proofs.lemmas.List.{drop-append-le}
 use Rattle.std.specs.List.{concat, All}
 use Rattle.radio_blocks.specs.Block.{IsBlock}
 use Rattle.radio_blocks.specs.Cutting.{blocks_of}
-use Rattle.radio_core.specs.declared.event.Event.{Event}
-use Rattle.radio_core.specs.declared.event.Event.TheVariants.{SourceEnd}
+use Rattle.radio_events.specs.declared.event.Event.{Event}
+use Rattle.radio_events.specs.declared.event.Event.TheVariants.{SourceEnd}
 use Rattle.radio_heads.specs.declared.outcome.Progress.{Progress}
 use Rattle.radio_heads.specs.declared.outcome.Progress.TheVariants.{More, Whole}
 use Rattle.radio_heads.specs.declared.outcome.HeadFault.{HeadFault}

@@ -8,8 +8,8 @@ use Rattle.radio_settings.specs.Shown.{shown_of}
 use Rattle.radio_heads.specs.Head.{RequestParts}
 use Rattle.radio_heads.specs.Headers.{value_of}
 use Rattle.radio_session.specs.Framing.{is_word}
-use Rattle.radio_core.specs.declared.event.Event.{Event}
-use Rattle.radio_core.specs.declared.event.Event.TheVariants.{Source, Listen}
+use Rattle.radio_events.specs.declared.event.Event.{Event}
+use Rattle.radio_events.specs.declared.event.Event.TheVariants.{Source, Listen}
 
 -- the user and the password that it sends, if its `Authorization` has them (RFC 7617)
 abbrev pub pair_of : RequestParts → Option Credentials

@@ -1,7 +1,7 @@
 -- What a source's whole body is heard as, behind its head (RFC 9112, section 6).
 use Rattle.std.specs.Prelude.{◌≡◌, ℕ, true, List, [], ◌∷◌, ◌++◌, length, Some}
-use Rattle.radio_core.specs.declared.event.Event.{Event}
-use Rattle.radio_core.specs.declared.event.Event.TheVariants.{SourceEnd}
+use Rattle.radio_events.specs.declared.event.Event.{Event}
+use Rattle.radio_events.specs.declared.event.Event.TheVariants.{SourceEnd}
 use Rattle.radio_heads.specs.Head.{RequestParts}
 use Rattle.radio_source.specs.Chunked.{ChunkedBody, IsBody, print_body, content_of}
 use Rattle.radio_session.specs.declared.session.framing.Framing.{Framing}

@@ -1,9 +1,9 @@
 -- Servers that go by a source's data, and not by how they were cut into blocks.
 use Rattle.std.specs.Prelude.{◌≡◌, ℕ, List, [], ◌++◌, ◌⊎◌}
 use Rattle.radio_blocks.specs.Block.{IsBlock}
-use Rattle.radio_core.specs.declared.event.Event.{Event}
-use Rattle.radio_core.specs.declared.event.Event.TheVariants.{Push, SourceEnd}
-use Rattle.radio_core.specs.declared.reply.Reply.{Reply}
+use Rattle.radio_events.specs.declared.event.Event.{Event}
+use Rattle.radio_events.specs.declared.event.Event.TheVariants.{Push, SourceEnd}
+use Rattle.radio_events.specs.declared.reply.Reply.{Reply}
 use Rattle.radio_core.specs.SourceReplies.{IsQuiet, EndsByRule}
 use Rattle.radio_session.specs.Exchanges.{Steps}
 

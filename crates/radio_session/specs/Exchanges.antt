@@ -1,8 +1,8 @@
 -- What a connection's events come to, one after another, whoever applies them.
 use Rattle.std.specs.Prelude.{◌≡◌, ℕ, Bool, true, false, if◌then◌else◌, List, [], ◌∷◌, ◌++◌}
-use Rattle.radio_core.specs.declared.event.Event.{Event}
-use Rattle.radio_core.specs.declared.event.Event.TheVariants.{Leave}
-use Rattle.radio_core.specs.declared.reply.Reply.{Reply}
+use Rattle.radio_events.specs.declared.event.Event.{Event}
+use Rattle.radio_events.specs.declared.event.Event.TheVariants.{Leave}
+use Rattle.radio_events.specs.declared.reply.Reply.{Reply}
 use Rattle.radio_core.specs.World.{World}
 use Rattle.radio_core.specs.Step.{Step, Represents, StandsForSome, reply_to, world_after}
 use Rattle.radio_session.specs.declared.session.Says.{Says}

@@ -1,6 +1,6 @@
 -- Laws on sessions, for callers.
 use Rattle.std.specs.Prelude.{◌≡◌, ℕ, List}
-use Rattle.radio_core.specs.declared.event.Event.{Event}
+use Rattle.radio_events.specs.declared.event.Event.{Event}
 use Rattle.radio_core.specs.World.{World}
 use Rattle.radio_core.specs.Step.{Represents}
 use Rattle.radio_session.specs.declared.session.Says.{Says}

@@ -1,8 +1,8 @@
 -- A source's data, delivered in blocks.
 use Rattle.std.specs.Prelude.{ℕ, List, map}
 use Rattle.radio_blocks.specs.Cutting.{blocks_of}
-use Rattle.radio_core.specs.declared.event.Event.{Event}
-use Rattle.radio_core.specs.declared.event.Event.TheVariants.{Push}
+use Rattle.radio_events.specs.declared.event.Event.{Event}
+use Rattle.radio_events.specs.declared.event.Event.TheVariants.{Push}
 
 -- a source delivers the blocks of some data, one after another
 abbrev pub pushes : ℕ → List ℕ → List Event

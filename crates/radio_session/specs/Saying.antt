@@ -3,8 +3,8 @@ use Rattle.std.specs.Prelude.{ℕ, ◌-◌, ◌==◌, true, List, [], Option, No
 use Rattle.radio_policy.specs.declared.rule.Rule.{Rule}
 use Rattle.radio_policy.specs.declared.rule.Status.{Status}
 use Rattle.radio_policy.specs.Words.{word_of, status_of}
-use Rattle.radio_core.specs.declared.reply.Reply.{Reply}
-use Rattle.radio_core.specs.declared.reply.Reply.TheVariants.{Arrived, Feeding, Seated, Drawn, Noted, Deny, Finished, Stray}
+use Rattle.radio_events.specs.declared.reply.Reply.{Reply}
+use Rattle.radio_events.specs.declared.reply.Reply.TheVariants.{Arrived, Feeding, Seated, Drawn, Noted, Deny, Finished, Stray}
 use Rattle.radio_heads.specs.Answer.{listener_head, source_text, continue_text, denial_text}
 use Rattle.radio_icy.specs.Weaving.{Call}
 use Rattle.radio_session.specs.Draws.{draw, interval_told, weaver_at, drawn, after_draw}

@@ -7,9 +7,9 @@ use Rattle.radio_icy.specs.Unweaving.{Atom, new_unweaving, heard}
 use Rattle.radio_icy.specs.Bare.{sound_in, texts_in}
 use Rattle.radio_settings.specs.declared.field.Shown.{Shown}
 use Rattle.radio_heads.specs.Answer.{listener_head}
-use Rattle.radio_core.specs.declared.event.Event.{Event}
-use Rattle.radio_core.specs.declared.reply.Reply.{Reply}
-use Rattle.radio_core.specs.declared.reply.Reply.TheVariants.{Feeding, Seated, Drawn, Deny, Finished}
+use Rattle.radio_events.specs.declared.event.Event.{Event}
+use Rattle.radio_events.specs.declared.reply.Reply.{Reply}
+use Rattle.radio_events.specs.declared.reply.Reply.TheVariants.{Feeding, Seated, Drawn, Deny, Finished}
 use Rattle.radio_core.specs.World.{World}
 use Rattle.radio_core.specs.Step.{reply_to, world_after}
 use Rattle.radio_session.specs.declared.session.Says.{Says}

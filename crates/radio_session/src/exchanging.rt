@@ -1,7 +1,7 @@
 //! A connection's events, exchanged with whoever applies them.
 
 ghost use Rattle.std.specs.Prelude.{◌≡◌, ◌++◌, IfOk};
-ghost use Rattle.radio_core.specs.declared.reply.Reply.{Reply as ReplyOf};
+ghost use Rattle.radio_events.specs.declared.reply.Reply.{Reply as ReplyOf};
 ghost use Rattle.radio_session.specs.Saying.{said};
 ghost use Rattle.radio_session.specs.Exchanges.{Exchange, Exchanges, LeavesAfter, is_leave};
 ghost use Rattle.radio_session.specs.Conversation.{saying_now};
@@ -9,7 +9,8 @@ ghost use Rattle.radio_session.specs.Conversation.{saying_now};
 use crate::OutOfMemory;
 use crate::session::Session;
 use crate::state::State;
-use radio_core::{Core, Event, Reply};
+use radio_core::Core;
+use radio_events::{Event, Reply};
 
 /// Who applies the events of connections: a core, or whoever has one.
 pub trait Applies {

@@ -10,7 +10,7 @@ use crate::stations::settings;
 use crate::two_callers::{are_served, is_of_two};
 use radio_access::Lists;
 use radio_book::{Entry, House, Kept, PASSES, Pass, SettleFault};
-use radio_core::Event;
+use radio_events::Event;
 use radio_hall::{Hall, settle};
 use radio_settings::{Settings, SettingsFault};
 use std::alloc::Global;

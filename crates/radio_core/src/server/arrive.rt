@@ -3,10 +3,10 @@ ghost use Rattle.radio_core.specs.Facts.{largest_number};
 ghost use Rattle.radio_core.specs.Arrive.{arrives, admits_client};
 
 use super::state::State;
-use crate::Reply;
+use radio_events::Reply;
 use crate::outcome::{Change, Outcome};
 use radio_addr::Peer;
-use radio_policy::{Action, Subject, Verdict, judge};
+use radio_policy::{Action, Verdict, judge};
 
 impl State {
     /// A connection arrives.
@@ -14,10 +14,7 @@ impl State {
         ensures { result ≡ arrives self.now peer }
     {
         let facts = self.house.arrive_facts(peer);
-        let asker = Subject {
-            names_a_mount: false,
-        };
-        match judge(&facts, &asker, &Action::Arrive) {
+        match judge(&Action::Arrive(facts)) {
             Verdict::Deny(rule) => Outcome {
                 reply: Reply::Deny(rule),
                 change: Change::Nothing,

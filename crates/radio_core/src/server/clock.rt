@@ -2,7 +2,7 @@ ghost use Rattle.std.specs.Prelude.{◌≡◌};
 ghost use Rattle.radio_core.specs.Clock.{hears_clock};
 
 use super::state::State;
-use crate::Reply;
+use radio_events::Reply;
 use crate::outcome::{Change, Outcome};
 
 impl State {

@@ -9,7 +9,8 @@ ghost use Rattle.radio_core.specs.World.{standing_of};
 use super::state::State;
 use crate::outcome::{Change, Outcome};
 use crate::standing::Standing;
-use crate::{OutOfMemory, Reply};
+use crate::OutOfMemory;
+use radio_events::Reply;
 use radio_blocks::Pieces;
 use radio_seats::Seat;
 

@@ -2,7 +2,7 @@ ghost use Rattle.std.specs.Prelude.{◌≡◌};
 ghost use Rattle.radio_core.specs.Leave.{leaves};
 
 use super::state::State;
-use crate::Reply;
+use radio_events::Reply;
 use crate::outcome::{Change, Outcome};
 use crate::standing::Standing;
 

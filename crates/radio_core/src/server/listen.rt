@@ -1,16 +1,16 @@
 ghost use Rattle.std.specs.Prelude.{◌≡◌, Some, IfOk, MatchResult};
-ghost use Rattle.radio_core.specs.Facts.{session_at};
+ghost use Rattle.radio_core.specs.Sessions.{session_of};
 ghost use Rattle.radio_core.specs.Listen.{asks_to_hear, takes_seat, burst_of, interval_for, first_seat};
 
 use super::state::State;
-use crate::facts::asker_of;
 use crate::house::House;
 use crate::outcome::{Change, Outcome};
 use crate::sessions::Session;
 use crate::standing::Standing;
-use crate::{ListenRequest, OutOfMemory, Reply};
+use crate::OutOfMemory;
+use radio_events::{ListenRequest, Reply};
 use radio_addr::Peer;
-use radio_policy::{Action, Verdict, judge};
+use radio_policy::{Action, Rule, Verdict, judge};
 use radio_seats::{KeptName, Seat};
 use radio_settings::MountName;
 
@@ -20,35 +20,43 @@ impl State {
         ensures { IfOk result (λ o. o ≡ asks_to_hear self.now asked) }
     {
         match self.may_listen(&asked) {
-            Ok(peer) => self.take_seat(asked, peer),
+            Ok((peer, mount)) => self.take_seat(asked, peer, &mount),
             Err(other) => Ok(other),
         }
     }
 
-    /// The address of the client, if he may hear the mount, or what else comes of his asking.
-    fn may_listen(&self, asked: &ListenRequest) -> Result<Peer, Outcome>
+    /// The address of the client and the mount, if he may hear it, or what else comes of his asking.
+    fn may_listen(&self, asked: &ListenRequest) -> Result<(Peer, MountName), Outcome>
         ensures { MatchResult result
-            (λ peer. asks_to_hear self.now asked.now ≡ takes_seat self.now.house asked.now peer (session_at self.now.house asked.now.mount)) (λ other. other
-            ≡ asks_to_hear self.now asked.now) }
+            (λ may. (may.1 ≡ asked.now.mount)
+            × (asks_to_hear self.now asked.now ≡ takes_seat self.now.house asked.now may.0 (session_of self.now.house.live asked.now.mount)))
+            (λ other. other ≡ asks_to_hear self.now asked.now) }
     {
         let peer = match self.standing(asked.id) {
             Standing::Undecided(peer) => peer,
             Standing::Finished(rule) => return Err(Outcome::finished(rule)),
             _ => return Err(Outcome::stray()),
         };
-        let facts = self.house.listen_facts(&self.seats, asked);
-        let asker = asker_of(asked.mount.as_slice());
-        match judge(&facts, &asker, &Action::Listen) {
+        let Some(mount) = MountName::read(asked.mount.as_slice()) else {
+            return Err(Outcome::refused(Rule::BadMount, asked.id));
+        };
+        let facts = self.house.listen_facts(&self.seats, &mount, asked.pair.as_ref());
+        match judge(&Action::Listen(Some(facts))) {
             Verdict::Deny(rule) => Err(Outcome::refused(rule, asked.id)),
-            Verdict::Allow => Ok(peer),
+            Verdict::Allow => Ok((peer, mount)),
         }
     }
 
     /// The listener sits down at the mount.
-    fn take_seat(&self, asked: ListenRequest, peer: Peer) -> Result<Outcome, OutOfMemory>
-        ensures { IfOk result (λ o. o ≡ takes_seat self.now.house asked peer (session_at self.now.house asked.mount)) }
+    fn take_seat(
+        &self,
+        asked: ListenRequest,
+        peer: Peer,
+        mount: &MountName,
+    ) -> Result<Outcome, OutOfMemory>
+        ensures { IfOk result (λ o. o ≡ takes_seat self.now.house asked peer (session_of self.now.house.live mount.now)) }
     {
-        match self.house.session_at(asked.mount.as_slice()) {
+        match self.house.session(mount) {
             Some(session) => self.house.welcome(asked, peer, session),
             None => Ok(Outcome::stray()),
         }

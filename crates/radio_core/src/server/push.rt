@@ -2,11 +2,11 @@ ghost use Rattle.std.specs.Prelude.{◌≡◌};
 ghost use Rattle.radio_core.specs.Push.{delivers};
 
 use super::state::State;
-use crate::Reply;
+use radio_events::Reply;
 use crate::outcome::{Change, Outcome};
 use crate::standing::Standing;
 use radio_blocks::Block;
-use radio_policy::{Action, Facts, Subject, Verdict, judge};
+use radio_policy::{Action, PushFacts, Verdict, judge};
 
 impl State {
     /// A source delivers a block.
@@ -19,14 +19,10 @@ impl State {
             _ => return Outcome::stray(),
         };
         let end = self.house.live_end(&mount);
-        let facts = Facts {
+        let facts = PushFacts {
             number_is_spent: end.checked_add(block.len() as u64).is_none(),
-            ..Facts::NONE
         };
-        let asker = Subject {
-            names_a_mount: true,
-        };
-        match judge(&facts, &asker, &Action::Push) {
+        match judge(&Action::Push(facts)) {
             Verdict::Deny(rule) => Outcome {
                 reply: Reply::Deny(rule),
                 change: Change::Nothing,

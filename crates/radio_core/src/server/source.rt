@@ -1,15 +1,15 @@
 ghost use Rattle.std.specs.Prelude.{◌≡◌, MatchResult, IfOk};
 ghost use Rattle.radio_core.specs.declared.outcome.Change.TheVariants.{Begin};
-ghost use Rattle.radio_core.specs.declared.reply.Reply.TheVariants.{Feeding};
+ghost use Rattle.radio_events.specs.declared.reply.Reply.TheVariants.{Feeding};
 ghost use Rattle.radio_core.specs.Outcomes.{says};
 ghost use Rattle.radio_core.specs.Source.{asks_to_feed, begins, shown_for};
 
 use super::state::State;
-use crate::facts::asker_of;
 use crate::outcome::{Change, Outcome};
 use crate::standing::Standing;
-use crate::{OutOfMemory, Reply, SourceRequest};
-use radio_policy::{Action, Verdict, judge};
+use crate::OutOfMemory;
+use radio_events::{Reply, SourceRequest};
+use radio_policy::{Action, Rule, Verdict, judge};
 use radio_settings::{MountName, Shown};
 
 impl State {
@@ -49,12 +49,13 @@ impl State {
             Standing::Finished(rule) => return Err(Outcome::finished(rule)),
             _ => return Err(Outcome::stray()),
         }
-        let path = asked.mount.as_slice();
-        let facts = self.house.source_facts(asked);
-        let asker = asker_of(path);
-        match judge(&facts, &asker, &Action::Source) {
+        let Some(mount) = MountName::read(asked.mount.as_slice()) else {
+            return Err(Outcome::refused(Rule::BadMount, asked.id));
+        };
+        let facts = self.house.source_facts(&mount, asked);
+        match judge(&Action::Source(Some(facts))) {
             Verdict::Deny(rule) => Err(Outcome::refused(rule, asked.id)),
-            Verdict::Allow => Ok(MountName::read(path).unwrap()),
+            Verdict::Allow => Ok(mount),
         }
     }
 }

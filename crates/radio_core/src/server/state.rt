@@ -4,13 +4,15 @@ ghost use Rattle.std.specs.Prelude.{◌≡◌, IsOk, IfOk, OnOk, OnErr};
 ghost use Rattle.radio_seats.specs.Seats.{listener_of};
 ghost use Rattle.radio_core.specs.World.{opening, standing_of, standing_of_listener};
 ghost use Rattle.radio_core.specs.KeptChanges.{kept_changed};
-ghost use Rattle.radio_core.specs.Step.{outcome, StandsForSome, NeedsNoMemory, TakesNoMemory};
+ghost use Rattle.radio_core.specs.Step.{outcome, StandsForSome, NeedsNoMemory};
+ghost use Rattle.radio_events.specs.Events.{TakesNoMemory};
 
 use crate::clients::ClientState;
 use crate::house::House;
 use crate::outcome::{Change, Outcome};
 use crate::standing::Standing;
-use crate::{Event, OutOfMemory};
+use crate::OutOfMemory;
+use radio_events::Event;
 use radio_access::Lists;
 use radio_seats::{Seating, Seats};
 use radio_settings::Settings;

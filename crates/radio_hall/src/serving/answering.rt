@@ -9,7 +9,7 @@ ghost use Rattle.radio_hall.specs.Answering.{IsToldAs, IsAnswered, AreAnswered};
 
 use crate::owed::Owed;
 use crate::{Conn, Fate, Line, Server, Status};
-use radio_core::{Event, Reply};
+use radio_events::{Event, Reply};
 use radio_session::{Session, State};
 
 /// Applies an event of the connection, and tells it the reply. The connection has ended where it is

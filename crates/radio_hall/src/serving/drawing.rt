@@ -7,7 +7,7 @@ ghost use Rattle.radio_hall.specs.Leaving.{Draws, DrawsFor};
 use crate::serving::answering::answer;
 use crate::serving::{Now, SECOND_MS};
 use crate::{Conn, Line, Server};
-use radio_core::Event;
+use radio_events::Event;
 
 /// For how many bytes of data a listener has room in a turn.
 pub const DRAW_ROOM: u32 = 16384;

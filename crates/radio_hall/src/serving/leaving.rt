@@ -5,7 +5,7 @@ ghost use Rattle.radio_hall.specs.Turns.{HasApplied};
 ghost use Rattle.radio_hall.specs.Leaving.{Leaves};
 
 use crate::{Conn, Line, Server};
-use radio_core::Event;
+use radio_events::Event;
 
 /// The client leaves whose connection is over, if he has not left. Where memory is refused for that,
 /// he leaves with a later turn.

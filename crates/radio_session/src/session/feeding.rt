@@ -1,7 +1,7 @@
 //! A source's body, read into events.
 
 ghost use Rattle.std.specs.Prelude.{◌≡◌, ◌≢◌, ◌++◌, map, false, None, IfOk, OnOk};
-ghost use Rattle.radio_core.specs.declared.event.Event.TheVariants.{Push};
+ghost use Rattle.radio_events.specs.declared.event.Event.TheVariants.{Push};
 ghost use Rattle.radio_blocks.specs.Cutting.{blocks_of};
 ghost use Rattle.radio_source.specs.Place.{after, data_of, has_ended, fault_at};
 ghost use Rattle.radio_source.specs.Feeding.{unfed};
@@ -12,7 +12,7 @@ ghost use Rattle.radio_source.specs.declared.fault.BodyFault.TheVariants.{OutOfM
 use crate::OutOfMemory;
 use crate::session::LastWord;
 use radio_blocks::Block;
-use radio_core::Event;
+use radio_events::Event;
 use radio_source::{Blocks, Body, BodyFault};
 use std::alloc::{AllocError, Global};
 use std::marker::Model;

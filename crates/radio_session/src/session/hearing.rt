@@ -10,7 +10,7 @@ use crate::session::asking::{asks_to_feed, asks_to_hear};
 use crate::session::feeding::{KeptBody, push_blocks};
 use crate::session::framing::{body, framing_of, greeting, is_source};
 use crate::session::{Closing, Hears, LastWord, Session};
-use radio_core::Event;
+use radio_events::Event;
 use radio_heads::{Head, Progress, read_request_from};
 use radio_policy::Rule;
 use std::alloc::{AllocError, Global};

@@ -11,7 +11,7 @@ use crate::session::weaving::{interval_told, tell_draw, text_of, weaver_at};
 use crate::session::{Closing, Greeting, LastWord, Session};
 use crate::state::{Ending, State};
 use radio_blocks::Pieces;
-use radio_core::Reply;
+use radio_events::Reply;
 use radio_heads::{Answer, FieldValue, Welcome, write_answer};
 use radio_policy::Rule;
 use radio_settings::Shown;

@@ -3,7 +3,8 @@
 use crate::calls::{arrival, listen_event, push_event, source_event};
 use radio_access::Lists;
 use radio_blocks::Pieces;
-use radio_core::{Core, Event, OutOfMemory, Reply};
+use radio_core::{Core, OutOfMemory};
+use radio_events::{Event, Reply};
 use radio_settings::{Settings, SettingsFault, Shown};
 use std::alloc::Global;
 

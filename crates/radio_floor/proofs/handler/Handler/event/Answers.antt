@@ -1,5 +1,5 @@
 use Rattle.std.proofs.Common.{◌≡◌, List, [], ◌∷◌, ◌++◌, IfOk, ap, subst, ◌∙◌}
-use Rattle.radio_core.specs.declared.event.Event.{Event}
+use Rattle.radio_events.specs.declared.event.Event.{Event}
 use Rattle.radio_floor.specs.ScriptState.{exchanges}
 use Rattle.radio_floor.specs.ScriptServer.{AnswersAs}
 use Rattle.radio_floor.proofs.handler.Handler.event.Goals as goal

@@ -1,6 +1,6 @@
 use Rattle.std.proofs.Common.{Result, Ok, Err, IfOk, sym, subst}
-use Rattle.radio_core.specs.declared.reply.Reply.{Reply}
-use Rattle.radio_core.specs.declared.reply.Reply.TheVariants.{Arrived}
+use Rattle.radio_events.specs.declared.reply.Reply.{Reply}
+use Rattle.radio_events.specs.declared.reply.Reply.TheVariants.{Arrived}
 use Rattle.radio_hall.specs.Connections.{Connection, IsTurnedAway}
 use Rattle.radio_hall.specs.Admission.{IsTakenIn}
 use Rattle.radio_hall.proofs.Comings.{comes_in, is_told_away}

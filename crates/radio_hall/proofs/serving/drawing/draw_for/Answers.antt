@@ -1,5 +1,5 @@
 use Rattle.std.proofs.Common.{ℕ, refl, subst, ap}
-use Rattle.radio_core.specs.declared.event.Event.TheVariants.{Draw}
+use Rattle.radio_events.specs.declared.event.Event.TheVariants.{Draw}
 use Rattle.radio_hall.specs.Connections.{Connection}
 use Rattle.radio_hall.specs.Answering.{IsAnswered}
 use Rattle.radio_hall.proofs.Deeds.{served_by_draw}

@@ -1,6 +1,6 @@
 use Rattle.std.proofs.Common.{◌≡◌, ◌++◌, map}
 use Rattle.std.specs.Vec.Iter.{into_iter_items}
-use Rattle.radio_core.specs.declared.event.Event.TheVariants.{Push}
+use Rattle.radio_events.specs.declared.event.Event.TheVariants.{Push}
 use Rattle.radio_session.proofs.session.feeding.push_blocks.Given as goal
 
 -- the events so far and those of the blocks that are left are those of all

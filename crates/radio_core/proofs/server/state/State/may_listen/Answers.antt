@@ -1,45 +1,69 @@
-use Rattle.std.proofs.Common.{◌≡◌, refl, ap, sym, subst, ◌∙◌}
+use Rattle.std.proofs.Common.{◌≡◌, true, ℕ, List, Option, Some, refl, ap, sym, subst, ◌∙◌}
 use Rattle.radio_addr.specs.declared.peer.Peer.{Peer}
-use Rattle.radio_policy.specs.declared.facts.Facts.{Facts}
-use Rattle.radio_policy.specs.declared.facts.Subject.{Subject}
+use Rattle.radio_creds.specs.Credentials.{Credentials}
+use Rattle.radio_policy.specs.declared.facts.ListenFacts.{ListenFacts}
 use Rattle.radio_policy.specs.declared.judgement.Verdict.{Verdict}
-use Rattle.radio_policy.specs.declared.judgement.Verdict.TheVariants.{Deny as Denied}
+use Rattle.radio_policy.specs.declared.judgement.Verdict.TheVariants.{Allow, Deny as Denied}
 use Rattle.radio_policy.specs.declared.rule.Rule.{Rule}
 use Rattle.radio_policy.specs.Table.{listen_rows}
 use Rattle.radio_policy.specs.Verdicts.{verdict_in}
-use Rattle.radio_core.specs.declared.event.ListenRequest.{ListenRequest}
+use Rattle.radio_settings.specs.MountName.{is_mount_name}
+use Rattle.radio_events.specs.declared.event.ListenRequest.{ListenRequest}
 use Rattle.radio_core.specs.declared.outcome.Change.{Change}
 use Rattle.radio_core.specs.declared.outcome.Change.TheVariants.{Answer}
 use Rattle.radio_core.specs.declared.outcome.Outcome.{Outcome}
-use Rattle.radio_core.specs.declared.reply.Reply.TheVariants.{Deny}
+use Rattle.radio_events.specs.declared.reply.Reply.TheVariants.{Deny}
 use Rattle.radio_core.specs.declared.standing.Standing.{Standing}
 use Rattle.radio_core.specs.declared.standing.Standing.TheVariants.{Undecided}
-use Rattle.radio_core.specs.Facts.{listen_facts, asker_of, session_at, rows_to_listen}
+use Rattle.radio_core.specs.Facts.{listen_facts_at, rows_to_listen}
 use Rattle.radio_core.specs.Listen.{takes_seat}
 use Rattle.radio_core.specs.Outcomes.{says, on_verdict, if_undecided}
+use Rattle.radio_core.specs.Sessions.{session_of}
 use Rattle.radio_core.specs.World.{World, standing_of}
 use Rattle.radio_core.proofs.server.state.State.may_listen.Goals as goal
 
--- the rule by which facts deny, however they were looked up
-judged : (w : World) (asked : ListenRequest) (facts : Facts) (asker : Subject) (verdict : Verdict) (rule : Rule) → facts ≡ listen_facts w.house w.seats asked
-    → asker ≡ asker_of asked.mount → verdict ≡ verdict_in (listen_rows facts asker) → verdict ≡ Denied rule → verdict_in (rows_to_listen w asked) ≡ Denied rule
-judged w asked facts asker verdict rule looked_up of_path said denied =
-    ap (λ (f : Facts). verdict_in (listen_rows f (asker_of asked.mount))) (sym looked_up)
-    ∙ ap (λ (s : Subject). verdict_in (listen_rows facts s)) (sym of_path) ∙ sym said ∙ denied
+-- the policy judges by the facts of the mount that the path names
+judged : (w : World) (asked : ListenRequest) (mount : List ℕ) (facts : ListenFacts) (verdict : Verdict) → is_mount_name asked.mount ≡ true
+    → mount ≡ asked.mount → facts ≡ listen_facts_at w.house w.seats mount asked.pair → verdict ≡ verdict_in (listen_rows (Some facts))
+    → verdict_in (rows_to_listen w asked) ≡ verdict
+judged w asked mount facts verdict named same looked_up said =
+    rw named (ap (λ (m : List ℕ). verdict_in (listen_rows (Some (listen_facts_at w.house w.seats m asked.pair)))) (sym same)
+    ∙ ap (λ (f : ListenFacts). verdict_in (listen_rows (Some f))) (sym looked_up) ∙ sym said)
 
-refused_by : (s : Standing) (v : Verdict) (peer : Peer) (rule : Rule) (answered : Change) (go : Peer → Outcome) → s ≡ Undecided peer → v ≡ Denied rule
-    → says (Deny rule) answered ≡ if_undecided s (λ p. on_verdict v answered (go p))
-refused_by s v peer rule answered go undecided denied = rw (undecided, denied) refl
+decided : (s : Standing) (v : Verdict) (peer : Peer) (verdict : Verdict) (answered : Change) (go : Peer → Outcome) → s ≡ Undecided peer → v ≡ verdict
+    → if_undecided s (λ p. on_verdict v answered (go p)) ≡ on_verdict verdict answered (go peer)
+decided s v peer verdict answered go undecided is = rw (undecided, is) refl
+
+module _ (w : World) (asked : ListenRequest) (peer : Peer) (undecided : standing_of w asked.id ≡ Undecided peer) (verdict : Verdict)
+    (is : verdict_in (rows_to_listen w asked) ≡ verdict) where
+  comes_to : if_undecided (standing_of w asked.id) (λ p. on_verdict (verdict_in (rows_to_listen w asked)) (Answer asked.id)
+      (takes_seat w.house asked p (session_of w.house.live asked.mount)))
+      ≡ on_verdict verdict (Answer asked.id) (takes_seat w.house asked peer (session_of w.house.live asked.mount))
+  comes_to = decided (standing_of w asked.id) (verdict_in (rows_to_listen w asked)) peer verdict (Answer asked.id)
+      (λ p. takes_seat w.house asked p (session_of w.house.live asked.mount)) undecided is
 
 pub returns-in-Deny : goal.returns-in-Deny
 returns-in-Deny c =
     let w = c.args.self.now in
     let asked = c.args.asked.now in
+    let named : is_mount_name asked.mount ≡ true = ap is_mount_name (sym c.as_slice.ensures) ∙ c.in-Some.ensures.0 in
     let looked_up =
-    subst (λ (x : World). c.listen_facts-facts.result ≡ listen_facts x.house x.seats c.args.asked.now) c.self.view_is c.listen_facts-facts.ensures in
-    c.refused.ensures
-    ∙ refused_by (standing_of w asked.id) (verdict_in (rows_to_listen w asked)) c.in-Undecided.peer c.in-Deny.rule (Answer asked.id)
-    (λ peer. takes_seat w.house asked peer (session_at w.house asked.mount))
-    (sym c.standing.ensures ∙ c.in-Undecided.is)
-    (judged w asked c.listen_facts-facts.result c.asker_of-asker.result c.judge.result c.in-Deny.rule looked_up
-    (c.asker_of-asker.ensures ∙ ap asker_of c.as_slice.ensures) c.judge.ensures c.in-Deny.is)
+    subst (λ (x : World). c.listen_facts-facts.result ≡ listen_facts_at x.house x.seats c.in-Some.mount c.args.asked.now.pair) c.self.view_is
+    (rw (← c.as_ref.ensures.value) c.listen_facts-facts.ensures) in
+    c.refused-in-Deny.ensures
+    ∙ sym (comes_to w asked c.in-Undecided.peer (sym c.standing.ensures ∙ c.in-Undecided.is) (Denied c.in-Deny.rule)
+    (judged w asked c.in-Some.mount c.listen_facts-facts.result (Denied c.in-Deny.rule) named (c.in-Some.ensures.1 ∙ c.as_slice.ensures) looked_up
+    (sym c.in-Deny.is ∙ c.judge.ensures)))
+
+pub returns-in-Allow : goal.returns-in-Allow
+returns-in-Allow c =
+    let w = c.args.self.now in
+    let asked = c.args.asked.now in
+    let named : is_mount_name asked.mount ≡ true = ap is_mount_name (sym c.as_slice.ensures) ∙ c.in-Some.ensures.0 in
+    let looked_up =
+    subst (λ (x : World). c.listen_facts-facts.result ≡ listen_facts_at x.house x.seats c.in-Some.mount c.args.asked.now.pair) c.self.view_is
+    (rw (← c.as_ref.ensures.value) c.listen_facts-facts.ensures) in
+    (c.in-Some.ensures.1 ∙ c.as_slice.ensures,
+    comes_to w asked c.in-Undecided.peer (sym c.standing.ensures ∙ c.in-Undecided.is) Allow
+    (judged w asked c.in-Some.mount c.listen_facts-facts.result Allow named (c.in-Some.ensures.1 ∙ c.as_slice.ensures) looked_up
+    (sym c.in-Allow.is ∙ c.judge.ensures)))

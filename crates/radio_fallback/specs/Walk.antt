@@ -6,9 +6,9 @@ use Rattle.radio_policy.specs.declared.rule.Rule.{Rule}
 use Rattle.radio_policy.specs.declared.rule.Rule.TheVariants.{NotLive, MountFull, ListenerPassword, UserTwice, FallbackDepth}
 use Rattle.radio_seats.specs.declared.seat.Listener.{Listener}
 use Rattle.radio_seats.specs.declared.seat.Seating.{Seating}
-use Rattle.radio_seats.specs.declared.walk.Found.{Found}
-use Rattle.radio_seats.specs.declared.walk.Landing.{Landing}
-use Rattle.radio_seats.specs.declared.walk.Landing.TheVariants.{Lands, Stops}
+use Rattle.radio_fallback.specs.declared.walking.Found.{Found}
+use Rattle.radio_fallback.specs.declared.walking.Landing.{Landing}
+use Rattle.radio_fallback.specs.declared.walking.Landing.TheVariants.{Lands, Stops}
 use Rattle.radio_seats.specs.Seats.{count_at, is_user_at, sits_there}
 
 -- what a walk sees of the server

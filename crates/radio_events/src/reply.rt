@@ -39,7 +39,7 @@ pub enum Reply {
 
 impl Reply {
     ghost use Rattle.std.specs.Prelude.{◌≡◌, IsOk, IfOk};
-    ghost use Rattle.radio_core.specs.Replies.{HoldsNoText};
+    ghost use Rattle.radio_events.specs.Replies.{HoldsNoText};
 
     /// An equal reply. `OutOfMemory` where memory was refused.
     pub fn again(&self) -> Result<Reply, OutOfMemory>

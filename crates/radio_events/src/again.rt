@@ -1,7 +1,7 @@
 //! Equal copies of events, for whoever keeps a record of them.
 
 ghost use Rattle.std.specs.Prelude.{◌≡◌, IsOk, IfOk};
-ghost use Rattle.radio_core.specs.Step.{TakesNoMemory};
+ghost use Rattle.radio_events.specs.Events.{TakesNoMemory};
 
 use crate::{Event, ListenRequest, OutOfMemory, SourceRequest};
 use radio_creds::Pair;

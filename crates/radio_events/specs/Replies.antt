@@ -1,6 +1,6 @@
 -- Replies that are copied without memory.
-use Rattle.radio_core.specs.declared.reply.Reply.{Reply}
-use Rattle.radio_core.specs.declared.reply.Reply.TheVariants.{Seated, Drawn}
+use Rattle.radio_events.specs.declared.reply.Reply.{Reply}
+use Rattle.radio_events.specs.declared.reply.Reply.TheVariants.{Seated, Drawn}
 
 -- it has neither data nor texts
 abbrev pub HoldsNoText : Reply → Type 0

@@ -1,7 +1,7 @@
 //! Whether events, and whether replies, are equal.
 
 ghost use Rattle.std.specs.Prelude.{◌≡◌, ◌↔◌, IsTrue};
-ghost use Rattle.radio_core.specs.Step.{TakesNoMemory};
+ghost use Rattle.radio_events.specs.Events.{TakesNoMemory};
 
 use crate::data::is_same_data;
 use crate::{Event, ListenRequest, Reply, SourceRequest};

@@ -1,8 +1,8 @@
 use Rattle.std.proofs.Common.{◌≡◌, ◌-◌, ◌||◌}
 use Rattle.std.specs.Option.{option_copied}
 use Rattle.radio_seats.specs.Seats.{count_at}
-use Rattle.radio_seats.specs.Walk.{sits_already}
-use Rattle.radio_seats.proofs.seats.Seats.left_at.Given as goal
+use Rattle.radio_fallback.specs.Walk.{sits_already}
+use Rattle.radio_fallback.proofs.walking.left_at.Given as goal
 
 -- what is left of the places when those who are still to be looked at have theirs too, and whether the user is one of all
 abbrev pub invariant-loop-listener : goal.invariant-loop-listener

@@ -1,0 +1,23 @@
+-- Whose events are, and which take no memory.
+use Rattle.std.specs.Prelude.{ℕ, Option, Some, None}
+use Rattle.radio_events.specs.declared.event.Event.{Event}
+use Rattle.radio_events.specs.declared.event.Event.TheVariants.{Arrive, Source, Push, SourceEnd, Title, Listen, Draw, Leave, Clock}
+
+-- the client of an event; an arrival and the clock have none
+abbrev pub client_in : Event → Option ℕ
+client_in (Arrive peer) = None
+client_in (Source asked) = Some asked.id
+client_in (Push id block) = Some id
+client_in (SourceEnd id) = Some id
+client_in (Title id text) = Some id
+client_in (Listen asked) = Some asked.id
+client_in (Draw id room) = Some id
+client_in (Leave id) = Some id
+client_in (Clock ms) = None
+
+-- the end of a session and of a connection, and the clock, are never refused for want of memory
+abbrev pub TakesNoMemory : Event → Type 0
+TakesNoMemory (SourceEnd id) = Unit {0}
+TakesNoMemory (Leave id) = Unit {0}
+TakesNoMemory (Clock ms) = Unit {0}
+TakesNoMemory _ = ⊥

@@ -1,0 +1,11 @@
+//! Where one who asks for a mount comes to sit, or which rule stops him.
+//!
+//! - [`View`]: what a walk asks of the server; [`walk_from`] goes over it, and over the table of those who sit.
+//! - [`Walk`]: what it [`Found`] at the mount from which it began, and its [`Landing`].
+#![tactic(auto)]
+
+mod view;
+mod walking;
+
+pub use view::View;
+pub use walking::{Found, Landing, Walk, walk_from};
