@@ -1,6 +1,6 @@
 -- the laws of access and of admission
 use Rattle.std.proofs.Common.{◌≡◌, inl, inr, Bool, true, false, ℕ, ◌-◌, ◌<◌, ◌≤◌, ◌==◌, Option, Some, None, List, [], ◌∷◌, refl, ap, sym, subst, ◌∙◌, arith}
-use Rattle.std.specs.Prelude.{find, nat_le, unwrap_or}
+use Rattle.std.specs.Prelude.{find, nat_le, unwrap_or, min}
 use Rattle.std.proofs.lemmas.Bool.Decides.{nat_tests}
 use Rattle.radio_settings.specs.declared.field.Shown.{Shown}
 use Rattle.radio_tables.specs.Lists.{Each, Has}
@@ -12,22 +12,24 @@ use Rattle.radio_core.specs.World.{World}
 use Rattle.radio_core.specs.Access.{IsHis, AccessIsKept}
 use Rattle.radio_core.specs.Admission.{IsBlockStart, IsEarliestStart, IsSeated, BeginsAtABlock}
 use Rattle.radio_core.specs.Changes.{changed}
-use Rattle.radio_core.specs.Limits.{IsWithinLimits}
-use Rattle.radio_core.specs.Listen.{first_seat, burst_of}
+use Rattle.radio_core.specs.declared.house.House.{House}
+use Rattle.radio_settings.specs.Options.{options_for}
+use Rattle.radio_core.specs.Listen.{first_seat, burst_of, interval_for}
 use Rattle.radio_seats.specs.Seats.{seat_of, seat_in}
 use Rattle.radio_core.specs.Sessions.{Session}
 use Rattle.radio_core.specs.Sound.{AreRising, IsSound}
 use Rattle.radio_core.specs.Step.{outcome, reply_to, world_after}
-use Rattle.radio_core.specs.Stream.{end_of, burst_start}
+use Rattle.radio_core.specs.Stream.{WholeStream, end_of, burst_start}
 use Rattle.radio_core.specs.Ways.{Way, Misplaced, IsFinished, IsDenied, IsRefused, IsAdmitted, Begins, Receives, SetsTitle, TakesSeat, HandsOut, Ends}
 use Rattle.radio_core.specs.Ways.{EndsAndLeaves, Leaves, HasPassed, Ticks}
 use Rattle.radio_seats.specs.SeatLaws.{has_sat_down}
 use Rattle.radio_core.proofs.Lookups.{found_named}
 use Rattle.radio_core.proofs.Soundness.{burst_within}
+use Rattle.radio_core.proofs.LimitLemmas.{Within, sits_as, sent_as}
 use Rattle.radio_core.proofs.ListsLemmas.{KeepsLists}
 use Rattle.radio_core.proofs.Ways.{way_of}
 
-module _ (w : World) (s : IsSound w) (k : KeepsLists w) (l : IsWithinLimits w) where
+module _ (w : World) (s : IsSound w) (k : KeepsLists w) (l : Within w) where
   his_by : (event : Event) (o : Outcome) → Way w event o → (bytes : List ℕ) (title : Option (List ℕ)) → o.reply ≡ Drawn bytes title
       → IsHis w event bytes title
   his_by event o (HandsOut id room seat session sits has live) bytes title d =
@@ -50,7 +52,8 @@ module _ (w : World) (s : IsSound w) (k : KeepsLists w) (l : IsWithinLimits w) w
           his_session = old.his_session;
           passes_lists = let_in.passing;
           is_let_in = let_in.accepted;
-          is_alone = λ user other once his theirs. l.none_twice seat.mount user other id once theirs (seat, has, refl, his);
+          is_alone = λ user other once his theirs.
+              l.none_twice seat.mount user other id once (sits_as w other seat.mount user theirs) (seat, has, refl, sent_as user seat.pair his);
         };
       } where
         drawn_bytes : {a b : List ℕ} {t u : Option (List ℕ)} → Drawn a t ≡ Drawn b u → a ≡ b
@@ -63,7 +66,7 @@ module _ (w : World) (s : IsSound w) (k : KeepsLists w) (l : IsWithinLimits w) w
   his_by event o (IsDenied _ by v not) bytes title d = cc
   his_by event o (IsRefused _ id by v his undecided) bytes title d = cc
   his_by event o (IsAdmitted peer allowed) bytes title d = cc
-  his_by event o (Begins asked undecided none) bytes title d = cc
+  his_by event o (Begins asked undecided none allowed) bytes title d = cc
   his_by event o (Receives id mount block feeding) bytes title d = cc
   his_by event o (SetsTitle id mount text feeding) bytes title d = cc
   his_by event o (HasPassed ms e) bytes title d = cc
@@ -132,14 +135,20 @@ module _ (last burst : ℕ) where
   none_near (place ∷ starts) h other (inl same) near = let far = (none_at place starts (first place) refl h).1 in omega arith
   none_near (place ∷ starts) h other (inr has) near = none_near starts (none_at place starts (first place) refl h).0 other has near
 
-pub earliest_start : (session : Session) (burst : ℕ) → AreRising session.stream.starts (end_of session.stream)
-    → IsEarliestStart session.stream burst (burst_start session.stream burst)
+-- the place is the earliest block start that is at most so many bytes before the end
+record StartsWithin (stream : WholeStream) (burst place : ℕ) : Type 0 where
+  pub at_a_block : IsBlockStart stream place
+  pub in_the_burst : end_of stream - place ≤ burst
+  pub earliest : (other : ℕ) → IsBlockStart stream other → end_of stream - other ≤ burst → place ≤ other
+
+earliest_start : (session : Session) (burst : ℕ) → AreRising session.stream.starts (end_of session.stream)
+    → StartsWithin session.stream burst (burst_start session.stream burst)
 earliest_start session burst rising = by_found (find (first last burst) session.stream.starts) refl where
   last : ℕ
   last = end_of session.stream
 
   by_found : (found : Option ℕ) → find (first (end_of session.stream) burst) session.stream.starts ≡ found
-      → IsEarliestStart session.stream burst (unwrap_or found (end_of session.stream))
+      → StartsWithin session.stream burst (unwrap_or found (end_of session.stream))
   by_found None e = record { at_a_block = inr refl; in_the_burst = omega arith; earliest = λ other at near. either other at near } where
     either : (other : ℕ) → IsBlockStart session.stream other → end_of session.stream - other ≤ burst → end_of session.stream ≤ other
     either other (inl has) near = absurd (none_near (end_of session.stream) burst session.stream.starts e other has near)
@@ -154,13 +163,33 @@ earliest_start session burst rising = by_found (find (first last burst) session.
         either other (inl has) near = (first_found (end_of session.stream) burst session.stream.starts start rising e).least other has near
         either other (inr same) near = omega (arith, low)
 
+-- within the smaller of two is within both
+within_both : (stream : WholeStream) (burst queue place : ℕ) → StartsWithin stream (min burst queue) place → IsEarliestStart stream burst queue place
+within_both stream burst queue place within = record {
+  at_a_block = within.at_a_block;
+  in_the_burst = omega (arith, within.in_the_burst);
+  in_the_queue = omega (arith, within.in_the_burst);
+  earliest = λ other at near also. within.earliest other at (omega (arith, near, also));
+}
+
+-- the interval is that of the mount, where metadata were asked for
+interval_asked : (house : House) (mount : List ℕ) (wants : Bool) → wants ≡ true
+    → interval_for house mount wants ≡ Some (options_for house.settings mount).stream.mp3_metadata_interval
+interval_asked house mount wants e = rw e refl
+
+no_interval : (house : House) (mount : List ℕ) (wants : Bool) → wants ≡ false → interval_for house mount wants ≡ None
+no_interval house mount wants e = rw e refl
+
 module _ (w : World) (s : IsSound w) where
   seated_by : (event : Event) (o : Outcome) → Way w event o → (interval : Option ℕ) (shown : Shown) → o.reply ≡ Seated interval shown
-      → ((id : ℕ) → seat_of (changed w o.change).seats id ≡ seat_of (world_after w event).seats id) → IsSeated w event shown
+      → ((id : ℕ) → seat_of (changed w o.change).seats id ≡ seat_of (world_after w event).seats id) → IsSeated w event interval shown
   seated_by event o (TakesSeat asked peer session undecided live allowed) interval shown d after =
       let name = found_named w.house.live asked.mount session live in
       let itself : (asked.id == asked.id) ≡ true = grind (arith, nat_tests) in
       let seat = first_seat w.house asked peer session in
+      let same : interval ≡ interval_for w.house session.mount asked.wants_metadata = sym (seated_interval d) in
+      let here : interval ≡ interval_for w.house asked.mount asked.wants_metadata =
+      same ∙ ap (λ (m : List ℕ). interval_for w.house m asked.wants_metadata) name in
       record {
         asked = asked;
         listens = refl;
@@ -170,18 +199,30 @@ module _ (w : World) (s : IsSound w) where
         seat = seat;
         has_the_seat = sym (after asked.id) ∙ ap seat_in (has_sat_down w.seats asked.id seat itself);
         at_the_mount = name;
+        his_home = name;
         in_the_session = refl;
-        starts = subst (λ (m : List ℕ). IsEarliestStart session.stream (burst_of w.house m) (burst_start session.stream (burst_of w.house session.mount)))
-            name (earliest_start session (burst_of w.house session.mount) (s.starts asked.mount session live));
+        his_address = undecided;
+        his_pair = refl;
+        from_now = refl;
+        his_interval = sym same;
+        with_metadata = λ wants. here ∙ interval_asked w.house asked.mount asked.wants_metadata wants;
+        without_metadata = λ wants. here ∙ no_interval w.house asked.mount asked.wants_metadata wants;
+        starts = subst (λ (m : List ℕ). IsEarliestStart session.stream (options_for w.house.settings m).stream.burst_size
+            w.house.settings.limits.queue_size seat.place) name
+            (within_both session.stream (options_for w.house.settings session.mount).stream.burst_size w.house.settings.limits.queue_size seat.place
+            (earliest_start session (burst_of w.house session.mount) (s.starts asked.mount session live)));
       } where
         seated_shown : {a b : Option ℕ} {t u : Shown} → Seated a t ≡ Seated b u → t ≡ u
         seated_shown e = cc
+
+        seated_interval : {a b : Option ℕ} {t u : Shown} → Seated a t ≡ Seated b u → a ≡ b
+        seated_interval e = cc
   seated_by event o (Misplaced _) interval shown d after = cc
   seated_by event o (IsFinished _ id by his told) interval shown d after = cc
   seated_by event o (IsDenied _ by v not) interval shown d after = cc
   seated_by event o (IsRefused _ id by v his undecided) interval shown d after = cc
   seated_by event o (IsAdmitted peer allowed) interval shown d after = cc
-  seated_by event o (Begins asked undecided none) interval shown d after = cc
+  seated_by event o (Begins asked undecided none allowed) interval shown d after = cc
   seated_by event o (Receives id mount block feeding) interval shown d after = cc
   seated_by event o (SetsTitle id mount text feeding) interval shown d after = cc
   seated_by event o (HasPassed ms e) interval shown d after = cc

@@ -48,7 +48,7 @@ module _ (denies : (rows : List Row) (rule : Rule) → (verdict_in rows ≡ Deni
   denial_by event o (Misplaced _) = λ rule d. cc
   denial_by event o (IsFinished _ id by his told) = λ rule d. cc
   denial_by event o (IsAdmitted peer allowed) = λ rule d. cc
-  denial_by event o (Begins asked undecided none) = λ rule d. cc
+  denial_by event o (Begins asked undecided none allowed) = λ rule d. cc
   denial_by event o (Receives id mount block feeding) = λ rule d. cc
   denial_by event o (SetsTitle id mount text feeding) = λ rule d. cc
   denial_by event o (HasPassed ms e) = λ rule d. cc

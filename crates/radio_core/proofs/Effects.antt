@@ -96,7 +96,7 @@ module _ (w : World) (s : IsSound w) where
   effect_by event o (IsDenied _ by v nobody) = Same (λ id. refl)
   effect_by event o (IsRefused _ him by v its undecided) = let at = undecided.1 in Acts him Answered its tt (turns_answered w him (λ u. cc))
   effect_by event o (IsAdmitted peer allowed) = Joins peer (may_arrive w peer allowed) refl (turns_admitted w (w.house.last_id + 1) peer)
-  effect_by event o (Begins asked undecided none) = let at = undecided.1 in Acts asked.id (Feeds asked.mount) refl tt
+  effect_by event o (Begins asked undecided none allowed) = let at = undecided.1 in Acts asked.id (Feeds asked.mount) refl tt
       (turns_feeding w asked.id asked.mount (shown_for w.house asked.mount asked.shown) (λ u. cc))
   effect_by event o (Receives him mount block feeding) = Sweeps (λ id. lag_swept w s mount block him feeding id)
   effect_by event o (HasPassed ms e) = Same (λ id. refl)

@@ -104,7 +104,7 @@ settings_by w event o (IsFinished _ id rule his told) = refl
 settings_by w event o (IsDenied _ rule v other) = refl
 settings_by w event o (IsRefused _ id rule v his undecided) = refl
 settings_by w event o (IsAdmitted peer allowed) = refl
-settings_by w event o (Begins asked undecided none) = refl
+settings_by w event o (Begins asked undecided none allowed) = refl
 settings_by w event o (Receives id mount block feeding) = refl
 settings_by w event o (HasPassed ms e) = refl
 settings_by w event o (Ticks ms e) = (fewer_ticked w ms).settings
@@ -246,7 +246,7 @@ module _ (P : WholeStream → ℕ → Type 0) (w : World) (holds : HoldsOn P w) 
   each_by event o (IsDenied _ rule v other) = all
   each_by event o (IsRefused _ id rule v his undecided) = all
   each_by event o (IsAdmitted peer allowed) = all
-  each_by event o (Begins asked undecided none) = each_begun asked.id asked.mount (shown_for w.house asked.mount asked.shown)
+  each_by event o (Begins asked undecided none allowed) = each_begun asked.id asked.mount (shown_for w.house asked.mount asked.shown)
   each_by event o (Receives id mount block feeding) = each_received mount block
   each_by event o (HasPassed ms e) = all
   each_by event o (Ticks ms e) = each_fewer (ticked w ms) (fewer_ticked w ms)

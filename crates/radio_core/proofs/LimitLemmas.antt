@@ -20,7 +20,7 @@ use Rattle.radio_core.specs.declared.outcome.Outcome.{Outcome}
 use Rattle.radio_core.specs.declared.outcome.Change.TheVariants.{TakeSeat}
 use Rattle.radio_core.specs.declared.standing.Standing.TheVariants.{Undecided}
 use Rattle.radio_core.specs.Changes.{changed, session_ended, received, timed_out_by, durations_over, first_silent, session_silenced, on_silent, silence, ticked}
-use Rattle.radio_core.specs.Limits.{IsWithinLimits, most_at, allows_duplicates_at}
+use Rattle.radio_core.specs.Limits.{IsWithinLimits, SentUser, SitsThereAs, most_at, allows_duplicates_at}
 use Rattle.radio_core.specs.Listen.{first_seat}
 use Rattle.radio_core.specs.Run.{world_after_all, run_after}
 use Rattle.radio_core.specs.Sessions.{Session, session_of}
@@ -38,6 +38,25 @@ use Rattle.radio_core.specs.Facts.{live_end}
 use Rattle.radio_core.specs.Timeouts.{lags_behind, has_sat_out}
 use Rattle.radio_core.proofs.Soundness.{has_new_seat, beside_new_seat}
 use Rattle.radio_core.proofs.Ways.{way_of, may_listen, IsWelcome, found_by}
+
+-- the limits, with users compared as the table does it
+pub record Within (w : World) : Type 0 where
+  pub not_too_many : (mount : List ℕ) (most : ℕ) → most_at w mount ≡ Some most → length (seats_at w.seats mount) ≤ most
+  pub none_twice : (mount user : List ℕ) (id other : ℕ) → allows_duplicates_at w mount ≡ false → SitsAs w.seats id mount user
+      → SitsAs w.seats other mount user → id ≡ other
+
+-- an equal user is the same bytes
+pub sent_as : (user : List ℕ) (pair : Option Credentials) → SentUser user pair → has_user user pair ≡ true
+sent_as user pair sent = ap (has_user user) sent.1 ∙ (bytes_eq-Decides sent.0.user user).1 sent.2
+
+pub sits_as : (w : World) (id : ℕ) (mount user : List ℕ) → SitsThereAs w id mount user → SitsAs w.seats id mount user
+sits_as w id mount user sits = (sits.seat, sits.has_the_seat, sits.at_the_mount, sent_as user sits.seat.pair sits.his_user)
+
+pub within_limits : (w : World) → Within w → IsWithinLimits w
+within_limits w l = record {
+  not_too_many = l.not_too_many;
+  none_twice = λ mount user id other once his theirs. l.none_twice mount user id other once (sits_as w id mount user his) (sits_as w other mount user theirs);
+}
 
 -- a mount that is not full has room for one more
 room_left : (count most : ℕ) (limit : Option ℕ) → limit ≡ Some most → is_full count limit ≡ false → count < most
@@ -71,9 +90,9 @@ nobody_came_ticking w ms =
     nobody_came_twice w.seats later.seats (ticked w ms).seats (nobody_came_ending (has_sat_out w.house.settings ms) TimeOver w.seats)
     (nobody_came_silencing (length later.house.live) later)
 
-module _ (w : World) (s : IsSound w) (l : IsWithinLimits w) where
+module _ (w : World) (s : IsSound w) (l : Within w) where
   -- where nobody has come, the limits hold still
-  within_still : (later : World) → later.house.settings ≡ w.house.settings → NobodyCame w.seats later.seats → IsWithinLimits later
+  within_still : (later : World) → later.house.settings ≡ w.house.settings → NobodyCame w.seats later.seats → Within later
   within_still later same came = record {
     not_too_many = λ mount most e.
         let before = l.not_too_many mount most (ap (λ (x : Settings). most_in x mount) (sym same) ∙ e) in omega (arith, came.no_more mount, before);
@@ -138,16 +157,16 @@ module _ (w : World) (s : IsSound w) (l : IsWithinLimits w) where
         (λ same. absurd (nobody_else mount user id once (his_now mount user other same theirs) (sat_before mount user id away his)))
         (λ apart. l.none_twice mount user id other once (sat_before mount user id away his) (sat_before mount user other apart theirs)))
 
-    within_seated : IsWithinLimits later
+    within_seated : Within later
     within_seated = record { not_too_many = still_room; none_twice = one_each }
 
-  within_by : (event : Event) (o : Outcome) → Way w event o → IsWithinLimits (changed w o.change)
+  within_by : (event : Event) (o : Outcome) → Way w event o → Within (changed w o.change)
   within_by event o (Misplaced _) = l
   within_by event o (IsFinished _ him rule his finished) = l
   within_by event o (IsDenied _ rule v nobody) = l
   within_by event o (IsRefused _ him rule v his undecided) = within_still (changed w o.change) refl (nobody_came w.seats)
   within_by event o (IsAdmitted peer allowed) = within_still (changed w o.change) refl (nobody_came w.seats)
-  within_by event o (Begins asked undecided none) = within_still (changed w o.change) refl (nobody_came w.seats)
+  within_by event o (Begins asked undecided none allowed) = within_still (changed w o.change) refl (nobody_came w.seats)
   within_by event o (Receives him mount block feeding) =
       within_still (changed w o.change) refl
       (nobody_came_ending (lags_behind mount (live_end (received w.house mount block) mount) w.house.settings.limits.queue_size) Lagged w.seats)
@@ -163,16 +182,19 @@ module _ (w : World) (s : IsSound w) (l : IsWithinLimits w) where
       (nobody_came_leaving (session_ended w mount).seats him))
   within_by event o (Leaves him other) = within_still (changed w o.change) refl (nobody_came_leaving w.seats him)
 
-  pub within_after : (event : Event) → IsWithinLimits (world_after w event)
+  pub within_after : (event : Event) → Within (world_after w event)
   unfolding world_after
   within_after event = within_by event (outcome w event) (way_of w event)
 
-within_after_all : (w : World) → IsSound w → IsWithinLimits w → (events : List Event) → IsWithinLimits (world_after_all w events)
+within_after_all : (w : World) → IsSound w → Within w → (events : List Event) → Within (world_after_all w events)
 within_after_all w s l [] = l
 within_after_all w s l (event ∷ events) = within_after_all (world_after w event) (sound_after w s event) (within_after w s l event) events
 
-pub limits_run : (settings : Settings) (lists : Lists) (events : List Event) → IsWithinLimits (run_after settings lists events)
-limits_run settings lists events = within_after_all (opening settings lists) (sound_opening settings lists) (record {
+pub within_run : (settings : Settings) (lists : Lists) (events : List Event) → Within (run_after settings lists events)
+within_run settings lists events = within_after_all (opening settings lists) (sound_opening settings lists) (record {
   not_too_many = λ mount most e. omega arith;
   none_twice = λ mount user id other once his theirs. let none = his.1 in cc;
 }) events
+
+pub limits_run : (settings : Settings) (lists : Lists) (events : List Event) → IsWithinLimits (run_after settings lists events)
+limits_run settings lists events = within_limits (run_after settings lists events) (within_run settings lists events)

@@ -92,7 +92,7 @@ module _ (w : World) (s : IsSound w) (k : KeepsLists w) where
   seated_by event o (IsDenied _ rule v nobody) id seat h = k.seated id seat h
   seated_by event o (IsRefused _ him rule v his undecided) id seat h = k.seated id seat h
   seated_by event o (IsAdmitted peer allowed) id seat h = k.seated id seat h
-  seated_by event o (Begins asked undecided none) id seat h = k.seated id seat h
+  seated_by event o (Begins asked undecided none allowed) id seat h = k.seated id seat h
   seated_by event o (Receives him mount block feeding) id seat h =
       k.seated id seat (sits_on_still (grown_world w mount block) (taken_in w mount block) (Push him block) (sound_grown w s mount block him feeding)
       (lag_fates w s mount block him feeding) id seat h).0
@@ -114,7 +114,7 @@ module _ (w : World) (s : IsSound w) (k : KeepsLists w) where
   same_lists event o (IsDenied _ rule v nobody) = refl
   same_lists event o (IsRefused _ him rule v his undecided) = refl
   same_lists event o (IsAdmitted peer allowed) = refl
-  same_lists event o (Begins asked undecided none) = refl
+  same_lists event o (Begins asked undecided none allowed) = refl
   same_lists event o (Receives him mount block feeding) = refl
   same_lists event o (HasPassed ms e) = refl
   same_lists event o (Ticks ms e) = (ticked_fates w s ms).lists

@@ -47,7 +47,7 @@ module _ (w : World) (s : IsSound w) (id : ℕ) (seat : Seat) (has : seat_of w.s
   own_by event o (IsDenied _ by v nobody) his none = cc
   own_by event o (IsRefused _ him by v its undecided) his none = cc
   own_by event o (IsAdmitted peer allowed) his none = cc
-  own_by event o (Begins asked undecided free) his none = cc
+  own_by event o (Begins asked undecided free allowed) his none = cc
   own_by event o (SetsTitle him mount text feeding) his none = cc
   own_by event o (HasPassed ms e) his none = cc
   own_by event o (Ticks ms e) his none = cc

@@ -129,7 +129,7 @@ module _ (w : World) (s : IsSound w) (id : ℕ) where
   step_by event o (IsDenied _ by v nobody) = stays (of_client event id []) mine (nothing_of event id [] refl) refl
   step_by event o (IsRefused _ him by v its undecided) = stays (of_client event id []) mine (nothing_of event id [] refl) refl
   step_by event o (IsAdmitted peer allowed) = stays [] mine refl refl
-  step_by event o (Begins asked undecided none) = stays (of_client event id []) mine (nothing_of event id [] refl) refl
+  step_by event o (Begins asked undecided none allowed) = stays (of_client event id []) mine (nothing_of event id [] refl) refl
   step_by event o (Receives him mount block feeding) =
       fares (grown_world w mount block) (taken_in w mount block) (Push him block) refl ((lag_fates w s mount block him feeding).fate id)
       (of_client event id []) (nothing_of event id [] refl)

@@ -172,7 +172,7 @@ module _ (w : World) (s : IsSound w) where
           ap (standing_of (changed w (admits_client w peer).change)) (sym same) ∙
               (turns_admitted w (w.house.last_id + 1) peer).his,
         )
-  fits_by event o (Begins asked undecided none) =
+  fits_by event o (Begins asked undecided none allowed) =
       let at = undecided.1 in
       record {
         arrived = λ id d. cc;

@@ -50,7 +50,7 @@ sound_by w s event o (IsFinished _ id rule his told) = s
 sound_by w s event o (IsDenied _ rule v other) = s
 sound_by w s event o (IsRefused _ id rule v his undecided) = sound_answered w s id undecided.0 undecided.1
 sound_by w s event o (IsAdmitted peer allowed) = sound_admitted w s peer
-sound_by w s event o (Begins asked undecided none) =
+sound_by w s event o (Begins asked undecided none allowed) =
     sound_begun w s asked.id asked.mount (shown_for w.house asked.mount asked.shown) undecided.0 undecided.1 none
 sound_by w s event o (Receives id mount block feeding) = sound_fates (grown_world w mount block) (taken_in w mount block) (Push id block)
     (sound_grown w s mount block id feeding) (lag_fates w s mount block id feeding)

@@ -214,7 +214,7 @@ module _ (w : World) (s : IsSound w) (sent : ℕ → List ℕ) (h : Sent w sent)
   brings_nothing event o (SetsTitle him mount text feeding) id not = nothing_of event id [] refl
   brings_nothing event o (HasPassed ms e) id not = refl
   brings_nothing event o (Ticks ms e) id not = refl
-  brings_nothing event o (Begins asked undecided none) id not = nothing_of event id [] refl
+  brings_nothing event o (Begins asked undecided none allowed) id not = nothing_of event id [] refl
   brings_nothing event o (TakesSeat asked peer session undecided live allowed) id not = nothing_of event id [] refl
   brings_nothing event o (HandsOut him room seat session sits has live) id not = nothing_of event id [] refl
   brings_nothing event o (Ends him mount feeding) id not = nothing_of event id [] refl
@@ -278,7 +278,7 @@ module _ (w : World) (s : IsSound w) (sent : ℕ → List ℕ) (h : Sent w sent)
   whole_by event o (SetsTitle him mount text feeding) = titled_whole him mount text feeding
   whole_by event o (HasPassed ms e) = as_it_was event
   whole_by event o (Ticks ms e) = λ mount session h. as_it_was event mount session ((ticked_fates w s ms).live mount session h)
-  whole_by event o (Begins asked undecided none) = λ mount session e.
+  whole_by event o (Begins asked undecided none allowed) = λ mount session e.
       begun_cases w s asked.id asked.mount (shown_for w.house asked.mount asked.shown) undecided.0 undecided.1 none mount session e
       (λ same one. subst (λ (x : Session). x.stream.bytes ≡ sent x.number ++ of_client event x.number []) one
       (sym (h.none_yet asked.id undecided.0 undecided.1) ∙ with_nothing (sent asked.id) (of_client event asked.id []) (nothing_of event asked.id [] refl)))

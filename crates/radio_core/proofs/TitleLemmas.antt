@@ -29,7 +29,7 @@ use Rattle.radio_core.proofs.AccessLemmas.{access_holds}
 use Rattle.radio_core.proofs.FinishLemmas.{undecided_before}
 use Rattle.radio_core.proofs.GoneLemmas.{not_of, nothing_of, his_own, with_nothing, last_rises}
 use Rattle.radio_core.proofs.ListsLemmas.{lists_run}
-use Rattle.radio_core.proofs.LimitLemmas.{limits_run}
+use Rattle.radio_core.proofs.LimitLemmas.{within_run}
 use Rattle.radio_core.proofs.Lookups.{beside_ended, is_over}
 use Rattle.radio_core.proofs.SoundRuns.{sound_after, sound_opening, sound_run}
 use Rattle.radio_core.proofs.SoundSessions.{begun_cases, grown_cases}
@@ -72,7 +72,7 @@ module _ (w : World) (s : IsSound w) (told : ℕ → List (List ℕ)) (h : Told 
   sets_nothing event o (IsAdmitted peer allowed) id not = refl
   sets_nothing event o (HasPassed ms e) id not = refl
   sets_nothing event o (Ticks ms e) id not = refl
-  sets_nothing event o (Begins asked undecided none) id not = nothing_of event id [] refl
+  sets_nothing event o (Begins asked undecided none allowed) id not = nothing_of event id [] refl
   sets_nothing event o (Receives him mount block feeding) id not = nothing_of event id [] refl
   sets_nothing event o (TakesSeat asked peer session undecided live allowed) id not = nothing_of event id [] refl
   sets_nothing event o (HandsOut him room seat session sits has live) id not = nothing_of event id [] refl
@@ -137,7 +137,7 @@ module _ (w : World) (s : IsSound w) (told : ℕ → List (List ℕ)) (h : Told 
   last_by event o (HasPassed ms e) = as_it_was event
   last_by event o (Ticks ms e) = λ mount session h. as_it_was event mount session ((ticked_fates w s ms).live mount session h)
   last_by event o (Receives him mount block feeding) = grown_title him mount block feeding
-  last_by event o (Begins asked undecided none) = λ mount session e.
+  last_by event o (Begins asked undecided none allowed) = λ mount session e.
       begun_cases w s asked.id asked.mount (shown_for w.house asked.mount asked.shown) undecided.0 undecided.1 none mount session e
       (λ same one. subst (λ (x : Session). x.title ≡ last_or None (told x.number ++ of_client event x.number [])) one
       (ap (λ xs. last_or None xs) (sym (h.none_yet asked.id undecided.0 undecided.1)
@@ -192,7 +192,7 @@ pub titles_hold : (settings : Settings) (lists : Lists) (events : List Event) (e
 titles_hold settings lists events event bytes title d =
     let w = run_after settings lists events in
     let sound = sound_run settings lists events in
-    let his = access_holds w sound (lists_run settings lists events) (limits_run settings lists events) event bytes title d in
+    let his = access_holds w sound (lists_run settings lists events) (within_run settings lists events) event bytes title d in
     let old = sound.seated his.id his.seat his.has_the_seat in
     let both : Some old.session ≡ Some his.session = sym old.is_live ∙ his.is_live in
     let one : old.session ≡ his.session = cc in

@@ -213,7 +213,7 @@ module _ (w : World) (s : IsSound w) (inv : AreInOrder w) where
       let free = no_client (w.house.last_id + 1) (s.numbered (w.house.last_id + 1) (omega arith)) in
       let more = placed_length (w.house.last_id + 1) (ids w) free in
       adds (changed w o.change) event o.reply refl (omega (arith, ap length (numbers_placed number_of new w.house.clients), more)) (omega arith)
-  adds_by event o (Begins asked undecided none) known =
+  adds_by event o (Begins asked undecided none allowed) known =
       nobody_moves (changed w o.change) event o.reply
       (record { same_ids = same_state asked.id (IsSource asked.mount) w.house.clients; same_rows = refl; same_last = refl }) refl refl refl refl
   adds_by event o (Receives him mount block feeding) known =
@@ -346,7 +346,7 @@ module _ (w : World) (s : IsSound w) (inv : AreInOrder w) where
         seats = inv.seats;
         fresh = turned_free w (changed w o.change) id (Undecided peer) (turns_admitted w id peer) none (λ him asks. inv.fresh him asks);
       }
-  order_by event o (Begins asked undecided none) =
+  order_by event o (Begins asked undecided none allowed) =
       let at = undecided.1 in
       order_turned w inv (changed w o.change) asked.id (Feeds asked.mount)
       (record { same_ids = same_state asked.id (IsSource asked.mount) w.house.clients; same_rows = refl; same_last = refl })

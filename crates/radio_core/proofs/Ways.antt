@@ -1,5 +1,5 @@
 -- each event ends in one of the ways
-use Rattle.std.proofs.Common.{◌≡◌, true, false, ℕ, Bool, ◌==◌, not, ◌&&◌, Option, Some, None, is_some, List, [], ◌∷◌, refl, ap, sym, ◌∙◌}
+use Rattle.std.proofs.Common.{◌≡◌, true, false, ℕ, Bool, ◌==◌, not, ◌&&◌, Option, Some, None, is_some, List, [], ◌∷◌, length, refl, ap, sym, ◌∙◌}
 use Rattle.std.specs.Prelude.{if◌then◌else◌, nat_lt}
 use Rattle.radio_policy.specs.declared.rule.Rule.{Rule}
 use Rattle.radio_policy.specs.declared.rule.Rule.TheVariants.{AddressDenied, AddressNotAllowed, TooManyClients, NumbersSpent}
@@ -27,7 +27,7 @@ use Rattle.radio_fallback.specs.WalkLaws.{stopped_where_it_begins}
 use Rattle.radio_core.specs.declared.standing.Standing.{Standing}
 use Rattle.radio_core.specs.declared.standing.Standing.TheVariants.{Unknown, Undecided, Feeds, Sits, Answered, Finished}
 use Rattle.radio_core.specs.World.{World, standing_of}
-use Rattle.radio_core.specs.Facts.{largest_number, is_known, sight_of, arrive_facts, source_facts_at, rows_to_arrive, rows_to_feed}
+use Rattle.radio_core.specs.Facts.{largest_number, is_full, is_known, sight_of, arrive_facts, source_facts_at, rows_to_arrive, rows_to_feed}
 use Rattle.radio_core.specs.Facts.{rows_to_push, rows_to_listen}
 use Rattle.radio_core.specs.Outcomes.{says, on_verdict, out_of_place, if_undecided, if_feeding, if_sitting}
 use Rattle.radio_core.specs.Arrive.{admits_client}
@@ -88,27 +88,41 @@ none_there : (found : Option Session) → is_some found ≡ false → found ≡ 
 none_there None e = refl
 none_there (Some session) e = cc
 
--- where a source may begin, its mount has no session
+-- where a source may begin, it sent the pair, there are fewer sources than there may be, its mount has no session, and its type is carried
+pub record MayBegin (its full live refused : Bool) : Type 0 where
+  pub sent : its ≡ true
+  pub has_room : full ≡ false
+  pub is_free : live ≡ false
+  pub is_carried : refused ≡ false
+
 free_by : (named its full live refused : Bool)
     → verdict_in (source_rows (if named then Some (record { is_source_pair = its; sources_are_full = full; mount_is_live = live; type_is_refused = refused })
-    else None)) ≡ Allow → live ≡ false
-free_by true true false false refused v = refl
+    else None)) ≡ Allow → MayBegin its full live refused
+free_by true true false false false v = record { sent = refl; has_room = refl; is_free = refl; is_carried = refl }
+free_by true true false false true v = cc
 free_by true true false true refused v = cc
 free_by true true true live refused v = cc
 free_by true false full live refused v = cc
 free_by false its full live refused v = cc
 
+abbrev pub MayFeed : House → SourceRequest → Type 0
+MayFeed house asked =
+    let facts = source_facts_at house asked.mount asked in
+    MayBegin facts.is_source_pair facts.sources_are_full facts.mount_is_live facts.type_is_refused
+
+pub may_feed : (house : House) (asked : SourceRequest) → verdict_in (rows_to_feed house asked) ≡ Allow → MayFeed house asked
+may_feed house asked v =
+    let facts = source_facts_at house asked.mount asked in
+    free_by (is_mount_name asked.mount) facts.is_source_pair facts.sources_are_full facts.mount_is_live facts.type_is_refused v
+
 pub may_begin : (w : World) (asked : SourceRequest) → verdict_in (rows_to_feed w.house asked) ≡ Allow → session_of w.house.live asked.mount ≡ None
-may_begin w asked v =
-    let facts = source_facts_at w.house asked.mount asked in
-    none_there (session_of w.house.live asked.mount)
-    (free_by (is_mount_name asked.mount) facts.is_source_pair facts.sources_are_full facts.mount_is_live facts.type_is_refused v)
+may_begin w asked v = none_there (session_of w.house.live asked.mount) (may_feed w.house asked v).is_free
 
 -- who may arrive passes the address lists, and there is a number left for him
 passes_by : (denied allowed full spent : Bool)
     → verdict_in (row AddressDenied denied ∷ row AddressNotAllowed (not allowed) ∷ row TooManyClients full ∷ row NumbersSpent spent ∷ []) ≡ Allow
-    → ((not denied && allowed) ≡ true) × (spent ≡ false)
-passes_by false true false false v = (refl, refl)
+    → ((not denied && allowed) ≡ true) × (spent ≡ false) × (full ≡ false)
+passes_by false true false false v = (refl, refl, refl)
 passes_by false true false true v = cc
 passes_by false true true spent v = cc
 passes_by false false full spent v = cc
@@ -123,6 +137,13 @@ pub has_number_left : (house : House) (peer : Peer) → verdict_in (rows_to_arri
 has_number_left house peer v =
     let facts = arrive_facts house peer in
     (passes_by facts.address_is_denied facts.address_is_allowed facts.clients_are_full facts.number_is_spent v).1
+
+-- there are fewer clients than there may be
+pub has_room_left : (house : House) (peer : Peer) → verdict_in (rows_to_arrive house peer) ≡ Allow
+    → is_full (length house.clients) house.settings.limits.clients ≡ false
+has_room_left house peer v =
+    let facts = arrive_facts house peer in
+    (passes_by facts.address_is_denied facts.address_is_allowed facts.clients_are_full facts.number_is_spent v).2
 
 -- what a listener finds at the mount that he may hear: it is live, has room, lets him in, and is not his to sit at already
 pub record IsWelcome (found : Found) : Type 0 where
@@ -207,7 +228,7 @@ way_of w (Source asked) =
     by_undecided w (Source asked) asked.id refl _
     (λ peer e. by_verdict w (Source asked) (Answer asked.id) (begins w.house asked) (verdict_in (rows_for w (Source asked)))
     (λ rule v. IsRefused (Source asked) asked.id rule v refl (peer, e))
-    (λ v. Begins asked (peer, e) (may_begin w asked v)))
+    (λ v. Begins asked (peer, e) (may_begin w asked v) v))
     (standing_of w asked.id) refl
 way_of w (Push id block) =
     by_feeding w (Push id block) id refl _

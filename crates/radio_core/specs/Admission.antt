@@ -1,4 +1,4 @@
-use Rattle.std.specs.Prelude.{◌≡◌, ◌⊎◌, ℕ, ◌-◌, ◌≤◌, Option, Some}
+use Rattle.std.specs.Prelude.{◌≡◌, ◌⊎◌, ℕ, ◌-◌, ◌≤◌, true, false, Option, Some, None}
 use Rattle.radio_settings.specs.declared.field.Shown.{Shown}
 use Rattle.radio_tables.specs.Lists.{Has}
 use Rattle.radio_events.specs.declared.event.Event.{Event}
@@ -6,26 +6,28 @@ use Rattle.radio_events.specs.declared.event.Event.TheVariants.{Listen}
 use Rattle.radio_events.specs.declared.event.ListenRequest.{ListenRequest}
 use Rattle.radio_events.specs.declared.reply.Reply.TheVariants.{Seated}
 use Rattle.radio_seats.specs.declared.seat.Seat.{Seat}
-use Rattle.radio_core.specs.Listen.{burst_of}
+use Rattle.radio_core.specs.declared.standing.Standing.TheVariants.{Undecided}
+use Rattle.radio_settings.specs.Options.{options_for}
 use Rattle.radio_seats.specs.Seats.{seat_of}
 use Rattle.radio_core.specs.Sessions.{Session, session_of}
 use Rattle.radio_core.specs.Step.{reply_to, world_after}
 use Rattle.radio_core.specs.Stream.{WholeStream, end_of}
-use Rattle.radio_core.specs.World.{World}
+use Rattle.radio_core.specs.World.{World, standing_of}
 
 -- a block starts at the place, or it is the end, where the next one will
 abbrev pub IsBlockStart : WholeStream → ℕ → Type 0
 IsBlockStart stream place = Has place stream.starts ⊎ (place ≡ end_of stream)
 
--- the place is the earliest block start from which at most so many bytes are there already
-pub record IsEarliestStart (stream : WholeStream) (burst place : ℕ) : Type 0 where
+-- the place is the earliest block start that is at most a burst and at most a queue before the end
+pub record IsEarliestStart (stream : WholeStream) (burst queue place : ℕ) : Type 0 where
   pub at_a_block : IsBlockStart stream place
   pub in_the_burst : end_of stream - place ≤ burst
-  pub earliest : (other : ℕ) → IsBlockStart stream other → end_of stream - other ≤ burst → place ≤ other
+  pub in_the_queue : end_of stream - place ≤ queue
+  pub earliest : (other : ℕ) → IsBlockStart stream other → end_of stream - other ≤ burst → end_of stream - other ≤ queue → place ≤ other
 
 -- the listener has a seat in the session that the mount of his path had when he asked, is shown what it shows, and begins at the earliest block start that
--- his burst allows
-pub record IsSeated (w : World) (event : Event) (shown : Shown) : Type 0 where
+-- the mount's `burst-size` and the `queue-size` allow
+pub record IsSeated (w : World) (event : Event) (interval : Option ℕ) (shown : Shown) : Type 0 where
   pub asked : ListenRequest
   pub listens : event ≡ Listen asked
   pub session : Session
@@ -33,10 +35,20 @@ pub record IsSeated (w : World) (event : Event) (shown : Shown) : Type 0 where
   pub shows : shown ≡ session.shown
   pub seat : Seat
   pub has_the_seat : seat_of (world_after w event).seats asked.id ≡ Some seat
+  -- at the mount that he asked for, which is his home, in the session that it has
   pub at_the_mount : seat.mount ≡ asked.mount
+  pub his_home : seat.home ≡ asked.mount
   pub in_the_session : seat.session ≡ session.number
-  pub starts : IsEarliestStart session.stream (burst_of w.house asked.mount) seat.place
+  -- from the address from which he came, with the pair that he sent, from now on
+  pub his_address : standing_of w asked.id ≡ Undecided seat.peer
+  pub his_pair : seat.pair ≡ asked.pair
+  pub from_now : seat.since ≡ w.house.time
+  -- if he asked for metadata, at the interval of the mount that he asked for
+  pub his_interval : seat.interval ≡ interval
+  pub with_metadata : asked.wants_metadata ≡ true → interval ≡ Some (options_for w.house.settings asked.mount).stream.mp3_metadata_interval
+  pub without_metadata : asked.wants_metadata ≡ false → interval ≡ None
+  pub starts : IsEarliestStart session.stream (options_for w.house.settings asked.mount).stream.burst_size w.house.settings.limits.queue_size seat.place
 
 -- only who asks to hear a mount is seated, and he begins where his burst begins
 abbrev pub BeginsAtABlock : World → Event → Type 0
-BeginsAtABlock w event = (interval : Option ℕ) (shown : Shown) → reply_to w event ≡ Seated interval shown → IsSeated w event shown
+BeginsAtABlock w event = (interval : Option ℕ) (shown : Shown) → reply_to w event ≡ Seated interval shown → IsSeated w event interval shown

@@ -1,15 +1,17 @@
--- How many may sit at a mount, and who may sit there once alone.
-use Rattle.std.specs.Prelude.{◌≡◌, ℕ, ◌≤◌, Bool, true, false, List, length, Option, Some}
+-- How many may be there, how many may sit at a mount, and who may sit there once alone.
+use Rattle.std.specs.Prelude.{◌≡◌, ℕ, ◌<◌, ◌≤◌, Bool, false, List, length, Option, Some}
 use Rattle.radio_creds.specs.Credentials.{Credentials}
-use Rattle.radio_policy.specs.declared.rule.Rule.TheVariants.{MountFull, UserTwice}
+use Rattle.radio_policy.specs.declared.rule.Rule.TheVariants.{TooManyClients, TooManySources, MountFull, UserTwice}
 use Rattle.radio_settings.specs.Options.{options_for}
 use Rattle.radio_tables.specs.Lists.{Has}
 use Rattle.radio_seats.specs.declared.seat.Listener.{Listener}
-use Rattle.radio_seats.specs.Seats.{seats_at, SitsAs, has_user, is_user_at}
+use Rattle.radio_seats.specs.declared.seat.Seat.{Seat}
+use Rattle.radio_seats.specs.declared.seat.Seating.TheVariants.{Sits as HasSeat}
+use Rattle.radio_seats.specs.Seats.{seats_at, seat_of}
 use Rattle.radio_events.specs.declared.event.Event.{Event}
 use Rattle.radio_events.specs.declared.event.Event.TheVariants.{Listen}
 use Rattle.radio_events.specs.declared.event.ListenRequest.{ListenRequest}
-use Rattle.radio_events.specs.declared.reply.Reply.TheVariants.{Deny}
+use Rattle.radio_events.specs.declared.reply.Reply.TheVariants.{Arrived, Feeding, Deny}
 use Rattle.radio_core.specs.Step.{reply_to}
 use Rattle.radio_core.specs.World.{World}
 
@@ -21,11 +23,22 @@ most_at w mount = (options_for w.house.settings mount).listeners.max_listeners
 abbrev pub allows_duplicates_at : World → List ℕ → Bool
 allows_duplicates_at w mount = (options_for w.house.settings mount).users.allow_duplicate_users
 
+-- a pair was sent, and this is its user, byte for byte
+abbrev pub SentUser : List ℕ → Option Credentials → Type 0
+SentUser user pair = (sent : Credentials) × (pair ≡ Some sent) × (sent.user ≡ user)
+
+-- the listener of this number has a seat at the mount, and sent this user
+pub record SitsThereAs (w : World) (id : ℕ) (mount user : List ℕ) : Type 0 where
+  pub seat : Seat
+  pub has_the_seat : seat_of w.seats id ≡ Some seat
+  pub at_the_mount : seat.mount ≡ mount
+  pub his_user : SentUser user seat.pair
+
 -- no more sit at a mount than may, and nobody sits twice where each may sit once
 pub record IsWithinLimits (w : World) : Type 0 where
   pub not_too_many : (mount : List ℕ) (most : ℕ) → most_at w mount ≡ Some most → length (seats_at w.seats mount) ≤ most
-  pub none_twice : (mount user : List ℕ) (id other : ℕ) → allows_duplicates_at w mount ≡ false → SitsAs w.seats id mount user
-      → SitsAs w.seats other mount user → id ≡ other
+  pub none_twice : (mount user : List ℕ) (id other : ℕ) → allows_duplicates_at w mount ≡ false → SitsThereAs w id mount user
+      → SitsThereAs w other mount user → id ≡ other
 
 -- as many sit at the mount as may
 pub record IsFullAt (w : World) (mount : List ℕ) : Type 0 where
@@ -33,16 +46,27 @@ pub record IsFullAt (w : World) (mount : List ℕ) : Type 0 where
   pub limited : most_at w mount ≡ Some most
   pub reached : most ≤ length (seats_at w.seats mount)
 
--- each user may sit at the mount once, and one of those who sit there sent the user of this pair
+-- each user may sit at the mount once, and one of those who sit there sent the very user of this pair
 pub record HasUserAt (w : World) (mount : List ℕ) (pair : Option Credentials) : Type 0 where
   pub once : allows_duplicates_at w mount ≡ false
   pub user : List ℕ
-  pub sent : has_user user pair ≡ true
+  pub sent : SentUser user pair
   pub listener : Listener
   pub is_one : Has listener w.seats
-  pub sits : is_user_at mount user listener.seating ≡ true
+  pub seat : Seat
+  pub sits : listener.seating ≡ HasSeat seat
+  pub at_the_mount : seat.mount ≡ mount
+  pub his_user : SentUser user seat.pair
 
--- a mount is denied as full only where it is full, and a user as one who sits there only where he does
+-- clients and sources are denied as too many only where there are as many as there may be, a mount as full only where it is full, and a user as one who sits
+-- there only where he does
 pub record DeniesByLimits (w : World) (event : Event) : Type 0 where
+  pub clients : reply_to w event ≡ Deny TooManyClients → w.house.settings.limits.clients ≤ length w.house.clients
+  pub sources : reply_to w event ≡ Deny TooManySources → w.house.settings.limits.sources ≤ length w.house.live
   pub full : reply_to w event ≡ Deny MountFull → (asked : ListenRequest) × (event ≡ Listen asked) × IsFullAt w asked.mount
   pub twice : reply_to w event ≡ Deny UserTwice → (asked : ListenRequest) × (event ≡ Listen asked) × HasUserAt w asked.mount asked.pair
+
+-- a client arrives only where fewer are there than may be, and a source feeds only where fewer sessions are live than may be
+pub record AdmitsByLimits (w : World) (event : Event) : Type 0 where
+  pub clients : (id : ℕ) → reply_to w event ≡ Arrived id → length w.house.clients < w.house.settings.limits.clients
+  pub sources : reply_to w event ≡ Feeding → length w.house.live < w.house.settings.limits.sources

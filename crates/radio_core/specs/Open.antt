@@ -1,8 +1,7 @@
 use Rattle.std.specs.Prelude.{◌≡◌, ℕ, true, false, Some, List}
 use Rattle.radio_access.specs.Lists.{passes, lets_in}
 use Rattle.radio_seats.specs.declared.seat.Seat.{Seat}
-use Rattle.radio_seats.specs.Seats.{SitsAs, has_user}
-use Rattle.radio_core.specs.Limits.{allows_duplicates_at}
+use Rattle.radio_core.specs.Limits.{SentUser, SitsThereAs, allows_duplicates_at}
 use Rattle.radio_core.specs.Sessions.{Session, session_of}
 use Rattle.radio_core.specs.World.{World}
 
@@ -15,5 +14,5 @@ pub record IsOpenTo (w : World) (id : ℕ) (seat : Seat) : Type 0 where
   pub his_session : session.number ≡ seat.session
   pub passes_lists : passes w.house.lists seat.peer ≡ true
   pub is_let_in : lets_in w.house.lists seat.mount seat.pair ≡ true
-  pub is_alone : (user : List ℕ) (other : ℕ) → allows_duplicates_at w seat.mount ≡ false → has_user user seat.pair ≡ true
-      → SitsAs w.seats other seat.mount user → other ≡ id
+  pub is_alone : (user : List ℕ) (other : ℕ) → allows_duplicates_at w seat.mount ≡ false → SentUser user seat.pair
+      → SitsThereAs w other seat.mount user → other ≡ id

@@ -57,7 +57,8 @@ pub data Way (w : World) : Event → Outcome → Type 0 where
       → Way w event (says (Deny rule) (Answer id))
   IsAdmitted : (peer : Peer) → verdict_in (rows_to_arrive w.house peer) ≡ Allow
       → Way w (Arrive peer) (says (Arrived (w.house.last_id + 1)) (Admit (w.house.last_id + 1) peer))
-  Begins : (asked : SourceRequest) → IsUndecided w asked.id → (session_of w.house.live asked.mount ≡ None) → Way w (Source asked) (begins w.house asked)
+  Begins : (asked : SourceRequest) → IsUndecided w asked.id → (session_of w.house.live asked.mount ≡ None)
+      → verdict_in (rows_to_feed w.house asked) ≡ Allow → Way w (Source asked) (begins w.house asked)
   Receives : (id : ℕ) (mount block : List ℕ) → standing_of w id ≡ Feeds mount → Way w (Push id block) (says Noted (Receive mount block))
   SetsTitle : (id : ℕ) (mount text : List ℕ) → standing_of w id ≡ Feeds mount → Way w (Title id text) (says Noted (SetTitle mount text))
   TakesSeat : (asked : ListenRequest) (peer : Peer) (session : Session) → standing_of w asked.id ≡ Undecided peer

@@ -11,7 +11,7 @@ ghost use Rattle.radio_events.specs.Events.{client_in};
 ghost use Rattle.radio_core.specs.Denials.{DenialsAreThePolicys};
 ghost use Rattle.radio_core.specs.Finishes.{FinishedAreTold};
 ghost use Rattle.radio_core.specs.Access.{AccessIsKept};
-ghost use Rattle.radio_core.specs.Limits.{IsWithinLimits, DeniesByLimits};
+ghost use Rattle.radio_core.specs.Limits.{IsWithinLimits, DeniesByLimits, AdmitsByLimits};
 ghost use Rattle.radio_core.specs.Admission.{BeginsAtABlock};
 ghost use Rattle.radio_core.specs.Lagging.{NobodyLags};
 ghost use Rattle.radio_core.specs.Service.{Serves};
@@ -55,8 +55,10 @@ pub fn access_is_kept()
 pub fn limits_are_kept()
     // whatever has happened, no more sit at a mount than its settings let, and nobody sits twice where its settings let each user sit once
     ensures within { (settings : Settings) (lists : Lists) (events : List Event) → IsWithinLimits (run_after settings lists events) }
-    // and a listener is denied by a limit only where it is reached, by those who sit at the mount then
+    // and whoever is denied by a limit is denied only where it is reached then, and as a user who sits at the mount only where that very user does
     ensures denied { (settings : Settings) (lists : Lists) (events : List Event) (event : Event) → DeniesByLimits (run_after settings lists events) event }
+    // and a client arrives, and a source feeds, only where fewer are there than may be
+    ensures admitted { (settings : Settings) (lists : Lists) (events : List Event) (event : Event) → AdmitsByLimits (run_after settings lists events) event }
 {}
 
 /// The law of lag.

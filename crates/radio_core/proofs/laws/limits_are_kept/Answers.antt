@@ -1,5 +1,5 @@
 use Rattle.radio_core.specs.Run.{run_after}
-use Rattle.radio_core.proofs.LimitDenials.{limits_deny}
+use Rattle.radio_core.proofs.LimitDenials.{limits_deny, limits_admit}
 use Rattle.radio_core.proofs.LimitLemmas.{limits_run}
 use Rattle.radio_core.proofs.laws.limits_are_kept.Goals as goal
 
@@ -8,3 +8,6 @@ returns-clause-within c settings lists events = limits_run settings lists events
 
 pub returns-clause-denied : goal.returns-clause-denied
 returns-clause-denied c settings lists events event = limits_deny (run_after settings lists events) event
+
+pub returns-clause-admitted : goal.returns-clause-admitted
+returns-clause-admitted c settings lists events event = limits_admit (run_after settings lists events) event
