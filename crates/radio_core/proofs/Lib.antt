@@ -11,6 +11,7 @@ pub mod TickLemmas
 pub mod TimeoutLemmas
 pub mod SoundEnds
 pub mod SoundRuns
+pub mod SessionSteps
 pub mod Effects
 pub mod DenialLemmas
 pub mod AccessLemmas

@@ -21,6 +21,7 @@ pub mod KeptChanges
 pub mod Lagging
 pub mod StandsFor
 pub mod Step
+pub mod SessionSteps
 pub mod Run
 pub mod Ways
 pub mod Denials

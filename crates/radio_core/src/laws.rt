@@ -14,6 +14,7 @@ ghost use Rattle.radio_core.specs.Access.{AccessIsKept};
 ghost use Rattle.radio_core.specs.Limits.{IsWithinLimits, DeniesByLimits, AdmitsByLimits};
 ghost use Rattle.radio_core.specs.Admission.{BeginsAtABlock};
 ghost use Rattle.radio_core.specs.Lagging.{NobodyLags};
+ghost use Rattle.radio_core.specs.SessionSteps.{SessionsStep, KeepsSettings};
 ghost use Rattle.radio_core.specs.Service.{Serves};
 ghost use Rattle.radio_core.specs.Stretches.{StretchesAreWhole, SeatsKeepTheirMounts};
 ghost use Rattle.radio_core.specs.TitlesTold.{TitlesAreTold};
@@ -59,6 +60,16 @@ pub fn limits_are_kept()
     ensures denied { (settings : Settings) (lists : Lists) (events : List Event) (event : Event) → DeniesByLimits (run_after settings lists events) event }
     // and a client arrives, and a source feeds, only where fewer are there than may be
     ensures admitted { (settings : Settings) (lists : Lists) (events : List Event) (event : Event) → AdmitsByLimits (run_after settings lists events) event }
+{}
+
+/// The law of sessions.
+pub fn sessions_are_their_sources()
+    // whatever has happened, the session of a mount stays as it is but where its source delivers a
+    // block, sets a title or ends it; it begins for a source that asked for the mount, shows what
+    // the settings and that source say, and ends only with its source, or when that was silent
+    ensures steps { (settings : Settings) (lists : Lists) (events : List Event) (event : Event) → SessionsStep (run_after settings lists events) event }
+    // and no event changes the settings, or the lists of who is let in
+    ensures settings { (settings : Settings) (lists : Lists) (events : List Event) (event : Event) → KeepsSettings (run_after settings lists events) event }
 {}
 
 /// The law of lag.

@@ -1,0 +1,199 @@
+-- what an event does to the session of one mount; no event changes the settings
+use Rattle.std.proofs.Common.{◌≡◌, ◌⊎◌, inl, inr, true, ℕ, ◌*◌, ◌-◌, ◌≤◌, Option, Some, None, List, refl, ap, sym, subst, ◌∙◌}
+use Rattle.std.specs.Prelude.{unwrap_or}
+use Rattle.std.specs.Str.{bytes_eq}
+use Rattle.std.proofs.lemmas.Slice.Eq.{bytes_eq-Decides}
+use Rattle.radio_policy.specs.declared.rule.Rule.{Rule}
+use Rattle.radio_settings.specs.Options.{options_for}
+use Rattle.radio_tables.specs.KeyLaws.{by_name}
+use Rattle.radio_seats.specs.declared.seat.Seat.{Seat}
+use Rattle.radio_seats.specs.Seats.{listener_of, seat_of}
+use Rattle.radio_events.specs.declared.event.Event.{Event}
+use Rattle.radio_events.specs.declared.event.Event.TheVariants.{Source, Push, SourceEnd, Title, Leave, Clock}
+use Rattle.radio_events.specs.declared.event.SourceRequest.{SourceRequest}
+use Rattle.radio_core.specs.declared.clients.Client.{Client}
+use Rattle.radio_core.specs.declared.clients.ClientState.TheVariants.{Undecided as IsNew}
+use Rattle.radio_core.specs.declared.outcome.Change.TheVariants.{Begin, Receive, SetTitle}
+use Rattle.radio_core.specs.declared.outcome.Outcome.{Outcome}
+use Rattle.radio_core.specs.declared.standing.Standing.TheVariants.{Undecided, Feeds, Sits}
+use Rattle.radio_core.specs.Changes.{changed, session_ended, ticked}
+use Rattle.radio_core.specs.Finishes.{Cause, SessionIsOver, IsFarBehind, HasSatOut, HasAskedNothing, HasSentNothing}
+use Rattle.radio_core.specs.Sessions.{Session, session_of, opened, longer, with_title}
+use Rattle.radio_core.specs.SessionSteps.{IsShownAs, OfTheSettings, OfTheSource, HasBegun, SessionStep, Stays, Begins as ItBegins, Grows, IsTitled}
+use Rattle.radio_core.specs.SessionSteps.{Ends as ItEnds, SessionsStep, KeepsSettings}
+use Rattle.radio_core.specs.Sound.{IsSound}
+use Rattle.radio_core.specs.Source.{shown_for}
+use Rattle.radio_core.specs.Step.{outcome, world_after}
+use Rattle.radio_core.specs.Ways.{Way, Misplaced, IsFinished, IsDenied, IsRefused, IsAdmitted, Begins, Receives, SetsTitle, TakesSeat, HandsOut, Ends}
+use Rattle.radio_core.specs.Ways.{EndsAndLeaves, Leaves, HasPassed, Ticks}
+use Rattle.radio_core.specs.World.{World, standing_of, standing_in}
+use Rattle.radio_core.proofs.Fates.{Fate, GoesOn, IsEnded}
+use Rattle.radio_core.proofs.Lookups.{is_new_session, beside_begun, is_longer, beside_fed, is_titled, beside_titled, is_over, beside_ended}
+use Rattle.radio_core.proofs.TickLemmas.{asking_at, ticked_fates}
+use Rattle.radio_core.proofs.TimeoutLemmas.{tests_are_in_numbers}
+use Rattle.radio_core.proofs.Ways.{way_of}
+
+is_shown : (given : Option (List ℕ)) (own : List ℕ) → IsShownAs given own (unwrap_or given own)
+is_shown None own = OfTheSource refl
+is_shown (Some text) own = OfTheSettings text refl
+
+module _ (w : World) (s : IsSound w) (mount : List ℕ) where
+  abbrev mine : Option Session
+  mine = session_of w.house.live mount
+
+  turned : (event : Event) {before a later b : Option Session} → before ≡ a → later ≡ b → SessionStep w event mount before later → SessionStep w event mount a b
+  turned event {before} {a} {later} {b} ea eb step =
+      subst (λ (o : Option Session). SessionStep w event mount o b) ea (subst (λ (o : Option Session). SessionStep w event mount before o) eb step)
+
+  stays : (event : Event) (later : Option Session) → later ≡ mine → SessionStep w event mount mine later
+  stays event later same = turned event refl (sym same) (Stays mine)
+
+  begins : (asked : SourceRequest) → session_of w.house.live asked.mount ≡ None
+      → SessionStep w (Source asked) mount mine
+      (session_of (changed w (Begin asked.id asked.mount (shown_for w.house asked.mount asked.shown))).house.live mount)
+  begins asked none =
+      let stream = (options_for w.house.settings asked.mount).stream in
+      let fresh = opened asked.mount asked.id (shown_for w.house asked.mount asked.shown) w.house.time in
+      by_name asked.mount mount
+      (λ same. turned (Source asked) (sym none ∙ ap (session_of w.house.live) same)
+      (sym (is_new_session w.house.live fresh mount ((bytes_eq-Decides asked.mount mount).1 same)))
+      (ItBegins asked fresh refl same (record {
+        its_mount = refl;
+        its_source = refl;
+        has_no_data = refl;
+        has_no_blocks = refl;
+        has_no_title = refl;
+        from_now = refl;
+        shows_type = refl;
+        shows_name = is_shown stream.stream_name asked.shown.name;
+        shows_genre = is_shown stream.genre asked.shown.genre;
+      })))
+      (λ apart. stays (Source asked) (session_of (changed w (Begin asked.id asked.mount (shown_for w.house asked.mount asked.shown))).house.live mount)
+      (beside_begun w.house.live fresh mount apart))
+
+  grows : (him : ℕ) (fed block : List ℕ) → standing_of w him ≡ Feeds fed
+      → SessionStep w (Push him block) mount mine (session_of (changed w (Receive fed block)).house.live mount)
+  grows him fed block feeding =
+      let ours = s.feeds him fed feeding in
+      by_name fed mount
+      (λ same. turned (Push him block) (sym ours.1 ∙ ap (session_of w.house.live) same)
+      (sym (is_longer w.house.live fed block w.house.time ours.0 ours.1) ∙ ap (session_of (changed w (Receive fed block)).house.live) same)
+      (Grows ours.0 block (ap (λ (n : ℕ). Push n block) (sym ours.2))))
+      (λ apart. stays (Push him block) (session_of (changed w (Receive fed block)).house.live mount)
+      (beside_fed w.house.live fed mount apart block w.house.time))
+
+  is_told : (him : ℕ) (fed text : List ℕ) → standing_of w him ≡ Feeds fed
+      → SessionStep w (Title him text) mount mine (session_of (changed w (SetTitle fed text)).house.live mount)
+  is_told him fed text feeding =
+      let ours = s.feeds him fed feeding in
+      by_name fed mount
+      (λ same. turned (Title him text) (sym ours.1 ∙ ap (session_of w.house.live) same)
+      (sym (is_titled w.house.live fed text ours.0 ours.1) ∙ ap (session_of (changed w (SetTitle fed text)).house.live) same)
+      (IsTitled ours.0 text (ap (λ (n : ℕ). Title n text) (sym ours.2))))
+      (λ apart. stays (Title him text) (session_of (changed w (SetTitle fed text)).house.live mount) (beside_titled w.house.live fed mount apart text))
+
+  is_ended : (event : Event) (him : ℕ) (fed : List ℕ) → standing_of w him ≡ Feeds fed → (event ≡ SourceEnd him) ⊎ (event ≡ Leave him)
+      → SessionStep w event mount mine (session_of (session_ended w fed).house.live mount)
+  is_ended event him fed feeding by =
+      let ours = s.feeds him fed feeding in
+      by_name fed mount
+      (λ same. turned event (sym ours.1 ∙ ap (session_of w.house.live) same)
+      (sym (is_over w.house.live fed) ∙ ap (session_of (session_ended w fed).house.live) same)
+      (ItEnds ours.0 (his ours.0 ours.2 by)))
+      (λ apart. stays event (session_of (session_ended w fed).house.live mount) (beside_ended w.house.live fed mount apart)) where
+        his : (session : Session) → session.number ≡ him → (event ≡ SourceEnd him) ⊎ (event ≡ Leave him)
+            → (event ≡ SourceEnd session.number) ⊎ (event ≡ Leave session.number) ⊎ ((ms : ℕ) × (event ≡ Clock ms)
+            × (1000 * w.house.settings.limits.source_timeout ≤ ms - session.last_block))
+        his session number (inl e) = inl (e ∙ ap (λ (n : ℕ). SourceEnd n) (sym number))
+        his session number (inr e) = inr (inl (e ∙ ap (λ (n : ℕ). Leave n) (sym number)))
+
+  -- at a moment: it stays, or its source was silent
+  module _ (ms : ℕ) where
+    abbrev later : Option Session
+    later = session_of (ticked w ms).house.live mount
+
+    is_silenced : (session : Session) → mine ≡ Some session → {rule : Rule} → Cause w (ticked w ms) (Clock ms) session.number rule → later ≡ None
+        → SessionStep w (Clock ms) mount mine later
+    is_silenced session here (SessionIsOver _ seat old has live over stops) gone =
+        let sat : standing_of w session.number ≡ Sits = s.sitting session.number seat has in
+        let feeds : standing_of w session.number ≡ Feeds mount = s.fed mount session here in
+        cc
+    is_silenced session here (IsFarBehind him block seat e feeds has behind) gone = cc
+    is_silenced session here (HasSatOut moment seat e has out) gone =
+        let sat : standing_of w session.number ≡ Sits = s.sitting session.number seat has in
+        let feeds : standing_of w session.number ≡ Feeds mount = s.fed mount session here in
+        cc
+    is_silenced session here (HasAskedNothing moment client e found late) gone =
+        let feeds : standing_of w session.number ≡ Feeds mount = s.fed mount session here in
+        let new : client.state ≡ IsNew = asking_at w.house.settings.limits.header_timeout moment client.arrived client.state late in
+        let undecided : standing_of w session.number ≡ Undecided client.peer =
+        ap (standing_in (listener_of w.seats session.number)) found ∙ is_new (listener_of w.seats session.number) client new in
+        cc where
+          is_new : (listener : _) (x : Client) → x.state ≡ IsNew → standing_in listener (Some x) ≡ Undecided x.peer
+          is_new listener x e = rw e refl
+    is_silenced session here (HasSentNothing moment silent e feeds live is) gone =
+        let both : Feeds mount ≡ Feeds silent.mount = sym (s.fed mount session here) ∙ feeds in
+        let name : mount ≡ silent.mount = cc in
+        let same : Some session ≡ Some silent = sym here ∙ ap (session_of w.house.live) name ∙ live in
+        let one : session ≡ silent = cc in
+        turned (Clock ms) (sym here) (sym gone) (ItEnds session (inr (inr (moment, e,
+        subst (λ (x : Session). 1000 * w.house.settings.limits.source_timeout ≤ moment - x.last_block) (sym one)
+        ((tests_are_in_numbers.sends_nothing w.house.settings.limits.source_timeout moment silent).0 is)))))
+
+    at_the_moment : SessionStep w (Clock ms) mount mine later
+    at_the_moment = by_found mine refl where
+      none_there : (found : Option Session) → later ≡ found → mine ≡ None → later ≡ None
+      none_there None e none = e
+      none_there (Some session) e none = let was : mine ≡ Some session = (ticked_fates w s ms).live mount session e in cc
+
+      by_fate : (session : Session) → mine ≡ Some session → Fate w (ticked w ms) (Clock ms) session.number → SessionStep w (Clock ms) mount mine later
+      by_fate session here (GoesOn same seat feeds sits) = stays (Clock ms) later (feeds mount (s.fed mount session here))
+      by_fate session here (IsEnded rule cause active ended none over) = is_silenced session here cause (over mount (s.fed mount session here))
+
+      by_found : (found : Option Session) → mine ≡ found → SessionStep w (Clock ms) mount mine later
+      by_found None e = stays (Clock ms) later (none_there later refl e ∙ sym e)
+      by_found (Some session) e = by_fate session e ((ticked_fates w s ms).fate session.number)
+
+  step_by : (event : Event) (o : Outcome) → Way w event o → SessionStep w event mount mine (session_of (changed w o.change).house.live mount)
+  step_by event o (Misplaced _) = Stays mine
+  step_by event o (IsFinished _ him by its known) = Stays mine
+  step_by event o (IsDenied _ by v nobody) = Stays mine
+  step_by event o (IsRefused _ him by v its undecided) = Stays mine
+  step_by event o (IsAdmitted peer allowed) = Stays mine
+  step_by event o (Begins asked undecided none allowed) = begins asked none
+  step_by event o (Receives him fed block feeding) = grows him fed block feeding
+  step_by event o (SetsTitle him fed text feeding) = is_told him fed text feeding
+  step_by event o (TakesSeat asked peer session undecided live allowed) = Stays mine
+  step_by event o (HandsOut him room seat session sits has live) = Stays mine
+  step_by event o (Ends him fed feeding) = is_ended event him fed feeding (inl refl)
+  step_by event o (EndsAndLeaves him fed feeding) = is_ended event him fed feeding (inr refl)
+  step_by event o (Leaves him other) = Stays mine
+  step_by event o (HasPassed ms e) = Stays mine
+  step_by event o (Ticks ms e) = at_the_moment ms
+
+pub sessions_step : (w : World) → IsSound w → (event : Event) → SessionsStep w event
+unfolding world_after
+sessions_step w s event mount = step_by w s mount event (outcome w event) (way_of w event)
+
+module _ (w : World) (s : IsSound w) where
+  keeps_by : (event : Event) (o : Outcome) → Way w event o
+      → ((changed w o.change).house.settings ≡ w.house.settings) × ((changed w o.change).house.lists ≡ w.house.lists)
+  keeps_by event o (Ticks ms e) = ((ticked_fates w s ms).settings, (ticked_fates w s ms).lists)
+  keeps_by event o (Misplaced _) = (refl, refl)
+  keeps_by event o (IsFinished _ him by its known) = (refl, refl)
+  keeps_by event o (IsDenied _ by v nobody) = (refl, refl)
+  keeps_by event o (IsRefused _ him by v its undecided) = (refl, refl)
+  keeps_by event o (IsAdmitted peer allowed) = (refl, refl)
+  keeps_by event o (Begins asked undecided none allowed) = (refl, refl)
+  keeps_by event o (Receives him fed block feeding) = (refl, refl)
+  keeps_by event o (SetsTitle him fed text feeding) = (refl, refl)
+  keeps_by event o (TakesSeat asked peer session undecided live allowed) = (refl, refl)
+  keeps_by event o (HandsOut him room seat session sits has live) = (refl, refl)
+  keeps_by event o (Ends him fed feeding) = (refl, refl)
+  keeps_by event o (EndsAndLeaves him fed feeding) = (refl, refl)
+  keeps_by event o (Leaves him other) = (refl, refl)
+  keeps_by event o (HasPassed ms e) = (refl, refl)
+
+  pub keeps_settings : (event : Event) → KeepsSettings w event
+  unfolding world_after
+  keeps_settings event = let kept = keeps_by event (outcome w event) (way_of w event) in record { settings = kept.0; lists = kept.1 }

@@ -1,0 +1,56 @@
+-- What an event does to the session of one mount.
+use Rattle.std.specs.Prelude.{◌≡◌, ◌⊎◌, ℕ, ◌*◌, ◌-◌, ◌≤◌, Option, Some, None, List, [], ◌∷◌, ◌++◌, length}
+use Rattle.radio_settings.specs.declared.field.Shown.{Shown}
+use Rattle.radio_settings.specs.declared.settings.Settings.{Settings}
+use Rattle.radio_settings.specs.Options.{options_for}
+use Rattle.radio_events.specs.declared.event.Event.{Event}
+use Rattle.radio_events.specs.declared.event.Event.TheVariants.{Source, Push, SourceEnd, Title, Leave, Clock}
+use Rattle.radio_events.specs.declared.event.SourceRequest.{SourceRequest}
+use Rattle.radio_core.specs.Sessions.{Session, session_of}
+use Rattle.radio_core.specs.Step.{world_after}
+use Rattle.radio_core.specs.World.{World}
+
+-- one text of what a stream shows: that of the settings, where they give one, else the source's
+pub data IsShownAs (given : Option (List ℕ)) (own : List ℕ) : List ℕ → Type 0 where
+  OfTheSettings : (text : List ℕ) → given ≡ Some text → IsShownAs given own text
+  OfTheSource : given ≡ None → IsShownAs given own own
+
+-- a session that has only begun: its source asked for the mount now, it has delivered nothing, and it shows the source's content type, with the name and
+-- the genre of the mount's settings, or else the source's
+pub record HasBegun (w : World) (asked : SourceRequest) (session : Session) : Type 0 where
+  pub its_mount : session.mount ≡ asked.mount
+  pub its_source : session.number ≡ asked.id
+  pub has_no_data : session.stream.bytes ≡ []
+  pub has_no_blocks : session.stream.starts ≡ []
+  pub has_no_title : session.title ≡ None
+  pub from_now : session.last_block ≡ w.house.time
+  pub shows_type : session.shown.content_type ≡ asked.shown.content_type
+  pub shows_name : IsShownAs (options_for w.house.settings asked.mount).stream.stream_name asked.shown.name session.shown.name
+  pub shows_genre : IsShownAs (options_for w.house.settings asked.mount).stream.genre asked.shown.genre session.shown.genre
+
+-- all that an event can do to the session of a mount
+pub data SessionStep (w : World) (event : Event) (mount : List ℕ) : Option Session → Option Session → Type 0 where
+  -- it stays as it is, or there is none still
+  Stays : (session : Option Session) → SessionStep w event mount session session
+  -- it begins, for the source that asked for the mount
+  Begins : (asked : SourceRequest) (session : Session) → event ≡ Source asked → asked.mount ≡ mount → HasBegun w asked session
+      → SessionStep w event mount None (Some session)
+  -- its source delivers a block, which starts where the data ended before; it is the last one now
+  Grows : (session : Session) (block : List ℕ) → event ≡ Push session.number block → SessionStep w event mount (Some session) (Some (record session {
+      stream = record { bytes = session.stream.bytes ++ block; starts = session.stream.starts ++ length session.stream.bytes ∷ [] };
+      last_block = w.house.time;
+    }))
+  -- its source sets its title
+  IsTitled : (session : Session) (text : List ℕ) → event ≡ Title session.number text
+      → SessionStep w event mount (Some session) (Some (record session { title = Some text }))
+  -- it ends: its source has come to the end of its data, or has left, or has sent nothing in the time that it has for it
+  Ends : (session : Session) → (event ≡ SourceEnd session.number) ⊎ (event ≡ Leave session.number) ⊎ ((ms : ℕ) × (event ≡ Clock ms)
+      × (1000 * w.house.settings.limits.source_timeout ≤ ms - session.last_block)) → SessionStep w event mount (Some session) None
+
+abbrev pub SessionsStep : World → Event → Type 0
+SessionsStep w event = (mount : List ℕ) → SessionStep w event mount (session_of w.house.live mount) (session_of (world_after w event).house.live mount)
+
+-- no event changes the settings or what the files hold that they name
+pub record KeepsSettings (w : World) (event : Event) : Type 0 where
+  pub settings : (world_after w event).house.settings ≡ w.house.settings
+  pub lists : (world_after w event).house.lists ≡ w.house.lists
