@@ -292,7 +292,7 @@ module _ (w : World) where
   many_sources (Clock ms) v = cc
 
   -- only a verdict of the policy denies
-  denied_by : {A : Type 0} (rule : Rule) (event : Event) (o : Outcome) → Way w event o → o.reply ≡ Deny rule
+  pub denied_by : {A : Type 0} (rule : Rule) (event : Event) (o : Outcome) → Way w event o → o.reply ≡ Deny rule
       → (verdict_in (rows_for w event) ≡ Denied rule → A) → A
   denied_by rule event o (IsDenied _ by v nobody) d goes = let same : by ≡ rule = cc in goes (v ∙ ap (λ (r : Rule). Denied r) same)
   denied_by rule event o (IsRefused _ him by v his undecided) d goes = let same : by ≡ rule = cc in goes (v ∙ ap (λ (r : Rule). Denied r) same)

@@ -1,28 +1,69 @@
-use Rattle.std.specs.Prelude.{◌≡◌, ℕ, Option, Some, None}
+-- What is denied, and that it is denied by the policy.
+use Rattle.std.specs.Prelude.{◌≡◌, ℕ, true, false, Option, Some}
 use Rattle.radio_policy.specs.declared.rule.Rule.{Rule}
+use Rattle.radio_policy.specs.declared.rule.Rule.TheVariants.{AddressDenied, AddressNotAllowed, NoMount}
 use Rattle.radio_policy.specs.Verdicts.{Denies}
+use Rattle.radio_addr.specs.declared.peer.Peer.{Peer}
+use Rattle.radio_creds.specs.Credentials.{Credentials}
+use Rattle.radio_settings.specs.declared.settings.MountSetting.{MountSetting}
+use Rattle.radio_settings.specs.declared.settings.RelaySetting.{RelaySetting}
+use Rattle.radio_settings.specs.Options.{options_for}
+use Rattle.radio_access.specs.Lists.{is_denied, is_allowed}
+use Rattle.radio_access.specs.ContentTypes.{is_refused_type}
+use Rattle.radio_tables.specs.Lists.{Has}
 use Rattle.radio_events.specs.declared.event.Event.{Event}
-use Rattle.radio_core.specs.declared.outcome.Change.TheVariants.{Answer}
-use Rattle.radio_events.specs.declared.reply.Reply.TheVariants.{Deny}
-use Rattle.radio_core.specs.declared.standing.Standing.{Standing}
-use Rattle.radio_core.specs.declared.standing.Standing.TheVariants.{Undecided}
-use Rattle.radio_core.specs.Changes.{changed}
-use Rattle.radio_core.specs.Step.{reply_to, world_after}
-use Rattle.radio_core.specs.Ways.{rows_for}
+use Rattle.radio_events.specs.declared.event.Event.TheVariants.{Arrive, Source, Listen}
+use Rattle.radio_events.specs.declared.event.SourceRequest.{SourceRequest}
+use Rattle.radio_events.specs.declared.event.ListenRequest.{ListenRequest}
+use Rattle.radio_events.specs.declared.reply.Reply.TheVariants.{Feeding, Deny}
 use Rattle.radio_events.specs.Events.{client_in}
-use Rattle.radio_core.specs.World.{World, standing_of}
+use Rattle.radio_core.specs.declared.clients.Client.{Client}
+use Rattle.radio_core.specs.declared.clients.ClientState.TheVariants.{Undecided, Answered}
+use Rattle.radio_core.specs.Clients.{client_of}
+use Rattle.radio_core.specs.Sessions.{Session, session_of}
+use Rattle.radio_core.specs.Step.{reply_to, world_after}
+use Rattle.radio_core.specs.Ways.{rows_for, IsUndecided}
+use Rattle.radio_core.specs.World.{World}
 
--- a client who asked, and had asked for nothing before, has had his answer
-abbrev pub answered_if : World → ℕ → Standing → World
-answered_if w id (Undecided peer) = changed w (Answer id)
-answered_if w id standing = w
-
--- the state as it was, but that a client who had asked for nothing yet has had his answer
-abbrev pub after_denial : World → Option ℕ → World
-after_denial w None = w
-after_denial w (Some id) = answered_if w id (standing_of w id)
+-- the state as it was, but that the client who asked, if he had asked for nothing before, has had his answer
+pub record IsOnlyAnswered (w later : World) (client : Option ℕ) : Type 0 where
+  pub time : later.house.time ≡ w.house.time
+  pub settings : later.house.settings ≡ w.house.settings
+  pub lists : later.house.lists ≡ w.house.lists
+  pub live : later.house.live ≡ w.house.live
+  pub last : later.house.last_id ≡ w.house.last_id
+  pub seats : later.seats ≡ w.seats
+  pub answered : (id : ℕ) (him : Client) → client ≡ Some id → client_of w.house.clients id ≡ Some him → him.state ≡ Undecided
+      → client_of later.house.clients id ≡ Some (record him { state = Answered })
+  pub others : (id : ℕ) → (client ≡ Some id → IsUndecided w id → ⊥) → client_of later.house.clients id ≡ client_of w.house.clients id
 
 -- a reply that denies is a denial of the policy in this state, by the first rule whose condition holds, and changes nothing else
 abbrev pub DenialsAreThePolicys : World → Event → Type 0
 DenialsAreThePolicys w event = (rule : Rule) → reply_to w event ≡ Deny rule
-    → Denies (rows_for w event) rule × (world_after w event ≡ after_denial w (client_in event))
+    → Denies (rows_for w event) rule × IsOnlyAnswered w (world_after w event) (client_in event)
+
+-- whoever comes from an address that the deny list has is denied for it, whatever else holds; and where an allow list does not have it, for that
+pub record AddressesAreDenied (w : World) : Type 0 where
+  pub denied : (peer : Peer) → is_denied w.house.lists peer ≡ true → reply_to w (Arrive peer) ≡ Deny AddressDenied
+  pub not_allowed : (peer : Peer) → is_denied w.house.lists peer ≡ false → is_allowed w.house.lists peer ≡ false
+      → reply_to w (Arrive peer) ≡ Deny AddressNotAllowed
+
+-- a source feeds only the mount that it names, where it sent the user and the password of that mount's source, byte for byte, and a content type that is
+-- carried
+pub record FeedsAsItsSource (w : World) (event : Event) : Type 0 where
+  pub asked : SourceRequest
+  pub wants : event ≡ Source asked
+  pub pair : Credentials
+  pub sent : asked.pair ≡ Some pair
+  pub user : pair.user ≡ (options_for w.house.settings asked.mount).source.username
+  pub password : pair.password ≡ (options_for w.house.settings asked.mount).source.password
+  pub is_carried : is_refused_type asked.shown.content_type ≡ false
+
+abbrev pub OnlySourcesFeed : World → Event → Type 0
+OnlySourcesFeed w event = reply_to w event ≡ Feeding → FeedsAsItsSource w event
+
+-- a mount of the settings, one that a relay feeds, and one that is live is never denied as one that the server does not know
+pub record KnownMountsAreKnown (w : World) (asked : ListenRequest) : Type 0 where
+  pub in_settings : (mount : MountSetting) → Has mount w.house.settings.mounts → mount.name ≡ asked.mount → reply_to w (Listen asked) ≡ Deny NoMount → ⊥
+  pub relayed : (relay : RelaySetting) → Has relay w.house.settings.relays → relay.local_mount ≡ asked.mount → reply_to w (Listen asked) ≡ Deny NoMount → ⊥
+  pub live : (session : Session) → session_of w.house.live asked.mount ≡ Some session → reply_to w (Listen asked) ≡ Deny NoMount → ⊥

@@ -6,9 +6,10 @@ ghost use Rattle.radio_settings.specs.declared.settings.Settings.{Settings};
 ghost use Rattle.radio_access.specs.Lists.{Lists};
 ghost use Rattle.radio_events.specs.declared.event.Event.{Event};
 ghost use Rattle.radio_events.specs.declared.event.Event.TheVariants.{Leave};
+ghost use Rattle.radio_events.specs.declared.event.ListenRequest.{ListenRequest};
 ghost use Rattle.radio_core.specs.Run.{run_after};
 ghost use Rattle.radio_events.specs.Events.{client_in};
-ghost use Rattle.radio_core.specs.Denials.{DenialsAreThePolicys};
+ghost use Rattle.radio_core.specs.Denials.{DenialsAreThePolicys, AddressesAreDenied, OnlySourcesFeed, KnownMountsAreKnown};
 ghost use Rattle.radio_core.specs.Finishes.{FinishedAreTold};
 ghost use Rattle.radio_core.specs.Access.{AccessIsKept};
 ghost use Rattle.radio_core.specs.Limits.{IsWithinLimits, DeniesByLimits, AdmitsByLimits};
@@ -33,6 +34,13 @@ pub fn denials_are_the_policys()
     // nothing has changed but that an undecided client has had his answer
     ensures denied { (settings : Settings) (lists : Lists) (events : List Event) (event : Event)
         → DenialsAreThePolicys (run_after settings lists events) event }
+    // an address that the lists deny is denied for it, whatever else holds
+    ensures addresses { (settings : Settings) (lists : Lists) (events : List Event) → AddressesAreDenied (run_after settings lists events) }
+    // a source feeds only with the user and the password of the mount's source, byte for byte, and a type that is carried
+    ensures sources { (settings : Settings) (lists : Lists) (events : List Event) (event : Event) → OnlySourcesFeed (run_after settings lists events) event }
+    // a mount of the settings, one that a relay feeds and one that is live are never denied as unknown
+    ensures known { (settings : Settings) (lists : Lists) (events : List Event) (asked : ListenRequest)
+        → KnownMountsAreKnown (run_after settings lists events) asked }
 {
     denials_name_the_first_rule();
 }
