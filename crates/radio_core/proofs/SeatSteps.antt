@@ -164,22 +164,22 @@ module _ (w : World) (s : IsSound w) (id : ℕ) where
   unfolding reply_to world_after
   seat_step event = step_by event (outcome w event) (way_of w event)
 
--- a seat that is kept is at the same mount, and not further back
+-- a seat that is kept is the same but for its place, which does not go back
 keeps : (w : World) (before later : Option Seat) (bytes : List ℕ) → SeatStep w before bytes later → (old seat : Seat) → before ≡ Some old
-    → later ≡ Some seat → old.session ≡ seat.session → (seat.mount ≡ old.mount) × (old.place ≤ seat.place)
-keeps w before later bytes (Stays same) old seat eo es kept =
+    → later ≡ Some seat → (seat ≡ record old { place = seat.place }) × (old.place ≤ seat.place)
+keeps w before later bytes (Stays same) old seat eo es =
     let both : Some old ≡ Some seat = sym eo ∙ es in
     let one : old ≡ seat = cc in
-    (ap (λ (x : Seat). x.mount) (sym one), subst (λ (x : Seat). old.place ≤ x.place) one (omega arith))
-keeps w before later bytes (IsHanded had session room live number within) old seat eo es kept =
+    (subst (λ (x : Seat). seat ≡ record x { place = seat.place }) (sym one) refl, subst (λ (x : Seat). old.place ≤ x.place) one (omega arith))
+keeps w before later bytes (IsHanded had session room live number within) old seat eo es =
     let one : had ≡ old = cc in
-    let moved : record had { place = had.place + length (data_at session.stream had.place room) } ≡ seat = cc in (
-      ap (λ (x : Seat). x.mount) (sym moved) ∙ ap (λ (x : Seat). x.mount) one,
-      subst (λ (x : Seat). old.place ≤ x.place) moved (subst (λ (x : Seat). x.place ≤ had.place + length (data_at session.stream had.place room)) one
-          (omega arith)),
+    let far = had.place + length (data_at session.stream had.place room) in
+    let moved : record had { place = far } ≡ seat = cc in (
+      subst (λ (x : Seat). x ≡ record old { place = x.place }) moved (ap (λ (x : Seat). record x { place = far }) one),
+      subst (λ (x : Seat). old.place ≤ x.place) moved (subst (λ (x : Seat). x.place ≤ far) one (omega arith)),
     )
-keeps w before later bytes (SitsIn new session live number within) old seat eo es kept = cc
-keeps w before later bytes (LosesIt had) old seat eo es kept = cc
+keeps w before later bytes (SitsIn new session live number within) old seat eo es = cc
+keeps w before later bytes (LosesIt had) old seat eo es = cc
 
 pub mounts_kept : (w : World) → IsSound w → (event : Event) → SeatsKeepTheirMounts w event
 mounts_kept w s event id seat e =
@@ -188,6 +188,5 @@ mounts_kept w s event id seat e =
       session = now.session;
       is_live = now.is_live;
       in_the_session = sym now.his_session;
-      kept = λ old had same. keeps w (seat_of w.seats id) (seat_of (world_after w event).seats id) (handed_at w event id)
-          (seat_step w s id event) old seat had e same;
+      kept = λ old had. keeps w (seat_of w.seats id) (seat_of (world_after w event).seats id) (handed_at w event id) (seat_step w s id event) old seat had e;
     }

@@ -1,19 +1,23 @@
 -- What the policy allows happens, and who sits is handed what stands at his place.
-use Rattle.std.specs.Prelude.{◌≡◌, ℕ, ◌+◌, List, Some}
+use Rattle.std.specs.Prelude.{◌≡◌, ℕ, ◌+◌, ◌-◌, min, List, [], ◌∷◌, ◌++◌, length, Some, None}
+use Rattle.radio_policy.specs.declared.rule.Rule.{Rule}
 use Rattle.radio_policy.specs.Verdicts.{Allows}
 use Rattle.radio_addr.specs.declared.peer.Peer.{Peer}
-use Rattle.radio_events.specs.declared.event.Event.TheVariants.{Arrive, Source, Push, Listen, Draw}
+use Rattle.radio_events.specs.declared.event.Event.{Event}
+use Rattle.radio_events.specs.declared.event.Event.TheVariants.{Arrive, Source, Push, SourceEnd, Title, Listen, Draw}
 use Rattle.radio_events.specs.declared.event.SourceRequest.{SourceRequest}
 use Rattle.radio_events.specs.declared.event.ListenRequest.{ListenRequest}
-use Rattle.radio_events.specs.declared.reply.Reply.TheVariants.{Arrived, Feeding, Noted, Seated, Drawn}
+use Rattle.radio_events.specs.declared.reply.Reply.TheVariants.{Arrived, Feeding, Noted, Seated, Drawn, Finished, Stray}
 use Rattle.radio_seats.specs.declared.seat.Seat.{Seat}
-use Rattle.radio_core.specs.declared.standing.Standing.TheVariants.{Undecided, Feeds, Sits}
+use Rattle.radio_core.specs.declared.standing.Standing.TheVariants.{Undecided, Feeds, Sits, Answered}
 use Rattle.radio_core.specs.Facts.{rows_to_arrive, rows_to_feed, rows_to_push, rows_to_listen}
 use Rattle.radio_core.specs.Listen.{interval_for}
 use Rattle.radio_seats.specs.Seats.{seat_of}
 use Rattle.radio_core.specs.Sessions.{Session, session_of}
 use Rattle.radio_core.specs.Step.{reply_to, world_after}
-use Rattle.radio_core.specs.Stream.{data_at}
+use Rattle.radio_core.specs.Stream.{end_of, data_at}
+use Rattle.radio_core.specs.Clients.{client_of}
+use Rattle.radio_core.specs.declared.clients.ClientState.TheVariants.{Undecided as IsNew}
 use Rattle.radio_core.specs.World.{World, standing_of}
 
 -- a listener was seated in the session of the mount that he asked for, and shown what it shows
@@ -23,21 +27,44 @@ pub record IsTakenIn (w : World) (asked : ListenRequest) : Type 0 where
   pub is_shown : reply_to w (Listen asked) ≡ Seated (interval_for w.house session.mount asked.wants_metadata) session.shown
   pub sits : standing_of (world_after w (Listen asked)) asked.id ≡ Sits
 
--- a listener was handed what stands at his place in the stream of his mount, and the title that it has
+-- a listener was handed what stands at his place in the stream of his mount, as much of it as is there and as he has room for, and the title that it has;
+-- and his place is behind it
 pub record IsHanded (w : World) (id room : ℕ) : Type 0 where
   pub seat : Seat
   pub has_the_seat : seat_of w.seats id ≡ Some seat
   pub session : Session
   pub is_live : session_of w.house.live seat.mount ≡ Some session
   pub is_handed : reply_to w (Draw id room) ≡ Drawn (data_at session.stream seat.place room) session.title
+  pub all_there : length (data_at session.stream seat.place room) ≡ min room (end_of session.stream - seat.place)
+  pub goes_on : seat_of (world_after w (Draw id room)).seats id ≡ Some (record seat { place = seat.place + min room (end_of session.stream - seat.place) })
 
 pub record Serves (w : World) : Type 0 where
+  -- a client arrives, and is there from now on
   pub admits : (peer : Peer) → Allows (rows_to_arrive w.house peer) → (reply_to w (Arrive peer) ≡ Arrived (w.house.last_id + 1))
+      × (client_of (world_after w (Arrive peer)).house.clients (w.house.last_id + 1)
+      ≡ Some (record { id = w.house.last_id + 1; peer = peer; arrived = w.house.time; state = IsNew }))
       × (standing_of (world_after w (Arrive peer)) (w.house.last_id + 1) ≡ Undecided peer)
   pub begins : (asked : SourceRequest) (peer : Peer) → standing_of w asked.id ≡ Undecided peer → Allows (rows_to_feed w.house asked)
       → (reply_to w (Source asked) ≡ Feeding) × (standing_of (world_after w (Source asked)) asked.id ≡ Feeds asked.mount)
-  pub takes_in : (id : ℕ) (mount block : List ℕ) → standing_of w id ≡ Feeds mount → Allows (rows_to_push w.house mount block)
-      → reply_to w (Push id block) ≡ Noted
+  -- a block is noted at the end of the stream, and as its last one from now on
+  pub takes_in : (id : ℕ) (mount block : List ℕ) (session : Session) → standing_of w id ≡ Feeds mount → session_of w.house.live mount ≡ Some session
+      → Allows (rows_to_push w.house mount block) → (reply_to w (Push id block) ≡ Noted)
+      × (session_of (world_after w (Push id block)).house.live mount ≡ Some (record session {
+        stream = record { bytes = session.stream.bytes ++ block; starts = session.stream.starts ++ length session.stream.bytes ∷ [] };
+        last_block = w.house.time;
+      }))
+  -- a title is that of the session from now on
+  pub titles : (id : ℕ) (mount text : List ℕ) (session : Session) → standing_of w id ≡ Feeds mount → session_of w.house.live mount ≡ Some session
+      → (reply_to w (Title id text) ≡ Noted)
+      × (session_of (world_after w (Title id text)).house.live mount ≡ Some (record session { title = Some text }))
+  -- the end of the data ends the session, and its source has had its answer
+  pub ends : (id : ℕ) (mount : List ℕ) → standing_of w id ≡ Feeds mount → (reply_to w (SourceEnd id) ≡ Noted)
+      × (session_of (world_after w (SourceEnd id)).house.live mount ≡ None) × (standing_of (world_after w (SourceEnd id)) id ≡ Answered)
   pub seats : (asked : ListenRequest) (peer : Peer) → standing_of w asked.id ≡ Undecided peer → Allows (rows_to_listen w asked)
       → IsTakenIn w asked
   pub hands_out : (id room : ℕ) → standing_of w id ≡ Sits → IsHanded w id room
+
+-- what is out of place changes nothing, and what is told that he was finished neither
+pub record ChangesNothing (w : World) (event : Event) : Type 0 where
+  pub stray : reply_to w event ≡ Stray → world_after w event ≡ w
+  pub finished : (rule : Rule) → reply_to w event ≡ Finished rule → world_after w event ≡ w

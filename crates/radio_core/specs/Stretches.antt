@@ -45,12 +45,12 @@ abbrev pub StretchesAreWhole : Settings → Lists → List Event → Type 0
 StretchesAreWhole settings lists events = (id : ℕ) → AreStretches (delivered (opening settings lists) events) (sittings (opening settings lists) events id)
     (handed (opening settings lists) events id)
 
--- through an event, a listener keeps mount and session while he keeps his seat, and a new seat is in the session that its mount has then
+-- through an event, a listener who keeps a seat keeps all of it but his place, which does not go back; and a seat is in the session that its mount has
 pub record KeepsItsMount (w : World) (event : Event) (id : ℕ) (seat : Seat) : Type 0 where
   pub session : Session
   pub is_live : session_of (world_after w event).house.live seat.mount ≡ Some session
   pub in_the_session : seat.session ≡ session.number
-  pub kept : (old : Seat) → seat_of w.seats id ≡ Some old → old.session ≡ seat.session → (seat.mount ≡ old.mount) × (old.place ≤ seat.place)
+  pub kept : (old : Seat) → seat_of w.seats id ≡ Some old → (seat ≡ record old { place = seat.place }) × (old.place ≤ seat.place)
 
 abbrev pub SeatsKeepTheirMounts : World → Event → Type 0
 SeatsKeepTheirMounts w event = (id : ℕ) (seat : Seat) → seat_of (world_after w event).seats id ≡ Some seat → KeepsItsMount w event id seat

@@ -16,7 +16,7 @@ ghost use Rattle.radio_core.specs.Limits.{IsWithinLimits, DeniesByLimits, Admits
 ghost use Rattle.radio_core.specs.Admission.{BeginsAtABlock};
 ghost use Rattle.radio_core.specs.Lagging.{NobodyLags};
 ghost use Rattle.radio_core.specs.SessionSteps.{SessionsStep, KeepsSettings};
-ghost use Rattle.radio_core.specs.Service.{Serves};
+ghost use Rattle.radio_core.specs.Service.{Serves, ChangesNothing};
 ghost use Rattle.radio_core.specs.Stretches.{StretchesAreWhole, SeatsKeepTheirMounts};
 ghost use Rattle.radio_core.specs.TitlesTold.{TitlesAreTold};
 ghost use Rattle.radio_core.specs.Others.{OthersStandOn, RepliesFit, LosesNoSeatElse};
@@ -96,8 +96,11 @@ pub fn listeners_begin_at_a_block()
 
 /// The law of service.
 pub fn whoever_may_is_served()
-    // whatever has happened, what the policy allows happens, and a listener who has a seat is handed what stands at his place
+    // whatever has happened, what the policy allows happens; a title and the end of a source's data are noted; and a listener
+    // who has a seat is handed what stands at his place, as much as is there and as he has room for
     ensures served { (settings : Settings) (lists : Lists) (events : List Event) → Serves (run_after settings lists events) }
+    // and what is out of place, or comes from one who was finished, changes nothing
+    ensures nothing { (settings : Settings) (lists : Lists) (events : List Event) (event : Event) → ChangesNothing (run_after settings lists events) event }
 {
     denials_name_the_first_rule();
 }
@@ -108,7 +111,7 @@ pub fn stretches_are_whole()
     // each a contiguous slice, without gap or repeat, of what the source delivered in whose session
     // he sat
     ensures stretches { (settings : Settings) (lists : Lists) (events : List Event) → StretchesAreWhole settings lists events }
-    // and through each event a listener who keeps his seat keeps its mount and session, and does not go back
+    // and through each event a listener who keeps a seat keeps all of it but his place, and does not go back
     ensures mounts { (settings : Settings) (lists : Lists) (events : List Event) (event : Event)
         → SeatsKeepTheirMounts (run_after settings lists events) event }
 {}
