@@ -1,3 +1,4 @@
 pub mod Lists
 pub mod SourcePair
 pub mod ContentTypes
+pub mod TypeExamples

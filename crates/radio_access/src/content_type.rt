@@ -1,7 +1,9 @@
 //! Content types that the server does not carry.
-ghost use Rattle.std.specs.Prelude.{◌≡◌};
+ghost use Rattle.std.specs.Prelude.{◌≡◌, true, false};
 ghost use Rattle.std.specs.List.{list_any};
-ghost use Rattle.radio_access.specs.ContentTypes.{media_type, is_same_type, refused_types, is_refused_type};
+ghost use Rattle.radio_tables.specs.Lists.{Each};
+ghost use Rattle.radio_access.specs.ContentTypes.{media_type, is_same_type, is_refused_type};
+ghost use Rattle.radio_access.specs.TypeExamples.{refused_examples, carried_examples};
 
 use radio_texts::{cut, without_blanks};
 
@@ -49,3 +51,11 @@ fn is_same_type(a: &[u8], b: &[u8]) -> bool
 {
     a.eq_ignore_ascii_case(b)
 }
+
+/// Which content types are refused, by name.
+pub fn refused_types_are_named()
+    // Ogg, WebM and Matroska, in any ASCII case, with or without parameters and blanks
+    ensures refused { Each (λ type. is_refused_type type ≡ true) refused_examples }
+    // and no other: what players take as plain bytes is carried
+    ensures carried { Each (λ type. is_refused_type type ≡ false) carried_examples }
+{}

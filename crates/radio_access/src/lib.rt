@@ -10,7 +10,7 @@ mod content_type;
 mod lists;
 mod source_pair;
 
-pub use content_type::is_refused_type;
+pub use content_type::{is_refused_type, refused_types_are_named};
 pub use lists::{Lists, MountUsers};
 pub use source_pair::is_source_pair;
 
