@@ -31,8 +31,13 @@ use Rattle.radio_core.specs.Ways.{Way, Misplaced, IsFinished, IsDenied, IsRefuse
 use Rattle.radio_core.specs.Ways.{EndsAndLeaves, Leaves, HasPassed, Ticks}
 use Rattle.radio_core.proofs.FinishLemmas.{undecided_before}
 use Rattle.radio_core.proofs.GoneLemmas.{not_of, nothing_of, his_own, with_nothing, last_rises}
-use Rattle.radio_core.proofs.Lookups.{beside_ended, is_over}
-use Rattle.radio_core.proofs.SeatSteps.{SeatStep, Stays, IsHanded, SitsIn, LosesIt, seat_step}
+use Rattle.radio_core.proofs.Lookups.{beside_ended, is_over, found_named}
+use Rattle.radio_core.proofs.SeatSteps.{seats_step}
+use Rattle.radio_core.proofs.Soundness.{burst_within}
+use Rattle.radio_core.specs.Finishes.{Finishes}
+use Rattle.radio_core.specs.Listen.{first_seat, burst_of}
+use Rattle.radio_core.specs.SeatSteps.{SeatStep, Stays, IsHanded, SitsDown, Leaves as HeLeaves, IsEnded as HeIsEnded}
+use Rattle.radio_policy.specs.declared.rule.Rule.{Rule}
 use Rattle.radio_core.proofs.SoundSessions.{begun_cases, grown_cases}
 use Rattle.radio_core.proofs.SoundTitles.{titled_cases}
 use Rattle.radio_core.proofs.TickLemmas.{ticked_fates}
@@ -144,7 +149,7 @@ begun_none old seat same = let itself : (old.session == seat.session) ≡ true =
     grind (arith, nat_tests) in begun_same old seat (old.session == seat.session) refl itself
 
 -- what an event does to his seat keeps all that he has heard stretches
-module _ (w : World) (sent : ℕ → List ℕ) (whole : (mount : List ℕ) (session : Session) → session_of w.house.live mount ≡ Some session
+module _ (w : World) (s : IsSound w) (sent : ℕ → List ℕ) (whole : (mount : List ℕ) (session : Session) → session_of w.house.live mount ≡ Some session
     → session.stream.bytes ≡ sent session.number) where
   unchanged : (seat : Option Seat) (past more : List Sitting) (heard : List ℕ) → more ≡ [] → Hears sent seat past heard
       → Hears sent seat (past ++ more) (heard ++ [])
@@ -179,18 +184,22 @@ module _ (w : World) (sent : ℕ → List ℕ) (whole : (mount : List ℕ) (sess
       hears_as sent refl refl (ap (λ xs. heard ++ xs) (between_none seat.place (sent seat.session)))
       (Listening seat past (sitting_in seat) heard stretches refl (omega arith) (omega (arith, within, size)))
 
-  hears_step : (before later : Option Seat) (bytes : List ℕ) → SeatStep w before bytes later → (past : List Sitting) (heard : List ℕ)
-      → Hears sent before past heard → Hears sent later (past ++ begun_sittings before later) (heard ++ bytes)
-  hears_step before later bytes (Stays None) past heard h = unchanged None past [] heard refl h
-  hears_step before later bytes (Stays (Some seat)) past heard h =
+  hears_step : (C : Rule → Type 0) (event : Event) (id : ℕ) (before later : Option Seat) (bytes : List ℕ) → SeatStep w C event id before bytes later
+      → (past : List Sitting) (heard : List ℕ) → Hears sent before past heard → Hears sent later (past ++ begun_sittings before later) (heard ++ bytes)
+  hears_step C event id before later bytes (Stays None) past heard h = unchanged None past [] heard refl h
+  hears_step C event id before later bytes (Stays (Some seat)) past heard h =
       unchanged (Some seat) past (begun_sittings (Some seat) (Some seat)) heard (begun_none seat seat refl) h
-  hears_step before later bytes (IsHanded seat session room live number within) past heard h =
+  hears_step C event id before later bytes (IsHanded seat session room asked live number within) past heard h =
       let far : Seat = record seat { place = seat.place + length (data_at session.stream seat.place room) } in
       hears_as sent refl (sym (ap (λ xs. past ++ xs) (begun_none seat far refl) ∙ append-nil past)) refl
       (handed_on seat session room live number within past heard h)
-  hears_step before later bytes (SitsIn seat session live number within) past heard h = sits_in seat session live number within past heard h
-  hears_step before later bytes (LosesIt None) past heard h = unchanged None past [] heard refl h
-  hears_step before later bytes (LosesIt (Some seat)) past heard h =
+  hears_step C event id before later bytes (SitsDown asked peer session e his undecided live allowed) past heard h =
+      let name : session.mount ≡ asked.mount = found_named w.house.live asked.mount session live in
+      sits_in (first_seat w.house asked peer session) session (ap (session_of w.house.live) name ∙ live) refl
+      (burst_within session (burst_of w.house session.mount) (s.starts asked.mount session live)) past heard h
+  hears_step C event id before later bytes (HeLeaves seat left) past heard h =
+      unchanged None past [] heard refl (Idle past heard (heard_so_far sent (Some seat) past heard h))
+  hears_step C event id before later bytes (HeIsEnded seat rule cause) past heard h =
       unchanged None past [] heard refl (Idle past heard (heard_so_far sent (Some seat) past heard h))
 
 -- what was sent so far is what the sessions have
@@ -325,10 +334,10 @@ all_stretches w s sent h id past heard so_far [] =
     (grown_stretches sent (λ n. []) past heard (heard_so_far sent (seat_of w.seats id) past heard so_far)))
 all_stretches w s sent h id past heard so_far (event ∷ events) =
     let later = world_after w event in
-    let step = seat_step w s id event in
+    let step = seats_step w s event id in
     let begun = begun_sittings (seat_of w.seats id) (seat_of later.seats id) in
     let bytes = handed_at w event id in
-    let heard_now = hears_step w sent h.whole (seat_of w.seats id) (seat_of later.seats id) bytes step past heard so_far in
+    let heard_now = hears_step w s sent h.whole (Finishes w event id) event id (seat_of w.seats id) (seat_of later.seats id) bytes step past heard so_far in
     let more = λ (n : ℕ). delivered_at w event n in
     let now = λ (n : ℕ). sent n ++ more n in
     let grown = hears_grown sent more (seat_of later.seats id) (past ++ begun) (heard ++ bytes) heard_now in

@@ -22,6 +22,7 @@ pub mod Lagging
 pub mod StandsFor
 pub mod Step
 pub mod SessionSteps
+pub mod SeatSteps
 pub mod Run
 pub mod Ways
 pub mod Denials

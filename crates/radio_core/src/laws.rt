@@ -16,6 +16,7 @@ ghost use Rattle.radio_core.specs.Limits.{IsWithinLimits, DeniesByLimits, Admits
 ghost use Rattle.radio_core.specs.Admission.{BeginsAtABlock};
 ghost use Rattle.radio_core.specs.Lagging.{NobodyLags};
 ghost use Rattle.radio_core.specs.SessionSteps.{SessionsStep, KeepsSettings};
+ghost use Rattle.radio_core.specs.SeatSteps.{SeatsStep};
 ghost use Rattle.radio_core.specs.Service.{Serves, ChangesNothing};
 ghost use Rattle.radio_core.specs.Stretches.{StretchesAreWhole, SeatsKeepTheirMounts};
 ghost use Rattle.radio_core.specs.TitlesTold.{TitlesAreTold};
@@ -78,6 +79,13 @@ pub fn sessions_are_their_sources()
     ensures steps { (settings : Settings) (lists : Lists) (events : List Event) (event : Event) → SessionsStep (run_after settings lists events) event }
     // and no event changes the settings, or the lists of who is let in
     ensures settings { (settings : Settings) (lists : Lists) (events : List Event) (event : Event) → KeepsSettings (run_after settings lists events) event }
+{}
+
+/// The law of seats.
+pub fn seats_are_their_listeners()
+    // whatever has happened, a seat stays as it is, is handed what stands at its place where its listener draws, is given to
+    // one who asks for a live mount and whom the policy allows it, or is lost by leaving or by a rule that holds then
+    ensures steps { (settings : Settings) (lists : Lists) (events : List Event) (event : Event) → SeatsStep (run_after settings lists events) event }
 {}
 
 /// The law of lag.

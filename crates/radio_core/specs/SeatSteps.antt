@@ -1,0 +1,42 @@
+-- What an event does to the seat of one client, and what it hands to him.
+use Rattle.std.specs.Prelude.{◌≡◌, ℕ, ◌+◌, ◌≤◌, List, [], length, Option, Some, None}
+use Rattle.radio_policy.specs.declared.rule.Rule.{Rule}
+use Rattle.radio_policy.specs.declared.judgement.Verdict.TheVariants.{Allow}
+use Rattle.radio_policy.specs.Verdicts.{verdict_in}
+use Rattle.radio_addr.specs.declared.peer.Peer.{Peer}
+use Rattle.radio_seats.specs.declared.seat.Seat.{Seat}
+use Rattle.radio_seats.specs.Seats.{seat_of}
+use Rattle.radio_events.specs.declared.event.Event.{Event}
+use Rattle.radio_events.specs.declared.event.Event.TheVariants.{Listen, Draw, Leave}
+use Rattle.radio_events.specs.declared.event.ListenRequest.{ListenRequest}
+use Rattle.radio_core.specs.declared.standing.Standing.TheVariants.{Undecided}
+use Rattle.radio_core.specs.Facts.{rows_to_listen}
+use Rattle.radio_core.specs.Finishes.{Finishes}
+use Rattle.radio_core.specs.Handing.{handed_at}
+use Rattle.radio_core.specs.Listen.{first_seat}
+use Rattle.radio_core.specs.Sessions.{Session, session_of}
+use Rattle.radio_core.specs.Step.{world_after}
+use Rattle.radio_core.specs.Stream.{data_at, end_of}
+use Rattle.radio_core.specs.World.{World, standing_of}
+
+-- all that an event can do to the seat of the client of this number, where a rule ends one only for its cause; between the seats, what it hands to him
+pub data SeatStep (w : World) (Cause : Rule → Type 0) (event : Event) (id : ℕ) : Option Seat → List ℕ → Option Seat → Type 0 where
+  -- it stays as it is, or he has none still
+  Stays : (seat : Option Seat) → SeatStep w Cause event id seat [] seat
+  -- he draws, and is handed what stands at his place in the session in which he sits
+  IsHanded : (seat : Seat) (session : Session) (room : ℕ) → event ≡ Draw id room → session_of w.house.live seat.mount ≡ Some session
+      → session.number ≡ seat.session → seat.place + length (data_at session.stream seat.place room) ≤ end_of session.stream
+      → SeatStep w Cause event id (Some seat) (data_at session.stream seat.place room)
+      (Some (record seat { place = seat.place + length (data_at session.stream seat.place room) }))
+  -- he asks for a mount that is live, and the policy allows it
+  SitsDown : (asked : ListenRequest) (peer : Peer) (session : Session) → event ≡ Listen asked → asked.id ≡ id → standing_of w id ≡ Undecided peer
+      → session_of w.house.live asked.mount ≡ Some session → verdict_in (rows_to_listen w asked) ≡ Allow
+      → SeatStep w Cause event id None [] (Some (first_seat w.house asked peer session))
+  -- he leaves
+  Leaves : (seat : Seat) → event ≡ Leave id → SeatStep w Cause event id (Some seat) [] None
+  -- he is finished by a rule
+  IsEnded : (seat : Seat) (rule : Rule) → Cause rule → SeatStep w Cause event id (Some seat) [] None
+
+abbrev pub SeatsStep : World → Event → Type 0
+SeatsStep w event = (id : ℕ)
+    → SeatStep w (Finishes w event id) event id (seat_of w.seats id) (handed_at w event id) (seat_of (world_after w event).seats id)
