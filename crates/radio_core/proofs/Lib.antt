@@ -20,6 +20,7 @@ pub mod ServiceLemmas
 pub mod GoneLemmas
 pub mod LostSeats
 pub mod SeatSteps
+pub mod ClientSteps
 pub mod StretchLemmas
 pub mod TitleLemmas
 pub mod StepLemmas

@@ -23,6 +23,7 @@ pub mod StandsFor
 pub mod Step
 pub mod SessionSteps
 pub mod SeatSteps
+pub mod ClientSteps
 pub mod Run
 pub mod Ways
 pub mod Denials

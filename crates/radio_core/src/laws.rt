@@ -17,6 +17,7 @@ ghost use Rattle.radio_core.specs.Admission.{BeginsAtABlock};
 ghost use Rattle.radio_core.specs.Lagging.{NobodyLags};
 ghost use Rattle.radio_core.specs.SessionSteps.{SessionsStep, KeepsSettings};
 ghost use Rattle.radio_core.specs.SeatSteps.{SeatsStep};
+ghost use Rattle.radio_core.specs.ClientSteps.{ClientsStep};
 ghost use Rattle.radio_core.specs.Service.{Serves, ChangesNothing};
 ghost use Rattle.radio_core.specs.Stretches.{StretchesAreWhole, SeatsKeepTheirMounts};
 ghost use Rattle.radio_core.specs.TitlesTold.{TitlesAreTold};
@@ -86,6 +87,13 @@ pub fn seats_are_their_listeners()
     // whatever has happened, a seat stays as it is, is handed what stands at its place where its listener draws, is given to
     // one who asks for a live mount and whom the policy allows it, or is lost by leaving or by a rule that holds then
     ensures steps { (settings : Settings) (lists : Lists) (events : List Event) (event : Event) → SeatsStep (run_after settings lists events) event }
+{}
+
+/// The law of clients.
+pub fn clients_stand_by_their_events()
+    // whatever has happened, a client stands as before but where he arrives, is denied what he asks for, begins to feed or to
+    // hear as the policy allows, comes to the end of his data, leaves, or is finished by a rule that holds then
+    ensures steps { (settings : Settings) (lists : Lists) (events : List Event) (event : Event) → ClientsStep (run_after settings lists events) event }
 {}
 
 /// The law of lag.

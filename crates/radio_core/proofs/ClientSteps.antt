@@ -1,0 +1,131 @@
+-- what an event does to how one client stands
+use Rattle.std.proofs.Common.{◌≡◌, ◌⊎◌, inl, inr, ℕ, ◌<◌, true, Some, List, refl, ap, sym, subst, ◌∙◌}
+use Rattle.radio_policy.specs.declared.rule.Rule.{Rule}
+use Rattle.radio_addr.specs.declared.peer.Peer.{Peer}
+use Rattle.radio_access.specs.Lists.{passes}
+use Rattle.radio_events.specs.declared.event.Event.{Event}
+use Rattle.radio_events.specs.declared.event.Event.TheVariants.{Arrive, Push, SourceEnd, Leave}
+use Rattle.radio_events.specs.declared.reply.Reply.TheVariants.{Deny}
+use Rattle.radio_events.specs.Events.{client_in}
+use Rattle.radio_core.specs.declared.outcome.Outcome.{Outcome}
+use Rattle.radio_core.specs.declared.standing.Standing.{Standing}
+use Rattle.radio_core.specs.declared.standing.Standing.TheVariants.{Unknown, Undecided, Feeds, Sits, Answered, Finished as HasFinished}
+use Rattle.radio_core.specs.Changes.{changed, taken_in}
+use Rattle.radio_core.specs.ClientSteps.{ClientStep, Stays, Arrives, IsAnswered, BeginsToFeed, SitsDown, StopsFeeding, ClientsStep}
+use Rattle.radio_core.specs.ClientSteps.{Leaves as HeLeaves, IsFinished as HeIsFinished}
+use Rattle.radio_core.specs.Finishes.{Finishes}
+use Rattle.radio_core.specs.Listen.{first_seat}
+use Rattle.radio_core.specs.Others.{StandsOn}
+use Rattle.radio_core.specs.Sound.{IsSound}
+use Rattle.radio_core.specs.Source.{shown_for}
+use Rattle.radio_core.specs.Step.{outcome, reply_to, world_after}
+use Rattle.radio_core.specs.Ways.{Way, Misplaced, IsFinished, IsDenied, IsRefused, IsAdmitted, Begins, Receives, SetsTitle, TakesSeat, HandsOut, Ends}
+use Rattle.radio_core.specs.Ways.{EndsAndLeaves, Leaves, HasPassed, Ticks}
+use Rattle.radio_core.specs.World.{World, standing_of}
+use Rattle.radio_seats.specs.SeatLaws.{listener_seated}
+use Rattle.radio_core.proofs.Fates.{Fate, GoesOn, IsEnded}
+use Rattle.radio_core.proofs.FinishLemmas.{others_hold, finish_step, undecided_before}
+use Rattle.radio_core.proofs.GoneLemmas.{by_own}
+use Rattle.radio_core.proofs.ServiceLemmas.{replies_fit}
+use Rattle.radio_core.proofs.SoundEnds.{turns_ended, turns_ended_and_left}
+use Rattle.radio_core.proofs.SoundRuns.{grown_world, lag_fates}
+use Rattle.radio_core.proofs.Standings.{turns_answered, turns_feeding, turns_sitting, turns_forgotten, stays_hearing}
+use Rattle.radio_core.proofs.Ways.{way_of}
+
+turned : (w : World) (C : Rule → Type 0) (event : Event) (id : ℕ) {before a later b : Standing} → before ≡ a → later ≡ b → ClientStep w C event id before later
+    → ClientStep w C event id a b
+turned w C event id {before} {a} {later} {b} ea eb step =
+    subst (λ (x : Standing). ClientStep w C event id x b) ea (subst (λ (x : Standing). ClientStep w C event id before x) eb step)
+
+module _ (w : World) (s : IsSound w) (id : ℕ) (C : Rule → Type 0) where
+  -- his own event
+  own_by : (event : Event) (o : Outcome) → Way w event o → client_in event ≡ Some id
+      → ((rule : Rule) → standing_of (changed w o.change) id ≡ HasFinished rule → (standing_of w id ≡ HasFinished rule) ⊎ C rule)
+      → ((rule : Rule) → o.reply ≡ Deny rule → reply_to w event ≡ Deny rule)
+      → ClientStep w C event id (standing_of w id) (standing_of (changed w o.change) id)
+  own_by event o (Misplaced _) his fin denies = Stays (standing_of w id)
+  own_by event o (IsFinished _ him by its known) his fin denies = Stays (standing_of w id)
+  own_by event o (IsDenied _ by v nobody) his fin denies = Stays (standing_of w id)
+  own_by event o (IsRefused _ him by v its undecided) his fin denies =
+      let both : Some him ≡ Some id = sym its ∙ his in
+      let same : him ≡ id = cc in
+      turned w C event id (sym undecided.1 ∙ ap (standing_of w) same)
+      (sym (turns_answered w him (λ u. let at = undecided.1 in cc)).his ∙ ap (standing_of (changed w o.change)) same)
+      (IsAnswered undecided.0 by his (denies by refl))
+  own_by event o (IsAdmitted peer allowed) his fin denies = cc
+  own_by event o (Begins asked undecided none allowed) his fin denies =
+      let same : asked.id ≡ id = cc in
+      turned w C event id (sym undecided.1 ∙ ap (standing_of w) same)
+      (sym (turns_feeding w asked.id asked.mount (shown_for w.house asked.mount asked.shown) (λ u. let at = undecided.1 in cc)).his
+      ∙ ap (standing_of (changed w o.change)) same)
+      (BeginsToFeed undecided.0 asked refl same allowed)
+  own_by event o (Receives him mount block feeding) his fin denies = by_fate ((lag_fates w s mount block him feeding).fate id) where
+    feeds : standing_of w id ≡ Feeds mount
+    feeds = let same : him ≡ id = cc in ap (standing_of w) (sym same) ∙ feeding
+
+    not_before : {A : Type 0} (rule : Rule) → (standing_of w id ≡ HasFinished rule) ⊎ C rule → (C rule → A) → A
+    not_before rule (inl was) then_so = let is : standing_of w id ≡ Feeds mount = feeds in cc
+    not_before rule (inr cause) then_so = then_so cause
+
+    by_fate : Fate (grown_world w mount block) (taken_in w mount block) (Push him block) id
+        → ClientStep w C (Push him block) id (standing_of w id) (standing_of (taken_in w mount block) id)
+    by_fate (GoesOn same seat sources sits) = turned w C (Push him block) id refl (sym same) (Stays (standing_of w id))
+    by_fate (IsEnded rule cause active ended none over) =
+        not_before rule (fin rule ended)
+        (λ why. turned w C (Push him block) id refl (sym ended) (HeIsFinished (standing_of w id) rule why))
+  own_by event o (SetsTitle him mount text feeding) his fin denies = Stays (standing_of w id)
+  own_by event o (TakesSeat asked peer session undecided live allowed) his fin denies =
+      let same : asked.id ≡ id = cc in
+      turned w C event id (sym undecided ∙ ap (standing_of w) same)
+      (sym (turns_sitting w asked.id (first_seat w.house asked peer session) (λ u. cc)).his ∙ ap (standing_of (changed w o.change)) same)
+      (SitsDown peer asked refl same allowed)
+  own_by event o (HandsOut him room seat session sits has live) his fin denies =
+      let listener = listener_seated w.seats him seat has in
+      turned w C event id refl (sym (stays_hearing w him _ listener.0 listener.1 id)) (Stays (standing_of w id))
+  own_by event o (Ends him mount feeding) his fin denies =
+      let same : him ≡ id = cc in
+      turned w C event id (sym feeding ∙ ap (standing_of w) same)
+      (sym (turns_ended w s him mount feeding).his ∙ ap (standing_of (changed w o.change)) same)
+      (StopsFeeding mount (ap (λ (n : ℕ). SourceEnd n) same))
+  own_by event o (EndsAndLeaves him mount feeding) his fin denies =
+      let same : him ≡ id = cc in
+      turned w C event id refl (sym (turns_ended_and_left w s him mount feeding).his ∙ ap (standing_of (changed w o.change)) same)
+      (HeLeaves (standing_of w id) (ap (λ (n : ℕ). Leave n) same))
+  own_by event o (Leaves him other) his fin denies =
+      let same : him ≡ id = cc in
+      turned w C event id refl (sym (turns_forgotten w him).his ∙ ap (standing_of (changed w o.change)) same)
+      (HeLeaves (standing_of w id) (ap (λ (n : ℕ). Leave n) same))
+  own_by event o (HasPassed ms e) his fin denies = cc
+  own_by event o (Ticks ms e) his fin denies = cc
+
+  own : (event : Event) → client_in event ≡ Some id
+      → ((rule : Rule) → standing_of (world_after w event) id ≡ HasFinished rule → (standing_of w id ≡ HasFinished rule) ⊎ C rule)
+      → ClientStep w C event id (standing_of w id) (standing_of (world_after w event) id)
+  unfolding reply_to world_after
+  own event his fin = own_by event (outcome w event) (way_of w event) his fin (λ rule d. d)
+
+module _ (w : World) (s : IsSound w) (event : Event) (id : ℕ) where
+  -- an event of another
+  by_other : StandsOn w event id → ClientStep w (Finishes w event id) event id (standing_of w id) (standing_of (world_after w event) id)
+  by_other (inl same) = turned w (Finishes w event id) event id refl (sym same) (Stays (standing_of w id))
+  by_other (inr (inl finished)) =
+      turned w (Finishes w event id) event id refl (sym finished.1.has_finished) (HeIsFinished (standing_of w id) finished.0 finished.1)
+  by_other (inr (inr arrived)) = comes (undecided_before w s event id fits.0 fits.4) where
+    fits : (peer : Peer) × (event ≡ Arrive peer) × (w.house.last_id < id) × (standing_of w id ≡ Unknown)
+        × (standing_of (world_after w event) id ≡ Undecided peer)
+    fits = (replies_fit w s event).arrived id arrived
+
+    comes : (standing_of w id ≡ Undecided fits.0) ⊎ ((w.house.last_id < id) × (passes w.house.lists fits.0 ≡ true))
+        → ClientStep w (Finishes w event id) event id (standing_of w id) (standing_of (world_after w event) id)
+    comes (inl was) = let unknown : standing_of w id ≡ Unknown = fits.3 in cc
+    comes (inr new) = turned w (Finishes w event id) event id (sym fits.3) (sym fits.4) (Arrives fits.0 fits.1 new.1 new.0)
+
+  pub client_step : ClientStep w (Finishes w event id) event id (standing_of w id) (standing_of (world_after w event) id)
+  client_step =
+      by_own event id
+      (λ his. own w s id (Finishes w event id) event his
+      (λ rule e. finish_step w s event id rule e))
+      (λ other apart. by_other (others_hold w s event id other))
+
+pub clients_step : (w : World) → IsSound w → (event : Event) → ClientsStep w event
+clients_step w s event id = client_step w s event id

@@ -1,0 +1,44 @@
+-- What an event does to how one client stands.
+use Rattle.std.specs.Prelude.{◌≡◌, ℕ, ◌<◌, true, List, Some}
+use Rattle.radio_policy.specs.declared.rule.Rule.{Rule}
+use Rattle.radio_policy.specs.declared.judgement.Verdict.TheVariants.{Allow}
+use Rattle.radio_policy.specs.Verdicts.{verdict_in}
+use Rattle.radio_addr.specs.declared.peer.Peer.{Peer}
+use Rattle.radio_access.specs.Lists.{passes}
+use Rattle.radio_events.specs.declared.event.Event.{Event}
+use Rattle.radio_events.specs.declared.event.Event.TheVariants.{Arrive, Source, SourceEnd, Listen, Leave}
+use Rattle.radio_events.specs.declared.event.SourceRequest.{SourceRequest}
+use Rattle.radio_events.specs.declared.event.ListenRequest.{ListenRequest}
+use Rattle.radio_events.specs.declared.reply.Reply.TheVariants.{Deny}
+use Rattle.radio_events.specs.Events.{client_in}
+use Rattle.radio_core.specs.declared.standing.Standing.{Standing}
+use Rattle.radio_core.specs.declared.standing.Standing.TheVariants.{Unknown, Undecided, Feeds, Sits, Answered, Finished}
+use Rattle.radio_core.specs.Facts.{rows_to_feed, rows_to_listen}
+use Rattle.radio_core.specs.Finishes.{Finishes}
+use Rattle.radio_core.specs.Step.{reply_to, world_after}
+use Rattle.radio_core.specs.World.{World, standing_of}
+
+-- all that an event can do to how the client of this number stands, where a rule finishes him only for its cause
+pub data ClientStep (w : World) (Cause : Rule → Type 0) (event : Event) (id : ℕ) : Standing → Standing → Type 0 where
+  -- he stands as before
+  Stays : (standing : Standing) → ClientStep w Cause event id standing standing
+  -- he arrives from an address that passes the address lists, with a number that was not given before
+  Arrives : (peer : Peer) → event ≡ Arrive peer → passes w.house.lists peer ≡ true → w.house.last_id < id
+      → ClientStep w Cause event id Unknown (Undecided peer)
+  -- what he asks for is denied
+  IsAnswered : (peer : Peer) (rule : Rule) → client_in event ≡ Some id → reply_to w event ≡ Deny rule → ClientStep w Cause event id (Undecided peer) Answered
+  -- he asks to feed a mount, and the policy allows it
+  BeginsToFeed : (peer : Peer) (asked : SourceRequest) → event ≡ Source asked → asked.id ≡ id → verdict_in (rows_to_feed w.house asked) ≡ Allow
+      → ClientStep w Cause event id (Undecided peer) (Feeds asked.mount)
+  -- he asks to hear a mount, and the policy allows it
+  SitsDown : (peer : Peer) (asked : ListenRequest) → event ≡ Listen asked → asked.id ≡ id → verdict_in (rows_to_listen w asked) ≡ Allow
+      → ClientStep w Cause event id (Undecided peer) Sits
+  -- his data have come to their end
+  StopsFeeding : (mount : List ℕ) → event ≡ SourceEnd id → ClientStep w Cause event id (Feeds mount) Answered
+  -- he leaves
+  Leaves : (standing : Standing) → event ≡ Leave id → ClientStep w Cause event id standing Unknown
+  -- he is finished by a rule
+  IsFinished : (standing : Standing) (rule : Rule) → Cause rule → ClientStep w Cause event id standing (Finished rule)
+
+abbrev pub ClientsStep : World → Event → Type 0
+ClientsStep w event = (id : ℕ) → ClientStep w (Finishes w event id) event id (standing_of w id) (standing_of (world_after w event) id)
