@@ -8,6 +8,7 @@ pub mod ApartLemmas
 pub mod SeatedLemmas
 pub mod Fates
 pub mod TickLemmas
+pub mod TickOrder
 pub mod TimeoutLemmas
 pub mod SoundEnds
 pub mod SoundRuns

@@ -41,7 +41,7 @@ use Rattle.radio_core.proofs.Standings.{Turns, Loses, turns_ended_by, silenced}
 -- clients who have asked for nothing in their time
 
 module _ (seconds ms : ℕ) where
-  clients_after : (clients : List Client) (id : ℕ)
+  pub clients_after : (clients : List Client) (id : ℕ)
       → client_of (map (timed_out seconds ms) clients) id ≡ option_map (timed_out seconds ms) (client_of clients id)
   clients_after clients id = find_mapped (is_client id) (timed_out seconds ms) (λ client. refl) clients
 
@@ -328,28 +328,28 @@ none_silent (suc n) w few = by_first (none_silent n) (first_silent w) refl where
 
 -- the whole change
 module _ (w : World) (s : IsSound w) (ms : ℕ) where
-  abbrev timed : World
+  abbrev pub timed : World
   timed = record w { house = timed_out_by w.house ms }
 
-  abbrev sat_out : World
+  abbrev pub sat_out : World
   sat_out = durations_over timed
 
-  sound_timed : IsSound timed
+  pub sound_timed : IsSound timed
   sound_timed = sound_fates w timed (Clock ms) s (timeout_fates w s ms)
 
-  fates_sat_out : Fates timed sat_out (Clock ms)
+  pub fates_sat_out : Fates timed sat_out (Clock ms)
   fates_sat_out = duration_fates timed sound_timed ms refl
 
-  sound_sat_out : IsSound sat_out
+  pub sound_sat_out : IsSound sat_out
   sound_sat_out = sound_fates timed sat_out (Clock ms) sound_timed fates_sat_out
 
-  fates_silence : Fates sat_out (ticked w ms) (Clock ms)
+  pub fates_silence : Fates sat_out (ticked w ms) (Clock ms)
   fates_silence = silence_fates (length sat_out.house.live) sat_out sound_sat_out ms refl
 
   pub ticked_fates : Fates w (ticked w ms) (Clock ms)
   ticked_fates = fates_then w sat_out (ticked w ms) ms (fates_then w timed sat_out ms (timeout_fates w s ms) fates_sat_out) fates_silence
 
-  in_time : IsInTime (ticked w ms) ms
+  pub in_time : IsInTime (ticked w ms) ms
   in_time = record {
     is_now = silence_time (length sat_out.house.live) sat_out;
     seats = λ id seat e.
@@ -382,13 +382,3 @@ module _ (w : World) (s : IsSound w) (ms : ℕ) where
         later.house.live session all e in
         ap (λ (moment : ℕ). is_silent later.house.settings.limits.source_timeout moment session) (sym (silence_time (length sat_out.house.live) sat_out))
         ∙ not_silent
-
-  ticked_if : (b : Bool) → Change
-  ticked_if b = (if b then Nothing else Tick ms)
-
-  pub nobody_outstays : NobodyOutstays w ms
-  unfolding world_after outcome
-  nobody_outstays = record {
-    earlier = λ e. ap (λ (b : Bool). changed w (if b then Nothing else Tick ms)) e;
-    later = λ e. subst (λ (b : Bool). IsInTime (changed w (if b then Nothing else Tick ms)) ms) (sym e) in_time;
-  }

@@ -8,7 +8,9 @@ use Rattle.radio_core.specs.Clients.{client_of}
 use Rattle.radio_core.specs.Sessions.{Session, session_of}
 use Rattle.radio_core.specs.Step.{world_after}
 use Rattle.radio_core.specs.Timeouts.{has_sat_out, asks_too_late, is_silent}
-use Rattle.radio_core.specs.World.{World}
+use Rattle.radio_core.specs.declared.standing.Standing.TheVariants.{Finished}
+use Rattle.radio_policy.specs.declared.rule.Rule.TheVariants.{HeaderTimeout, TimeOver, SourceSilent, NotLive}
+use Rattle.radio_core.specs.World.{World, standing_of}
 
 -- at this moment no seat has had its time, no client who has asked for nothing, and no source that has sent nothing
 pub record IsInTime (w : World) (ms : ℕ) : Type 0 where
@@ -18,7 +20,21 @@ pub record IsInTime (w : World) (ms : ℕ) : Type 0 where
   pub sources : (mount : List ℕ) (session : Session) → session_of w.house.live mount ≡ Some session
       → is_silent w.house.settings.limits.source_timeout ms session ≡ false
 
+-- who is ended at this moment, by which rule: first whoever has asked for nothing in his time, then whoever has sat as long as his mount allows, also where
+-- his session ends as well, and then the sources that have sent nothing in their time, with those who are left at their mounts
+pub record IsEndedInOrder (w later : World) (ms : ℕ) : Type 0 where
+  pub clients : (id : ℕ) (client : Client) → client_of w.house.clients id ≡ Some client
+      → asks_too_late w.house.settings.limits.header_timeout ms client ≡ true → standing_of later id ≡ Finished HeaderTimeout
+  pub seats : (id : ℕ) (seat : Seat) → seat_of w.seats id ≡ Some seat → has_sat_out w.house.settings ms seat ≡ true
+      → standing_of later id ≡ Finished TimeOver
+  pub sources : (mount : List ℕ) (session : Session) → session_of w.house.live mount ≡ Some session
+      → is_silent w.house.settings.limits.source_timeout ms session ≡ true → standing_of later session.number ≡ Finished SourceSilent
+  pub listeners : (id : ℕ) (seat : Seat) (session : Session) → seat_of w.seats id ≡ Some seat → has_sat_out w.house.settings ms seat ≡ false
+      → session_of w.house.live seat.mount ≡ Some session → is_silent w.house.settings.limits.source_timeout ms session ≡ true
+      → standing_of later id ≡ Finished NotLive
+
 -- a moment that has passed changes nothing, and any other is in time for all who are there then
 pub record NobodyOutstays (w : World) (ms : ℕ) : Type 0 where
   pub earlier : nat_lt ms w.house.time ≡ true → world_after w (Clock ms) ≡ w
   pub later : nat_lt ms w.house.time ≡ false → IsInTime (world_after w (Clock ms)) ms
+  pub in_order : nat_lt ms w.house.time ≡ false → IsEndedInOrder w (world_after w (Clock ms)) ms

@@ -154,6 +154,7 @@ pub fn nobody_outstays()
     // whatever has happened, a moment that has passed changes nothing; and when any other was
     // heard, no listener is there who has sat as long as his mount allows, no client who has asked
     // for nothing in the time for it, and no source that has sent nothing in the time for it
+    // and each of them is ended by his own rule: who has sat out his time by `time-over`, also where his session ends as well
     ensures in_time { (settings : Settings) (lists : Lists) (events : List Event) (ms : ℕ) → NobodyOutstays (run_after settings lists events) ms }
     // and what that time is, and how far behind is too far, in numbers
     ensures tests { TestsAreInNumbers }

@@ -1,6 +1,6 @@
 use Rattle.radio_core.specs.Run.{run_after}
 use Rattle.radio_core.proofs.SoundRuns.{sound_run}
-use Rattle.radio_core.proofs.TickLemmas.{nobody_outstays}
+use Rattle.radio_core.proofs.TickOrder.{nobody_outstays}
 use Rattle.radio_core.proofs.TimeoutLemmas.{tests_are_in_numbers}
 use Rattle.radio_core.proofs.laws.nobody_outstays.Goals as goal
 
