@@ -136,9 +136,12 @@ module _ (w : World) (s : IsSound w) (mount : List ℕ) where
         let name : mount ≡ silent.mount = cc in
         let same : Some session ≡ Some silent = sym here ∙ ap (session_of w.house.live) name ∙ live in
         let one : session ≡ silent = cc in
-        turned (Clock ms) (sym here) (sym gone) (ItEnds session (inr (inr (moment, e,
-        subst (λ (x : Session). 1000 * w.house.settings.limits.source_timeout ≤ moment - x.last_block) (sym one)
-        ((tests_are_in_numbers.sends_nothing w.house.settings.limits.source_timeout moment silent).0 is)))))
+        turned (Clock ms) (sym here) (sym gone) (ItEnds session (inr (inr (
+          moment,
+          e,
+          subst (λ (x : Session). 1000 * w.house.settings.limits.source_timeout ≤ moment - x.last_block) (sym one)
+              ((tests_are_in_numbers.sends_nothing w.house.settings.limits.source_timeout moment silent).0 is),
+        ))))
 
     at_the_moment : SessionStep w (Clock ms) mount mine later
     at_the_moment = by_found mine refl where

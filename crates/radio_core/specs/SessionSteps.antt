@@ -37,9 +37,9 @@ pub data SessionStep (w : World) (event : Event) (mount : List ℕ) : Option Ses
       → SessionStep w event mount None (Some session)
   -- its source delivers a block, which starts where the data ended before; it is the last one now
   Grows : (session : Session) (block : List ℕ) → event ≡ Push session.number block → SessionStep w event mount (Some session) (Some (record session {
-      stream = record { bytes = session.stream.bytes ++ block; starts = session.stream.starts ++ length session.stream.bytes ∷ [] };
-      last_block = w.house.time;
-    }))
+    stream = record { bytes = session.stream.bytes ++ block; starts = session.stream.starts ++ length session.stream.bytes ∷ [] };
+    last_block = w.house.time;
+  }))
   -- its source sets its title
   IsTitled : (session : Session) (text : List ℕ) → event ≡ Title session.number text
       → SessionStep w event mount (Some session) (Some (record session { title = Some text }))

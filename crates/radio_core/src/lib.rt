@@ -21,10 +21,11 @@ mod timeouts;
 mod totals;
 
 pub use laws::{
-    access_is_kept, clients_stand_by_their_events, cores_go_by_their_states, denials_are_the_policys, events_are_of_their_clients,
-    finished_are_told, limits_are_kept, listeners_are_told_titles, listeners_begin_at_a_block,
-    nobody_lags, nobody_outstays, seats_are_their_listeners, sessions_are_their_sources, sources_are_told_by_their_data, stretches_are_whole,
-    who_left_is_gone, whoever_may_is_served,
+    access_is_kept, clients_stand_by_their_events, cores_go_by_their_states,
+    denials_are_the_policys, events_are_of_their_clients, finished_are_told, limits_are_kept,
+    listeners_are_told_titles, listeners_begin_at_a_block, nobody_lags, nobody_outstays,
+    seats_are_their_listeners, sessions_are_their_sources, sources_are_told_by_their_data,
+    stretches_are_whole, who_left_is_gone, whoever_may_is_served,
 };
 pub use server::Core;
 pub use totals::clients_and_seats_add_up;

@@ -1,8 +1,8 @@
 //! What comes of an event: worked out first, and then committed.
 
-use radio_events::Reply;
 use radio_addr::Peer;
 use radio_blocks::{Block, Place};
+use radio_events::Reply;
 use radio_icy::Title;
 use radio_policy::Rule;
 use radio_seats::Seat;

@@ -8,10 +8,10 @@ ghost use Rattle.radio_events.specs.Replies.{HoldsNoText};
 ghost use Rattle.radio_core.specs.Step.{Step, Represents, StandsForSome};
 ghost use Rattle.radio_events.specs.Events.{TakesNoMemory};
 
-use crate::outcome::Outcome;
 use crate::OutOfMemory;
-use radio_events::{Event, Reply};
+use crate::outcome::Outcome;
 use radio_access::Lists;
+use radio_events::{Event, Reply};
 use radio_settings::Settings;
 use state::State;
 use std::alloc::Global;

@@ -3,9 +3,9 @@ ghost use Rattle.radio_core.specs.Facts.{largest_number};
 ghost use Rattle.radio_core.specs.Arrive.{arrives, admits_client};
 
 use super::state::State;
-use radio_events::Reply;
 use crate::outcome::{Change, Outcome};
 use radio_addr::Peer;
+use radio_events::Reply;
 use radio_policy::{Action, Verdict, judge};
 
 impl State {

@@ -2,8 +2,8 @@ ghost use Rattle.std.specs.Prelude.{◌≡◌};
 ghost use Rattle.radio_core.specs.Clock.{hears_clock};
 
 use super::state::State;
-use radio_events::Reply;
 use crate::outcome::{Change, Outcome};
+use radio_events::Reply;
 
 impl State {
     /// It is this moment.

@@ -7,11 +7,11 @@ ghost use Rattle.radio_core.specs.Step.{StandsForSome};
 ghost use Rattle.radio_core.specs.World.{standing_of};
 
 use super::state::State;
+use crate::OutOfMemory;
 use crate::outcome::{Change, Outcome};
 use crate::standing::Standing;
-use crate::OutOfMemory;
-use radio_events::Reply;
 use radio_blocks::Pieces;
+use radio_events::Reply;
 use radio_seats::Seat;
 
 impl State {

@@ -2,9 +2,9 @@ ghost use Rattle.std.specs.Prelude.{◌≡◌};
 ghost use Rattle.radio_core.specs.Leave.{leaves};
 
 use super::state::State;
-use radio_events::Reply;
 use crate::outcome::{Change, Outcome};
 use crate::standing::Standing;
+use radio_events::Reply;
 
 impl State {
     /// A client's connection is closed.

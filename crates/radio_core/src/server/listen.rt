@@ -3,13 +3,13 @@ ghost use Rattle.radio_core.specs.Sessions.{session_of};
 ghost use Rattle.radio_core.specs.Listen.{asks_to_hear, takes_seat, burst_of, interval_for, first_seat};
 
 use super::state::State;
+use crate::OutOfMemory;
 use crate::house::House;
 use crate::outcome::{Change, Outcome};
 use crate::sessions::Session;
 use crate::standing::Standing;
-use crate::OutOfMemory;
-use radio_events::{ListenRequest, Reply};
 use radio_addr::Peer;
+use radio_events::{ListenRequest, Reply};
 use radio_policy::{Action, Rule, Verdict, judge};
 use radio_seats::{KeptName, Seat};
 use radio_settings::MountName;
@@ -40,7 +40,9 @@ impl State {
         let Some(mount) = MountName::read(asked.mount.as_slice()) else {
             return Err(Outcome::refused(Rule::BadMount, asked.id));
         };
-        let facts = self.house.listen_facts(&self.seats, &mount, asked.pair.as_ref());
+        let facts = self
+            .house
+            .listen_facts(&self.seats, &mount, asked.pair.as_ref());
         match judge(&Action::Listen(Some(facts))) {
             Verdict::Deny(rule) => Err(Outcome::refused(rule, asked.id)),
             Verdict::Allow => Ok((peer, mount)),

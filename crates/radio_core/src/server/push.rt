@@ -2,10 +2,10 @@ ghost use Rattle.std.specs.Prelude.{◌≡◌};
 ghost use Rattle.radio_core.specs.Push.{delivers};
 
 use super::state::State;
-use radio_events::Reply;
 use crate::outcome::{Change, Outcome};
 use crate::standing::Standing;
 use radio_blocks::Block;
+use radio_events::Reply;
 use radio_policy::{Action, PushFacts, Verdict, judge};
 
 impl State {

@@ -5,9 +5,9 @@ ghost use Rattle.radio_core.specs.Outcomes.{says};
 ghost use Rattle.radio_core.specs.Source.{asks_to_feed, begins, shown_for};
 
 use super::state::State;
+use crate::OutOfMemory;
 use crate::outcome::{Change, Outcome};
 use crate::standing::Standing;
-use crate::OutOfMemory;
 use radio_events::{Reply, SourceRequest};
 use radio_policy::{Action, Rule, Verdict, judge};
 use radio_settings::{MountName, Shown};

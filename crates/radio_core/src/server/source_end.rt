@@ -2,9 +2,9 @@ ghost use Rattle.std.specs.Prelude.{◌≡◌};
 ghost use Rattle.radio_core.specs.SourceEnd.{stops_feeding};
 
 use super::state::State;
-use radio_events::Reply;
 use crate::outcome::{Change, Outcome};
 use crate::standing::Standing;
+use radio_events::Reply;
 
 impl State {
     /// A source has come to the end of its data.

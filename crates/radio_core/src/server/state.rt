@@ -7,13 +7,13 @@ ghost use Rattle.radio_core.specs.KeptChanges.{kept_changed};
 ghost use Rattle.radio_core.specs.Step.{outcome, StandsForSome, NeedsNoMemory};
 ghost use Rattle.radio_events.specs.Events.{TakesNoMemory};
 
+use crate::OutOfMemory;
 use crate::clients::ClientState;
 use crate::house::House;
 use crate::outcome::{Change, Outcome};
 use crate::standing::Standing;
-use crate::OutOfMemory;
-use radio_events::Event;
 use radio_access::Lists;
+use radio_events::Event;
 use radio_seats::{Seating, Seats};
 use radio_settings::Settings;
 use radio_tables::Table;

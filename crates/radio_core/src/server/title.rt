@@ -2,9 +2,9 @@ ghost use Rattle.std.specs.Prelude.{◌≡◌};
 ghost use Rattle.radio_core.specs.Title.{sets_title};
 
 use super::state::State;
-use radio_events::Reply;
 use crate::outcome::{Change, Outcome};
 use crate::standing::Standing;
+use radio_events::Reply;
 use radio_icy::Title;
 
 impl State {

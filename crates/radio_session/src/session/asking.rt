@@ -6,8 +6,8 @@ ghost use Rattle.radio_session.specs.Asking.{pair_of, value_or, shown_by, wants_
 use crate::OutOfMemory;
 use crate::session::framing::is_word;
 use bytes::Bytes;
-use radio_events::{Event, ListenRequest, SourceRequest};
 use radio_creds::{Pair, basic};
+use radio_events::{Event, ListenRequest, SourceRequest};
 use radio_heads::Head;
 use radio_settings::Shown;
 use std::alloc::Global;

@@ -62,8 +62,9 @@ returns-in-Allow c =
     let named : is_mount_name asked.mount ≡ true = ap is_mount_name (sym c.as_slice.ensures) ∙ c.in-Some.ensures.0 in
     let looked_up =
     subst (λ (x : World). c.listen_facts-facts.result ≡ listen_facts_at x.house x.seats c.in-Some.mount c.args.asked.now.pair) c.self.view_is
-    (rw (← c.as_ref.ensures.value) c.listen_facts-facts.ensures) in
-    (c.in-Some.ensures.1 ∙ c.as_slice.ensures,
-    comes_to w asked c.in-Undecided.peer (sym c.standing.ensures ∙ c.in-Undecided.is) Allow
-    (judged w asked c.in-Some.mount c.listen_facts-facts.result Allow named (c.in-Some.ensures.1 ∙ c.as_slice.ensures) looked_up
-    (sym c.in-Allow.is ∙ c.judge.ensures)))
+    (rw (← c.as_ref.ensures.value) c.listen_facts-facts.ensures) in (
+      c.in-Some.ensures.1 ∙ c.as_slice.ensures,
+      comes_to w asked c.in-Undecided.peer (sym c.standing.ensures ∙ c.in-Undecided.is) Allow
+          (judged w asked c.in-Some.mount c.listen_facts-facts.result Allow named (c.in-Some.ensures.1 ∙ c.as_slice.ensures) looked_up
+          (sym c.in-Allow.is ∙ c.judge.ensures)),
+    )
