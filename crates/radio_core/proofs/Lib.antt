@@ -30,6 +30,7 @@ pub mod LimitLemmas
 pub mod LimitDenials
 pub mod NumberLists
 pub mod TotalLemmas
+pub mod ArrivalLemmas
 mod SourceReplyLemmas
 mod CoreReplyLemmas
 mod KeptQueues

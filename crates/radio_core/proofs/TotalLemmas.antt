@@ -143,7 +143,7 @@ listener_is_known : (listener : Option Listener) → standing_of_listener listen
 listener_is_known None e = cc
 listener_is_known (Some listener) e = seat_is_known listener.seating e
 
-is_known : (listener : Option Listener) (peer : Peer) (state : ClientState) → standing_by listener peer state ≡ Unknown → ⊥
+pub is_known : (listener : Option Listener) (peer : Peer) (state : ClientState) → standing_by listener peer state ≡ Unknown → ⊥
 is_known listener peer IsNew e = cc
 is_known listener peer (IsSource mount) e = cc
 is_known listener peer Listens e = listener_is_known listener e

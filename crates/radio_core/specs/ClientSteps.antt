@@ -15,6 +15,8 @@ use Rattle.radio_core.specs.declared.standing.Standing.{Standing}
 use Rattle.radio_core.specs.declared.standing.Standing.TheVariants.{Unknown, Undecided, Feeds, Sits, Answered, Finished}
 use Rattle.radio_core.specs.Facts.{rows_to_feed, rows_to_listen}
 use Rattle.radio_core.specs.Finishes.{Finishes}
+use Rattle.radio_core.specs.declared.clients.Client.{Client}
+use Rattle.radio_core.specs.Clients.{client_of}
 use Rattle.radio_core.specs.Step.{reply_to, world_after}
 use Rattle.radio_core.specs.World.{World, standing_of}
 
@@ -42,3 +44,8 @@ pub data ClientStep (w : World) (Cause : Rule → Type 0) (event : Event) (id : 
 
 abbrev pub ClientsStep : World → Event → Type 0
 ClientsStep w event = (id : ℕ) → ClientStep w (Finishes w event id) event id (standing_of w id) (standing_of (world_after w event) id)
+
+-- who is there before an event and after it came from the same address, at the same moment
+abbrev pub ArrivalsStay : World → Event → Type 0
+ArrivalsStay w event = (id : ℕ) (client later : Client) → client_of w.house.clients id ≡ Some client
+    → client_of (world_after w event).house.clients id ≡ Some later → (later.peer ≡ client.peer) × (later.arrived ≡ client.arrived)

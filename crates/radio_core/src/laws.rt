@@ -17,7 +17,7 @@ ghost use Rattle.radio_core.specs.Admission.{BeginsAtABlock};
 ghost use Rattle.radio_core.specs.Lagging.{NobodyLags};
 ghost use Rattle.radio_core.specs.SessionSteps.{SessionsStep, KeepsSettings};
 ghost use Rattle.radio_core.specs.SeatSteps.{SeatsStep};
-ghost use Rattle.radio_core.specs.ClientSteps.{ClientsStep};
+ghost use Rattle.radio_core.specs.ClientSteps.{ClientsStep, ArrivalsStay};
 ghost use Rattle.radio_core.specs.Service.{Serves, ChangesNothing};
 ghost use Rattle.radio_core.specs.Stretches.{StretchesAreWhole, SeatsKeepTheirMounts};
 ghost use Rattle.radio_core.specs.TitlesTold.{TitlesAreTold};
@@ -94,6 +94,8 @@ pub fn clients_stand_by_their_events()
     // whatever has happened, a client stands as before but where he arrives, is denied what he asks for, begins to feed or to
     // hear as the policy allows, comes to the end of his data, leaves, or is finished by a rule that holds then
     ensures steps { (settings : Settings) (lists : Lists) (events : List Event) (event : Event) → ClientsStep (run_after settings lists events) event }
+    // and he keeps the address from which he came, and the moment
+    ensures arrivals { (settings : Settings) (lists : Lists) (events : List Event) (event : Event) → ArrivalsStay (run_after settings lists events) event }
 {}
 
 /// The law of lag.

@@ -1,0 +1,171 @@
+-- through each event, a client who is there keeps the address from which he came, and the moment
+use Rattle.std.proofs.Common.{◌≡◌, true, false, Bool, ℕ, ◌==◌, ◌+◌, zero, suc, Option, Some, None, List, [], ◌∷◌, length, map, refl, ap, sym, ◌∙◌, arith}
+use Rattle.std.specs.Prelude.{find, if◌then◌else◌}
+use Rattle.std.specs.Option.{option_map}
+use Rattle.std.proofs.lemmas.Bool.Decides.{nat_tests}
+use Rattle.radio_addr.specs.declared.peer.Peer.{Peer}
+use Rattle.radio_tables.specs.FindLaws.{find_here, find_later}
+use Rattle.radio_tables.specs.KeyLaws.{by_number}
+use Rattle.radio_tables.specs.Lists.{update_first}
+use Rattle.radio_seats.specs.declared.seat.Listener.{Listener}
+use Rattle.radio_seats.specs.Seats.{listener_of}
+use Rattle.radio_events.specs.declared.event.Event.{Event}
+use Rattle.radio_core.specs.declared.clients.Client.{Client}
+use Rattle.radio_core.specs.declared.clients.ClientState.{ClientState}
+use Rattle.radio_core.specs.declared.clients.ClientState.TheVariants.{Undecided as IsNew, Ended, Feeds as IsSource, Listens, Answered as HasHisAnswer}
+use Rattle.radio_core.specs.declared.outcome.Outcome.{Outcome}
+use Rattle.radio_core.specs.declared.outcome.Change.TheVariants.{Admit}
+use Rattle.radio_core.specs.declared.standing.Standing.TheVariants.{Unknown}
+use Rattle.radio_core.specs.Changes.{changed, durations_over, first_silent, on_silent, session_silenced, silence, ticked, timed_out_by}
+use Rattle.radio_core.specs.ClientSteps.{ArrivalsStay}
+use Rattle.radio_core.specs.Clients.{is_client, client_of, with_client, with_state, in_state, without_client}
+use Rattle.radio_core.specs.Sessions.{Session}
+use Rattle.radio_core.specs.Sound.{IsSound}
+use Rattle.radio_core.specs.Step.{outcome, world_after}
+use Rattle.radio_core.specs.Timeouts.{timed_out}
+use Rattle.radio_core.specs.Ways.{Way, Misplaced, IsFinished, IsDenied, IsRefused, IsAdmitted, Begins, Receives, SetsTitle, TakesSeat, HandsOut, Ends}
+use Rattle.radio_core.specs.Ways.{EndsAndLeaves, Leaves, HasPassed, Ticks}
+use Rattle.radio_core.specs.World.{World, standing_of, standing_in}
+use Rattle.radio_core.proofs.Lookups.{does, beside_state, is_no_client, beside_forgotten, beside_new}
+use Rattle.radio_core.proofs.TickLemmas.{clients_after}
+use Rattle.radio_core.proofs.TotalLemmas.{is_known}
+use Rattle.radio_core.proofs.Ways.{way_of}
+
+-- he was there before, from the same address and from the same moment on
+record WasThere (xs : List Client) (id : ℕ) (later : Client) : Type 0 where
+  pub client : Client
+  pub there : client_of xs id ≡ Some client
+  pub peer : later.peer ≡ client.peer
+  pub arrived : later.arrived ≡ client.arrived
+
+-- nobody comes, and who is there was there
+abbrev Keeps : List Client → List Client → Type 0
+Keeps xs ys = (id : ℕ) (later : Client) → client_of ys id ≡ Some later → WasThere xs id later
+
+same_clients : (xs : List Client) → Keeps xs xs
+same_clients xs id later e = record { client = later; there = e; peer = refl; arrived = refl }
+
+keeps_then : (xs ys zs : List Client) → Keeps xs ys → Keeps ys zs → Keeps xs zs
+keeps_then xs ys zs first second id later e =
+    let middle = second id later e in
+    let before = first id middle.client middle.there in
+    record { client = before.client; there = before.there; peer = middle.peer ∙ before.peer; arrived = middle.arrived ∙ before.arrived }
+
+-- where nobody is found, nobody is changed
+none_changed : (him : ℕ) (state : ClientState) (xs : List Client) → client_of xs him ≡ None → client_of (in_state xs him state) him ≡ None
+none_changed him state [] e = refl
+none_changed him state (x ∷ xs) e = by_test (λ h. none_changed him state xs h) (is_client him x) refl where
+  by_test : (client_of xs him ≡ None → client_of (in_state xs him state) him ≡ None) → (b : Bool) → is_client him x ≡ b
+      → client_of (in_state (x ∷ xs) him state) him ≡ None
+  by_test rest true t = let here : client_of (x ∷ xs) him ≡ Some x = find_here (is_client him) x xs t in cc
+  by_test rest false t =
+      let later : client_of xs him ≡ None = sym (find_later (is_client him) x xs t) ∙ e in
+      let past : in_state (x ∷ xs) him state ≡ x ∷ in_state xs him state = rw t refl in
+      ap (λ (ys : List Client). client_of ys him) past ∙ find_later (is_client him) x (in_state xs him state) t ∙ rest later
+
+keeps_state : (xs : List Client) (him : ℕ) (state : ClientState) → Keeps xs (in_state xs him state)
+keeps_state xs him state id later e =
+    by_number him id
+    (λ same. by_found same (client_of xs him) refl)
+    (λ apart. record { client = later; there = sym (beside_state xs him id apart state) ∙ e; peer = refl; arrived = refl }) where
+      by_found : him ≡ id → (found : Option Client) → client_of xs him ≡ found → WasThere xs id later
+      by_found same None none =
+          let now : client_of (in_state xs him state) id ≡ None = ap (client_of (in_state xs him state)) (sym same) ∙ none_changed him state xs none in cc
+      by_found same (Some client) there =
+          let now : Some (with_state state client) ≡ Some later =
+          sym (does xs him state client there) ∙ ap (client_of (in_state xs him state)) same ∙ e in
+          let one : with_state state client ≡ later = cc in
+          record {
+            client = client;
+            there = ap (client_of xs) (sym same) ∙ there;
+            peer = ap (λ (x : Client). x.peer) (sym one);
+            arrived = ap (λ (x : Client). x.arrived) (sym one);
+          }
+
+keeps_forgotten : (xs : List Client) (him : ℕ) → Keeps xs (without_client xs him)
+keeps_forgotten xs him id later e =
+    by_number him id
+    (λ same. let none : client_of (without_client xs him) id ≡ None = ap (client_of (without_client xs him)) (sym same) ∙ is_no_client xs him in cc)
+    (λ apart. record { client = later; there = sym (beside_forgotten xs him id apart) ∙ e; peer = refl; arrived = refl })
+
+keeps_timed : (seconds ms : ℕ) (xs : List Client) → Keeps xs (map (timed_out seconds ms) xs)
+keeps_timed seconds ms xs id later e = by_found (client_of xs id) refl (sym (clients_after seconds ms xs id) ∙ e) where
+  by_found : (found : Option Client) → client_of xs id ≡ found → option_map (timed_out seconds ms) (client_of xs id) ≡ Some later → WasThere xs id later
+  by_found None none h =
+      let nothing : option_map (timed_out seconds ms) (client_of xs id) ≡ None = ap (option_map (timed_out seconds ms)) none in cc
+  by_found (Some client) there h =
+      let now : Some (timed_out seconds ms client) ≡ Some later = sym (ap (option_map (timed_out seconds ms)) there) ∙ h in
+      let one : timed_out seconds ms client ≡ later = cc in
+      record {
+        client = client;
+        there = there;
+        peer = ap (λ (x : Client). x.peer) (sym one);
+        arrived = ap (λ (x : Client). x.arrived) (sym one);
+      }
+
+keeps_silenced : (n : ℕ) (w : World) → Keeps w.house.clients (silence n w).house.clients
+keeps_silenced zero w = same_clients w.house.clients
+keeps_silenced (suc n) w = by_first (keeps_silenced n) (first_silent w) where
+  by_first : ((next : World) → Keeps next.house.clients (silence n next).house.clients) → (found : Option Session)
+      → Keeps w.house.clients (on_silent (silence n) w found).house.clients
+  by_first rest None = same_clients w.house.clients
+  by_first rest (Some session) =
+      let next = session_silenced w session in
+      keeps_then w.house.clients next.house.clients (silence n next).house.clients (keeps_state w.house.clients session.number _) (rest next)
+
+keeps_ticked : (w : World) (ms : ℕ) → Keeps w.house.clients (ticked w ms).house.clients
+keeps_ticked w ms =
+    let later = durations_over (record w { house = timed_out_by w.house ms }) in
+    keeps_then w.house.clients later.house.clients (ticked w ms).house.clients
+    (keeps_timed w.house.settings.limits.header_timeout ms w.house.clients) (keeps_silenced (length later.house.live) later)
+
+module _ (w : World) (s : IsSound w) where
+  abbrev Stay : World → Type 0
+  Stay now = (id : ℕ) (client later : Client) → client_of w.house.clients id ≡ Some client → client_of now.house.clients id ≡ Some later
+      → (later.peer ≡ client.peer) × (later.arrived ≡ client.arrived)
+
+  stays_so : (now : World) → Keeps w.house.clients now.house.clients → Stay now
+  stays_so now keeps id client later before after =
+      let was = keeps id later after in
+      let both : Some was.client ≡ Some client = sym was.there ∙ before in
+      let one : was.client ≡ client = cc in
+      (was.peer ∙ ap (λ (x : Client). x.peer) one, was.arrived ∙ ap (λ (x : Client). x.arrived) one)
+
+  -- a number that is given to a new client was nobody's
+  not_new : (id : ℕ) (client : Client) → client_of w.house.clients id ≡ Some client → (w.house.last_id + 1 == id) ≡ true → ⊥
+  not_new id client there e = by_number (w.house.last_id + 1) id (λ same. taken same) (λ apart. cc) where
+    taken : w.house.last_id + 1 ≡ id → ⊥
+    taken same =
+        let unknown : standing_of w id ≡ Unknown = s.numbered id (omega (arith, same)) in
+        is_known (listener_of w.seats id) client.peer client.state (sym (ap (standing_in (listener_of w.seats id)) there) ∙ unknown)
+
+  stays_admitted : (peer : Peer) → Stay (changed w (Admit (w.house.last_id + 1) peer))
+  stays_admitted peer id client later before after =
+      by_number (w.house.last_id + 1) id
+      (λ same. absurd (not_new id client before (grind (arith, nat_tests))))
+      (λ apart.
+      let new : Client = record { id = w.house.last_id + 1; peer = peer; arrived = w.house.time; state = IsNew } in
+      let both : Some client ≡ Some later = sym before ∙ sym (beside_new w.house.clients new id apart) ∙ after in
+      let one : client ≡ later = cc in
+      (ap (λ (x : Client). x.peer) (sym one), ap (λ (x : Client). x.arrived) (sym one)))
+
+  stay_by : (event : Event) (o : Outcome) → Way w event o → Stay (changed w o.change)
+  stay_by event o (IsAdmitted peer allowed) = stays_admitted peer
+  stay_by event o (Misplaced _) = stays_so w (same_clients w.house.clients)
+  stay_by event o (IsFinished _ him by its known) = stays_so w (same_clients w.house.clients)
+  stay_by event o (IsDenied _ by v nobody) = stays_so w (same_clients w.house.clients)
+  stay_by event o (IsRefused _ him by v its undecided) = stays_so (changed w o.change) (keeps_state w.house.clients him HasHisAnswer)
+  stay_by event o (Begins asked undecided none allowed) = stays_so (changed w o.change) (keeps_state w.house.clients asked.id (IsSource asked.mount))
+  stay_by event o (Receives him mount block feeding) = stays_so (changed w o.change) (same_clients w.house.clients)
+  stay_by event o (SetsTitle him mount text feeding) = stays_so (changed w o.change) (same_clients w.house.clients)
+  stay_by event o (TakesSeat asked peer session undecided live allowed) = stays_so (changed w o.change) (keeps_state w.house.clients asked.id Listens)
+  stay_by event o (HandsOut him room seat session sits has live) = stays_so (changed w o.change) (same_clients w.house.clients)
+  stay_by event o (Ends him mount feeding) = stays_so (changed w o.change) (keeps_state w.house.clients him HasHisAnswer)
+  stay_by event o (EndsAndLeaves him mount feeding) = stays_so (changed w o.change) (keeps_forgotten w.house.clients him)
+  stay_by event o (Leaves him other) = stays_so (changed w o.change) (keeps_forgotten w.house.clients him)
+  stay_by event o (HasPassed ms e) = stays_so w (same_clients w.house.clients)
+  stay_by event o (Ticks ms e) = stays_so (ticked w ms) (keeps_ticked w ms)
+
+  pub arrivals_stay : (event : Event) → ArrivalsStay w event
+  unfolding world_after
+  arrivals_stay event = stay_by event (outcome w event) (way_of w event)
