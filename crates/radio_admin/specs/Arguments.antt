@@ -1,7 +1,7 @@
 -- The arguments of a query (WHATWG URL Standard, section 5.1), and what each must be.
 use Rattle.std.specs.Prelude.{ℕ, ◌-◌, ◌^◌, Bool, ◌==◌, List, ◌++◌, length, Option, None, Some, codes, if◌then◌else◌}
 use Rattle.std.specs.List.{find}
-use Rattle.std.specs.Option.{option_map, option_and_then, option_or}
+use Rattle.std.specs.Option.{option_map, option_and_then}
 use Rattle.std.specs.Str.{bytes_eq}
 use Rattle.std.specs.Str.Lossy.{utf8_lossy}
 use Rattle.form_urlencoded.specs.Form.{decode, raw_pairs}

@@ -1,5 +1,5 @@
 -- The commands that paths and queries ask for: the table of the commands.
-use Rattle.std.specs.Prelude.{ℕ, List, Option, None, Some, Result, Ok, Err, codes}
+use Rattle.std.specs.Prelude.{ℕ, List, Option, None, Some, Result, Err, codes}
 use Rattle.std.specs.Option.{option_map, ok_or}
 use Rattle.radio_admin.specs.declared.command.Command.{Command}
 use Rattle.radio_admin.specs.declared.command.Command.TheVariants as asks

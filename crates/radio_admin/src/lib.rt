@@ -12,7 +12,11 @@ mod arguments;
 mod command;
 mod fault;
 mod kind;
+pub mod laws;
+mod query;
 mod reading;
+#[cfg(test)]
+mod tests;
 
 pub use command::{Command, Kill, Move, NewFallback, NewTitle, RawTitle};
 pub use fault::AdminFault;

@@ -3,7 +3,7 @@ use Rattle.std.specs.List.{find}
 use Rattle.form_urlencoded.specs.Form.{raw_pairs}
 use Rattle.form_urlencoded.specs.Parse.{raw_pairs_left}
 use Rattle.radio_admin.specs.Arguments.{is_named}
-use Rattle.radio_admin.proofs.arguments.argument.Given as goal
+use Rattle.radio_admin.proofs.query.argument.Given as goal
 
 abbrev pub invariant-loop-sent_name : goal.invariant-loop-sent_name
 invariant-loop-sent_name l =
