@@ -62,6 +62,6 @@ abbrev pub title_in : List ℕ → Option (List ℕ)
 title_in query =
     option_and_then
     (λ mode. if bytes_eq mode (codes "updinfo")
-        then song_title (argument (codes "song") query) (argument (codes "artist") query) (argument (codes "title") query)
-        else None)
+    then song_title (argument (codes "song") query) (argument (codes "artist") query) (argument (codes "title") query)
+    else None)
     (argument (codes "mode") query)

@@ -1,16 +1,14 @@
 -- What the definitions say of every path and query.
-use Rattle.std.specs.Prelude.{◌≡◌, ◌≢◌, ℕ, ◌<◌, List, Option, Some, None, Result, Ok, Err, All, codes}
+use Rattle.std.specs.Prelude.{◌≡◌, ◌≢◌, ℕ, ◌<◌, List, Option, Some, None, All, codes}
 use Rattle.std.specs.List.{find}
 use Rattle.std.specs.Option.{option_map}
 use Rattle.std.specs.Str.{bytes_eq}
 use Rattle.std.specs.Str.Lossy.{utf8_lossy}
-use Rattle.form_urlencoded.specs.Form.{extend_pairs}
 use Rattle.radio_admin.specs.declared.command.Command.{Command}
 use Rattle.radio_admin.specs.declared.kind.CommandKind.{CommandKind}
-use Rattle.radio_admin.specs.declared.fault.AdminFault.TheVariants.{NoCommand, MissingArgument}
-use Rattle.radio_admin.specs.Kinds.{path_of, kind_of}
-use Rattle.radio_admin.specs.Arguments.{argument, mount_in}
-use Rattle.radio_admin.specs.Commands.{command_of, command_in}
+use Rattle.radio_admin.specs.Kinds.{path_of}
+use Rattle.radio_admin.specs.Arguments.{mount_in}
+use Rattle.radio_admin.specs.Commands.{command_of}
 
 -- the path is that of no command
 abbrev pub NamesNoCommand : List ℕ → Type 0

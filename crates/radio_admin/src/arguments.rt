@@ -17,11 +17,7 @@ const UPDATE: &str = "updinfo";
 const BETWEEN: &str = " - ";
 
 /// The mount that an argument names; `None` where it is absent, or is no name of a mount.
-pub fn mount_in(
-    alloc: Global,
-    name: &str,
-    query: &[u8],
-) -> Result<Option<MountName>, OutOfMemory>
+pub fn mount_in(alloc: Global, name: &str, query: &[u8]) -> Result<Option<MountName>, OutOfMemory>
     ensures { IfOk result (λ found. found ≡ mount_in name.now query.now) }
 {
     match argument(alloc, name, query)? {

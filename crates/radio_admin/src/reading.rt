@@ -5,7 +5,9 @@ ghost use Rattle.std.specs.Option.{option_map};
 ghost use Rattle.radio_admin.specs.Commands.{command_at, command_in, command_of};
 
 use crate::arguments::{fallback_in, mount_in, number_in, title_in};
-use crate::{AdminFault, Command, CommandKind, Kill, Move, NewFallback, NewTitle, OutOfMemory, RawTitle};
+use crate::{
+    AdminFault, Command, CommandKind, Kill, Move, NewFallback, NewTitle, OutOfMemory, RawTitle,
+};
 use percent_encoding::percent_decode;
 use radio_settings::MountName;
 use std::alloc::Global;
@@ -100,7 +102,10 @@ fn move_clients(
     ensures { IfOk result (λ command. command ≡ command_of CommandKind.MoveClients mount query.now) }
 {
     match (mount, mount_in(alloc, "destination", query)?) {
-        (Some(mount), Some(destination)) => Ok(Some(Command::MoveClients(Move { mount, destination }))),
+        (Some(mount), Some(destination)) => Ok(Some(Command::MoveClients(Move {
+            mount,
+            destination,
+        }))),
         _ => Ok(None),
     }
 }
@@ -142,7 +147,10 @@ fn set_fallback(
     ensures { IfOk result (λ command. command ≡ command_of CommandKind.Fallbacks mount query.now) }
 {
     match (mount, fallback_in(alloc, "fallback", query)?) {
-        (Some(mount), Some(fallback)) => Ok(Some(Command::Fallbacks(NewFallback { mount, fallback }))),
+        (Some(mount), Some(fallback)) => Ok(Some(Command::Fallbacks(NewFallback {
+            mount,
+            fallback,
+        }))),
         _ => Ok(None),
     }
 }

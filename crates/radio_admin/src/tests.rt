@@ -12,18 +12,58 @@ const ROWS: &[(&[u8], &[u8], &str)] = &[
     (b"/admin/listclients", b"mount=%2Fa", "clients /a"),
     (b"/admin/killsource", b"mount=/a&mount=/b", "kill source /a"),
     (b"/admin/killsource", b"mo%75nt=/a", "kill source /a"),
-    (b"/admin/killsource", b"mount=a", "missing argument of /admin/killsource"),
-    (b"/admin/moveclients", b"destination=/b&mount=/a", "move /a /b"),
-    (b"/admin/moveclients", b"mount=/a", "missing argument of /admin/moveclients at /a"),
-    (b"/admin/killclient", b"mount=/a&id=18446744073709551615", "kill /a 18446744073709551615"),
+    (
+        b"/admin/killsource",
+        b"mount=a",
+        "missing argument of /admin/killsource",
+    ),
+    (
+        b"/admin/moveclients",
+        b"destination=/b&mount=/a",
+        "move /a /b",
+    ),
+    (
+        b"/admin/moveclients",
+        b"mount=/a",
+        "missing argument of /admin/moveclients at /a",
+    ),
+    (
+        b"/admin/killclient",
+        b"mount=/a&id=18446744073709551615",
+        "kill /a 18446744073709551615",
+    ),
     (b"/admin/killclient", b"mount=/a&id=007", "kill /a 7"),
-    (b"/admin/killclient", b"mount=/a&id=184467440737095516150", "missing argument of /admin/killclient at /a"),
-    (b"/admin/killclient", b"mount=/z&id=x", "missing argument of /admin/killclient at /z"),
-    (b"/admin/killclient", b"mount=/z&id=+7", "missing argument of /admin/killclient at /z"),
-    (b"/admin/fallbacks", b"mount=/a&fallback=/b", "fallback /a /b"),
+    (
+        b"/admin/killclient",
+        b"mount=/a&id=184467440737095516150",
+        "missing argument of /admin/killclient at /a",
+    ),
+    (
+        b"/admin/killclient",
+        b"mount=/z&id=x",
+        "missing argument of /admin/killclient at /z",
+    ),
+    (
+        b"/admin/killclient",
+        b"mount=/z&id=+7",
+        "missing argument of /admin/killclient at /z",
+    ),
+    (
+        b"/admin/fallbacks",
+        b"mount=/a&fallback=/b",
+        "fallback /a /b",
+    ),
     (b"/admin/fallbacks", b"mount=/a&fallback=", "no fallback /a"),
-    (b"/admin/fallbacks", b"mount=/a&fallback=b", "missing argument of /admin/fallbacks at /a"),
-    (b"/admin/fallbacks", b"mount=/a", "missing argument of /admin/fallbacks at /a"),
+    (
+        b"/admin/fallbacks",
+        b"mount=/a&fallback=b",
+        "missing argument of /admin/fallbacks at /a",
+    ),
+    (
+        b"/admin/fallbacks",
+        b"mount=/a",
+        "missing argument of /admin/fallbacks at /a",
+    ),
     (b"/status.json", b"", "no command"),
     (b"/admin/", b"mount=/a", "no command"),
 ];
@@ -31,9 +71,18 @@ const ROWS: &[(&[u8], &[u8], &str)] = &[
 /// A query of `/admin/metadata`, and the title that it sets at `/a`; `None` where an argument is missing.
 const TITLES: &[(&[u8], Option<&[u8]>)] = &[
     (b"mode=updinfo&mount=/a&song=x", Some(b"x")),
-    (b"mode=updinfo&mount=%2Fa&charset=UTF-8&song=A%20-%20B", Some(b"A - B")),
-    (b"mode=updinfo&mount=/a&song=caf%C3%A9+au%2Blait", Some(b"caf\xc3\xa9 au+lait")),
-    (b"mode=updinfo&mount=/a&song=a%00b'c%22%0D%0A", Some(b"a\0b'c\"\r\n")),
+    (
+        b"mode=updinfo&mount=%2Fa&charset=UTF-8&song=A%20-%20B",
+        Some(b"A - B"),
+    ),
+    (
+        b"mode=updinfo&mount=/a&song=caf%C3%A9+au%2Blait",
+        Some(b"caf\xc3\xa9 au+lait"),
+    ),
+    (
+        b"mode=updinfo&mount=/a&song=a%00b'c%22%0D%0A",
+        Some(b"a\0b'c\"\r\n"),
+    ),
     (b"mode=updinfo&mount=/a&song=%FF%", Some(b"\xef\xbf\xbd%")),
     (b"mode=updinfo&mount=/a&song=", Some(b"")),
     (b"mode=updinfo&mount=/a&song", Some(b"")),
@@ -73,7 +122,11 @@ fn paths_are_read(rt: HostRuntime) -> Result<(), Fail> {
 /// With memory refused at any step, the answer is that one or none.
 #[test]
 fn refused_memory_changes_no_answer(rt: HostRuntime) {
-    let got = read_command(rt.alloc(), b"/admin/metadata", b"mode=updinfo&mount=%2Fa&artist=%41&title=b");
+    let got = read_command(
+        rt.alloc(),
+        b"/admin/metadata",
+        b"mode=updinfo&mount=%2Fa&artist=%41&title=b",
+    );
     let same = match got {
         Ok(Command::Metadata(asked)) => asked.title.as_bytes() == b"A - b".as_slice(),
         Err(AdminFault::OutOfMemory) => true,
@@ -85,10 +138,12 @@ fn refused_memory_changes_no_answer(rt: HostRuntime) {
 fn sets_title(alloc: Global, query: &[u8], want: Option<&[u8]>) -> bool {
     match read_command(alloc, b"/admin/metadata", query) {
         Ok(Command::Metadata(asked)) => match want {
-            Some(title) => asked.mount.as_bytes() == b"/a".as_slice() && asked.title.as_bytes() == title,
+            Some(title) => asked.mount.as_bytes() == b"/a".as_slice()
+                && asked.title.as_bytes() == title,
             None => false,
         },
-        Err(AdminFault::MissingArgument(_, Some(mount))) => want.is_none() && mount.as_bytes() == b"/a".as_slice(),
+        Err(AdminFault::MissingArgument(_, Some(mount))) => want.is_none()
+            && mount.as_bytes() == b"/a".as_slice(),
         _ => false,
     }
 }
@@ -96,7 +151,9 @@ fn sets_title(alloc: Global, query: &[u8], want: Option<&[u8]>) -> bool {
 fn shown(alloc: Global, path: &[u8], query: &[u8]) -> Result<String, OutOfMemory> {
     match read_command(alloc, path, query) {
         Ok(command) => shown_command(alloc, command),
-        Err(AdminFault::MissingArgument(kind, Some(mount))) => format!(in alloc; "missing argument of {kind} at {mount}"),
+        Err(AdminFault::MissingArgument(kind, Some(mount))) => format!(in alloc;
+            "missing argument of {kind} at {mount}"
+        ),
         Err(fault) => format!(in alloc; "{fault}"),
     }
 }
@@ -106,7 +163,10 @@ fn shown_command(alloc: Global, command: Command) -> Result<String, OutOfMemory>
         Command::Stats => format!(in alloc; "stats"),
         Command::ListMounts => format!(in alloc; "list mounts"),
         Command::ListClients(mount) => format!(in alloc; "clients {mount}"),
-        Command::MoveClients(asked) => format!(in alloc; "move {} {}", asked.mount, asked.destination),
+        Command::MoveClients(asked) => format!(in alloc;
+            "move {} {}",
+            asked.mount, asked.destination
+        ),
         Command::KillClient(asked) => format!(in alloc; "kill {} {}", asked.mount, asked.id),
         Command::KillSource(mount) => format!(in alloc; "kill source {mount}"),
         Command::Metadata(asked) => format!(in alloc; "title {}", asked.mount),
