@@ -1,0 +1,67 @@
+-- The arguments of a query (WHATWG URL Standard, section 5.1), and what each must be.
+use Rattle.std.specs.Prelude.{ℕ, ◌-◌, ◌^◌, Bool, ◌==◌, List, ◌++◌, length, Option, None, Some, codes, if◌then◌else◌}
+use Rattle.std.specs.List.{find}
+use Rattle.std.specs.Option.{option_map, option_and_then}
+use Rattle.std.specs.Str.{bytes_eq}
+use Rattle.std.specs.Str.Lossy.{utf8_lossy}
+use Rattle.form_urlencoded.specs.Form.{decode, raw_pairs}
+use Rattle.radio_settings.specs.MountName.{is_mount_name}
+use Rattle.radio_texts.specs.Numbers.{number_of}
+
+-- the text that an encoded name or value stands for: `+` is a space, escapes are decoded, what is no UTF-8 is U+FFFD
+unfoldable pub text_of : List ℕ → List ℕ
+text_of bytes = utf8_lossy (decode bytes)
+
+-- the pair has this name
+abbrev pub is_named : List ℕ → List ℕ × List ℕ → Bool
+is_named name pair = bytes_eq (text_of pair.0) name
+
+-- the first argument of a name
+unfoldable pub argument : List ℕ → List ℕ → Option (List ℕ)
+argument name query = option_map (λ pair. text_of pair.1) (find (is_named name) (raw_pairs query))
+
+-- what two arguments make, where both are there
+abbrev pub both : {A B C : Type 0} → (A → B → C) → Option A → Option B → Option C
+both f (Some a) (Some b) = Some (f a b)
+both f (Some a) None = None
+both f None b = None
+
+-- the name of a mount
+abbrev pub as_mount : List ℕ → Option (List ℕ)
+as_mount text = if is_mount_name text then Some text else None
+
+-- a whole number of 64 bits, in digits alone
+abbrev pub as_number : List ℕ → Option ℕ
+as_number text = number_of 10 (2 ^ 64 - 1) text
+
+-- the name of a mount, or nothing, which is none
+abbrev pub as_fallback : List ℕ → Option (Option (List ℕ))
+as_fallback text = if length text == 0 then Some None else option_map (λ mount. Some mount) (as_mount text)
+
+-- the mount that an argument names
+abbrev pub mount_in : List ℕ → List ℕ → Option (List ℕ)
+mount_in name query = option_and_then as_mount (argument name query)
+
+-- the number that an argument writes
+abbrev pub number_in : List ℕ → List ℕ → Option ℕ
+number_in name query = option_and_then as_number (argument name query)
+
+-- the fallback that an argument names
+abbrev pub fallback_in : List ℕ → List ℕ → Option (Option (List ℕ))
+fallback_in name query = option_and_then as_fallback (argument name query)
+
+-- the title of a song: `song`, else `artist` and `title` with ` - ` between them, else `title`
+abbrev pub song_title : Option (List ℕ) → Option (List ℕ) → Option (List ℕ) → Option (List ℕ)
+song_title (Some song) artist title = Some song
+song_title None (Some artist) (Some title) = Some ((artist ++ codes " - ") ++ title)
+song_title None None (Some title) = Some title
+song_title None artist None = None
+
+-- the title that a query sets, where its `mode` is `updinfo`
+abbrev pub title_in : List ℕ → Option (List ℕ)
+title_in query =
+    option_and_then
+    (λ mode. if bytes_eq mode (codes "updinfo")
+    then song_title (argument (codes "song") query) (argument (codes "artist") query) (argument (codes "title") query)
+    else None)
+    (argument (codes "mode") query)

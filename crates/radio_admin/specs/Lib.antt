@@ -1,0 +1,4 @@
+pub mod Kinds
+pub mod Arguments
+pub mod Commands
+pub mod Laws

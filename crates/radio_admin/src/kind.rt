@@ -1,0 +1,87 @@
+//! Which commands there are, and their paths.
+ghost use Rattle.std.specs.Prelude.{◌≡◌};
+ghost use Rattle.std.specs.List.{find};
+ghost use Rattle.std.specs.Option.{option_copied};
+ghost use Rattle.std.specs.Str.{bytes_eq};
+ghost use Rattle.radio_admin.specs.Kinds.{kind_of, kinds, path_of};
+
+use std::fmt;
+
+/// Which command it is. `Display` writes its path.
+#[derive(Clone, Copy, Debug, PartialEq, Eq)]
+pub enum CommandKind {
+    /// What the server does as a whole.
+    Stats,
+    /// The live mounts.
+    ListMounts,
+    /// The listeners of a mount.
+    ListClients,
+    /// Moves the listeners of a mount to another.
+    MoveClients,
+    /// Finishes one listener.
+    KillClient,
+    /// Ends a mount's session.
+    KillSource,
+    /// Sets a mount's title.
+    Metadata,
+    /// Sets the mount that a mount's listeners fall back to.
+    Fallbacks,
+    /// The names of the mounts that a relay may pull.
+    StreamList,
+}
+
+/// Every command, in the order of the table in `docs/FORMATS.md`.
+const KINDS: [CommandKind; 9] = [
+    CommandKind::Stats,
+    CommandKind::ListMounts,
+    CommandKind::ListClients,
+    CommandKind::MoveClients,
+    CommandKind::KillClient,
+    CommandKind::KillSource,
+    CommandKind::Metadata,
+    CommandKind::Fallbacks,
+    CommandKind::StreamList,
+];
+
+impl CommandKind {
+    /// Its path, as [`read_path`](crate::read_path) gives it.
+    pub fn path(self) -> &'static str
+        ensures { result.now ≡ path_of self }
+    {
+        match self {
+            CommandKind::Stats => "/admin/stats",
+            CommandKind::ListMounts => "/admin/listmounts",
+            CommandKind::ListClients => "/admin/listclients",
+            CommandKind::MoveClients => "/admin/moveclients",
+            CommandKind::KillClient => "/admin/killclient",
+            CommandKind::KillSource => "/admin/killsource",
+            CommandKind::Metadata => "/admin/metadata",
+            CommandKind::Fallbacks => "/admin/fallbacks",
+            CommandKind::StreamList => "/admin/streamlist.txt",
+        }
+    }
+
+    /// The command that a path names; `None` where it names none. Paths are compared byte by byte.
+    #[tactic(auto, unfolding(crate::specs::Kinds::kind_of))]
+    pub fn at(path: &[u8]) -> Option<CommandKind>
+        ensures { result ≡ kind_of path.now }
+    {
+        find_kind(path).copied()
+    }
+}
+
+fn find_kind(path: &[u8]) -> Option<&'static CommandKind>
+    ensures { option_copied result ≡ find (λ kind. bytes_eq path.now (path_of kind)) kinds }
+{
+    KINDS.iter().find(|kind| path == kind.path().as_bytes())
+}
+
+impl fmt::Display for CommandKind {
+    ghost use Rattle.std.specs.Prelude.{Some};
+
+    ghost output = { λ kind. Some (path_of kind) };
+
+    fn fmt<W: fmt::Write>(&self, f: &mut fmt::Formatter<W>) -> fmt::Result {
+        f.write_str(self.path())
+    }
+}

@@ -1,0 +1,156 @@
+//! The command that a target asks for.
+ghost use Rattle.std.specs.Prelude.{◌≡◌, ◌⊎◌, IfOk};
+ghost use Rattle.percent_encoding.specs.Percent.{percent_decode as decoded_path};
+ghost use Rattle.std.specs.Option.{option_map};
+ghost use Rattle.radio_admin.specs.Commands.{command_at, command_in, command_of};
+
+use crate::arguments::{fallback_in, mount_in, number_in, title_in};
+use crate::{
+    AdminFault, Command, CommandKind, Kill, Move, NewFallback, NewTitle, OutOfMemory, RawTitle,
+};
+use percent_encoding::percent_decode;
+use radio_settings::MountName;
+use std::alloc::Global;
+
+/// The path that the path of a target stands for: each `%` with two hexadecimal digits is the byte that they write
+/// (RFC 3986, section 2.1). Any other `%` stays, and so does `+`. The bytes need not be UTF-8.
+pub fn read_path(alloc: Global, path: &[u8]) -> Result<Vec<u8>, OutOfMemory>
+    ensures { IfOk result (λ bytes. bytes.items ≡ decoded_path path.now) }
+{
+    let mut bytes = Vec::new(alloc);
+    percent_decode(path).append_to(&mut bytes)?;
+    Ok(bytes)
+}
+
+/// The command that a path, as [`read_path`] gives it, and a query, as it was sent, ask for.
+///
+/// The first argument of a name counts. Names and values are form decoded (WHATWG URL Standard, section 5.1): `+` is a
+/// space, escapes are decoded, and what is not UTF-8 becomes U+FFFD. An argument that is not of its form counts as absent.
+///
+/// `NoCommand` comes exactly where the path names no command, and `MissingArgument` exactly where an argument of its
+/// command is missing.
+#[tactic(auto, unfolding(crate::specs::Commands::command_in))]
+pub fn read_command(alloc: Global, path: &[u8], query: &[u8]) -> Result<Command, AdminFault>
+    ensures { (result ≡ Err AdminFault.OutOfMemory) ⊎ (result ≡ command_in path.now query.now) }
+{
+    let Some(kind) = CommandKind::at(path) else {
+        return Err(AdminFault::NoCommand);
+    };
+    match mount_in(alloc, "mount", query) {
+        Ok(mount) => command_at(alloc, kind, &mount, query),
+        Err(_) => Err(AdminFault::OutOfMemory),
+    }
+}
+
+/// The command of a kind, with its arguments, of which `mount` has been read.
+fn command_at(
+    alloc: Global,
+    kind: CommandKind,
+    mount: &Option<MountName>,
+    query: &[u8],
+) -> Result<Command, AdminFault>
+    ensures { (result ≡ Err AdminFault.OutOfMemory) ⊎ (result ≡ command_at (Some kind) mount.now query.now) }
+{
+    match command_of(alloc, kind, *mount, query) {
+        Ok(Some(command)) => Ok(command),
+        Ok(None) => Err(AdminFault::MissingArgument(kind, *mount)),
+        Err(_) => Err(AdminFault::OutOfMemory),
+    }
+}
+
+/// The command of a kind, with its arguments, of which `mount` has been read; `None` where one is missing.
+fn command_of(
+    alloc: Global,
+    kind: CommandKind,
+    mount: Option<MountName>,
+    query: &[u8],
+) -> Result<Option<Command>, OutOfMemory>
+    ensures { IfOk result (λ command. command ≡ command_of kind mount query.now) }
+{
+    match kind {
+        CommandKind::Stats => Ok(Some(Command::Stats)),
+        CommandKind::ListMounts => Ok(Some(Command::ListMounts)),
+        CommandKind::ListClients => Ok(list_clients(mount)),
+        CommandKind::MoveClients => move_clients(alloc, mount, query),
+        CommandKind::KillClient => kill_client(alloc, mount, query),
+        CommandKind::KillSource => Ok(kill_source(mount)),
+        CommandKind::Metadata => set_title(alloc, mount, query),
+        CommandKind::Fallbacks => set_fallback(alloc, mount, query),
+        CommandKind::StreamList => Ok(Some(Command::StreamList)),
+    }
+}
+
+fn list_clients(mount: Option<MountName>) -> Option<Command>
+    ensures { result ≡ option_map (λ m. Command.ListClients m) mount }
+{
+    let mount = mount?;
+    Some(Command::ListClients(mount))
+}
+
+fn kill_source(mount: Option<MountName>) -> Option<Command>
+    ensures { result ≡ option_map (λ m. Command.KillSource m) mount }
+{
+    let mount = mount?;
+    Some(Command::KillSource(mount))
+}
+
+fn move_clients(
+    alloc: Global,
+    mount: Option<MountName>,
+    query: &[u8],
+) -> Result<Option<Command>, OutOfMemory>
+    ensures { IfOk result (λ command. command ≡ command_of CommandKind.MoveClients mount query.now) }
+{
+    match (mount, mount_in(alloc, "destination", query)?) {
+        (Some(mount), Some(destination)) => Ok(Some(Command::MoveClients(Move {
+            mount,
+            destination,
+        }))),
+        _ => Ok(None),
+    }
+}
+
+fn kill_client(
+    alloc: Global,
+    mount: Option<MountName>,
+    query: &[u8],
+) -> Result<Option<Command>, OutOfMemory>
+    ensures { IfOk result (λ command. command ≡ command_of CommandKind.KillClient mount query.now) }
+{
+    match (mount, number_in(alloc, "id", query)?) {
+        (Some(mount), Some(id)) => Ok(Some(Command::KillClient(Kill { mount, id }))),
+        _ => Ok(None),
+    }
+}
+
+fn set_title(
+    alloc: Global,
+    mount: Option<MountName>,
+    query: &[u8],
+) -> Result<Option<Command>, OutOfMemory>
+    ensures { IfOk result (λ command. command ≡ command_of CommandKind.Metadata mount query.now) }
+{
+    match (mount, title_in(alloc, query)?) {
+        (Some(mount), Some(text)) => {
+            let title = RawTitle::new(text);
+            Ok(Some(Command::Metadata(NewTitle { mount, title })))
+        }
+        _ => Ok(None),
+    }
+}
+
+fn set_fallback(
+    alloc: Global,
+    mount: Option<MountName>,
+    query: &[u8],
+) -> Result<Option<Command>, OutOfMemory>
+    ensures { IfOk result (λ command. command ≡ command_of CommandKind.Fallbacks mount query.now) }
+{
+    match (mount, fallback_in(alloc, "fallback", query)?) {
+        (Some(mount), Some(fallback)) => Ok(Some(Command::Fallbacks(NewFallback {
+            mount,
+            fallback,
+        }))),
+        _ => Ok(None),
+    }
+}
