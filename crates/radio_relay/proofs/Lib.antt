@@ -1,2 +1,3 @@
 pub mod ItemsLemmas
 pub mod PullLemmas
+pub mod RequestLemmas

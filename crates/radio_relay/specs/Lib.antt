@@ -1,3 +1,6 @@
 pub mod Answer
 pub mod Pulled
 pub mod Items
+pub mod Request
+pub mod StreamList
+pub mod Orders
