@@ -1,3 +1,5 @@
 pub mod ItemsLemmas
 pub mod PullLemmas
 pub mod RequestLemmas
+pub mod CutLemmas
+pub mod BareLemmas

@@ -4,3 +4,5 @@ pub mod Items
 pub mod Request
 pub mod StreamList
 pub mod Orders
+pub mod Cuts
+pub mod Laws

@@ -4,12 +4,14 @@
 //!   blocks, and its titles; or a [`PullFault`].
 //! - [`request_text`] and [`list_request`] are what is sent to a master.
 //! - [`read_stream_list`] reads a master's list of streams.
+//! - [`laws`] says what is true of all that is pulled in.
 //! - [`plan`] says which relays are to start and to stop: [`RelayOrder`]s.
 #![tactic(auto)]
 
 mod answer;
 mod fault;
 mod items;
+pub mod laws;
 mod orders;
 mod pull;
 mod request;
