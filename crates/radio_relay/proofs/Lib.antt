@@ -3,3 +3,4 @@ pub mod PullLemmas
 pub mod RequestLemmas
 pub mod CutLemmas
 pub mod BareLemmas
+pub mod RelayLemmas
