@@ -27,9 +27,13 @@ path_text mount = flat_map path_byte mount
 abbrev pub host : Master → List ℕ
 host master = master.server ++ codes ":" ++ decimal master.port
 
--- a user and a password as the value of a header `Authorization` (RFC 7617, section 2)
+-- a user and a password with a colon between them
+abbrev pub pair_text : Login → List ℕ
+pair_text login = login.username ++ codes ":" ++ login.password
+
+-- the same as the value of a header `Authorization` (RFC 7617, section 2)
 abbrev pub basic_value : Login → List ℕ
-basic_value login = codes "Basic " ++ encode_of standard (login.username ++ codes ":" ++ login.password)
+basic_value login = codes "Basic " ++ encode_of standard (pair_text login)
 
 abbrev pub login_line : Login → List ℕ
 login_line login = header_line (codes "Authorization") (basic_value login)

@@ -1,8 +1,8 @@
 //! What a relay sends to its master.
-ghost use Rattle.std.specs.Prelude.{◌≡◌, [], ◌++◌, codes, IfOk, OnOk};
+ghost use Rattle.std.specs.Prelude.{◌≡◌, ◌++◌, IfOk, OnOk};
 ghost use Rattle.std.specs.String.{string_bytes};
 ghost use Rattle.radio_heads.specs.Answer.{line, header_line};
-ghost use Rattle.radio_relay.specs.Request.{request_text, list_request, request_start, path_text, basic_value, login_line, host};
+ghost use Rattle.radio_relay.specs.Request.{request_text, list_request, request_start, path_text, basic_value, pair_text, login_line, login_lines, host};
 
 use crate::OutOfMemory;
 use base64::engine::general_purpose::STANDARD;
@@ -33,9 +33,7 @@ pub fn request_text(alloc: Global, relay: &RelaySetting) -> Result<Vec<u8>, OutO
     let mut text = Vec::new(alloc);
     push_start(alloc, &mut text, path.as_bytes(), &relay.master)?;
     push_header(&mut text, b"Icy-MetaData", b"1")?;
-    if let Some(login) = &relay.login {
-        push_login(alloc, &mut text, login)?;
-    }
+    push_login_if(alloc, &mut text, &relay.login)?;
     push_line(&mut text, b"")?;
     Ok(text)
 }
@@ -89,6 +87,20 @@ fn host(alloc: Global, master: &Master) -> Result<Vec<u8>, OutOfMemory>
     Ok(text)
 }
 
+/// The login, if one is sent.
+fn push_login_if(
+    alloc: Global,
+    text: &mut Vec<u8>,
+    login: &Option<Login>,
+) -> Result<(), OutOfMemory>
+    ensures { OnOk result (text.new.items ≡ text.old.items ++ login_lines login.now) }
+{
+    match login {
+        Some(login) => push_login(alloc, text, login),
+        None => Ok(()),
+    }
+}
+
 fn push_login(alloc: Global, text: &mut Vec<u8>, login: &Login) -> Result<(), OutOfMemory>
     ensures { OnOk result (text.new.items ≡ text.old.items ++ login_line login.now) }
 {
@@ -100,13 +112,21 @@ fn push_login(alloc: Global, text: &mut Vec<u8>, login: &Login) -> Result<(), Ou
 fn basic_value(alloc: Global, login: &Login) -> Result<Vec<u8>, OutOfMemory>
     ensures { IfOk result (λ value. value.items ≡ basic_value login.now) }
 {
-    let mut pair = Vec::from_slice(alloc, login.username.as_bytes())?;
-    pair.extend_from_slice(b":")?;
-    pair.extend_from_slice(login.password.as_bytes())?;
+    let pair = pair_text(alloc, login)?;
     let encoded = STANDARD.encode(alloc, pair.as_slice())?;
     let mut value = Vec::from_slice(alloc, b"Basic ")?;
     value.extend_from_slice(encoded.as_bytes())?;
     Ok(value)
+}
+
+/// A user and a password with a colon between them.
+fn pair_text(alloc: Global, login: &Login) -> Result<Vec<u8>, OutOfMemory>
+    ensures { IfOk result (λ pair. pair.items ≡ pair_text login.now) }
+{
+    let mut pair = Vec::from_slice(alloc, login.username.as_bytes())?;
+    pair.extend_from_slice(b":")?;
+    pair.extend_from_slice(login.password.as_bytes())?;
+    Ok(pair)
 }
 
 fn push_header(text: &mut Vec<u8>, name: &[u8], value: &[u8]) -> Result<(), OutOfMemory>
