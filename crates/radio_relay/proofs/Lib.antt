@@ -1,0 +1,6 @@
+pub mod ItemsLemmas
+pub mod PullLemmas
+pub mod RequestLemmas
+pub mod CutLemmas
+pub mod BareLemmas
+pub mod RelayLemmas

@@ -1,0 +1,43 @@
+-- What is pulled in, by what a head is read as.
+use Rattle.std.proofs.Common.{◌≡◌, ℕ, List, [], ◌++◌, map, ap, sym, ◌∙◌, refl, Result, Ok, Err}
+use Rattle.std.specs.Prelude.{IfOk}
+use Rattle.radio_blocks.specs.Cutting.{blocks_of}
+use Rattle.radio_heads.specs.declared.outcome.Progress.TheVariants.{More}
+use Rattle.radio_heads.specs.Reading.{IsReading}
+use Rattle.radio_heads.specs.Response.{ShowsResponse}
+use Rattle.radio_relay.specs.declared.items.PullItem.{PullItem}
+use Rattle.radio_relay.specs.declared.items.PullItem.TheVariants.{Sound}
+use Rattle.radio_relay.specs.declared.pull.Stage.{Stage}
+use Rattle.radio_relay.specs.declared.pull.Stage.TheVariants.{Head, Behind}
+use Rattle.radio_relay.specs.declared.stream.Stream.{Stream}
+use Rattle.radio_relay.specs.Pulled.{goes_on, pulled_as, stream_pulled, stream_parts, after_bytes}
+use Rattle.radio_relay.specs.Items.{Gathered, nothing_gathered, all_items, with_parts, items_of, IsAnswered}
+
+-- no parts are no items
+pub items_of-none : blocks_of [] ≡ [] → items_of [] ≡ []
+items_of-none none = ap (λ (blocks : List (List ℕ)). map Sound blocks) none
+
+-- a head that has not ended is answered by nothing, and its bytes are held
+pub answered-more : (held bytes all kept : List ℕ) (items : List PullItem) → blocks_of [] ≡ [] → items ≡ [] → all ≡ held ++ bytes → kept ≡ held ++ bytes
+    → IsReading ShowsResponse all (Ok More) → IsAnswered (Head held) bytes items (Head kept)
+answered-more held bytes all kept items none empty together same reading = (
+  goes_on [] (Head (held ++ bytes)),
+  (Ok More, rw together at reading, refl),
+  record { brought = empty ∙ sym (items_of-none none); goes_on = rw same refl },
+)
+
+-- bytes of a stream are answered by the items that they bring
+pub answered-stream : {X E : Type 0} (r : Result X E) (items : X → List PullItem) (stage : X → Stage) (old : Stage) (stream : Stream) (bytes : List ℕ)
+    (start : Gathered) → old ≡ Behind stream → start ≡ nothing_gathered
+    → IfOk r (λ x. items x ≡ all_items (with_parts start (stream_parts stream bytes))) → IfOk r (λ x. stage x ≡ Behind (after_bytes stream bytes))
+    → IfOk r (λ x. IsAnswered old bytes (items x) (stage x))
+answered-stream (Ok x) items stage old stream bytes start at none brought after =
+    rw at (
+      stream_pulled [] stream bytes,
+      refl,
+      record {
+        brought = brought ∙ ap (λ (g : Gathered). all_items (with_parts g (stream_parts stream bytes))) none;
+        goes_on = rw after refl;
+      },
+    )
+answered-stream (Err e) items stage old stream bytes start at none brought after = tt

@@ -1,0 +1,42 @@
+-- What the head of a master's answer tells of the stream behind it.
+use Rattle.std.specs.Prelude.{ℕ, zero, suc, not, ◌==◌, List, [], codes, Option, None, Some, is_some, unwrap_or, Result, Ok, Err, if◌then◌else◌}
+use Rattle.radio_heads.specs.Headers.{value_of}
+use Rattle.radio_heads.specs.Response.{ResponseParts}
+use Rattle.radio_settings.specs.declared.field.Shown.{Shown}
+use Rattle.radio_settings.specs.Shown.{shown_of}
+use Rattle.radio_texts.specs.Numbers.{number_of}
+use Rattle.radio_relay.specs.declared.fault.PullFault.{PullFault}
+use Rattle.radio_relay.specs.declared.fault.PullFault.TheVariants.{Status, BadHead, BadMetaint}
+
+-- the value of a header, or the other where there is no such header; an empty value is one
+abbrev pub value_or : List ℕ → List ℕ → ResponseParts → List ℕ
+value_or other name head = unwrap_or (value_of name head.headers) other
+
+-- what it shows: a type, a name and a genre; where it names no type, the one that Icecast takes then
+abbrev pub shown_by : ResponseParts → Shown
+shown_by head = shown_of
+    (value_or (codes "audio/mpeg") (codes "Content-Type") head)
+    (value_or [] (codes "icy-name") head)
+    (value_or [] (codes "icy-genre") head)
+
+-- the longest metadata interval, in bytes
+abbrev pub max_interval : ℕ
+max_interval = 16777216
+
+-- the interval that a number tells: one of 1 byte at least
+abbrev pub interval_of : Option ℕ → Result (Option ℕ) PullFault
+interval_of None = Err BadMetaint
+interval_of (Some zero) = Err BadMetaint
+interval_of (Some (suc n)) = Ok (Some (suc n))
+
+-- the interval that the header `icy-metaint` tells: without it there are no metadata
+abbrev pub interval_told : Option (List ℕ) → Result (Option ℕ) PullFault
+interval_told None = Ok None
+interval_told (Some text) = interval_of (number_of 10 max_interval text)
+
+-- the metadata interval of the stream, if it has one, or the first fault of the head
+abbrev pub interval_in : ResponseParts → Result (Option ℕ) PullFault
+interval_in head =
+    if not (head.status == 200) then Err (Status head.status)
+    else if is_some (value_of (codes "Transfer-Encoding") head.headers) then Err BadHead
+    else interval_told (value_of (codes "icy-metaint") head.headers)

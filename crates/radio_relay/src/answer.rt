@@ -1,0 +1,65 @@
+//! What the head of a master's answer tells of the stream behind it.
+ghost use Rattle.std.specs.Prelude.{◌≡◌, ◌≤◌, IfOk, IfSome};
+ghost use Rattle.radio_texts.specs.Numbers.{number_of};
+ghost use Rattle.radio_relay.specs.Answer.{interval_in, interval_of, max_interval, shown_by, value_or};
+
+use crate::{OutOfMemory, PullFault};
+use radio_heads::ResponseHead;
+use radio_settings::Shown;
+use radio_texts::read_number;
+use std::alloc::Global;
+
+/// The longest metadata interval that a master may tell, in bytes.
+pub const MAX_INTERVAL: u64 = 16_777_216;
+
+/// The media type of a stream whose master names none (Icecast 2.4 documentation).
+const DEFAULT_CONTENT_TYPE: &[u8] = b"audio/mpeg";
+
+/// The bytes of sound between two metadata blocks (ICY convention, `icy-metaint`), with none where the stream has no
+/// metadata; or the first fault of the head.
+pub fn interval_in(head: &ResponseHead) -> Result<Option<usize>, PullFault>
+    ensures value { result ≡ interval_in head.now }
+    ensures some { IfOk result (λ interval. IfSome interval (λ n. 1 ≤ n)) }
+{
+    let status = head.status();
+    if status != 200 {
+        return Err(PullFault::Status(status));
+    }
+    if head.value("Transfer-Encoding").is_some() {
+        return Err(PullFault::BadHead);
+    }
+    match head.value("icy-metaint") {
+        Some(text) => interval_of(text),
+        None => Ok(None),
+    }
+}
+
+fn interval_of(text: &[u8]) -> Result<Option<usize>, PullFault>
+    ensures value { result ≡ interval_of (number_of 10 max_interval text.now) }
+    ensures some { IfOk result (λ interval. IfSome interval (λ n. 1 ≤ n)) }
+{
+    match read_number(text, 10, MAX_INTERVAL) {
+        Some(n) if n > 0 => Ok(Some(n as usize)),
+        _ => Err(PullFault::BadMetaint),
+    }
+}
+
+/// What the head shows of the stream, cleaned. `OutOfMemory` where memory was refused.
+pub fn shown_by(alloc: Global, head: &ResponseHead) -> Result<Shown, OutOfMemory>
+    ensures { IfOk result (λ shown. shown ≡ shown_by head.now) }
+{
+    let content_type = value_or(DEFAULT_CONTENT_TYPE, "Content-Type", head);
+    let name = value_or(b"", "icy-name", head);
+    let genre = value_or(b"", "icy-genre", head);
+    Shown::clean(alloc, content_type, name, genre)
+}
+
+/// The value of a header, or the other where there is no such header; an empty value is one.
+fn value_or<'b>(other: &'static [u8], name: &str, head: &ResponseHead<'b>) -> &'b [u8]
+    ensures { result.now ≡ value_or other.now name.now head.now }
+{
+    match head.value(name) {
+        Some(value) => value,
+        None => other,
+    }
+}
