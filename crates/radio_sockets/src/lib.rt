@@ -11,6 +11,7 @@
 #![tactic(auto)]
 
 mod accepts;
+mod activity;
 mod address;
 mod entrance;
 mod fault;

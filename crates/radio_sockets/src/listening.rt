@@ -5,16 +5,16 @@ use crate::accepts::Accepts;
 use crate::entrance::next_of;
 use crate::line::SocketLine;
 use crate::served::ServedTime;
-use crate::sockets::Sockets;
-use radio_hall::{Conn, OpenGate, Server, Worker};
+use crate::sockets::{Sockets, moment};
+use radio_hall::{Conn, OpenGate, Server, Turn, Watched, Worker};
 use std::alloc::Global;
 use std::io;
 use std::net::{Net, SocketAddr};
 use std::sync::Wait;
 use std::time::Clock;
 
-/// How long a turn in which nothing moved waits for something, at most, in milliseconds. What comes
-/// after such a wait is noted at the moment before it.
+/// How long a turn waits until there is something to do, at most, in milliseconds. What comes after
+/// such a wait is noted at the moment before it.
 const WAIT_MS: u64 = 50;
 
 /// How many connections are accepted in a turn at most.
@@ -27,6 +27,10 @@ pub struct Listening {
     sockets: Sockets,
     accepts: Accepts,
     time: ServedTime,
+    /// Whether listeners may have news.
+    news: bool,
+    /// Whether somebody has drawn all that he had room for.
+    has_more: bool,
 }
 
 impl Listening {
@@ -46,6 +50,8 @@ impl Listening {
             sockets,
             accepts: Accepts::new(),
             time: ServedTime::new(0),
+            news: false,
+            has_more: false,
         })
     }
 
@@ -59,7 +65,7 @@ impl Listening {
         mut self,
         clock: &C,
         waits: &W,
-        worker: &mut Worker<S>,
+        worker: &mut Worker<Watched<S>>,
     ) -> ServeFault {
         let mut conns = Vec::new(self.alloc);
         self.time = ServedTime::new(moment(clock));
@@ -73,7 +79,7 @@ impl Listening {
         &mut self,
         clock: &C,
         waits: &W,
-        worker: &mut Worker<S>,
+        worker: &mut Worker<Watched<S>>,
         conns: &mut Vec<Conn<SocketLine>>,
     ) -> ServeFault {
         for _ in waits.forever() {
@@ -89,24 +95,40 @@ impl Listening {
     fn turn<C: Clock, S: Server + Drop>(
         &mut self,
         clock: &C,
-        worker: &mut Worker<S>,
+        worker: &mut Worker<Watched<S>>,
         conns: &mut Vec<Conn<SocketLine>>,
     ) -> Result<(), ServeFault> {
-        self.sockets.hear(WAIT_MS)?;
-        let read_ms = self.time.advance(moment(clock));
+        let clock_ms = self.sockets.hear(clock, self.wait_ms())?;
+        let read_ms = self.time.advance(clock_ms);
+        self.sockets.set_now(self.time.served_ms());
         self.admit_all(worker, conns, read_ms)?;
         let before = conns.len();
-        worker.serve_turn(conns, &OpenGate, read_ms);
+        let turn = Turn {
+            ms: read_ms,
+            news: self.news,
+        };
+        worker.serve_turn(conns, &OpenGate, turn);
+        self.news = worker.server().take_news();
+        self.has_more = worker.server().take_more();
         if conns.len() < before {
             self.accepts.note_closed();
         }
         Ok(())
     }
 
+    /// How long the next turn waits at most: not at all where there is something to do.
+    fn wait_ms(&self) -> u64 {
+        if self.sockets.take_more() || self.news || self.has_more {
+            0
+        } else {
+            WAIT_MS
+        }
+    }
+
     /// Takes in all connections that wait.
     fn admit_all<S: Server + Drop>(
         &mut self,
-        worker: &mut Worker<S>,
+        worker: &mut Worker<Watched<S>>,
         conns: &mut Vec<Conn<SocketLine>>,
         ms: u64,
     ) -> Result<(), ServeFault> {
@@ -120,13 +142,5 @@ impl Listening {
             }
         }
         Ok(())
-    }
-}
-
-/// The clock's moment, in milliseconds; 0 where it tells none.
-fn moment<C: Clock>(clock: &C) -> u64 {
-    match clock.monotonic() {
-        Ok(since) => u64::try_from(since.as_millis()).unwrap_or(u64::MAX),
-        Err(_) => 0,
     }
 }

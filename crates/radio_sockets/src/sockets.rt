@@ -1,5 +1,6 @@
 //! The bound socket and those that it has accepted, as the system tells of them.
 
+use crate::activity::Activity;
 use crate::address::{address_of, peer_at};
 use crate::entrance::{Accepted, Entrance};
 use crate::readiness::Readiness;
@@ -8,12 +9,11 @@ use mio::net::{TcpListener, TcpStream};
 use mio::{Events, Interest, Poll, Token};
 use radio_addr::Peer;
 use std::alloc::Global;
-use std::cell::Cell;
 use std::io;
 use std::io::ErrorKind;
 use std::net::{Net, SocketAddr};
 use std::rc::Rc;
-use std::time::Duration;
+use std::time::{Clock, Duration};
 
 /// The name of the bound socket among those that the system tells of; any other is the number of a line.
 const LISTENER: Token = Token(usize::MAX);
@@ -35,7 +35,7 @@ pub(crate) struct Sockets {
     readiness: Vec<Rc<Readiness>>,
     /// Where the last free one was looked for.
     next: usize,
-    has_moved: Rc<Cell<bool>>,
+    activity: Rc<Activity>,
     /// Whether a connection may wait to be accepted.
     is_asked: bool,
 }
@@ -67,7 +67,7 @@ impl Sockets {
         mut listener: TcpListener,
     ) -> Result<io::Result<Sockets>, OutOfMemory> {
         let events = Events::with_capacity(alloc, EVENTS)?;
-        let has_moved = Rc::new(alloc, Cell::new(false))?;
+        let activity = Rc::new(alloc, Activity::new())?;
         let registered = poll
             .registry()
             .register(&mut listener, LISTENER, Interest::READABLE);
@@ -81,7 +81,7 @@ impl Sockets {
             listener,
             readiness: Vec::new(alloc),
             next: 0,
-            has_moved,
+            activity,
             is_asked: true,
         }))
     }
@@ -91,31 +91,49 @@ impl Sockets {
         self.listener.local_addr()
     }
 
-    /// Hears from the system what is ready. Where nothing moved since it last did, it waits for
-    /// something, so many milliseconds at most: with one worker there is nothing to draw before that.
-    pub(crate) fn hear(&mut self, wait_ms: u64) -> Result<(), ServeFault> {
-        let wait_ms = if self.has_moved.replace(false) {
-            0
-        } else {
-            wait_ms
-        };
-        self.poll(wait_ms)
+    /// Whether a line had something to do in the next turn since this was asked the last time.
+    pub(crate) fn take_more(&self) -> bool {
+        self.activity.take_more()
     }
 
-    /// Notes what the system tells within so many milliseconds.
-    fn poll(&mut self, wait_ms: u64) -> Result<(), ServeFault> {
+    /// It is this moment for the lines.
+    pub(crate) fn set_now(&self, ms: u64) {
+        self.activity.set_now(ms);
+    }
+
+    /// Hears from the system what is ready, and waits until there is something to do, so many
+    /// milliseconds at most. The clock's moment then.
+    pub(crate) fn hear<C: Clock>(&mut self, clock: &C, wait_ms: u64) -> Result<u64, ServeFault> {
+        let mut now_ms = moment(clock);
+        let ends_ms = now_ms.saturating_add(wait_ms);
+        for _ in 0..EVENTS {
+            let is_done = self.poll(ends_ms.saturating_sub(now_ms))?;
+            now_ms = moment(clock);
+            if is_done || now_ms >= ends_ms {
+                return Ok(now_ms);
+            }
+        }
+        Ok(now_ms)
+    }
+
+    /// Notes what the system tells within so many milliseconds. Whether there is something to do.
+    fn poll(&mut self, wait_ms: u64) -> Result<bool, ServeFault> {
         let wait = Duration::from_millis(wait_ms);
         if self.poll.poll(&mut self.events, Some(wait)).is_err() {
             return Err(ServeFault::Accept);
         }
+        let mut is_woken = false;
         for event in &self.events {
             if event.token() == LISTENER {
                 self.is_asked = true;
+                is_woken = true;
             } else if let Some(readiness) = self.readiness.get(event.token().0) {
-                readiness.mark(event);
+                if readiness.mark(event) {
+                    is_woken = true;
+                }
             }
         }
-        Ok(())
+        Ok(is_woken)
     }
 
     /// The line of a socket that was accepted. Its bytes are sent as they come.
@@ -124,9 +142,8 @@ impl Sockets {
         let (number, readiness) = self.free_readiness()?;
         self.register(&mut stream, number)?;
         readiness.reset();
-        let has_moved = self.has_moved.clone()?;
-        self.has_moved.set(true);
-        Ok(SocketLine::new(stream, readiness, has_moved))
+        let activity = self.activity.clone()?;
+        Ok(SocketLine::new(stream, readiness, activity))
     }
 
     /// From now on the system tells of the socket, by this number.
@@ -184,6 +201,14 @@ impl Entrance<(SocketLine, Peer)> for Sockets {
             Err(error) if is_out_of_descriptors(&error) => Accepted::NoDescriptor,
             Err(_) => Accepted::Failed,
         }
+    }
+}
+
+/// The clock's moment, in milliseconds; 0 where it tells none.
+pub(crate) fn moment<C: Clock>(clock: &C) -> u64 {
+    match clock.monotonic() {
+        Ok(since) => u64::try_from(since.as_millis()).unwrap_or(u64::MAX),
+        Err(_) => 0,
     }
 }
 
