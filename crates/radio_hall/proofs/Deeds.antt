@@ -1,5 +1,5 @@
 -- Entries made for a connection, one after another.
-use Rattle.std.proofs.Common.{◌≡◌, ◌⊎◌, inl, inr, ◌<◌, ◌≤◌, ◌-◌, ◌==◌, nat_le, suc, length, lt_irrefl, arith, ℕ, true, false, List, take, drop, ap}
+use Rattle.std.proofs.Common.{◌≡◌, ◌⊎◌, inl, inr, ◌<◌, ◌≤◌, ◌-◌, ◌==◌, nat_le, suc, length, lt_irrefl, arith, ℕ, Bool, true, false, List, take, drop, ap}
 use Rattle.std.proofs.Common.{[], ◌∷◌, ◌++◌, refl, sym, subst, ◌∙◌, append_assoc, append-nil}
 use Rattle.std.proofs.lemmas.Bool.{false≢true}
 use Rattle.std.proofs.lemmas.Bool.Decides.{nat_tests}
@@ -269,44 +269,45 @@ module _ {S : Type 0} (steps : Steps S) where
   pub leaves_as : {from to : S} {a b c : Connection} → a ≡ b → Leaves steps from a to c → Leaves steps from b to c
   leaves_as {from} {to} {a} {b} {c} e = subst (λ (o : Connection). Leaves steps from o to c) e
 
-  pub draws_as : {from to : S} {a b c : Connection} → a ≡ b → Draws steps from a to c → Draws steps from b to c
-  draws_as {from} {to} {a} {b} {c} e = subst (λ (o : Connection). Draws steps from o to c) e
+  pub draws_as : {news : Bool} {from to : S} {a b c : Connection} → a ≡ b → Draws steps news from a to c → Draws steps news from b to c
+  draws_as {news} {from} {to} {a} {b} {c} e = subst (λ (o : Connection). Draws steps news from o to c) e
 
-  -- one who has no seat, or does not go on, need not draw
-  pub draws_nothing : (from : S) (c : Connection) → (c.status.sits ≡ true → c.status.fate ≡ Open → ⊥) → Draws steps from c from c
-  draws_nothing from c idle = ([], refl, served_by_none c c refl (later_none c) (λ past st. st), (λ sits goes. absurd (idle sits goes)), refl)
+  -- one who has no seat, or does not go on, need not draw, nor one for whom there is no news
+  pub draws_nothing : (news : Bool) (from : S) (c : Connection) → (news ≡ true → c.status.sits ≡ true → c.status.fate ≡ Open → ⊥)
+      → Draws steps news from c from c
+  draws_nothing news from c idle = ([], refl, served_by_none c c refl (later_none c) (λ past st. st), (λ new sits goes. absurd (idle new sits goes)), refl)
 
   -- a connection is read from, and then drawn for
-  pub works_in_turn : {from mid to : S} {a b m n c : Connection} → a ≡ b → a.status.fate ≡ Open → m.calls ≡ a.calls → IsServed a [] m
-      → Listens steps from m mid n → Draws steps mid n to c → Works steps from b to c
-  works_in_turn {from} {mid} {to} {a} {b} {m} {n} {c} e goes calls first heard drew = subst (λ (o : Connection). Works steps from o to c) e (record {
+  pub works_in_turn : {news : Bool} {from mid to : S} {a b m n c : Connection} → a ≡ b → a.status.fate ≡ Open → m.calls ≡ a.calls → IsServed a [] m
+      → Listens steps from m mid n → Draws steps news mid n to c → Works steps news from b to c
+  works_in_turn {news} {from} {mid} {to} {a} {b} {m} {n} {c} e goes calls first heard drew = subst (λ (o : Connection). Works steps news from o to c) e (record {
     entries = heard.0 ++ drew.0;
     chain = chain_then from mid to heard.0 drew.0 heard.1 drew.1;
     served = served_then a m c [] (heard.0 ++ drew.0) first (served_then m n c heard.0 drew.0 heard.2 drew.2);
-    drawn = λ none goes sits.
-        let last = drew.3 (sym drew.4 ∙ sits) goes in
+    drawn = λ new none goes sits.
+        let last = drew.3 new (sym drew.4 ∙ sits) goes in
         subst (λ (id : ℕ). EndsWithDraw id (heard.0 ++ drew.0)) (heard.2.same ∙ first.same) (heard.0, last.0, ap (λ (xs : List Entry). heard.0 ++ xs) last.1);
     asked = λ o. omega (arith, ap (λ (x : Calls). x.reads) calls, heard.3, drew.2.later.reads);
     cut = λ o. inr goes;
   })
 
   -- the server is not asked for one who does not go on
-  pub rests_in_turn : (from : S) {c c' : Connection} → IsServed c [] c' → (c.status.fate ≡ Open → ⊥) → (c'.status.fate ≡ Open → ⊥)
-      → (c'.status.fate ≡ Cut → c.status.fate ≡ Cut) → Works steps from c from c'
-  rests_in_turn from {c} {c'} served over_before over cut = record {
+  pub rests_in_turn : {news : Bool} (from : S) {c c' : Connection} → IsServed c [] c' → (c.status.fate ≡ Open → ⊥) → (c'.status.fate ≡ Open → ⊥)
+      → (c'.status.fate ≡ Cut → c.status.fate ≡ Cut) → Works steps news from c from c'
+  rests_in_turn {news} from {c} {c'} served over_before over cut = record {
     entries = [];
     chain = refl;
     served = served;
-    drawn = λ none goes sits. absurd (over goes);
+    drawn = λ new none goes sits. absurd (over goes);
     asked = λ goes. absurd (over_before goes);
     cut = λ e. inl (cut e);
   }
 
   -- why it is cut off, once it was worked for
-  cause_of : {from one : S} {ms patience : ℕ} {a b c d e f : Connection} → IsFlushed ms a b → b.owed ≡ [] → Works steps from b one c → IsLater c d
+  cause_of : {news : Bool} {from one : S} {ms patience : ℕ} {a b c d e f : Connection} → IsFlushed ms a b → b.owed ≡ [] → Works steps news from b one c → IsLater c d
       → d.status.fate ≡ c.status.fate → IsFlushed ms d e → IsLater e f → f.status.fate ≡ e.status.fate
       → f.status.fate ≡ Cut → Cause ms patience a f
-  cause_of {from} {one} {ms} {patience} {a} {b} {c} {d} {e} {f} first none works on left last over same cut = by_last (last.cut (sym same ∙ cut)) where
+  cause_of {news} {from} {one} {ms} {patience} {a} {b} {c} {d} {e} {f} first none works on left last over same cut = by_last (last.cut (sym same ∙ cut)) where
     grown : b.calls.faults ≤ f.calls.faults
     grown = omega (arith, works.served.later.faults, on.faults, last.served.later.faults, over.faults)
 
@@ -323,10 +324,10 @@ module _ {S : Type 0} (steps : Steps S) where
     by_last (inr more) = HasFailed (omega (arith, first.served.later.faults, works.served.later.faults, on.faults, more, over.faults))
 
   -- a connection is written to and worked for, its client leaves if it is over, and it is written to again
-  pub served_in_turn : {from one two to : S} {ms patience : ℕ} {a b c d e f : Connection} → IsFlushed ms a b → b.owed ≡ [] → Works steps from b one c
+  pub served_in_turn : {news : Bool} {from one two to : S} {ms patience : ℕ} {a b c d e f : Connection} → IsFlushed ms a b → b.owed ≡ [] → Works steps news from b one c
       → Leaves steps one c two d → IsFlushed ms d e → Leaves steps two e to f
-      → ServesInTurn steps ms patience from a to f
-  served_in_turn {from} {one} {two} {to} {ms} {patience} {a} {b} {c} {d} {e} {f} first none works left last over = record {
+      → ServesInTurn steps ms patience news from a to f
+  served_in_turn {news} {from} {one} {two} {to} {ms} {patience} {a} {b} {c} {d} {e} {f} first none works left last over = record {
     entries = works.entries ++ (left.entries ++ over.entries);
     chain =
         chain_then from one to works.entries (left.entries ++ over.entries) works.chain (chain_then one two to left.entries over.entries left.chain over.chain);
@@ -334,10 +335,10 @@ module _ {S : Type 0} (steps : Steps S) where
         served_then a b f [] (works.entries ++ (left.entries ++ over.entries)) first.served
         (served_then b c f works.entries (left.entries ++ over.entries) works.served
         (served_then c d f left.entries over.entries left.served (served_then d e f [] over.entries last.served over.served)));
-    drawn = λ nothing goes sits.
+    drawn = λ new nothing goes sits.
         let at_e = sym over.fate ∙ goes in
         let at_c = sym left.fate ∙ last.goes at_e in
-        let drawn = works.drawn (first.none nothing) at_c (sym left.sits ∙ sym last.sits ∙ sym over.sits ∙ sits) in
+        let drawn = works.drawn new (first.none nothing) at_c (sym left.sits ∙ sym last.sits ∙ sym over.sits ∙ sits) in
         let alone : works.entries ++ (left.entries ++ over.entries) ≡ works.entries =
         ap (λ (xs : List Entry). works.entries ++ (xs ++ over.entries)) (left.alone at_c) ∙ ap (λ (xs : List Entry). works.entries ++ xs) (over.alone at_e)
         ∙ append-nil works.entries in
@@ -355,13 +356,13 @@ module _ {S : Type 0} (steps : Steps S) where
     rest = later_then b c f works.served.later (later_then c d f left.served.later (later_then d e f last.served.later over.served.later))
 
   -- a connection is written to, and still owed something
-  pub kept_in_turn : {from to : S} {ms patience : ℕ} {a b m c : Connection} → IsFlushed ms a b → (b.owed ≡ [] → ⊥) → IsPatient ms patience b m
-      → Leaves steps from m to c → ServesInTurn steps ms patience from a to c
-  kept_in_turn {from} {to} {ms} {patience} {a} {b} {m} {c} first some rests left = record {
+  pub kept_in_turn : {news : Bool} {from to : S} {ms patience : ℕ} {a b m c : Connection} → IsFlushed ms a b → (b.owed ≡ [] → ⊥) → IsPatient ms patience b m
+      → Leaves steps from m to c → ServesInTurn steps ms patience news from a to c
+  kept_in_turn {news} {from} {to} {ms} {patience} {a} {b} {m} {c} first some rests left = record {
     entries = left.entries;
     chain = left.chain;
     served = served_then a b c [] left.entries first.served (served_then b m c [] left.entries rests.served left.served);
-    drawn = λ none goes sits. absurd (some (first.none none));
+    drawn = λ new none goes sits. absurd (some (first.none none));
     asked = λ goes none. absurd (some (first.none none));
     given = λ goes owed. omega (arith, first.given goes owed, rests.served.later.writes, left.served.later.writes);
     waited =

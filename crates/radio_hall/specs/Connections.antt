@@ -27,7 +27,8 @@ pub record Connection : Type 0 where
 
 -- at this moment it comes, and nothing was asked yet
 abbrev pub status_at : Fate → Bool → ℕ → Status
-status_at fate has_left ms = record { fate = fate; has_left = has_left; sits = false; is_finished = false; asked_ms = ms; moved_ms = ms }
+status_at fate has_left ms =
+    record { fate = fate; has_left = has_left; sits = false; is_behind = false; has_taken = false; is_finished = false; asked_ms = ms; moved_ms = ms }
 
 -- a client was let in, whose line gave and took this, and was called so often
 abbrev pub newly_come : ℕ → Peer → List ℕ → List ℕ → Calls → ℕ → Connection

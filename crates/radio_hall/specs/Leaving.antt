@@ -1,5 +1,5 @@
 -- What each part of a connection's turn leaves of it.
-use Rattle.std.specs.Prelude.{◌≡◌, ◌<◌, ◌≤◌, ◌⊎◌, ℕ, true, false, List, [], ◌++◌}
+use Rattle.std.specs.Prelude.{◌≡◌, ◌<◌, ◌≤◌, ◌⊎◌, ℕ, Bool, true, false, List, [], ◌++◌}
 use Rattle.radio_book.specs.declared.entry.Entry.{Entry}
 use Rattle.radio_session.specs.Exchanges.{Steps}
 use Rattle.radio_hall.specs.declared.conn.Fate.TheVariants.{Open, Cut}
@@ -43,11 +43,11 @@ module _ {S : Type 0} (steps : Steps S) where
   Listens from c to c' = (entries : List Entry) × Chain steps from entries to × IsServed c entries c' × (c.calls.reads < c'.calls.reads)
 
   -- what a connection does to which nothing is owed
-  pub record Works (from : S) (c : Connection) (to : S) (c' : Connection) : Type 0 where
+  pub record Works (news : Bool) (from : S) (c : Connection) (to : S) (c' : Connection) : Type 0 where
     pub entries : List Entry
     pub chain : Chain steps from entries to
     pub served : IsServed c entries c'
-    pub drawn : HasDrawn c entries c'
+    pub drawn : HasDrawn news c entries c'
     pub asked : c.status.fate ≡ Open → c.calls.reads < c'.calls.reads
     pub cut : c'.status.fate ≡ Cut → (c.status.fate ≡ Cut) ⊎ (c.status.fate ≡ Open)
 
@@ -67,8 +67,8 @@ module _ {S : Type 0} (steps : Steps S) where
   DrawsFor room from c to c' =
       (entries : List Entry) × Chain steps from entries to × IsServed c entries c' × IsOneDraw c.id room entries c' × (c'.status.sits ≡ c.status.sits)
 
-  -- whatever was done, one who has a seat has drawn
-  abbrev pub Draws : S → Connection → S → Connection → Type 0
-  Draws from c to c' =
-      (entries : List Entry) × Chain steps from entries to × IsServed c entries c' × (c.status.sits ≡ true → IsOneDraw c.id 16384 entries c')
+  -- whatever was done, one who has a seat has drawn where there is news
+  abbrev pub Draws : Bool → S → Connection → S → Connection → Type 0
+  Draws news from c to c' =
+      (entries : List Entry) × Chain steps from entries to × IsServed c entries c' × (news ≡ true → c.status.sits ≡ true → IsOneDraw c.id 16384 entries c')
       × (c'.status.sits ≡ c.status.sits)

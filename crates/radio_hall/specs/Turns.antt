@@ -56,27 +56,27 @@ IsOneDraw id room entries c' = c'.status.fate ≡ Open → (reply : Reply) × (e
 abbrev pub EndsWithDraw : ℕ → List Entry → Type 0
 EndsWithDraw id entries = (others : List Entry) × (reply : Reply) × (entries ≡ others ++ entry (Draw id 16384) reply ∷ [])
 
--- One who has a seat and goes on has drawn, last of all, if nothing was owed to him when his turn came.
-abbrev pub HasDrawn : Connection → List Entry → Connection → Type 0
-HasDrawn c entries c' = c.owed ≡ [] → c'.status.fate ≡ Open → c'.status.sits ≡ true → EndsWithDraw c.id entries
+-- Where there is news, one who has a seat and goes on has drawn, last of all, if nothing was owed to him when his turn came.
+abbrev pub HasDrawn : Bool → Connection → List Entry → Connection → Type 0
+HasDrawn news c entries c' = news ≡ true → c.owed ≡ [] → c'.status.fate ≡ Open → c'.status.sits ≡ true → EndsWithDraw c.id entries
 
 module _ {S : Type 0} (steps : Steps S) where
-  -- At this moment, the server made entries for the connection: a draw if it was due, and what else there was to do.
-  pub record ServesInTurn (ms patience : ℕ) (from : S) (c : Connection) (to : S) (c' : Connection) : Type 0 where
+  -- At this moment, with news or without, the server made entries for the connection: a draw if it was due, and what else there was to do.
+  pub record ServesInTurn (ms patience : ℕ) (news : Bool) (from : S) (c : Connection) (to : S) (c' : Connection) : Type 0 where
     pub entries : List Entry
     pub chain : Chain steps from entries to
     pub served : IsServed c entries c'
-    pub drawn : HasDrawn c entries c'
+    pub drawn : HasDrawn news c entries c'
     pub asked : IsAsked c c'
     pub given : IsGiven c c'
     pub waited : HasWaited c entries c'
     pub cut : IsCutFor ms patience c c'
 
   -- each connection was served, one after another
-  abbrev pub ServesEach : ℕ → ℕ → S → List Connection → S → List Connection → Type 0
-  ServesEach ms patience from [] to served = (to ≡ from) × (served ≡ [])
-  ServesEach ms patience from (c ∷ cs) to served =
-      (mid : S) × (c' : Connection) × (others : List Connection) × ServesInTurn ms patience from c mid c' × ServesEach ms patience mid cs to others
+  abbrev pub ServesEach : ℕ → ℕ → Bool → S → List Connection → S → List Connection → Type 0
+  ServesEach ms patience news from [] to served = (to ≡ from) × (served ≡ [])
+  ServesEach ms patience news from (c ∷ cs) to served =
+      (mid : S) × (c' : Connection) × (others : List Connection) × ServesInTurn ms patience news from c mid c' × ServesEach ms patience news mid cs to others
       × (served ≡ c' ∷ others)
 
   -- the event was applied, or refused for want of memory by a server that may refuse it
@@ -84,19 +84,19 @@ module _ {S : Type 0} (steps : Steps S) where
   HasApplied refuses true from event to = (reply : Reply) × steps from event reply to
   HasApplied refuses false from event to = (to ≡ from) × refuses from event
 
-  -- where a second has passed since the worker told the server the time, he tells it, unless that is refused for want of memory
+  -- where fifty milliseconds have passed since the worker told the server the time, he tells it, unless that is refused for want of memory
   abbrev pub Ticks : (S → Event → Type 0) → ℕ → WorkerOf S → WorkerOf S → Type 0
   Ticks refuses ms before after =
-      ((ms < before.told_ms + 1000) × (after ≡ before))
+      ((ms < before.told_ms + 50) × (after ≡ before))
       ⊎ (((after.told_ms ≡ ms) × (after.patience_ms ≡ before.patience_ms) × HasApplied refuses true before.server (Clock ms) after.server)
       ⊎ ((after ≡ before) × refuses before.server (Clock ms)))
 
-  -- A turn at this moment: the server is told the time if it is due, each connection is served, and those that are over are closed.
+  -- A turn at this moment, with news or without: the server is told the time if it is due, each connection is served, and those that are over are closed.
   pub record IsTurn (refuses : S → Event
-      → Type 0) (ms : ℕ) (before : WorkerOf S) (conns : List Connection) (after : WorkerOf S) (conns' : List Connection) : Type 0 where
+      → Type 0) (ms : ℕ) (news : Bool) (before : WorkerOf S) (conns : List Connection) (after : WorkerOf S) (conns' : List Connection) : Type 0 where
     pub mid : WorkerOf S
     pub served : List Connection
     pub ticks : Ticks refuses ms before mid
     pub same : (after.told_ms ≡ mid.told_ms) × (after.patience_ms ≡ mid.patience_ms)
-    pub serves : ServesEach ms mid.patience_ms mid.server conns after.server served
+    pub serves : ServesEach ms mid.patience_ms news mid.server conns after.server served
     pub closes : conns' ≡ filter stays served

@@ -47,6 +47,10 @@ pub struct Status {
     pub has_left: bool,
     /// Whether its client was given a seat.
     pub sits: bool,
+    /// Whether there may be more for it than its last draw has brought.
+    pub is_behind: bool,
+    /// Whether its line has taken a byte.
+    pub has_taken: bool,
     /// Whether its peer was told that nothing more is written.
     pub is_finished: bool,
     /// When something was last asked of the server for it.
@@ -66,6 +70,8 @@ impl Status {
             fate,
             has_left,
             sits: false,
+            is_behind: false,
+            has_taken: false,
             is_finished: false,
             asked_ms: ms,
             moved_ms: ms,

@@ -3,9 +3,10 @@
 //! - [`Hall`]: the lock round a book; [`Hall::apply`] is one event, in the lock's order.
 //! - [`settle`]: all passes held against the hall's book, once the threads have been joined.
 //! - [`Server`], [`Caller`]: whom a worker asks: a hall, with the worker's pass.
+//! - [`Watched`]: whom a worker asks, and whether listeners may have news.
 //! - [`Line`], [`Gate`]: where a connection's bytes come from and go to, and who is told of writes.
 //! - [`CallCount`], [`History`]: what a line notes for proofs alone.
-//! - [`Conn`]: a connection. [`Worker::admit`] takes one in, and [`Worker::serve_turn`] serves all.
+//! - [`Conn`]: a connection. [`Worker::admit`] takes one in, and [`Worker::serve_turn`] serves all, by a [`Turn`].
 //! - [`passes_gain_what_was_applied`]: a law, which runs no code.
 //!
 //! Whenever the lock is free, its book has what [`Book::is_told`](radio_book::Book::is_told) says:
@@ -21,6 +22,8 @@ mod line;
 mod owed;
 mod server;
 mod serving;
+mod turn;
+mod watched;
 mod worker;
 
 pub use calls::CallCount;
@@ -30,6 +33,8 @@ pub use history::History;
 pub use laws::passes_gain_what_was_applied;
 pub use line::{Gate, Line, OpenGate, Received, Sent};
 pub use server::{Caller, Server};
+pub use turn::Turn;
+pub use watched::Watched;
 pub use worker::Worker;
 
 /// What a call answers where memory was refused.

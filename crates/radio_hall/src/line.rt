@@ -53,7 +53,15 @@ pub trait Line: Drop {
         ensures given { given self.new ≡ given self.old }
         ensures calls { calls self.new ≡ after_write result (calls self.old) };
 
-    /// Tells the peer that nothing more will be written. It may still be read from.
+    /// From now on nothing is wanted of what comes: to a read the line may answer
+    /// [`Received::Nothing`] although something has come.
+    fn pass_over(&mut self)
+        ensures given { given self.new ≡ given self.old }
+        ensures taken { taken self.new ≡ taken self.old }
+        ensures calls { calls self.new ≡ calls self.old };
+
+    /// Tells the peer that nothing more will be written. It may still be read from, and what comes is
+    /// not wanted.
     fn finish(&mut self)
         ensures given { given self.new ≡ given self.old }
         ensures taken { taken self.new ≡ taken self.old }

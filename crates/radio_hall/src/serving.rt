@@ -10,17 +10,20 @@ pub(crate) mod round;
 
 ghost use Rattle.std.specs.Prelude.{◌≡◌, ◌-◌, nat_le};
 
-/// The moment of a turn, and how long a line may take nothing of what is owed to it, in
-/// milliseconds.
+/// The moment of a turn, how long a line may take nothing of what is owed to it, in milliseconds, and
+/// whether there is news.
 #[derive(Clone, Copy)]
 pub(crate) struct Now {
     pub(crate) ms: u64,
     pub(crate) patience_ms: u64,
+    pub(crate) news: bool,
 }
 
-/// After how long without an event a client without a seat is asked for, and how long what comes
-/// behind an end is passed over, in milliseconds.
-pub(crate) const SECOND_MS: u64 = 1000;
+/// After how long without an event a client is asked for, in milliseconds.
+pub(crate) const ASKED_AFTER_MS: u64 = 500;
+
+/// For how long what comes behind an end is passed over, in milliseconds.
+pub(crate) const LINGER_MS: u64 = 1000;
 
 impl Now {
     /// Whether this much time has passed since a moment.

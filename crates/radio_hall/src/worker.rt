@@ -8,12 +8,15 @@ ghost use Rattle.radio_hall.specs.Admission.{IsAdmission, IsTakenIn};
 
 use crate::serving::leaving::apply_quietly;
 use crate::serving::round::serve_each;
-use crate::serving::{Now, SECOND_MS};
-use crate::{Conn, Gate, Line, OutOfMemory, Server};
+use crate::serving::Now;
+use crate::{Conn, Gate, Line, OutOfMemory, Server, Turn};
 use radio_addr::Peer;
 use radio_events::Event;
 use std::alloc::Global;
 use std::marker::Model;
+
+/// After how long the server is told the time again, in milliseconds.
+const TELL_AFTER_MS: u64 = 50;
 
 /// A worker: whom he asks, when he last told him the time, and for how long he keeps a line that
 /// takes nothing. In contracts he is these three.
@@ -45,7 +48,7 @@ impl<S: Server + Drop> Worker<S> {
             alloc,
             server,
             told_ms: 0,
-            patience_ms: patience_s as u64 * SECOND_MS,
+            patience_ms: patience_s as u64 * 1000,
         }
     }
 
@@ -95,15 +98,16 @@ impl<S: Server + Drop> Worker<S> {
         Conn::admitted(self.alloc, peer, line, reply, ms)
     }
 
-    /// Serves each connection once, at this moment in milliseconds, and closes those that are over.
-    /// The server is told the time if a second has passed since it last was.
-    pub fn serve_turn<L: Line, G: Gate>(&mut self, conns: &mut Vec<Conn<L>>, gate: &G, ms: u64)
-        ensures { IsTurn S.steps S.refuses ms self.old conns.old.items self.new conns.new.items }
+    /// Serves each connection once, at the turn's moment, and closes those that are over. The server
+    /// is told the time if a twentieth of a second has passed since it last was.
+    pub fn serve_turn<L: Line, G: Gate>(&mut self, conns: &mut Vec<Conn<L>>, gate: &G, turn: Turn)
+        ensures { IsTurn S.steps S.refuses turn.ms turn.news self.old conns.old.items self.new conns.new.items }
     {
-        self.tick(ms);
+        self.tick(turn.ms);
         let now = Now {
-            ms,
+            ms: turn.ms,
             patience_ms: self.patience_ms,
+            news: turn.news,
         };
         serve_each(&mut self.server, conns, gate, now);
         conns.retain(|conn| conn.stays());
@@ -112,7 +116,7 @@ impl<S: Server + Drop> Worker<S> {
     fn tick(&mut self, ms: u64)
         ensures { Ticks S.steps S.refuses ms self.old self.new }
     {
-        if ms.saturating_sub(self.told_ms) < SECOND_MS {
+        if ms.saturating_sub(self.told_ms) < TELL_AFTER_MS {
             return;
         }
         if apply_quietly(&mut self.server, Event::Clock { ms }) {

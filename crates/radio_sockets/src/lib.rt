@@ -2,6 +2,8 @@
 //!
 //! - [`Listening`]: a bound socket, and the lines that it has accepted. [`Listening::serve`] serves
 //!   them, by a worker, until a fault.
+//! - [`Accepts`]: when connections are accepted, and how many in a row could not be.
+//! - [`ServedTime`]: a clock that counts what was served.
 //! - [`SocketLine`]: a connection's socket, which is asked only where the system has told that it is ready.
 //!
 //! No clause says what a socket gives or takes, since the system holds it: what is proved is that a
@@ -9,16 +11,21 @@
 #![tactic(auto)]
 
 mod accepts;
+mod activity;
 mod address;
+mod entrance;
 mod fault;
 mod line;
 mod listening;
 mod readiness;
+mod served;
+mod sockets;
 
-pub use accepts::Accepts;
+pub use accepts::{Accepts, Tried};
 pub use fault::ServeFault;
 pub use line::SocketLine;
-pub use listening::{Listening, moment};
+pub use listening::Listening;
+pub use served::ServedTime;
 
 /// What a call answers where memory was refused.
 pub type OutOfMemory = std::alloc::AllocError;

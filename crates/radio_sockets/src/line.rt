@@ -3,23 +3,23 @@
 ghost use Rattle.std.specs.Prelude.{◌≡◌, ◌<◌, length};
 ghost use Rattle.radio_hall.specs.Lines.{HasGiven, HasTaken};
 
+use crate::activity::Activity;
 use crate::readiness::Readiness;
 use mio::net::TcpStream;
 use radio_hall::{CallCount, History, Line, Received, Sent};
 use std::alloc::Global;
-use std::cell::Cell;
 use std::io::{ErrorKind, Read, Write};
 use std::net::Shutdown;
 use std::rc::Rc;
 
 /// A connection's socket. It is asked only where the system has told that it is ready: `Nothing`
-/// takes no call of the system then.
+/// takes no call of the system then. Where nothing is wanted of what comes, it is read from at most
+/// each tenth of a second, and where it took nothing it is asked again after a second.
 #[derive(Drop)]
 pub struct SocketLine {
     stream: TcpStream,
     readiness: Rc<Readiness>,
-    /// Whether a byte came or went on any line since it was last looked at.
-    has_moved: Rc<Cell<bool>>,
+    activity: Rc<Activity>,
     given: History,
     taken: History,
     calls: CallCount,
@@ -30,12 +30,12 @@ impl SocketLine {
     pub(crate) fn new(
         stream: TcpStream,
         readiness: Rc<Readiness>,
-        has_moved: Rc<Cell<bool>>,
+        activity: Rc<Activity>,
     ) -> SocketLine {
         SocketLine {
             stream,
             readiness,
-            has_moved,
+            activity,
             given: History::new(),
             taken: History::new(),
             calls: CallCount::new(),
@@ -48,13 +48,16 @@ impl SocketLine {
         ensures taken { self.new.taken ≡ self.old.taken }
         ensures calls { self.new.calls ≡ self.old.calls }
     {
-        if !self.readiness.is_readable() {
+        let ms = self.activity.now_ms();
+        if !self.readiness.is_readable(ms) {
             return Received::Nothing;
         }
         match self.stream.read(buffer) {
             Ok(0) => Received::Closed,
             Ok(count) => {
-                self.has_moved.set(true);
+                if self.readiness.has_read(count == buffer.len(), ms) {
+                    self.activity.note_more();
+                }
                 self.given.note(&buffer[..count]);
                 Received::Bytes(count)
             }
@@ -76,24 +79,37 @@ impl SocketLine {
         ensures given { self.new.given ≡ self.old.given }
         ensures calls { self.new.calls ≡ self.old.calls }
     {
-        if !self.readiness.is_writable() {
+        let ms = self.activity.now_ms();
+        if !self.readiness.is_writable(ms) {
             return Sent::Nothing;
         }
         match self.stream.write(bytes) {
             Ok(0) => Sent::Nothing,
             Ok(count) => {
-                self.has_moved.set(true);
+                self.note_sent(count < bytes.len(), ms);
                 self.taken.note(&bytes[..count]);
                 Sent::Took(count)
             }
             Err(error) => match error.kind() {
                 ErrorKind::WouldBlock => {
-                    self.readiness.has_no_room();
+                    self.readiness.has_no_room(ms);
                     Sent::Nothing
                 }
                 ErrorKind::Interrupted => Sent::Nothing,
                 _ => Sent::Fault,
             },
+        }
+    }
+}
+
+impl SocketLine {
+    /// The socket took all or a part. Where what comes is wanted, something may be to be done next.
+    fn note_sent(&self, is_part: bool, ms: u64) {
+        if is_part {
+            self.readiness.has_no_room(ms);
+        }
+        if !self.readiness.is_passed_over() {
+            self.activity.note_more();
         }
     }
 }
@@ -117,7 +133,12 @@ impl Line for SocketLine {
         sent
     }
 
+    fn pass_over(&mut self) {
+        self.readiness.pass_over();
+    }
+
     fn finish(&mut self) {
+        self.readiness.pass_over();
         // A socket that is closed already has nothing to be told.
         let _ = self.stream.shutdown(Shutdown::Write);
     }

@@ -3,12 +3,27 @@
 use mio::event::Event;
 use std::cell::Cell;
 
+/// For how long nothing is read from a line of which nothing is wanted, in milliseconds.
+const PASS_OVER_MS: u64 = 100;
+
+/// After how long a line that took nothing is asked again, whatever the system has told, in
+/// milliseconds: it tells of room only once a third of the socket's buffer is free.
+const ASK_AGAIN_MS: u64 = 1000;
+
 /// What a socket is ready for, by what the system has told and the socket has answered since. The
-/// system tells each change once.
+/// system tells each change once. Moments are in milliseconds.
 #[derive(Drop)]
 pub(crate) struct Readiness {
     is_readable: Cell<bool>,
     is_writable: Cell<bool>,
+    /// Whether it has failed, or a side of it was closed.
+    is_over: Cell<bool>,
+    /// Whether nothing is wanted of what comes.
+    is_passed_over: Cell<bool>,
+    /// Before that moment nothing is read, if nothing is wanted.
+    read_from_ms: Cell<u64>,
+    /// From that moment on it is written to all the same.
+    write_from_ms: Cell<u64>,
 }
 
 impl Readiness {
@@ -17,34 +32,68 @@ impl Readiness {
         Readiness {
             is_readable: Cell::new(true),
             is_writable: Cell::new(true),
+            is_over: Cell::new(false),
+            is_passed_over: Cell::new(false),
+            read_from_ms: Cell::new(0),
+            write_from_ms: Cell::new(0),
         }
     }
 
-    /// The socket is to be asked again, as at its beginning.
+    /// Another socket has it, which is to be asked, as at its beginning.
     pub(crate) fn reset(&self) {
         self.is_readable.set(true);
         self.is_writable.set(true);
+        self.is_over.set(false);
+        self.is_passed_over.set(false);
+        self.read_from_ms.set(0);
+        self.write_from_ms.set(0);
     }
 
     /// The system has told this. A socket that has failed or was closed tells so when it is asked.
-    pub(crate) fn mark(&self, event: &Event) {
+    /// Whether there is something to do at once: for bytes that are not wanted there is not.
+    pub(crate) fn mark(&self, event: &Event) -> bool {
         let is_over = event.is_error() || event.is_read_closed() || event.is_write_closed();
-        if is_over || event.is_readable() {
-            self.is_readable.set(true);
+        if is_over {
+            self.is_over.set(true);
+            self.read_from_ms.set(0);
         }
-        if is_over || event.is_writable() {
-            self.is_writable.set(true);
-        }
+        let may_read = is_over || event.is_readable();
+        let may_write = is_over || event.is_writable();
+        let reads = may_read && !self.is_readable.replace(true);
+        let writes = may_write && !self.is_writable.replace(true);
+        is_over || writes || (reads && !self.is_passed_over.get())
     }
 
-    /// Whether it is worth a read.
-    pub(crate) fn is_readable(&self) -> bool {
-        self.is_readable.get()
+    /// Whether it is worth a read at this moment.
+    pub(crate) fn is_readable(&self, ms: u64) -> bool {
+        self.is_readable.get() && ms >= self.read_from_ms.get()
     }
 
-    /// Whether it is worth a write.
-    pub(crate) fn is_writable(&self) -> bool {
-        self.is_writable.get()
+    /// Whether it is worth a write at this moment.
+    pub(crate) fn is_writable(&self, ms: u64) -> bool {
+        self.is_writable.get() || ms >= self.write_from_ms.get()
+    }
+
+    /// Whether nothing is wanted of what comes.
+    pub(crate) fn is_passed_over(&self) -> bool {
+        self.is_passed_over.get()
+    }
+
+    /// From now on nothing is wanted of what comes.
+    pub(crate) fn pass_over(&self) {
+        self.is_passed_over.set(true);
+    }
+
+    /// A read gave bytes at this moment, and filled the buffer or not. Whether there may be more to
+    /// read at once.
+    pub(crate) fn has_read(&self, is_filled: bool, ms: u64) -> bool {
+        if self.is_passed_over.get() {
+            self.read_from_ms.set(ms.saturating_add(PASS_OVER_MS));
+            return false;
+        }
+        let may_have_more = is_filled || self.is_over.get();
+        self.is_readable.set(may_have_more);
+        may_have_more
     }
 
     /// A read would have waited.
@@ -52,8 +101,9 @@ impl Readiness {
         self.is_readable.set(false);
     }
 
-    /// A write would have waited.
-    pub(crate) fn has_no_room(&self) {
+    /// A write at this moment would have waited, or took a part.
+    pub(crate) fn has_no_room(&self, ms: u64) {
         self.is_writable.set(false);
+        self.write_from_ms.set(ms.saturating_add(ASK_AGAIN_MS));
     }
 }

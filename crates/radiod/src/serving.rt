@@ -6,7 +6,7 @@ ghost use Rattle.radio_core.specs.World.{opening};
 use crate::fault::Fault;
 use radio_access::Lists;
 use radio_book::{House, PASSES, Unkept};
-use radio_hall::{Caller, Hall, Worker};
+use radio_hall::{Caller, Hall, Watched, Worker};
 use radio_settings::Settings;
 use radio_sockets::{Listening, ServeFault};
 use std::marker::Brand;
@@ -83,7 +83,8 @@ fn serve_through<'a, W: Wait, H: House>(
 ) -> ServeFault {
     match hall.pass(waits) {
         Some(pass) => {
-            let mut worker = Worker::new(rt.alloc(), Caller::new(waits, hall, pass), patience);
+            let server = Watched::new(rt.alloc(), Caller::new(waits, hall, pass));
+            let mut worker = Worker::new(rt.alloc(), server, patience);
             let fault = listening.serve(rt, waits, &mut worker);
             drop(worker);
             fault

@@ -246,9 +246,9 @@ fn source_was_told(station: &Station<Meddled>) -> bool {
 fn is_refused(station: &mut Station<Meddled>) -> bool {
     let source = comes(station, SOURCE, 0);
     let was_in = station.is_of(&[1]);
-    station.turns(1, 1, 2);
+    station.turns(1, 1, 2, true);
     let listener = comes(station, LISTENER, 2);
-    station.turns(3, 1, 3);
+    station.turns(3, 1, 3, true);
     source && listener && (!was_in || source_was_told(station))
 }
 

@@ -7,7 +7,7 @@ use crate::rows::*;
 use crate::stations::Station;
 use crate::steps::Step;
 use radio_book::{House, Kept, Pass};
-use radio_hall::{Caller, Gate, Hall};
+use radio_hall::{Caller, Gate, Hall, Turn};
 use std::alloc::Global;
 use std::cell::Cell;
 use std::sync::Wait;
@@ -138,7 +138,7 @@ fn is_free_in_turns<H: House, R: Wait>(
         was_held: Cell::new(false),
     };
     for ms in 1..5 {
-        station.turn(&gate, ms);
+        station.turn(&gate, Turn { ms, news: true });
     }
     gate.knocks.get() == 4 && !gate.was_held.get()
 }

@@ -45,6 +45,8 @@ pub enum Look {
     FinishedBehind(&'static [u8]),
     /// It was not told so.
     Open,
+    /// It was told that nothing is wanted of what comes.
+    PassedOver,
 }
 
 /// Why a line gives nothing any more.
@@ -64,6 +66,7 @@ pub struct MemoryLine {
     taken: Vec<u8>,
     calls: CallCount,
     is_finished: bool,
+    is_passed_over: bool,
 }
 
 impl MemoryLine {
@@ -80,6 +83,7 @@ impl MemoryLine {
             taken: Vec::new(alloc),
             calls: CallCount::new(),
             is_finished: false,
+            is_passed_over: false,
         }
     }
 
@@ -91,6 +95,7 @@ impl MemoryLine {
             Look::TookFront(bytes) => bytes.starts_with(taken),
             Look::FinishedBehind(bytes) => self.is_finished && taken.ends_with(bytes),
             Look::Open => !self.is_finished,
+            Look::PassedOver => self.is_passed_over,
         }
     }
 
@@ -220,6 +225,10 @@ impl Line for MemoryLine {
         let sent = self.send(bytes);
         self.calls.count_write(sent);
         sent
+    }
+
+    fn pass_over(&mut self) {
+        self.is_passed_over = true;
     }
 
     fn finish(&mut self) {

@@ -117,6 +117,42 @@ fn a_stalled_listener_falls_behind(rt: HostRuntime) -> Result<(), Fail> {
     play(&rt, SHORT_QUEUE, FALLS_BEHIND)
 }
 
+/// He hears them in a turn without news too, since there was news while his line took nothing.
+const CATCHES_UP: &[Step] = &[
+    Step::Comes(TWO_MORE, 0),
+    Step::Turns(1, 1, 2),
+    Step::Comes(STALLED_FOR_FOUR, 2),
+    Step::Turns(3, 1, 4),
+    Step::Shows(1, Look::Took(b"")),
+    Step::Quiet(100, 1, 1),
+    Step::Shows(1, Look::Took(THREE_BLOCKS)),
+];
+
+#[test]
+fn a_stalled_listener_catches_up(rt: HostRuntime) -> Result<(), Fail> {
+    play(&rt, SHORT_QUEUE, CATCHES_UP)
+}
+
+/// Who is seated draws at once, and what is wanted of his line is told to it; then he draws nothing
+/// without news, up to half a second after his last draw.
+const WITHOUT_NEWS: &[Step] = &[
+    Step::Comes(TWO_MORE, 0),
+    Step::Quiet(1, 1, 2),
+    Step::Comes(LISTENER, 2),
+    Step::Quiet(3, 1, 4),
+    Step::Shows(1, Look::PassedOver),
+    Step::Shows(1, Look::Took(ONE_BLOCK)),
+    Step::Quiet(502, 1, 1),
+    Step::Shows(1, Look::Took(ONE_BLOCK)),
+    Step::Quiet(503, 1, 1),
+    Step::Shows(1, Look::Took(THREE_BLOCKS)),
+];
+
+#[test]
+fn without_news_a_listener_waits(rt: HostRuntime) -> Result<(), Fail> {
+    play(&rt, "", WITHOUT_NEWS)
+}
+
 /// One who is three blocks behind was finished by the push of the third: he hears what he was owed
 /// before, and nothing more; another hears all meanwhile.
 const LAGS: &[Step] = &[
@@ -206,10 +242,10 @@ fn one_who_says_nothing_stays(rt: HostRuntime) -> Result<(), Fail> {
     play(&rt, SHORT_TIMEOUT, SAYS_NOTHING)
 }
 
-/// He hears of it within a second, and is closed a second later.
+/// His time is over in the turn at three seconds, and in the next he is closed: nothing was written.
 const SAID_NOTHING: &[Step] = &[
     Step::Comes(SILENT, 0),
-    Step::Turns(0, 500, 12),
+    Step::Turns(0, 500, 8),
     Step::Clients(&[]),
 ];
 

@@ -6,7 +6,7 @@ use radio_access::Lists;
 use radio_addr::Peer;
 use radio_core::{Core, OutOfMemory};
 use radio_events::{Event, Reply};
-use radio_hall::{Conn, Gate, OpenGate, Server, Worker};
+use radio_hall::{Conn, Gate, OpenGate, Server, Turn, Worker};
 use radio_settings::{Settings, SettingsFault};
 use std::alloc::{AllocError, Global};
 use std::marker::Model;
@@ -147,18 +147,18 @@ impl<S: Server + Drop> Station<S> {
         self.worker.admit(&mut self.conns, line, peer, ms).is_ok()
     }
 
-    /// So many turns, each so many milliseconds after the one before it.
-    pub fn turns(&mut self, from_ms: u64, step_ms: u64, count: u64) {
+    /// So many turns, each so many milliseconds after the one before it, all with news or without.
+    pub fn turns(&mut self, from_ms: u64, step_ms: u64, count: u64, news: bool) {
         let mut ms = from_ms;
         for _ in 0..count {
-            self.turn(&OpenGate, ms);
+            self.turn(&OpenGate, Turn { ms, news });
             ms = ms.saturating_add(step_ms);
         }
     }
 
     /// A turn.
-    pub fn turn<G: Gate>(&mut self, gate: &G, ms: u64) {
-        self.worker.serve_turn(&mut self.conns, gate, ms);
+    pub fn turn<G: Gate>(&mut self, gate: &G, turn: Turn) {
+        self.worker.serve_turn(&mut self.conns, gate, turn);
     }
 
     /// How many connections there are.

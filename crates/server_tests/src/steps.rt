@@ -13,8 +13,11 @@ use std::test::Fail;
 pub enum Step {
     /// A connection comes with a line of these manners, at this millisecond.
     Comes(Manners, u64),
-    /// Turns: the first at this millisecond, each so many after the one before it, and so many.
+    /// Turns with news: the first at this millisecond, each so many after the one before it, and so
+    /// many.
     Turns(u64, u64, u64),
+    /// The same without news.
+    Quiet(u64, u64, u64),
     /// The connections are those of these clients, and no others.
     Clients(&'static [u64]),
     /// The line of the connection at this place shows that.
@@ -36,7 +39,11 @@ impl<S: Server + Drop> Station<S> {
         match step {
             Step::Comes(manners, ms) => self.comes(manners, ms),
             Step::Turns(from_ms, step_ms, count) => {
-                self.turns(from_ms, step_ms, count);
+                self.turns(from_ms, step_ms, count, true);
+                true
+            }
+            Step::Quiet(from_ms, step_ms, count) => {
+                self.turns(from_ms, step_ms, count, false);
                 true
             }
             Step::Clients(ids) => self.is_of(ids),

@@ -8,6 +8,7 @@ ghost use Rattle.radio_hall.specs.Turns.{Chain};
 ghost use Rattle.radio_hall.specs.Answering.{IsToldAs, IsAnswered, AreAnswered};
 
 use crate::owed::Owed;
+use crate::serving::drawing::fills_room;
 use crate::{Conn, Fate, Line, Server, Status};
 use radio_events::{Event, Reply};
 use radio_session::{Session, State};
@@ -23,7 +24,9 @@ pub(crate) fn answer<S: Server, L: Line>(server: &mut S, conn: &mut Conn<L>, eve
     match server.apply(event) {
         Ok(reply) => {
             let sits = both(listens, is_seated(&reply));
-            note(&mut conn.status, leaves, sits);
+            let has_more = fills_room(&reply);
+            note(&mut conn.status, leaves, sits, has_more);
+            pass_over_if(&mut conn.line, sits);
             conn.status.fate = tell(&mut conn.owed, &mut conn.session, reply);
         }
         Err(_) => conn.status.fate = Fate::Cut,
@@ -54,15 +57,16 @@ fn tell(owed: &mut Owed, session: &mut Session, reply: Reply) -> Fate
     }
 }
 
-/// Notes that the client has left, and that he was given a seat, if so.
-fn note(status: &mut Status, leaves: bool, sits: bool)
-    ensures { status.new ≡ record status.old { has_left = leaves || status.old.has_left; sits = sits || status.old.sits } }
+/// Notes that the client has left, that he was given a seat, and that there is more for him, if so.
+fn note(status: &mut Status, leaves: bool, sits: bool, has_more: bool)
+    ensures { status.new ≡ record status.old { has_left = leaves || status.old.has_left; sits = sits || status.old.sits; is_behind = sits || has_more } }
 {
+    status.is_behind = either(sits, has_more);
     status.has_left = either(leaves, status.has_left);
     status.sits = either(sits, status.sits);
 }
 
-fn either(a: bool, b: bool) -> bool
+pub(crate) fn either(a: bool, b: bool) -> bool
     ensures { result ≡ (a || b) }
 {
     a || b
@@ -72,6 +76,17 @@ fn both(a: bool, b: bool) -> bool
     ensures { result ≡ (a && b) }
 {
     a && b
+}
+
+/// What comes from one who was given a seat is passed over.
+fn pass_over_if<L: Line>(line: &mut L, sits: bool)
+    ensures given { L.given line.new ≡ L.given line.old }
+    ensures taken { L.taken line.new ≡ L.taken line.old }
+    ensures calls { L.calls line.new ≡ L.calls line.old }
+{
+    if sits {
+        line.pass_over();
+    }
 }
 
 /// Whether the client leaves by this event.

@@ -1,32 +1,65 @@
 //! What there is for a connection.
 
-ghost use Rattle.std.specs.Prelude.{◌≡◌};
+ghost use Rattle.std.specs.Prelude.{◌≡◌, true};
 ghost use Rattle.radio_hall.specs.declared.conn.Fate.TheVariants.{Open};
 ghost use Rattle.radio_hall.specs.Leaving.{Draws, DrawsFor};
 
 use crate::serving::answering::answer;
-use crate::serving::{Now, SECOND_MS};
-use crate::{Conn, Line, Server};
-use radio_events::Event;
+use crate::serving::{ASKED_AFTER_MS, Now};
+use crate::{Conn, Line, Server, Status};
+use radio_blocks::Pieces;
+use radio_events::{Event, Reply};
 
 /// For how many bytes of data a listener has room in a turn.
 pub const DRAW_ROOM: u32 = 16384;
 
-/// A draw for the listener who has a seat. Who has none, and for whom nothing was asked for a
-/// second, is asked for with a draw that has no room: it hears then by which rule it was finished,
-/// if it was.
+/// A draw for the listener who has a seat, where there is news, or he was left behind what there was
+/// before. Where there is none, and nothing was asked for him for half a second, he draws too; who has
+/// no seat is asked for with a draw that has no room then: they hear by which rule they were finished,
+/// if they were.
 pub(crate) fn draw<S: Server, L: Line>(server: &mut S, conn: &mut Conn<L>, now: Now)
-    ensures { Draws S.steps server.old conn.old server.new conn.new }
+    ensures { Draws S.steps now.news server.old conn.old server.new conn.new }
 {
     if !conn.status.fate.is_open() {
         return;
     }
+    if !is_due(conn.status, now) {
+        return;
+    }
+    conn.status.asked_ms = now.ms;
     if conn.status.sits {
         draw_for(server, conn, DRAW_ROOM);
-    } else if now.is_past(conn.status.asked_ms, SECOND_MS) {
-        conn.status.asked_ms = now.ms;
+    } else {
         draw_for(server, conn, 0);
     }
+}
+
+/// Whether a draw is due for who stands so.
+fn is_due(status: Status, now: Now) -> bool
+    ensures { status.sits ≡ true → now.news ≡ true → result ≡ true }
+{
+    if status.sits {
+        if now.news || status.is_behind {
+            return true;
+        }
+    }
+    now.is_past(status.asked_ms, ASKED_AFTER_MS)
+}
+
+/// Whether a draw has brought as much as it had room for, so that there may be more.
+pub(crate) fn fills_room(reply: &Reply) -> bool {
+    match reply {
+        Reply::Drawn { pieces, .. } => is_full(pieces),
+        _ => false,
+    }
+}
+
+fn is_full(pieces: &Pieces) -> bool {
+    let mut left = DRAW_ROOM as usize;
+    for slice in pieces.slices() {
+        left = left.saturating_sub(slice.len());
+    }
+    left == 0
 }
 
 fn draw_for<S: Server, L: Line>(server: &mut S, conn: &mut Conn<L>, room: u32)

@@ -5,6 +5,7 @@ ghost use Rattle.radio_hall.specs.Duties.{IsWritten};
 ghost use Rattle.radio_hall.specs.Leaving.{IsFlushed, IsPatient};
 
 use crate::serving::Now;
+use crate::serving::answering::either;
 use crate::{Conn, Fate, Gate, Line, Sent};
 
 /// Writes once of what is owed, as far as the line takes it. The connection is cut off where the
@@ -35,16 +36,19 @@ fn write<L: Line, G: Gate>(conn: &mut Conn<L>, gate: &G, now: Now)
         Sent::Took(count) => {
             conn.owed.take_off(count);
             conn.status.moved_ms = now.ms;
+            conn.status.has_taken = true;
         }
         Sent::Nothing => (),
         Sent::Fault => conn.status.fate = Fate::Cut,
     }
 }
 
-/// Cuts a connection off of which nothing that it is owed has moved for too long.
+/// Cuts a connection off of which nothing that it is owed has moved for too long. It does not draw
+/// what there is news of, and is behind then.
 pub(crate) fn give_up<L: Line>(conn: &mut Conn<L>, now: Now)
     ensures { IsPatient now.ms now.patience_ms conn.old conn.new }
 {
+    conn.status.is_behind = either(now.news, conn.status.is_behind);
     if now.is_past(conn.status.moved_ms, now.patience_ms) {
         conn.status.fate = Fate::Cut;
     }

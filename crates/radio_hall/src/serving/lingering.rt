@@ -4,12 +4,26 @@ ghost use Rattle.std.specs.Prelude.{◌≡◌, []};
 ghost use Rattle.radio_hall.specs.Turns.{IsServed};
 ghost use Rattle.radio_hall.specs.Leaving.{IsEnded};
 
-use crate::serving::{Now, SECOND_MS};
+use crate::serving::{LINGER_MS, Now};
 use crate::{Conn, Fate, Line, Received};
 
 /// Tells the peer that nothing more is written, and passes over what still comes, so that its last
-/// answer is not lost with it. The connection is closed once the peer has closed, or after a second.
+/// answer is not lost with it. The connection is closed once the peer has closed, or after a second;
+/// and at once where nothing was written.
 pub(crate) fn linger<L: Line>(conn: &mut Conn<L>, buffer: &mut [u8], now: Now)
+    requires fate { conn.old.status.fate ≡ Fate.Ended }
+    requires all { conn.old.owed ≡ [] }
+    ensures { IsEnded conn.old conn.new }
+{
+    if conn.status.has_taken {
+        wait_for_close(conn, buffer, now);
+    } else {
+        conn.status.fate = Fate::Closed;
+    }
+}
+
+/// The same where something was written.
+fn wait_for_close<L: Line>(conn: &mut Conn<L>, buffer: &mut [u8], now: Now)
     requires fate { conn.old.status.fate ≡ Fate.Ended }
     requires all { conn.old.owed ≡ [] }
     ensures { IsEnded conn.old conn.new }
@@ -47,7 +61,7 @@ fn pass_over<L: Line>(conn: &mut Conn<L>, buffer: &mut [u8]) -> Received
 /// Whether nothing more will come, or a second has passed.
 fn is_over(received: Received, since_ms: u64, now: Now) -> bool {
     match received {
-        Received::Bytes(_) | Received::Nothing => now.is_past(since_ms, SECOND_MS),
+        Received::Bytes(_) | Received::Nothing => now.is_past(since_ms, LINGER_MS),
         Received::Closed | Received::Fault => true,
     }
 }

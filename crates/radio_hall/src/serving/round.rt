@@ -13,7 +13,7 @@ use crate::serving::listening::listen;
 use crate::{Conn, Fate, Gate, Line, Server};
 
 /// How many bytes are read from a line in a turn at most.
-pub const READ_ROOM: usize = 4096;
+pub const READ_ROOM: usize = 16384;
 
 /// Serves each connection, in order.
 pub(crate) fn serve_each<S: Server, L: Line, G: Gate>(
@@ -22,7 +22,7 @@ pub(crate) fn serve_each<S: Server, L: Line, G: Gate>(
     gate: &G,
     now: Now,
 )
-    ensures { ServesEach S.steps now.ms now.patience_ms server.old conns.old.items server.new conns.new.items }
+    ensures { ServesEach S.steps now.ms now.patience_ms now.news server.old conns.old.items server.new conns.new.items }
 {
     let mut buffer = [0u8; READ_ROOM];
     for conn in conns.iter_mut() {
@@ -39,7 +39,7 @@ fn serve<S: Server, L: Line, G: Gate>(
     gate: &G,
     now: Now,
 )
-    ensures { ServesInTurn S.steps now.ms now.patience_ms server.old conn.old server.new conn.new }
+    ensures { ServesInTurn S.steps now.ms now.patience_ms now.news server.old conn.old server.new conn.new }
 {
     flush(conn, gate, now);
     if !conn.owed.rest().is_empty() {
@@ -56,7 +56,7 @@ fn serve<S: Server, L: Line, G: Gate>(
 /// What a connection does to which nothing is owed.
 fn work<S: Server, L: Line>(server: &mut S, conn: &mut Conn<L>, buffer: &mut [u8], now: Now)
     requires { conn.old.owed ≡ [] }
-    ensures { Works S.steps server.old conn.old server.new conn.new }
+    ensures { Works S.steps now.news server.old conn.old server.new conn.new }
 {
     let fate = conn.status.fate;
     match fate {

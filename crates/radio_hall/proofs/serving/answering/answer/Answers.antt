@@ -17,6 +17,7 @@ returns-in-Ok g c =
     let sits = ap (λ (s : Status). s.sits) c.note.ensures
     ∙ ap (λ (b : Bool). b || before.sits) (c.both-sits.ensures ∙ ap (λ (b : Bool). b && c.is_seated.result) c.is_listen-listens.ensures
     ∙ ap (λ (b : Bool). is_listen c.args.event && b) c.is_seated.ensures) in
+    let over = c.pass_over_if.ensures in
     let left = ap (λ (s : Status). s.has_left) c.note.ensures ∙ ap (λ (b : Bool). b || before.has_left) c.is_leave-leaves.ensures in (
       made ∷ [],
       chain_one g.S.Server.steps c.args.server.now c.apply.new.self made c.in-Ok.ensures.ok,
@@ -25,9 +26,9 @@ returns-in-Ok g c =
         made = λ goes. (c.in-Ok.reply, refl);
         seat = λ other. sits ∙ ap (λ (b : Bool). (b && is_seated c.in-Ok.reply) || before.sits) other;
         stands =
-            λ later past st. answered_as _ _ c.args.event later past c.in-Ok.reply goes refl refl refl sits left st c.tell-conn-inside.result refl
+            λ later past st. answered_as _ _ c.args.event later past c.in-Ok.reply goes refl over.given over.taken sits left st c.tell-conn-inside.result refl
             c.tell-conn-inside.ensures;
-        later = later_same refl refl;
+        later = later_same over.calls over.taken;
       }),
     )
 

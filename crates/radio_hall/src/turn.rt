@@ -1,0 +1,12 @@
+//! What a turn is told.
+
+/// What a turn is told of.
+#[derive(Clone, Copy, Debug, PartialEq, Eq)]
+pub struct Turn {
+    /// The moment, in milliseconds: all that had come by then was read in the turns before.
+    pub ms: u64,
+    /// Whether something may have come for listeners since the last turn that was told so. Then each
+    /// who has a seat, and to whom nothing is owed, draws; else only who is behind, or was not asked
+    /// for in half a second.
+    pub news: bool,
+}

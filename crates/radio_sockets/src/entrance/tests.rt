@@ -1,0 +1,106 @@
+use super::{Accepted, Entrance, next_of};
+use crate::ServeFault;
+use crate::accepts::Accepts;
+use std::process::Abort;
+use std::test::Fail;
+
+/// A listener that fails so many times, and then gives one connection after another. It counts how
+/// often it was asked.
+#[derive(Drop)]
+struct Failing {
+    failures: u64,
+    asked: u64,
+}
+
+impl Entrance<u64> for Failing {
+    fn accept(&mut self) -> Accepted<u64> {
+        self.asked = self.asked.saturating_add(1);
+        if self.asked <= self.failures {
+            Accepted::Failed
+        } else {
+            Accepted::One(self.asked)
+        }
+    }
+}
+
+/// One that has no descriptor for anybody.
+#[derive(Drop)]
+struct Short {
+    asked: u64,
+}
+
+impl Entrance<u64> for Short {
+    fn accept(&mut self) -> Accepted<u64> {
+        self.asked = self.asked.saturating_add(1);
+        Accepted::NoDescriptor
+    }
+}
+
+/// What comes of a try in each millisecond from the first on, up to the last or a fault; and when
+/// the fault came.
+fn tries<E: Entrance<u64>>(
+    entrance: &mut E,
+    accepts: &mut Accepts,
+    first_ms: u64,
+    last_ms: u64,
+) -> Option<u64> {
+    for ms in first_ms..last_ms {
+        if next_of(entrance, accepts, ms).is_err() {
+            return Some(ms);
+        }
+    }
+    None
+}
+
+/// A thousand tries in a second are ten of the listener, and the station goes on.
+#[test]
+fn one_try_in_a_tenth_of_a_second(rt: HostRuntime) -> Result<(), Fail> {
+    let mut listener = Failing {
+        failures: u64::MAX,
+        asked: 0,
+    };
+    let mut accepts = Accepts::new();
+    assert!(rt; tries(&mut listener, &mut accepts, 0, 1000).is_none());
+    assert!(rt; listener.asked == 10);
+    Ok(())
+}
+
+/// The hundredth failure in a row comes after 9.9 seconds, and is the end.
+#[test]
+fn a_hundred_failures_end_it(rt: HostRuntime) -> Result<(), Fail> {
+    let mut listener = Failing {
+        failures: u64::MAX,
+        asked: 0,
+    };
+    let mut accepts = Accepts::new();
+    assert!(rt; tries(&mut listener, &mut accepts, 0, 20_000) == Some(9_900));
+    assert!(rt; listener.asked == 100);
+    Ok(())
+}
+
+/// After 99 failures a connection is accepted, and the count begins anew.
+#[test]
+fn ninety_nine_failures_do_not(rt: HostRuntime) -> Result<(), Fail> {
+    let mut listener = Failing {
+        failures: 99,
+        asked: 0,
+    };
+    let mut accepts = Accepts::new();
+    assert!(rt; tries(&mut listener, &mut accepts, 0, 9_899).is_none());
+    assert!(rt; matches!(next_of(&mut listener, &mut accepts, 9_900), Ok(Some(100))));
+    Ok(())
+}
+
+/// Where no descriptor is left nothing ends, however long it lasts; a connection that closes is
+/// followed by a try at once.
+#[test]
+fn want_of_descriptors_is_no_failure(rt: HostRuntime) -> Result<(), Fail> {
+    let mut listener = Short { asked: 0 };
+    let mut accepts = Accepts::new();
+    assert!(rt; tries(&mut listener, &mut accepts, 0, 20_000).is_none());
+    assert!(rt; listener.asked == 200);
+    accepts.note_closed();
+    assert!(rt; tries(&mut listener, &mut accepts, 19_950, 19_951).is_none());
+    assert!(rt; listener.asked == 201);
+    Ok(())
+}
