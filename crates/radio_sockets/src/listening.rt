@@ -98,7 +98,8 @@ impl Listening {
         worker: &mut Worker<Watched<S>>,
         conns: &mut Vec<Conn<SocketLine>>,
     ) -> Result<(), ServeFault> {
-        let clock_ms = self.sockets.hear(clock, self.wait_ms())?;
+        let wait_ms = self.wait_ms();
+        let clock_ms = self.sockets.hear(clock, wait_ms)?;
         let read_ms = self.time.advance(clock_ms);
         self.sockets.set_now(self.time.served_ms());
         self.admit_all(worker, conns, read_ms)?;
