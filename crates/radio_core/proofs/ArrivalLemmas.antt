@@ -1,24 +1,21 @@
 -- through each event, a client who is there keeps the address from which he came, and the moment
 use Rattle.std.proofs.Common.{◌≡◌, true, false, Bool, ℕ, ◌==◌, ◌+◌, zero, suc, Option, Some, None, List, [], ◌∷◌, length, map, refl, ap, sym, ◌∙◌, arith}
-use Rattle.std.specs.Prelude.{find, if◌then◌else◌}
 use Rattle.std.specs.Option.{option_map}
 use Rattle.std.proofs.lemmas.Bool.Decides.{nat_tests}
 use Rattle.radio_addr.specs.declared.peer.Peer.{Peer}
 use Rattle.radio_tables.specs.FindLaws.{find_here, find_later}
 use Rattle.radio_tables.specs.KeyLaws.{by_number}
-use Rattle.radio_tables.specs.Lists.{update_first}
-use Rattle.radio_seats.specs.declared.seat.Listener.{Listener}
 use Rattle.radio_seats.specs.Seats.{listener_of}
 use Rattle.radio_events.specs.declared.event.Event.{Event}
 use Rattle.radio_core.specs.declared.clients.Client.{Client}
 use Rattle.radio_core.specs.declared.clients.ClientState.{ClientState}
-use Rattle.radio_core.specs.declared.clients.ClientState.TheVariants.{Undecided as IsNew, Ended, Feeds as IsSource, Listens, Answered as HasHisAnswer}
+use Rattle.radio_core.specs.declared.clients.ClientState.TheVariants.{Undecided as IsNew, Feeds as IsSource, Listens, Answered as HasHisAnswer}
 use Rattle.radio_core.specs.declared.outcome.Outcome.{Outcome}
 use Rattle.radio_core.specs.declared.outcome.Change.TheVariants.{Admit}
 use Rattle.radio_core.specs.declared.standing.Standing.TheVariants.{Unknown}
 use Rattle.radio_core.specs.Changes.{changed, durations_over, first_silent, on_silent, session_silenced, silence, ticked, timed_out_by}
 use Rattle.radio_core.specs.ClientSteps.{ArrivalsStay}
-use Rattle.radio_core.specs.Clients.{is_client, client_of, with_client, with_state, in_state, without_client}
+use Rattle.radio_core.specs.Clients.{is_client, client_of, with_state, in_state, without_client}
 use Rattle.radio_core.specs.Sessions.{Session}
 use Rattle.radio_core.specs.Sound.{IsSound}
 use Rattle.radio_core.specs.Step.{outcome, world_after}

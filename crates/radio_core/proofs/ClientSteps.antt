@@ -1,5 +1,5 @@
 -- what an event does to how one client stands
-use Rattle.std.proofs.Common.{◌≡◌, ◌⊎◌, inl, inr, ℕ, ◌<◌, true, Some, List, refl, ap, sym, subst, ◌∙◌}
+use Rattle.std.proofs.Common.{◌≡◌, ◌⊎◌, inl, inr, ℕ, ◌<◌, true, Some, refl, ap, sym, subst, ◌∙◌}
 use Rattle.radio_policy.specs.declared.rule.Rule.{Rule}
 use Rattle.radio_addr.specs.declared.peer.Peer.{Peer}
 use Rattle.radio_access.specs.Lists.{passes}
@@ -9,7 +9,7 @@ use Rattle.radio_events.specs.declared.reply.Reply.TheVariants.{Deny}
 use Rattle.radio_events.specs.Events.{client_in}
 use Rattle.radio_core.specs.declared.outcome.Outcome.{Outcome}
 use Rattle.radio_core.specs.declared.standing.Standing.{Standing}
-use Rattle.radio_core.specs.declared.standing.Standing.TheVariants.{Unknown, Undecided, Feeds, Sits, Answered, Finished as HasFinished}
+use Rattle.radio_core.specs.declared.standing.Standing.TheVariants.{Unknown, Undecided, Feeds, Finished as HasFinished}
 use Rattle.radio_core.specs.Changes.{changed, taken_in}
 use Rattle.radio_core.specs.ClientSteps.{ClientStep, Stays, Arrives, IsAnswered, BeginsToFeed, SitsDown, StopsFeeding, ClientsStep}
 use Rattle.radio_core.specs.ClientSteps.{Leaves as HeLeaves, IsFinished as HeIsFinished}

@@ -1,5 +1,5 @@
 -- the law of denials
-use Rattle.std.proofs.Common.{◌≡◌, ◌↔◌, ◌⊎◌, inl, inr, Bool, true, false, ℕ, ◌==◌, not, ◌&&◌, ◌||◌, Option, Some, None, is_some, List, [], ◌∷◌}
+use Rattle.std.proofs.Common.{◌≡◌, ◌↔◌, ◌⊎◌, inl, inr, Bool, true, false, ℕ, not, ◌&&◌, ◌||◌, Option, Some, None, is_some, List, [], ◌∷◌}
 use Rattle.std.proofs.Common.{refl, ap, sym, ◌∙◌}
 use Rattle.std.specs.Prelude.{find, if◌then◌else◌}
 use Rattle.std.specs.Str.{bytes_eq}
@@ -15,7 +15,6 @@ use Rattle.radio_creds.specs.Credentials.{Credentials}
 use Rattle.radio_settings.specs.declared.settings.Login.{Login}
 use Rattle.radio_settings.specs.MountName.{is_mount_name}
 use Rattle.radio_settings.specs.Options.{options_for}
-use Rattle.radio_access.specs.Lists.{is_denied, is_allowed}
 use Rattle.radio_access.specs.SourcePair.{is_login, is_source_pair}
 use Rattle.radio_tables.specs.Lists.{Has}
 use Rattle.radio_tables.specs.KeyLaws.{by_number}
@@ -27,12 +26,10 @@ use Rattle.radio_events.specs.declared.event.SourceRequest.{SourceRequest}
 use Rattle.radio_events.specs.declared.event.ListenRequest.{ListenRequest}
 use Rattle.radio_events.specs.declared.reply.Reply.TheVariants.{Feeding, Deny}
 use Rattle.radio_events.specs.Events.{client_in}
-use Rattle.radio_fallback.specs.declared.walking.Found.{Found}
 use Rattle.radio_core.specs.declared.clients.Client.{Client}
 use Rattle.radio_core.specs.declared.clients.ClientState.TheVariants.{Undecided as IsNew, Answered as HasHisAnswer}
 use Rattle.radio_core.specs.declared.outcome.Change.TheVariants.{Nothing, Answer}
 use Rattle.radio_core.specs.declared.outcome.Outcome.{Outcome}
-use Rattle.radio_core.specs.declared.standing.Standing.{Standing}
 use Rattle.radio_core.specs.declared.standing.Standing.TheVariants.{Undecided}
 use Rattle.radio_core.specs.Changes.{changed}
 use Rattle.radio_core.specs.Clients.{client_of}
@@ -41,7 +38,7 @@ use Rattle.radio_core.specs.Denials.{KnownMountsAreKnown}
 use Rattle.radio_core.specs.Facts.{is_known, arrive_facts, rows_to_arrive}
 use Rattle.radio_core.specs.Arrive.{admits_client}
 use Rattle.radio_core.specs.Outcomes.{on_verdict}
-use Rattle.radio_core.specs.Sessions.{Session, session_of}
+use Rattle.radio_core.specs.Sessions.{session_of}
 use Rattle.radio_core.specs.Step.{outcome, reply_to, world_after}
 use Rattle.radio_core.specs.Ways.{Way, Misplaced, IsFinished, IsDenied, IsRefused, IsAdmitted, Begins, Receives, SetsTitle, TakesSeat, HandsOut, Ends}
 use Rattle.radio_core.specs.Ways.{EndsAndLeaves, Leaves, HasPassed, Ticks, rows_for, IsUndecided}

@@ -1,13 +1,11 @@
 -- what an event does to the session of one mount; no event changes the settings
-use Rattle.std.proofs.Common.{◌≡◌, ◌⊎◌, inl, inr, true, ℕ, ◌*◌, ◌-◌, ◌≤◌, Option, Some, None, List, refl, ap, sym, subst, ◌∙◌}
+use Rattle.std.proofs.Common.{◌≡◌, ◌⊎◌, inl, inr, ℕ, ◌*◌, ◌-◌, ◌≤◌, Option, Some, None, List, refl, ap, sym, subst, ◌∙◌}
 use Rattle.std.specs.Prelude.{unwrap_or}
-use Rattle.std.specs.Str.{bytes_eq}
 use Rattle.std.proofs.lemmas.Slice.Eq.{bytes_eq-Decides}
 use Rattle.radio_policy.specs.declared.rule.Rule.{Rule}
 use Rattle.radio_settings.specs.Options.{options_for}
 use Rattle.radio_tables.specs.KeyLaws.{by_name}
-use Rattle.radio_seats.specs.declared.seat.Seat.{Seat}
-use Rattle.radio_seats.specs.Seats.{listener_of, seat_of}
+use Rattle.radio_seats.specs.Seats.{listener_of}
 use Rattle.radio_events.specs.declared.event.Event.{Event}
 use Rattle.radio_events.specs.declared.event.Event.TheVariants.{Source, Push, SourceEnd, Title, Leave, Clock}
 use Rattle.radio_events.specs.declared.event.SourceRequest.{SourceRequest}
@@ -18,8 +16,8 @@ use Rattle.radio_core.specs.declared.outcome.Outcome.{Outcome}
 use Rattle.radio_core.specs.declared.standing.Standing.TheVariants.{Undecided, Feeds, Sits}
 use Rattle.radio_core.specs.Changes.{changed, session_ended, ticked}
 use Rattle.radio_core.specs.Finishes.{Cause, SessionIsOver, IsFarBehind, HasSatOut, HasAskedNothing, HasSentNothing}
-use Rattle.radio_core.specs.Sessions.{Session, session_of, opened, longer, with_title}
-use Rattle.radio_core.specs.SessionSteps.{IsShownAs, OfTheSettings, OfTheSource, HasBegun, SessionStep, Stays, Begins as ItBegins, Grows, IsTitled}
+use Rattle.radio_core.specs.Sessions.{Session, session_of, opened}
+use Rattle.radio_core.specs.SessionSteps.{IsShownAs, OfTheSettings, OfTheSource, SessionStep, Stays, Begins as ItBegins, Grows, IsTitled}
 use Rattle.radio_core.specs.SessionSteps.{Ends as ItEnds, SessionsStep, KeepsSettings}
 use Rattle.radio_core.specs.Sound.{IsSound}
 use Rattle.radio_core.specs.Source.{shown_for}

@@ -18,17 +18,14 @@ use Rattle.radio_core.specs.declared.clients.Client.{Client}
 use Rattle.radio_core.specs.declared.clients.ClientState.{ClientState}
 use Rattle.radio_core.specs.declared.clients.ClientState.TheVariants.{Undecided as IsNew, Feeds as IsSource, Listens, Answered as HasHisAnswer, Ended}
 use Rattle.radio_events.specs.declared.event.Event.TheVariants.{Clock}
-use Rattle.radio_core.specs.declared.outcome.Change.{Change}
-use Rattle.radio_core.specs.declared.outcome.Change.TheVariants.{Nothing, Tick}
 use Rattle.radio_core.specs.declared.standing.Standing.{Standing}
 use Rattle.radio_core.specs.declared.standing.Standing.TheVariants.{Unknown, Undecided, Feeds, Sits, Finished}
-use Rattle.radio_core.specs.Changes.{changed, session_ended, timed_out_by, durations_over, first_silent, session_silenced, on_silent, silence, ticked}
+use Rattle.radio_core.specs.Changes.{session_ended, timed_out_by, durations_over, first_silent, session_silenced, on_silent, silence, ticked}
 use Rattle.radio_core.specs.Clients.{is_client, client_of, with_state}
 use Rattle.radio_core.specs.Finishes.{SessionIsOver, HasSatOut, HasAskedNothing, HasSentNothing}
-use Rattle.radio_core.specs.Outstaying.{IsInTime, NobodyOutstays}
+use Rattle.radio_core.specs.Outstaying.{IsInTime}
 use Rattle.radio_core.specs.Sessions.{Session, is_of, session_of}
 use Rattle.radio_core.specs.Sound.{IsSound}
-use Rattle.radio_core.specs.Step.{outcome, world_after}
 use Rattle.radio_core.specs.Timeouts.{has_sat_out, asks_nothing, asks_too_late, timed_out, is_silent}
 use Rattle.radio_core.specs.World.{World, standing_of, standing_in}
 use Rattle.radio_core.proofs.ApartLemmas.{kept_apart, found_own, shorter}

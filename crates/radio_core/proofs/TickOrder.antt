@@ -1,6 +1,6 @@
 -- who is ended at a moment, by which rule
 use Rattle.std.proofs.Common.{◌≡◌, true, false, Bool, ℕ, Option, Some, None, List, refl, ap, sym, subst, ◌∙◌}
-use Rattle.std.specs.Prelude.{nat_lt, if◌then◌else◌}
+use Rattle.std.specs.Prelude.{if◌then◌else◌}
 use Rattle.std.specs.Option.{option_map}
 use Rattle.radio_policy.specs.declared.rule.Rule.{Rule}
 use Rattle.radio_policy.specs.declared.rule.Rule.TheVariants.{HeaderTimeout, TimeOver, SourceSilent, NotLive}

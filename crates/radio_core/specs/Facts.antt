@@ -22,7 +22,7 @@ use Rattle.radio_events.specs.declared.event.SourceRequest.{SourceRequest}
 use Rattle.radio_events.specs.declared.event.ListenRequest.{ListenRequest}
 use Rattle.radio_core.specs.declared.house.House.{House}
 use Rattle.radio_core.specs.Stream.{end_of}
-use Rattle.radio_core.specs.Sessions.{Session, session_of}
+use Rattle.radio_core.specs.Sessions.{session_of}
 use Rattle.radio_core.specs.World.{World}
 
 -- the largest number that a client's number or a place in a stream can be

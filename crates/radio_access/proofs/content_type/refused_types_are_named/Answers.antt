@@ -1,4 +1,4 @@
-use Rattle.std.proofs.Common.{◌≡◌, true, false, ℕ, List, [], ◌∷◌, refl}
+use Rattle.std.proofs.Common.{◌≡◌, true, false, refl}
 use Rattle.radio_tables.specs.Lists.{Each}
 use Rattle.radio_texts.specs.Blanks.{without_blanks}
 use Rattle.radio_access.specs.ContentTypes.{is_refused_type}

@@ -1,10 +1,8 @@
-use Rattle.std.proofs.Common.{◌≡◌, true, ℕ, List, Option, Some, refl, ap, sym, subst, ◌∙◌}
+use Rattle.std.proofs.Common.{◌≡◌, true, ℕ, List, Some, refl, ap, sym, subst, ◌∙◌}
 use Rattle.radio_addr.specs.declared.peer.Peer.{Peer}
-use Rattle.radio_creds.specs.Credentials.{Credentials}
 use Rattle.radio_policy.specs.declared.facts.ListenFacts.{ListenFacts}
 use Rattle.radio_policy.specs.declared.judgement.Verdict.{Verdict}
 use Rattle.radio_policy.specs.declared.judgement.Verdict.TheVariants.{Allow, Deny as Denied}
-use Rattle.radio_policy.specs.declared.rule.Rule.{Rule}
 use Rattle.radio_policy.specs.Table.{listen_rows}
 use Rattle.radio_policy.specs.Verdicts.{verdict_in}
 use Rattle.radio_settings.specs.MountName.{is_mount_name}
@@ -12,12 +10,11 @@ use Rattle.radio_events.specs.declared.event.ListenRequest.{ListenRequest}
 use Rattle.radio_core.specs.declared.outcome.Change.{Change}
 use Rattle.radio_core.specs.declared.outcome.Change.TheVariants.{Answer}
 use Rattle.radio_core.specs.declared.outcome.Outcome.{Outcome}
-use Rattle.radio_events.specs.declared.reply.Reply.TheVariants.{Deny}
 use Rattle.radio_core.specs.declared.standing.Standing.{Standing}
 use Rattle.radio_core.specs.declared.standing.Standing.TheVariants.{Undecided}
 use Rattle.radio_core.specs.Facts.{listen_facts_at, rows_to_listen}
 use Rattle.radio_core.specs.Listen.{takes_seat}
-use Rattle.radio_core.specs.Outcomes.{says, on_verdict, if_undecided}
+use Rattle.radio_core.specs.Outcomes.{on_verdict, if_undecided}
 use Rattle.radio_core.specs.Sessions.{session_of}
 use Rattle.radio_core.specs.World.{World, standing_of}
 use Rattle.radio_core.proofs.server.state.State.may_listen.Goals as goal
