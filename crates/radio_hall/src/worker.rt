@@ -6,9 +6,9 @@ ghost use Rattle.radio_core.specs.declared.reply.Reply.{Reply};
 ghost use Rattle.radio_hall.specs.Turns.{Ticks, IsTurn};
 ghost use Rattle.radio_hall.specs.Admission.{IsAdmission, IsTakenIn};
 
+use crate::serving::Now;
 use crate::serving::leaving::apply_quietly;
 use crate::serving::round::serve_each;
-use crate::serving::Now;
 use crate::{Conn, Gate, Line, OutOfMemory, Server, Turn};
 use radio_addr::Peer;
 use radio_core::Event;
