@@ -1,5 +1,6 @@
 -- Connections, as their worker sees them.
-use Rattle.std.specs.Prelude.{◌≡◌, ℕ, Bool, true, false, not, List, []}
+use Rattle.std.specs.Prelude.{◌≡◌, ℕ, Bool, true, false, not, ◌&&◌, Option, Some, None, List, []}
+use Rattle.std.specs.List.{position, remove}
 use Rattle.radio_addr.specs.declared.peer.Peer.{Peer}
 use Rattle.radio_events.specs.declared.reply.Reply.{Reply}
 use Rattle.radio_session.specs.Conversation.{Conversation, fresh, asking}
@@ -43,6 +44,18 @@ stays_with fate has_left = true
 
 abbrev pub stays : Connection → Bool
 stays c = stays_with c.status.fate c.status.has_left
+
+-- nothing more is written on it, its client has left or was none, and it is kept only until its peer has closed
+abbrev pub lingers : Connection → Bool
+lingers c = c.status.is_finished && c.status.has_left
+
+abbrev pub without_at : Option ℕ → List Connection → List Connection
+without_at None cs = cs
+without_at (Some i) cs = remove cs i
+
+-- without the first of those who linger
+abbrev pub without_first : List Connection → List Connection
+without_first cs = without_at (position lingers cs) cs
 
 -- one was not let in, and is owed what he is told; his line gave and took this
 pub record IsTurnedAway (denial : Reply) (given taken : List ℕ) (ms : ℕ) (c : Connection) : Type 0 where

@@ -109,7 +109,7 @@ impl<L: Line> Model for Conn<L> {
 }
 
 impl<L: Line> Conn<L> {
-    ghost use Rattle.radio_hall.specs.Connections.{newly_come, stays, IsTurnedAway};
+    ghost use Rattle.radio_hall.specs.Connections.{newly_come, stays, lingers, IsTurnedAway};
     ghost use Rattle.radio_hall.specs.Admission.{IsTakenIn};
 
     /// The connection of a client who was let in under this number.
@@ -174,6 +174,14 @@ impl<L: Line> Conn<L> {
             Fate::Open | Fate::Ended => true,
             Fate::Closed | Fate::Cut => !self.status.has_left,
         }
+    }
+
+    /// Whether nothing more is written on it, its client has left or was none, and it is kept only
+    /// until its peer has closed.
+    pub(crate) fn lingers(&self) -> bool
+        ensures { result ≡ lingers self.now }
+    {
+        self.status.is_finished && self.status.has_left
     }
 
     /// The number of its client; 0 where it is nobody's.

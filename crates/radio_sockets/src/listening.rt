@@ -6,7 +6,9 @@ use crate::entrance::next_of;
 use crate::line::SocketLine;
 use crate::served::ServedTime;
 use crate::sockets::{Sockets, moment};
-use radio_hall::{Conn, OpenGate, Server, Turn, Watched, Worker};
+use radio_hall::{
+    Conn, OpenGate, Server, Turn, Watched, Worker, close_first_lingering, count_lingering,
+};
 use std::alloc::Global;
 use std::io;
 use std::net::{Net, SocketAddr};
@@ -27,6 +29,8 @@ pub struct Listening {
     sockets: Sockets,
     accepts: Accepts,
     time: ServedTime,
+    /// So many connections may linger; the oldest goes first.
+    most_lingering: usize,
     /// Whether listeners may have news.
     news: bool,
     /// Whether somebody has drawn all that he had room for.
@@ -50,6 +54,7 @@ impl Listening {
             sockets,
             accepts: Accepts::new(),
             time: ServedTime::new(0),
+            most_lingering: usize::MAX,
             news: false,
             has_more: false,
         })
@@ -60,13 +65,16 @@ impl Listening {
         self.sockets.address()
     }
 
-    /// Accepts and serves connections, turn after turn, until a fault.
+    /// Accepts and serves connections, turn after turn, until a fault. So many may linger, whose
+    /// conversation has ended and whose peer has not closed: of more, the oldest are closed.
     pub fn serve<C: Clock, W: Wait, S: Server + Drop>(
         mut self,
         clock: &C,
         waits: &W,
         worker: &mut Worker<Watched<S>>,
+        most_lingering: usize,
     ) -> ServeFault {
+        self.most_lingering = most_lingering;
         let mut conns = Vec::new(self.alloc);
         self.time = ServedTime::new(moment(clock));
         let fault = self.serve_turns(clock, waits, worker, &mut conns);
@@ -109,6 +117,7 @@ impl Listening {
             news: self.news,
         };
         worker.serve_turn(conns, &OpenGate, turn);
+        self.close_oldest(conns);
         self.news = worker.server().take_news();
         self.has_more = worker.server().take_more();
         if conns.len() < before {
@@ -123,6 +132,14 @@ impl Listening {
             0
         } else {
             WAIT_MS
+        }
+    }
+
+    /// Closes the oldest of those who linger, if they are too many.
+    fn close_oldest(&self, conns: &mut Vec<Conn<SocketLine>>) {
+        let count = count_lingering(conns.as_slice());
+        for _ in self.most_lingering..count {
+            close_first_lingering(conns);
         }
     }
 

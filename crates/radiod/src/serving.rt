@@ -66,9 +66,9 @@ fn serve_in<W: Wait, H: House>(
     requires opening { H.opening ≡ opening settings lists }
     requires ledger { (blank.name ≡ H.name) × (blank.parts ≡ H.parts) × (blank.parts ≡ 2 ^ 32) }
 {
-    let patience = patience_of(&settings);
+    let bounds = bounds_of(&settings);
     let hall: Hall<Unkept, H> = Hall::new(rt.alloc(), settings, lists, blank);
-    let fault = serve_through(rt, waits, &hall, listening, patience);
+    let fault = serve_through(rt, waits, &hall, listening, bounds);
     drop(hall);
     fault
 }
@@ -79,13 +79,13 @@ fn serve_through<'a, W: Wait, H: House>(
     waits: &'a W,
     hall: &'a Hall<Unkept, H>,
     listening: Listening,
-    patience: u32,
+    bounds: Bounds,
 ) -> ServeFault {
     match hall.pass(waits) {
         Some(pass) => {
             let server = Watched::new(rt.alloc(), Caller::new(waits, hall, pass));
-            let mut worker = Worker::new(rt.alloc(), server, patience);
-            let fault = listening.serve(rt, waits, &mut worker);
+            let mut worker = Worker::new(rt.alloc(), server, bounds.patience_s);
+            let fault = listening.serve(rt, waits, &mut worker, bounds.most_lingering);
             drop(worker);
             fault
         }
@@ -93,7 +93,18 @@ fn serve_through<'a, W: Wait, H: House>(
     }
 }
 
-/// For how many seconds a connection may take nothing of what waits for it.
-fn patience_of(settings: &Settings) -> u32 {
-    settings.limits.source_timeout.get()
+/// What the settings say of all connections.
+#[derive(Clone, Copy)]
+struct Bounds {
+    /// For how many seconds a connection may take nothing of what waits for it.
+    patience_s: u32,
+    /// How many may linger, whose conversation has ended: as many as may be clients.
+    most_lingering: usize,
+}
+
+fn bounds_of(settings: &Settings) -> Bounds {
+    Bounds {
+        patience_s: settings.limits.source_timeout.get(),
+        most_lingering: settings.limits.clients.get() as usize,
+    }
 }
