@@ -58,10 +58,7 @@ fn mounts_in_question(
     Ok(mounts)
 }
 
-fn add_relays(
-    mounts: &mut BTreeSet<MountName>,
-    relays: &[RelaySetting],
-) -> Result<(), OutOfMemory>
+fn add_relays(mounts: &mut BTreeSet<MountName>, relays: &[RelaySetting]) -> Result<(), OutOfMemory>
     ensures { OnOk result (mounts.new.keys ≡ with_all mounts.old.keys (local_mounts relays.now)) }
 {
     for relay in relays {

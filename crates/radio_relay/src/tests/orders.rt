@@ -27,7 +27,11 @@ const PLANS: &[(&[u8], &[u8], &[u8])] = &[
     (b"/a\r\n/b\n/a\nx\n", b"/c\n/r", b"+/a=m:/a "),
     (b"", b"/a\n/c\n/r", b"-/a "),
     (b"/z\n/r\n/c\n", b"", b"+/c=s:/c +/r=s:/far +/z=m:/z "),
-    (b"/z\r\n/a\r", b"/b\n/z", b"+/a=m:/a -/b +/c=s:/c +/r=s:/far "),
+    (
+        b"/z\r\n/a\r",
+        b"/b\n/z",
+        b"+/a=m:/a -/b +/c=s:/c +/r=s:/far ",
+    ),
     (b"\n\r\n /a\n/a b\n/admin/x\n", b"/c\n/r", b"+/a b=m:/a b "),
 ];
 
@@ -81,7 +85,10 @@ fn is_ordered(
 fn plans(rt: HostRuntime) -> Result<(), OutOfMemory> {
     let station = settings(rt.alloc(), STATION)?;
     for (list, live, want) in PLANS {
-        assert!(rt; is_ordered(rt.alloc(), &station, (list, live), want)?, "{list:?}");
+        assert!(rt;
+            is_ordered(rt.alloc(), &station, (list, live), want)?,
+            "{list:?}"
+        );
     }
     Ok(())
 }

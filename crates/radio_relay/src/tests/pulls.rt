@@ -138,7 +138,10 @@ fn is_told_however_cut(
 #[test]
 fn answers_cut_at_each_byte(rt: HostRuntime) -> Result<(), OutOfMemory> {
     for (answer, want, fault) in ANSWERS {
-        assert!(rt; is_told_however_cut(rt.alloc(), answer, want, *fault)?, "{answer:?}");
+        assert!(rt;
+            is_told_however_cut(rt.alloc(), answer, want, *fault)?,
+            "{answer:?}"
+        );
     }
     Ok(())
 }
@@ -157,12 +160,7 @@ const COUNTS: &[(&[u8], &[u8], usize)] = &[
     (b"HTTP/1.0 200 OK\r\n\r\n", b"", 1),
 ];
 
-fn has_count(
-    alloc: Global,
-    head: &[u8],
-    stream: &[u8],
-    want: usize,
-) -> Result<bool, OutOfMemory> {
+fn has_count(alloc: Global, head: &[u8], stream: &[u8], want: usize) -> Result<bool, OutOfMemory> {
     let mut answer = Vec::from_slice(alloc, head)?;
     answer.extend_from_slice(stream)?;
     match Pull::new(alloc).feed(answer.as_slice()) {
