@@ -1,14 +1,11 @@
 -- The sound and the titles that are pulled in.
-use Rattle.std.proofs.Common.{◌≡◌, ℕ, List, [], ◌∷◌, ◌++◌, map, ap, sym, ◌∙◌, refl, subst, Option, None, Some, Result, Ok}
-use Rattle.radio_heads.specs.Response.{ResponseParts}
+use Rattle.std.proofs.Common.{◌≡◌, ℕ, List, [], ◌∷◌, ◌++◌, map, ap, ◌∙◌, refl, Option, None, Some}
 use Rattle.radio_icy.specs.Bare.{bare, block_texts, sound_in as sound_heard, texts_in}
 use Rattle.radio_icy.specs.Cleaning.{cleaned}
 use Rattle.radio_icy.specs.Limits.{max_title}
 use Rattle.radio_icy.specs.Titles.{title_of}
 use Rattle.radio_icy.specs.Unweaving.{Atom, SoundByte, WholeText, new_unweaving, heard}
-use Rattle.radio_relay.specs.declared.fault.PullFault.{PullFault}
-use Rattle.radio_relay.specs.Answer.{interval_in}
-use Rattle.radio_relay.specs.Pulled.{Part, ShownPart, SoundPart, TitlePart, title_parts, parts_heard, pulled_by_interval, answer_pulled}
+use Rattle.radio_relay.specs.Pulled.{Part, SoundPart, title_parts, parts_heard}
 use Rattle.radio_relay.specs.Laws.{sound_in, titles_in, titles_of_texts, PlainIsSound, WovenIsBare}
 
 -- plain sound
@@ -25,8 +22,8 @@ title-sound : (title : Option (List ℕ)) (parts : List Part) → sound_in (titl
 title-sound None parts = refl
 title-sound (Some title) parts = refl
 
-title-titles : (texts : List (List ℕ)) (text : List ℕ) (title : Option (List ℕ)) (parts : List Part) → title_of text ≡ title → titles_in parts ≡ titles_of_texts texts
-    → titles_in (title_parts title ++ parts) ≡ titles_of_texts (text ∷ texts)
+title-titles : (texts : List (List ℕ)) (text : List ℕ) (title : Option (List ℕ)) (parts : List Part) → title_of text ≡ title
+    → titles_in parts ≡ titles_of_texts texts → titles_in (title_parts title ++ parts) ≡ titles_of_texts (text ∷ texts)
 title-titles texts text None parts is same = rw is same
 title-titles texts text (Some title) parts is same = rw is (ap (λ (titles : List (List ℕ)). cleaned max_title title ∷ titles) same)
 

@@ -1,5 +1,6 @@
 -- However an answer is cut, the same is pulled in.
-use Rattle.std.proofs.Common.{◌≡◌, ◌<◌, ℕ, List, [], ◌∷◌, ◌++◌, drop, map, length, ap, sym, ◌∙◌, refl, subst, inl, inr, Option, Result, Ok, Err, IsErr, append_assoc, append-nil, arith}
+use Rattle.std.proofs.Common.{◌≡◌, ℕ, List, [], ◌∷◌, ◌++◌, drop, ap, sym}
+use Rattle.std.proofs.Common.{◌∙◌, refl, subst, inl, inr, Option, Result, Ok, Err, IsErr, append_assoc, append-nil, arith}
 use Rattle.std.proofs.lemmas.Grind.{flat_map-append}
 use Rattle.std.proofs.lemmas.List.{drop-append-le, map-append}
 use Rattle.std.specs.List.{concat}
@@ -17,7 +18,8 @@ use Rattle.radio_relay.specs.declared.stream.Stream.{Stream}
 use Rattle.radio_relay.specs.declared.stream.Stream.TheVariants.{Plain, Woven}
 use Rattle.radio_relay.specs.Answer.{interval_in, shown_by}
 use Rattle.radio_relay.specs.Pulled.{Part, ShownPart, SoundPart, parts_of_atom, parts_heard, stream_parts, after_bytes, stream_with}
-use Rattle.radio_relay.specs.Pulled.{Standing, GoesOn, Stops, Pulled, goes_on, stops, stream_pulled, pulled_by_interval, answer_pulled, pulled_as, IsPulled, IsPulledAt}
+use Rattle.radio_relay.specs.Pulled.{Standing, GoesOn, Stops, Pulled, goes_on}
+use Rattle.radio_relay.specs.Pulled.{stream_pulled, pulled_by_interval, answer_pulled, pulled_as, IsPulled, IsPulledAt}
 use Rattle.radio_relay.specs.Cuts.{behind, Continues, IsPulledIn, CutsDoNotMatter, PullingIsOne}
 
 -- two faults pull in the same

@@ -10,7 +10,7 @@ use Rattle.radio_relay.specs.declared.items.PullItem.TheVariants.{Sound}
 use Rattle.radio_relay.specs.declared.pull.Stage.{Stage}
 use Rattle.radio_relay.specs.declared.pull.Stage.TheVariants.{Head, Behind}
 use Rattle.radio_relay.specs.declared.stream.Stream.{Stream}
-use Rattle.radio_relay.specs.Pulled.{goes_on, pulled_as, stream_pulled, stream_parts, after_bytes}
+use Rattle.radio_relay.specs.Pulled.{goes_on, stream_pulled, stream_parts, after_bytes}
 use Rattle.radio_relay.specs.Items.{Gathered, nothing_gathered, all_items, with_parts, items_of, IsAnswered}
 
 -- no parts are no items

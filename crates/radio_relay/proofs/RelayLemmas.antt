@@ -1,5 +1,6 @@
 -- What this server sends to a listener, pulled in by another.
-use Rattle.std.proofs.Common.{◌≡◌, ℕ, zero, suc, ◌+◌, ◌%◌, ◌<◌, ◌≤◌, ◌^◌, Bool, true, false, not, ◌&&◌, leb, ltb, eqb, if◌then◌else◌, List, [], ◌∷◌, ◌++◌, length, drop, map, reverse, ap, sym, ◌∙◌, refl, subst, arith, Option, None, Some, Result, Ok, Err}
+use Rattle.std.proofs.Common.{◌≡◌, ℕ, zero, suc, ◌+◌, ◌%◌, ◌<◌, ◌≤◌, ◌^◌, Bool, true, false, not, ◌&&◌, leb, if◌then◌else◌, List}
+use Rattle.std.proofs.Common.{[], ◌∷◌, ◌++◌, length, map, reverse, ap, sym, ◌∙◌, refl, subst, arith, Option, None, Some, Ok, Err}
 use Rattle.std.specs.Prelude.{codes, decimal, is_some, IfSome}
 use Rattle.std.proofs.lemmas.Bool.{lt-ltb, le-leb, leb-true, and_from, and_parts, cond-false, not-true}
 use Rattle.std.proofs.lemmas.Bool.Decides.{nat_tests}
@@ -25,11 +26,10 @@ use Rattle.radio_icy.specs.Titles.{title_of, HasNoUrlInside}
 use Rattle.radio_icy.specs.Unweaving.{new_unweaving, heard}
 use Rattle.radio_icy.specs.Weaving.{Call}
 use Rattle.radio_texts.specs.Numbers.{number_of}
-use Rattle.radio_relay.specs.declared.fault.PullFault.{PullFault}
 use Rattle.radio_relay.specs.declared.fault.PullFault.TheVariants.{BadHead}
 use Rattle.radio_relay.specs.Answer.{interval_in, interval_of, interval_told, max_interval}
 use Rattle.radio_relay.specs.Pulled.{Pulled, answer_pulled}
-use Rattle.radio_relay.specs.Laws.{sound_in, titles_in, titles_of_texts, IsRelayable, AreRelayable, RelaysLoseNothing}
+use Rattle.radio_relay.specs.Laws.{sound_in, titles_in, titles_of_texts, AreRelayable, RelaysLoseNothing}
 use Rattle.radio_relay.proofs.BareLemmas.{woven_is_bare}
 use Rattle.radio_relay.proofs.CutLemmas.{readings-alike}
 

@@ -1,4 +1,4 @@
-use Rattle.std.proofs.Common.{◌≡◌, ℕ, List, ◌++◌, ap, sym, ◌∙◌}
+use Rattle.std.proofs.Common.{List, ◌++◌, ap, sym, ◌∙◌}
 use Rattle.std.specs.List.{flat_map}
 use Rattle.radio_relay.specs.declared.orders.RelayOrder.{RelayOrder}
 use Rattle.radio_relay.specs.Orders.{orders, order_at}

@@ -1,4 +1,4 @@
-use Rattle.std.proofs.Common.{◌≡◌, ℕ, List, [], ◌∷◌, map, ap, arith, sym, ◌∙◌}
+use Rattle.std.proofs.Common.{ℕ, List, map, ap, arith, sym, ◌∙◌}
 use Rattle.radio_texts.specs.Lines.{without_return}
 use Rattle.radio_relay.specs.StreamList.{names_listed, with_names, lines_of}
 use Rattle.radio_relay.proofs.stream_list.read_stream_list.Goals as goal
