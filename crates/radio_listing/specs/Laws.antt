@@ -1,5 +1,5 @@
 -- What listings show, and to whom.
-use Rattle.std.specs.Prelude.{◌≡◌, ℕ, false, List, [], ◌∷◌, map, Contains, codes, Option, None, Some}
+use Rattle.std.specs.Prelude.{◌≡◌, ℕ, List, [], ◌∷◌, map, filter, not, codes, Option, None, Some}
 use Rattle.std.specs.Option.{option_and_then, option_map}
 use Rattle.std.specs.Str.Lossy.{utf8_lossy}
 use Rattle.serde_json.specs.Data.{Data, Items, no_items, item}
@@ -16,12 +16,9 @@ pub record LookAlike (rows others : List MountRow) : Type 0 where
   pub streams : stream_text rows ≡ stream_text others
   pub icecast : (server : Server) → icecast_text server rows ≡ icecast_text server others
 
--- some row that is not hidden shows this
-pub record IsShownBy (rows : List MountRow) (shown : PublicRow) : Type 0 where
-  pub row : MountRow
-  pub there : Contains rows row
-  pub visible : row.hidden ≡ false
-  pub same : row.public ≡ shown
+-- what the rows that are not hidden show, in their order
+abbrev pub not_hidden : List MountRow → List PublicRow
+not_hidden rows = map (λ row. row.public) (filter (λ row. not row.hidden) rows)
 
 -- the mounts that some JSON names: the member `mount` of each item
 abbrev pub names_of : Items → List (Option (List ℕ))

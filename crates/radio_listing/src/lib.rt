@@ -15,6 +15,8 @@ pub mod laws;
 mod listener_listing;
 mod public_listings;
 mod rows;
+#[cfg(test)]
+mod tests;
 mod text;
 
 pub use admin_listings::{list_mounts, stats};

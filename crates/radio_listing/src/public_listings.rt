@@ -77,13 +77,13 @@ pub fn stream_list(alloc: Global, rows: &[MountRow<'_>]) -> Result<Vec<u8>, OutO
     Ok(bytes)
 }
 
-fn push_line(bytes: &mut Vec<u8>, row: &MountRow<'_>) -> Result<(), OutOfMemory>
-    ensures { OnOk result (bytes.new.items ≡ bytes.old.items ++ (if row.now.hidden then [] else stream_line row.now.public)) }
+fn push_line(bytes: &mut Vec<u8>, mount: &MountRow<'_>) -> Result<(), OutOfMemory>
+    ensures { OnOk result (bytes.new.items ≡ bytes.old.items ++ (if mount.now.hidden then [] else stream_line mount.now.public)) }
 {
-    if row.hidden {
+    if mount.hidden {
         return Ok(());
     }
-    bytes.extend_from_slice(row.public.mount.as_bytes())?;
+    bytes.extend_from_slice(mount.public.mount.as_bytes())?;
     bytes.extend_from_slice(b"\r\n")?;
     Ok(())
 }
