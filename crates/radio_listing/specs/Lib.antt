@@ -1,0 +1,6 @@
+pub mod Json
+pub mod Public
+pub mod Admin
+pub mod Listeners
+pub mod Icecast
+pub mod Laws

@@ -1,0 +1,107 @@
+//! What Icecast 2.4 answers at `/status-json.xsl`, for players' widgets and exporters that read it.
+ghost use Rattle.std.specs.Prelude.{◌≡◌, ◌++◌, [], ◌∷◌, Some, map, if◌then◌else◌, IfOk, OnOk};
+ghost use Rattle.std.specs.Str.Lossy.{utf8_lossy};
+ghost use Rattle.std.specs.String.{string_bytes};
+ghost use Rattle.serde_json.specs.Read.{read};
+ghost use Rattle.serde_json.specs.View.{view};
+ghost use Rattle.radio_listing.specs.Icecast.{icecast_data, icecast_text, one_or_list, source_data};
+ghost use Rattle.radio_listing.specs.Public.{rows_shown};
+
+use crate::{MountRow, OutOfMemory, PublicRow, Server, Text};
+use serde_json::{Value, json};
+use std::alloc::Global;
+
+/// What Icecast 2.4 answers: `{"icestats":{"server_id":..,"source":..}}`, each live mount that is not hidden as
+/// `{"genre":..,"listeners":N,"listenurl":..,"server_name":..,"server_type":..,"title":..}`. The source is one such object
+/// for one mount, a list for several, and an empty list for none. It is compact JSON (RFC 8259), with no line end.
+///
+/// Where nothing is on air Icecast itself leaves `source` out, or writes a lone object that says nothing.
+#[tactic(auto, using(crate::proofs::IcecastLemmas::icecast_quiet, crate::proofs::IcecastLemmas::icecast_shallow),
+    unfolding(crate::specs::Icecast::icecast_text))]
+pub fn icecast_status(
+    alloc: Global,
+    server: &Server<'_>,
+    rows: &[MountRow<'_>],
+) -> Result<Vec<u8>, OutOfMemory>
+    ensures text { IfOk result (λ bytes. bytes.items ≡ icecast_text server.now rows.now) }
+    ensures reads_back { IfOk result (λ bytes. read bytes.items ≡ Some (icecast_data server.now rows.now)) }
+{
+    let value = icecast_value(alloc, server, rows)?;
+    value.to_vec(alloc)
+}
+
+fn icecast_value(
+    alloc: Global,
+    server: &Server<'_>,
+    rows: &[MountRow<'_>],
+) -> Result<Value, OutOfMemory>
+    ensures { IfOk result (λ value. view value ≡ icecast_data server.now rows.now) }
+{
+    let source = one_or_list(sources(alloc, &server.base_url, rows)?);
+    let name = server.name.shown(alloc)?;
+    json!(in alloc; {"icestats": {"server_id": name, "source": source}})
+}
+
+/// One value alone, and none or several as a list.
+fn one_or_list(values: Vec<Value>) -> Value
+    ensures { view result ≡ one_or_list (map view values.items) }
+{
+    let mut values = values;
+    if values.len() == 1 {
+        return values.remove(0);
+    }
+    Value::Array(values)
+}
+
+fn sources(alloc: Global, base: &Text<'_>, rows: &[MountRow<'_>]) -> Result<Vec<Value>, OutOfMemory>
+    ensures { IfOk result (λ values. map view values.items ≡ map (source_data base.now) (rows_shown rows.now)) }
+{
+    let mut values = Vec::new(alloc);
+    for row in rows {
+        push_source(alloc, &mut values, base, row)?;
+    }
+    Ok(values)
+}
+
+/// Appends a mount as everybody sees it: nothing where it is hidden.
+fn push_source(
+    alloc: Global,
+    values: &mut Vec<Value>,
+    base: &Text<'_>,
+    row: &MountRow<'_>,
+) -> Result<(), OutOfMemory>
+    ensures { OnOk result (map view values.new.items
+        ≡ map view values.old.items ++ (if row.now.hidden then [] else source_data base.now row.now.public ∷ [])) }
+{
+    if row.hidden {
+        return Ok(());
+    }
+    let value = source_value(alloc, base, &row.public)?;
+    values.push(value)?;
+    Ok(())
+}
+
+fn source_value(alloc: Global, base: &Text<'_>, row: &PublicRow<'_>) -> Result<Value, OutOfMemory>
+    ensures { IfOk result (λ value. view value ≡ source_data base.now row.now) }
+{
+    let genre = row.genre.shown(alloc)?;
+    let name = row.name.shown(alloc)?;
+    let title = row.title.shown(alloc)?;
+    let content_type = row.content_type.shown(alloc)?;
+    let listeners = row.listeners;
+    let url = shown_url(alloc, base, &row.mount)?;
+    json!(in alloc; {
+        "genre": genre, "listeners": listeners, "listenurl": url,
+        "server_name": name, "server_type": content_type, "title": title
+    })
+}
+
+/// The base URL with the mount's name behind it.
+fn shown_url(alloc: Global, base: &Text<'_>, mount: &Text<'_>) -> Result<String, OutOfMemory>
+    ensures { IfOk result (λ url. string_bytes url ≡ utf8_lossy (base.now ++ mount.now)) }
+{
+    let mut bytes = Vec::new(alloc);
+    bytes.extend_from_slice(base.as_bytes())?;
+    bytes.extend_from_slice(mount.as_bytes())?;
+    String::from_utf8_lossy(alloc, &bytes)
+}

@@ -1,0 +1,58 @@
+//! What listings are written from.
+
+use crate::Text;
+use radio_addr::Peer;
+
+/// What everybody may see of a live mount.
+#[derive(Drop)]
+pub struct PublicRow<'a> {
+    /// The name of the mount.
+    pub mount: Text<'a>,
+    /// The stream's name, empty where it has none.
+    pub name: Text<'a>,
+    /// The stream's genre, empty where it has none.
+    pub genre: Text<'a>,
+    /// The stream's media type.
+    pub content_type: Text<'a>,
+    /// The title that plays, empty where there is none.
+    pub title: Text<'a>,
+    /// How many listen at the mount.
+    pub listeners: u64,
+}
+
+/// A live mount.
+#[derive(Drop)]
+pub struct MountRow<'a> {
+    /// What everybody may see of it, unless it is hidden.
+    pub public: PublicRow<'a>,
+    /// Whether it is left out of what everybody and relays see.
+    pub hidden: bool,
+    /// The number of the session that feeds it.
+    pub session: u64,
+    /// The mount that its listeners fall back to; `None` where there is none.
+    pub fallback: Option<Text<'a>>,
+}
+
+/// A listener at a mount.
+#[derive(Drop)]
+pub struct ListenerRow<'a> {
+    /// The mount that he asked for.
+    pub home: Text<'a>,
+    /// His number.
+    pub id: u64,
+    /// The address that he listens from.
+    pub peer: Peer,
+    /// How many whole seconds he has sat.
+    pub seconds: u64,
+    /// The user of the pair that he sent; `None` where he sent none.
+    pub user: Option<Text<'a>>,
+}
+
+/// The server, as it tells of itself.
+#[derive(Drop)]
+pub struct Server<'a> {
+    /// The name of the program.
+    pub name: Text<'a>,
+    /// What stands before a mount's name in its URL, as `http://radio.example:8000`.
+    pub base_url: Text<'a>,
+}
