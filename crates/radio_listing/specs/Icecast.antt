@@ -26,11 +26,13 @@ one_or_list (value ∷ []) = value
 one_or_list (value ∷ next ∷ values) = list (value ∷ next ∷ values)
 
 abbrev pub icecast_data : Server → List MountRow → Data
-icecast_data server rows = fields (
-    (codes "icestats", fields (
-        (codes "server_id", text server.name)
-        ∷ (codes "source", one_or_list (map (source_data server.base_url) (rows_shown rows)))
-        ∷ []))
+icecast_data server rows = fields ((
+  codes "icestats",
+  fields (
+      (codes "server_id", text server.name)
+      ∷ (codes "source", one_or_list (map (source_data server.base_url) (rows_shown rows)))
+      ∷ []),
+)
     ∷ [])
 
 unfoldable pub icecast_text : Server → List MountRow → List ℕ

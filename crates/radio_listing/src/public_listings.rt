@@ -11,8 +11,7 @@ use std::alloc::Global;
 /// The listing for everybody: `{"mounts":[..]}`, each live mount that is not hidden as
 /// `{"genre":..,"listeners":N,"mount":..,"name":..,"title":..,"type":..}`. It is compact JSON (RFC 8259), with no line
 /// end behind it.
-#[tactic(auto, using(crate::proofs::PublicLemmas::status_quiet, crate::proofs::PublicLemmas::status_shallow),
-    unfolding(crate::specs::Public::status_text))]
+#[tactic(auto, using(crate::proofs::PublicLemmas::status_quiet, crate::proofs::PublicLemmas::status_shallow), unfolding(crate::specs::Public::status_text))]
 pub fn status(alloc: Global, rows: &[MountRow<'_>]) -> Result<Vec<u8>, OutOfMemory>
     ensures text { IfOk result (λ bytes. bytes.items ≡ status_text rows.now) }
     ensures reads_back { IfOk result (λ bytes. read bytes.items ≡ Some (status_data rows.now)) }

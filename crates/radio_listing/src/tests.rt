@@ -1,7 +1,9 @@
 //! What no clause says: that calls with ample memory succeed, and what they write of worked rows.
 
-use crate::{ListenerRow, MountRow, PublicRow, Server, Text};
-use crate::{icecast_status, list_clients, list_mounts, stats, status, stream_list};
+use crate::{
+    ListenerRow, MountRow, PublicRow, Server, Text, icecast_status, list_clients, list_mounts,
+    stats, status, stream_list,
+};
 use radio_addr::Peer;
 use std::test::Fail;
 
@@ -14,18 +16,25 @@ fn mount<'a>(name: &'a [u8], title: &'a [u8], hidden: bool) -> MountRow<'a> {
         title: Text::of(title),
         listeners: 1,
     };
-    MountRow { public, hidden, session: 1, fallback: None }
+    MountRow {
+        public,
+        hidden,
+        session: 1,
+        fallback: None,
+    }
 }
 
 #[test]
 fn public_listings_are_written(rt: HostRuntime) -> Result<(), Fail> {
     let rows = [mount(b"/a", b"X", false), mount(b"/h", b"", true)];
-    let want = br#"{"mounts":[{"genre":"","listeners":1,"mount":"/a","name":"","title":"X","type":"audio/mpeg"}]}"#;
+    let want =
+        br#"{"mounts":[{"genre":"","listeners":1,"mount":"/a","name":"","title":"X","type":"audio/mpeg"}]}"#;
     assert!(rt; status(rt.alloc(), &rows)?.as_slice() == want.as_slice());
     assert!(rt; stream_list(rt.alloc(), &rows)?.as_slice() == b"/a\r\n".as_slice());
     assert!(rt; status(rt.alloc(), &[])?.as_slice() == br#"{"mounts":[]}"#.as_slice());
     let odd = [mount(b"/b", b"\"\\\t\xe2\x80\xa8\xe2\x80", false)];
-    let want = b"{\"mounts\":[{\"genre\":\"\",\"listeners\":1,\"mount\":\"/b\",\"name\":\"\",\"title\":\"\\\"\\\\\\t\xe2\x80\xa8\xef\xbf\xbd\",\"type\":\"audio/mpeg\"}]}";
+    let want =
+        b"{\"mounts\":[{\"genre\":\"\",\"listeners\":1,\"mount\":\"/b\",\"name\":\"\",\"title\":\"\\\"\\\\\\t\xe2\x80\xa8\xef\xbf\xbd\",\"type\":\"audio/mpeg\"}]}";
     assert!(rt; status(rt.alloc(), &odd)?.as_slice() == want.as_slice());
     Ok(())
 }
@@ -33,7 +42,8 @@ fn public_listings_are_written(rt: HostRuntime) -> Result<(), Fail> {
 #[test]
 fn admin_listings_are_written(rt: HostRuntime) -> Result<(), Fail> {
     let rows = [mount(b"/h", b"", true)];
-    let want = br#"{"clients":2,"listeners":1,"mounts":[{"genre":"","hidden":true,"listeners":1,"mount":"/h","name":"","session":1,"title":"","type":"audio/mpeg"}],"sources":1}"#;
+    let want =
+        br#"{"clients":2,"listeners":1,"mounts":[{"genre":"","hidden":true,"listeners":1,"mount":"/h","name":"","session":1,"title":"","type":"audio/mpeg"}],"sources":1}"#;
     assert!(rt; stats(rt.alloc(), 2, &rows)?.as_slice() == want.as_slice());
     let want = br#"{"mounts":[{"fallback":"","hidden":true,"listeners":1,"mount":"/h"}]}"#;
     assert!(rt; list_mounts(rt.alloc(), &rows)?.as_slice() == want.as_slice());
@@ -42,20 +52,39 @@ fn admin_listings_are_written(rt: HostRuntime) -> Result<(), Fail> {
 
 #[test]
 fn listeners_are_written(rt: HostRuntime) -> Result<(), Fail> {
-    let quad = ListenerRow { home: Text::of(b"/a"), id: 3, peer: Peer::of_v4(0x0a00_0003), seconds: 0, user: None };
-    let groups = ListenerRow { home: Text::of(b"/b"), id: 4, peer: Peer::of_v6(1), seconds: 9, user: Some(Text::of(b"\xff")) };
-    let want = b"{\"listeners\":[{\"home\":\"/a\",\"id\":3,\"mount\":\"/a\",\"peer\":\"10.0.0.3\",\"seconds\":0,\"user\":\"\"},{\"home\":\"/b\",\"id\":4,\"mount\":\"/a\",\"peer\":\"0:0:0:0:0:0:0:1\",\"seconds\":9,\"user\":\"\xef\xbf\xbd\"}],\"mount\":\"/a\"}";
-    assert!(rt; list_clients(rt.alloc(), &Text::of(b"/a"), &[quad, groups])?.as_slice() == want.as_slice());
+    let quad = ListenerRow {
+        home: Text::of(b"/a"),
+        id: 3,
+        peer: Peer::of_v4(0x0a00_0003),
+        seconds: 0,
+        user: None,
+    };
+    let groups = ListenerRow {
+        home: Text::of(b"/b"),
+        id: 4,
+        peer: Peer::of_v6(1),
+        seconds: 9,
+        user: Some(Text::of(b"\xff")),
+    };
+    let want =
+        b"{\"listeners\":[{\"home\":\"/a\",\"id\":3,\"mount\":\"/a\",\"peer\":\"10.0.0.3\",\"seconds\":0,\"user\":\"\"},{\"home\":\"/b\",\"id\":4,\"mount\":\"/a\",\"peer\":\"0:0:0:0:0:0:0:1\",\"seconds\":9,\"user\":\"\xef\xbf\xbd\"}],\"mount\":\"/a\"}";
+    assert!(rt;
+        list_clients(rt.alloc(), &Text::of(b"/a"), &[quad, groups])?.as_slice() == want.as_slice()
+    );
     Ok(())
 }
 
 #[test]
 fn icecast_listings_are_written(rt: HostRuntime) -> Result<(), Fail> {
-    let server = Server { name: Text::of(b"radiod"), base_url: Text::of(b"http://r:8000") };
+    let server = Server {
+        name: Text::of(b"radiod"),
+        base_url: Text::of(b"http://r:8000"),
+    };
     let want = br#"{"icestats":{"server_id":"radiod","source":[]}}"#;
     assert!(rt; icecast_status(rt.alloc(), &server, &[])?.as_slice() == want.as_slice());
     let rows = [mount(b"/a", b"X", false), mount(b"/h", b"", true)];
-    let want = br#"{"icestats":{"server_id":"radiod","source":{"genre":"","listeners":1,"listenurl":"http://r:8000/a","server_name":"","server_type":"audio/mpeg","title":"X"}}}"#;
+    let want =
+        br#"{"icestats":{"server_id":"radiod","source":{"genre":"","listeners":1,"listenurl":"http://r:8000/a","server_name":"","server_type":"audio/mpeg","title":"X"}}}"#;
     assert!(rt; icecast_status(rt.alloc(), &server, &rows)?.as_slice() == want.as_slice());
     Ok(())
 }
