@@ -1,11 +1,10 @@
 -- What the laws rest on.
-use Rattle.std.proofs.Common.{◌≡◌, ℕ, Bool, true, false, List, [], ◌∷◌, Option, Some, refl, ap, sym, subst, ◌∙◌, inl, inr, if◌then◌else◌}
+use Rattle.std.proofs.Common.{◌≡◌, Bool, true, false, List, [], ◌∷◌, Some, refl, ap, ◌∙◌, if◌then◌else◌}
 use Rattle.std.specs.Prelude.{map, filter, not}
 use Rattle.std.specs.Str.Lossy.{utf8_lossy}
 use Rattle.serde_json.specs.View.{items_of}
 use Rattle.radio_listing.specs.declared.rows.MountRow.{MountRow}
 use Rattle.radio_listing.specs.declared.rows.PublicRow.{PublicRow}
-use Rattle.radio_listing.specs.declared.rows.Server.{Server}
 use Rattle.radio_listing.specs.Icecast.{icecast_text}
 use Rattle.radio_listing.specs.Laws.{LookAlike, mounts_named, names_of, not_hidden, shown_names}
 use Rattle.radio_listing.specs.Public.{public_data, rows_shown, status_data, status_text, stream_text}

@@ -3,7 +3,6 @@ use Rattle.serde_json.specs.Data.{depth}
 use Rattle.serde_json.specs.Read.{max_depth}
 use Rattle.serde_json.specs.Written.{has_float}
 use Rattle.radio_listing.specs.declared.rows.MountRow.{MountRow}
-use Rattle.radio_listing.specs.declared.rows.PublicRow.{PublicRow}
 use Rattle.radio_listing.specs.Public.{public_data, rows_shown, status_data}
 use Rattle.radio_listing.proofs.JsonLemmas.{no_floats, no_deeper}
 

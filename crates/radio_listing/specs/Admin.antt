@@ -1,5 +1,5 @@
 -- The listings of mounts for operators.
-use Rattle.std.specs.Prelude.{ℕ, ◌-◌, ◌^◌, min, sum_by, List, [], ◌∷◌, length, map, codes, Option, unwrap_or}
+use Rattle.std.specs.Prelude.{ℕ, ◌-◌, ◌^◌, min, sum_by, List, [], ◌∷◌, length, map, codes, unwrap_or}
 use Rattle.serde_json.specs.Data.{Data, boolean}
 use Rattle.serde_json.specs.Written.{compact_text}
 use Rattle.radio_listing.specs.declared.rows.MountRow.{MountRow}

@@ -1,5 +1,5 @@
 -- What listings show, and to whom.
-use Rattle.std.specs.Prelude.{◌≡◌, ℕ, List, [], ◌∷◌, map, filter, not, codes, Option, None, Some}
+use Rattle.std.specs.Prelude.{◌≡◌, ℕ, List, [], ◌∷◌, map, filter, not, codes, Option, Some}
 use Rattle.std.specs.Option.{option_and_then, option_map}
 use Rattle.std.specs.Str.Lossy.{utf8_lossy}
 use Rattle.serde_json.specs.Data.{Data, Items, no_items, item}
