@@ -8,7 +8,7 @@ use Rattle.std.proofs.lemmas.Slice.Eq.{bytes_eq-Decides}
 use Rattle.radio_creds.specs.Credentials.{Credentials}
 use Rattle.radio_policy.specs.declared.judgement.Verdict.TheVariants.{Deny as Denied}
 use Rattle.radio_policy.specs.declared.rule.Rule.{Rule}
-use Rattle.radio_policy.specs.declared.rule.Rule.TheVariants.{TooManyClients, TooManySources, MountFull, UserTwice}
+use Rattle.radio_policy.specs.declared.rule.Rule.TheVariants.{TooManyClients, TooManySources, MountFull, UserTwice, NumbersSpent}
 use Rattle.radio_policy.specs.Table.{Row, arrive_rows, source_rows}
 use Rattle.radio_policy.specs.Verdicts.{verdict_in}
 use Rattle.radio_settings.specs.MountName.{is_mount_name}
@@ -187,14 +187,15 @@ no_sources_to_hear true true true true true false v = cc
 no_sources_to_hear true true true false true false v = cc
 
 module _ (w : World) where
-  -- a source is denied its blocks by no limit
-  no_limit_from : (block : List ℕ) (s : Standing) → Each (λ row. is_limit row.rule ≡ false) (rows_from w.house block s)
-  no_limit_from block (Feeds mount) = (refl, tt)
-  no_limit_from block Unknown = tt
-  no_limit_from block (Undecided peer) = tt
-  no_limit_from block Sits = tt
-  no_limit_from block Answered = tt
-  no_limit_from block (Finished by) = tt
+  -- a source is denied its blocks by the rule of numbers alone
+  only_numbers : (meant : Rule → Bool) → meant NumbersSpent ≡ false → (block : List ℕ) (s : Standing)
+      → Each (λ row. meant row.rule ≡ false) (rows_from w.house block s)
+  only_numbers meant not block (Feeds mount) = (not, tt)
+  only_numbers meant not block Unknown = tt
+  only_numbers meant not block (Undecided peer) = tt
+  only_numbers meant not block Sits = tt
+  only_numbers meant not block Answered = tt
+  only_numbers meant not block (Finished by) = tt
 
   -- nor what it asks for
   no_limit_to_feed : (asked : SourceRequest) (named : Bool)
@@ -210,7 +211,7 @@ module _ (w : World) where
   only_listeners rule limit (Source asked) v goes =
       absurd (no_limit is_limit (rows_for w (Source asked)) (no_limit_to_feed asked (is_mount_name asked.mount)) rule v limit)
   only_listeners rule limit (Push id block) v goes =
-      absurd (no_limit is_limit (rows_from w.house block (standing_of w id)) (no_limit_from block (standing_of w id)) rule v limit)
+      absurd (no_limit is_limit (rows_from w.house block (standing_of w id)) (only_numbers is_limit refl block (standing_of w id)) rule v limit)
   only_listeners rule limit (SourceEnd id) v goes = cc
   only_listeners rule limit (Title id text) v goes = cc
   only_listeners rule limit (Draw id room) v goes = cc
@@ -249,14 +250,8 @@ module _ (w : World) where
         → Each (λ row. is_of_clients row.rule ≡ false) (source_rows (if named then Some (source_facts_at w.house asked.mount asked) else None))
     to_feed true = (refl, (refl, (refl, (refl, tt))))
     to_feed false = (refl, tt)
-  many_clients (Push id block) v = absurd (no_limit is_of_clients (rows_from w.house block (standing_of w id)) (from (standing_of w id)) TooManyClients v refl) where
-    from : (s : Standing) → Each (λ row. is_of_clients row.rule ≡ false) (rows_from w.house block s)
-    from (Feeds mount) = (refl, tt)
-    from Unknown = tt
-    from (Undecided peer) = tt
-    from Sits = tt
-    from Answered = tt
-    from (Finished by) = tt
+  many_clients (Push id block) v =
+      absurd (no_limit is_of_clients (rows_from w.house block (standing_of w id)) (only_numbers is_of_clients refl block (standing_of w id)) TooManyClients v refl)
   many_clients (Listen asked) v =
       let found = found_by w asked in
       absurd (no_clients_to_hear (is_mount_name asked.mount) (is_known w.house asked.mount) found.is_live found.is_full found.users_accept found.user_is_twice
@@ -273,14 +268,8 @@ module _ (w : World) where
       reached (length w.house.live) w.house.settings.limits.sources
       (sources_by (is_mount_name asked.mount) facts.is_source_pair facts.sources_are_full facts.mount_is_live facts.type_is_refused v)
   many_sources (Arrive peer) v = absurd (no_limit is_of_sources (rows_for w (Arrive peer)) (refl, (refl, (refl, (refl, tt)))) TooManySources v refl)
-  many_sources (Push id block) v = absurd (no_limit is_of_sources (rows_from w.house block (standing_of w id)) (from (standing_of w id)) TooManySources v refl) where
-    from : (s : Standing) → Each (λ row. is_of_sources row.rule ≡ false) (rows_from w.house block s)
-    from (Feeds mount) = (refl, tt)
-    from Unknown = tt
-    from (Undecided peer) = tt
-    from Sits = tt
-    from Answered = tt
-    from (Finished by) = tt
+  many_sources (Push id block) v =
+      absurd (no_limit is_of_sources (rows_from w.house block (standing_of w id)) (only_numbers is_of_sources refl block (standing_of w id)) TooManySources v refl)
   many_sources (Listen asked) v =
       let found = found_by w asked in
       absurd (no_sources_to_hear (is_mount_name asked.mount) (is_known w.house asked.mount) found.is_live found.is_full found.users_accept found.user_is_twice
