@@ -44,14 +44,47 @@ fn queue_of(
 fn push(alloc: Global, queue: &mut BlockQueue, bytes: &[u8]) -> Result<(), OutOfMemory> {
     let shared = bytes::Bytes::copy_from_slice(alloc, bytes)?;
     match Block::new(shared) {
-        Some(block) => queue.push(block),
-        None => Ok(()),
+        Some(block) => queue.push(block)?,
+        None => return Ok(()),
     }
+    Ok(())
 }
 
 fn offset_of(alloc: Global, first: u64, other: u64, blocks: &[&[u8]]) -> Result<u64, OutOfMemory> {
     let queue = queue_of(alloc, first, other, blocks)?;
     Ok(queue.offset().bytes_before())
+}
+
+/// Where listeners begin whose bursts are 9 and 3 bytes, and how far behind place 7 is.
+fn starts_and_lag(alloc: Global) -> Result<[u64; 3], OutOfMemory> {
+    let queue = queue_of(alloc, 10, 10, &FOUR_EACH[..3])?;
+    Ok([
+        queue.start_for(9).bytes_before(),
+        queue.start_for(3).bytes_before(),
+        queue.lag(Place::new(7)),
+    ])
+}
+
+#[test]
+fn bursts_and_lag_of_three_blocks(rt: HostRuntime) {
+    assert!(rt; starts_and_lag(rt.alloc()) == Ok([4, 12, 5]));
+}
+
+/// The place behind so many blocks of 4096 bytes, of which the last ones are kept.
+fn end_of_many(alloc: Global, blocks: u32) -> Result<u64, OutOfMemory> {
+    let mut queue = BlockQueue::new(alloc, 8192);
+    let shared = bytes::Bytes::copy_from_slice(alloc, [7; 4096].as_slice())?;
+    if let Some(block) = Block::new(shared) {
+        for _ in 0..blocks {
+            queue.push(block.share()?)?;
+        }
+    }
+    Ok(queue.end().bytes_before())
+}
+
+#[test]
+fn a_stream_of_more_than_a_gigabyte(rt: HostRuntime) {
+    assert!(rt; end_of_many(rt.alloc(), 300_000) == Ok(1_228_800_000));
 }
 
 #[test]

@@ -105,6 +105,9 @@ impl Row for Station {
     }
 }
 
+/// How many rows are inserted where memory is ample, in no order.
+const MANY: u64 = 10_000;
+
 const ARRIVING: [u64; 7] = [5, 2, 9, 2, 7, 1, 5];
 
 fn insert_all(listeners: &mut Table<Listener>, ids: &[u64]) -> Result<(), OutOfMemory> {
@@ -160,17 +163,17 @@ fn rows_stand_in_order_and_are_found(rt: HostRuntime) -> Result<(), Fail> {
     Ok(())
 }
 
-fn insert_a_thousand(listeners: &mut Table<Listener>) -> Result<(), OutOfMemory> {
-    for n in 0..1000u64 {
-        let id = n * 389 % 1000;
+fn insert_many(listeners: &mut Table<Listener>) -> Result<(), OutOfMemory> {
+    for n in 0..MANY {
+        let id = n * 389 % MANY;
         listeners.insert(Listener { id, seconds: 0 })?;
     }
     Ok(())
 }
 
-fn remove_a_thousand(listeners: &mut Table<Listener>) -> bool {
-    for id in 0..1000u64 {
-        if listeners.len() as u64 != 1000 - id || !are_removed(listeners, id) {
+fn remove_many(listeners: &mut Table<Listener>) -> bool {
+    for id in 0..MANY {
+        if listeners.len() as u64 != MANY - id || !are_removed(listeners, id) {
             return false;
         }
     }
@@ -178,10 +181,10 @@ fn remove_a_thousand(listeners: &mut Table<Listener>) -> bool {
 }
 
 #[test]
-fn a_thousand_rows_come_and_go(rt: HostRuntime) -> Result<(), Fail> {
+fn many_rows_come_and_go(rt: HostRuntime) -> Result<(), Fail> {
     let mut listeners = Table::new(rt.alloc());
-    insert_a_thousand(&mut listeners)?;
-    assert!(rt; remove_a_thousand(&mut listeners));
+    insert_many(&mut listeners)?;
+    assert!(rt; remove_many(&mut listeners));
     Ok(())
 }
 

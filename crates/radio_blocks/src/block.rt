@@ -84,6 +84,14 @@ impl Block {
         self.bytes
     }
 
+    /// The block that these bytes were.
+    pub(crate) fn again(bytes: Bytes) -> Block
+        requires { IsBlock bytes }
+        ensures { result ≡ bytes }
+    {
+        Block { bytes }
+    }
+
     /// Another handle on the same bytes, which need not be copied for it.
     /// `OutOfMemory` where memory was refused.
     pub fn share(&self) -> Result<Block, OutOfMemory>

@@ -1,5 +1,5 @@
 //! A bounded queue of blocks: the tail of a stream that is kept in memory.
-ghost use Rattle.std.specs.Prelude.{◌≡◌, ◌+◌, ◌-◌, ◌<◌, ◌≤◌, ◌++◌, ◌↔◌, ℕ, List, min, length, take, drop, IsTrue, IsFalse, IfOk, OnOk, OnErr};
+ghost use Rattle.std.specs.Prelude.{◌≡◌, ◌+◌, ◌-◌, ◌<◌, ◌≤◌, ◌++◌, ◌↔◌, ℕ, List, min, length, take, drop, IsTrue, IsFalse, IfOk, IfErr, OnOk, OnErr};
 ghost use Rattle.std.specs.List.{concat};
 ghost use Rattle.std.specs.declared.result.Result.TheVariants.{Err};
 ghost use Rattle.radio_blocks.specs.declared.queue.DrawFault.TheVariants.{Trimmed};
@@ -10,7 +10,7 @@ use crate::block::Block;
 use crate::pieces::Pieces;
 use crate::place::Place;
 use bytes::Bytes;
-use std::alloc::{AllocError, Global};
+use std::alloc::{AllocFailed, Global};
 use std::collections::VecDeque;
 use std::marker::Model;
 
@@ -104,18 +104,27 @@ impl BlockQueue {
     }
 
     /// Appends a block, and drops the blocks at the front that are not needed for `limit` bytes.
-    /// `OutOfMemory` where memory was refused, and where the stream would have 2^64 bytes; the queue is unchanged then.
-    pub fn push(&mut self, block: Block) -> Result<(), OutOfMemory>
+    /// `Err` has the block where memory was refused, and where the stream would have 2^64 bytes; the queue is unchanged
+    /// then.
+    pub fn push(&mut self, block: Block) -> Result<(), AllocFailed<Block>>
         ensures ok { OnOk result (self.new ≡ with_pushed self.old block) }
         ensures err { OnErr result (self.new ≡ self.old) }
+        // and the block is handed back
+        ensures handed_back { IfErr result (λ refused. refused.value ≡ block) }
     {
         let Some(end) = self.end.checked_add(block.len() as u64) else {
-            return Err(AllocError);
+            return Err(AllocFailed { value: block });
         };
-        self.blocks.push_back(block.into_bytes())?;
-        self.end = end;
-        self.trim();
-        Ok(())
+        match self.blocks.push_back(block.into_bytes()) {
+            Ok(()) => {
+                self.end = end;
+                self.trim();
+                Ok(())
+            }
+            Err(refused) => Err(AllocFailed {
+                value: Block::again(refused.value),
+            }),
+        }
     }
 
     /// Drops the blocks that are not needed.

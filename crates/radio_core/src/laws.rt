@@ -143,7 +143,8 @@ pub fn listeners_are_told_titles()
 
 /// What an event does to its own client, and to others.
 pub fn events_are_of_their_clients()
-    // whatever has happened, each reply is told to one whom it fits, and he stands as it says
+    // whatever has happened, who is told that he has arrived, feeds or is seated asked for it, and stands so then; and who
+    // is told that he was finished was
     ensures own { (settings : Settings) (lists : Lists) (events : List Event) (event : Event) → RepliesFit (run_after settings lists events) event }
     // and everybody else stands as before, but who is finished by the event
     ensures others { (settings : Settings) (lists : Lists) (events : List Event) (event : Event) → OthersStandOn (run_after settings lists events) event }

@@ -50,7 +50,8 @@ impl Stream {
         ensures err { OnErr result (self.new ≡ self.old) }
     {
         self.queue.set_limit(limit);
-        self.queue.push(block)
+        self.queue.push(block)?;
+        Ok(())
     }
 
     /// Where a listener begins who is to be sent at most `burst` bytes at once.
