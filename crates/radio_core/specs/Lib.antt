@@ -16,6 +16,7 @@ pub mod Leave
 pub mod Clock
 pub mod Changes
 pub mod Sound
+pub mod Due
 pub mod Kept
 pub mod KeptChanges
 pub mod Lagging

@@ -9,6 +9,7 @@
 #![tactic(auto)]
 
 mod clients;
+mod due;
 mod facts;
 mod house;
 mod laws;

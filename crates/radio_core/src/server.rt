@@ -13,9 +13,9 @@ use crate::outcome::Outcome;
 use radio_access::Lists;
 use radio_events::{Event, Reply};
 use radio_settings::Settings;
-use state::State;
 use std::alloc::Global;
 use std::marker::Model;
+use timed_state::TimedState;
 
 mod arrive;
 mod clock;
@@ -28,13 +28,14 @@ mod source;
 mod source_end;
 mod state;
 mod tick;
+mod timed_state;
 mod title;
 
 /// The server's state, seen as a `World` in which of each stream the last blocks are kept. There is
 /// always a state of a server that keeps whole streams for which it stands.
 #[derive(Drop)]
 pub struct Core {
-    state: State,
+    state: TimedState,
 }
 
 impl Model for Core {
@@ -60,7 +61,7 @@ impl Core {
         ensures { Represents result (opening settings lists) }
     {
         Core {
-            state: State::new(alloc, settings, lists),
+            state: TimedState::new(alloc, settings, lists),
         }
     }
 

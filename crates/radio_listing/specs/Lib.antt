@@ -1,4 +1,5 @@
 pub mod Json
+pub mod Objects
 pub mod Public
 pub mod Admin
 pub mod Listeners

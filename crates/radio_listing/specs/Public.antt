@@ -1,7 +1,7 @@
 -- The listings for everybody and for relays.
 use Rattle.std.specs.Prelude.{ℕ, List, [], ◌∷◌, ◌++◌, map, codes, if◌then◌else◌}
 use Rattle.std.specs.List.{flat_map}
-use Rattle.serde_json.specs.Data.{Data}
+use Rattle.serde_json.specs.Data.{Data, Members, put}
 use Rattle.serde_json.specs.Written.{compact_text}
 use Rattle.radio_listing.specs.declared.rows.MountRow.{MountRow}
 use Rattle.radio_listing.specs.declared.rows.PublicRow.{PublicRow}
@@ -22,6 +22,12 @@ public_data row = fields (
     ∷ (codes "title", text row.title)
     ∷ (codes "type", text row.content_type)
     ∷ [])
+
+-- an object with what everybody may see of a mount among its members
+abbrev pub with_public : PublicRow → Members → Members
+with_public row ms =
+    put (codes "type") (text row.content_type) (put (codes "title") (text row.title) (put (codes "name") (text row.name)
+    (put (codes "mount") (text row.mount) (put (codes "listeners") (count row.listeners) (put (codes "genre") (text row.genre) ms)))))
 
 abbrev pub status_data : List MountRow → Data
 status_data rows = fields ((codes "mounts", list (map public_data (rows_shown rows))) ∷ [])

@@ -1,13 +1,15 @@
 //! Listings of mounts for operators: hidden mounts are among them.
-ghost use Rattle.std.specs.Prelude.{◌≡◌, ◌++◌, ◌∷◌, [], Some, map, length, unwrap_or, IfOk, OnOk};
-ghost use Rattle.std.specs.Str.Lossy.{utf8_lossy};
-ghost use Rattle.std.specs.String.{string_bytes};
+ghost use Rattle.std.specs.Prelude.{◌≡◌, Some, map, codes, IfOk, OnOk};
+ghost use Rattle.serde_json.specs.Data.{put as with_member};
 ghost use Rattle.serde_json.specs.Read.{read};
 ghost use Rattle.serde_json.specs.View.{view};
+ghost use Rattle.radio_listing.specs.Json.{list};
+ghost use Rattle.radio_listing.specs.Objects.{members_in};
 ghost use Rattle.radio_listing.specs.Admin.{all_listeners, mount_row, mounts_data, mounts_text, stats_data, stats_row, stats_text};
 
-use crate::{MountRow, OutOfMemory, Text};
-use serde_json::{Value, json};
+use crate::object::{Object, one_member};
+use crate::{MountRow, OutOfMemory};
+use serde_json::Value;
 use std::alloc::Global;
 
 /// What the server does as a whole: `{"clients":N,"listeners":N,"mounts":[..],"sources":N}`, each live mount as
@@ -27,10 +29,20 @@ pub fn stats(alloc: Global, clients: u64, rows: &[MountRow<'_>]) -> Result<Vec<u
 fn stats_value(alloc: Global, clients: u64, rows: &[MountRow<'_>]) -> Result<Value, OutOfMemory>
     ensures { IfOk result (λ value. view value ≡ stats_data clients rows.now) }
 {
-    let mounts = stats_rows(alloc, rows)?;
-    let listeners = all_listeners(rows);
-    let sources = rows.len();
-    json!(in alloc; {"clients": clients, "listeners": listeners, "mounts": mounts, "sources": sources})
+    let mut stats = Object::new(alloc);
+    stats.put_count("clients", clients)?;
+    stats.put_count("listeners", all_listeners(rows))?;
+    put_mounts(&mut stats, rows)?;
+    stats.put_count("sources", rows.len() as u64)?;
+    Ok(stats.into_value())
+}
+
+/// The live mounts.
+fn put_mounts(stats: &mut Object, rows: &[MountRow<'_>]) -> Result<(), OutOfMemory>
+    ensures { OnOk result (members_in stats.new ≡ with_member (codes "mounts") (list (map stats_row rows.now)) (members_in stats.old)) }
+{
+    let mounts = stats_rows(stats.alloc, rows)?;
+    stats.put("mounts", Value::Array(mounts))
 }
 
 fn stats_rows(alloc: Global, rows: &[MountRow<'_>]) -> Result<Vec<Value>, OutOfMemory>
@@ -46,16 +58,11 @@ fn stats_rows(alloc: Global, rows: &[MountRow<'_>]) -> Result<Vec<Value>, OutOfM
 fn stats_row(alloc: Global, row: &MountRow<'_>) -> Result<Value, OutOfMemory>
     ensures { IfOk result (λ value. view value ≡ stats_row row.now) }
 {
-    let genre = row.public.genre.shown(alloc)?;
-    let mount = row.public.mount.shown(alloc)?;
-    let name = row.public.name.shown(alloc)?;
-    let title = row.public.title.shown(alloc)?;
-    let content_type = row.public.content_type.shown(alloc)?;
-    let (listeners, hidden, session) = (row.public.listeners, row.hidden, row.session);
-    json!(in alloc; {
-        "genre": genre, "hidden": hidden, "listeners": listeners, "mount": mount,
-        "name": name, "session": session, "title": title, "type": content_type
-    })
+    let mut stats = Object::new(alloc);
+    stats.put_public(&row.public)?;
+    stats.put_flag("hidden", row.hidden)?;
+    stats.put_count("session", row.session)?;
+    Ok(stats.into_value())
 }
 
 /// How many listen at all the mounts, to the largest number of 64 bits.
@@ -85,7 +92,7 @@ fn mounts_value(alloc: Global, rows: &[MountRow<'_>]) -> Result<Value, OutOfMemo
     ensures { IfOk result (λ value. view value ≡ mounts_data rows.now) }
 {
     let mounts = mount_rows(alloc, rows)?;
-    json!(in alloc; {"mounts": mounts})
+    one_member(alloc, "mounts", Value::Array(mounts))
 }
 
 fn mount_rows(alloc: Global, rows: &[MountRow<'_>]) -> Result<Vec<Value>, OutOfMemory>
@@ -101,18 +108,10 @@ fn mount_rows(alloc: Global, rows: &[MountRow<'_>]) -> Result<Vec<Value>, OutOfM
 fn mount_row(alloc: Global, row: &MountRow<'_>) -> Result<Value, OutOfMemory>
     ensures { IfOk result (λ value. view value ≡ mount_row row.now) }
 {
-    let fallback = shown_or_empty(alloc, &row.fallback)?;
-    let mount = row.public.mount.shown(alloc)?;
-    let (hidden, listeners) = (row.hidden, row.public.listeners);
-    json!(in alloc; {"fallback": fallback, "hidden": hidden, "listeners": listeners, "mount": mount})
-}
-
-/// The text, and the empty one where there is none.
-pub fn shown_or_empty(alloc: Global, text: &Option<Text<'_>>) -> Result<String, OutOfMemory>
-    ensures { IfOk result (λ shown. string_bytes shown ≡ utf8_lossy (unwrap_or text.now [])) }
-{
-    match text {
-        Some(text) => text.shown(alloc),
-        None => String::from_utf8_lossy(alloc, b""),
-    }
+    let mut mount = Object::new(alloc);
+    mount.put_text_or_empty("fallback", &row.fallback)?;
+    mount.put_flag("hidden", row.hidden)?;
+    mount.put_count("listeners", row.public.listeners)?;
+    mount.put_text("mount", &row.public.mount)?;
+    Ok(mount.into_value())
 }

@@ -1,14 +1,18 @@
 //! What Icecast 2.4 answers at `/status-json.xsl`, for players' widgets and exporters that read it.
-ghost use Rattle.std.specs.Prelude.{◌≡◌, ◌++◌, [], ◌∷◌, Some, map, if◌then◌else◌, IfOk, OnOk};
+ghost use Rattle.std.specs.Prelude.{◌≡◌, ◌++◌, [], ◌∷◌, Some, map, if◌then◌else◌, codes, IfOk, OnOk};
 ghost use Rattle.std.specs.Str.Lossy.{utf8_lossy};
 ghost use Rattle.std.specs.String.{string_bytes};
+ghost use Rattle.serde_json.specs.Data.{object, no_members, put as with_member};
 ghost use Rattle.serde_json.specs.Read.{read};
 ghost use Rattle.serde_json.specs.View.{view};
 ghost use Rattle.radio_listing.specs.Icecast.{icecast_data, icecast_text, one_or_list, source_data};
+ghost use Rattle.radio_listing.specs.Json.{text};
+ghost use Rattle.radio_listing.specs.Objects.{members_in};
 ghost use Rattle.radio_listing.specs.Public.{rows_shown};
 
+use crate::object::{Object, one_member};
 use crate::{MountRow, OutOfMemory, PublicRow, Server, Text};
-use serde_json::{Value, json};
+use serde_json::Value;
 use std::alloc::Global;
 
 /// What Icecast 2.4 answers: `{"icestats":{"server_id":..,"source":..}}`, each live mount that is not hidden as
@@ -37,8 +41,10 @@ fn icecast_value(
     ensures { IfOk result (λ value. view value ≡ icecast_data server.now rows.now) }
 {
     let source = one_or_list(sources(alloc, &server.base_url, rows)?);
-    let name = server.name.shown(alloc)?;
-    json!(in alloc; {"icestats": {"server_id": name, "source": source}})
+    let mut stats = Object::new(alloc);
+    stats.put("source", source)?;
+    stats.put_text("server_id", &server.name)?;
+    one_member(alloc, "icestats", stats.into_value())
 }
 
 /// One value alone, and none or several as a list.
@@ -83,16 +89,30 @@ fn push_source(
 fn source_value(alloc: Global, base: &Text<'_>, row: &PublicRow<'_>) -> Result<Value, OutOfMemory>
     ensures { IfOk result (λ value. view value ≡ source_data base.now row.now) }
 {
-    let genre = row.genre.shown(alloc)?;
-    let name = row.name.shown(alloc)?;
-    let title = row.title.shown(alloc)?;
-    let content_type = row.content_type.shown(alloc)?;
-    let listeners = row.listeners;
-    let url = shown_url(alloc, base, &row.mount)?;
-    json!(in alloc; {
-        "genre": genre, "listeners": listeners, "listenurl": url,
-        "server_name": name, "server_type": content_type, "title": title
-    })
+    let mut source = Object::new(alloc);
+    fill_source(&mut source, base, row)?;
+    Ok(source.into_value())
+}
+
+/// The members of a mount.
+fn fill_source(source: &mut Object, base: &Text<'_>, row: &PublicRow<'_>) -> Result<(), OutOfMemory>
+    requires { members_in source.old ≡ no_members }
+    ensures { OnOk result (object (members_in source.new) ≡ source_data base.now row.now) }
+{
+    source.put_text("genre", &row.genre)?;
+    source.put_count("listeners", row.listeners)?;
+    put_url(source, base, &row.mount)?;
+    source.put_text("server_name", &row.name)?;
+    source.put_text("server_type", &row.content_type)?;
+    source.put_text("title", &row.title)
+}
+
+/// Where a mount is heard.
+fn put_url(source: &mut Object, base: &Text<'_>, mount: &Text<'_>) -> Result<(), OutOfMemory>
+    ensures { OnOk result (members_in source.new ≡ with_member (codes "listenurl") (text (base.now ++ mount.now)) (members_in source.old)) }
+{
+    let url = shown_url(source.alloc, base, mount)?;
+    source.put("listenurl", Value::String(url))
 }
 
 /// The base URL with the mount's name behind it.

@@ -13,6 +13,7 @@ mod admin_listings;
 mod icecast_listing;
 pub mod laws;
 mod listener_listing;
+mod object;
 mod public_listings;
 mod rows;
 #[cfg(test)]

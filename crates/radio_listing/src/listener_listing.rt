@@ -1,15 +1,17 @@
 //! The listing of a mount's listeners.
-ghost use Rattle.std.specs.Prelude.{◌≡◌, Some, map, IfOk};
+ghost use Rattle.std.specs.Prelude.{◌≡◌, Some, map, codes, IfOk, OnOk};
 ghost use Rattle.std.specs.String.{string_bytes};
+ghost use Rattle.serde_json.specs.Data.{object, string, no_members, put as with_member};
 ghost use Rattle.serde_json.specs.Read.{read};
 ghost use Rattle.serde_json.specs.View.{view};
 ghost use Rattle.radio_addr.specs.Writing.{written};
+ghost use Rattle.radio_listing.specs.Objects.{members_in};
 ghost use Rattle.radio_listing.specs.Listeners.{listener_data, listeners_data, listeners_text};
 
-use crate::admin_listings::shown_or_empty;
+use crate::object::Object;
 use crate::{ListenerRow, OutOfMemory, Text};
 use radio_addr::Peer;
-use serde_json::{Value, json};
+use serde_json::Value;
 use std::alloc::Global;
 
 /// The listeners at a mount: `{"listeners":[..],"mount":..}`, each as
@@ -36,9 +38,13 @@ fn listeners_value(
 ) -> Result<Value, OutOfMemory>
     ensures { IfOk result (λ value. view value ≡ listeners_data mount.now rows.now) }
 {
-    let listeners = listener_values(alloc, mount, rows)?;
-    let mount = mount.shown(alloc)?;
-    json!(in alloc; {"listeners": listeners, "mount": mount})
+    let mut shown = Object::new(alloc);
+    shown.put(
+        "listeners",
+        Value::Array(listener_values(alloc, mount, rows)?),
+    )?;
+    shown.put_text("mount", mount)?;
+    Ok(shown.into_value())
 }
 
 fn listener_values(
@@ -62,12 +68,34 @@ fn listener_value(
 ) -> Result<Value, OutOfMemory>
     ensures { IfOk result (λ value. view value ≡ listener_data mount.now row.now) }
 {
-    let home = row.home.shown(alloc)?;
-    let mount = mount.shown(alloc)?;
-    let peer = shown_peer(alloc, row.peer)?;
-    let user = shown_or_empty(alloc, &row.user)?;
-    let (id, seconds) = (row.id, row.seconds);
-    json!(in alloc; {"home": home, "id": id, "mount": mount, "peer": peer, "seconds": seconds, "user": user})
+    let mut listener = Object::new(alloc);
+    fill_listener(&mut listener, mount, row)?;
+    Ok(listener.into_value())
+}
+
+/// The members of a listener.
+fn fill_listener(
+    listener: &mut Object,
+    mount: &Text<'_>,
+    row: &ListenerRow<'_>,
+) -> Result<(), OutOfMemory>
+    requires { members_in listener.old ≡ no_members }
+    ensures { OnOk result (object (members_in listener.new) ≡ listener_data mount.now row.now) }
+{
+    listener.put_text("home", &row.home)?;
+    listener.put_count("id", row.id)?;
+    listener.put_text("mount", mount)?;
+    put_peer(listener, row.peer)?;
+    listener.put_count("seconds", row.seconds)?;
+    listener.put_text_or_empty("user", &row.user)
+}
+
+/// The address that a listener came from.
+fn put_peer(listener: &mut Object, peer: Peer) -> Result<(), OutOfMemory>
+    ensures { OnOk result (members_in listener.new ≡ with_member (codes "peer") (string (written peer)) (members_in listener.old)) }
+{
+    let peer = shown_peer(listener.alloc, peer)?;
+    listener.put("peer", Value::String(peer))
 }
 
 fn shown_peer(alloc: Global, peer: Peer) -> Result<String, OutOfMemory>

@@ -4,8 +4,9 @@ ghost use Rattle.serde_json.specs.Read.{read};
 ghost use Rattle.serde_json.specs.View.{view};
 ghost use Rattle.radio_listing.specs.Public.{public_data, rows_shown, status_data, status_text, stream_line, stream_text};
 
+use crate::object::{Object, one_member};
 use crate::{MountRow, OutOfMemory, PublicRow};
-use serde_json::{Value, json};
+use serde_json::Value;
 use std::alloc::Global;
 
 /// The listing for everybody: `{"mounts":[..]}`, each live mount that is not hidden as
@@ -24,7 +25,7 @@ fn status_value(alloc: Global, rows: &[MountRow<'_>]) -> Result<Value, OutOfMemo
     ensures { IfOk result (λ value. view value ≡ status_data rows.now) }
 {
     let mounts = public_values(alloc, rows)?;
-    json!(in alloc; {"mounts": mounts})
+    one_member(alloc, "mounts", Value::Array(mounts))
 }
 
 fn public_values(alloc: Global, rows: &[MountRow<'_>]) -> Result<Vec<Value>, OutOfMemory>
@@ -53,15 +54,9 @@ fn push_shown(alloc: Global, values: &mut Vec<Value>, row: &MountRow<'_>) -> Res
 fn public_value(alloc: Global, row: &PublicRow<'_>) -> Result<Value, OutOfMemory>
     ensures { IfOk result (λ value. view value ≡ public_data row.now) }
 {
-    let genre = row.genre.shown(alloc)?;
-    let mount = row.mount.shown(alloc)?;
-    let name = row.name.shown(alloc)?;
-    let title = row.title.shown(alloc)?;
-    let content_type = row.content_type.shown(alloc)?;
-    let listeners = row.listeners;
-    json!(in alloc; {
-        "genre": genre, "listeners": listeners, "mount": mount, "name": name, "title": title, "type": content_type
-    })
+    let mut shown = Object::new(alloc);
+    shown.put_public(row)?;
+    Ok(shown.into_value())
 }
 
 /// The listing for relays: the name of each live mount that is not hidden, with CR LF behind each.

@@ -1,16 +1,15 @@
 //! All of the server's state, and what an event does to it.
 
-ghost use Rattle.std.specs.Prelude.{◌≡◌, IsOk, IfOk, OnOk, OnErr};
+ghost use Rattle.std.specs.Prelude.{◌≡◌, IsOk, IfOk};
 ghost use Rattle.radio_seats.specs.Seats.{listener_of};
 ghost use Rattle.radio_core.specs.World.{opening, standing_of, standing_of_listener};
-ghost use Rattle.radio_core.specs.KeptChanges.{kept_changed};
-ghost use Rattle.radio_core.specs.Step.{outcome, StandsForSome, NeedsNoMemory};
+ghost use Rattle.radio_core.specs.Step.{outcome, StandsForSome};
 ghost use Rattle.radio_events.specs.Events.{TakesNoMemory};
 
 use crate::OutOfMemory;
 use crate::clients::ClientState;
 use crate::house::House;
-use crate::outcome::{Change, Outcome};
+use crate::outcome::Outcome;
 use crate::standing::Standing;
 use radio_access::Lists;
 use radio_events::Event;
@@ -78,20 +77,6 @@ impl State {
             Event::Draw { id, room } => self.draw(id, room),
             Event::Leave { id } => Ok(self.leave(id)),
             Event::Clock { ms } => Ok(self.clock(ms)),
-        }
-    }
-
-    /// Makes a change, and gives back what was worked out for it. `OutOfMemory` where memory was
-    /// refused; nothing has changed then.
-    pub(super) fn commit_for<T: Drop>(&mut self, change: Change, told: T) -> Result<T, OutOfMemory>
-        ensures ok { OnOk result (self.new ≡ kept_changed self.old change) }
-        ensures told { IfOk result (λ same. same ≡ told) }
-        ensures err { OnErr result (self.new ≡ self.old) }
-        ensures frees { NeedsNoMemory change → IsOk result }
-    {
-        match self.commit(change) {
-            Ok(()) => Ok(told),
-            Err(refused) => Err(refused),
         }
     }
 

@@ -1,0 +1,296 @@
+-- before anything is due a clock changes the time alone, and a moment from which on all is due stays one, where it is not past what a change brings
+use Rattle.std.proofs.Common.{◌≡◌, ℕ, zero, suc, ◌+◌, ◌*◌, ◌<◌, ◌≤◌, ◌==◌, Bool, true, false, Option, Some, None, List, [], ◌∷◌, min, Result, Ok, Err, OnOk, OnErr, refl, ap, sym, subst, ◌∙◌, arith, length}
+use Rattle.std.specs.Prelude.{if◌then◌else◌, fold, find, map, not}
+use Rattle.std.specs.Option.{option_map_or}
+use Rattle.std.proofs.lemmas.Bool.Decides.{nat_tests}
+use Rattle.radio_policy.specs.declared.rule.Rule.{Rule}
+use Rattle.radio_policy.specs.declared.rule.Rule.TheVariants.{HeaderTimeout, NotLive, TimeOver, SourceSilent, Lagged}
+use Rattle.radio_settings.specs.declared.settings.Settings.{Settings}
+use Rattle.radio_settings.specs.Options.{options_for}
+use Rattle.radio_access.specs.Lists.{Lists}
+use Rattle.radio_tables.specs.Lists.{Each}
+use Rattle.radio_tables.specs.EachLaws.{Each_each, Each_kept, Each_updated, Each_mapped, Each_placed}
+use Rattle.radio_tables.specs.FindLaws.{finds_none}
+use Rattle.radio_seats.specs.declared.seat.Seat.{Seat}
+use Rattle.radio_seats.specs.declared.seat.Seating.{Seating}
+use Rattle.radio_seats.specs.declared.seat.Seating.TheVariants.{Sits, Finished}
+use Rattle.radio_seats.specs.declared.seat.Listener.{Listener}
+use Rattle.radio_seats.specs.Seats.{is_listener, by_listener, seated, advanced, holds_of, finished_if, with_ended, is_seat_at, finished_from}
+use Rattle.radio_core.specs.declared.clients.Client.{Client}
+use Rattle.radio_core.specs.declared.clients.ClientState.{ClientState}
+use Rattle.radio_core.specs.declared.clients.ClientState.TheVariants.{Undecided, Feeds, Listens, Answered, Ended}
+use Rattle.radio_core.specs.declared.outcome.Change.{Change}
+use Rattle.radio_core.specs.declared.outcome.Change.TheVariants.{Nothing, Answer, Admit, Begin, Receive, SetTitle, TakeSeat, Advance, End}
+use Rattle.radio_core.specs.declared.outcome.Change.TheVariants.{EndAndLeave, Forget, Tick}
+use Rattle.radio_core.specs.Changes.{session_ended, forgotten, timed_out_by, durations_over, first_silent, session_silenced, on_silent, silence, ticked}
+use Rattle.radio_core.specs.Clients.{newcomer, is_client, by_number, with_state, in_state}
+use Rattle.radio_core.specs.Due.{last_moment, due_at, due_in_state, client_due, listener_due, session_due, IsDueFrom, earliest, first_due, due_by, at_moment}
+use Rattle.radio_core.specs.Facts.{live_end}
+use Rattle.radio_core.specs.KeptChanges.{kept_changed, longer_kept, kept_received}
+use Rattle.radio_core.specs.Sessions.{Session, is_of, by_mount, opened, with_title}
+use Rattle.radio_core.specs.Timeouts.{lies_back, lags_behind, asks_nothing, asks_too_late, timed_out, has_sat_out, is_silent}
+use Rattle.radio_core.specs.World.{World, opening}
+
+-- before it is due, nothing has had its time
+
+not_back : (seconds moment ms : ℕ) (none : Bool) → (seconds == 0) ≡ none → ms < (if none then 0 else min (moment + 1000 * seconds) last_moment)
+    → lies_back seconds moment ms ≡ false
+not_back seconds moment ms true e before = absurd (omega (arith, before))
+not_back seconds moment ms false e before = grind (arith, nat_tests, before, e)
+
+not_yet : (seconds moment ms : ℕ) → ms < due_at seconds moment → lies_back seconds moment ms ≡ false
+not_yet seconds moment ms before = not_back seconds moment ms (seconds == 0) refl before
+
+may_ask_yet : (seconds ms arrived : ℕ) (state : ClientState) → ms < due_in_state seconds arrived state → asks_nothing seconds ms arrived state ≡ false
+may_ask_yet seconds ms arrived Undecided before = not_yet seconds arrived ms before
+may_ask_yet seconds ms arrived (Feeds mount) before = refl
+may_ask_yet seconds ms arrived Listens before = refl
+may_ask_yet seconds ms arrived Answered before = refl
+may_ask_yet seconds ms arrived (Ended rule) before = refl
+
+sits_yet : (duration : Option ℕ) (since ms : ℕ) → ms < option_map_or (λ seconds. due_at seconds since) duration last_moment
+    → option_map_or (λ seconds. lies_back seconds since ms) duration false ≡ false
+sits_yet None since ms before = refl
+sits_yet (Some seconds) since ms before = not_yet seconds since ms before
+
+has_not_sat_out : (settings : Settings) (ms : ℕ) (seating : Seating) (id : ℕ) → ms < listener_due settings (record { id = id; seating = seating })
+    → holds_of (has_sat_out settings ms) seating ≡ false
+has_not_sat_out settings ms (Sits seat) id before =
+    sits_yet (options_for settings seat.home).listeners.max_listener_duration seat.since ms before
+has_not_sat_out settings ms (Finished rule) id before = refl
+
+-- so a clock changes the time alone
+
+map_same : {X : Type 0} (f : X → X) (xs : List X) → Each (λ x. f x ≡ x) xs → map f xs ≡ xs
+map_same f [] all = refl
+map_same f (x ∷ xs) all = ap (λ y. y ∷ map f xs) all.0 ∙ ap (λ ys. x ∷ ys) (map_same f xs all.1)
+
+silence_none : (n : ℕ) (w : World) → first_silent w ≡ None → silence n w ≡ w
+silence_none zero w none = refl
+silence_none (suc n) w none = ap (on_silent (silence n) w) none
+
+module _ (w : World) (moment ms : ℕ) (due : IsDueFrom moment w) (before : ms < moment) where
+  nobody_times_out : map (timed_out w.house.settings.limits.header_timeout ms) w.house.clients ≡ w.house.clients
+  nobody_times_out =
+      let seconds = w.house.settings.limits.header_timeout in
+      map_same (timed_out seconds ms) w.house.clients
+      (Each_each (λ client. moment ≤ client_due seconds client) (λ client. timed_out seconds ms client ≡ client)
+      (λ client h. ap (λ (b : Bool). with_state (if b then Ended HeaderTimeout else client.state) client)
+      (may_ask_yet seconds ms client.arrived client.state (omega (arith, before, h)))) w.house.clients due.clients)
+
+  nobody_sits_out : with_ended w.seats (has_sat_out w.house.settings ms) TimeOver ≡ w.seats
+  nobody_sits_out =
+      map_same (finished_if (has_sat_out w.house.settings ms) TimeOver) w.seats
+      (Each_each (λ listener. moment ≤ listener_due w.house.settings listener)
+      (λ listener. finished_if (has_sat_out w.house.settings ms) TimeOver listener ≡ listener)
+      (λ listener h. ap (λ (b : Bool). record listener { seating = (if b then Finished TimeOver else listener.seating) })
+      (has_not_sat_out w.house.settings ms listener.seating listener.id (omega (arith, before, h)))) w.seats due.listeners)
+
+  nobody_is_silent : find (is_silent w.house.settings.limits.source_timeout ms) w.house.live ≡ None
+  nobody_is_silent =
+      let seconds = w.house.settings.limits.source_timeout in
+      finds_none (is_silent seconds ms) w.house.live
+      (Each_each (λ session. moment ≤ session_due seconds session) (λ session. is_silent seconds ms session ≡ false)
+      (λ session h. not_yet seconds session.last_block ms (omega (arith, before, h))) w.house.live due.sessions)
+
+  pub only_time_changes : at_moment w ms ≡ ticked w ms
+  only_time_changes = sym (
+      ap (λ clients. silence n (record { house = record w.house { time = ms; clients = clients }; seats = with_ended w.seats (has_sat_out w.house.settings ms) TimeOver }))
+      nobody_times_out
+      ∙ ap (λ seats. silence n (record (at_moment w ms) { seats = seats })) nobody_sits_out ∙ silence_none n (at_moment w ms) nobody_is_silent) where
+        n : ℕ
+        n = length w.house.live
+
+-- all is due at the earliest moment or later
+
+module _ {X : Type 0} (due : X → ℕ) where
+  from_fold : (moment first : ℕ) (xs : List X) → moment ≤ fold (λ least x. min least (due x)) first xs → (moment ≤ first) × Each (λ x. moment ≤ due x) xs
+  from_fold moment first [] h = (h, tt)
+  from_fold moment first (x ∷ xs) h =
+      let later = from_fold moment (min first (due x)) xs h in
+      (omega (arith, later.0), (omega (arith, later.0), later.1))
+
+  from_earliest : (moment : ℕ) (xs : List X) → moment ≤ earliest due xs → Each (λ x. moment ≤ due x) xs
+  from_earliest moment xs h = (from_fold moment last_moment xs h).1
+
+pub due_from_first : (w : World) → IsDueFrom (first_due w) w
+due_from_first w =
+    let clients = earliest (client_due w.house.settings.limits.header_timeout) w.house.clients in
+    let listeners = earliest (listener_due w.house.settings) w.seats in
+    let sessions = earliest (session_due w.house.settings.limits.source_timeout) w.house.live in
+    let first : first_due w ≡ min clients (min listeners sessions) = refl in
+    record {
+      clients = from_earliest (client_due w.house.settings.limits.header_timeout) (first_due w) w.house.clients (omega (arith, first));
+      listeners = from_earliest (listener_due w.house.settings) (first_due w) w.seats (omega (arith, first));
+      sessions = from_earliest (session_due w.house.settings.limits.source_timeout) (first_due w) w.house.live (omega (arith, first));
+    }
+
+pub due_from_opening : (settings : Settings) (lists : Lists) (moment : ℕ) → IsDueFrom moment (opening settings lists)
+due_from_opening settings lists moment = record { clients = tt; listeners = tt; sessions = tt }
+
+-- and so it is from any moment before
+
+pub due_earlier : (w : World) (moment earlier : ℕ) → earlier ≤ moment → IsDueFrom moment w → IsDueFrom earlier w
+due_earlier w moment earlier h due = record {
+  clients = Each_each _ _ (λ client k. omega (arith, h, k)) w.house.clients due.clients;
+  listeners = Each_each _ _ (λ listener k. omega (arith, h, k)) w.seats due.listeners;
+  sessions = Each_each _ _ (λ session k. omega (arith, h, k)) w.house.live due.sessions;
+}
+
+-- what is due is due by the last moment
+
+due_by_last : (seconds moment : ℕ) → due_at seconds moment ≤ last_moment
+due_by_last seconds moment = by_test (seconds == 0) where
+  by_test : (none : Bool) → (if none then 0 else min (moment + 1000 * seconds) last_moment) ≤ last_moment
+  by_test true = omega arith
+  by_test false = omega arith
+
+duration_by_last : (duration : Option ℕ) (since : ℕ) → option_map_or (λ seconds. due_at seconds since) duration last_moment ≤ last_moment
+duration_by_last None since = omega arith
+duration_by_last (Some seconds) since = due_by_last seconds since
+
+brings_by_last : (w : World) (change : Change) → due_by w change ≤ last_moment
+brings_by_last w Nothing = omega arith
+brings_by_last w (Answer id) = omega arith
+brings_by_last w (Admit id peer) = due_by_last w.house.settings.limits.header_timeout w.house.time
+brings_by_last w (Begin id mount shown) = due_by_last w.house.settings.limits.source_timeout w.house.time
+brings_by_last w (Receive mount block) = due_by_last w.house.settings.limits.source_timeout w.house.time
+brings_by_last w (SetTitle mount title) = omega arith
+brings_by_last w (TakeSeat id seat) = duration_by_last (options_for w.house.settings seat.home).listeners.max_listener_duration seat.since
+brings_by_last w (Advance id place) = omega arith
+brings_by_last w (End id mount) = omega arith
+brings_by_last w (EndAndLeave id mount) = omega arith
+brings_by_last w (Forget id) = omega arith
+brings_by_last w (Tick ms) = omega arith
+
+-- a change brings nothing that is due earlier
+
+module _ (moment : ℕ) (last : moment ≤ last_moment) where
+  abbrev ClientsAreDue : World → List Client → Type 0
+  ClientsAreDue w clients = Each (λ client. moment ≤ client_due w.house.settings.limits.header_timeout client) clients
+
+  abbrev ListenersAreDue : World → List Listener → Type 0
+  ListenersAreDue w seats = Each (λ listener. moment ≤ listener_due w.house.settings listener) seats
+
+  -- who loses his seat is due no more, and anybody else as before
+  ended_due : (settings : Settings) (rule : Rule) (id : ℕ) (seating : Seating) (ends : Bool) → moment ≤ listener_due settings (record { id = id; seating = seating })
+      → moment ≤ listener_due settings (record { id = id; seating = (if ends then Finished rule else seating) })
+  ended_due settings rule id seating true h = last
+  ended_due settings rule id seating false h = h
+
+  ended_are_due : (w : World) (p : Seat → Bool) (rule : Rule) → ListenersAreDue w w.seats → ListenersAreDue w (with_ended w.seats p rule)
+  ended_are_due w p rule all =
+      Each_mapped _ _ (finished_if p rule) (λ listener h. ended_due w.house.settings rule listener.id listener.seating (holds_of p listener.seating) h) w.seats all
+
+  heard_due : (settings : Settings) (place id : ℕ) (seating : Seating) → moment ≤ listener_due settings (record { id = id; seating = seating })
+      → moment ≤ listener_due settings (advanced place (record { id = id; seating = seating }))
+  heard_due settings place id (Sits seat) h = h
+  heard_due settings place id (Finished rule) h = h
+
+  over_due : (w : World) (mount : List ℕ) → IsDueFrom moment w → IsDueFrom moment (session_ended w mount)
+  over_due w mount due = record {
+    clients = due.clients;
+    listeners = Each_mapped _ _ (finished_from mount NotLive)
+        (λ listener h. ended_due w.house.settings NotLive listener.id listener.seating (is_seat_at mount listener.seating) h) w.seats due.listeners;
+    sessions = Each_kept _ _ (λ session. not (is_of mount session)) (λ session h e. h) w.house.live due.sessions;
+  }
+
+  forgotten_due : (w : World) (id : ℕ) → IsDueFrom moment w → IsDueFrom moment (forgotten w id)
+  forgotten_due w id due = record {
+    clients = Each_kept _ _ (λ client. not (is_client id client)) (λ client h e. h) w.house.clients due.clients;
+    listeners = Each_kept _ _ (λ listener. not (is_listener id listener)) (λ listener h e. h) w.seats due.listeners;
+    sessions = due.sessions;
+  }
+
+  answered_are_due : (w : World) (id : ℕ) → ClientsAreDue w w.house.clients → ClientsAreDue w (in_state w.house.clients id Answered)
+  answered_are_due w id all = Each_updated _ (is_client id) (with_state Answered) (λ client h. last) w.house.clients all
+
+  silenced_due : (w : World) (session : Session) → IsDueFrom moment w → IsDueFrom moment (session_silenced w session)
+  silenced_due w session due =
+      let over = over_due w session.mount due in
+      record {
+        clients = Each_updated _ (is_client session.number) (with_state (Ended SourceSilent)) (λ client h. last) w.house.clients over.clients;
+        listeners = over.listeners;
+        sessions = over.sessions;
+      }
+
+  silence_due : (n : ℕ) (w : World) → IsDueFrom moment w → IsDueFrom moment (silence n w)
+  silence_due zero w due = due
+  silence_due (suc n) w due = by_first (silence_due n) (first_silent w) where
+    by_first : ((next : World) → IsDueFrom moment next → IsDueFrom moment (silence n next)) → (found : Option Session)
+        → IsDueFrom moment (on_silent (silence n) w found)
+    by_first rest None = due
+    by_first rest (Some session) = rest (session_silenced w session) (silenced_due w session due)
+
+  timed_out_due : (seconds ms : ℕ) (client : Client) (late : Bool) → moment ≤ client_due seconds client
+      → moment ≤ client_due seconds (with_state (if late then Ended HeaderTimeout else client.state) client)
+  timed_out_due seconds ms client true h = last
+  timed_out_due seconds ms client false h = h
+
+  ticked_due : (w : World) (ms : ℕ) → IsDueFrom moment w → IsDueFrom moment (ticked w ms)
+  ticked_due w ms due =
+      let seconds = w.house.settings.limits.header_timeout in
+      let later = durations_over (record w { house = timed_out_by w.house ms }) in
+      silence_due (length later.house.live) later (record {
+        clients = Each_mapped _ _ (timed_out seconds ms) (λ client h. timed_out_due seconds ms client (asks_too_late seconds ms client) h) w.house.clients due.clients;
+        listeners = ended_are_due w (has_sat_out w.house.settings ms) TimeOver due.listeners;
+        sessions = due.sessions;
+      })
+
+  received_due : (w : World) (mount block : List ℕ) → IsDueFrom moment w → moment ≤ due_at w.house.settings.limits.source_timeout w.house.time
+      → IsDueFrom moment (kept_changed w (Receive mount block))
+  received_due w mount block due h = record {
+    clients = due.clients;
+    listeners = ended_are_due w (lags_behind mount (live_end (kept_received w.house mount block) mount) w.house.settings.limits.queue_size) Lagged due.listeners;
+    sessions = Each_updated _ (is_of mount) (longer_kept w.house.settings.limits.queue_size block w.house.time) (λ session k. h) w.house.live due.sessions;
+  }
+
+  stays_due : (w : World) (change : Change) → IsDueFrom moment w → moment ≤ due_by w change → IsDueFrom moment (kept_changed w change)
+  stays_due w Nothing due h = due
+  stays_due w (Answer id) due h = record { clients = answered_are_due w id due.clients; listeners = due.listeners; sessions = due.sessions }
+  stays_due w (Admit id peer) due h = record {
+    clients = Each_placed _ by_number (newcomer id peer w.house.time) w.house.clients h due.clients;
+    listeners = due.listeners;
+    sessions = due.sessions;
+  }
+  stays_due w (Begin id mount shown) due h = record {
+    clients = Each_updated _ (is_client id) (with_state (Feeds mount)) (λ client k. last) w.house.clients due.clients;
+    listeners = due.listeners;
+    sessions = Each_placed _ by_mount (opened mount id shown w.house.time) w.house.live h due.sessions;
+  }
+  stays_due w (Receive mount block) due h = received_due w mount block due h
+  stays_due w (SetTitle mount title) due h = record {
+    clients = due.clients;
+    listeners = due.listeners;
+    sessions = Each_updated _ (is_of mount) (with_title (Some title)) (λ session k. k) w.house.live due.sessions;
+  }
+  stays_due w (TakeSeat id seat) due h = record {
+    clients = Each_updated _ (is_client id) (with_state Listens) (λ client k. last) w.house.clients due.clients;
+    listeners = Each_placed _ by_listener (seated id seat) w.seats h due.listeners;
+    sessions = due.sessions;
+  }
+  stays_due w (Advance id place) due h = record {
+    clients = due.clients;
+    listeners = Each_updated _ (is_listener id) (advanced place) (λ listener k. heard_due w.house.settings place listener.id listener.seating k) w.seats due.listeners;
+    sessions = due.sessions;
+  }
+  stays_due w (End id mount) due h =
+      let over = over_due w mount due in
+      record { clients = answered_are_due w id over.clients; listeners = over.listeners; sessions = over.sessions }
+  stays_due w (EndAndLeave id mount) due h = forgotten_due (session_ended w mount) id (over_due w mount due)
+  stays_due w (Forget id) due h = forgotten_due w id due
+  stays_due w (Tick ms) due h = ticked_due w ms due
+
+due_after : (w : World) (change : Change) (moment : ℕ) → IsDueFrom moment w
+    → IsDueFrom (min moment (due_by w change)) (kept_changed w change)
+due_after w change moment due =
+    let sooner = min moment (due_by w change) in
+    stays_due sooner (omega (arith, brings_by_last w change)) w change (due_earlier w moment sooner (omega arith) due) (omega arith)
+
+-- also where the change was refused
+pub due_committed : {A E : Type 0} (w later : World) (change : Change) (moment : ℕ) (result : Result A E) → OnOk result (later ≡ kept_changed w change)
+    → OnErr result (later ≡ w) → IsDueFrom moment w → IsDueFrom (min moment (due_by w change)) later
+due_committed w later change moment (Ok done) ok err due =
+    subst (λ (x : World). IsDueFrom (min moment (due_by w change)) x) (sym ok) (due_after w change moment due)
+due_committed w later change moment (Err refused) ok err due =
+    subst (λ (x : World). IsDueFrom (min moment (due_by w change)) x) (sym err) (due_earlier w moment (min moment (due_by w change)) (omega arith) due)

@@ -1,0 +1,179 @@
+//! The state, with a moment before which a clock ends nobody.
+
+ghost use Rattle.std.specs.Prelude.{◌≡◌, IsOk, IfOk, OnOk, OnErr};
+ghost use Rattle.radio_core.specs.Changes.{ticked};
+ghost use Rattle.radio_core.specs.Due.{at_moment, due_by, earliest, client_due, listener_due, session_due, first_due};
+ghost use Rattle.radio_core.specs.KeptChanges.{kept_changed};
+ghost use Rattle.radio_core.specs.Step.{outcome, StandsForSome, NeedsNoMemory};
+ghost use Rattle.radio_core.specs.World.{opening};
+ghost use Rattle.radio_events.specs.Events.{TakesNoMemory};
+
+use super::state::State;
+use crate::OutOfMemory;
+use crate::due::{LAST_MOMENT, client_due, due_at, listener_due, seat_due};
+use crate::outcome::{Change, Outcome};
+use radio_access::Lists;
+use radio_events::Event;
+use radio_settings::Settings;
+use std::alloc::Global;
+use std::marker::Model;
+
+/// The state, and a moment before which nothing in it is due: a clock before that moment walks
+/// nobody. Contracts see the state alone.
+#[derive(Drop)]
+pub(super) struct TimedState {
+    state: State,
+    /// Each client, each listener and each session is due then or later.
+    due_from: u64,
+}
+
+impl Model for TimedState {
+    ghost use Rattle.radio_core.specs.World.{World};
+    ghost use Rattle.radio_core.specs.Due.{IsDueFrom};
+    ghost use Rattle.std.specs.Coded.{codes};
+    ghost use Rattle.radio_creds.specs.contracts.user_list.Users as creds_users;
+
+    ghost Value = { World };
+
+    ghost coded = { Prim.hlevel (codes, creds_users.the_row.coded) };
+
+    ghost view = { λ t. t.state };
+
+    ghost invariant = { λ t. IsDueFrom t.due_from t.state };
+}
+
+impl TimedState {
+    /// Nothing has happened yet. It takes no memory.
+    pub(super) fn new(alloc: Global, settings: Settings, lists: Lists) -> TimedState
+        ensures { result ≡ opening settings lists }
+    {
+        TimedState {
+            state: State::new(alloc, settings, lists),
+            due_from: LAST_MOMENT,
+        }
+    }
+
+    /// What comes of an event. `OutOfMemory` where memory was refused.
+    pub(super) fn outcome(&self, event: Event) -> Result<Outcome, OutOfMemory>
+        requires { StandsForSome self.now }
+        ensures value { IfOk result (λ o. o ≡ outcome self.now event) }
+        ensures frees { TakesNoMemory event → IsOk result }
+    {
+        self.state.outcome(event)
+    }
+
+    /// Makes a change, and gives back what was worked out for it. `OutOfMemory` where memory was
+    /// refused; nothing has changed then.
+    pub(super) fn commit_for<T: Drop>(&mut self, change: Change, told: T) -> Result<T, OutOfMemory>
+        ensures ok { OnOk result (self.new ≡ kept_changed self.old change) }
+        ensures told { IfOk result (λ same. same ≡ told) }
+        ensures err { OnErr result (self.new ≡ self.old) }
+        ensures frees { NeedsNoMemory change → IsOk result }
+    {
+        match self.commit(change) {
+            Ok(()) => Ok(told),
+            Err(refused) => Err(refused),
+        }
+    }
+
+    /// Makes a change. `OutOfMemory` where memory was refused; nothing has changed then.
+    fn commit(&mut self, change: Change) -> Result<(), OutOfMemory>
+        ensures ok { OnOk result (self.new ≡ kept_changed self.old change) }
+        ensures err { OnErr result (self.new ≡ self.old) }
+        ensures frees { NeedsNoMemory change → IsOk result }
+    {
+        match change {
+            Change::Tick { ms } => {
+                self.tick(ms);
+                Ok(())
+            }
+            change => self.commit_noting_due(change),
+        }
+    }
+
+    /// Makes a change, and notes when what it brings is due. `OutOfMemory` where memory was refused;
+    /// nothing has changed then.
+    fn commit_noting_due(&mut self, change: Change) -> Result<(), OutOfMemory>
+        ensures ok { OnOk result (self.new ≡ kept_changed self.old change) }
+        ensures err { OnErr result (self.new ≡ self.old) }
+        ensures frees { NeedsNoMemory change → IsOk result }
+    {
+        self.due_from = self.due_from.min(self.state.due_by(&change));
+        self.state.commit(change)
+    }
+
+    /// It is this moment, and what has had its time ends. It takes no memory.
+    fn tick(&mut self, ms: u64)
+        ensures { self.new ≡ ticked self.old ms }
+    {
+        if ms < self.due_from {
+            self.state.set_time(ms);
+            return;
+        }
+        self.state.tick(ms);
+        self.due_from = self.state.first_due();
+    }
+}
+
+impl State {
+    /// It is this moment, and nothing else changes.
+    fn set_time(&mut self, ms: u64)
+        ensures { self.new ≡ at_moment self.old ms }
+    {
+        self.house.time = ms;
+    }
+
+    /// When what the change brings is due.
+    fn due_by(&self, change: &Change) -> u64
+        ensures { result ≡ due_by self.now change.now }
+    {
+        let limits = &self.house.settings.limits;
+        match change {
+            Change::Admit { .. } => due_at(limits.header_timeout.get(), self.house.time),
+            Change::Begin { .. } | Change::Receive { .. } => {
+                due_at(limits.source_timeout.get(), self.house.time)
+            }
+            Change::TakeSeat { seat, .. } => seat_due(&self.house.settings, seat),
+            _ => LAST_MOMENT,
+        }
+    }
+
+    /// The earliest moment at which a client, a listener or a session is due. The time grows as
+    /// their number.
+    fn first_due(&self) -> u64
+        ensures { result ≡ first_due self.now }
+    {
+        let others = self.first_listener_due().min(self.first_session_due());
+        self.first_client_due().min(others)
+    }
+
+    fn first_client_due(&self) -> u64
+        ensures { result ≡ earliest (client_due self.now.house.settings.limits.header_timeout) self.now.house.clients }
+    {
+        let seconds = self.house.settings.limits.header_timeout.get();
+        self.house.clients.iter().fold(
+            LAST_MOMENT,
+            |first, client| first.min(client_due(seconds, client)),
+        )
+    }
+
+    fn first_listener_due(&self) -> u64
+        ensures { result ≡ earliest (listener_due self.now.house.settings) self.now.seats }
+    {
+        let settings = &self.house.settings;
+        self.seats.iter().fold(
+            LAST_MOMENT,
+            |first, listener| first.min(listener_due(settings, listener)),
+        )
+    }
+
+    fn first_session_due(&self) -> u64
+        ensures { result ≡ earliest (session_due self.now.house.settings.limits.source_timeout) self.now.house.live }
+    {
+        let seconds = self.house.settings.limits.source_timeout.get();
+        self.house.live.iter().fold(
+            LAST_MOMENT,
+            |first, session| first.min(due_at(seconds, session.last_block)),
+        )
+    }
+}
