@@ -144,10 +144,8 @@ stream_pushed tail block =
     stream_trimmed (record tail { blocks = tail.blocks ++ block ∷ [] }) ∙ ap (kept_stream tail.limit) (stream_longer tail block)
 
 -- and so one that was told how much to keep
-pub pushed_to : {A E : Type 0} (tail told pushed : KeptTail) (stream : WholeStream) (block : List ℕ) (limit : ℕ) → told ≡ record tail { limit = limit }
-    → stream_of tail ≡ stream → (result : Result A E) → OnOk result (pushed ≡ with_pushed told block)
-    → OnOk result (stream_of pushed ≡ kept_stream limit (with_block stream block))
-pushed_to tail told pushed stream block limit is shows (Ok x) ok =
+pub pushed_to : (tail told pushed : KeptTail) (stream : WholeStream) (block : List ℕ) (limit : ℕ) → told ≡ record tail { limit = limit }
+    → stream_of tail ≡ stream → pushed ≡ with_pushed told block → stream_of pushed ≡ kept_stream limit (with_block stream block)
+pushed_to tail told pushed stream block limit is shows ok =
     ap stream_of (ok ∙ ap (λ (t : KeptTail). with_pushed t block) is) ∙ stream_pushed (record tail { limit = limit }) block
     ∙ ap (λ (s : WholeStream). kept_stream limit (with_block s block)) shows
-pushed_to tail told pushed stream block limit is shows (Err e) ok = tt
