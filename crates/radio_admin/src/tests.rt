@@ -1,6 +1,7 @@
 //! What no clause says: that calls with ample memory succeed, and what they answer to real clients.
 
 use crate::{AdminFault, Command, OutOfMemory, read_command, read_path};
+use radio_settings::MountName;
 use std::alloc::Global;
 use std::test::Fail;
 
@@ -137,43 +138,82 @@ fn refused_memory_changes_no_answer(rt: HostRuntime) {
 
 fn sets_title(alloc: Global, query: &[u8], want: Option<&[u8]>) -> bool {
     match read_command(alloc, b"/admin/metadata", query) {
-        Ok(Command::Metadata(asked)) => match want {
-            Some(title) => asked.mount.as_bytes() == b"/a".as_slice()
-                && asked.title.as_bytes() == title,
-            None => false,
-        },
-        Err(AdminFault::MissingArgument(_, Some(mount))) => want.is_none()
-            && mount.as_bytes() == b"/a".as_slice(),
+        Ok(command) => is_title(&command, want),
+        Err(fault) => want.is_none() && lacks_argument(&fault),
+    }
+}
+
+/// Whether the command sets this title at `/a`.
+fn is_title(command: &Command, want: Option<&[u8]>) -> bool {
+    match (command, want) {
+        (Command::Metadata(asked), Some(title)) => asked.mount.as_bytes() == b"/a".as_slice()
+            && asked.title.as_bytes() == title,
+        _ => false,
+    }
+}
+
+/// Whether an argument is missing of a command that names `/a`.
+fn lacks_argument(fault: &AdminFault) -> bool {
+    match fault {
+        AdminFault::MissingArgument(_, Some(mount)) => mount.as_bytes() == b"/a".as_slice(),
         _ => false,
     }
 }
 
 fn shown(alloc: Global, path: &[u8], query: &[u8]) -> Result<String, OutOfMemory> {
     match read_command(alloc, path, query) {
-        Ok(command) => shown_command(alloc, command),
-        Err(AdminFault::MissingArgument(kind, Some(mount))) => format!(in alloc;
-            "missing argument of {kind} at {mount}"
-        ),
-        Err(fault) => format!(in alloc; "{fault}"),
+        Ok(command) => shown_command(alloc, &command),
+        Err(fault) => shown_fault(alloc, &fault),
     }
 }
 
-fn shown_command(alloc: Global, command: Command) -> Result<String, OutOfMemory> {
-    match command {
-        Command::Stats => format!(in alloc; "stats"),
-        Command::ListMounts => format!(in alloc; "list mounts"),
-        Command::ListClients(mount) => format!(in alloc; "clients {mount}"),
-        Command::MoveClients(asked) => format!(in alloc;
-            "move {} {}",
-            asked.mount, asked.destination
+fn shown_fault(alloc: Global, fault: &AdminFault) -> Result<String, OutOfMemory> {
+    match fault {
+        AdminFault::MissingArgument(kind, Some(mount)) => format!(in alloc;
+            "missing argument of {kind} at {mount}"
         ),
-        Command::KillClient(asked) => format!(in alloc; "kill {} {}", asked.mount, asked.id),
-        Command::KillSource(mount) => format!(in alloc; "kill source {mount}"),
-        Command::Metadata(asked) => format!(in alloc; "title {}", asked.mount),
-        Command::Fallbacks(asked) => match asked.fallback {
-            Some(fallback) => format!(in alloc; "fallback {} {}", asked.mount, fallback),
-            None => format!(in alloc; "no fallback {}", asked.mount),
-        },
-        Command::StreamList => format!(in alloc; "stream list"),
+        fault => format!(in alloc; "{fault}"),
+    }
+}
+
+fn shown_command(alloc: Global, command: &Command) -> Result<String, OutOfMemory> {
+    match command {
+        Command::Stats => "stats".to_string(alloc),
+        Command::ListMounts => "list mounts".to_string(alloc),
+        Command::StreamList => "stream list".to_string(alloc),
+        Command::ListClients(mount) => shown_at(alloc, "clients", mount),
+        Command::KillSource(mount) => shown_at(alloc, "kill source", mount),
+        Command::Metadata(asked) => shown_at(alloc, "title", &asked.mount),
+        Command::MoveClients(asked) => shown_to(alloc, "move", &asked.mount, &asked.destination),
+        Command::KillClient(asked) => shown_kill(alloc, &asked.mount, asked.id),
+        Command::Fallbacks(asked) => shown_fallback(alloc, &asked.mount, &asked.fallback),
+    }
+}
+
+fn shown_at(alloc: Global, words: &str, mount: &MountName) -> Result<String, OutOfMemory> {
+    format!(in alloc; "{words} {mount}")
+}
+
+fn shown_to(
+    alloc: Global,
+    words: &str,
+    mount: &MountName,
+    other: &MountName,
+) -> Result<String, OutOfMemory> {
+    format!(in alloc; "{words} {mount} {other}")
+}
+
+fn shown_kill(alloc: Global, mount: &MountName, id: u64) -> Result<String, OutOfMemory> {
+    format!(in alloc; "kill {mount} {id}")
+}
+
+fn shown_fallback(
+    alloc: Global,
+    mount: &MountName,
+    fallback: &Option<MountName>,
+) -> Result<String, OutOfMemory> {
+    match fallback {
+        Some(fallback) => shown_to(alloc, "fallback", mount, fallback),
+        None => shown_at(alloc, "no fallback", mount),
     }
 }

@@ -7,31 +7,31 @@ mod pulls;
 mod requests;
 
 use crate::{OutOfMemory, PullFault, PullItem};
-use radio_settings::Settings;
+use radio_settings::{Settings, Shown};
 use std::alloc::{AllocError, Global};
 use std::process::Abort;
+
+/// Appends these parts.
+fn tell_parts(parts: &[&[u8]], told: &mut Vec<u8>) -> Result<(), OutOfMemory> {
+    for part in parts {
+        told.extend_from_slice(part)?;
+    }
+    Ok(())
+}
 
 /// Appends what an item is: in braces what a head shows, in angle brackets a title, and sound as it is.
 fn tell(item: &PullItem, told: &mut Vec<u8>) -> Result<(), OutOfMemory> {
     match item {
-        PullItem::Up(shown) => {
-            told.push(b'{')?;
-            told.extend_from_slice(shown.content_type.as_bytes())?;
-            told.push(b'|')?;
-            told.extend_from_slice(shown.name.as_bytes())?;
-            told.push(b'|')?;
-            told.extend_from_slice(shown.genre.as_bytes())?;
-            told.push(b'}')?;
-            Ok(())
-        }
+        PullItem::Up(shown) => tell_shown(shown, told),
         PullItem::Sound(block) => told.extend_from_slice(block.as_bytes()),
-        PullItem::Title(title) => {
-            told.push(b'<')?;
-            told.extend_from_slice(title.as_slice())?;
-            told.push(b'>')?;
-            Ok(())
-        }
+        PullItem::Title(title) => tell_parts(&[b"<", title.as_slice(), b">"], told),
     }
+}
+
+fn tell_shown(shown: &Shown, told: &mut Vec<u8>) -> Result<(), OutOfMemory> {
+    let content_type = shown.content_type.as_bytes();
+    let (name, genre) = (shown.name.as_bytes(), shown.genre.as_bytes());
+    tell_parts(&[b"{", content_type, b"|", name, b"|", genre, b"}"], told)
 }
 
 fn tell_all(items: &[PullItem], told: &mut Vec<u8>) -> Result<(), OutOfMemory> {

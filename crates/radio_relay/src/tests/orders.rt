@@ -2,7 +2,8 @@
 
 use super::*;
 use crate::{RelayOrder, plan, read_stream_list};
-use radio_settings::MountName;
+use radio_settings::{MountName, RelaySetting};
+use std::collections::BTreeSet;
 
 /// A slave of a station with a mount and two relays.
 const STATION: &str = "source-password = 'a'
@@ -37,20 +38,21 @@ const PLANS: &[(&[u8], &[u8], &[u8])] = &[
 
 fn tell_order(order: &RelayOrder, told: &mut Vec<u8>) -> Result<(), OutOfMemory> {
     match order {
-        RelayOrder::Start(relay) => {
-            told.push(b'+')?;
-            told.extend_from_slice(relay.local_mount.as_bytes())?;
-            told.push(b'=')?;
-            told.extend_from_slice(relay.master.server.as_bytes())?;
-            told.push(b':')?;
-            told.extend_from_slice(relay.mount.as_bytes())?;
-        }
-        RelayOrder::Stop(mount) => {
-            told.push(b'-')?;
-            told.extend_from_slice(mount.as_bytes())?;
-        }
+        RelayOrder::Start(relay) => tell_start(relay, told),
+        RelayOrder::Stop(mount) => tell_parts(&[b"-", mount.as_bytes(), b" "], told),
     }
-    told.push(b' ')?;
+}
+
+fn tell_start(relay: &RelaySetting, told: &mut Vec<u8>) -> Result<(), OutOfMemory> {
+    let (local, far) = (relay.local_mount.as_bytes(), relay.mount.as_bytes());
+    let server = relay.master.server.as_bytes();
+    tell_parts(&[b"+", local, b"=", server, b":", far, b" "], told)
+}
+
+fn tell_orders(orders: &[RelayOrder], told: &mut Vec<u8>) -> Result<(), OutOfMemory> {
+    for order in orders {
+        tell_order(order, told)?;
+    }
     Ok(())
 }
 
@@ -65,30 +67,64 @@ fn names(alloc: Global, text: &[u8]) -> Result<Vec<MountName>, OutOfMemory> {
     Ok(names)
 }
 
+/// Whether these orders are told so.
+fn are_told(alloc: Global, orders: &[RelayOrder], want: &[u8]) -> Result<bool, OutOfMemory> {
+    let mut told = Vec::new(alloc);
+    tell_orders(orders, &mut told)?;
+    Ok(told.as_slice() == want)
+}
+
+/// Whether that is ordered for this list and these names of what relays feed.
 fn is_ordered(
+    alloc: Global,
+    station: &Settings,
+    list: &BTreeSet<MountName>,
+    live: &[MountName],
+    want: &[u8],
+) -> Result<bool, OutOfMemory> {
+    let orders = plan(alloc, station, list, live, &[])?;
+    are_told(alloc, orders.as_slice(), want)
+}
+
+fn is_ordered_for(
+    alloc: Global,
+    station: &Settings,
+    list: &BTreeSet<MountName>,
+    live: &[u8],
+    want: &[u8],
+) -> Result<bool, OutOfMemory> {
+    let live = names(alloc, live)?;
+    is_ordered(alloc, station, list, live.as_slice(), want)
+}
+
+fn is_planned(
     alloc: Global,
     station: &Settings,
     row: (&[u8], &[u8]),
     want: &[u8],
 ) -> Result<bool, OutOfMemory> {
     let list = read_stream_list(alloc, row.0)?;
-    let live = names(alloc, row.1)?;
-    let orders = plan(alloc, station, &list, live.as_slice(), &[])?;
-    let mut told = Vec::new(alloc);
-    for order in &orders {
-        tell_order(order, &mut told)?;
+    is_ordered_for(alloc, station, &list, row.1, want)
+}
+
+fn all_planned(alloc: Global, station: &Settings) -> Result<bool, OutOfMemory> {
+    for (list, live, want) in PLANS {
+        if !is_planned(alloc, station, (list, live), want)? {
+            return Ok(false);
+        }
     }
-    Ok(told.as_slice() == want)
+    Ok(true)
+}
+
+fn are_planned(alloc: Global) -> Result<bool, OutOfMemory> {
+    let station = settings(alloc, STATION)?;
+    let planned = all_planned(alloc, &station);
+    drop(station);
+    planned
 }
 
 #[test]
 fn plans(rt: HostRuntime) -> Result<(), OutOfMemory> {
-    let station = settings(rt.alloc(), STATION)?;
-    for (list, live, want) in PLANS {
-        assert!(rt;
-            is_ordered(rt.alloc(), &station, (list, live), want)?,
-            "{list:?}"
-        );
-    }
+    assert!(rt; are_planned(rt.alloc())?);
     Ok(())
 }

@@ -101,6 +101,55 @@ fn feed(
     }
 }
 
+/// The faults of two pieces, and of an empty one behind them.
+#[derive(Clone, Copy)]
+struct Faults {
+    first: Option<PullFault>,
+    second: Option<PullFault>,
+    last: Option<PullFault>,
+}
+
+impl Faults {
+    /// Whether this fault comes once, and then that the pull has failed.
+    fn are(&self, fault: Option<PullFault>) -> bool {
+        self.first.or(self.second) == fault && self.have_failed(fault)
+    }
+
+    fn have_failed(&self, fault: Option<PullFault>) -> bool {
+        let failed = Some(PullFault::Failed);
+        match self.first {
+            Some(_) => self.second == failed && self.last == failed,
+            None => fault.is_none() || self.last == failed,
+        }
+    }
+}
+
+fn feed_all(
+    pull: &mut Pull,
+    pieces: (&[u8], &[u8]),
+    told: &mut Vec<u8>,
+) -> Result<Faults, OutOfMemory> {
+    let first = feed(pull, pieces.0, told)?;
+    let second = feed(pull, pieces.1, told)?;
+    let last = feed(pull, b"", told)?;
+    Ok(Faults {
+        first,
+        second,
+        last,
+    })
+}
+
+fn pull_all(
+    alloc: Global,
+    pieces: (&[u8], &[u8]),
+    told: &mut Vec<u8>,
+) -> Result<Faults, OutOfMemory> {
+    let mut pull = Pull::new(alloc);
+    let faults = feed_all(&mut pull, pieces, told);
+    drop(pull);
+    faults
+}
+
 /// Whether this is told of two pieces, and the fault comes once, and then that the pull has failed.
 fn is_told(
     alloc: Global,
@@ -108,16 +157,9 @@ fn is_told(
     want: &[u8],
     fault: Option<PullFault>,
 ) -> Result<bool, OutOfMemory> {
-    let mut pull = Pull::new(alloc);
     let mut told = Vec::new(alloc);
-    let first = feed(&mut pull, pieces.0, &mut told)?;
-    let second = feed(&mut pull, pieces.1, &mut told)?;
-    let last = feed(&mut pull, b"", &mut told)?;
-    let come = match first {
-        Some(fault) => second == Some(PullFault::Failed) && last == second && first == Some(fault),
-        None => fault.is_none() || last == Some(PullFault::Failed),
-    };
-    Ok(come && first.or(second) == fault && told.as_slice() == want)
+    let faults = pull_all(alloc, pieces, &mut told)?;
+    Ok(faults.are(fault) && told.as_slice() == want)
 }
 
 /// Whether it is told so wherever the answer is cut.
@@ -160,13 +202,18 @@ const COUNTS: &[(&[u8], &[u8], usize)] = &[
     (b"HTTP/1.0 200 OK\r\n\r\n", b"", 1),
 ];
 
+/// How many items an answer brings that comes as one.
+fn count_items(alloc: Global, answer: &[u8]) -> Result<usize, OutOfMemory> {
+    match Pull::new(alloc).feed(answer) {
+        Ok(items) => Ok(items.len()),
+        Err(_) => Err(AllocError),
+    }
+}
+
 fn has_count(alloc: Global, head: &[u8], stream: &[u8], want: usize) -> Result<bool, OutOfMemory> {
     let mut answer = Vec::from_slice(alloc, head)?;
     answer.extend_from_slice(stream)?;
-    match Pull::new(alloc).feed(answer.as_slice()) {
-        Ok(items) => Ok(items.len() == want),
-        Err(_) => Err(AllocError),
-    }
+    Ok(count_items(alloc, answer.as_slice())? == want)
 }
 
 #[test]
