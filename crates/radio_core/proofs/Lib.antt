@@ -40,3 +40,4 @@ mod KeptOutcomes
 mod KeptSteps
 mod KeptSeats
 mod KeptRuns
+pub mod PreparedLemmas

@@ -42,3 +42,4 @@ pub mod Outstaying
 pub mod SourceReplies
 pub mod CoreReplies
 pub mod Totals
+pub mod Prepared
