@@ -41,3 +41,4 @@ mod KeptSteps
 mod KeptSeats
 mod KeptRuns
 mod DueLemmas
+pub mod PreparedLemmas

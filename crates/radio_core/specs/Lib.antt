@@ -43,3 +43,4 @@ pub mod Outstaying
 pub mod SourceReplies
 pub mod CoreReplies
 pub mod Totals
+pub mod Prepared

@@ -48,7 +48,7 @@ impl House {
         mount: &MountName,
         pair: Option<&Pair>,
     ) -> ListenFacts
-        ensures { result ≡ listen_facts_at self.now seats.now mount.now (option_copied pair.entry) }
+        ensures { result ≡ listen_facts_at self.now seats.now.seats mount.now (option_copied pair.entry) }
     {
         let Walk { first, landing } = walk_from(self, seats, mount, pair);
         ListenFacts {

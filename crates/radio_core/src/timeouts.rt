@@ -6,8 +6,8 @@ ghost use Rattle.radio_core.specs.Timeouts.{lies_back, asks_too_late};
 use crate::clients::{Client, ClientState};
 use radio_blocks::Place;
 use radio_policy::Rule;
-use radio_seats::{Seat, SeatTest};
-use radio_settings::{MountName, Settings};
+use radio_seats::{Guest, SeatTest};
+use radio_settings::Settings;
 use radio_tables::Change;
 
 /// Whether the moment lies so many seconds back, or more.
@@ -49,23 +49,21 @@ fn asks_too_late(seconds: u32, now: u64, client: &Client) -> bool
     }
 }
 
-/// A listener is at the mount, and is further behind the end of its stream than a queue is long.
+/// A listener is further behind the end of his mount's stream than a queue is long.
 #[derive(Drop)]
 pub(crate) struct LagsBehind {
-    pub(crate) mount: MountName,
     pub(crate) end: Place,
     pub(crate) queue: u64,
 }
 
 impl SeatTest for LagsBehind {
-    ghost use Rattle.radio_core.specs.Timeouts.{lags_behind};
+    ghost use Rattle.std.specs.Prelude.{◌-◌, nat_lt};
 
-    ghost passes = { λ test seat. lags_behind test.mount test.end test.queue seat };
+    ghost passes = { λ test place guest. nat_lt test.queue (test.end - place) };
 
-    fn passes(&self, seat: &Seat) -> bool {
+    fn passes(&self, place: Place, _guest: &Guest) -> bool {
         let end = self.end.bytes_before();
-        *seat.mount.get() == self.mount
-            && end.saturating_sub(seat.place.bytes_before()) > self.queue
+        end.saturating_sub(place.bytes_before()) > self.queue
     }
 }
 
@@ -77,18 +75,20 @@ pub(crate) struct HasSatOut<'a> {
 }
 
 impl SeatTest for HasSatOut<'_> {
+    ghost use Rattle.std.specs.Prelude.{[]};
+    ghost use Rattle.radio_seats.specs.Guests.{seat_of_guest};
     ghost use Rattle.radio_core.specs.Timeouts.{has_sat_out};
 
-    ghost passes = { λ test seat. has_sat_out test.settings.now test.now seat };
+    ghost passes = { λ test place guest. has_sat_out test.settings.now test.now (seat_of_guest place [] 0 guest) };
 
-    fn passes(&self, seat: &Seat) -> bool {
+    fn passes(&self, _place: Place, guest: &Guest) -> bool {
         match self
             .settings
-            .options(seat.home.get())
+            .options(guest.home.get())
             .listeners
             .max_listener_duration
         {
-            Some(seconds) => lies_back(seconds.get(), seat.since, self.now),
+            Some(seconds) => lies_back(seconds.get(), guest.since, self.now),
             None => false,
         }
     }

@@ -5,11 +5,10 @@ use Rattle.radio_creds.specs.Credentials.{Credentials}
 use Rattle.radio_policy.specs.declared.rule.Rule.{Rule}
 use Rattle.radio_policy.specs.declared.rule.Rule.TheVariants.{NotLive, MountFull, ListenerPassword, UserTwice, FallbackDepth}
 use Rattle.radio_seats.specs.declared.seat.Listener.{Listener}
-use Rattle.radio_seats.specs.declared.seat.Seating.{Seating}
 use Rattle.radio_fallback.specs.declared.walking.Found.{Found}
 use Rattle.radio_fallback.specs.declared.walking.Landing.{Landing}
 use Rattle.radio_fallback.specs.declared.walking.Landing.TheVariants.{Lands, Stops}
-use Rattle.radio_seats.specs.Seats.{count_at, is_user_at, sits_there}
+use Rattle.radio_seats.specs.Seats.{count_at, sits_there}
 
 -- what a walk sees of the server
 pub record Sight : Type 0 where
@@ -28,10 +27,6 @@ is_full count limit = option_map_or (λ most. not (nat_lt count most)) limit fal
 -- the user that was sent sits at the mount; without a pair there is none
 abbrev pub sits_already : List Listener → List ℕ → Option Credentials → Bool
 sits_already seats mount pair = option_map_or (λ sent. sits_there seats mount sent.user) pair false
-
--- it is a seat at the mount of the user that was sent
-abbrev pub is_sent_user_at : List ℕ → Option Credentials → Seating → Bool
-is_sent_user_at mount pair seating = option_map_or (λ sent. is_user_at mount sent.user seating) pair false
 
 -- what one who sends this finds at the mount
 abbrev pub found_at : Sight → List Listener → List ℕ → Option Credentials → Found

@@ -2,3 +2,9 @@ pub mod Seats
 pub mod SeatLaws
 pub mod CountLaws
 pub mod EndLaws
+pub mod Guests
+pub mod Board
+pub mod Mounts
+pub mod Rows
+pub mod Lent
+pub mod Rests

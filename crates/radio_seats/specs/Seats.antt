@@ -61,6 +61,30 @@ advanced place listener = record listener { seating = heard_to place listener.se
 abbrev pub with_place : List Listener → ℕ → ℕ → List Listener
 with_place seats id place = update_first (is_listener id) (advanced place) seats
 
+-- a seat at this mount, in this session and from this place on
+abbrev pub moved_to : List ℕ → ℕ → ℕ → Seating → Seating
+moved_to mount session place (Sits seat) = Sits (record seat { mount = mount; session = session; place = place })
+moved_to mount session place (Finished rule) = Finished rule
+
+abbrev pub moved : List ℕ → ℕ → ℕ → Listener → Listener
+moved mount session place listener = record listener { seating = moved_to mount session place listener.seating }
+
+-- the listener sits there now, if he had a seat
+abbrev pub with_move : List Listener → ℕ → List ℕ → ℕ → ℕ → List Listener
+with_move seats id mount session place = update_first (is_listener id) (moved mount session place) seats
+
+-- a seat is lost by the rule; who has finished before has finished by his own
+abbrev pub lost_by : Rule → Seating → Seating
+lost_by rule (Sits seat) = Finished rule
+lost_by rule (Finished other) = Finished other
+
+abbrev pub loses : Rule → Listener → Listener
+loses rule listener = record listener { seating = lost_by rule listener.seating }
+
+-- the listener has lost his seat by the rule, if he had one
+abbrev pub with_end : List Listener → ℕ → Rule → List Listener
+with_end seats id rule = update_first (is_listener id) (loses rule) seats
+
 -- it is a seat of which this holds
 abbrev pub holds_of : (Seat → Bool) → Seating → Bool
 holds_of p (Sits seat) = p seat

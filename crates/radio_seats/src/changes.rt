@@ -1,12 +1,11 @@
 //! What is done to a listener in his place in the table.
 
 ghost use Rattle.std.specs.Prelude.{◌≡◌};
-ghost use Rattle.radio_seats.specs.Seats.{holds_of};
 
-use crate::{Listener, Seat, Seating};
+use crate::Guest;
+use crate::row::{ListenerRow, RowState};
 use radio_blocks::Place;
 use radio_policy::Rule;
-use radio_settings::MountName;
 use radio_tables::Change;
 
 /// The listener has heard his stream up to this place.
@@ -15,84 +14,114 @@ pub(crate) struct Advances {
     pub(crate) place: Place,
 }
 
-impl Change<Listener> for Advances {
+impl Change<ListenerRow> for Advances {
     ghost use Rattle.std.specs.Prelude.{refl};
-    ghost use Rattle.radio_seats.specs.Seats.{advanced};
+    ghost use Rattle.radio_seats.specs.Rows.{heard, with_state};
 
-    ghost gives = { λ change listener. advanced change.place listener };
+    ghost gives = { λ change row. with_state (heard change.place row.state) row };
 
-    ghost keeps_key = { λ change listener. refl };
+    ghost keeps_key = { λ change row. refl };
 
-    fn apply(&self, row: &mut Listener) {
-        if let Seating::Sits(seat) = &mut row.seating {
+    fn apply(&self, row: &mut ListenerRow) {
+        if let RowState::Seated(seat) = &mut row.state {
             seat.place = self.place;
         }
     }
 }
 
-/// A listener who sits at the mount loses his seat by the rule.
+/// The listener sits at the mount of this number from now on.
 #[derive(Drop)]
-pub(crate) struct FinishesFrom {
-    pub(crate) mount: MountName,
-    pub(crate) rule: Rule,
+pub(crate) struct Moves {
+    pub(crate) mount: u64,
+    pub(crate) session: u64,
+    pub(crate) place: Place,
 }
 
-impl Change<Listener> for FinishesFrom {
+impl Change<ListenerRow> for Moves {
     ghost use Rattle.std.specs.Prelude.{refl};
-    ghost use Rattle.radio_seats.specs.Seats.{finished_from};
+    ghost use Rattle.radio_seats.specs.Rows.{shifted, with_state};
 
-    ghost gives = { λ change listener. finished_from change.mount change.rule listener };
+    ghost gives = { λ change row. with_state (shifted change.mount change.session change.place row.state) row };
 
-    ghost keeps_key = { λ change listener. refl };
+    ghost keeps_key = { λ change row. refl };
 
-    fn apply(&self, row: &mut Listener) {
-        if row.seating.is_at(&self.mount) {
-            row.seating = Seating::Finished(self.rule);
+    fn apply(&self, row: &mut ListenerRow) {
+        if let RowState::Seated(seat) = &mut row.state {
+            seat.mount = self.mount;
+            seat.session = self.session;
+            seat.place = self.place;
         }
     }
 }
 
-/// A test of a seat.
+/// The listener loses his seat by the rule.
+#[derive(Drop)]
+pub(crate) struct Ends {
+    pub(crate) rule: Rule,
+}
+
+impl Change<ListenerRow> for Ends {
+    ghost use Rattle.std.specs.Prelude.{refl};
+    ghost use Rattle.radio_seats.specs.Rows.{ended, with_state};
+
+    ghost gives = { λ change row. with_state (ended change.rule row.state) row };
+
+    ghost keeps_key = { λ change row. refl };
+
+    fn apply(&self, row: &mut ListenerRow) {
+        if row.state.mount().is_some() {
+            row.state = RowState::Ended(self.rule);
+        }
+    }
+}
+
+/// A test of a place in a stream, and of the guest who has heard it up to there.
 pub trait SeatTest {
-    ghost use Rattle.std.specs.Prelude.{Bool};
-    ghost use Rattle.radio_seats.specs.declared.seat.Seat.{Seat};
+    ghost use Rattle.std.specs.Prelude.{ℕ, Bool};
+    ghost use Rattle.radio_seats.specs.declared.seat.Guest.{Guest};
 
     // What it asks.
-    ghost passes: { Self → Seat → Bool };
+    ghost passes: { Self → ℕ → Guest → Bool };
 
-    /// Whether it holds of the seat.
-    fn passes(&self, seat: &Seat) -> bool
-        ensures { result ≡ passes self.now seat.now };
+    /// Whether it holds.
+    fn passes(&self, place: Place, guest: &Guest) -> bool
+        ensures { result ≡ passes self.now place guest.now };
 }
 
-/// A listener loses a seat of which the test holds by the rule.
+/// A test that holds of everybody.
 #[derive(Drop)]
-pub(crate) struct FinishesIf<T: SeatTest> {
-    pub(crate) test: T,
-    pub(crate) rule: Rule,
-}
+pub(crate) struct Anybody;
 
-impl<T: SeatTest> Change<Listener> for FinishesIf<T> {
-    ghost use Rattle.std.specs.Prelude.{refl};
-    ghost use Rattle.radio_seats.specs.Seats.{finished_if};
+impl SeatTest for Anybody {
+    ghost use Rattle.std.specs.Prelude.{true};
 
-    ghost gives = { λ change listener. finished_if (T.passes change.test) change.rule listener };
+    ghost passes = { λ test place guest. true };
 
-    ghost keeps_key = { λ change listener. refl };
-
-    fn apply(&self, row: &mut Listener) {
-        if holds_of(&self.test, &row.seating) {
-            row.seating = Seating::Finished(self.rule);
-        }
+    fn passes(&self, _place: Place, _guest: &Guest) -> bool {
+        true
     }
 }
 
-/// Whether it is a seat of which the test holds.
-fn holds_of<T: SeatTest>(test: &T, seating: &Seating) -> bool
-    ensures { result ≡ holds_of (T.passes test.now) seating.now }
-{
-    match seating {
-        Seating::Sits(seat) => test.passes(seat),
-        Seating::Finished(_) => false,
+/// A listener who sits at the mount of this number, and of whom the test holds, loses his seat by
+/// the rule.
+#[derive(Drop)]
+pub(crate) struct FinishesAt<'a, T: SeatTest> {
+    pub(crate) number: u64,
+    pub(crate) test: &'a T,
+    pub(crate) rule: Rule,
+}
+
+impl<T: SeatTest> Change<ListenerRow> for FinishesAt<'_, T> {
+    ghost use Rattle.std.specs.Prelude.{refl};
+    ghost use Rattle.radio_seats.specs.Rows.{ended_where};
+
+    ghost gives = { λ change row. ended_where (T.passes change.test.now) change.number change.rule row };
+
+    ghost keeps_key = { λ change row. refl };
+
+    fn apply(&self, row: &mut ListenerRow) {
+        if row.state.passes_at(self.number, self.test) {
+            row.state = RowState::Ended(self.rule);
+        }
     }
 }

@@ -1,19 +1,26 @@
 //! The table of listeners: who sits at which mount, and who has lost his seat by which rule.
 //!
-//! - [`Seats`]: the table. Contracts see the list of its listeners, in the order of their numbers.
-//! - [`Listener`], [`Seating`], [`Seat`]: its rows. A [`SeatTest`] asks something of a seat.
-//! - [`KeptName`]: the name of a mount, apart from the rest of a seat; who sits at one mount share it.
+//! - [`Seats`]: the table. Contracts see it as a board: the names of the mounts that were prepared,
+//!   and the list of its listeners, in the order of their numbers.
+//! - [`Listener`], [`Seating`], [`Seat`]: the listeners as contracts see them. A row of the table
+//!   knows its mount by a number, so that it is small and moves without memory; of a mount the name
+//!   and the count of those who sit there are kept once.
+//! - [`LentSeat`], [`ListenerStanding`]: what the table answers of a listener; a [`SeatTest`] asks
+//!   something of a place and a [`Guest`].
+//! - [`KeptName`]: a name apart from what holds it.
 //! - What is found after each change, for proofs: `specs/SeatLaws.antt`, `specs/EndLaws.antt` and `specs/CountLaws.antt`.
 #![tactic(auto)]
 
 mod changes;
 mod kept_name;
+mod mounts;
+mod row;
 mod seat;
 mod seats;
 
 pub use changes::SeatTest;
 pub use kept_name::KeptName;
-pub use seat::{Listener, Seat, Seating};
+pub use seat::{Guest, LentSeat, Listener, ListenerStanding, Seat, Seating};
 pub use seats::Seats;
 
 /// What a call answers where memory was refused. Nothing has changed then.

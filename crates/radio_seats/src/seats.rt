@@ -1,130 +1,327 @@
 //! The table of listeners.
 
-ghost use Rattle.std.specs.Prelude.{◌≡◌, [], OnOk, OnErr};
-ghost use Rattle.std.specs.Option.{option_copied};
-ghost use Rattle.std.specs.Map.Iter.{ShowsInOrder, deref};
-ghost use Rattle.radio_seats.specs.declared.seat.Listener.{Listener as ListenerOf};
-ghost use Rattle.radio_seats.specs.Seats.{listener_of, seat_of, with_seat, with_place, finished_at, with_ended, without_listener, count_at};
-ghost use Rattle.radio_seats.specs.Seats.{sits_there, AreByNumber};
+ghost use Rattle.std.specs.Prelude.{◌≡◌, [], true, ◌||◌, ◌&&◌, ◌==◌, ◌<◌, not, find, filter, map, length, OnOk, OnErr, MatchOption};
+ghost use Rattle.std.specs.Option.{option_copied, option_map};
+ghost use Rattle.std.specs.List.{list_any};
+ghost use Rattle.std.specs.List.Sorted.{IsStrictlySortedBy};
+ghost use Rattle.std.specs.Ordering.{nat_cmp};
+ghost use Rattle.radio_seats.specs.declared.row.ListenerRow.{ListenerRow as RowOf};
+ghost use Rattle.std.specs.Str.{bytes_eq};
+ghost use Rattle.radio_seats.specs.Seats.{listener_of, seat_of, with_seat, with_place, with_move, with_end, finished_at, with_ended, without_listener};
+ghost use Rattle.radio_seats.specs.Seats.{count_at, sits_there, AreByNumber};
+ghost use Rattle.radio_seats.specs.Board.{is_prepared};
+ghost use Rattle.radio_seats.specs.Guests.{passes_in, passes_at};
+ghost use Rattle.radio_seats.specs.Lent.{lent_seat, standing_in};
+ghost use Rattle.radio_seats.specs.Rows.{is_row, number_in, holds_in, holds_at, user_state, seated_row};
 
-use crate::changes::{Advances, FinishesFrom, FinishesIf};
-use crate::{Listener, OutOfMemory, Seat, SeatTest, Seating};
+use crate::changes::{Advances, Anybody, Ends, FinishesAt, Moves};
+use crate::mounts::Mounts;
+use crate::row::{ListenerRow, NumberedSeat, RowState};
+use crate::{Guest, LentSeat, ListenerStanding, OutOfMemory, Seat, SeatTest};
 use radio_blocks::Place;
 use radio_policy::Rule;
 use radio_settings::MountName;
 use radio_tables::Table;
 use std::alloc::Global;
-use std::collections::btree_map::Values;
 use std::marker::Model;
 
-/// The listeners, each once, in the order of their numbers. Contracts see the list of them.
+/// The listeners, each once, in the order of their numbers, and the mounts that were prepared for
+/// them. A listener can be seated at a prepared mount, and moved to one without memory.
 #[derive(Drop)]
 pub struct Seats {
-    rows: Table<Listener>,
+    mounts: Mounts,
+    rows: Table<ListenerRow>,
 }
 
 impl Model for Seats {
-    ghost use Rattle.std.specs.Prelude.{List};
-    ghost use Rattle.radio_seats.specs.declared.seat.Listener.{Listener};
+    ghost use Rattle.std.specs.Prelude.{map};
+    ghost use Rattle.radio_seats.specs.Board.{Board};
+    ghost use Rattle.radio_seats.specs.Mounts.{name_in};
+    ghost use Rattle.radio_seats.specs.Rows.{named, AreCounted};
 
-    ghost Value = { List Listener };
+    ghost Value = { Board };
 
-    ghost view = { λ s. s.rows };
+    ghost view = { λ s. record { prepared = s.mounts.names; seats = map (named (name_in s.mounts.mounts)) s.rows } };
+
+    ghost invariant = { λ s. AreCounted s.mounts.mounts s.rows };
 }
 
 impl Seats {
-    /// No listeners. It takes no memory.
+    /// No listeners, and no mounts. It takes no memory.
     pub fn new(alloc: Global) -> Seats
-        ensures { result ≡ [] }
+        ensures { result ≡ record { prepared = []; seats = [] } }
     {
         Seats {
+            mounts: Mounts::new(alloc),
             rows: Table::new(alloc),
         }
     }
 
-    /// The listener of this number.
-    pub fn get(&self, id: u64) -> Option<&Listener>
-        ensures { option_copied result ≡ listener_of self.now id }
+    /// The mount is prepared from now on: listeners can be seated there. Of a prepared mount it
+    /// changes nothing. `OutOfMemory` where memory was refused; nothing has changed then.
+    pub fn prepare(&mut self, mount: &MountName) -> Result<(), OutOfMemory>
+        ensures prepared { OnOk result ((other : _) → is_prepared self.new.prepared other ≡ (is_prepared self.old.prepared other || bytes_eq mount.now other)) }
+        ensures seats { self.new.seats ≡ self.old.seats }
+        ensures err { OnErr result (self.new ≡ self.old) }
     {
-        self.rows.get(&id)
+        self.mounts.prepare(mount)
+    }
+
+    /// The mount is not prepared any more, if nobody sits there. It takes no memory.
+    pub fn release(&mut self, mount: &MountName)
+        ensures prepared { (other : _) → is_prepared self.new.prepared other
+            ≡ (is_prepared self.old.prepared other && not (bytes_eq mount.now other && (count_at self.old.seats mount.now == 0))) }
+        ensures seats { self.new.seats ≡ self.old.seats }
+    {
+        if self.count(mount) == 0 {
+            self.mounts.release(mount);
+        }
     }
 
     /// The seat of the listener of this number, if he has one.
-    pub fn seat(&self, id: u64) -> Option<&Seat>
-        ensures { option_copied result ≡ seat_of self.now id }
+    pub fn seat(&self, id: u64) -> Option<LentSeat<'_>>
+        ensures { option_map lent_seat result ≡ seat_of self.now.seats id }
     {
-        let Some(listener) = self.rows.get(&id) else {
+        let Some(row) = self.rows.get(&id) else {
             return None;
         };
-        listener.seating.seat()
+        match &row.state {
+            RowState::Seated(seat) => match self.mounts.get(seat.mount) {
+                Some(mount) => Some(LentSeat {
+                    place: seat.place,
+                    mount: &mount.name,
+                    session: seat.session,
+                    guest: &seat.guest,
+                }),
+                None => unreachable!(),
+            },
+            RowState::Ended(_) => None,
+        }
+    }
+
+    /// How the listener of this number stands, if there is one.
+    pub fn standing(&self, id: u64) -> Option<ListenerStanding>
+        ensures { result ≡ standing_in (listener_of self.now.seats id) }
+    {
+        let Some(row) = self.rows.get(&id) else {
+            return None;
+        };
+        Some(match &row.state {
+            RowState::Seated(_) => ListenerStanding::HasSeat,
+            RowState::Ended(rule) => ListenerStanding::HasLost(*rule),
+        })
     }
 
     /// The client is a listener from now on, and has this seat; of one who was a listener before,
     /// it is all that stays. `OutOfMemory` where memory was refused; nothing has changed then.
     pub fn add(&mut self, id: u64, seat: Seat) -> Result<(), OutOfMemory>
-        ensures ok { OnOk result (self.new ≡ with_seat self.old id seat) }
+        requires { is_prepared self.old.prepared seat.mount ≡ true }
+        ensures ok { OnOk result (self.new ≡ record self.old { seats = with_seat self.old.seats id seat }) }
         ensures err { OnErr result (self.new ≡ self.old) }
     {
-        let seating = Seating::Sits(seat);
-        self.rows.insert(Listener { id, seating })
+        let Some(number) = self.mounts.number(&seat.mount) else {
+            unreachable!();
+        };
+        let from = number_of(&self.rows, id);
+        self.rows.insert(numbered(id, number, seat))?;
+        // so many fit
+        let _ = self.rows.len();
+        self.mounts.leave(from);
+        self.mounts.gain(number);
+        Ok(())
     }
 
     /// The listener has heard his stream up to this place. Nothing changes where he has no seat.
     /// It takes no memory.
     pub fn advance(&mut self, id: u64, place: Place)
-        ensures { self.new ≡ with_place self.old id place }
+        ensures { self.new ≡ record self.old { seats = with_place self.old.seats id place } }
     {
         self.rows.change(&id, &Advances { place });
     }
 
-    /// All who sit at the mount lose their seats by the rule. It takes no memory.
-    pub fn finish_at(&mut self, mount: MountName, rule: Rule)
-        ensures { self.new ≡ finished_at self.old mount rule }
+    /// The listener sits at the mount from now on, in this session and from this place on. Nothing
+    /// changes where he has no seat. It takes no memory.
+    pub fn shift(&mut self, id: u64, mount: &MountName, session: u64, place: Place)
+        requires { is_prepared self.old.prepared mount.now ≡ true }
+        ensures { self.new ≡ record self.old { seats = with_move self.old.seats id mount.now session place } }
     {
-        self.rows.change_all(&FinishesFrom { mount, rule });
+        let Some(number) = self.mounts.number(mount) else {
+            unreachable!();
+        };
+        let from = number_of(&self.rows, id);
+        let moves = Moves {
+            mount: number,
+            session,
+            place,
+        };
+        self.rows.change(&id, &moves);
+        let Some(_) = from else {
+            return;
+        };
+        // so many fit
+        let _ = self.rows.len();
+        self.mounts.leave(from);
+        self.mounts.gain(number);
     }
 
-    /// All who have a seat of which the test holds lose it by the rule. It takes no memory.
-    pub fn finish_if<T: SeatTest + Drop>(&mut self, test: T, rule: Rule)
-        ensures { self.new ≡ with_ended self.old (T.passes test) rule }
+    /// The listener loses his seat by the rule. Nothing changes where he has none. It takes no
+    /// memory.
+    pub fn end(&mut self, id: u64, rule: Rule)
+        ensures { self.new ≡ record self.old { seats = with_end self.old.seats id rule } }
     {
-        self.rows.change_all(&FinishesIf { test, rule });
+        let from = number_of(&self.rows, id);
+        self.rows.change(&id, &Ends { rule });
+        self.mounts.leave(from);
     }
 
     /// Nothing is left of the listener. It takes no memory.
     pub fn remove(&mut self, id: u64)
-        ensures { self.new ≡ without_listener self.old id }
+        ensures { self.new ≡ record self.old { seats = without_listener self.old.seats id } }
     {
-        self.rows.remove(&id);
+        let from = number_of(&self.rows, id);
+        drop(self.rows.remove(&id));
+        self.mounts.leave(from);
     }
 
-    /// The listeners, in the order of their numbers.
-    pub fn iter(&self) -> Values<'_, u64, Listener>
-        ensures rest { result ≡ self.now }
-        ensures runs { ShowsInOrder (deref {X = ListenerOf}) }
+    /// All who sit at the mount lose their seats by the rule. It takes no memory.
+    pub fn finish_at(&mut self, mount: &MountName, rule: Rule)
+        ensures { self.new ≡ record self.old { seats = finished_at self.old.seats mount.now rule } }
     {
-        self.rows.iter()
+        self.finish_at_if(mount, &Anybody, rule);
     }
 
-    /// How many sit at the mount. The time grows as the number of listeners.
-    pub fn count(&self, mount: &MountName) -> usize
-        ensures count { result ≡ count_at self.now mount.now }
+    /// All who sit at the mount, and of whom the test holds, lose their seats by the rule. It takes
+    /// no memory. The listeners are looked at once where it holds of nobody.
+    pub fn finish_at_if<T: SeatTest>(&mut self, mount: &MountName, test: &T, rule: Rule)
+        ensures { self.new ≡ record self.old { seats = with_ended self.old.seats (passes_at mount.now (T.passes test.now)) rule } }
+    {
+        let Some(number) = self.mounts.number(mount) else {
+            return;
+        };
+        let count = count_where(&self.rows, number, test);
+        if count == 0 {
+            return;
+        }
+        self.rows.change_all(&FinishesAt { number, test, rule });
+        self.mounts.lose(number, count as u64);
+    }
+
+    /// All who have a seat of which the test holds lose it by the rule. It takes no memory. The
+    /// listeners are looked at once where it holds of nobody.
+    pub fn finish_if<T: SeatTest>(&mut self, test: &T, rule: Rule)
+        ensures { self.new ≡ record self.old { seats = with_ended self.old.seats (passes_in (T.passes test.now)) rule } }
+    {
+        'mounts: while let Some(mount) = self.first_mount_where(test) {
+            self.finish_at_if(&mount, test, rule);
+        }
+    }
+
+    /// How many sit at the mount.
+    pub fn count(&self, mount: &MountName) -> u64
+        ensures count { result ≡ count_at self.now.seats mount.now }
         // the listeners stand in the order of their numbers, so that each is counted once
-        ensures rising { AreByNumber self.now }
+        ensures rising { AreByNumber self.now.seats }
     {
-        self.rows
-            .iter()
-            .filter(|listener| listener.seating.is_at(mount))
-            .count()
+        let _ = self.rows.len();
+        let Some(number) = self.mounts.number(mount) else {
+            return 0;
+        };
+        match self.mounts.get(number) {
+            Some(mount) => mount.sitting,
+            None => 0,
+        }
     }
 
     /// Whether somebody sits at the mount who sent this user. The time grows as the number of
     /// listeners.
     pub fn user_at(&self, mount: &MountName, user: &[u8]) -> bool
-        ensures { result ≡ sits_there self.now mount.now user.now }
+        ensures { result ≡ sits_there self.now.seats mount.now user.now }
     {
-        self.rows
-            .iter()
-            .any(|listener| listener.seating.is_of_user(mount, user))
+        let Some(number) = self.mounts.number(mount) else {
+            return false;
+        };
+        has_user(&self.rows, number, user)
+    }
+}
+
+impl Seats {
+    ghost use Rattle.std.specs.Prelude.{◌≡◌, ◌<◌, MatchOption, filter, length};
+    ghost use Rattle.radio_seats.specs.Guests.{passes_in, passes_at};
+    ghost use Rattle.radio_seats.specs.Rests.{how_many};
+
+    /// The mount of the first listener who has a seat of which the test holds.
+    fn first_mount_where<T: SeatTest>(&self, test: &T) -> Option<MountName>
+        ensures { MatchOption result (how_many (passes_in (T.passes test.now)) self.now.seats ≡ 0)
+            (λ mount. 0 < how_many (passes_at mount (T.passes test.now)) self.now.seats) }
+    {
+        let Some(row) = first_where(&self.rows, test) else {
+            return None;
+        };
+        let Some(number) = row.state.mount() else {
+            unreachable!();
+        };
+        match self.mounts.get(number) {
+            Some(mount) => Some(mount.name),
+            None => unreachable!(),
+        }
+    }
+}
+
+/// The number of the mount where the listener sits.
+fn number_of(rows: &Table<ListenerRow>, id: u64) -> Option<u64>
+    ensures number { result ≡ number_in (find (is_row id) rows.now) }
+    // no listener has two rows
+    ensures rising { IsStrictlySortedBy nat_cmp (map (λ (row : RowOf). row.id) rows.now) }
+{
+    let _ = rows.len();
+    match rows.get(&id) {
+        Some(row) => row.state.mount(),
+        None => None,
+    }
+}
+
+/// The first row of one who has a seat of which the test holds.
+fn first_where<'a, T: SeatTest>(rows: &'a Table<ListenerRow>, test: &T) -> Option<&'a ListenerRow>
+    ensures { option_copied result ≡ find (λ row. holds_in (T.passes test.now) row.state) rows.now }
+{
+    rows.iter().find(|row| row.state.passes(test))
+}
+
+/// Whether somebody sits at the mount of this number who sent this user.
+fn has_user(rows: &Table<ListenerRow>, number: u64, user: &[u8]) -> bool
+    ensures { result ≡ list_any (λ row. user_state number user.now row.state) rows.now }
+{
+    rows.iter().any(|row| row.state.is_of_user(number, user))
+}
+
+/// How many sit at the mount of this number, of whom the test holds.
+fn count_where<T: SeatTest>(rows: &Table<ListenerRow>, number: u64, test: &T) -> usize
+    ensures { result ≡ length (filter (λ row. holds_at (T.passes test.now) number row.state) rows.now) }
+{
+    rows.iter()
+        .filter(|row| row.state.passes_at(number, test))
+        .count()
+}
+
+/// The listener's row, where the mount of his seat has this number.
+fn numbered(id: u64, number: u64, seat: Seat) -> ListenerRow
+    ensures { result ≡ seated_row id number seat }
+{
+    let guest = Guest {
+        home: seat.home,
+        peer: seat.peer,
+        pair: seat.pair,
+        interval: seat.interval,
+        since: seat.since,
+    };
+    let seat = NumberedSeat {
+        place: seat.place,
+        mount: number,
+        session: seat.session,
+        guest,
+    };
+    ListenerRow {
+        id,
+        state: RowState::Seated(seat),
     }
 }

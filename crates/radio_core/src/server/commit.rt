@@ -1,4 +1,7 @@
 ghost use Rattle.std.specs.Prelude.{◌≡◌, IsOk, OnOk, OnErr};
+ghost use Rattle.std.specs.Option.{option_map};
+ghost use Rattle.radio_seats.specs.declared.seat.Seat.{Seat as SeatOf};
+ghost use Rattle.radio_seats.specs.Seats.{seat_of};
 ghost use Rattle.radio_core.specs.Changes.{changed, laggards_ended, session_ended, forgotten};
 ghost use Rattle.radio_core.specs.KeptChanges.{kept_changed, kept_taken_in};
 ghost use Rattle.radio_core.specs.Step.{NeedsNoMemory};
@@ -11,7 +14,7 @@ use crate::timeouts::LagsBehind;
 use radio_blocks::{Block, Place};
 use radio_policy::Rule;
 use radio_seats::Seat;
-use radio_settings::MountName;
+use radio_settings::{MountName, Shown};
 
 impl State {
     /// Makes a change. `OutOfMemory` where memory was refused; nothing has changed then.
@@ -22,7 +25,7 @@ impl State {
     {
         match change {
             Change::Admit { id, peer } => self.house.admit(id, peer),
-            Change::Begin { id, mount, shown } => self.house.begin(self.alloc, id, mount, shown),
+            Change::Begin { id, mount, shown } => self.begin(id, mount, shown),
             Change::Receive { mount, block } => self.take_in(mount, block),
             Change::TakeSeat { id, seat } => self.seat_listener(id, seat),
             change => {
@@ -72,7 +75,7 @@ impl State {
         let end = Place::new(self.house.live_end(&mount));
         let queue = self.house.settings.limits.queue_size.get() as u64;
         self.seats
-            .finish_if(LagsBehind { mount, end, queue }, Rule::Lagged);
+            .finish_at_if(&mount, &LagsBehind { end, queue }, Rule::Lagged);
     }
 
     /// The client has this seat from now on.
@@ -80,9 +83,36 @@ impl State {
         ensures ok { OnOk result (self.new ≡ changed self.old (Change.TakeSeat id seat)) }
         ensures err { OnErr result (self.new ≡ self.old) }
     {
+        // where the mount is live it is prepared already
+        self.seats.prepare(&seat.mount)?;
         self.seats.add(id, seat)?;
         self.house.set_state(id, ClientState::Listens);
         Ok(())
+    }
+
+    /// The client feeds the mount from now on, and listeners can be seated there.
+    fn begin(&mut self, id: u64, mount: MountName, shown: Shown) -> Result<(), OutOfMemory>
+        ensures ok { OnOk result (self.new ≡ changed self.old (Change.Begin id mount shown)) }
+        ensures err { OnErr result (self.new ≡ self.old) }
+    {
+        self.seats.prepare(&mount)?;
+        match self.house.begin(self.alloc, id, mount, shown) {
+            Ok(()) => Ok(()),
+            Err(refused) => {
+                self.release_idle(&mount);
+                Err(refused)
+            }
+        }
+    }
+
+    /// A mount that is not live, and where nobody sits, is not prepared any more. It takes no
+    /// memory.
+    fn release_idle(&mut self, mount: &MountName)
+        ensures { self.new ≡ self.old }
+    {
+        if self.house.session(mount).is_none() {
+            self.seats.release(mount);
+        }
     }
 
     /// The mount's session ends, and its listeners finish. It takes no memory.
@@ -90,14 +120,29 @@ impl State {
         ensures { self.new ≡ session_ended self.old mount }
     {
         drop(self.house.live.remove(&mount));
-        self.seats.finish_at(mount, Rule::NotLive);
+        self.seats.finish_at(&mount, Rule::NotLive);
+        self.seats.release(&mount);
     }
 
     /// Nothing is left of the client. It takes no memory.
     fn forget(&mut self, id: u64)
         ensures { self.new ≡ forgotten self.old id }
     {
+        let mount = self.mount_of(id);
         self.seats.remove(id);
         self.house.clients.remove(&id);
+        if let Some(mount) = mount {
+            self.release_idle(&mount);
+        }
+    }
+
+    /// The mount where the listener sits, if he does.
+    fn mount_of(&self, id: u64) -> Option<MountName>
+        ensures { result ≡ option_map (λ (seat : SeatOf). seat.mount) (seat_of self.now.seats id) }
+    {
+        match self.seats.seat(id) {
+            Some(seat) => Some(*seat.mount),
+            None => None,
+        }
     }
 }

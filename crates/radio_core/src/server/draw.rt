@@ -2,6 +2,7 @@ ghost use Rattle.std.specs.Prelude.{◌≡◌, Some, IfOk};
 ghost use Rattle.radio_core.specs.Draw.{draws, hands_out};
 ghost use Rattle.radio_core.specs.Outcomes.{out_of_place};
 ghost use Rattle.radio_seats.specs.Seats.{seat_of};
+ghost use Rattle.radio_seats.specs.Lent.{lent_seat};
 ghost use Rattle.radio_core.specs.Sessions.{session_of};
 ghost use Rattle.radio_core.specs.Step.{StandsForSome};
 ghost use Rattle.radio_core.specs.World.{standing_of};
@@ -12,7 +13,7 @@ use crate::outcome::{Change, Outcome};
 use crate::standing::Standing;
 use radio_blocks::Pieces;
 use radio_events::Reply;
-use radio_seats::Seat;
+use radio_seats::LentSeat;
 
 impl State {
     /// A listener has room for so many bytes. Whoever has a seat is a client who sits, so only of
@@ -38,12 +39,12 @@ impl State {
     }
 
     /// He is handed what stands at his place.
-    fn hand_out(&self, id: u64, seat: &Seat, room: u32) -> Result<Outcome, OutOfMemory>
+    fn hand_out(&self, id: u64, seat: LentSeat<'_>, room: u32) -> Result<Outcome, OutOfMemory>
         requires stands { StandsForSome self.now }
-        requires sits { seat_of self.now.seats id ≡ Some seat.now }
-        ensures { IfOk result (λ o. o ≡ hands_out id seat.now room (session_of self.now.house.live seat.now.mount)) }
+        requires sits { seat_of self.now.seats id ≡ Some (lent_seat seat) }
+        ensures { IfOk result (λ o. o ≡ hands_out id (lent_seat seat.entry) room (session_of self.now.house.live seat.entry.mount.now)) }
     {
-        let Some(session) = self.house.session(seat.mount.get()) else {
+        let Some(session) = self.house.session(seat.mount) else {
             return Ok(Outcome::stray());
         };
         let mut pieces = Pieces::new(self.alloc);

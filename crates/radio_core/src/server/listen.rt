@@ -11,7 +11,7 @@ use crate::standing::Standing;
 use radio_addr::Peer;
 use radio_events::{ListenRequest, Reply};
 use radio_policy::{Action, Rule, Verdict, judge};
-use radio_seats::{KeptName, Seat};
+use radio_seats::Seat;
 use radio_settings::MountName;
 
 impl State {
@@ -122,13 +122,13 @@ impl House {
     ) -> Result<Seat, OutOfMemory>
         ensures { IfOk result (λ seat. seat ≡ first_seat self.now asked peer session.now) }
     {
-        let (home, mount) = twice(&session.mount)?;
+        let home = session.mount.clone()?;
         let name = session.mount.get();
         let burst = self.burst_of(name);
         let interval = self.interval_for(name, asked.wants_metadata);
         Ok(Seat {
             home,
-            mount,
+            mount: *name,
             session: session.number,
             place: session.stream.burst_start(burst),
             peer,
@@ -137,13 +137,4 @@ impl House {
             since: self.time,
         })
     }
-}
-
-/// A name twice. `OutOfMemory` where memory was refused.
-fn twice(name: &KeptName) -> Result<(KeptName, KeptName), OutOfMemory>
-    ensures first { IfOk result (λ names. names.0 ≡ name.now) }
-    ensures second { IfOk result (λ names. names.1 ≡ name.now) }
-{
-    let first = name.clone()?;
-    Ok((first, name.clone()?))
 }

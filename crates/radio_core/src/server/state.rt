@@ -13,14 +13,14 @@ use crate::outcome::Outcome;
 use crate::standing::Standing;
 use radio_access::Lists;
 use radio_events::Event;
-use radio_seats::{Seating, Seats};
+use radio_seats::{ListenerStanding, Seats};
 use radio_settings::Settings;
 use radio_tables::Table;
 use std::alloc::Global;
 use std::marker::Model;
 
 /// The house, and the table of those who listen in it. Contracts see it as a `World` in which of
-/// each stream the last blocks are kept.
+/// each stream the last blocks are kept. Each live mount is prepared for listeners.
 #[derive(Drop)]
 pub(crate) struct State {
     pub(super) alloc: Global,
@@ -30,6 +30,7 @@ pub(crate) struct State {
 
 impl Model for State {
     ghost use Rattle.radio_core.specs.World.{World};
+    ghost use Rattle.radio_core.specs.Prepared.{LiveArePrepared};
     ghost use Rattle.std.specs.Coded.{codes};
     ghost use Rattle.radio_creds.specs.contracts.user_list.Users as creds_users;
 
@@ -37,7 +38,9 @@ impl Model for State {
 
     ghost coded = { Prim.hlevel (codes, creds_users.the_row.coded) };
 
-    ghost view = { λ c. record { house = c.house; seats = c.seats } };
+    ghost view = { λ c. record { house = c.house; seats = c.seats.seats } };
+
+    ghost invariant = { λ c. LiveArePrepared c.house.live c.seats.prepared };
 }
 
 impl State {
@@ -101,12 +104,10 @@ impl State {
     fn listener_standing(&self, id: u64) -> Standing
         ensures { result ≡ standing_of_listener (listener_of self.now.seats id) }
     {
-        let Some(listener) = self.seats.get(id) else {
-            return Standing::Answered;
-        };
-        match &listener.seating {
-            Seating::Sits(_) => Standing::Sits,
-            Seating::Finished(rule) => Standing::Finished(*rule),
+        match self.seats.standing(id) {
+            None => Standing::Answered,
+            Some(ListenerStanding::HasSeat) => Standing::Sits,
+            Some(ListenerStanding::HasLost(rule)) => Standing::Finished(rule),
         }
     }
 }

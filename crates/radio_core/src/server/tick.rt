@@ -27,7 +27,7 @@ impl State {
         let settings = &self.house.settings;
         let now = self.house.time;
         self.seats
-            .finish_if(HasSatOut { settings, now }, Rule::TimeOver);
+            .finish_if(&HasSatOut { settings, now }, Rule::TimeOver);
     }
 
     /// Sessions end whose sources have sent nothing in their time, in the order of their mounts.

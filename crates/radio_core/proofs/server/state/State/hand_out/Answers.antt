@@ -1,5 +1,6 @@
-use Rattle.std.proofs.Common.{◌≤◌, List, ℕ, ap, sym, subst, ◌∙◌}
+use Rattle.std.proofs.Common.{◌≤◌, ap, sym, subst, ◌∙◌}
 use Rattle.std.specs.Option.{option_copied}
+use Rattle.radio_seats.specs.Lent.{lent_seat}
 use Rattle.radio_core.specs.Kept.{first_start}
 use Rattle.radio_core.specs.Sessions.{Session, session_of}
 use Rattle.radio_core.specs.Stream.{end_of}
@@ -9,8 +10,7 @@ use Rattle.radio_core.proofs.server.state.State.hand_out.Goals as goal
 
 pub draw-requires : goal.draw-requires
 draw-requires c =
-    let mount = c.args.seat.now.mount in
-    let live = ap (λ (w : World). session_of w.house.live mount) (sym c.self.view_is)
-    ∙ ap (λ (name : List ℕ). session_of c.self.inside.house.live name) (sym c.get.ensures) ∙ sym c.session.ensures ∙ ap option_copied c.in-Some.is in
-    subst (λ (s : Session). first_start (end_of s.stream) s.stream.starts ≤ c.args.seat.now.place) (sym c.session-2.view_is)
-    (place_is_kept c.args.self.now c.requires.stands c.args.id c.args.seat.now c.in-Some.session.now c.requires.sits live)
+    let seat = lent_seat c.args.seat in
+    let live = ap (λ (w : World). session_of w.house.live seat.mount) (sym c.self.view_is) ∙ sym c.session.ensures ∙ ap option_copied c.in-Some.is in
+    subst (λ (s : Session). first_start (end_of s.stream) s.stream.starts ≤ seat.place) (sym c.session-2.view_is)
+    (place_is_kept c.args.self.now c.requires.stands c.args.id seat c.in-Some.session.now c.requires.sits live)

@@ -1,0 +1,19 @@
+use Rattle.std.proofs.Common.{◌==◌, List, refl, ap, ◌∙◌}
+use Rattle.radio_seats.specs.Board.{Board}
+use Rattle.radio_seats.specs.Seats.{count_at}
+use Rattle.radio_core.specs.Sessions.{Session, session_of}
+use Rattle.radio_core.proofs.Lookups.{is_over}
+use Rattle.radio_core.proofs.PreparedLemmas.{ended_prepared, idle_released, still_prepared}
+use Rattle.radio_core.proofs.server.state.State.end_session.Goals as goal
+
+pub invariant_of-self : goal.invariant_of-self
+invariant_of-self c =
+    let live = c.self.inside.house.live in
+    let left = c.remove.new.self in
+    let board = c.finish_at.new.self in
+    let mount = c.args.mount in
+    idle_released left board.prepared c.release.new.self.prepared mount (count_at board.seats mount == 0)
+    (ap (λ (sessions : List Session). session_of sessions mount) c.remove.ensures.removed ∙ is_over live mount)
+    c.release.ensures.prepared
+    (ended_prepared live left board.prepared mount c.remove.ensures.removed
+    (still_prepared live live c.self.inside.seats.prepared board.prepared refl (ap (λ (b : Board). b.prepared) c.finish_at.ensures) c.self.invariant))

@@ -1,0 +1,30 @@
+-- A seat and its guest: what stays as it is wherever he sits.
+use Rattle.std.specs.Prelude.{ℕ, Bool, ◌&&◌, List}
+use Rattle.std.specs.Str.{bytes_eq}
+use Rattle.radio_seats.specs.declared.seat.Guest.{Guest}
+use Rattle.radio_seats.specs.declared.seat.Seat.{Seat}
+
+-- the guest's seat at this mount
+abbrev pub seat_of_guest : ℕ → List ℕ → ℕ → Guest → Seat
+seat_of_guest place mount session guest = record {
+  place = place;
+  mount = mount;
+  session = session;
+  home = guest.home;
+  peer = guest.peer;
+  pair = guest.pair;
+  interval = guest.interval;
+  since = guest.since;
+}
+
+-- who has the seat
+abbrev pub guest_in : Seat → Guest
+guest_in seat = record { home = seat.home; peer = seat.peer; pair = seat.pair; interval = seat.interval; since = seat.since }
+
+-- a test of a place and a guest holds of the seat
+abbrev pub passes_in : (ℕ → Guest → Bool) → Seat → Bool
+passes_in p seat = p seat.place (guest_in seat)
+
+-- and it is a seat at the mount
+abbrev pub passes_at : List ℕ → (ℕ → Guest → Bool) → Seat → Bool
+passes_at mount p seat = bytes_eq seat.mount mount && passes_in p seat

@@ -1,0 +1,96 @@
+//! The rows of the table, in which a mount is a number.
+
+ghost use Rattle.std.specs.Prelude.{◌≡◌};
+ghost use Rattle.radio_seats.specs.Rows.{number_of, state_at, holds_in, holds_at, user_state};
+
+use crate::{Guest, SeatTest};
+use radio_blocks::Place;
+use radio_policy::Rule;
+use radio_tables::Row;
+
+/// A seat, in which the mount is its number.
+#[derive(Drop)]
+pub(crate) struct NumberedSeat {
+    // what a push and a draw read comes first, and lies together
+    pub(crate) place: Place,
+    pub(crate) mount: u64,
+    pub(crate) session: u64,
+    pub(crate) guest: Guest,
+}
+
+/// Whether a listener sits.
+#[derive(Drop)]
+pub(crate) enum RowState {
+    /// He has this seat.
+    Seated(NumberedSeat),
+    /// He has lost his seat by the rule.
+    Ended(Rule),
+}
+
+impl RowState {
+    /// The number of the mount where he sits.
+    pub(crate) fn mount(&self) -> Option<u64>
+        ensures { result ≡ number_of self.now }
+    {
+        match self {
+            RowState::Seated(seat) => Some(seat.mount),
+            RowState::Ended(_) => None,
+        }
+    }
+
+    /// Whether it is a seat of which the test holds.
+    pub(crate) fn passes<T: SeatTest>(&self, test: &T) -> bool
+        ensures { result ≡ holds_in (T.passes test.now) self.now }
+    {
+        match self {
+            RowState::Seated(seat) => test.passes(seat.place, &seat.guest),
+            RowState::Ended(_) => false,
+        }
+    }
+
+    /// Whether it is such a seat at the mount of this number.
+    pub(crate) fn passes_at<T: SeatTest>(&self, number: u64, test: &T) -> bool
+        ensures { result ≡ holds_at (T.passes test.now) number self.now }
+    {
+        match self {
+            RowState::Seated(seat) => {
+                seat.mount == number && test.passes(seat.place, &seat.guest)
+            }
+            RowState::Ended(_) => false,
+        }
+    }
+
+    /// Whether it is a seat at the mount of this number, of one who sent this user.
+    pub(crate) fn is_of_user(&self, number: u64, user: &[u8]) -> bool
+        ensures { result ≡ user_state number user.now self.now }
+    {
+        match self {
+            RowState::Seated(seat) => seat.mount == number && seat.guest.has_user(user),
+            RowState::Ended(_) => false,
+        }
+    }
+}
+
+/// A listener, as the table keeps him.
+#[derive(Drop)]
+pub(crate) struct ListenerRow {
+    pub(crate) id: u64,
+    pub(crate) state: RowState,
+}
+
+impl Row for ListenerRow {
+    type Key = u64;
+
+    ghost use Rattle.radio_tables.specs.KeyLaws.{number_is};
+    ghost use Rattle.radio_seats.specs.Rows.{is_row};
+
+    ghost key = { λ row. row.id };
+
+    ghost has_key = { is_row };
+
+    ghost has_key_is = { λ id row. number_is id row.id };
+
+    fn key(&self) -> u64 {
+        self.id
+    }
+}
