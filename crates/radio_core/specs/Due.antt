@@ -4,9 +4,9 @@ use Rattle.std.specs.Option.{option_map_or}
 use Rattle.radio_tables.specs.Lists.{Each}
 use Rattle.radio_settings.specs.declared.settings.Settings.{Settings}
 use Rattle.radio_settings.specs.Options.{options_for}
+use Rattle.radio_seats.specs.declared.seat.Guest.{Guest}
 use Rattle.radio_seats.specs.declared.seat.Seat.{Seat}
-use Rattle.radio_seats.specs.declared.seat.Seating.{Seating}
-use Rattle.radio_seats.specs.declared.seat.Seating.TheVariants.{Sits, Finished}
+use Rattle.radio_seats.specs.Guests.{guest_in, moment_in, first_moment}
 use Rattle.radio_seats.specs.declared.seat.Listener.{Listener}
 use Rattle.radio_core.specs.declared.clients.Client.{Client}
 use Rattle.radio_core.specs.declared.clients.ClientState.{ClientState}
@@ -32,17 +32,18 @@ due_in_state seconds arrived state = last_moment
 abbrev pub client_due : ℕ → Client → ℕ
 client_due seconds client = due_in_state seconds client.arrived client.state
 
--- a seat is due if the mount sets a duration that its listener asked for
-abbrev pub seat_due : Settings → Seat → ℕ
-seat_due settings seat =
-    option_map_or (λ seconds. due_at seconds seat.since) (options_for settings seat.home).listeners.max_listener_duration last_moment
+-- who was seated at this moment is due if the mount sets a duration that he asked for
+abbrev pub home_due : Settings → List ℕ → ℕ → ℕ
+home_due settings home since = option_map_or (λ seconds. due_at seconds since) (options_for settings home).listeners.max_listener_duration last_moment
 
-abbrev pub seating_due : Settings → Seating → ℕ
-seating_due settings (Sits seat) = seat_due settings seat
-seating_due settings (Finished rule) = last_moment
+abbrev pub guest_due : Settings → Guest → ℕ
+guest_due settings guest = home_due settings guest.home guest.since
+
+abbrev pub seat_due : Settings → Seat → ℕ
+seat_due settings seat = guest_due settings (guest_in seat)
 
 abbrev pub listener_due : Settings → Listener → ℕ
-listener_due settings listener = seating_due settings listener.seating
+listener_due settings listener = moment_in (guest_due settings) last_moment listener.seating
 
 abbrev pub session_due : ℕ → Session → ℕ
 session_due seconds session = due_at seconds session.last_block
@@ -59,7 +60,7 @@ earliest due xs = fold (λ first x. min first (due x)) last_moment xs
 
 abbrev pub first_due : World → ℕ
 first_due w = min (earliest (client_due w.house.settings.limits.header_timeout) w.house.clients)
-    (min (earliest (listener_due w.house.settings) w.seats) (earliest (session_due w.house.settings.limits.source_timeout) w.house.live))
+    (min (first_moment (guest_due w.house.settings) last_moment w.seats) (earliest (session_due w.house.settings.limits.source_timeout) w.house.live))
 
 -- when what the change brings is due
 abbrev pub due_by : World → Change → ℕ

@@ -1,11 +1,11 @@
 //! From which moment on the time of something is over.
 
 ghost use Rattle.std.specs.Prelude.{◌≡◌};
-ghost use Rattle.radio_core.specs.Due.{due_at, client_due, listener_due, seat_due};
+ghost use Rattle.radio_core.specs.Due.{due_at, client_due, home_due, seat_due};
 
 use crate::clients::{Client, ClientState};
-use radio_seats::{Listener, Seat};
-use radio_settings::Settings;
+use radio_seats::{Guest, GuestMoment, Seat};
+use radio_settings::{MountName, Settings};
 
 /// The last moment that there is, for what is due at none.
 pub(crate) const LAST_MOMENT: u64 = u64::MAX;
@@ -31,13 +31,19 @@ pub(crate) fn client_due(seconds: u32, client: &Client) -> u64
     }
 }
 
-/// When a listener is due.
-pub(crate) fn listener_due(settings: &Settings, listener: &Listener) -> u64
-    ensures { result ≡ listener_due settings.now listener.now }
-{
-    match listener.seating.seat() {
-        Some(seat) => seat_due(settings, seat),
-        None => LAST_MOMENT,
+/// When one is due who has a seat, by the mount that he asked for.
+#[derive(Clone, Copy)]
+pub(crate) struct GuestDue<'a> {
+    pub(crate) settings: &'a Settings,
+}
+
+impl GuestMoment for GuestDue<'_> {
+    ghost use Rattle.radio_core.specs.Due.{guest_due};
+
+    ghost gives = { λ due guest. guest_due due.settings.now guest };
+
+    fn moment(&self, guest: &Guest) -> u64 {
+        due_of(self.settings, guest.home.get(), guest.since)
     }
 }
 
@@ -45,9 +51,15 @@ pub(crate) fn listener_due(settings: &Settings, listener: &Listener) -> u64
 pub(crate) fn seat_due(settings: &Settings, seat: &Seat) -> u64
     ensures { result ≡ seat_due settings.now seat.now }
 {
-    let options = settings.options(seat.home.get());
-    match options.listeners.max_listener_duration {
-        Some(seconds) => due_at(seconds.get(), seat.since),
+    due_of(settings, seat.home.get(), seat.since)
+}
+
+/// When one is due who asked for the mount and was seated at that moment.
+fn due_of(settings: &Settings, home: &MountName, since: u64) -> u64
+    ensures { result ≡ home_due settings.now home.now since }
+{
+    match settings.options(home).listeners.max_listener_duration {
+        Some(seconds) => due_at(seconds.get(), since),
         None => LAST_MOMENT,
     }
 }

@@ -1,6 +1,6 @@
 -- what rows show, and how the counts of mounts follow them
 use Rattle.std.proofs.Common.{◌≡◌, Bool, true, false, ℕ, ◌+◌, ◌-◌, ◌<◌, ◌≤◌, ◌==◌, Option, Some, None, List, [], ◌∷◌, length, not, refl, ap, sym, subst, ◌∙◌, arith}
-use Rattle.std.specs.Prelude.{◌&&◌, find, filter, map, if◌then◌else◌}
+use Rattle.std.specs.Prelude.{◌&&◌, min, fold, find, filter, map, if◌then◌else◌}
 use Rattle.std.specs.List.{list_any}
 use Rattle.std.specs.List.Sorted.{IsStrictlySortedBy}
 use Rattle.std.specs.Option.{option_map}
@@ -23,10 +23,10 @@ use Rattle.radio_seats.specs.declared.seat.Seat.{Seat}
 use Rattle.radio_seats.specs.declared.seat.Seating.{Seating}
 use Rattle.radio_seats.specs.declared.seat.Seating.TheVariants.{Sits, Finished}
 use Rattle.radio_seats.specs.Board.{Board}
-use Rattle.radio_seats.specs.Guests.{passes_in, passes_at, seat_of_guest}
+use Rattle.radio_seats.specs.Guests.{passes_in, passes_at, seat_of_guest, moment_in}
 use Rattle.radio_seats.specs.Mounts.{name_in, sitting_in, one_at}
 use Rattle.radio_seats.specs.Rests.{how_many}
-use Rattle.radio_seats.specs.Rows.{is_row, named, named_state, state_at, sits_by, number_of, number_in, holds_in, holds_at, ended_where, user_state, seated_row, heard, shifted, ended, with_state, AreCounted}
+use Rattle.radio_seats.specs.Rows.{is_row, named, named_state, state_at, sits_by, number_of, number_in, holds_in, holds_at, ended_where, user_state, state_moment, seated_row, heard, shifted, ended, with_state, AreCounted}
 use Rattle.radio_seats.specs.Seats.{is_listener, listener_of, by_listener, with_seat, advanced, with_place, moved, with_move, lost_by, loses, with_end, without_listener, heard_to, moved_to, AreByNumber, is_seat_at, count_at, holds_of, ended_at, ended_if, finished_if, finished_at, with_ended, has_user, is_user_at, sits_there}
 use Rattle.radio_seats.proofs.Lists.{passing, one, held, passing_more, passing_updated, passing_fits, found_counts, passing_mapped, passing_same, passing_placed}
 use Rattle.radio_seats.proofs.Lists.{none_changes, none_passes, map_found, map_counted, map_both, map_any, map_placed, map_filtered, map_updated}
@@ -521,3 +521,17 @@ module _ (rows after : List ListenerRow) (id number : ℕ) (from : Option ℕ) (
         let later = ap (λ n. one_at n k) (some_moves (find (is_row id) rows) old (sym his ∙ some)) in
         let now = ap (passing (sits_by k)) is in
         omega (arith, law, before, later, now)
+
+moment_shown : (moment : Guest → ℕ) (other : ℕ) (name : ℕ → List ℕ) (state : RowState)
+    → state_moment moment other state ≡ moment_in moment other (named_state name state)
+moment_shown moment other name (Seated seat) = refl
+moment_shown moment other name (Ended rule) = refl
+
+-- the rows' first moment is that of the listeners whom they show
+pub moments_shown : (moment : Guest → ℕ) (last : ℕ) (name : ℕ → List ℕ) (rows : List ListenerRow) (first : ℕ)
+    → fold (λ t (row : ListenerRow). min t (state_moment moment last row.state)) first rows
+    ≡ fold (λ t (listener : Listener). min t (moment_in moment last listener.seating)) first (map (named name) rows)
+moments_shown moment last name [] first = refl
+moments_shown moment last name (row ∷ rows) first =
+    ap (λ t. fold (λ t (row : ListenerRow). min t (state_moment moment last row.state)) (min first t) rows) (moment_shown moment last name row.state)
+    ∙ moments_shown moment last name rows (min first (moment_in moment last (named_state name row.state)))

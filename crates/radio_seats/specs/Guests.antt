@@ -1,8 +1,11 @@
 -- A seat and its guest: what stays as it is wherever he sits.
-use Rattle.std.specs.Prelude.{ℕ, Bool, ◌&&◌, List}
+use Rattle.std.specs.Prelude.{ℕ, Bool, ◌&&◌, min, List, fold}
 use Rattle.std.specs.Str.{bytes_eq}
 use Rattle.radio_seats.specs.declared.seat.Guest.{Guest}
 use Rattle.radio_seats.specs.declared.seat.Seat.{Seat}
+use Rattle.radio_seats.specs.declared.seat.Seating.{Seating}
+use Rattle.radio_seats.specs.declared.seat.Seating.TheVariants.{Sits, Finished}
+use Rattle.radio_seats.specs.declared.seat.Listener.{Listener}
 
 -- the guest's seat at this mount
 abbrev pub seat_of_guest : ℕ → List ℕ → ℕ → Guest → Seat
@@ -28,3 +31,12 @@ passes_in p seat = p seat.place (guest_in seat)
 -- and it is a seat at the mount
 abbrev pub passes_at : List ℕ → (ℕ → Guest → Bool) → Seat → Bool
 passes_at mount p seat = bytes_eq seat.mount mount && passes_in p seat
+
+-- the moment of the guest who has the seat, or the other where it is lost
+abbrev pub moment_in : (Guest → ℕ) → ℕ → Seating → ℕ
+moment_in moment other (Sits seat) = moment (guest_in seat)
+moment_in moment other (Finished rule) = other
+
+-- the first of these moments of those who sit, or the last one where nobody sits
+abbrev pub first_moment : (Guest → ℕ) → ℕ → List Listener → ℕ
+first_moment moment last seats = fold (λ first listener. min first (moment_in moment last listener.seating)) last seats

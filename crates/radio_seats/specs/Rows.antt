@@ -87,3 +87,8 @@ pub record AreCounted (mounts : List Mount) (rows : List ListenerRow) : Type 0 w
 abbrev pub user_state : ℕ → List ℕ → RowState → Bool
 user_state number user (Seated seat) = (seat.mount == number) && has_user user seat.guest.pair
 user_state number user (Ended rule) = false
+
+-- the moment of the guest who has the seat, or the other where it is lost
+abbrev pub state_moment : (Guest → ℕ) → ℕ → RowState → ℕ
+state_moment moment other (Seated seat) = moment seat.guest
+state_moment moment other (Ended rule) = other

@@ -88,6 +88,19 @@ pub trait SeatTest {
         ensures { result ≡ passes self.now place guest.now };
 }
 
+/// A moment of a guest, in milliseconds.
+pub trait GuestMoment {
+    ghost use Rattle.std.specs.Prelude.{ℕ};
+    ghost use Rattle.radio_seats.specs.declared.seat.Guest.{Guest};
+
+    // Which it is.
+    ghost gives: { Self → Guest → ℕ };
+
+    /// Which it is.
+    fn moment(&self, guest: &Guest) -> u64
+        ensures { result ≡ gives self.now guest.now };
+}
+
 /// A test that holds of everybody.
 #[derive(Drop)]
 pub(crate) struct Anybody;

@@ -6,7 +6,7 @@
 //!   knows its mount by a number, so that it is small and moves without memory; of a mount the name
 //!   and the count of those who sit there are kept once.
 //! - [`LentSeat`], [`ListenerStanding`]: what the table answers of a listener; a [`SeatTest`] asks
-//!   something of a place and a [`Guest`].
+//!   something of a place and a [`Guest`], and a [`GuestMoment`] is a moment of his.
 //! - [`KeptName`]: a name apart from what holds it.
 //! - What is found after each change, for proofs: `specs/SeatLaws.antt`, `specs/EndLaws.antt` and `specs/CountLaws.antt`.
 #![tactic(auto)]
@@ -18,7 +18,7 @@ mod row;
 mod seat;
 mod seats;
 
-pub use changes::SeatTest;
+pub use changes::{GuestMoment, SeatTest};
 pub use kept_name::KeptName;
 pub use seat::{Guest, LentSeat, Listener, ListenerStanding, Seat, Seating};
 pub use seats::Seats;

@@ -1,9 +1,9 @@
 //! The rows of the table, in which a mount is a number.
 
 ghost use Rattle.std.specs.Prelude.{◌≡◌};
-ghost use Rattle.radio_seats.specs.Rows.{number_of, state_at, holds_in, holds_at, user_state};
+ghost use Rattle.radio_seats.specs.Rows.{number_of, state_at, holds_in, holds_at, user_state, state_moment};
 
-use crate::{Guest, SeatTest};
+use crate::{Guest, GuestMoment, SeatTest};
 use radio_blocks::Place;
 use radio_policy::Rule;
 use radio_tables::Row;
@@ -57,6 +57,16 @@ impl RowState {
                 seat.mount == number && test.passes(seat.place, &seat.guest)
             }
             RowState::Ended(_) => false,
+        }
+    }
+
+    /// The moment of the guest who has the seat, or the other where it is lost.
+    pub(crate) fn moment_or<M: GuestMoment>(&self, moment: &M, other: u64) -> u64
+        ensures { result ≡ state_moment (M.gives moment.now) other self.now }
+    {
+        match self {
+            RowState::Seated(seat) => moment.moment(&seat.guest),
+            RowState::Ended(_) => other,
         }
     }
 

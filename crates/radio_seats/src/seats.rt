@@ -1,6 +1,6 @@
 //! The table of listeners.
 
-ghost use Rattle.std.specs.Prelude.{◌≡◌, [], true, ◌||◌, ◌&&◌, ◌==◌, ◌<◌, not, find, filter, map, length, OnOk, OnErr, MatchOption};
+ghost use Rattle.std.specs.Prelude.{◌≡◌, [], true, ◌||◌, ◌&&◌, ◌==◌, ◌<◌, not, min, fold, find, filter, map, length, OnOk, OnErr, MatchOption};
 ghost use Rattle.std.specs.Option.{option_copied, option_map};
 ghost use Rattle.std.specs.List.{list_any};
 ghost use Rattle.std.specs.List.Sorted.{IsStrictlySortedBy};
@@ -10,14 +10,14 @@ ghost use Rattle.std.specs.Str.{bytes_eq};
 ghost use Rattle.radio_seats.specs.Seats.{listener_of, seat_of, with_seat, with_place, with_move, with_end, finished_at, with_ended, without_listener};
 ghost use Rattle.radio_seats.specs.Seats.{count_at, sits_there, AreByNumber};
 ghost use Rattle.radio_seats.specs.Board.{is_prepared};
-ghost use Rattle.radio_seats.specs.Guests.{passes_in, passes_at};
+ghost use Rattle.radio_seats.specs.Guests.{passes_in, passes_at, first_moment};
 ghost use Rattle.radio_seats.specs.Lent.{lent_seat, standing_in};
-ghost use Rattle.radio_seats.specs.Rows.{is_row, number_in, holds_in, holds_at, user_state, seated_row};
+ghost use Rattle.radio_seats.specs.Rows.{is_row, number_in, holds_in, holds_at, user_state, state_moment, seated_row};
 
 use crate::changes::{Advances, Anybody, Ends, FinishesAt, Moves};
 use crate::mounts::Mounts;
 use crate::row::{ListenerRow, NumberedSeat, RowState};
-use crate::{Guest, LentSeat, ListenerStanding, OutOfMemory, Seat, SeatTest};
+use crate::{Guest, GuestMoment, LentSeat, ListenerStanding, OutOfMemory, Seat, SeatTest};
 use radio_blocks::Place;
 use radio_policy::Rule;
 use radio_settings::MountName;
@@ -242,6 +242,14 @@ impl Seats {
         };
         has_user(&self.rows, number, user)
     }
+
+    /// The first of these moments of those who have seats; the last one where nobody has. The time
+    /// grows as the number of listeners.
+    pub fn first_moment<M: GuestMoment>(&self, moment: &M, last: u64) -> u64
+        ensures { result ≡ first_moment (M.gives moment.now) last self.now.seats }
+    {
+        first_in(&self.rows, moment, last)
+    }
 }
 
 impl Seats {
@@ -285,6 +293,15 @@ fn first_where<'a, T: SeatTest>(rows: &'a Table<ListenerRow>, test: &T) -> Optio
     ensures { option_copied result ≡ find (λ row. holds_in (T.passes test.now) row.state) rows.now }
 {
     rows.iter().find(|row| row.state.passes(test))
+}
+
+/// The first of these moments of those who have seats; the last one where nobody has.
+fn first_in<M: GuestMoment>(rows: &Table<ListenerRow>, moment: &M, last: u64) -> u64
+    ensures { result ≡ fold (λ first row. min first (state_moment (M.gives moment.now) last row.state)) last rows.now }
+{
+    rows.iter().fold(last, |first, row| {
+        first.min(row.state.moment_or(moment, last))
+    })
 }
 
 /// Whether somebody sits at the mount of this number who sent this user.

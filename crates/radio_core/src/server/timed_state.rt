@@ -2,15 +2,16 @@
 
 ghost use Rattle.std.specs.Prelude.{◌≡◌, IsOk, IfOk, OnOk, OnErr};
 ghost use Rattle.radio_core.specs.Changes.{ticked};
-ghost use Rattle.radio_core.specs.Due.{at_moment, due_by, earliest, client_due, listener_due, session_due, first_due};
+ghost use Rattle.radio_core.specs.Due.{at_moment, due_by, earliest, client_due, guest_due, last_moment, session_due, first_due};
 ghost use Rattle.radio_core.specs.KeptChanges.{kept_changed};
+ghost use Rattle.radio_seats.specs.Guests.{first_moment};
 ghost use Rattle.radio_core.specs.Step.{outcome, StandsForSome, NeedsNoMemory};
 ghost use Rattle.radio_core.specs.World.{opening};
 ghost use Rattle.radio_events.specs.Events.{TakesNoMemory};
 
 use super::state::State;
 use crate::OutOfMemory;
-use crate::due::{LAST_MOMENT, client_due, due_at, listener_due, seat_due};
+use crate::due::{GuestDue, LAST_MOMENT, client_due, due_at, seat_due};
 use crate::outcome::{Change, Outcome};
 use radio_access::Lists;
 use radio_events::Event;
@@ -158,13 +159,10 @@ impl State {
     }
 
     fn first_listener_due(&self) -> u64
-        ensures { result ≡ earliest (listener_due self.now.house.settings) self.now.seats }
+        ensures { result ≡ first_moment (guest_due self.now.house.settings) last_moment self.now.seats }
     {
         let settings = &self.house.settings;
-        self.seats.iter().fold(
-            LAST_MOMENT,
-            |first, listener| first.min(listener_due(settings, listener)),
-        )
+        self.seats.first_moment(&GuestDue { settings }, LAST_MOMENT)
     }
 
     fn first_session_due(&self) -> u64
