@@ -2,7 +2,7 @@
 //! with ample memory, and the definitions mean what the standards and the rules say, on examples from outside. More such
 //! examples are rows and cases of the end-to-end scripts.
 //!
-//! - `tables`: rows by number and by name; `blocks`: the memory of blocks; `queue`: the blocks that are kept.
+//! - `seats`: listeners at prepared mounts; `tables`: rows by number and by name; `blocks`: the memory of blocks; `queue`: the blocks that are kept.
 //! - `bodies`: feeds behind an end or a fault; `icy`: sound with titles woven into it and taken out.
 //! - `addresses`: peers as texts; `credentials`: values that no head can hold, and secrets.
 //! - `heads`: queries, faults, heads of responses, and answers with a body.
@@ -26,6 +26,8 @@ mod icy;
 mod queue;
 #[cfg(test)]
 mod scripts;
+#[cfg(test)]
+mod seats;
 #[cfg(test)]
 mod settings;
 #[cfg(test)]
