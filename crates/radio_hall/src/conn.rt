@@ -110,7 +110,8 @@ impl<L: Line> Model for Conn<L> {
 
 impl<L: Line> Conn<L> {
     ghost use Rattle.radio_hall.specs.Connections.{newly_come, stays, lingers, IsTurnedAway};
-    ghost use Rattle.radio_hall.specs.Admission.{IsTakenIn};
+    ghost use Rattle.std.specs.Prelude.{OnErr};
+    ghost use Rattle.radio_hall.specs.Admission.{IsTakenIn, LetsNobodyIn};
 
     /// The connection of a client who was let in under this number.
     fn new(alloc: Global, id: u64, peer: Peer, line: L, ms: u64) -> Conn<L>
@@ -157,7 +158,9 @@ impl<L: Line> Conn<L> {
         reply: Reply,
         ms: u64,
     ) -> Result<Conn<L>, OutOfMemory>
-        ensures { IfOk result (λ c. IsTakenIn peer reply (L.given line) (L.taken line) c) }
+        ensures taken_in { IfOk result (λ c. IsTakenIn peer reply (L.given line) (L.taken line) c) }
+        // memory is wanted only for one who was not let in
+        ensures err { OnErr result (LetsNobodyIn reply) }
     {
         match reply {
             Reply::Arrived(id) => Ok(Conn::new(alloc, id, peer, line, ms)),
