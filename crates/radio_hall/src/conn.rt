@@ -3,6 +3,7 @@
 ghost use Rattle.std.specs.Prelude.{◌≡◌, IfOk};
 
 use crate::owed::Owed;
+use crate::refusals::Refusals;
 use crate::{Line, OutOfMemory};
 use radio_addr::Peer;
 use radio_events::Reply;
@@ -90,6 +91,7 @@ pub struct Conn<L: Line> {
     pub(crate) session: Session,
     pub(crate) owed: Owed,
     pub(crate) status: Status,
+    pub(crate) refusals: Refusals,
 }
 
 impl<L: Line> Model for Conn<L> {
@@ -105,6 +107,7 @@ impl<L: Line> Model for Conn<L> {
       owed = c.owed;
       session = c.session;
       status = c.status;
+      refused = c.refusals;
     } };
 }
 
@@ -123,6 +126,7 @@ impl<L: Line> Conn<L> {
             session: Session::new(alloc, id, peer),
             owed: Owed::new(alloc),
             status: Status::new(Fate::Open, false, ms),
+            refusals: Refusals::new(),
         }
     }
 
@@ -146,6 +150,7 @@ impl<L: Line> Conn<L> {
             session,
             owed,
             status: Status::new(Fate::Ended, true, ms),
+            refusals: Refusals::new(),
         })
     }
 

@@ -108,7 +108,7 @@ impl<S: Read + Write + Shut + Drop> Line for SocketLine<S> {
 
     fn read(&mut self, buffer: &mut [u8]) -> Received {
         let received = self.receive(buffer);
-        self.calls.count_read(received);
+        self.calls.count_read(received, buffer);
         received
     }
 
