@@ -9,7 +9,7 @@ use Rattle.radio_hall.specs.declared.conn.Fate.TheVariants.{Open, Ended}
 use Rattle.radio_hall.specs.Lines.{Calls}
 use Rattle.radio_hall.specs.Connections.{Connection, newly_come, IsTurnedAway}
 use Rattle.radio_hall.specs.Course.{newcomer, stranger, arrives, turned_away}
-use Rattle.radio_hall.specs.Admission.{IsTakenIn}
+use Rattle.radio_hall.specs.Admission.{IsTakenIn, LetsNobodyIn}
 use Rattle.radio_hall.proofs.Standing.{stands_so}
 
 pub comes_in : (peer : Peer) (id : ℕ) (given taken : List ℕ) (calls : Calls) (ms : ℕ)
@@ -17,6 +17,17 @@ pub comes_in : (peer : Peer) (id : ℕ) (given taken : List ℕ) (calls : Calls)
 comes_in peer id given taken calls ms g t =
     let c = newly_come id peer given taken calls ms in
     stands_so c [] _ (newcomer peer id) Open (arrives peer) (sym g) refl refl refl refl refl refl (λ o. refl) (sym (ap (λ (xs : List ℕ). xs ++ []) t))
+
+-- a reply that gives no number
+pub lets_nobody_in : (reply : Reply) → ((id : ℕ) → reply ≡ Arrived id → ⊥) → LetsNobodyIn reply
+lets_nobody_in (Arrived id) other = other id refl
+lets_nobody_in Feeding other = tt
+lets_nobody_in (Seated interval shown) other = tt
+lets_nobody_in (Drawn bytes title) other = tt
+lets_nobody_in Noted other = tt
+lets_nobody_in (Deny rule) other = tt
+lets_nobody_in (Finished rule) other = tt
+lets_nobody_in Stray other = tt
 
 module _ (peer : Peer) (given taken : List ℕ) (ms : ℕ) (c : Connection) where
   is_denied : (rule : Rule) → IsTurnedAway (Deny rule) given taken ms c → IsTakenIn peer (Deny rule) given taken c

@@ -1,5 +1,5 @@
 -- Entries made for a connection, one after another.
-use Rattle.std.proofs.Common.{◌≡◌, ◌⊎◌, inl, inr, ◌<◌, ◌≤◌, ◌-◌, ◌==◌, nat_le, suc, length, lt_irrefl, arith, ℕ, Bool, true, false, List, take, drop, ap}
+use Rattle.std.proofs.Common.{◌≡◌, ◌⊎◌, inl, inr, ◌<◌, ◌≤◌, ◌==◌, nat_le, length, arith, ℕ, Bool, true, false, List, take, drop, ap}
 use Rattle.std.proofs.Common.{[], ◌∷◌, ◌++◌, refl, sym, subst, ◌∙◌, append_assoc, append-nil}
 use Rattle.std.proofs.lemmas.Bool.{false≢true}
 use Rattle.std.proofs.lemmas.Bool.Decides.{nat_tests}
@@ -13,16 +13,18 @@ use Rattle.radio_session.specs.Hearing.{Heard, IsHeard}
 use Rattle.radio_session.specs.Exchanges.{Steps}
 use Rattle.radio_hall.specs.declared.line.Received.{Received}
 use Rattle.radio_hall.specs.declared.line.Received.TheVariants.{Bytes, Nothing, Closed as HasClosed, Fault}
-use Rattle.radio_hall.specs.Lines.{Calls, HasGiven}
+use Rattle.radio_hall.specs.Lines.{HasGiven}
 use Rattle.radio_hall.specs.Connections.{Connection, is_open}
 use Rattle.radio_hall.specs.declared.conn.Fate.{Fate}
 use Rattle.radio_hall.specs.declared.conn.Fate.TheVariants.{Open, Ended, Closed, Cut}
 use Rattle.radio_hall.specs.Course.{IsOver}
-use Rattle.radio_hall.specs.Duties.{IsWritten, IsLater, IsOwed, IsGiven, IsAtMostLeaving, HasStalled, Cause, WasCut, HasFailed, TookNothing, WasRefused}
-use Rattle.radio_hall.specs.Turns.{StandsBefore, Stands, Chain, IsServed, HasDrawn, EndsWithDraw, ServesInTurn}
-use Rattle.radio_hall.specs.Answering.{later_by, IsAnswered, AreAnswered, IsHeardOn}
-use Rattle.radio_hall.specs.Leaving.{IsFlushed, IsPatient, Listens, Works, Leaves, Draws}
-use Rattle.radio_hall.proofs.Calling.{later_same, later_none, later_then}
+use Rattle.radio_hall.specs.Duties.{IsWritten, IsLater, IsUnread, IsReadOnce, IsAskedOnce, IsAtMostLeaving, HasStalled, LacksMemory, Cause, WasCut, HasFailed, TookNothing, WasRefused}
+use Rattle.radio_hall.specs.Duties.{HasEnded, HasLeft}
+use Rattle.radio_hall.specs.Turns.{StandsBefore, Stands, Chain, IsServed, EndsWithDraw, ServesInTurn}
+use Rattle.radio_hall.specs.Answering.{later_by, IsSpared, IsAnswered, AreAnswered, IsHeardOn}
+use Rattle.radio_hall.specs.Leaving.{IsFlushed, IsPatient, IsSparedBefore, Listens, Works, Leaves, Draws}
+use Rattle.radio_hall.specs.Connections.{Refused, one_refusal}
+use Rattle.radio_hall.proofs.Calling.{later_same, later_none, later_then, later_by_refusal, lacks_on, ended_on, unread_same, unread_then, once_between, once_at_most}
 use Rattle.radio_hall.proofs.Standing.{IsOne, still, cut_off, closed_out, heard_on, passed_over, taken_on, room_on, left_on}
 
 -- what its line gave and took, what is owed, and how its session stands
@@ -125,9 +127,9 @@ served_by_cut c c' one calls given taken fate =
     served_by_none c c' one.id calls (λ past st. cut_off c c' [] past one st [] (given ∙ sym (append-nil c.given)) taken fate)
 
 -- or was cut off with an event
-pub answered_by_cut : (c c' : Connection) (event : Event) → IsOne c c' → IsLater c c' → c'.given ≡ c.given → c'.taken ≡ c.taken → c'.status.fate ≡ Cut
-    → IsAnswered event c [] c'
-answered_by_cut c c' event one calls given taken fate = record {
+pub answered_by_cut : (c c' : Connection) (event : Event) → IsOne c c' → IsLater c c' → IsSpared c c' → c'.given ≡ c.given → c'.taken ≡ c.taken
+    → c'.status.fate ≡ Cut → IsAnswered event c [] c'
+answered_by_cut c c' event one calls spared given taken fate = record {
   same = one.id;
   made = λ goes. absurd (not_cut (sym fate ∙ goes));
   seat = λ other. one.sits;
@@ -136,6 +138,23 @@ answered_by_cut c c' event one calls given taken fate = record {
       (subst (λ (es : List Entry). Stands c' es) (sym (append-nil past))
       (cut_off c c' (event ∷ later) past one st [] (given ∙ sym (append-nil c.given)) taken fate));
   later = calls;
+  spared = spared;
+}
+
+-- it is spared by what comes after something that called no line
+pub spared_then : (a b c : Connection) → IsLater a b → b.calls ≡ a.calls → IsSpared b c → IsSpared a c
+spared_then a b c before calls spared = record {
+  calls = spared.calls ∙ calls;
+  closed = spared.closed;
+  cut = λ e. lacks_on a b c c before.refused (omega arith) refl (spared.cut e);
+}
+
+-- one that goes on is spared
+pub spared_open : (a b : Connection) → b.calls ≡ a.calls → b.status.fate ≡ Open → IsSpared a b
+spared_open a b calls goes = record {
+  calls = calls;
+  closed = λ e. not_closed (sym e ∙ goes);
+  cut = λ e. absurd (not_cut (sym e ∙ goes));
 }
 
 -- its line takes some of what is owed
@@ -165,27 +184,29 @@ served_by_draw c c' room entries goes a = record {
 
 -- bytes that its line gave are heard, and answered
 pub heard_so : (c m c' : Connection) (bytes : List ℕ) (heard : Heard) (entries : List Entry) → c.status.fate ≡ Open → IsHeard c.session bytes heard → IsOne c m
-    → IsLater c m → m.given ≡ c.given
+    → IsLater c m → m.calls ≡ c.calls → m.given ≡ c.given
     → m.taken ≡ c.taken → m.owed ≡ c.owed → m.session ≡ heard.conversation → m.status.fate ≡ c.status.fate → AreAnswered heard.events m entries c'
     → IsHeardOn bytes c entries c'
-heard_so c m c' bytes heard entries goes is one calls given taken owed session fate a = record {
+heard_so c m c' bytes heard entries goes is one calls same given taken owed session fate a = record {
   same = a.same ∙ one.id;
   stands = λ before past now st.
       a.stands past
       (heard_on (record c { given = before }) m past (record { id = one.id; sits = one.sits; left = one.left }) st goes bytes heard is (given
       ∙ now) taken owed session fate);
   later = later_then c m c' calls a.later;
+  spared = spared_then c m c' calls same a.spared;
 }
 
 -- or are not heard
-pub heard_by_cut : (c c' : Connection) (bytes : List ℕ) → IsOne c c' → IsLater c c' → c'.given ≡ c.given → c'.taken ≡ c.taken → c'.status.fate ≡ Cut
-    → IsHeardOn bytes c [] c'
-heard_by_cut c c' bytes one calls given taken fate = record {
+pub heard_by_cut : (c c' : Connection) (bytes : List ℕ) → IsOne c c' → IsLater c c' → IsSpared c c' → c'.given ≡ c.given → c'.taken ≡ c.taken
+    → c'.status.fate ≡ Cut → IsHeardOn bytes c [] c'
+heard_by_cut c c' bytes one calls spared given taken fate = record {
   same = one.id;
   stands = λ before past now st.
       subst (λ (es : List Entry). Stands c' es) (sym (append-nil past))
       (cut_off (record c { given = before }) c' [] past (record { id = one.id; sits = one.sits; left = one.left }) st bytes (given ∙ now) taken fate);
   later = calls;
+  spared = spared;
 }
 
 pub heard_on_one : {a b c : Connection} {bytes : List ℕ} {xs : List Entry} → a ≡ b → IsHeardOn bytes a xs c → IsHeardOn bytes b xs c
@@ -236,26 +257,28 @@ module _ {S : Type 0} (steps : Steps S) where
 
   -- its client leaves
   pub leaves_so : (from to : S) (c c' : Connection) → ((reply : Reply) × steps from (Leave c.id) reply to) → is_open c.status.fate ≡ false
-      → c.status.has_left ≡ false → IsSame c c' → c'.calls ≡ c.calls
+      → c.status.has_left ≡ false → IsSame c c' → c'.calls ≡ c.calls → c'.refused ≡ c.refused
       → c'.status.fate ≡ c.status.fate → c'.status.sits ≡ c.status.sits → c'.status.has_left ≡ true → Leaves steps from c to c'
-  leaves_so from to c c' r over here same calls fate sits left = record {
+  leaves_so from to c c' r over here same calls refused fate sits left = record {
     entries = entry (Leave c.id) r.0 ∷ [];
     chain = chain_one from to (entry (Leave c.id) r.0) r.1;
     served = record {
       same = same.id;
       stands = λ past st. left_on c c' past r.0 same.id (over_from c.status.fate over) here same.given same.taken same.owed same.session fate sits left st;
-      later = later_same calls same.taken;
+      later = later_same calls same.taken refused;
     };
     alone = λ goes. absurd (not_over c.status.fate over goes);
     leaving = inr (r.0, refl);
     fate = fate;
     sits = sits;
-    unread = ap (λ (x : Calls). x.reads) calls;
+    unread = unread_same calls;
+    session = same.session;
+    left = λ ended. inl left;
   }
 
-  -- or has left before, or is not over, or is refused it
-  pub leaves_nothing : {from to : S} {c : Connection} → to ≡ from → Leaves steps from c to c
-  leaves_nothing {from} {to} {c} e = record {
+  -- or has left before, or is not over
+  pub leaves_nothing : {from to : S} {c : Connection} → to ≡ from → HasLeft c c → Leaves steps from c to c
+  leaves_nothing {from} {to} {c} e left = record {
     entries = [];
     chain = e;
     served = served_by_none c c refl (later_none c) (λ past st. st);
@@ -263,7 +286,25 @@ module _ {S : Type 0} (steps : Steps S) where
     leaving = inl refl;
     fate = refl;
     sits = refl;
-    unread = refl;
+    unread = unread_same refl;
+    session = refl;
+    left = left;
+  }
+
+  -- or it is refused
+  pub leaves_not : {from to : S} {c c' : Connection} → to ≡ from → IsOne c c' → IsSame c c' → c'.calls ≡ c.calls
+      → c'.refused ≡ one_refusal (Leave c.id) c.refused → c'.status.fate ≡ c.status.fate → Leaves steps from c to c'
+  leaves_not {from} {to} {c} {c'} e one same calls refused fate = record {
+    entries = [];
+    chain = e;
+    served = served_by_note c c' one (later_by_refusal (Leave c.id) calls same.taken refused) same fate;
+    alone = λ goes. refl;
+    leaving = inl refl;
+    fate = fate;
+    sits = one.sits;
+    unread = unread_same calls;
+    session = same.session;
+    left = λ ended. inr (omega (arith, ap (λ (x : Refused). x.leavings) refused));
   }
 
   pub leaves_as : {from to : S} {a b c : Connection} → a ≡ b → Leaves steps from a to c → Leaves steps from b to c
@@ -272,10 +313,31 @@ module _ {S : Type 0} (steps : Steps S) where
   pub draws_as : {news : Bool} {from to : S} {a b c : Connection} → a ≡ b → Draws steps news from a to c → Draws steps news from b to c
   draws_as {news} {from} {to} {a} {b} {c} e = subst (λ (o : Connection). Draws steps news from o to c) e
 
+  pub listens_as : {from to : S} {a b c : Connection} → a ≡ b → Listens steps from a to c → Listens steps from b to c
+  listens_as {from} {to} {a} {b} {c} e = subst (λ (o : Connection). Listens steps from o to c) e
+
+  -- bytes that were read are heard
+  pub listens_by_hearing : {from to : S} {c m c' : Connection} {bytes : List ℕ} {entries : List Entry} → Chain steps from entries to → IsServed c entries c'
+      → IsReadOnce c m → m.refused ≡ c.refused → IsHeardOn bytes m entries c' → Listens steps from c to c'
+  listens_by_hearing {from} {to} {c} {m} {c'} {bytes} {entries} chain served read refused heard = (
+    entries,
+    chain,
+    served,
+    once_between c c m c' (unread_same refl) read (unread_same heard.spared.calls),
+    (λ e. lacks_on c m c' c' (omega (arith, ap (λ (x : Refused). x.events) refused)) (omega arith) refl (heard.spared.cut e)),
+    (λ e. absurd (heard.spared.closed e)),
+  )
+
   -- one who has no seat, or does not go on, need not draw, nor one for whom there is no news
   pub draws_nothing : (news : Bool) (from : S) (c : Connection) → (news ≡ true → c.status.sits ≡ true → c.status.fate ≡ Open → ⊥)
       → Draws steps news from c from c
-  draws_nothing news from c idle = ([], refl, served_by_none c c refl (later_none c) (λ past st. st), (λ new sits goes. absurd (idle new sits goes)), refl)
+  draws_nothing news from c idle =
+      ([], refl, served_by_none c c refl (later_none c) (λ past st. st), (λ new sits goes. absurd (idle new sits goes)), refl, inl refl)
+
+  -- a draw calls no line
+  calls_by : (a b : Connection) → IsSparedBefore a b → b.calls ≡ a.calls
+  calls_by a b (inl same) = ap (λ (o : Connection). o.calls) same
+  calls_by a b (inr spared) = spared.calls
 
   -- a connection is read from, and then drawn for
   pub works_in_turn : {news : Bool} {from mid to : S} {a b m n c : Connection} → a ≡ b → a.status.fate ≡ Open → m.calls ≡ a.calls → IsServed a [] m
@@ -287,27 +349,45 @@ module _ {S : Type 0} (steps : Steps S) where
     drawn = λ new none goes sits.
         let last = drew.3 new (sym drew.4 ∙ sits) goes in
         subst (λ (id : ℕ). EndsWithDraw id (heard.0 ++ drew.0)) (heard.2.same ∙ first.same) (heard.0, last.0, ap (λ (xs : List Entry). heard.0 ++ xs) last.1);
-    asked = λ o. omega (arith, ap (λ (x : Calls). x.reads) calls, heard.3, drew.2.later.reads);
-    cut = λ o. inr goes;
-  })
+    asked = λ o. once;
+    once = inr once;
+    cut = λ e. inr (goes, by_cut drew.5 e);
+    closed = λ e. inr (inr (by_close drew.5 e));
+  }) where
+    once : IsReadOnce a c
+    once = once_between a m n c (unread_same calls) heard.3 (unread_same (calls_by n c drew.5))
+
+    by_cut : IsSparedBefore n c → c.status.fate ≡ Cut → LacksMemory a c
+    by_cut (inl same) e =
+        lacks_on a m n c first.later.refused drew.2.later.refused (ap (λ (o : Connection). o.session) same)
+        (heard.4 (ap (λ (o : Connection). o.status.fate) (sym same) ∙ e))
+    by_cut (inr spared) e = lacks_on a n c c (omega (arith, first.later.refused, heard.2.later.refused)) (omega arith) refl (spared.cut e)
+
+    by_close : IsSparedBefore n c → c.status.fate ≡ Closed → HasEnded a c
+    by_close (inl same) e =
+        ended_on a m n c first.later drew.2.later (heard.5 (ap (λ (o : Connection). o.status.fate) (sym same) ∙ e))
+    by_close (inr spared) e = absurd (spared.closed e)
 
   -- the server is not asked for one who does not go on
   pub rests_in_turn : {news : Bool} (from : S) {c c' : Connection} → IsServed c [] c' → (c.status.fate ≡ Open → ⊥) → (c'.status.fate ≡ Open → ⊥)
-      → (c'.status.fate ≡ Cut → c.status.fate ≡ Cut) → Works steps news from c from c'
-  rests_in_turn {news} from {c} {c'} served over_before over cut = record {
+      → (c'.status.fate ≡ Cut → c.status.fate ≡ Cut) → IsAskedOnce c c'
+      → (c'.status.fate ≡ Closed → (c.status.fate ≡ Closed) ⊎ ((c.status.fate ≡ Ended) ⊎ HasEnded c c')) → Works steps news from c from c'
+  rests_in_turn {news} from {c} {c'} served over_before over cut once closed = record {
     entries = [];
     chain = refl;
     served = served;
     drawn = λ new none goes sits. absurd (over goes);
     asked = λ goes. absurd (over_before goes);
+    once = once;
     cut = λ e. inl (cut e);
+    closed = closed;
   }
 
   -- why it is cut off, once it was worked for
   cause_of : {news : Bool} {from one : S} {ms patience : ℕ} {a b c d e f : Connection} → IsFlushed ms a b → b.owed ≡ [] → Works steps news from b one c → IsLater c d
-      → d.status.fate ≡ c.status.fate → IsFlushed ms d e → IsLater e f → f.status.fate ≡ e.status.fate
+      → d.status.fate ≡ c.status.fate → d.session ≡ c.session → IsFlushed ms d e → IsLater e f → f.status.fate ≡ e.status.fate → f.session ≡ e.session
       → f.status.fate ≡ Cut → Cause ms patience a f
-  cause_of {news} {from} {one} {ms} {patience} {a} {b} {c} {d} {e} {f} first none works on left last over same cut = by_last (last.cut (sym same ∙ cut)) where
+  cause_of {news} {from} {one} {ms} {patience} {a} {b} {c} {d} {e} {f} first none works on left left_session last over same same_session cut = by_last (last.cut (sym same ∙ cut)) where
     grown : b.calls.faults ≤ f.calls.faults
     grown = omega (arith, works.served.later.faults, on.faults, last.served.later.faults, over.faults)
 
@@ -315,9 +395,12 @@ module _ {S : Type 0} (steps : Steps S) where
     by_first (inl was) = WasCut was
     by_first (inr more) = HasFailed (omega (arith, more, grown))
 
-    by_work : (b.status.fate ≡ Cut) ⊎ (b.status.fate ≡ Open) → Cause ms patience a f
+    by_work : (b.status.fate ≡ Cut) ⊎ ((b.status.fate ≡ Open) × LacksMemory b c) → Cause ms patience a f
     by_work (inl was) = by_first (first.cut was)
-    by_work (inr goes) = WasRefused (first.goes goes) (omega (arith, first.served.later.reads, works.asked goes, on.reads, last.served.later.reads, over.reads))
+    by_work (inr (goes, lacks)) =
+        WasRefused (first.goes goes)
+        (lacks_on a b c f first.served.later.refused (omega (arith, on.refused, last.served.later.refused, over.refused))
+        (same_session ∙ last.session ∙ left_session) lacks)
 
     by_last : (d.status.fate ≡ Cut) ⊎ (d.calls.faults < e.calls.faults) → Cause ms patience a f
     by_last (inl was) = by_work (works.cut (sym left ∙ was))
@@ -343,15 +426,33 @@ module _ {S : Type 0} (steps : Steps S) where
         ap (λ (xs : List Entry). works.entries ++ (xs ++ over.entries)) (left.alone at_c) ∙ ap (λ (xs : List Entry). works.entries ++ xs) (over.alone at_e)
         ∙ append-nil works.entries in
         subst (λ (id : ℕ). EndsWithDraw id (works.entries ++ (left.entries ++ over.entries))) first.served.same (drawn.0, drawn.1, alone ∙ drawn.2);
-    asked =
-        λ goes nothing. omega
-        (arith, first.served.later.reads, works.asked (first.idle nothing ∙ goes), left.served.later.reads, last.served.later.reads, over.served.later.reads);
+    asked = λ goes nothing. once_between a b c f first.unread (works.asked (first.idle nothing ∙ goes)) unread;
+    once = once_at_most a b c f first.unread works.once unread;
     given =
         λ goes some. omega
         (arith, first.given goes some, works.served.later.writes, left.served.later.writes, last.served.later.writes, over.served.later.writes);
     waited = inl (rest.taken.0, rest.taken.1 ∙ ap (λ (xs : List ℕ). xs ++ rest.taken.0) (first.all none));
-    cut = cause_of first none works left.served.later left.fate last over.served.later over.fate;
+    cut = cause_of first none works left.served.later left.fate left.session last over.served.later over.fate over.session;
+    closed = λ closed.
+        let at_e = sym over.fate ∙ closed in
+        by_work (works.closed (sym left.fate ∙ sym (last.fate (λ cut. closed_not_cut (sym at_e ∙ cut))) ∙ at_e));
+    left = λ ended. by_leave (over.left ended);
   } where
+    unread : IsUnread c f
+    unread = unread_then c d f left.unread (unread_then d e f last.unread over.unread)
+
+    by_work : (b.status.fate ≡ Closed) ⊎ ((b.status.fate ≡ Ended) ⊎ HasEnded b c) → (a.status.fate ≡ Closed) ⊎ ((a.status.fate ≡ Ended) ⊎ HasEnded a f)
+    by_work (inl was) = inl (sym (first.fate (λ cut. closed_not_cut (sym was ∙ cut))) ∙ was)
+    by_work (inr (inl was)) = inr (inl (sym (first.fate (ended_not_cut b.status.fate was)) ∙ was))
+    by_work (inr (inr ended)) =
+        inr (inr (ended_on a b c f first.served.later
+        (later_then c d f left.served.later (later_then d e f last.served.later over.served.later)) ended))
+
+    by_leave : (f.status.has_left ≡ true) ⊎ (e.refused.leavings < f.refused.leavings) → (f.status.has_left ≡ true) ⊎ (a.refused.leavings < f.refused.leavings)
+    by_leave (inl left) = inl left
+    by_leave (inr more) =
+        inr (omega (arith, first.served.later.leavings, works.served.later.leavings, left.served.later.leavings, last.served.later.leavings, more))
+
     rest : IsLater b f
     rest = later_then b c f works.served.later (later_then c d f left.served.later (later_then d e f last.served.later over.served.later))
 
@@ -364,15 +465,26 @@ module _ {S : Type 0} (steps : Steps S) where
     served = served_then a b c [] left.entries first.served (served_then b m c [] left.entries rests.served left.served);
     drawn = λ new none goes sits. absurd (some (first.none none));
     asked = λ goes none. absurd (some (first.none none));
+    once = inl unread;
     given = λ goes owed. omega (arith, first.given goes owed, rests.served.later.writes, left.served.later.writes);
     waited =
         inr (
-          left.unread ∙ rests.unread
-              ∙ first.unread,
+          unread,
           subst (λ (id : ℕ). IsAtMostLeaving id left.entries) (rests.served.same ∙ first.served.same) left.leaving,
         );
     cut = λ cut. by_wait (rests.cut (sym left.fate ∙ cut));
+    closed = λ closed.
+        let at_b = rests.closed (sym left.fate ∙ closed) in
+        inl (sym (first.fate (λ cut. closed_not_cut (sym at_b ∙ cut))) ∙ at_b);
+    left = λ ended. by_leave (left.left ended);
   } where
+    unread : IsUnread a c
+    unread = unread_then a b c first.unread (unread_then b m c rests.unread left.unread)
+
+    by_leave : (c.status.has_left ≡ true) ⊎ (m.refused.leavings < c.refused.leavings) → (c.status.has_left ≡ true) ⊎ (a.refused.leavings < c.refused.leavings)
+    by_leave (inl left) = inl left
+    by_leave (inr more) = inr (omega (arith, first.served.later.leavings, rests.served.later.leavings, more))
+
     by_moment : (b.status.moved_ms ≡ a.status.moved_ms) ⊎ (b.status.moved_ms ≡ ms) → HasStalled ms patience b → HasStalled ms patience a
     by_moment (inl same) stalled = omega (arith, same, stalled)
     by_moment (inr now) stalled = omega (arith, now, stalled)

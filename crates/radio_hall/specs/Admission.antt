@@ -1,5 +1,5 @@
 -- How a connection comes to a worker.
-use Rattle.std.specs.Prelude.{◌≡◌, ℕ, List, [], ◌∷◌, ◌++◌}
+use Rattle.std.specs.Prelude.{◌≡◌, ◌⊎◌, ℕ, List, [], ◌∷◌, ◌++◌}
 use Rattle.radio_addr.specs.declared.peer.Peer.{Peer}
 use Rattle.radio_events.specs.declared.event.Event.TheVariants.{Arrive}
 use Rattle.radio_events.specs.declared.reply.Reply.{Reply}
@@ -24,3 +24,12 @@ pub record IsAdmission {S : Type 0} (steps : Steps S) (peer : Peer) (given taken
   pub step : steps from (Arrive peer) reply to
   pub added : conns' ≡ conns ++ newcomer ∷ []
   pub taken_in : IsTakenIn peer reply given taken newcomer
+
+-- the reply lets nobody in
+abbrev pub LetsNobodyIn : Reply → Type 0
+LetsNobodyIn (Arrived id) = ⊥
+LetsNobodyIn reply = Unit {0}
+
+-- the arrival was not applied, or its reply let nobody in
+abbrev pub IsTurnedOff : {S : Type 0} → Steps S → Peer → S → S → Type 0
+IsTurnedOff {S} steps peer from to = (to ≡ from) ⊎ ((reply : Reply) × steps from (Arrive peer) reply to × LetsNobodyIn reply)

@@ -1,11 +1,14 @@
--- What a pass gains by a call.
-use Rattle.std.specs.Prelude.{◌≡◌, ℕ, Bool, true, List, [], ◌∷◌, ◌++◌, map}
+-- What a caller of a hall is told, and what his pass gains.
+use Rattle.std.specs.Prelude.{◌≡◌, ℕ, Bool, true, false, List, [], ◌∷◌, ◌++◌, map}
 use Rattle.radio_events.specs.declared.event.Event.{Event}
 use Rattle.radio_events.specs.declared.event.Event.TheVariants.{Leave}
 use Rattle.radio_events.specs.declared.reply.Reply.{Reply}
+use Rattle.radio_events.specs.Events.{TakesNoMemory}
+use Rattle.radio_core.specs.Step.{reply_to}
+use Rattle.radio_core.specs.World.{World}
 use Rattle.radio_book.specs.Clients.{is_here}
 use Rattle.radio_book.specs.declared.entry.Entry.{Entry}
-use Rattle.radio_book.specs.History.{entry_of}
+use Rattle.radio_book.specs.History.{IsRun, entry_of, world_of}
 use Rattle.radio_book.specs.Stamp.{Stamp, stamped}
 use Rattle.radio_hall.specs.Turns.{Chain}
 
@@ -17,7 +20,23 @@ IsNotHisEnd receipts event = (id : ℕ) → event ≡ Leave id → is_here id re
 abbrev pub Gains : Bool → List Stamp → Event → Reply → List Stamp → Type 0
 Gains keeps before event reply now = keeps ≡ true → (serial : ℕ) × (now ≡ before ++ stamped serial event reply ∷ [])
 
+-- the reply is that of a step after some history that is a run from the opening state
+pub record IsReplied (opening : World) (event : Event) (reply : Reply) : Type 0 where
+  pub history : List Entry
+  pub run : IsRun opening history
+  pub replied : reply ≡ reply_to (world_of opening history) event
+
+-- Whatever is stored, the reply is a legal one; and where entries are stored, the pass gains its receipt.
+pub record IsCalled (keeps : Bool) (opening : World) (before : List Stamp) (event : Event) (reply : Reply) (now : List Stamp) : Type 0 where
+  pub legal : ∥ IsReplied opening event reply ∥₁
+  pub gains : Gains keeps before event reply now
+
+-- Memory may be refused for it: it is not the end of one of the caller's, and where nothing is stored, it takes memory.
+pub record MayBeRefused (keeps : Bool) (before : List Stamp) (event : Event) : Type 0 where
+  pub other : IsNotHisEnd before event
+  pub takes : keeps ≡ false → TakesNoMemory event → ⊥
+
 -- Where entries are stored, the pass gains the receipts of what was applied, in its order.
 abbrev pub PassesGainWhatWasApplied : Type 0
-PassesGainWhatWasApplied = (before after : List Stamp) (entries : List Entry) → Chain (Gains true) before entries after
+PassesGainWhatWasApplied = (opening : World) (before after : List Stamp) (entries : List Entry) → Chain (IsCalled true opening) before entries after
     → (receipts : List Stamp) × (after ≡ before ++ receipts) × (map entry_of receipts ≡ entries)

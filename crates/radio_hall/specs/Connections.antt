@@ -1,9 +1,11 @@
 -- Connections, as their worker sees them.
-use Rattle.std.specs.Prelude.{◌≡◌, ℕ, Bool, true, false, not, ◌&&◌, Option, Some, None, List, []}
+use Rattle.std.specs.Prelude.{◌≡◌, ℕ, suc, Bool, true, false, not, ◌&&◌, Option, Some, None, List, []}
 use Rattle.std.specs.List.{position, remove}
 use Rattle.radio_addr.specs.declared.peer.Peer.{Peer}
+use Rattle.radio_events.specs.declared.event.Event.{Event}
 use Rattle.radio_events.specs.declared.reply.Reply.{Reply}
 use Rattle.radio_session.specs.Conversation.{Conversation, fresh, asking}
+use Rattle.radio_session.specs.Exchanges.{is_leave}
 use Rattle.radio_session.specs.Saying.{said}
 use Rattle.radio_hall.specs.declared.conn.Fate.{Fate}
 use Rattle.radio_hall.specs.declared.conn.Fate.TheVariants.{Open, Ended, Closed, Cut}
@@ -14,8 +16,24 @@ abbrev pub is_open : Fate → Bool
 is_open Open = true
 is_open fate = false
 
--- the number of its client, all that its line gave and took, how often it was called, what is owed to the line, how its session stands, and
--- what its worker notes of it
+-- how many of a connection's events were refused for want of memory, and how many of these were the leaving of a client
+pub record Refused : Type 0 where
+  pub events : ℕ
+  pub leavings : ℕ
+
+abbrev pub no_refusals : Refused
+no_refusals = record { events = 0; leavings = 0 }
+
+-- one more was refused, a leaving or not
+abbrev pub refused_one : Bool → Refused → Refused
+refused_one true refused = record { events = suc refused.events; leavings = suc refused.leavings }
+refused_one false refused = record { events = suc refused.events; leavings = refused.leavings }
+
+abbrev pub one_refusal : Event → Refused → Refused
+one_refusal event refused = refused_one (is_leave event) refused
+
+-- the number of its client, all that its line gave and took, how often it was called, what is owed to the line, how its session stands,
+-- what its worker notes of it, and what was refused to it
 pub record Connection : Type 0 where
   -- 0 where it is nobody's
   pub id : ℕ
@@ -25,6 +43,7 @@ pub record Connection : Type 0 where
   pub owed : List ℕ
   pub session : Conversation
   pub status : Status
+  pub refused : Refused
 
 -- at this moment it comes, and nothing was asked yet
 abbrev pub status_at : Fate → Bool → ℕ → Status
@@ -34,7 +53,7 @@ status_at fate has_left ms =
 -- a client was let in, whose line gave and took this, and was called so often
 abbrev pub newly_come : ℕ → Peer → List ℕ → List ℕ → Calls → ℕ → Connection
 newly_come id peer given taken calls ms =
-    record { id = id; given = given; taken = taken; calls = calls; owed = []; session = fresh id peer; status = status_at Open false ms }
+    record { id = id; given = given; taken = taken; calls = calls; owed = []; session = fresh id peer; status = status_at Open false ms; refused = no_refusals }
 
 -- it is still to be served: it is not over, or its client has not left
 abbrev pub stays_with : Fate → Bool → Bool

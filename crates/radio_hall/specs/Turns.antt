@@ -10,7 +10,7 @@ use Rattle.radio_hall.specs.declared.conn.Fate.{Fate}
 use Rattle.radio_hall.specs.declared.conn.Fate.TheVariants.{Open, Closed, Cut}
 use Rattle.radio_hall.specs.Connections.{Connection, stays}
 use Rattle.radio_hall.specs.Course.{Standing, Course}
-use Rattle.radio_hall.specs.Duties.{IsLater, IsAsked, IsGiven, HasWaited, IsCutFor}
+use Rattle.radio_hall.specs.Duties.{IsLater, IsAsked, IsAskedOnce, IsGiven, HasWaited, IsCutFor, IsClosedFor, HasLeft}
 use Rattle.radio_hall.specs.Workers.{WorkerOf}
 
 -- What the line took, followed by what is owed to it, is what was told. Once it is closed, it took all; where it was cut off, the front.
@@ -68,9 +68,12 @@ module _ {S : Type 0} (steps : Steps S) where
     pub served : IsServed c entries c'
     pub drawn : HasDrawn news c entries c'
     pub asked : IsAsked c c'
+    pub once : IsAskedOnce c c'
     pub given : IsGiven c c'
     pub waited : HasWaited c entries c'
     pub cut : IsCutFor ms patience c c'
+    pub closed : IsClosedFor c c'
+    pub left : HasLeft c c'
 
   -- each connection was served, one after another
   abbrev pub ServesEach : ℕ → ℕ → Bool → S → List Connection → S → List Connection → Type 0

@@ -3,6 +3,7 @@
 ghost use Rattle.std.specs.Prelude.{◌≡◌, IfOk};
 
 use crate::owed::Owed;
+use crate::refusals::Refusals;
 use crate::{Line, OutOfMemory};
 use radio_addr::Peer;
 use radio_events::Reply;
@@ -90,6 +91,7 @@ pub struct Conn<L: Line> {
     pub(crate) session: Session,
     pub(crate) owed: Owed,
     pub(crate) status: Status,
+    pub(crate) refusals: Refusals,
 }
 
 impl<L: Line> Model for Conn<L> {
@@ -105,12 +107,14 @@ impl<L: Line> Model for Conn<L> {
       owed = c.owed;
       session = c.session;
       status = c.status;
+      refused = c.refusals;
     } };
 }
 
 impl<L: Line> Conn<L> {
     ghost use Rattle.radio_hall.specs.Connections.{newly_come, stays, lingers, IsTurnedAway};
-    ghost use Rattle.radio_hall.specs.Admission.{IsTakenIn};
+    ghost use Rattle.std.specs.Prelude.{OnErr};
+    ghost use Rattle.radio_hall.specs.Admission.{IsTakenIn, LetsNobodyIn};
 
     /// The connection of a client who was let in under this number.
     fn new(alloc: Global, id: u64, peer: Peer, line: L, ms: u64) -> Conn<L>
@@ -122,6 +126,7 @@ impl<L: Line> Conn<L> {
             session: Session::new(alloc, id, peer),
             owed: Owed::new(alloc),
             status: Status::new(Fate::Open, false, ms),
+            refusals: Refusals::new(),
         }
     }
 
@@ -145,6 +150,7 @@ impl<L: Line> Conn<L> {
             session,
             owed,
             status: Status::new(Fate::Ended, true, ms),
+            refusals: Refusals::new(),
         })
     }
 
@@ -157,7 +163,9 @@ impl<L: Line> Conn<L> {
         reply: Reply,
         ms: u64,
     ) -> Result<Conn<L>, OutOfMemory>
-        ensures { IfOk result (λ c. IsTakenIn peer reply (L.given line) (L.taken line) c) }
+        ensures taken_in { IfOk result (λ c. IsTakenIn peer reply (L.given line) (L.taken line) c) }
+        // memory is wanted only for one who was not let in
+        ensures err { OnErr result (LetsNobodyIn reply) }
     {
         match reply {
             Reply::Arrived(id) => Ok(Conn::new(alloc, id, peer, line, ms)),

@@ -21,6 +21,7 @@ mod laws;
 mod line;
 mod lingering;
 mod owed;
+mod refusals;
 mod server;
 mod serving;
 mod turn;

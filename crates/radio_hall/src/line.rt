@@ -36,7 +36,7 @@ pub trait Line: Drop {
     // all bytes that it took
     ghost taken: { Self → List ℕ };
 
-    // how often it was called, and has failed
+    // how often it was called and with how much room, has failed, and has told that its peer has closed
     ghost calls: { Self → Calls };
 
     /// Reads what has come, as far as the buffer has room. What stands in the buffer behind the
@@ -44,7 +44,7 @@ pub trait Line: Drop {
     fn read(&mut self, buffer: &mut [u8]) -> Received
         ensures given { HasGiven result buffer.new (given self.old) (given self.new) }
         ensures taken { taken self.new ≡ taken self.old }
-        ensures calls { calls self.new ≡ after_read result (calls self.old) };
+        ensures calls { calls self.new ≡ after_read result (length buffer.new) (calls self.old) };
 
     /// Writes what it takes of the bytes, from the front.
     fn write(&mut self, bytes: &[u8]) -> Sent

@@ -1,6 +1,6 @@
 //! What a connection was told and its line has not taken.
 
-ghost use Rattle.std.specs.Prelude.{◌≡◌, ◌≤◌, ◌++◌, [], drop, length, IfOk, OnErr};
+ghost use Rattle.std.specs.Prelude.{◌≡◌, ◌≤◌, ◌++◌, [], true, drop, length, IfOk, OnErr};
 ghost use Rattle.radio_session.specs.Conversation.{saying_now};
 ghost use Rattle.radio_session.specs.Saying.{said};
 
@@ -66,6 +66,7 @@ impl Owed {
         ensures state { IfOk result (λ state. state ≡ (said session.old.says reply).state) }
         ensures says { IfOk result (λ _. session.new ≡ saying_now session.old (said session.old.says reply).says) }
         ensures silent { OnErr result (self.new ≡ self.old) }
+        ensures fails { OnErr result (session.new.has_failed ≡ true) }
     {
         session.give(reply, &mut self.bytes)
     }

@@ -77,11 +77,11 @@ impl<'a, R: Wait, C: Chronicle, H: House> Caller<'a, R, C, H> {
 }
 
 impl<'a, R: Wait, C: Chronicle, H: House> Server for Caller<'a, R, C, H> {
-    ghost use Rattle.radio_hall.specs.Callers.{Gains, IsNotHisEnd};
+    ghost use Rattle.radio_hall.specs.Callers.{IsCalled, MayBeRefused};
 
-    ghost steps = { Gains C.KEEPS };
+    ghost steps = { IsCalled C.KEEPS H.opening };
 
-    ghost refuses = { λ receipts event. IsNotHisEnd receipts event };
+    ghost refuses = { MayBeRefused C.KEEPS };
 
     fn apply(&mut self, event: Event) -> Result<Reply, OutOfMemory> {
         let receipt = self.hall.apply(self.rt, &mut self.pass, event)?;

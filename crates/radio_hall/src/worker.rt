@@ -4,7 +4,7 @@ ghost use Rattle.std.specs.Prelude.{◌≡◌, ◌*◌, IfOk, OnOk, OnErr};
 ghost use Rattle.radio_events.specs.declared.event.Event.TheVariants.{Arrive};
 ghost use Rattle.radio_events.specs.declared.reply.Reply.{Reply};
 ghost use Rattle.radio_hall.specs.Turns.{Ticks, IsTurn};
-ghost use Rattle.radio_hall.specs.Admission.{IsAdmission, IsTakenIn};
+ghost use Rattle.radio_hall.specs.Admission.{IsAdmission, IsTakenIn, IsTurnedOff};
 
 use crate::serving::Now;
 use crate::serving::leaving::apply_quietly;
@@ -69,8 +69,8 @@ impl<S: Server + Drop> Worker<S> {
     /// A connection comes from this peer. It is added to the others, if the server lets it in; if it
     /// is denied, to be told so and closed by the next turns.
     ///
-    /// `OutOfMemory` where memory was refused: the line is closed without a byte, and the other
-    /// connections are as they were.
+    /// `OutOfMemory` where memory was refused: the line is closed without a byte, the other
+    /// connections are as they were, and the server has let nobody in.
     pub fn admit<L: Line>(
         &mut self,
         conns: &mut Vec<Conn<L>>,
@@ -80,6 +80,7 @@ impl<S: Server + Drop> Worker<S> {
     ) -> Result<(), OutOfMemory>
         ensures ok { OnOk result (IsAdmission S.steps peer (L.given line) (L.taken line) self.old.server conns.old.items self.new.server conns.new.items) }
         ensures err { OnErr result (conns.new.items ≡ conns.old.items) }
+        ensures nobody { OnErr result (IsTurnedOff S.steps peer self.old.server self.new.server) }
         ensures told { (self.new.told_ms ≡ self.old.told_ms) × (self.new.patience_ms ≡ self.old.patience_ms) }
     {
         conns.reserve(1)?;
@@ -92,6 +93,7 @@ impl<S: Server + Drop> Worker<S> {
     fn arrival<L: Line>(&mut self, line: L, peer: Peer, ms: u64) -> Result<Conn<L>, OutOfMemory>
         ensures applied { IfOk result (λ conn. (reply : Reply) × S.steps self.old.server (Arrive peer) reply self.new.server
             × IsTakenIn peer reply (L.given line) (L.taken line) conn) }
+        ensures nobody { OnErr result (IsTurnedOff S.steps peer self.old.server self.new.server) }
         ensures told { (self.new.told_ms ≡ self.old.told_ms) × (self.new.patience_ms ≡ self.old.patience_ms) }
     {
         let reply = self.server.apply(Event::Arrive { peer })?;

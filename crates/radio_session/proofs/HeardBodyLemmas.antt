@@ -1,18 +1,19 @@
 -- A whole body behind its head is heard as its data.
-use Rattle.std.proofs.Common.{◌≡◌, ℕ, Bool, true, false, List, length, take, ap, ◌∙◌, refl, Option, None, Some}
+use Rattle.std.proofs.Common.{◌≡◌, ℕ, Bool, true, false, List, length, take, ap, sym, subst, ◌∙◌, refl, Option, None, Some}
 use Rattle.std.specs.Str.{bytes_eq}
 use Rattle.std.specs.Prelude.{codes}
 use Rattle.std.proofs.Math.Seq.{take-length}
 use Rattle.radio_heads.specs.Head.{RequestParts}
-use Rattle.radio_source.specs.Place.{Place, AtEnd, after, data_of, has_ended, fault_at, plain_start, sized_start, chunked_start}
+use Rattle.radio_source.specs.Place.{Place, AtEnd, Broken, after, data_of, has_ended, fault_at, plain_start, sized_start, chunked_start}
 use Rattle.radio_source.specs.Chunked.{ChunkedBody, IsBody, print_body, content_of}
 use Rattle.radio_session.specs.declared.session.LastWord.{LastWord}
+use Rattle.radio_session.specs.declared.session.LastWord.TheVariants.{Faulty}
 use Rattle.radio_session.specs.declared.session.framing.Framing.{Framing}
 use Rattle.radio_session.specs.declared.session.framing.Framing.TheVariants.{Plain, Sized, Chunked}
 use Rattle.radio_session.specs.Conversation.{Conversation}
 use Rattle.radio_session.specs.Framing.{is_source, framing_of, start_of}
 use Rattle.radio_session.specs.Hearing.{Heard, request_heard, source_heard, body_closes, delivered, greeted}
-use Rattle.radio_session.specs.Bodies.{feeds, IsFramed, PlainBodiesAreHeard, SizedBodiesAreHeard, ChunkedBodiesAreHeard}
+use Rattle.radio_session.specs.Bodies.{feeds, IsFramed, EndsBy, PlainBodiesAreHeard, SizedBodiesAreHeard, ChunkedBodiesAreHeard, FaultyBodiesAreHeard}
 use Rattle.radio_session.proofs.BodyLemmas.{closes_at}
 use Rattle.radio_session.proofs.CutLemmas.{request_by}
 
@@ -24,7 +25,7 @@ unfolding request_by
 heard_as true get conversation request behind framing e framed = ap (source_heard conversation request behind) framed
 heard_as false get conversation request behind framing e framed = cc
 
-source_as : (conversation : Conversation) (request : RequestParts) (behind : List ℕ) (framing : Framing) → IsFramed request framing
+pub source_as : (conversation : Conversation) (request : RequestParts) (behind : List ℕ) (framing : Framing) → IsFramed request framing
     → request_heard conversation request behind ≡ source_heard conversation request behind (Some framing)
 unfolding request_by
 source_as conversation request behind framing framed =
@@ -62,3 +63,13 @@ pub sized_bodies_are_heard : ((n : ℕ) (bytes : List ℕ) → data_of (sized_st
 sized_bodies_are_heard found place conversation request bytes framed =
     events_as conversation request (Sized (length bytes)) bytes bytes (body_closes true None) framed (found (length bytes) bytes ∙ take-length bytes)
     (ended_closes (after (sized_start (length bytes)) bytes) (place (length bytes) bytes refl))
+
+pub faulty_bodies_are_heard : FaultyBodiesAreHeard
+faulty_bodies_are_heard conversation request bytes framed broken =
+    let events = feeds conversation.id request (data_of chunked_start bytes) in
+    let heard : request_heard conversation request bytes
+    ≡ delivered (greeted conversation request) events (after chunked_start bytes) (closes_at Broken) =
+    source_as conversation request bytes Chunked framed
+    ∙ ap (λ (p : Place). delivered (greeted conversation request) events (after chunked_start bytes) (closes_at p)) broken in
+    subst (λ (h : Heard). EndsBy conversation.id (codes "bad-body") h) (sym heard)
+    (record { before = events; last = Faulty; events = refl; closing = refl; told = refl })

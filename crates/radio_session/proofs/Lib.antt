@@ -15,3 +15,4 @@ mod CoreDataLemmas
 mod SentTitleLemmas
 mod HeardBodyLemmas
 mod FieldLemmas
+mod GreetingLemmas

@@ -1,5 +1,5 @@
--- What a source's whole body is heard as, behind its head (RFC 9112, section 6).
-use Rattle.std.specs.Prelude.{◌≡◌, ℕ, true, List, [], ◌∷◌, ◌++◌, length, Some}
+-- What a source's body is heard as, behind its head (RFC 9112, section 6).
+use Rattle.std.specs.Prelude.{◌≡◌, ℕ, true, List, [], ◌∷◌, ◌++◌, length, codes, Some}
 use Rattle.radio_events.specs.declared.event.Event.{Event}
 use Rattle.radio_events.specs.declared.event.Event.TheVariants.{SourceEnd}
 use Rattle.radio_heads.specs.Head.{RequestParts}
@@ -7,10 +7,13 @@ use Rattle.radio_source.specs.Chunked.{ChunkedBody, IsBody, print_body, content_
 use Rattle.radio_session.specs.declared.session.framing.Framing.{Framing}
 use Rattle.radio_session.specs.declared.session.framing.Framing.TheVariants.{Plain, Sized, Chunked}
 use Rattle.radio_session.specs.Asking.{asks_to_feed}
-use Rattle.radio_session.specs.Conversation.{Conversation}
+use Rattle.radio_source.specs.Place.{Broken, after, chunked_start}
+use Rattle.radio_session.specs.declared.session.LastWord.{LastWord}
+use Rattle.radio_session.specs.Conversation.{Conversation, ending_word}
 use Rattle.radio_session.specs.Framing.{is_source, framing_of}
-use Rattle.radio_session.specs.Hearing.{request_heard}
+use Rattle.radio_session.specs.Hearing.{Heard, request_heard}
 use Rattle.radio_session.specs.Pushes.{pushes}
+use Rattle.radio_session.specs.Saying.{last_ending}
 
 -- a source asks to feed, and its data are these
 abbrev pub feeds : ℕ → RequestParts → List ℕ → List Event
@@ -35,3 +38,16 @@ SizedBodiesAreHeard = (conversation : Conversation) (request : RequestParts) (by
 abbrev pub ChunkedBodiesAreHeard : Type 0
 ChunkedBodiesAreHeard = (conversation : Conversation) (request : RequestParts) (body : ChunkedBody) → IsFramed request Chunked → IsBody body →
     (request_heard conversation request (print_body body)).events ≡ feeds conversation.id request (content_of body.chunks) ++ SourceEnd conversation.id ∷ []
+
+-- the last event is the end of the source of this number, and the reply to it shuts the connection with this word
+pub record EndsBy (id : ℕ) (word : List ℕ) (heard : Heard) : Type 0 where
+  pub before : List Event
+  pub last : LastWord
+  pub events : heard.events ≡ before ++ SourceEnd id ∷ []
+  pub closing : heard.conversation.says.closing ≡ Some (record { awaits = length before; word = last })
+  pub told : ending_word (last_ending last) ≡ word
+
+-- A chunked body with a byte that no such body has there ends by that fault, and not as if it were whole.
+abbrev pub FaultyBodiesAreHeard : Type 0
+FaultyBodiesAreHeard = (conversation : Conversation) (request : RequestParts) (bytes : List ℕ) → IsFramed request Chunked → after chunked_start bytes ≡ Broken →
+    EndsBy conversation.id (codes "bad-body") (request_heard conversation request bytes)

@@ -14,3 +14,4 @@ pub mod Framing
 pub mod DataServers
 pub mod CutTelling
 pub mod Bodies
+pub mod Greetings

@@ -5,7 +5,8 @@ ghost use Rattle.radio_session.specs.Conversation.{ending_word};
 ghost use Rattle.radio_session.specs.declared.state.Ending.TheVariants.{Done};
 ghost use Rattle.radio_session.specs.LastWords.{DenialsNameTheirRule, RulesWithoutStatusAreSilent, LateDenialsAreSilent, FinishesAreSilent};
 ghost use Rattle.radio_session.specs.LastWords.{RefusalsNameTheirRule, WholeBodiesAreDone, FaultyBodiesAreSilent};
-ghost use Rattle.radio_session.specs.Bodies.{PlainBodiesAreHeard, SizedBodiesAreHeard, ChunkedBodiesAreHeard};
+ghost use Rattle.radio_session.specs.Bodies.{PlainBodiesAreHeard, SizedBodiesAreHeard, ChunkedBodiesAreHeard, FaultyBodiesAreHeard};
+ghost use Rattle.radio_session.specs.Greetings.{WhoWaitsIsToldToGoOn, NobodyElseIsToldToGoOn};
 ghost use Rattle.radio_session.specs.Cuts.{CutsDoNotMatter, PiecesAreHeardAsOne};
 ghost use Rattle.radio_session.specs.CutTelling.{CutsAreToldAlike, PiecesAreToldAsOne};
 ghost use Rattle.radio_session.specs.Told.{DrawsFollowTheHead, PlainDrawsAreTheirData, JoinedDrawsAreWoven, DrawsAreTakenOutAgain, ExchangesTellReplies};
@@ -22,17 +23,26 @@ use radio_source::laws::{
 };
 
 /// A source's whole body behind its head is heard as its data, and where it has an end, as that end
-/// (RFC 9112, section 6): nothing of what frames it is data.
+/// (RFC 9112, section 6): nothing of what frames it is data. A faulty one ends by its fault.
 pub fn bodies_are_heard_as_their_data()
     ensures plain { PlainBodiesAreHeard }
     ensures sized { SizedBodiesAreHeard }
     // the data of the chunks, and nothing of their lines and trailers
     ensures chunked { ChunkedBodiesAreHeard }
+    // a byte that no chunked body has there: the end is that of a fault
+    ensures faulty { FaultyBodiesAreHeard }
 {
     plain_bodies();
     sized_bodies();
     whole_bodies_are_complete();
 }
+
+/// A source that is admitted is told to go on where it waits for that (RFC 9110, section 10.1.1), and
+/// else that it was admitted.
+pub fn who_waits_is_told_to_go_on()
+    ensures waits { WhoWaitsIsToldToGoOn }
+    ensures other { NobodyElseIsToldToGoOn }
+{}
 
 /// What comes on a connection is heard alike, however it is cut into pieces: the same head, the same
 /// data and the same events, but for where blocks are cut, and what follows is heard alike.

@@ -1,3 +1,4 @@
 pub mod Faults
 pub mod Accepting
 pub mod Serving
+pub mod Streams

@@ -20,12 +20,14 @@ mod listening;
 mod readiness;
 mod served;
 mod sockets;
+mod stream;
 
 pub use accepts::{Accepts, Tried};
 pub use fault::ServeFault;
 pub use line::SocketLine;
 pub use listening::Listening;
 pub use served::ServedTime;
+pub use stream::Shut;
 
 /// What a call answers where memory was refused.
 pub type OutOfMemory = std::alloc::AllocError;

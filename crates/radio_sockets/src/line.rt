@@ -2,22 +2,22 @@
 
 ghost use Rattle.std.specs.Prelude.{◌≡◌, ◌<◌, length};
 ghost use Rattle.radio_hall.specs.Lines.{HasGiven, HasTaken};
+ghost use Rattle.radio_sockets.specs.Streams.{IsGivenBy, IsTakenBy};
 
 use crate::activity::Activity;
 use crate::readiness::Readiness;
-use mio::net::TcpStream;
+use crate::stream::{Shut, read_once, write_once};
 use radio_hall::{CallCount, History, Line, Received, Sent};
 use std::alloc::Global;
-use std::io::{ErrorKind, Read, Write};
-use std::net::Shutdown;
+use std::io::{Read, Write};
 use std::rc::Rc;
 
 /// A connection's socket. It is asked only where the system has told that it is ready: `Nothing`
 /// takes no call of the system then. Where nothing is wanted of what comes, it is read from at most
 /// each tenth of a second, and where it took nothing it is asked again after a second.
 #[derive(Drop)]
-pub struct SocketLine {
-    stream: TcpStream,
+pub struct SocketLine<S: Read + Write + Shut + Drop> {
+    stream: S,
     readiness: Rc<Readiness>,
     activity: Rc<Activity>,
     given: History,
@@ -25,13 +25,13 @@ pub struct SocketLine {
     calls: CallCount,
 }
 
-impl SocketLine {
+impl<S: Read + Write + Shut + Drop> SocketLine<S> {
     /// The line of a socket that does not wait.
     pub(crate) fn new(
-        stream: TcpStream,
+        stream: S,
         readiness: Rc<Readiness>,
         activity: Rc<Activity>,
-    ) -> SocketLine {
+    ) -> SocketLine<S> {
         SocketLine {
             stream,
             readiness,
@@ -42,9 +42,10 @@ impl SocketLine {
         }
     }
 
-    /// Reads from the socket, where it may be asked.
+    /// Reads from the socket, where it may be asked: what it gave by that one call.
     fn receive(&mut self, buffer: &mut [u8]) -> Received
         ensures given { HasGiven result buffer.new self.old.given.items self.new.given.items }
+        ensures stream { IsGivenBy (S.remaining self.old.stream) (S.remaining self.new.stream) buffer.new result }
         ensures taken { self.new.taken ≡ self.old.taken }
         ensures calls { self.new.calls ≡ self.old.calls }
     {
@@ -52,30 +53,19 @@ impl SocketLine {
         if !self.readiness.is_readable(ms) {
             return Received::Nothing;
         }
-        match self.stream.read(buffer) {
-            Ok(0) => Received::Closed,
-            Ok(count) => {
-                if self.readiness.has_read(count == buffer.len(), ms) {
-                    self.activity.note_more();
-                }
-                self.given.note(&buffer[..count]);
-                Received::Bytes(count)
-            }
-            Err(error) => match error.kind() {
-                ErrorKind::WouldBlock => {
-                    self.readiness.has_nothing_to_read();
-                    Received::Nothing
-                }
-                ErrorKind::Interrupted => Received::Nothing,
-                _ => Received::Fault,
-            },
+        let received = read_once(&mut self.stream, buffer, &self.readiness);
+        if let Received::Bytes(count) = received {
+            self.note_received(count == buffer.len(), ms);
+            self.given.note(&buffer[..count]);
         }
+        received
     }
 
-    /// Writes to the socket, where it may be asked.
+    /// Writes to the socket, where it may be asked: what it took by that one call.
     fn send(&mut self, bytes: &[u8]) -> Sent
         requires { 0 < length bytes.now }
         ensures taken { HasTaken result bytes.now self.old.taken.items self.new.taken.items }
+        ensures stream { IsTakenBy (S.contents self.old.stream) (S.contents self.new.stream) bytes.now result }
         ensures given { self.new.given ≡ self.old.given }
         ensures calls { self.new.calls ≡ self.old.calls }
     {
@@ -83,26 +73,21 @@ impl SocketLine {
         if !self.readiness.is_writable(ms) {
             return Sent::Nothing;
         }
-        match self.stream.write(bytes) {
-            Ok(0) => Sent::Nothing,
-            Ok(count) => {
-                self.note_sent(count < bytes.len(), ms);
-                self.taken.note(&bytes[..count]);
-                Sent::Took(count)
-            }
-            Err(error) => match error.kind() {
-                ErrorKind::WouldBlock => {
-                    self.readiness.has_no_room(ms);
-                    Sent::Nothing
-                }
-                ErrorKind::Interrupted => Sent::Nothing,
-                _ => Sent::Fault,
-            },
+        let sent = write_once(&mut self.stream, bytes, &self.readiness, ms);
+        if let Sent::Took(count) = sent {
+            self.note_sent(count < bytes.len(), ms);
+            self.taken.note(&bytes[..count]);
+        }
+        sent
+    }
+
+    /// The socket gave bytes, and filled the buffer or not.
+    fn note_received(&self, is_filled: bool, ms: u64) {
+        if self.readiness.has_read(is_filled, ms) {
+            self.activity.note_more();
         }
     }
-}
 
-impl SocketLine {
     /// The socket took all or a part. Where what comes is wanted, something may be to be done next.
     fn note_sent(&self, is_part: bool, ms: u64) {
         if is_part {
@@ -114,7 +99,7 @@ impl SocketLine {
     }
 }
 
-impl Line for SocketLine {
+impl<S: Read + Write + Shut + Drop> Line for SocketLine<S> {
     ghost given = { λ line. line.given.items };
 
     ghost taken = { λ line. line.taken.items };
@@ -123,7 +108,7 @@ impl Line for SocketLine {
 
     fn read(&mut self, buffer: &mut [u8]) -> Received {
         let received = self.receive(buffer);
-        self.calls.count_read(received);
+        self.calls.count_read(received, buffer);
         received
     }
 
@@ -139,7 +124,6 @@ impl Line for SocketLine {
 
     fn finish(&mut self) {
         self.readiness.pass_over();
-        // A socket that is closed already has nothing to be told.
-        let _ = self.stream.shutdown(Shutdown::Write);
+        self.stream.shut();
     }
 }

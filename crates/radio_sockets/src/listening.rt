@@ -6,6 +6,7 @@ use crate::entrance::next_of;
 use crate::line::SocketLine;
 use crate::served::ServedTime;
 use crate::sockets::{Sockets, moment};
+use mio::net::TcpStream;
 use radio_hall::{
     Conn, OpenGate, Server, Turn, Watched, Worker, close_first_lingering, count_lingering,
 };
@@ -88,7 +89,7 @@ impl Listening {
         clock: &C,
         waits: &W,
         worker: &mut Worker<Watched<S>>,
-        conns: &mut Vec<Conn<SocketLine>>,
+        conns: &mut Vec<Conn<SocketLine<TcpStream>>>,
     ) -> ServeFault {
         for _ in waits.forever() {
             if let Err(fault) = self.turn(clock, worker, conns) {
@@ -104,7 +105,7 @@ impl Listening {
         &mut self,
         clock: &C,
         worker: &mut Worker<Watched<S>>,
-        conns: &mut Vec<Conn<SocketLine>>,
+        conns: &mut Vec<Conn<SocketLine<TcpStream>>>,
     ) -> Result<(), ServeFault> {
         let wait_ms = self.wait_ms();
         let clock_ms = self.sockets.hear(clock, wait_ms)?;
@@ -136,7 +137,7 @@ impl Listening {
     }
 
     /// Closes the oldest of those who linger, if they are too many.
-    fn close_oldest(&self, conns: &mut Vec<Conn<SocketLine>>) {
+    fn close_oldest(&self, conns: &mut Vec<Conn<SocketLine<TcpStream>>>) {
         let count = count_lingering(conns.as_slice());
         for _ in self.most_lingering..count {
             close_first_lingering(conns);
@@ -147,7 +148,7 @@ impl Listening {
     fn admit_all<S: Server + Drop>(
         &mut self,
         worker: &mut Worker<Watched<S>>,
-        conns: &mut Vec<Conn<SocketLine>>,
+        conns: &mut Vec<Conn<SocketLine<TcpStream>>>,
         ms: u64,
     ) -> Result<(), ServeFault> {
         for _ in 0..MOST_AT_ONCE {

@@ -137,7 +137,7 @@ impl Sockets {
     }
 
     /// The line of a socket that was accepted. Its bytes are sent as they come.
-    fn line_of(&mut self, mut stream: TcpStream) -> io::Result<SocketLine> {
+    fn line_of(&mut self, mut stream: TcpStream) -> io::Result<SocketLine<TcpStream>> {
         stream.set_nodelay(true)?;
         let (number, readiness) = self.free_readiness()?;
         self.register(&mut stream, number)?;
@@ -184,8 +184,8 @@ impl Sockets {
     }
 }
 
-impl Entrance<(SocketLine, Peer)> for Sockets {
-    fn accept(&mut self) -> Accepted<(SocketLine, Peer)> {
+impl Entrance<(SocketLine<TcpStream>, Peer)> for Sockets {
+    fn accept(&mut self) -> Accepted<(SocketLine<TcpStream>, Peer)> {
         if !self.is_asked {
             return Accepted::Nothing;
         }

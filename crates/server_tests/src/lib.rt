@@ -20,6 +20,7 @@
 //! - `rows`: sources and listeners who are served, turn after turn.
 //! - `house`: the same over a hall, beside another caller.
 //! - `slow`: lines that take little or nothing.
+//! - `moments`: from when patience and lingering count, to the millisecond.
 //! - `faults`: lines that fail, at each call; and memory that is refused.
 #![tactic(auto)]
 
@@ -35,6 +36,8 @@ mod halls;
 mod house;
 #[cfg(test)]
 mod memory_line;
+#[cfg(test)]
+mod moments;
 #[cfg(test)]
 mod rows;
 #[cfg(test)]

@@ -217,7 +217,7 @@ impl Line for MemoryLine {
 
     fn read(&mut self, buffer: &mut [u8]) -> Received {
         let received = self.receive(buffer);
-        self.calls.count_read(received);
+        self.calls.count_read(received, buffer);
         received
     }
 

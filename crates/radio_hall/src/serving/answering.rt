@@ -1,9 +1,10 @@
 //! Events of a connection, applied one after another.
 
-ghost use Rattle.std.specs.Prelude.{◌≡◌, List, ◌&&◌, ◌||◌};
+ghost use Rattle.std.specs.Prelude.{◌≡◌, true, List, ◌&&◌, ◌||◌};
 ghost use Rattle.radio_book.specs.declared.entry.Entry.{Entry as EntryOf};
 ghost use Rattle.radio_session.specs.Exchanges.{is_leave};
 ghost use Rattle.radio_hall.specs.Course.{is_listen, is_seated};
+ghost use Rattle.radio_hall.specs.declared.conn.Fate.TheVariants.{Closed, Cut};
 ghost use Rattle.radio_hall.specs.Turns.{Chain};
 ghost use Rattle.radio_hall.specs.Answering.{IsToldAs, IsAnswered, AreAnswered};
 
@@ -21,7 +22,7 @@ pub(crate) fn answer<S: Server, L: Line>(server: &mut S, conn: &mut Conn<L>, eve
 {
     let leaves = is_leave(&event);
     let listens = is_listen(&event);
-    match server.apply(event) {
+    match conn.refusals.apply(server, event) {
         Ok(reply) => {
             let sits = both(listens, is_seated(&reply));
             let has_more = fills_room(&reply);
@@ -48,7 +49,10 @@ pub(crate) fn answer_all<S: Server, L: Line>(server: &mut S, conn: &mut Conn<L>,
 
 /// Tells a reply behind what is owed; what becomes of the connection by that.
 fn tell(owed: &mut Owed, session: &mut Session, reply: Reply) -> Fate
-    ensures { IsToldAs result reply session.old owed.old session.new owed.new }
+    ensures told { IsToldAs result reply session.old owed.old session.new owed.new }
+    // it is not closed by that, and cut off only where the session fails
+    ensures closed { result ≡ Closed → ⊥ }
+    ensures cut { result ≡ Cut → session.new.has_failed ≡ true }
 {
     match owed.tell(session, reply) {
         Ok(State::Running) => Fate::Open,
@@ -90,7 +94,7 @@ fn pass_over_if<L: Line>(line: &mut L, sits: bool)
 }
 
 /// Whether the client leaves by this event.
-fn is_leave(event: &Event) -> bool
+pub(crate) fn is_leave(event: &Event) -> bool
     ensures { result ≡ is_leave event.now }
 {
     matches!(event, Event::Leave { .. })

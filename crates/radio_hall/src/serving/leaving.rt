@@ -2,8 +2,9 @@
 
 ghost use Rattle.std.specs.Prelude.{◌≡◌};
 ghost use Rattle.radio_hall.specs.Turns.{HasApplied};
-ghost use Rattle.radio_hall.specs.Leaving.{Leaves};
+ghost use Rattle.radio_hall.specs.Leaving.{HasAskedToLeave, Leaves};
 
+use crate::refusals::Refusals;
 use crate::{Conn, Line, Server};
 use radio_events::Event;
 
@@ -12,11 +13,24 @@ use radio_events::Event;
 pub(crate) fn leave<S: Server, L: Line>(server: &mut S, conn: &mut Conn<L>)
     ensures { Leaves S.steps server.old conn.old server.new conn.new }
 {
-    if conn.status.fate.is_open() || conn.status.has_left {
+    if conn.status.fate.is_open() {
         return;
     }
-    if apply_quietly(server, Event::Leave { id: conn.id }) {
+    if conn.status.has_left {
+        return;
+    }
+    if asks_to_leave(server, &mut conn.refusals, conn.id) {
         conn.status.has_left = true;
+    }
+}
+
+/// The client of this number leaves. Whether memory was not refused.
+fn asks_to_leave<S: Server>(server: &mut S, refusals: &mut Refusals, id: u64) -> bool
+    ensures { HasAskedToLeave S.steps result id server.old refusals.old server.new refusals.new }
+{
+    match refusals.apply(server, Event::Leave { id }) {
+        Ok(_) => true,
+        Err(_) => false,
     }
 }
 

@@ -1,16 +1,18 @@
 //! A connection that has ended, and has nothing more to write.
 
 ghost use Rattle.std.specs.Prelude.{◌≡◌, []};
+ghost use Rattle.radio_hall.specs.Duties.{IsReadOnce};
 ghost use Rattle.radio_hall.specs.Turns.{IsServed};
 ghost use Rattle.radio_hall.specs.Leaving.{IsEnded};
 
+use crate::serving::round::READ_ROOM;
 use crate::serving::{LINGER_MS, Now};
 use crate::{Conn, Fate, Line, Received};
 
 /// Tells the peer that nothing more is written, and passes over what still comes, so that its last
 /// answer is not lost with it. The connection is closed once the peer has closed, or after a second;
 /// and at once where nothing was written.
-pub(crate) fn linger<L: Line>(conn: &mut Conn<L>, buffer: &mut [u8], now: Now)
+pub(crate) fn linger<L: Line>(conn: &mut Conn<L>, buffer: &mut [u8; READ_ROOM], now: Now)
     requires fate { conn.old.status.fate ≡ Fate.Ended }
     requires all { conn.old.owed ≡ [] }
     ensures { IsEnded conn.old conn.new }
@@ -23,7 +25,7 @@ pub(crate) fn linger<L: Line>(conn: &mut Conn<L>, buffer: &mut [u8], now: Now)
 }
 
 /// The same where something was written.
-fn wait_for_close<L: Line>(conn: &mut Conn<L>, buffer: &mut [u8], now: Now)
+fn wait_for_close<L: Line>(conn: &mut Conn<L>, buffer: &mut [u8; READ_ROOM], now: Now)
     requires fate { conn.old.status.fate ≡ Fate.Ended }
     requires all { conn.old.owed ≡ [] }
     ensures { IsEnded conn.old conn.new }
@@ -39,6 +41,7 @@ fn finish<L: Line>(conn: &mut Conn<L>, now: Now)
     ensures served { IsServed conn.old [] conn.new }
     ensures fate { conn.new.status.fate ≡ conn.old.status.fate }
     ensures owed { conn.new.owed ≡ conn.old.owed }
+    ensures calls { conn.new.calls ≡ conn.old.calls }
 {
     if conn.status.is_finished {
         return;
@@ -49,11 +52,12 @@ fn finish<L: Line>(conn: &mut Conn<L>, now: Now)
 }
 
 /// Reads once from its line, and passes over what came.
-fn pass_over<L: Line>(conn: &mut Conn<L>, buffer: &mut [u8]) -> Received
+fn pass_over<L: Line>(conn: &mut Conn<L>, buffer: &mut [u8; READ_ROOM]) -> Received
     requires { conn.old.status.fate ≡ Fate.Ended }
     ensures served { IsServed conn.old [] conn.new }
     ensures status { conn.new.status ≡ conn.old.status }
     ensures owed { conn.new.owed ≡ conn.old.owed }
+    ensures once { IsReadOnce conn.old conn.new }
 {
     conn.line.read(buffer)
 }

@@ -8,6 +8,7 @@ ghost use Rattle.radio_hall.specs.Answering.{IsHeardOn};
 
 use crate::serving::Now;
 use crate::serving::answering::answer_all;
+use crate::serving::round::READ_ROOM;
 use crate::{Conn, Fate, Line, Received, Server};
 
 /// Reads once from the connection's line, and applies what the bytes mean. Where the peer has
@@ -15,7 +16,7 @@ use crate::{Conn, Fate, Line, Received, Server};
 pub(crate) fn listen<S: Server, L: Line>(
     server: &mut S,
     conn: &mut Conn<L>,
-    buffer: &mut [u8],
+    buffer: &mut [u8; READ_ROOM],
     now: Now,
 )
     requires open { conn.old.status.fate ≡ Fate.Open }

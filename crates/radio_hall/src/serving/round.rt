@@ -35,7 +35,7 @@ pub(crate) fn serve_each<S: Server, L: Line, G: Gate>(
 fn serve<S: Server, L: Line, G: Gate>(
     server: &mut S,
     conn: &mut Conn<L>,
-    buffer: &mut [u8],
+    buffer: &mut [u8; READ_ROOM],
     gate: &G,
     now: Now,
 )
@@ -54,7 +54,12 @@ fn serve<S: Server, L: Line, G: Gate>(
 }
 
 /// What a connection does to which nothing is owed.
-fn work<S: Server, L: Line>(server: &mut S, conn: &mut Conn<L>, buffer: &mut [u8], now: Now)
+fn work<S: Server, L: Line>(
+    server: &mut S,
+    conn: &mut Conn<L>,
+    buffer: &mut [u8; READ_ROOM],
+    now: Now,
+)
     requires { conn.old.owed ≡ [] }
     ensures { Works S.steps now.news server.old conn.old server.new conn.new }
 {

@@ -1,12 +1,12 @@
-use Rattle.std.proofs.Common.{◌≡◌, Bool, ◌||◌, ◌&&◌, [], ◌∷◌, refl, ◌∙◌, ap}
+use Rattle.std.proofs.Common.{◌≡◌, inl, inr, sym, Bool, ◌||◌, ◌&&◌, [], ◌∷◌, refl, ◌∙◌, ap}
 use Rattle.radio_book.specs.History.{entry}
 use Rattle.radio_hall.specs.Connections.{Connection}
 use Rattle.radio_hall.specs.declared.conn.Status.{Status}
 use Rattle.radio_hall.specs.declared.conn.Fate.TheVariants.{Open}
 use Rattle.radio_hall.specs.Course.{is_listen, is_seated}
 use Rattle.radio_hall.proofs.Standing.{answered_as}
-use Rattle.radio_hall.proofs.Calling.{later_same}
-use Rattle.radio_hall.proofs.Deeds.{chain_one, answered_as_one, answered_by_cut}
+use Rattle.radio_hall.proofs.Calling.{later_same, later_by_refusal, more_refused}
+use Rattle.radio_hall.proofs.Deeds.{chain_one, answered_as_one, answered_by_cut, closed_not_cut}
 use Rattle.radio_hall.proofs.serving.answering.answer.Goals as goal
 
 pub returns-in-Ok : goal.returns-in-Ok
@@ -20,15 +20,16 @@ returns-in-Ok g c =
     let over = c.pass_over_if.ensures in
     let left = ap (λ (s : Status). s.has_left) c.note.ensures ∙ ap (λ (b : Bool). b || before.has_left) c.is_leave-leaves.ensures in (
       made ∷ [],
-      chain_one g.S.Server.steps c.args.server.now c.apply.new.self made c.in-Ok.ensures.ok,
+      chain_one g.S.Server.steps c.args.server.now c.apply.new.server made c.in-Ok.ensures.ok,
       answered_as_one c.conn.view_is (record {
         same = refl;
         made = λ goes. (c.in-Ok.reply, refl);
         seat = λ other. sits ∙ ap (λ (b : Bool). (b && is_seated c.in-Ok.reply) || before.sits) other;
         stands =
             λ later past st. answered_as _ _ c.args.event later past c.in-Ok.reply goes refl over.given over.taken sits left st c.tell-conn-inside.result refl
-            c.tell-conn-inside.ensures;
-        later = later_same over.calls over.taken;
+            c.tell-conn-inside.ensures.told;
+        later = later_same over.calls over.taken c.in-Ok.ensures.none;
+        spared = record { calls = over.calls; closed = c.tell-conn-inside.ensures.closed; cut = λ e. inl (c.tell-conn-inside.ensures.cut e) };
       }),
     )
 
@@ -37,5 +38,6 @@ returns-in-Err g c = (
   [],
   c.in-Err.ensures.err,
   answered_as_one c.conn.view_is
-      (answered_by_cut _ _ c.args.event (record { id = refl; sits = refl; left = refl }) (later_same refl refl) refl refl refl),
+      (answered_by_cut _ _ c.args.event (record { id = refl; sits = refl; left = refl }) (later_by_refusal c.args.event refl refl c.in-Err.ensures.one)
+      (record { calls = refl; closed = λ e. closed_not_cut (sym e); cut = λ e. inr (more_refused c.args.event _ _ c.in-Err.ensures.one) }) refl refl refl),
 )

@@ -9,7 +9,7 @@ use Rattle.radio_hall.specs.Connections.{Connection, is_open}
 use Rattle.radio_hall.specs.Turns.{StandsBefore}
 use Rattle.radio_hall.specs.Answering.{IsAnswered, later_by}
 use Rattle.radio_hall.proofs.Calling.{later_none, later_then}
-use Rattle.radio_hall.proofs.Deeds.{chain_then, open_from, later_by_over}
+use Rattle.radio_hall.proofs.Deeds.{chain_then, open_from, later_by_over, spared_then, spared_open}
 use Rattle.radio_hall.proofs.serving.answering.answer_all.Goals as goal
 
 -- one more event is applied
@@ -28,6 +28,7 @@ loop-event-init g c = record {
   same = refl;
   goes = c.requires;
   later = later_none c.args.conn.now;
+  calls = refl;
   stands = λ past st.
       subst (λ (es : List Entry). StandsBefore (into_iter_items c.into_iter-event-iterator.result) c.args.conn.now es) (sym (append-nil past))
       (subst (λ (es : List Event). StandsBefore es c.args.conn.now past) (sym c.into_iter-event-iterator.ensures.into_iter_gives.0) st);
@@ -49,6 +50,7 @@ returns-then-not-is_open g c =
             (one_more _ _ _ c.in-Some.event (into_iter_items c.loop-event.event-iterator)
             (into_iter_items c.next.new.self) _ inv.entries a.0 c.in-Some.ensures.steps.0 a.2 inv.stands past st);
         later = later_then _ _ _ inv.later a.2.later;
+        spared = spared_then _ _ _ inv.later inv.calls a.2.spared;
       },
     )
 
@@ -64,6 +66,7 @@ loop-event-preserved g c =
       same = a.2.same ∙ inv.same;
       goes = goes;
       later = later_then _ _ _ inv.later a.2.later;
+      calls = a.2.spared.calls ∙ inv.calls;
       stands = λ past st.
           subst (λ (f : Fate). StandsBefore (later_by f (into_iter_items c.next.new.self)) c.answer.new.conn (past ++ (inv.entries ++ a.0))) goes
           (one_more _ _ _ c.in-Some.event (into_iter_items c.loop-event.event-iterator)
@@ -82,5 +85,6 @@ returns g c =
         stands =
             λ past st. subst (λ (es : List Event). StandsBefore es c.loop-event.conn (past ++ inv.entries)) none (inv.stands past st);
         later = inv.later;
+        spared = spared_open _ _ inv.calls inv.goes;
       },
     )

@@ -14,5 +14,6 @@ invariant-loop-event g l = record {
   same : l.conn.id ≡ l.initial.conn.id;
   goes : l.conn.status.fate ≡ Open;
   later : IsLater l.initial.conn l.conn;
+  calls : l.conn.calls ≡ l.initial.conn.calls;
   stands : (past : List Entry) → StandsBefore l.fn.events.items l.initial.conn past → StandsBefore (into_iter_items l.event-iterator) l.conn (past ++ entries);
 }

@@ -1,4 +1,4 @@
-use Rattle.std.proofs.Common.{[], refl, sym, ◌∙◌, ap}
+use Rattle.std.proofs.Common.{[], inr, refl, sym, ◌∙◌, ap}
 use Rattle.std.proofs.lemmas.Bool.{false≢true}
 use Rattle.radio_hall.specs.Connections.{Connection}
 use Rattle.radio_hall.proofs.Calling.{later_same}
@@ -24,10 +24,11 @@ returns-then-conn g c =
       d.0,
       d.1,
       served_then _ _ _ [] d.0
-          (served_by_note _ _ (record { id = refl; sits = refl; left = refl }) (later_same refl refl)
+          (served_by_note _ _ (record { id = refl; sits = refl; left = refl }) (later_same refl refl refl)
           (record { id = refl; given = refl; taken = refl; owed = refl; session = refl }) refl) d.2,
       (λ new sits. d.3),
       d.4,
+      inr (record { calls = d.5.calls; closed = d.5.closed; cut = d.5.cut }),
     )
 
 pub returns-else-conn : goal.returns-else-conn
@@ -37,8 +38,9 @@ returns-else-conn g c =
       d.0,
       d.1,
       served_then _ _ _ [] d.0
-          (served_by_note _ _ (record { id = refl; sits = refl; left = refl }) (later_same refl refl)
+          (served_by_note _ _ (record { id = refl; sits = refl; left = refl }) (later_same refl refl refl)
           (record { id = refl; given = refl; taken = refl; owed = refl; session = refl }) refl) d.2,
       (λ new sits. absurd (false≢true (sym c.if-conn.false ∙ sits))),
       d.4,
+      inr (record { calls = d.5.calls; closed = d.5.closed; cut = d.5.cut }),
     )

@@ -1,13 +1,14 @@
 use Rattle.std.proofs.Common.{inr, refl, sym, ◌∙◌}
-use Rattle.radio_hall.proofs.Calling.{later_same}
-use Rattle.radio_hall.proofs.Deeds.{not_cut, patient_as, served_by_cut, le_by}
+use Rattle.radio_hall.proofs.Calling.{later_same, unread_same}
+use Rattle.radio_hall.proofs.Deeds.{not_cut, closed_not_cut, patient_as, served_by_cut, le_by}
 use Rattle.radio_hall.proofs.serving.flushing.give_up.Goals as goal
 
 pub returns-then-is_past : goal.returns-then-is_past
 returns-then-is_past g c =
     patient_as c.conn.view_is (record {
-      served = served_by_cut _ _ (record { id = refl; sits = refl; left = refl }) (later_same refl refl) refl refl refl;
+      served = served_by_cut _ _ (record { id = refl; sits = refl; left = refl }) (later_same refl refl refl) refl refl refl;
       goes = λ e. absurd (not_cut e);
-      unread = refl;
+      unread = unread_same refl;
+      closed = λ e. absurd (closed_not_cut (sym e));
       cut = λ e. inr (le_by _ _ (sym c.is_past.ensures ∙ c.if-is_past.true));
     })

@@ -17,7 +17,7 @@ returns-in-Took g c =
     flushed_as c.conn.view_is (record {
       served =
           served_by_write _ _ c.in-Took.count (record { id = refl; sits = refl; left = refl })
-          (later_by_write (Took c.in-Took.count) (take c.in-Took.count c.conn.inside.owed) c.in-Took.ensures.calls taken)
+          (later_by_write (Took c.in-Took.count) (take c.in-Took.count c.conn.inside.owed) c.in-Took.ensures.calls taken refl)
           (subst (λ (o : Connection). IsWritten o.status.fate) (sym c.conn.view_is) c.requires.fate) c.take_off.ensures c.write-sent.ensures.given taken refl
           refl;
       goes = λ e. e;
@@ -26,8 +26,10 @@ returns-in-Took g c =
       all = λ e. taken
           ∙ ap (λ (xs : List ℕ). g.L.Line.taken c.conn.inside.line ++ xs) (taken_all c.in-Took.count c.conn.inside.owed (sym c.take_off.ensures ∙ e));
       idle = λ e. refl;
-      unread = unread_by_write _ _ (Took c.in-Took.count) c.in-Took.ensures.calls;
+      unread = unread_by_write (Took c.in-Took.count) c.in-Took.ensures.calls;
       given = λ goes owed. written_once _ _ (Took c.in-Took.count) c.in-Took.ensures.calls;
+      session = refl;
+      fate = λ n. refl;
       cut = λ e. inl e;
       moved = inr refl;
     })
@@ -37,15 +39,17 @@ returns-in-Nothing g c =
     flushed_as c.conn.view_is (record {
       served =
           served_by_note _ _ (record { id = refl; sits = refl; left = refl })
-          (later_by_write Nothing [] c.in-Nothing.ensures.calls (c.in-Nothing.ensures.taken ∙ sym (append-nil _)))
+          (later_by_write Nothing [] c.in-Nothing.ensures.calls (c.in-Nothing.ensures.taken ∙ sym (append-nil _)) refl)
           (record { id = refl; given = c.write-sent.ensures.given; taken = c.in-Nothing.ensures.taken; owed = refl; session = refl }) refl;
       goes = λ e. e;
       sits = refl;
       none = λ e. e;
       all = λ e. c.in-Nothing.ensures.taken ∙ sym (ap (λ (xs : List ℕ). g.L.Line.taken c.conn.inside.line ++ xs) e ∙ append-nil _);
       idle = λ e. refl;
-      unread = unread_by_write _ _ Nothing c.in-Nothing.ensures.calls;
+      unread = unread_by_write Nothing c.in-Nothing.ensures.calls;
       given = λ goes owed. written_once _ _ Nothing c.in-Nothing.ensures.calls;
+      session = refl;
+      fate = λ n. refl;
       cut = λ e. inl e;
       moved = inl refl;
     })
@@ -55,15 +59,17 @@ returns-in-Fault g c =
     flushed_as c.conn.view_is (record {
       served =
           served_by_cut _ _ (record { id = refl; sits = refl; left = refl })
-          (later_by_write Fault [] c.in-Fault.ensures.calls (c.in-Fault.ensures.taken ∙ sym (append-nil _))) c.write-sent.ensures.given
+          (later_by_write Fault [] c.in-Fault.ensures.calls (c.in-Fault.ensures.taken ∙ sym (append-nil _)) refl) c.write-sent.ensures.given
           c.in-Fault.ensures.taken refl;
       goes = λ e. absurd (not_cut e);
       sits = refl;
       none = λ e. e;
       all = λ e. c.in-Fault.ensures.taken ∙ sym (ap (λ (xs : List ℕ). g.L.Line.taken c.conn.inside.line ++ xs) e ∙ append-nil _);
       idle = λ e. absurd (none_of_some (subst (λ (o : Connection). 0 < length o.owed) (sym c.conn.view_is) c.requires.some) e);
-      unread = unread_by_write _ _ Fault c.in-Fault.ensures.calls;
+      unread = unread_by_write Fault c.in-Fault.ensures.calls;
       given = λ goes owed. written_once _ _ Fault c.in-Fault.ensures.calls;
+      session = refl;
+      fate = λ n. absurd (n refl);
       cut = λ e. inr (omega (arith, ap (λ (x : Calls). x.faults) c.in-Fault.ensures.calls));
       moved = inl refl;
     })

@@ -1,15 +1,25 @@
-use Rattle.std.proofs.Common.{refl, sym, ◌∙◌}
-use Rattle.radio_hall.proofs.Deeds.{leaves_nothing, leaves_as, leaves_so}
+use Rattle.std.proofs.Common.{inl, refl, sym, ◌∙◌, ap}
+use Rattle.radio_hall.specs.Connections.{Connection}
+use Rattle.radio_hall.proofs.Deeds.{leaves_nothing, leaves_not, leaves_as, leaves_so, open_from}
 use Rattle.radio_hall.proofs.serving.leaving.leave.Goals as goal
 
 pub returns-then-is_open : goal.returns-then-is_open
-returns-then-is_open g c = leaves_nothing g.S.Server.steps refl
+returns-then-is_open g c =
+    leaves_nothing g.S.Server.steps refl
+    (λ over. absurd (over (sym (ap (λ (o : Connection). o.status.fate) c.conn.view_is) ∙ open_from _ (sym c.is_open.ensures ∙ c.if-is_open.true))))
 
-pub returns-then-apply_quietly : goal.returns-then-apply_quietly
-returns-then-apply_quietly g c =
+pub returns-then-conn : goal.returns-then-conn
+returns-then-conn g c =
+    leaves_nothing g.S.Server.steps refl (λ over. inl (sym (ap (λ (o : Connection). o.status.has_left) c.conn.view_is) ∙ c.if-conn.true))
+
+pub returns-then-asks_to_leave : goal.returns-then-asks_to_leave
+returns-then-asks_to_leave g c =
     leaves_as g.S.Server.steps c.conn.view_is
-    (leaves_so g.S.Server.steps _ _ _ _ c.if-apply_quietly.ensures (sym c.is_open.ensures ∙ c.if-is_open.false) c.if-conn.false
-    (record { id = refl; given = refl; taken = refl; owed = refl; session = refl }) refl refl refl refl)
+    (leaves_so g.S.Server.steps _ _ _ _ c.if-asks_to_leave.ensures.0 (sym c.is_open.ensures ∙ c.if-is_open.false) c.if-conn.false
+    (record { id = refl; given = refl; taken = refl; owed = refl; session = refl }) refl c.if-asks_to_leave.ensures.1 refl refl refl)
 
-pub returns-else-apply_quietly : goal.returns-else-apply_quietly
-returns-else-apply_quietly g c = leaves_nothing g.S.Server.steps c.if-apply_quietly.ensures.0
+pub returns-else-asks_to_leave : goal.returns-else-asks_to_leave
+returns-else-asks_to_leave g c =
+    leaves_as g.S.Server.steps c.conn.view_is
+    (leaves_not g.S.Server.steps c.if-asks_to_leave.ensures.0 (record { id = refl; sits = refl; left = refl })
+    (record { id = refl; given = refl; taken = refl; owed = refl; session = refl }) refl c.if-asks_to_leave.ensures.1 refl)

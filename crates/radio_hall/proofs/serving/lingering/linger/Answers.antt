@@ -1,7 +1,7 @@
-use Rattle.std.proofs.Common.{◌≡◌, [], refl, ◌∙◌, ap}
+use Rattle.std.proofs.Common.{◌≡◌, [], inl, refl, ◌∙◌, ap}
 use Rattle.radio_hall.specs.declared.conn.Fate.TheVariants.{Ended}
 use Rattle.radio_hall.specs.Connections.{Connection}
-use Rattle.radio_hall.proofs.Calling.{later_same}
+use Rattle.radio_hall.proofs.Calling.{later_same, unread_same}
 use Rattle.radio_hall.proofs.Deeds.{served_as, served_by_close, ended_is_written}
 use Rattle.radio_hall.proofs.serving.lingering.linger.Goals as goal
 
@@ -12,7 +12,8 @@ returns-else-conn g c =
     record {
       served =
           served_as c.conn.view_is
-          (served_by_close _ _ (record { id = refl; sits = refl; left = refl }) (later_same refl refl) (ended_is_written _ ended) none refl refl refl);
+          (served_by_close _ _ (record { id = refl; sits = refl; left = refl }) (later_same refl refl refl) (ended_is_written _ ended) none refl refl refl);
       over = refl;
       whole = λ e. cc;
+      once = inl (unread_same (ap (λ (o : Connection). o.calls) c.conn.view_is));
     }

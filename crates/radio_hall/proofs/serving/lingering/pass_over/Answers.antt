@@ -1,7 +1,7 @@
 use Rattle.std.proofs.Common.{◌≡◌, refl, ◌∙◌, ap}
 use Rattle.radio_hall.specs.declared.conn.Fate.TheVariants.{Ended}
 use Rattle.radio_hall.specs.Connections.{Connection}
-use Rattle.radio_hall.proofs.Calling.{later_by_read}
+use Rattle.radio_hall.proofs.Calling.{later_by_read, read_by, read_once_as}
 use Rattle.radio_hall.proofs.Deeds.{served_as, served_by_read_on}
 use Rattle.radio_hall.proofs.serving.lingering.pass_over.Goals as goal
 
@@ -10,4 +10,7 @@ returns-clause-served g c =
     let ended : c.conn.inside.status.fate ≡ Ended = ap (λ (o : Connection). o.status.fate) c.conn.view_is ∙ c.requires in
     served_as c.conn.view_is
     (served_by_read_on _ _ c.read.result c.read.new.buffer (record { id = refl; sits = refl; left = refl })
-    (later_by_read c.read.result c.read.ensures.calls c.read.ensures.taken) ended c.read.ensures.given c.read.ensures.taken refl refl ended)
+    (later_by_read c.read.result _ c.read.ensures.calls c.read.ensures.taken refl) ended c.read.ensures.given c.read.ensures.taken refl refl ended)
+
+pub returns-clause-once : goal.returns-clause-once
+returns-clause-once g c = read_once_as c.conn.view_is (read_by c.read.result c.read.ensures.calls (c.read.auto.buffer ∙ c.told-buffer))

@@ -1,9 +1,9 @@
-use Rattle.std.proofs.Common.{◌≡◌, [], refl, ◌∙◌, ap}
+use Rattle.std.proofs.Common.{◌≡◌, [], inl, refl, sym, ◌∙◌, ap}
 use Rattle.radio_hall.specs.declared.conn.Fate.TheVariants.{Open}
 use Rattle.radio_hall.specs.Connections.{Connection}
 use Rattle.radio_session.specs.Hearing.{Heard}
 use Rattle.radio_hall.proofs.Calling.{later_same}
-use Rattle.radio_hall.proofs.Deeds.{heard_so, heard_by_cut, heard_on_one}
+use Rattle.radio_hall.proofs.Deeds.{heard_so, heard_by_cut, heard_on_one, closed_not_cut}
 use Rattle.radio_hall.proofs.serving.listening.hear.Goals as goal
 
 pub returns-in-Ok : goal.returns-in-Ok
@@ -15,7 +15,7 @@ returns-in-Ok g c =
       a.1,
       heard_on_one c.conn.view_is
           (heard_so _ _ _ c.args.bytes.now heard a.0 goes c.in-Ok.ensures.heard (record { id = refl; sits = refl; left = refl })
-          (later_same refl refl) refl refl refl refl refl a.2),
+          (later_same refl refl refl) refl refl refl refl refl refl a.2),
     )
 
 pub returns-in-Err : goal.returns-in-Err
@@ -23,5 +23,6 @@ returns-in-Err g c = (
   [],
   refl,
   heard_on_one c.conn.view_is
-      (heard_by_cut _ _ c.args.bytes.now (record { id = refl; sits = refl; left = refl }) (later_same refl refl) refl refl refl),
+      (heard_by_cut _ _ c.args.bytes.now (record { id = refl; sits = refl; left = refl }) (later_same refl refl refl)
+      (record { calls = refl; closed = λ e. closed_not_cut (sym e); cut = λ e. inl c.in-Err.ensures.fails }) refl refl refl),
 )

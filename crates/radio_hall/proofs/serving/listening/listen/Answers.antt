@@ -1,55 +1,62 @@
-use Rattle.std.proofs.Common.{◌≡◌, [], refl, ◌∙◌, ap}
+use Rattle.std.proofs.Common.{◌≡◌, [], inl, inr, refl, sym, ◌∙◌, ap, arith}
 use Rattle.radio_hall.specs.declared.conn.Fate.TheVariants.{Open}
 use Rattle.radio_hall.specs.Connections.{Connection}
+use Rattle.radio_hall.specs.Lines.{Calls}
 use Rattle.radio_hall.specs.declared.line.Received.TheVariants.{Bytes, Nothing, Closed, Fault}
-use Rattle.radio_hall.proofs.Calling.{later_by_read, asked_by_read, asked_once}
-use Rattle.radio_hall.proofs.Deeds.{served_as, served_by_hearing, served_by_note, served_by_close, open_is_written}
+use Rattle.radio_hall.proofs.Calling.{later_by_read, read_by}
+use Rattle.radio_hall.proofs.Deeds.{listens_as, listens_by_hearing, served_by_hearing, served_by_note, served_by_close, open_is_written, not_closed, not_cut, closed_not_cut}
 use Rattle.radio_hall.proofs.serving.listening.listen.Goals as goal
 
 pub returns-in-Bytes : goal.returns-in-Bytes
 returns-in-Bytes g c =
-    let h = c.hear.ensures in (
-      h.0,
-      h.1,
-      served_as c.conn.view_is
-          (served_by_hearing _ _ _ _ h.0 (record { id = refl; sits = refl; left = refl })
-          (later_by_read (Bytes c.in-Bytes.count) c.in-Bytes.ensures.calls c.read.ensures.taken) c.in-Bytes.ensures.given.1 c.read.ensures.taken refl refl
-          refl h.2),
-      asked_by_read (Bytes c.in-Bytes.count) c.conn.view_is c.in-Bytes.ensures.calls h.2.later,
-    )
+    let h = c.hear.ensures in
+    listens_as g.S.Server.steps c.conn.view_is
+    (listens_by_hearing g.S.Server.steps h.1
+    (served_by_hearing _ _ _ _ h.0 (record { id = refl; sits = refl; left = refl })
+    (later_by_read (Bytes c.in-Bytes.count) _ c.in-Bytes.ensures.calls c.read.ensures.taken refl) c.in-Bytes.ensures.given.1 c.read.ensures.taken refl refl
+    refl h.2)
+    (read_by (Bytes c.in-Bytes.count) c.in-Bytes.ensures.calls (c.read.auto.buffer ∙ c.told-buffer)) refl h.2)
 
 pub returns-in-Nothing : goal.returns-in-Nothing
-returns-in-Nothing g c = (
-  [],
-  refl,
-  served_as c.conn.view_is
-      (served_by_note _ _ (record { id = refl; sits = refl; left = refl }) (later_by_read Nothing c.in-Nothing.ensures.calls c.read.ensures.taken)
-      (record { id = refl; given = c.in-Nothing.ensures.given; taken = c.read.ensures.taken; owed = refl; session = refl }) refl),
-  asked_once _ Nothing c.conn.view_is c.in-Nothing.ensures.calls,
-)
+returns-in-Nothing g c =
+    let goes : c.conn.inside.status.fate ≡ Open = ap (λ (o : Connection). o.status.fate) c.conn.view_is ∙ c.requires.open in
+    listens_as g.S.Server.steps c.conn.view_is (
+      [],
+      refl,
+      served_by_note _ _ (record { id = refl; sits = refl; left = refl })
+          (later_by_read Nothing _ c.in-Nothing.ensures.calls c.read.ensures.taken refl)
+          (record { id = refl; given = c.in-Nothing.ensures.given; taken = c.read.ensures.taken; owed = refl; session = refl }) refl,
+      read_by Nothing c.in-Nothing.ensures.calls (c.read.auto.buffer ∙ c.told-buffer),
+      (λ e. absurd (not_cut (sym e ∙ goes))),
+      (λ e. absurd (not_closed (sym e ∙ goes))),
+    )
 
 pub returns-in-Closed : goal.returns-in-Closed
 returns-in-Closed g c =
     let goes : c.conn.inside.status.fate ≡ Open = ap (λ (o : Connection). o.status.fate) c.conn.view_is ∙ c.requires.open in
-    let none : c.conn.inside.owed ≡ [] = ap (λ (o : Connection). o.owed) c.conn.view_is ∙ c.requires.all in (
+    let none : c.conn.inside.owed ≡ [] = ap (λ (o : Connection). o.owed) c.conn.view_is ∙ c.requires.all in
+    listens_as g.S.Server.steps c.conn.view_is (
       [],
       refl,
-      served_as c.conn.view_is
-          (served_by_close _ _ (record { id = refl; sits = refl; left = refl }) (later_by_read Closed c.in-Closed.ensures.calls c.read.ensures.taken)
+      served_by_close _ _ (record { id = refl; sits = refl; left = refl }) (later_by_read Closed _ c.in-Closed.ensures.calls c.read.ensures.taken refl)
           (open_is_written _ goes) none c.in-Closed.ensures.given
-          c.read.ensures.taken refl),
-      asked_once _ Closed c.conn.view_is c.in-Closed.ensures.calls,
+          c.read.ensures.taken refl,
+      read_by Closed c.in-Closed.ensures.calls (c.read.auto.buffer ∙ c.told-buffer),
+      (λ e. absurd (closed_not_cut e)),
+      (λ e. inl (omega (arith, ap (λ (x : Calls). x.closings) c.in-Closed.ensures.calls))),
     )
 
 pub returns-in-Fault : goal.returns-in-Fault
 returns-in-Fault g c =
     let goes : c.conn.inside.status.fate ≡ Open = ap (λ (o : Connection). o.status.fate) c.conn.view_is ∙ c.requires.open in
-    let none : c.conn.inside.owed ≡ [] = ap (λ (o : Connection). o.owed) c.conn.view_is ∙ c.requires.all in (
+    let none : c.conn.inside.owed ≡ [] = ap (λ (o : Connection). o.owed) c.conn.view_is ∙ c.requires.all in
+    listens_as g.S.Server.steps c.conn.view_is (
       [],
       refl,
-      served_as c.conn.view_is
-          (served_by_close _ _ (record { id = refl; sits = refl; left = refl }) (later_by_read Fault c.in-Fault.ensures.calls c.read.ensures.taken)
+      served_by_close _ _ (record { id = refl; sits = refl; left = refl }) (later_by_read Fault _ c.in-Fault.ensures.calls c.read.ensures.taken refl)
           (open_is_written _ goes) none c.in-Fault.ensures.given
-          c.read.ensures.taken refl),
-      asked_once _ Fault c.conn.view_is c.in-Fault.ensures.calls,
+          c.read.ensures.taken refl,
+      read_by Fault c.in-Fault.ensures.calls (c.read.auto.buffer ∙ c.told-buffer),
+      (λ e. absurd (closed_not_cut e)),
+      (λ e. inr (omega (arith, ap (λ (x : Calls). x.faults) c.in-Fault.ensures.calls))),
     )

@@ -1,0 +1,33 @@
+-- What a source is told that is admitted, by what it has asked.
+use Rattle.std.specs.Prelude.{◌≡◌, ℕ, true, List, codes, Some}
+use Rattle.std.specs.Str.{bytes_eq}
+use Rattle.radio_events.specs.declared.reply.Reply.TheVariants.{Feeding}
+use Rattle.radio_heads.specs.Answer.{continue_text, source_text}
+use Rattle.radio_heads.specs.Head.{RequestParts}
+use Rattle.radio_heads.specs.Headers.{is_same_name, value_of}
+use Rattle.radio_session.specs.declared.session.framing.Framing.{Framing}
+use Rattle.radio_session.specs.Bodies.{IsFramed}
+use Rattle.radio_session.specs.Conversation.{Conversation}
+use Rattle.radio_session.specs.Hearing.{request_heard}
+use Rattle.radio_session.specs.Saying.{said}
+
+-- a PUT that waits for a first answer before it sends its data (RFC 9110, section 10.1.1)
+pub record WaitsToGoOn (request : RequestParts) : Type 0 where
+  pub put : bytes_eq request.method (codes "PUT") ≡ true
+  pub expected : List ℕ
+  pub expects : value_of (codes "Expect") request.headers ≡ Some expected
+  pub named : is_same_name expected (codes "100-continue") ≡ true
+
+-- what a source is told that asked so, and is admitted
+abbrev pub told_when_admitted : Conversation → RequestParts → List ℕ → List ℕ
+told_when_admitted conversation request behind = (said (request_heard conversation request behind).conversation.says Feeding).bytes
+
+-- A source that waits for it is told to go on.
+abbrev pub WhoWaitsIsToldToGoOn : Type 0
+WhoWaitsIsToldToGoOn = (conversation : Conversation) (request : RequestParts) (behind : List ℕ) (framing : Framing) → IsFramed request framing
+    → WaitsToGoOn request → told_when_admitted conversation request behind ≡ continue_text
+
+-- No other source is: it is told that it was admitted.
+abbrev pub NobodyElseIsToldToGoOn : Type 0
+NobodyElseIsToldToGoOn = (conversation : Conversation) (request : RequestParts) (behind : List ℕ) (framing : Framing) → IsFramed request framing
+    → (WaitsToGoOn request → ⊥) → told_when_admitted conversation request behind ≡ source_text

@@ -1,0 +1,132 @@
+//! Moments from which a line's patience and its lingering count, to the millisecond.
+
+use crate::memory_line::{Look, Manners, SILENT};
+use crate::rows::*;
+use crate::steps::{Step, play};
+use std::test::Fail;
+
+/// A source that is silent for half a minute is no silent one.
+const LONG_TIMEOUT: &str = "[limits]\nsource-timeout = 60\n";
+
+/// A listener whose line takes one byte in a write.
+const BYTE_BY_BYTE: Manners = Manners {
+    takes: 1,
+    ..LISTENER
+};
+
+/// Each byte that is taken begins the patience of ten seconds anew: he is there after a minute.
+const TAKES_A_BYTE_NOW_AND_THEN: &[Step] = &[
+    Step::Comes(SOURCE, 0),
+    Step::Turns(1, 1, 2),
+    Step::Comes(BYTE_BY_BYTE, 2),
+    Step::Turns(3, 6000, 10),
+    Step::Clients(&[1, 2]),
+    Step::Shows(1, Look::Took(b"HTTP/1.0 2")),
+];
+
+#[test]
+fn a_byte_begins_the_patience_anew(rt: HostRuntime) -> Result<(), Fail> {
+    play(&rt, LONG_TIMEOUT, TAKES_A_BYTE_NOW_AND_THEN)
+}
+
+/// A source whose second block comes in its eighth turn.
+const SECOND_BLOCK_LATE: Manners = Manners {
+    gives: &[SOURCE_HEAD, b"abcdefgh", b"", b"", b"", b"", b"", b"ijkl"],
+    ..SILENT
+};
+
+/// A listener whose line takes his head and the first block, and then nothing for good.
+const STALLED_LATE: Manners = Manners {
+    stalls_at: 1,
+    ..LISTENER
+};
+
+/// To whom nothing was owed for half a minute, the patience counts from when something is: a
+/// millisecond before it is over he is there.
+const OWED_NOTHING: &[Step] = &[
+    Step::Comes(SECOND_BLOCK_LATE, 0),
+    Step::Turns(1, 1, 2),
+    Step::Comes(STALLED_LATE, 2),
+    Step::Turns(3, 6000, 6),
+    Step::Shows(1, Look::Took(HEARD)),
+    Step::Turns(40_002, 1, 1),
+    Step::Clients(&[1, 2]),
+];
+
+#[test]
+fn patience_counts_from_what_is_owed(rt: HostRuntime) -> Result<(), Fail> {
+    play(&rt, LONG_TIMEOUT, OWED_NOTHING)
+}
+
+/// And then he is not.
+const OWED_FOR_TEN_SECONDS: &[Step] = &[
+    Step::Comes(SECOND_BLOCK_LATE, 0),
+    Step::Turns(1, 1, 2),
+    Step::Comes(STALLED_LATE, 2),
+    Step::Turns(3, 6000, 6),
+    Step::Turns(40_003, 1, 1),
+    Step::Clients(&[1]),
+];
+
+#[test]
+fn patience_ends_then(rt: HostRuntime) -> Result<(), Fail> {
+    play(&rt, LONG_TIMEOUT, OWED_FOR_TEN_SECONDS)
+}
+
+/// Who asks for what is not there, and sends more.
+const DENIED: Manners = Manners {
+    gives: &[b"GET /z HTTP/1.0\r\n\r\n", b"and more"],
+    ..SILENT
+};
+
+/// He is told in the second turn that nothing more is written. He lingers for a second from then on.
+const LINGERS: &[Step] = &[
+    Step::Comes(DENIED, 0),
+    Step::Turns(1, 1, 1),
+    Step::Shows(0, Look::Open),
+    Step::Turns(2, 1, 1),
+    Step::Shows(0, Look::FinishedBehind(b"denied: no-mount\n")),
+    Step::Turns(1001, 1, 1),
+    Step::Clients(&[1]),
+    Step::Turns(1002, 1, 1),
+    Step::Clients(&[]),
+];
+
+#[test]
+fn one_lingers_for_a_second(rt: HostRuntime) -> Result<(), Fail> {
+    play(&rt, "", LINGERS)
+}
+
+/// The same, and his peer closes at the third read.
+const DENIED_AND_CLOSES: Manners = Manners {
+    closes_at: 2,
+    ..DENIED
+};
+
+/// He lingers until then.
+const CLOSES: &[Step] = &[
+    Step::Comes(DENIED_AND_CLOSES, 0),
+    Step::Turns(1, 1, 2),
+    Step::Clients(&[1]),
+    Step::Turns(3, 1, 1),
+    Step::Clients(&[]),
+];
+
+#[test]
+fn one_lingers_until_his_peer_closes(rt: HostRuntime) -> Result<(), Fail> {
+    play(&rt, "", CLOSES)
+}
+
+/// A client who says nothing hears within half a second by which rule he was finished.
+const FINISHED: &[Step] = &[
+    Step::Comes(SILENT, 0),
+    Step::Quiet(0, 500, 7),
+    Step::Clients(&[1]),
+    Step::Quiet(3500, 500, 2),
+    Step::Clients(&[]),
+];
+
+#[test]
+fn who_says_nothing_is_asked_for(rt: HostRuntime) -> Result<(), Fail> {
+    play(&rt, "[limits]\nheader-timeout = 3\n", FINISHED)
+}
