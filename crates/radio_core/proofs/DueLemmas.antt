@@ -22,7 +22,7 @@ use Rattle.radio_core.specs.declared.clients.ClientState.TheVariants.{Undecided,
 use Rattle.radio_core.specs.declared.outcome.Change.{Change}
 use Rattle.radio_core.specs.declared.outcome.Change.TheVariants.{Nothing, Answer, Admit, Begin, Receive, SetTitle, TakeSeat, Advance, End}
 use Rattle.radio_core.specs.declared.outcome.Change.TheVariants.{EndAndLeave, Forget, Tick}
-use Rattle.radio_core.specs.Changes.{session_ended, forgotten, timed_out_by, durations_over, first_silent, session_silenced, on_silent, silence, ticked}
+use Rattle.radio_core.specs.Changes.{session_ended, client_gone, timed_out_by, durations_over, first_silent, session_silenced, on_silent, silence, ticked}
 use Rattle.radio_core.specs.Clients.{newcomer, is_client, by_number, with_state, in_state}
 use Rattle.radio_core.specs.Due.{last_moment, due_at, due_in_state, client_due, listener_due, session_due, IsDueFrom, earliest, first_due, due_by, at_moment}
 use Rattle.radio_core.specs.Facts.{live_end}
@@ -195,7 +195,7 @@ module _ (moment : ℕ) (last : moment ≤ last_moment) where
     sessions = Each_kept _ _ (λ session. not (is_of mount session)) (λ session h e. h) w.house.live due.sessions;
   }
 
-  forgotten_due : (w : World) (id : ℕ) → IsDueFrom moment w → IsDueFrom moment (forgotten w id)
+  forgotten_due : (w : World) (id : ℕ) → IsDueFrom moment w → IsDueFrom moment (client_gone w id)
   forgotten_due w id due = record {
     clients = Each_kept _ _ (λ client. not (is_client id client)) (λ client h e. h) w.house.clients due.clients;
     listeners = Each_kept _ _ (λ listener. not (is_listener id listener)) (λ listener h e. h) w.seats due.listeners;

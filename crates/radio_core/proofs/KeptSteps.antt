@@ -11,7 +11,7 @@ use Rattle.radio_core.specs.declared.clients.ClientState.TheVariants.{Answered}
 use Rattle.radio_core.specs.declared.outcome.Change.{Change}
 use Rattle.radio_core.specs.declared.outcome.Change.TheVariants.{Nothing, Answer, Admit, Begin, Receive, SetTitle, TakeSeat, Advance, End}
 use Rattle.radio_core.specs.declared.outcome.Change.TheVariants.{EndAndLeave, Forget, Tick}
-use Rattle.radio_core.specs.Changes.{changed, session_ended, forgotten, laggards_ended, timed_out_by, durations_over, first_silent, session_silenced}
+use Rattle.radio_core.specs.Changes.{changed, session_ended, client_gone, laggards_ended, timed_out_by, durations_over, first_silent, session_silenced}
 use Rattle.radio_core.specs.Changes.{on_silent, silence, ticked}
 use Rattle.radio_core.specs.Clients.{in_state}
 use Rattle.radio_core.specs.Kept.{kept_session, kept_live, kept_of}
@@ -112,6 +112,6 @@ module _ (w : World) (rise : Each HasRisingStarts w.house.live) where
   changed_kept (TakeSeat id seat) = refl
   changed_kept (Advance id place) = refl
   changed_kept (End id mount) = ap (λ (v : World). record v { house = record v.house { clients = in_state v.house.clients id Answered } }) (ended_alike mount)
-  changed_kept (EndAndLeave id mount) = ap (λ (v : World). forgotten v id) (ended_alike mount)
+  changed_kept (EndAndLeave id mount) = ap (λ (v : World). client_gone v id) (ended_alike mount)
   changed_kept (Forget id) = refl
   changed_kept (Tick ms) = ticked_alike ms

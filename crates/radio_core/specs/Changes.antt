@@ -45,8 +45,8 @@ abbrev pub session_ended : World → List ℕ → World
 session_ended w mount = record { house = record w.house { live = without_session w.house.live mount }; seats = finished_at w.seats mount NotLive }
 
 -- nothing is left of the client
-abbrev pub forgotten : World → ℕ → World
-forgotten w id = record { house = record w.house { clients = without_client w.house.clients id }; seats = without_listener w.seats id }
+abbrev pub client_gone : World → ℕ → World
+client_gone w id = record { house = record w.house { clients = without_client w.house.clients id }; seats = without_listener w.seats id }
 
 -- the listeners of the mount who are further behind than a queue is long have lost their seats
 abbrev pub laggards_ended : World → List ℕ → World
@@ -99,6 +99,6 @@ changed w (SetTitle mount title) = record w { house = retitled w.house mount tit
 changed w (TakeSeat id seat) = record { house = now_in_state w.house id Listens; seats = with_seat w.seats id seat }
 changed w (Advance id place) = record w { seats = with_place w.seats id place }
 changed w (End id mount) = let after = session_ended w mount in record after { house = now_in_state after.house id Answered }
-changed w (EndAndLeave id mount) = forgotten (session_ended w mount) id
-changed w (Forget id) = forgotten w id
+changed w (EndAndLeave id mount) = client_gone (session_ended w mount) id
+changed w (Forget id) = client_gone w id
 changed w (Tick ms) = ticked w ms

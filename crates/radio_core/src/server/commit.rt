@@ -2,7 +2,7 @@ ghost use Rattle.std.specs.Prelude.{◌≡◌, IsOk, OnOk, OnErr};
 ghost use Rattle.std.specs.Option.{option_map};
 ghost use Rattle.radio_seats.specs.declared.seat.Seat.{Seat as SeatOf};
 ghost use Rattle.radio_seats.specs.Seats.{seat_of};
-ghost use Rattle.radio_core.specs.Changes.{changed, laggards_ended, session_ended, forgotten};
+ghost use Rattle.radio_core.specs.Changes.{changed, laggards_ended, session_ended, client_gone};
 ghost use Rattle.radio_core.specs.KeptChanges.{kept_changed, kept_taken_in};
 ghost use Rattle.radio_core.specs.Step.{NeedsNoMemory};
 
@@ -126,7 +126,7 @@ impl State {
 
     /// Nothing is left of the client. It takes no memory.
     fn forget(&mut self, id: u64)
-        ensures { self.new ≡ forgotten self.old id }
+        ensures { self.new ≡ client_gone self.old id }
     {
         let mount = self.mount_of(id);
         self.seats.remove(id);
