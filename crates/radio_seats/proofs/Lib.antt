@@ -1,3 +1,4 @@
 pub mod Lists
 pub mod RowLemmas
+pub mod EndedRows
 pub mod MountLemmas

@@ -7,7 +7,8 @@ use Rattle.radio_seats.specs.Board.{Board}
 use Rattle.radio_seats.specs.Mounts.{is_number, name_in}
 use Rattle.radio_seats.specs.Rows.{named}
 use Rattle.radio_seats.specs.Seats.{with_seat}
-use Rattle.radio_seats.proofs.RowLemmas.{counted_with, he_counts, is_called, one_comes, room_for_one, same_board, seats_with}
+use Rattle.radio_seats.proofs.RowLemmas.{counted_with, is_called, room_for_one, same_board, seats_with}
+use Rattle.radio_seats.proofs.EndedRows.{he_counts, one_comes}
 use Rattle.radio_seats.proofs.seats.Seats.add.Goals as goal
 
 pub gain-requires-clause-room : goal.gain-requires-clause-room

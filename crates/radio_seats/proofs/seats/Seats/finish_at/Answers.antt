@@ -1,5 +1,5 @@
 use Rattle.std.proofs.Common.{ap, ◌∙◌}
-use Rattle.radio_seats.proofs.RowLemmas.{all_finish}
+use Rattle.radio_seats.proofs.EndedRows.{all_finish}
 use Rattle.radio_seats.proofs.seats.Seats.finish_at.Goals as goal
 
 pub returns : goal.returns

@@ -5,7 +5,8 @@ use Rattle.radio_seats.specs.Guests.{passes_at}
 use Rattle.radio_seats.specs.Mounts.{is_number, name_in}
 use Rattle.radio_seats.specs.Rows.{named, AreCounted}
 use Rattle.radio_seats.specs.Seats.{with_ended}
-use Rattle.radio_seats.proofs.RowLemmas.{all_end_there, counted_ended, none_end_there, nobody_ends, same_board, shown_same}
+use Rattle.radio_seats.proofs.RowLemmas.{all_end_there, none_end_there, nobody_ends, same_board, shown_same}
+use Rattle.radio_seats.proofs.EndedRows.{counted_ended}
 use Rattle.radio_seats.proofs.seats.Seats.finish_at_if.Goals as goal
 
 pub returns-in_default : goal.returns-in_default

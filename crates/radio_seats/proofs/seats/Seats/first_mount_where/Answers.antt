@@ -4,7 +4,7 @@ use Rattle.radio_seats.specs.Board.{Board}
 use Rattle.radio_seats.specs.Guests.{passes_in, passes_at}
 use Rattle.radio_seats.specs.Mounts.{name_of, name_in, sitting_of}
 use Rattle.radio_seats.specs.Rests.{how_many}
-use Rattle.radio_seats.proofs.RowLemmas.{none_pass, passes_seated, some_pass, some_sit}
+use Rattle.radio_seats.proofs.EndedRows.{none_pass, passes_seated, some_pass, some_sit}
 use Rattle.radio_seats.proofs.seats.Seats.first_mount_where.Goals as goal
 
 pub returns-in_default : goal.returns-in_default

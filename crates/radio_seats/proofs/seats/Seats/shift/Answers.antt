@@ -4,7 +4,8 @@ use Rattle.radio_seats.specs.Board.{Board}
 use Rattle.radio_seats.specs.Mounts.{is_number, name_in}
 use Rattle.radio_seats.specs.Rows.{named}
 use Rattle.radio_seats.specs.Seats.{with_move}
-use Rattle.radio_seats.proofs.RowLemmas.{counted_with, counted_without, he_counts, is_called, nobody_moves, one_moves, room_for_one, same_board, seats_moved}
+use Rattle.radio_seats.proofs.RowLemmas.{counted_with, counted_without, is_called, room_for_one, same_board, seats_moved}
+use Rattle.radio_seats.proofs.EndedRows.{he_counts, nobody_moves, one_moves}
 use Rattle.radio_seats.proofs.seats.Seats.shift.Goals as goal
 
 pub invariant_of-self : goal.invariant_of-self
