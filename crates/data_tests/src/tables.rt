@@ -17,7 +17,7 @@ impl Row for Listener {
     type Key = u64;
 
     ghost use Rattle.std.specs.Prelude.{◌==◌};
-    ghost use Rattle.radio_tables.specs.KeyLaws.{number_is};
+    ghost use Rattle.radio_tables.proofs.KeyLaws.{number_is};
 
     ghost key = { λ listener. listener.id };
 

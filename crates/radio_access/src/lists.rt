@@ -23,7 +23,7 @@ pub struct MountUsers {
 impl Row for MountUsers {
     type Key = MountName;
 
-    ghost use Rattle.radio_tables.specs.KeyLaws.{name_is};
+    ghost use Rattle.radio_tables.proofs.KeyLaws.{name_is};
     ghost use Rattle.radio_access.specs.Lists.{is_of};
 
     ghost key = { λ listed. listed.mount };

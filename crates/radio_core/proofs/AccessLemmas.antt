@@ -4,7 +4,7 @@ use Rattle.std.specs.Prelude.{find, nat_le, unwrap_or, min}
 use Rattle.std.proofs.lemmas.Bool.Decides.{nat_tests}
 use Rattle.radio_settings.specs.declared.field.Shown.{Shown}
 use Rattle.radio_tables.specs.Lists.{Each, Has}
-use Rattle.radio_tables.specs.FindLaws.{find_here, find_later}
+use Rattle.radio_tables.proofs.FindLaws.{find_here, find_later}
 use Rattle.radio_events.specs.declared.event.Event.{Event}
 use Rattle.radio_core.specs.declared.outcome.Outcome.{Outcome}
 use Rattle.radio_events.specs.declared.reply.Reply.TheVariants.{Drawn, Seated}
@@ -22,7 +22,7 @@ use Rattle.radio_core.specs.Step.{outcome, reply_to, world_after}
 use Rattle.radio_core.specs.Stream.{WholeStream, end_of, burst_start}
 use Rattle.radio_core.specs.Ways.{Way, Misplaced, IsFinished, IsDenied, IsRefused, IsAdmitted, Begins, Receives, SetsTitle, TakesSeat, HandsOut, Ends}
 use Rattle.radio_core.specs.Ways.{EndsAndLeaves, Leaves, HasPassed, Ticks}
-use Rattle.radio_seats.specs.SeatLaws.{has_sat_down}
+use Rattle.radio_seats.proofs.SeatLaws.{has_sat_down}
 use Rattle.radio_core.proofs.Lookups.{found_named}
 use Rattle.radio_core.proofs.Soundness.{burst_within}
 use Rattle.radio_core.proofs.LimitLemmas.{Within, sits_as, sent_as}

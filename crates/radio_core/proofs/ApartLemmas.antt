@@ -7,9 +7,9 @@ use Rattle.std.specs.declared.cmp.Ordering.TheVariants.{Less, Equal, Greater}
 use Rattle.std.specs.Ordering.{match_ordering}
 use Rattle.std.proofs.lemmas.Slice.Eq.{bytes_eq-Decides}
 use Rattle.radio_tables.specs.Lists.{update_first, placed, Each}
-use Rattle.radio_tables.specs.EachLaws.{Each_each, Each_kept, Each_updated, Each_placed}
-use Rattle.radio_tables.specs.FindLaws.{find_here, find_later, found_has, passes_none}
-use Rattle.radio_tables.specs.KeyLaws.{by_name}
+use Rattle.radio_tables.proofs.EachLaws.{Each_each, Each_kept, Each_updated, Each_placed}
+use Rattle.radio_tables.proofs.FindLaws.{find_here, find_later, found_has, passes_none}
+use Rattle.radio_tables.proofs.KeyLaws.{by_name}
 use Rattle.radio_core.specs.Sessions.{Session, is_of, session_of, by_mount, with_session}
 use Rattle.radio_core.specs.Sound.{AreApart}
 

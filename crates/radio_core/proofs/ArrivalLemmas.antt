@@ -3,8 +3,8 @@ use Rattle.std.proofs.Common.{◌≡◌, true, false, Bool, ℕ, ◌==◌, ◌+�
 use Rattle.std.specs.Option.{option_map}
 use Rattle.std.proofs.lemmas.Bool.Decides.{nat_tests}
 use Rattle.radio_addr.specs.declared.peer.Peer.{Peer}
-use Rattle.radio_tables.specs.FindLaws.{find_here, find_later}
-use Rattle.radio_tables.specs.KeyLaws.{by_number}
+use Rattle.radio_tables.proofs.FindLaws.{find_here, find_later}
+use Rattle.radio_tables.proofs.KeyLaws.{by_number}
 use Rattle.radio_seats.specs.Seats.{listener_of}
 use Rattle.radio_events.specs.declared.event.Event.{Event}
 use Rattle.radio_core.specs.declared.clients.Client.{Client}

@@ -22,7 +22,7 @@ use Rattle.radio_core.specs.Step.{outcome, reply_to, world_after}
 use Rattle.radio_core.specs.Ways.{Way, Misplaced, IsFinished, IsDenied, IsRefused, IsAdmitted, Begins, Receives, SetsTitle, TakesSeat, HandsOut, Ends}
 use Rattle.radio_core.specs.Ways.{EndsAndLeaves, Leaves, HasPassed, Ticks}
 use Rattle.radio_core.specs.World.{World, standing_of}
-use Rattle.radio_seats.specs.SeatLaws.{listener_seated}
+use Rattle.radio_seats.proofs.SeatLaws.{listener_seated}
 use Rattle.radio_core.proofs.Fates.{Fate, GoesOn, IsEnded}
 use Rattle.radio_core.proofs.FinishLemmas.{others_hold, finish_step, undecided_before}
 use Rattle.radio_core.proofs.GoneLemmas.{by_own}

@@ -9,8 +9,8 @@ use Rattle.radio_settings.specs.declared.settings.Settings.{Settings}
 use Rattle.radio_settings.specs.Options.{options_for}
 use Rattle.radio_access.specs.Lists.{Lists}
 use Rattle.radio_tables.specs.Lists.{Each}
-use Rattle.radio_tables.specs.EachLaws.{Each_each, Each_kept, Each_updated, Each_mapped, Each_placed}
-use Rattle.radio_tables.specs.FindLaws.{finds_none}
+use Rattle.radio_tables.proofs.EachLaws.{Each_each, Each_kept, Each_updated, Each_mapped, Each_placed}
+use Rattle.radio_tables.proofs.FindLaws.{finds_none}
 use Rattle.radio_seats.specs.declared.seat.Seat.{Seat}
 use Rattle.radio_seats.specs.declared.seat.Seating.{Seating}
 use Rattle.radio_seats.specs.declared.seat.Seating.TheVariants.{Sits, Finished}

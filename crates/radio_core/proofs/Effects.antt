@@ -1,7 +1,7 @@
 -- what an event does to how clients stand
 use Rattle.std.proofs.Common.{◌≡◌, true, ℕ, ◌+◌, Some, None, List, refl, ap, sym, ◌∙◌}
 use Rattle.radio_addr.specs.declared.peer.Peer.{Peer}
-use Rattle.radio_tables.specs.KeyLaws.{by_number}
+use Rattle.radio_tables.proofs.KeyLaws.{by_number}
 use Rattle.radio_policy.specs.declared.rule.Rule.{Rule}
 use Rattle.radio_events.specs.declared.event.Event.{Event}
 use Rattle.radio_events.specs.declared.event.Event.TheVariants.{Push, Clock}
@@ -24,9 +24,9 @@ use Rattle.radio_core.specs.Step.{outcome, reply_to, world_after}
 use Rattle.radio_core.specs.Ways.{Way, Misplaced, IsFinished, IsDenied, IsRefused, IsAdmitted, Begins, Receives, SetsTitle, TakesSeat, HandsOut, Ends}
 use Rattle.radio_core.specs.Ways.{EndsAndLeaves, Leaves, HasPassed, Ticks}
 use Rattle.radio_events.specs.Events.{client_in}
-use Rattle.radio_seats.specs.SeatLaws.{is_no_listener, beside_left}
+use Rattle.radio_seats.proofs.SeatLaws.{is_no_listener, beside_left}
 use Rattle.radio_core.proofs.Lookups.{is_over}
-use Rattle.radio_seats.specs.SeatLaws.{listener_seated}
+use Rattle.radio_seats.proofs.SeatLaws.{listener_seated}
 use Rattle.radio_core.proofs.Standings.{Turns, turns_answered, turns_feeding, turns_sitting, turns_forgotten, turns_admitted, stays_hearing}
 use Rattle.radio_core.proofs.Fates.{Fate, GoesOn, IsEnded}
 use Rattle.radio_core.proofs.SoundEnds.{turns_ended, turns_ended_and_left}

@@ -7,10 +7,10 @@ use Rattle.radio_seats.specs.declared.seat.Listener.{Listener}
 use Rattle.radio_seats.specs.declared.seat.Seat.{Seat}
 use Rattle.radio_seats.specs.declared.seat.Seating.TheVariants.{Finished as HasLostIt}
 use Rattle.radio_fallback.specs.declared.walking.Found.{Found}
-use Rattle.radio_seats.specs.EndLaws.{LosesSeat, same_or_loses}
+use Rattle.radio_seats.proofs.EndLaws.{LosesSeat, same_or_loses}
 use Rattle.radio_seats.specs.Seats.{listener_of, seat_of, seat_in, with_ended}
 use Rattle.radio_fallback.specs.Walk.{found_at, stop_of}
-use Rattle.radio_fallback.specs.WalkLaws.{stopped_where_it_begins}
+use Rattle.radio_fallback.proofs.WalkLaws.{stopped_where_it_begins}
 use Rattle.radio_core.specs.declared.clients.Client.{Client}
 use Rattle.radio_core.specs.declared.clients.ClientState.{ClientState}
 use Rattle.radio_core.specs.declared.clients.ClientState.TheVariants.{Undecided as IsNew, Feeds as IsSource, Listens, Answered as HasHisAnswer, Ended}

@@ -5,7 +5,7 @@ use Rattle.std.proofs.lemmas.Bool.Decides.{nat_tests}
 use Rattle.std.proofs.lemmas.List.{append-nil}
 use Rattle.radio_settings.specs.declared.settings.Settings.{Settings}
 use Rattle.radio_access.specs.Lists.{Lists}
-use Rattle.radio_tables.specs.KeyLaws.{by_number}
+use Rattle.radio_tables.proofs.KeyLaws.{by_number}
 use Rattle.radio_events.specs.declared.event.Event.{Event}
 use Rattle.radio_events.specs.declared.event.Event.TheVariants.{Arrive, Source, Push, SourceEnd, Title, Listen, Draw, Leave, Clock}
 use Rattle.radio_core.specs.declared.outcome.Outcome.{Outcome}

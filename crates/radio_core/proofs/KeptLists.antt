@@ -7,7 +7,7 @@ use Rattle.std.specs.Option.{option_map, option_map_or}
 use Rattle.std.specs.Ordering.{match_ordering}
 use Rattle.std.specs.Str.{bytes_eq}
 use Rattle.radio_tables.specs.Lists.{Each}
-use Rattle.radio_tables.specs.FindLaws.{find_mapped, found_has}
+use Rattle.radio_tables.proofs.FindLaws.{find_mapped, found_has}
 use Rattle.radio_core.specs.Kept.{kept_session, kept_live}
 use Rattle.radio_core.specs.KeptChanges.{longer_kept, kept_fed}
 use Rattle.radio_core.specs.Sessions.{Session, is_of, session_of, by_mount, with_session, longer, fed, with_title, titled, without_session}

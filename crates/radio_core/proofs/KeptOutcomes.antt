@@ -15,7 +15,7 @@ use Rattle.radio_access.specs.Lists.{lets_in}
 use Rattle.radio_access.specs.ContentTypes.{is_refused_type}
 use Rattle.radio_access.specs.SourcePair.{is_source_pair}
 use Rattle.radio_tables.specs.Lists.{Each}
-use Rattle.radio_tables.specs.FindLaws.{found_has}
+use Rattle.radio_tables.proofs.FindLaws.{found_has}
 use Rattle.radio_seats.specs.declared.seat.Seat.{Seat}
 use Rattle.radio_seats.specs.Seats.{seat_of}
 use Rattle.radio_fallback.specs.Walk.{Sight, found_at, landing, stop_in}

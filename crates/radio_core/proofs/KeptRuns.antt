@@ -4,7 +4,7 @@ use Rattle.std.specs.Option.{option_map}
 use Rattle.radio_settings.specs.declared.settings.Settings.{Settings}
 use Rattle.radio_access.specs.Lists.{Lists}
 use Rattle.radio_tables.specs.Lists.{Each}
-use Rattle.radio_tables.specs.FindLaws.{found_has}
+use Rattle.radio_tables.proofs.FindLaws.{found_has}
 use Rattle.radio_seats.specs.declared.seat.Seat.{Seat}
 use Rattle.radio_seats.specs.Seats.{seat_of}
 use Rattle.radio_events.specs.declared.event.Event.{Event}

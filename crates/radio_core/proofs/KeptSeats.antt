@@ -11,12 +11,12 @@ use Rattle.radio_policy.specs.declared.rule.Rule.TheVariants.{NotLive, Lagged, T
 use Rattle.radio_addr.specs.declared.peer.Peer.{Peer}
 use Rattle.radio_settings.specs.declared.field.Shown.{Shown}
 use Rattle.radio_tables.specs.Lists.{update_first}
-use Rattle.radio_tables.specs.FindLaws.{find_here, find_later}
-use Rattle.radio_tables.specs.KeyLaws.{by_number, by_name}
+use Rattle.radio_tables.proofs.FindLaws.{find_here, find_later}
+use Rattle.radio_tables.proofs.KeyLaws.{by_number, by_name}
 use Rattle.radio_seats.specs.declared.seat.Seat.{Seat}
-use Rattle.radio_seats.specs.EndLaws.{had_seat, kept_seat}
+use Rattle.radio_seats.proofs.EndLaws.{had_seat, kept_seat}
 use Rattle.radio_seats.specs.Seats.{seat_of, seat_in, with_seat, with_place, without_listener}
-use Rattle.radio_seats.specs.SeatLaws.{beside_moved, beside_left, beside_seated, is_no_listener, has_sat_down, has_heard, sits_still}
+use Rattle.radio_seats.proofs.SeatLaws.{beside_moved, beside_left, beside_seated, is_no_listener, has_sat_down, has_heard, sits_still}
 use Rattle.radio_events.specs.declared.event.Event.{Event}
 use Rattle.radio_events.specs.declared.event.ListenRequest.{ListenRequest}
 use Rattle.radio_core.specs.declared.outcome.Change.TheVariants.{Begin, Receive, SetTitle, TakeSeat, Advance, End, EndAndLeave, Forget}

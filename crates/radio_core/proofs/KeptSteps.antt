@@ -5,7 +5,7 @@ use Rattle.std.specs.Option.{option_map}
 use Rattle.std.proofs.lemmas.List.{length-map}
 use Rattle.radio_policy.specs.declared.rule.Rule.TheVariants.{Lagged}
 use Rattle.radio_tables.specs.Lists.{Each}
-use Rattle.radio_tables.specs.EachLaws.{Each_kept, Each_updated, Each_placed}
+use Rattle.radio_tables.proofs.EachLaws.{Each_kept, Each_updated, Each_placed}
 use Rattle.radio_seats.specs.Seats.{with_ended}
 use Rattle.radio_core.specs.declared.clients.ClientState.TheVariants.{Answered}
 use Rattle.radio_core.specs.declared.outcome.Change.{Change}

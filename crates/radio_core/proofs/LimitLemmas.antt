@@ -7,12 +7,12 @@ use Rattle.radio_creds.specs.Credentials.{Credentials}
 use Rattle.radio_addr.specs.declared.peer.Peer.{Peer}
 use Rattle.radio_settings.specs.declared.settings.Settings.{Settings}
 use Rattle.radio_access.specs.Lists.{Lists}
-use Rattle.radio_tables.specs.KeyLaws.{by_number, by_name}
+use Rattle.radio_tables.proofs.KeyLaws.{by_number, by_name}
 use Rattle.radio_seats.specs.declared.seat.Listener.{Listener}
 use Rattle.radio_seats.specs.declared.seat.Seat.{Seat}
 use Rattle.radio_seats.specs.Seats.{seats_at, count_at, SitsAs, has_user, sits_there}
-use Rattle.radio_seats.specs.CountLaws.{NobodyCame, nobody_came, nobody_came_twice, nobody_came_hearing, nobody_came_finishing, nobody_came_leaving}
-use Rattle.radio_seats.specs.CountLaws.{one_more_at, no_more_elsewhere, nobody_sits_as}
+use Rattle.radio_seats.proofs.CountLaws.{NobodyCame, nobody_came, nobody_came_twice, nobody_came_hearing, nobody_came_finishing, nobody_came_leaving}
+use Rattle.radio_seats.proofs.CountLaws.{one_more_at, no_more_elsewhere, nobody_sits_as}
 use Rattle.radio_fallback.specs.Walk.{is_full, sits_already}
 use Rattle.radio_events.specs.declared.event.Event.{Event}
 use Rattle.radio_events.specs.declared.event.ListenRequest.{ListenRequest}
@@ -33,7 +33,7 @@ use Rattle.radio_core.proofs.Lookups.{found_named}
 use Rattle.radio_core.proofs.SoundRuns.{sound_after, sound_opening}
 use Rattle.radio_core.proofs.TickLemmas.{ticked_fates}
 use Rattle.radio_policy.specs.declared.rule.Rule.TheVariants.{NotLive, Lagged, TimeOver}
-use Rattle.radio_seats.specs.EndLaws.{nobody_came_ending}
+use Rattle.radio_seats.proofs.EndLaws.{nobody_came_ending}
 use Rattle.radio_core.specs.Facts.{live_end}
 use Rattle.radio_core.specs.Timeouts.{lags_behind, has_sat_out}
 use Rattle.radio_core.proofs.Soundness.{has_new_seat, beside_new_seat}

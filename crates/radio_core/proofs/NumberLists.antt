@@ -8,8 +8,8 @@ use Rattle.std.specs.declared.cmp.Ordering.{Ordering}
 use Rattle.std.specs.declared.cmp.Ordering.TheVariants.{Less, Equal, Greater}
 use Rattle.std.proofs.lemmas.Bool.Decides.{nat_tests}
 use Rattle.radio_tables.specs.Lists.{update_first, placed, Each}
-use Rattle.radio_tables.specs.EachLaws.{Each_each, Each_kept, Each_placed, Each_mapped}
-use Rattle.radio_tables.specs.FindLaws.{passes_none}
+use Rattle.radio_tables.proofs.EachLaws.{Each_each, Each_kept, Each_placed, Each_mapped}
+use Rattle.radio_tables.proofs.FindLaws.{passes_none}
 
 abbrev pub IsRising : List ℕ → Type 0
 IsRising [] = Unit {0}

@@ -4,7 +4,7 @@ use Rattle.std.specs.Prelude.{◌&&◌, find, is_some, if◌then◌else◌}
 use Rattle.std.specs.Str.{bytes_eq}
 use Rattle.std.proofs.lemmas.Slice.Eq.{bytes_eq-Decides}
 use Rattle.radio_tables.specs.Lists.{update_first}
-use Rattle.radio_tables.specs.KeyLaws.{by_name}
+use Rattle.radio_tables.proofs.KeyLaws.{by_name}
 use Rattle.radio_seats.specs.Board.{is_prepared}
 use Rattle.radio_core.specs.Prepared.{LiveArePrepared}
 use Rattle.radio_core.specs.Sessions.{Session, is_of, session_of, with_session, without_session}

@@ -7,7 +7,7 @@ use Rattle.radio_policy.specs.declared.rule.Rule.{Rule}
 use Rattle.radio_policy.specs.declared.judgement.Verdict.TheVariants.{Allow}
 use Rattle.radio_policy.specs.Verdicts.{verdict_in}
 use Rattle.radio_addr.specs.declared.peer.Peer.{Peer}
-use Rattle.radio_tables.specs.KeyLaws.{by_number}
+use Rattle.radio_tables.proofs.KeyLaws.{by_number}
 use Rattle.radio_events.specs.declared.event.Event.{Event}
 use Rattle.radio_events.specs.declared.event.Event.TheVariants.{Push, Listen, Draw, Leave, Clock}
 use Rattle.radio_events.specs.declared.event.ListenRequest.{ListenRequest}
@@ -31,7 +31,7 @@ use Rattle.radio_core.specs.Stretches.{SeatsKeepTheirMounts}
 use Rattle.radio_core.specs.Ways.{Way, Misplaced, IsFinished, IsDenied, IsRefused, IsAdmitted, Begins, Receives, SetsTitle, TakesSeat, HandsOut, Ends}
 use Rattle.radio_core.specs.Ways.{EndsAndLeaves, Leaves, HasPassed, Ticks}
 use Rattle.radio_core.proofs.GoneLemmas.{not_of, nothing_of}
-use Rattle.radio_seats.specs.SeatLaws.{is_no_listener, beside_left}
+use Rattle.radio_seats.proofs.SeatLaws.{is_no_listener, beside_left}
 use Rattle.radio_core.proofs.LostSeats.{loses_no_seat_else}
 use Rattle.radio_core.proofs.Soundness.{has_new_seat, had_no_seat, beside_new_seat}
 use Rattle.radio_core.proofs.SoundSessions.{has_advanced, others_seats, behind_within}

@@ -5,7 +5,7 @@ use Rattle.std.specs.Str.{bytes_eq}
 use Rattle.std.proofs.lemmas.Bool.Decides.{nat_tests}
 use Rattle.std.proofs.lemmas.Slice.Eq.{bytes_eq-Decides}
 use Rattle.radio_policy.specs.declared.rule.Rule.TheVariants.{NotLive}
-use Rattle.radio_tables.specs.KeyLaws.{by_number, by_name}
+use Rattle.radio_tables.proofs.KeyLaws.{by_number, by_name}
 use Rattle.radio_core.specs.declared.outcome.Change.TheVariants.{End, EndAndLeave}
 use Rattle.radio_seats.specs.declared.seat.Seat.{Seat}
 use Rattle.radio_core.specs.declared.standing.Standing.{Standing}
@@ -15,7 +15,7 @@ use Rattle.radio_core.specs.Changes.{changed, session_ended}
 use Rattle.radio_seats.specs.Seats.{listener_of, seat_of, seat_in}
 use Rattle.radio_core.specs.Sessions.{Session, is_of, session_of, without_session}
 use Rattle.radio_core.specs.Sound.{AreApart, IsSound}
-use Rattle.radio_seats.specs.SeatLaws.{StillSits, sits_still, sits_on_elsewhere, has_lost_it, beside_left, is_no_listener}
+use Rattle.radio_seats.proofs.SeatLaws.{StillSits, sits_still, sits_on_elsewhere, has_lost_it, beside_left, is_no_listener}
 use Rattle.radio_core.proofs.ApartLemmas.{kept_apart}
 use Rattle.radio_core.proofs.Lookups.{beside_ended, is_over}
 use Rattle.radio_core.proofs.Standings.{Turns, Loses, turns_answered, turns_forgotten, silenced, ended_feeds, feeds_ended}

@@ -5,7 +5,7 @@ use Rattle.std.proofs.lemmas.List.{length-take, length-drop}
 use Rattle.std.proofs.lemmas.Slice.Eq.{bytes_eq-Decides}
 use Rattle.radio_addr.specs.declared.peer.Peer.{Peer}
 use Rattle.radio_settings.specs.declared.field.Shown.{Shown}
-use Rattle.radio_tables.specs.KeyLaws.{by_number, by_name}
+use Rattle.radio_tables.proofs.KeyLaws.{by_number, by_name}
 use Rattle.radio_core.specs.declared.outcome.Change.TheVariants.{Begin, Advance}
 use Rattle.radio_seats.specs.declared.seat.Seat.{Seat}
 use Rattle.radio_seats.specs.declared.seat.Seating.{Seating}
@@ -17,10 +17,10 @@ use Rattle.radio_seats.specs.Seats.{seat_of, seat_in, seat_held, heard_to}
 use Rattle.radio_core.specs.Sessions.{Session, is_of, session_of, opened, longer}
 use Rattle.radio_core.specs.Sound.{AreRising, IsSeatedIn, IsSound}
 use Rattle.radio_core.specs.Stream.{end_of, data_at}
-use Rattle.radio_seats.specs.SeatLaws.{beside_moved, has_moved}
+use Rattle.radio_seats.proofs.SeatLaws.{beside_moved, has_moved}
 use Rattle.radio_core.proofs.ApartLemmas.{begun_apart, updated_apart}
 use Rattle.radio_core.proofs.Lookups.{beside_fed, is_longer, is_new_session, beside_begun}
-use Rattle.radio_seats.specs.SeatLaws.{listener_seated}
+use Rattle.radio_seats.proofs.SeatLaws.{listener_seated}
 use Rattle.radio_core.proofs.Standings.{Turns, turns_feeding, stays_hearing}
 use Rattle.radio_core.proofs.Soundness.{rising_more, seated_still}
 

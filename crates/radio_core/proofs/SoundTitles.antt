@@ -1,7 +1,7 @@
 -- what holds of every state of a run holds still when a source has set a title
 use Rattle.std.proofs.Common.{◌≡◌, ◌≤◌, false, ℕ, Some, List, refl, ap, sym, subst, ◌∙◌}
 use Rattle.std.specs.Str.{bytes_eq}
-use Rattle.radio_tables.specs.KeyLaws.{by_name}
+use Rattle.radio_tables.proofs.KeyLaws.{by_name}
 use Rattle.radio_core.specs.declared.outcome.Change.TheVariants.{SetTitle}
 use Rattle.radio_core.specs.declared.standing.Standing.TheVariants.{Feeds}
 use Rattle.radio_core.specs.World.{World, standing_of}

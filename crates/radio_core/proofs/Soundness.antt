@@ -4,8 +4,8 @@ use Rattle.std.specs.Prelude.{find, nat_le, unwrap_or}
 use Rattle.std.proofs.lemmas.Bool.Decides.{nat_tests}
 use Rattle.radio_addr.specs.declared.peer.Peer.{Peer}
 use Rattle.radio_tables.specs.Lists.{Each}
-use Rattle.radio_tables.specs.FindLaws.{found_has}
-use Rattle.radio_tables.specs.KeyLaws.{by_number}
+use Rattle.radio_tables.proofs.FindLaws.{found_has}
+use Rattle.radio_tables.proofs.KeyLaws.{by_number}
 use Rattle.radio_events.specs.declared.event.ListenRequest.{ListenRequest}
 use Rattle.radio_core.specs.declared.outcome.Change.TheVariants.{Answer, Admit, TakeSeat, Forget}
 use Rattle.radio_seats.specs.declared.seat.Seat.{Seat}
@@ -18,7 +18,7 @@ use Rattle.radio_seats.specs.Seats.{seat_of, seat_in, without_listener}
 use Rattle.radio_core.specs.Sessions.{Session, session_of}
 use Rattle.radio_core.specs.Sound.{AreApart, AreRising, IsSeatedIn, IsSound}
 use Rattle.radio_core.specs.Stream.{end_of, burst_start}
-use Rattle.radio_seats.specs.SeatLaws.{beside_left, beside_seated, is_no_listener, has_sat_down}
+use Rattle.radio_seats.proofs.SeatLaws.{beside_left, beside_seated, is_no_listener, has_sat_down}
 use Rattle.radio_core.proofs.Lookups.{found_named}
 use Rattle.radio_core.proofs.Standings.{Turns, turns_answered, turns_sitting, turns_forgotten, turns_admitted}
 

@@ -6,7 +6,7 @@ use Rattle.radio_policy.specs.declared.rule.Rule.{Rule}
 use Rattle.radio_policy.specs.declared.rule.Rule.TheVariants.{HeaderTimeout, TimeOver, SourceSilent, NotLive}
 use Rattle.radio_seats.specs.declared.seat.Listener.{Listener}
 use Rattle.radio_seats.specs.declared.seat.Seat.{Seat}
-use Rattle.radio_seats.specs.EndLaws.{kept_seat}
+use Rattle.radio_seats.proofs.EndLaws.{kept_seat}
 use Rattle.radio_seats.specs.Seats.{listener_of, seat_of}
 use Rattle.radio_events.specs.declared.event.Event.TheVariants.{Clock}
 use Rattle.radio_core.specs.declared.clients.Client.{Client}

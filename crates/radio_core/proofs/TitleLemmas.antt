@@ -8,7 +8,7 @@ use Rattle.std.proofs.lemmas.Slice.Eq.{bytes_eq-Decides}
 use Rattle.radio_addr.specs.declared.peer.Peer.{Peer}
 use Rattle.radio_settings.specs.declared.settings.Settings.{Settings}
 use Rattle.radio_access.specs.Lists.{Lists, passes}
-use Rattle.radio_tables.specs.KeyLaws.{by_number, by_name}
+use Rattle.radio_tables.proofs.KeyLaws.{by_number, by_name}
 use Rattle.radio_events.specs.declared.event.Event.{Event}
 use Rattle.radio_events.specs.declared.event.Event.TheVariants.{Push, Title}
 use Rattle.radio_core.specs.declared.outcome.Change.TheVariants.{Receive, SetTitle}

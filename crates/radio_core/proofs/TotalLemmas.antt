@@ -4,7 +4,7 @@ use Rattle.std.proofs.Common.{sym, subst, ◌∙◌, arith}
 use Rattle.std.specs.Prelude.{map, if◌then◌else◌}
 use Rattle.std.proofs.lemmas.List.{length-map}
 use Rattle.std.proofs.lemmas.List.Filters.{length-filter_both}
-use Rattle.radio_tables.specs.KeyLaws.{by_number}
+use Rattle.radio_tables.proofs.KeyLaws.{by_number}
 use Rattle.radio_addr.specs.declared.peer.Peer.{Peer}
 use Rattle.radio_policy.specs.declared.rule.Rule.{Rule}
 use Rattle.radio_policy.specs.declared.rule.Rule.TheVariants.{NotLive, Lagged, TimeOver, SourceSilent}
@@ -51,7 +51,7 @@ use Rattle.radio_core.proofs.Standings.{Turns, Loses, kept_of, turns_answered, t
 use Rattle.radio_core.proofs.Standings.{stays_hearing, silenced}
 use Rattle.radio_core.proofs.TickLemmas.{ticked_fates}
 use Rattle.radio_core.proofs.Ways.{way_of}
-use Rattle.radio_seats.specs.SeatLaws.{listener_seated}
+use Rattle.radio_seats.proofs.SeatLaws.{listener_seated}
 
 -- the numbers of the clients, and those of the listeners
 abbrev number_of : Client → ℕ

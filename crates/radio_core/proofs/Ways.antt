@@ -23,7 +23,7 @@ use Rattle.radio_events.specs.declared.reply.Reply.TheVariants.{Deny, Noted}
 use Rattle.radio_seats.specs.declared.seat.Seat.{Seat}
 use Rattle.radio_fallback.specs.declared.walking.Found.{Found}
 use Rattle.radio_fallback.specs.Walk.{found_at, stop_of}
-use Rattle.radio_fallback.specs.WalkLaws.{stopped_where_it_begins}
+use Rattle.radio_fallback.proofs.WalkLaws.{stopped_where_it_begins}
 use Rattle.radio_core.specs.declared.standing.Standing.{Standing}
 use Rattle.radio_core.specs.declared.standing.Standing.TheVariants.{Unknown, Undecided, Feeds, Sits, Answered, Finished}
 use Rattle.radio_core.specs.World.{World, standing_of}

@@ -33,7 +33,7 @@ pub(crate) struct Client {
 impl Row for Client {
     type Key = u64;
 
-    ghost use Rattle.radio_tables.specs.KeyLaws.{number_is};
+    ghost use Rattle.radio_tables.proofs.KeyLaws.{number_is};
     ghost use Rattle.radio_core.specs.Clients.{is_client};
 
     ghost key = { λ client. client.id };

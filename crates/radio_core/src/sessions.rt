@@ -36,7 +36,7 @@ impl Model for Session {
 impl Row for Session {
     type Key = MountName;
 
-    ghost use Rattle.radio_tables.specs.KeyLaws.{name_is};
+    ghost use Rattle.radio_tables.proofs.KeyLaws.{name_is};
     ghost use Rattle.radio_core.specs.Sessions.{is_of};
 
     ghost key = { λ session. session.mount };

@@ -1,2 +1,1 @@
 pub mod Walk
-pub mod WalkLaws

@@ -9,7 +9,7 @@ use Rattle.radio_script.specs.declared.delivery.Input.{Input}
 use Rattle.radio_script.specs.declared.faults.PerformFault.{PerformFault}
 use Rattle.radio_script.specs.declared.faults.PerformFault.TheVariants.{OutOfMemory}
 use Rattle.radio_session.specs.Conversation.{Conversation}
-use Rattle.radio_tables.specs.FindLaws.{changed_alike, unchanged}
+use Rattle.radio_tables.proofs.FindLaws.{changed_alike, unchanged}
 use Rattle.radio_tables.specs.Lists.{update_first}
 use Rattle.radio_floor.specs.declared.handler.Told.{Told}
 use Rattle.radio_floor.specs.declared.labelled.Labelled.{Labelled}

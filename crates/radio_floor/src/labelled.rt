@@ -17,7 +17,7 @@ pub(crate) struct Labelled {
 impl Row for Labelled {
     type Key = u32;
 
-    ghost use Rattle.radio_tables.specs.KeyLaws.{number_is};
+    ghost use Rattle.radio_tables.proofs.KeyLaws.{number_is};
     ghost use Rattle.radio_floor.specs.ScriptState.{has_label};
 
     ghost key = { λ labelled. labelled.label };

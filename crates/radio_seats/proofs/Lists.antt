@@ -10,7 +10,7 @@ use Rattle.std.specs.declared.cmp.Ordering.TheVariants.{Less, Equal, Greater}
 use Rattle.std.proofs.lemmas.Bool.Decides.{nat_tests}
 use Rattle.std.proofs.lemmas.Map.Keys.{sorted_head, sorted_tail}
 use Rattle.radio_tables.specs.Lists.{update_first, placed}
-use Rattle.radio_tables.specs.FindLaws.{find_here, find_later}
+use Rattle.radio_tables.proofs.FindLaws.{find_here, find_later}
 
 abbrev pub passing : {X : Type 0} → (X → Bool) → List X → ℕ
 passing p xs = length (filter p xs)

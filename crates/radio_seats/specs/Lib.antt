@@ -1,7 +1,4 @@
 pub mod Seats
-pub mod SeatLaws
-pub mod CountLaws
-pub mod EndLaws
 pub mod Guests
 pub mod Board
 pub mod Mounts

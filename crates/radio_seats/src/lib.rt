@@ -8,7 +8,7 @@
 //! - [`LentSeat`], [`ListenerStanding`]: what the table answers of a listener; a [`SeatTest`] asks
 //!   something of a place and a [`Guest`], and a [`GuestMoment`] is a moment of his.
 //! - [`KeptName`]: a name apart from what holds it.
-//! - What is found after each change, for proofs: `specs/SeatLaws.antt`, `specs/EndLaws.antt` and `specs/CountLaws.antt`.
+//! - What is found after each change, for proofs: `proofs/SeatLaws.antt`, `proofs/EndLaws.antt` and `proofs/CountLaws.antt`.
 #![tactic(auto)]
 
 mod changes;

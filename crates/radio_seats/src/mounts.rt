@@ -24,7 +24,7 @@ pub(crate) struct Mount {
 impl Row for Mount {
     type Key = u64;
 
-    ghost use Rattle.radio_tables.specs.KeyLaws.{number_is};
+    ghost use Rattle.radio_tables.proofs.KeyLaws.{number_is};
     ghost use Rattle.radio_seats.specs.Mounts.{is_numbered};
 
     ghost key = { λ mount. mount.number };
@@ -48,7 +48,7 @@ pub(crate) struct NumberedName {
 impl Row for NumberedName {
     type Key = MountName;
 
-    ghost use Rattle.radio_tables.specs.KeyLaws.{name_is};
+    ghost use Rattle.radio_tables.proofs.KeyLaws.{name_is};
     ghost use Rattle.radio_seats.specs.Mounts.{is_named};
 
     ghost key = { λ entry. entry.name };

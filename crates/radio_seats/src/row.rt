@@ -91,7 +91,7 @@ pub(crate) struct ListenerRow {
 impl Row for ListenerRow {
     type Key = u64;
 
-    ghost use Rattle.radio_tables.specs.KeyLaws.{number_is};
+    ghost use Rattle.radio_tables.proofs.KeyLaws.{number_is};
     ghost use Rattle.radio_seats.specs.Rows.{is_row};
 
     ghost key = { λ row. row.id };

@@ -4,8 +4,8 @@
 //! - [`Row`]: what has a key; [`Change`], [`TryChange`], [`Swap`], [`Visit`]: what is done to a
 //!   row in its place.
 //! - [`Table`]: the rows. Contracts see the list of its rows, and nothing of its inside.
-//! - Laws, which run no code: `laws`; lemmas on lists, for proofs: `specs/FindLaws.antt`, `specs/EachLaws.antt` and
-//!   `specs/KeyLaws.antt`.
+//! - Laws, which run no code: `laws`; lemmas on lists, for proofs: `proofs/FindLaws.antt`, `proofs/EachLaws.antt` and
+//!   `proofs/KeyLaws.antt`.
 #![tactic(auto)]
 
 mod change;

@@ -1,4 +1,4 @@
-use Rattle.radio_tables.specs.KeyLaws.{find_placed}
+use Rattle.radio_tables.proofs.KeyLaws.{find_placed}
 use Rattle.radio_tables.proofs.laws.a_placed_row_is_found.Goals as goal
 
 pub returns : goal.returns

@@ -2,7 +2,8 @@ use Rattle.std.proofs.Common.{◌≡◌, [], None, Option, Result, Ok, Some, app
 use Rattle.std.specs.declared.alloc.AllocError.{AllocError}
 use Rattle.radio_core.specs.World.{World}
 use Rattle.radio_core.specs.Step.{Represents}
-use Rattle.radio_tables.specs.Visits.{IsVisited, was_visited}
+use Rattle.radio_tables.proofs.VisitLaws.{was_visited}
+use Rattle.radio_tables.specs.Visits.{IsVisited}
 use Rattle.radio_script.specs.declared.delivery.Delivery.TheVariants.{To}
 use Rattle.radio_script.specs.declared.delivery.Input.{Input}
 use Rattle.radio_floor.specs.declared.handler.Handler.{Handler}

@@ -3,7 +3,7 @@ use Rattle.std.specs.Prelude.{if◌then◌else◌}
 use Rattle.std.specs.Option.{option_copied}
 use Rattle.radio_seats.specs.declared.mounts.Mount.{Mount}
 use Rattle.radio_seats.specs.Mounts.{Prepared, name_in, sitting_in, AreMounts}
-use Rattle.radio_seats.proofs.MountLemmas.{gained, named_then, still_mounts}
+use Rattle.radio_seats.proofs.MountCounts.{gained, named_then, still_mounts}
 use Rattle.radio_seats.proofs.mounts.Mounts.gain.Goals as goal
 
 pub invariant_of-self : goal.invariant_of-self

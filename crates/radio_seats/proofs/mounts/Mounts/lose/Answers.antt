@@ -3,7 +3,7 @@ use Rattle.std.specs.Prelude.{if◌then◌else◌}
 use Rattle.std.specs.Option.{option_copied}
 use Rattle.radio_seats.specs.declared.mounts.Mount.{Mount}
 use Rattle.radio_seats.specs.Mounts.{Prepared, IsThere, name_in, sitting_in, AreMounts}
-use Rattle.radio_seats.proofs.MountLemmas.{lost, named_then, still_mounts, there_still}
+use Rattle.radio_seats.proofs.MountCounts.{lost, named_then, still_mounts, there_still}
 use Rattle.radio_seats.proofs.mounts.Mounts.lose.Goals as goal
 
 pub invariant_of-self : goal.invariant_of-self

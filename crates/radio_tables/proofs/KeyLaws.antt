@@ -12,7 +12,7 @@ use Rattle.std.proofs.lemmas.Bool.Decides.{nat_tests}
 use Rattle.std.proofs.lemmas.Map.Text.{is_eq-slice_cmp}
 use Rattle.std.proofs.lemmas.Slice.Eq.{bytes_eq-Decides}
 use Rattle.radio_tables.specs.Lists.{placed}
-use Rattle.radio_tables.specs.FindLaws.{find_here, find_later}
+use Rattle.radio_tables.proofs.FindLaws.{find_here, find_later}
 
 -- two numbers are one, or the test tells them apart
 pub by_number : {A : Type 0} (him id : ℕ) → (him ≡ id → A) → ((him == id) ≡ false → A) → A

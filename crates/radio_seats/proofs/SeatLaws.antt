@@ -7,8 +7,8 @@ use Rattle.std.specs.Str.{bytes_eq}
 use Rattle.std.proofs.lemmas.Bool.{eqb-true}
 use Rattle.std.proofs.lemmas.Cmp.{nat_cmp_total}
 use Rattle.radio_policy.specs.declared.rule.Rule.{Rule}
-use Rattle.radio_tables.specs.FindLaws.{find_same, find_apart, find_removed, find_others, find_mapped}
-use Rattle.radio_tables.specs.KeyLaws.{number_is, find_placed}
+use Rattle.radio_tables.proofs.FindLaws.{find_same, find_apart, find_removed, find_others, find_mapped}
+use Rattle.radio_tables.proofs.KeyLaws.{number_is, find_placed}
 use Rattle.radio_seats.specs.declared.seat.Listener.{Listener}
 use Rattle.radio_seats.specs.declared.seat.Seat.{Seat}
 use Rattle.radio_seats.specs.declared.seat.Seating.{Seating}

@@ -5,7 +5,7 @@ use Rattle.std.specs.declared.cmp.Ordering.{Ordering}
 use Rattle.std.specs.declared.cmp.Ordering.TheVariants.{Less, Equal, Greater}
 use Rattle.std.specs.Ordering.{match_ordering}
 use Rattle.radio_tables.specs.Lists.{update_first, placed, Each, Has}
-use Rattle.radio_tables.specs.FindLaws.{find_here, find_later}
+use Rattle.radio_tables.proofs.FindLaws.{find_here, find_later}
 
 pub Each_each : {X : Type 0} (P Q : X → Type 0) → ((x : X) → P x → Q x) → (xs : List X) → Each P xs → Each Q xs
 Each_each P Q follows [] all = tt

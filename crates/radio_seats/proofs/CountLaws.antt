@@ -9,15 +9,15 @@ use Rattle.std.specs.declared.cmp.Ordering.TheVariants.{Less, Equal, Greater}
 use Rattle.std.proofs.lemmas.Slice.Eq.{bytes_eq-Decides}
 use Rattle.radio_policy.specs.declared.rule.Rule.{Rule}
 use Rattle.radio_tables.specs.Lists.{update_first, placed}
-use Rattle.radio_tables.specs.FindLaws.{find_here, find_later}
-use Rattle.radio_tables.specs.KeyLaws.{by_number}
+use Rattle.radio_tables.proofs.FindLaws.{find_here, find_later}
+use Rattle.radio_tables.proofs.KeyLaws.{by_number}
 use Rattle.radio_seats.specs.declared.seat.Listener.{Listener}
 use Rattle.radio_seats.specs.declared.seat.Seat.{Seat}
 use Rattle.radio_seats.specs.declared.seat.Seating.{Seating}
 use Rattle.radio_seats.specs.declared.seat.Seating.TheVariants.{Sits, Finished}
 use Rattle.radio_seats.specs.Seats.{is_listener, seat_held, seat_in, seat_of, by_listener, seated, with_seat, heard_to, advanced, with_place, SitsAs}
 use Rattle.radio_seats.specs.Seats.{is_seat_at, finished_from, finished_at, without_listener, seats_at, has_user, is_user_at, sits_there}
-use Rattle.radio_seats.specs.SeatLaws.{beside_moved, beside_left, is_no_listener, has_heard, listener_seated, sits_still}
+use Rattle.radio_seats.proofs.SeatLaws.{beside_moved, beside_left, is_no_listener, has_heard, listener_seated, sits_still}
 
 -- how many of a list pass a test, after a change of the list
 module _ {X : Type 0} (p : X → Bool) where

@@ -3,13 +3,13 @@ use Rattle.std.proofs.Common.{◌≡◌, ◌⊎◌, inl, inr, Bool, true, false,
 use Rattle.std.specs.Prelude.{if◌then◌else◌}
 use Rattle.std.specs.Option.{option_map}
 use Rattle.radio_policy.specs.declared.rule.Rule.{Rule}
-use Rattle.radio_tables.specs.FindLaws.{find_mapped}
+use Rattle.radio_tables.proofs.FindLaws.{find_mapped}
 use Rattle.radio_seats.specs.declared.seat.Listener.{Listener}
 use Rattle.radio_seats.specs.declared.seat.Seat.{Seat}
 use Rattle.radio_seats.specs.declared.seat.Seating.{Seating}
 use Rattle.radio_seats.specs.declared.seat.Seating.TheVariants.{Sits, Finished}
 use Rattle.radio_seats.specs.Seats.{is_listener, listener_of, seat_held, seat_in, seat_of, is_seat_at, holds_of, ended_if, finished_if, with_ended}
-use Rattle.radio_seats.specs.CountLaws.{NobodyCame, no_more_mapped}
+use Rattle.radio_seats.proofs.CountLaws.{NobodyCame, no_more_mapped}
 
 -- the listener had a seat of which it holds, and has finished
 pub record LosesSeat (p : Seat → Bool) (rule : Rule) (before later : Option Listener) : Type 0 where
