@@ -6,3 +6,4 @@ pub mod SeatLaws
 pub mod EndLaws
 pub mod CountLaws
 pub mod MountCounts
+pub mod OtherLemmas

@@ -1,5 +1,5 @@
 -- prepared mounts: what is found of them after each change
-use Rattle.std.proofs.Common.{◌≡◌, Bool, true, false, ℕ, ◌+◌, ◌-◌, ◌<◌, ◌==◌, ◌||◌, Option, Some, None, List, [], ◌∷◌, not, refl, ap, sym, ◌∙◌, arith}
+use Rattle.std.proofs.Common.{◌≡◌, Bool, true, false, ℕ, ◌+◌, ◌<◌, ◌==◌, ◌||◌, Option, Some, None, List, [], ◌∷◌, not, refl, ap, sym, ◌∙◌, arith}
 use Rattle.std.specs.Prelude.{◌&&◌, find, filter, map, is_some, if◌then◌else◌}
 use Rattle.std.specs.Option.{option_map}
 use Rattle.std.specs.Ordering.{nat_cmp}
@@ -10,14 +10,14 @@ use Rattle.std.proofs.lemmas.Bool.Decides.{nat_tests}
 use Rattle.std.proofs.lemmas.Cmp.{nat_cmp_total, nat_list_cmp_total}
 use Rattle.std.proofs.lemmas.Slice.Eq.{bytes_eq-Decides}
 use Rattle.radio_settings.specs.MountName.{is_mount_name}
-use Rattle.radio_tables.specs.Lists.{update_first, placed}
-use Rattle.radio_tables.proofs.FindLaws.{find_same, find_apart, find_removed, find_others, found_passes}
+use Rattle.radio_tables.specs.Lists.{placed}
+use Rattle.radio_tables.proofs.FindLaws.{find_removed, find_others, found_passes}
 use Rattle.radio_tables.proofs.KeyLaws.{by_number, by_name, number_is, name_is, find_placed}
 use Rattle.radio_seats.specs.declared.mounts.Mount.{Mount}
 use Rattle.radio_seats.specs.declared.mounts.NumberedName.{NumberedName}
 use Rattle.radio_seats.specs.Board.{is_prepared}
 use Rattle.radio_seats.proofs.Lists.{placed_removed, none_removed}
-use Rattle.radio_seats.specs.Mounts.{is_numbered, is_named, name_of, name_in, sitting_of, sitting_in, is_number, IsThere, AreMounts}
+use Rattle.radio_seats.specs.Mounts.{is_numbered, is_named, name_of, name_in, sitting_of, sitting_in, is_number, AreMounts}
 
 -- the empty name is no mount's
 pub no_empty_name : (name : List ℕ) → is_mount_name name ≡ true → bytes_eq [] name ≡ false

@@ -162,7 +162,7 @@ module _ (name : ℕ → List ℕ) (mount : List ℕ) (number : ℕ) (only : (k 
   pub counts_there : (rows : List ListenerRow) → count_at (map (named name) rows) mount ≡ passing (sits_by number) rows
   counts_there rows = map_counted (named name) (sits_by number) (λ (listener : Listener). is_seat_at mount listener.seating) (λ row. at_mount row.state) rows
 
-  user_at : (user : List ℕ) (state : RowState) → is_user_at mount user (named_state name state) ≡ user_state number user state
+  pub user_at : (user : List ℕ) (state : RowState) → is_user_at mount user (named_state name state) ≡ user_state number user state
   user_at user (Seated seat) = ap (λ b. b && has_user user seat.guest.pair) (only seat.mount)
   user_at user (Ended rule) = refl
 
@@ -221,7 +221,7 @@ module _ (name : ℕ → List ℕ) (mount : List ℕ) (only : (k : ℕ) → byte
         none [] = refl
         none (x ∷ xs) = none xs
 
-  no_user : (user : List ℕ) (state : RowState) → is_user_at mount user (named_state name state) ≡ false
+  pub no_user : (user : List ℕ) (state : RowState) → is_user_at mount user (named_state name state) ≡ false
   no_user user (Seated seat) = ap (λ b. b && has_user user seat.guest.pair) (only seat.mount)
   no_user user (Ended rule) = refl
 

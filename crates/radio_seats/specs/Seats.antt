@@ -1,5 +1,6 @@
 -- The listeners, each with his seat, or with the rule by which he has lost it.
 use Rattle.std.specs.Prelude.{◌≡◌, ℕ, Bool, true, false, ◌==◌, ◌&&◌, not, if◌then◌else◌, List, length, Option, Some, None, find, filter, map}
+use Rattle.std.specs.Option.{option_map, option_map_or}
 use Rattle.std.specs.declared.cmp.Ordering.{Ordering}
 use Rattle.std.specs.List.{list_any}
 use Rattle.std.specs.List.Sorted.{IsStrictlySortedBy}
@@ -12,6 +13,7 @@ use Rattle.radio_seats.specs.declared.seat.Seating.{Seating}
 use Rattle.radio_seats.specs.declared.seat.Seating.TheVariants.{Sits, Finished}
 use Rattle.radio_seats.specs.declared.seat.Listener.{Listener}
 use Rattle.radio_tables.specs.Lists.{update_first, placed}
+use Rattle.radio_tables.specs.Past.{is_past}
 
 abbrev pub is_listener : ℕ → Listener → Bool
 is_listener id listener = listener.id == id
@@ -145,3 +147,16 @@ is_user_at mount user (Finished rule) = false
 -- somebody sits at the mount who sent this user
 abbrev pub sits_there : List Listener → List ℕ → List ℕ → Bool
 sits_there seats mount user = list_any (λ listener. is_user_at mount user listener.seating) seats
+
+-- all but one, where one is left out
+abbrev pub others_of : List Listener → Option ℕ → List Listener
+others_of seats None = seats
+others_of seats (Some own) = without_listener seats own
+
+-- the listener sits at the mount
+abbrev pub sits_at : List Listener → ℕ → List ℕ → Bool
+sits_at seats id mount = option_map_or (λ seat. bytes_eq seat.mount mount) (seat_of seats id) false
+
+-- the least number past the last one, or of all where there is no last one
+abbrev pub next_number : List Listener → Option ℕ → Option ℕ
+next_number seats last = option_map (λ listener. listener.id) (find (λ listener. is_past nat_cmp last listener.id) seats)

@@ -7,10 +7,13 @@
 //!   and the count of those who sit there are kept once.
 //! - [`LentSeat`], [`ListenerStanding`]: what the table answers of a listener; a [`SeatTest`] asks
 //!   something of a place and a [`Guest`], and a [`GuestMoment`] is a moment of his.
+//! - [`Seats::next`], [`Seats::count_beside`], [`Seats::user_beside`]: what a move asks, which takes listeners
+//!   in the order of their numbers, and leaves his own seat out of account.
 //! - [`KeptName`]: a name apart from what holds it.
 //! - What is found after each change, for proofs: `proofs/SeatLaws.antt`, `proofs/EndLaws.antt` and `proofs/CountLaws.antt`.
 #![tactic(auto)]
 
+mod beside;
 mod changes;
 mod kept_name;
 mod mounts;

@@ -29,8 +29,8 @@ use std::marker::Model;
 /// them. A listener can be seated at a prepared mount, and moved to one without memory.
 #[derive(Drop)]
 pub struct Seats {
-    mounts: Mounts,
-    rows: Table<ListenerRow>,
+    pub(crate) mounts: Mounts,
+    pub(crate) rows: Table<ListenerRow>,
 }
 
 impl Model for Seats {

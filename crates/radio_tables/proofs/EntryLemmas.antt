@@ -1,12 +1,12 @@
 -- what a map's entries, each a row under a key equal to its own, say of the list of the rows
-use Rattle.std.proofs.Common.{◌≡◌, Bool, true, false, cond, Some, None, List, [], ◌∷◌, ◌++◌, refl, ap, sym, ◌∙◌, not}
-use Rattle.std.specs.Prelude.{find, filter, map}
+use Rattle.std.proofs.Common.{◌≡◌, Bool, true, false, cond, Option, Some, None, List, [], ◌∷◌, ◌++◌, refl, ap, sym, ◌∙◌, not}
+use Rattle.std.specs.Prelude.{◌&&◌, find, filter, map}
 use Rattle.std.specs.List.{AllByRecursion}
 use Rattle.std.specs.List.Sorted.{IsStrictlySortedBy}
 use Rattle.std.specs.Cmp.{IsTotalOrder}
 use Rattle.std.specs.declared.cmp.Ordering.{Ordering}
 use Rattle.std.specs.declared.cmp.Ordering.TheVariants.{Less, Equal, Greater}
-use Rattle.std.specs.Ordering.{is_eq, ordering_reverse}
+use Rattle.std.specs.Ordering.{is_eq, is_lt, ordering_reverse}
 use Rattle.std.specs.Map.{lookup, set_value, remove_entry, keys_of, values_of}
 use Rattle.std.specs.BTreeMap.{insert_entry, is_at}
 use Rattle.std.proofs.lemmas.Map.Keys.{sorted_head, sorted_tail}
@@ -164,3 +164,19 @@ module _ {K X : Type 0} (cmp : K → K → Ordering) (total : IsTotalOrder cmp) 
   unfolding IsStrictlySortedBy
   values-rising [] own sorted = tt
   values-rising (e ∷ es) own sorted = (rising_at (key e.1) e.0 es own.0 sorted.0 own.1, values-rising es own.1 sorted.1)
+
+  -- the first past a key
+  abbrev pub first_value : List (K × X) → Option X
+  first_value [] = None
+  first_value (e ∷ es) = Some e.1
+
+  past_at : (k : K) (e : K × X) (es : List (K × X)) (b : Bool) → is_lt (cmp k e.0) ≡ b → is_lt (cmp k (key e.1)) ≡ is_lt (cmp k e.0)
+      → find (λ x. is_lt (cmp k (key x))) (values_of es) ≡ first_value (filter (λ (f : K × X). is_lt (cmp k f.0) && true) es)
+      → find (λ x. is_lt (cmp k (key x))) (values_of (e ∷ es)) ≡ first_value (filter (λ (f : K × X). is_lt (cmp k f.0) && true) (e ∷ es))
+  past_at k e es true t one later = rw (one, t) refl
+  past_at k e es false t one later = rw (one, t) later
+
+  pub first_past : (k : K) (es : List (K × X)) → Own es
+      → find (λ x. is_lt (cmp k (key x))) (values_of es) ≡ first_value (filter (λ (f : K × X). is_lt (cmp k f.0) && true) es)
+  first_past k [] own = refl
+  first_past k (e ∷ es) own = past_at k e es (is_lt (cmp k e.0)) refl (ap is_lt (alike k (key e.1) e.0 own.0)) (first_past k es own.1)

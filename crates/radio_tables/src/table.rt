@@ -1,11 +1,13 @@
 //! The table.
 
-ghost use Rattle.std.specs.Prelude.{◌≡◌, [], ◌∷◌, ◌++◌, find, filter, not, map, length, OnOk, OnErr};
+ghost use Rattle.std.specs.Prelude.{◌≡◌, true, [], ◌∷◌, ◌++◌, find, filter, not, map, length, OnOk, OnErr};
 ghost use Rattle.std.specs.Option.{option_copied, option_map_or};
 ghost use Rattle.std.specs.List.Sorted.{IsStrictlySortedBy};
 ghost use Rattle.std.specs.Map.Iter.{ShowsInOrder, deref};
 ghost use Rattle.std.specs.declared.cmp.Ordering.TheVariants.{Less};
+ghost use Rattle.std.specs.Ordering.{is_lt};
 ghost use Rattle.radio_tables.specs.Lists.{update_first, placed, Each};
+ghost use Rattle.radio_tables.specs.Past.{is_past};
 ghost use Rattle.radio_tables.specs.Visits.{IsVisited};
 
 use crate::{Change, OutOfMemory, Row, Swap, TryChange, Visit};
@@ -13,6 +15,7 @@ use std::alloc::Global;
 use std::collections::BTreeMap;
 use std::collections::btree_map::Values;
 use std::marker::Model;
+use std::ops::Bound;
 
 /// Rows in rising order of their keys, each key once. Contracts see the list of the rows.
 #[derive(Drop)]
@@ -47,6 +50,39 @@ impl<R: Row> Table<R> {
         ensures { option_copied result ≡ find (R.has_key key.now) self.now }
     {
         self.rows.get(key)
+    }
+
+    /// The first row past this key, or the first of all where none is given. The time grows as the
+    /// logarithm of the number of rows.
+    pub fn after(&self, last: Option<R::Key>) -> Option<&R>
+        ensures next { option_copied result ≡ find (λ row. is_past R.Key.cmp last (R.key row)) self.now }
+        ensures rising { IsStrictlySortedBy R.Key.cmp (map R.key self.now) }
+    {
+        match last {
+            Some(key) => self.past(&key),
+            None => self.first(),
+        }
+    }
+
+    /// The first row past this key.
+    fn past(&self, key: &R::Key) -> Option<&R>
+        ensures next { option_copied result ≡ find (λ row. is_lt (R.Key.cmp key.now (R.key row))) self.now }
+        ensures rising { IsStrictlySortedBy R.Key.cmp (map R.key self.now) }
+    {
+        let mut rows = self.rows.range((Bound::Excluded(key), Bound::Unbounded));
+        match rows.next() {
+            Some((_, row)) => Some(row),
+            None => None,
+        }
+    }
+
+    /// The first row of all.
+    fn first(&self) -> Option<&R>
+        ensures next { option_copied result ≡ find (λ row. true) self.now }
+        ensures rising { IsStrictlySortedBy R.Key.cmp (map R.key self.now) }
+    {
+        let mut rows = self.iter();
+        rows.next()
     }
 
     /// Changes the row of this key, if there is one. It takes no memory.
