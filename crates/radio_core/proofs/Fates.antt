@@ -33,7 +33,7 @@ stopped found e = rw e refl
 pub stops_there : (w : World) (seat : Seat) → session_of w.house.live seat.mount ≡ None
     → walk_stops w.house w.seats seat.mount seat.pair ≡ Some NotLive
 stops_there w seat none =
-    stopped_where_it_begins (sight_of w.house) w.seats seat.mount seat.pair
+    stopped_where_it_begins (sight_of w.house) w.seats seat.mount seat.pair refl
     ∙ stopped (found_at (sight_of w.house) w.seats seat.mount seat.pair) (ap is_some none)
 
 -- there is something that can end for him

@@ -1,8 +1,8 @@
 -- what comes of an event is the same where only a queue is kept of each stream
-use Rattle.std.proofs.Common.{◌≡◌, Bool, ℕ, ◌+◌, ◌||◌, Option, Some, None, is_some, List, length, refl, ap, ◌∙◌, arith}
+use Rattle.std.proofs.Common.{◌≡◌, Bool, false, ℕ, ◌+◌, ◌||◌, Option, Some, None, is_some, List, length, refl, ap, ◌∙◌, arith}
 use Rattle.std.proofs.Math.Path.{fun_ext}
 use Rattle.std.specs.Prelude.{nat_lt, if◌then◌else◌}
-use Rattle.std.specs.Option.{option_map}
+use Rattle.std.specs.Option.{option_map, option_map_or}
 use Rattle.std.proofs.lemmas.List.{length-map}
 use Rattle.radio_policy.specs.declared.facts.SourceFacts.{SourceFacts}
 use Rattle.radio_policy.specs.declared.facts.ListenFacts.{ListenFacts}
@@ -27,7 +27,7 @@ use Rattle.radio_core.specs.declared.house.House.{House}
 use Rattle.radio_core.specs.declared.outcome.Change.TheVariants.{Nothing, Answer, TakeSeat, Advance}
 use Rattle.radio_events.specs.declared.reply.Reply.TheVariants.{Seated, Drawn}
 use Rattle.radio_core.specs.Draw.{hands_out, hands_out_at}
-use Rattle.radio_core.specs.Facts.{largest_number, is_full, is_in_settings, sight_of, source_facts, listen_facts}
+use Rattle.radio_core.specs.Facts.{largest_number, is_full, is_in_settings, sight_of, source_facts, listen_facts, live_number, live_end}
 use Rattle.radio_core.specs.Kept.{kept_session, kept_of}
 use Rattle.radio_core.specs.Listen.{burst_of, interval_for, first_seat, takes_seat}
 use Rattle.radio_core.specs.Outcomes.{says, on_verdict, if_undecided, if_feeding, if_sitting}
@@ -70,13 +70,33 @@ module _ (w : World) (rise : Each HasRisingStarts w.house.live) (kept : SeatsAre
       ∙ ap (facts (length w.house.live)) (has_session asked.mount)
 
   -- a listener asks
+  same_number : (mount : List ℕ) → live_number kept_house mount ≡ live_number w.house mount
+  same_number mount = ap number_in (kept_found queue w.house.live mount) ∙ by_found (session_of w.house.live mount) where
+    number_in : Option Session → ℕ
+    number_in found = option_map_or (λ (session : Session). session.number) found 0
+
+    by_found : (found : Option Session) → number_in (option_map (kept_session queue) found) ≡ number_in found
+    by_found None = refl
+    by_found (Some session) = refl
+
   same_sight : sight_of kept_house ≡ sight_of w.house
-  same_sight = ap (λ (is_live : List ℕ → Bool). record {
-    is_live = is_live;
-    limit = λ mount. (options_for w.house.settings mount).listeners.max_listeners;
-    lets_in = lets_in w.house.lists;
-    allows_duplicates = λ mount. (options_for w.house.settings mount).users.allow_duplicate_users;
-  }) (fun_ext has_session)
+  same_sight =
+      ap (λ (is_live : List ℕ → Bool). sight is_live (live_number kept_house) (live_end kept_house)) (fun_ext has_session)
+      ∙ ap (λ (number : List ℕ → ℕ). sight (is_live_in w.house) number (live_end kept_house)) (fun_ext same_number)
+      ∙ ap (sight (is_live_in w.house) (live_number w.house)) (fun_ext (λ mount. kept_ends queue w.house.live mount rise)) where
+        is_live_in : House → List ℕ → Bool
+        is_live_in house mount = is_some (session_of house.live mount)
+
+        sight : (List ℕ → Bool) → (List ℕ → ℕ) → (List ℕ → ℕ) → Sight
+        sight is_live number end = record {
+          is_live = is_live;
+          limit = λ mount. (options_for w.house.settings mount).listeners.max_listeners;
+          lets_in = lets_in w.house.lists;
+          allows_duplicates = λ mount. (options_for w.house.settings mount).users.allow_duplicate_users;
+          fallback = λ mount. None;
+          hands_on_when_full = λ mount. false;
+          stream_end = λ mount. record { session = number mount; place = end mount };
+        }
 
   hear_facts : (asked : ListenRequest) → listen_facts kept_house w.seats asked ≡ listen_facts w.house w.seats asked
   hear_facts asked =

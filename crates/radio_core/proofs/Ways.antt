@@ -183,7 +183,7 @@ pub rows_there : (w : World) (asked : ListenRequest)
 rows_there w asked =
     let here = facts_from (is_known w.house asked.mount) (found_by w asked) in
     ap (λ stop. listen_rows (if is_mount_name asked.mount then Some (here stop) else None))
-    (stopped_where_it_begins (sight_of w.house) w.seats asked.mount asked.pair)
+    (stopped_where_it_begins (sight_of w.house) w.seats asked.mount asked.pair refl)
 
 pub may_listen : (w : World) (asked : ListenRequest) → verdict_in (rows_to_listen w asked) ≡ Allow → IsWelcome (found_by w asked)
 may_listen w asked v =

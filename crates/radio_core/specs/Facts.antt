@@ -1,5 +1,5 @@
 -- What is looked up in the server for the policy.
-use Rattle.std.specs.Prelude.{ℕ, ◌+◌, ◌-◌, ◌^◌, ◌==◌, nat_lt, Bool, not, ◌||◌, if◌then◌else◌, List, length, Option, None, Some, is_some, find}
+use Rattle.std.specs.Prelude.{ℕ, ◌+◌, ◌-◌, ◌^◌, ◌==◌, nat_lt, Bool, false, not, ◌||◌, if◌then◌else◌, List, length, Option, None, Some, is_some, find}
 use Rattle.std.specs.Option.{option_map_or}
 use Rattle.std.specs.Str.{bytes_eq}
 use Rattle.radio_policy.specs.declared.rule.Rule.{Rule}
@@ -42,22 +42,29 @@ is_in_settings settings mount =
 abbrev pub is_known : House → List ℕ → Bool
 is_known house mount = is_in_settings house.settings mount || is_some (session_of house.live mount)
 
--- what a walk sees of the house
+-- how far the stream of the mount's session goes
+abbrev pub live_end : House → List ℕ → ℕ
+live_end house mount = option_map_or (λ session. end_of session.stream) (session_of house.live mount) 0
+
+-- the number of the mount's session
+abbrev pub live_number : House → List ℕ → ℕ
+live_number house mount = option_map_or (λ session. session.number) (session_of house.live mount) 0
+
+-- what a walk sees of the house, in which no mount has a fallback yet
 abbrev pub sight_of : House → Sight
 sight_of house = record {
   is_live = λ mount. is_some (session_of house.live mount);
   limit = λ mount. (options_for house.settings mount).listeners.max_listeners;
   lets_in = lets_in house.lists;
   allows_duplicates = λ mount. (options_for house.settings mount).users.allow_duplicate_users;
+  fallback = λ mount. None;
+  hands_on_when_full = λ mount. false;
+  stream_end = λ mount. record { session = live_number house mount; place = live_end house mount };
 }
 
 -- the rule that stops a walk from the mount, if one does
 abbrev pub walk_stops : House → List Listener → List ℕ → Option Credentials → Option Rule
 walk_stops house seats mount pair = stop_in (landing (sight_of house) seats pair mount)
-
--- how far the stream of the mount's session goes
-abbrev pub live_end : House → List ℕ → ℕ
-live_end house mount = option_map_or (λ session. end_of session.stream) (session_of house.live mount) 0
 
 -- what is looked up for each action; nothing is where the path names no mount
 abbrev pub arrive_facts : House → Peer → ArriveFacts

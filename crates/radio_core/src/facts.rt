@@ -8,9 +8,10 @@ ghost use Rattle.radio_core.specs.Facts.{arrive_facts, source_facts_at, listen_f
 use crate::house::House;
 use radio_access::{is_refused_type, is_source_pair};
 use radio_addr::Peer;
+use radio_blocks::Place;
 use radio_creds::Pair;
 use radio_events::SourceRequest;
-use radio_fallback::{View, Walk, walk_from};
+use radio_fallback::{StreamEnd, View, Walk, walk_from};
 use radio_policy::{ArriveFacts, ListenFacts, SourceFacts};
 use radio_seats::Seats;
 use radio_settings::{MountName, Settings};
@@ -86,6 +87,21 @@ impl View for House {
 
     fn allows_duplicates(&self, mount: &MountName) -> bool {
         self.settings.options(mount).users.allow_duplicate_users
+    }
+
+    fn fallback(&self, _mount: &MountName) -> Option<MountName> {
+        None
+    }
+
+    fn hands_on_when_full(&self, _mount: &MountName) -> bool {
+        false
+    }
+
+    fn stream_end(&self, mount: &MountName) -> StreamEnd {
+        StreamEnd {
+            session: self.live_number(mount),
+            place: Place::new(self.live_end(mount)),
+        }
     }
 }
 

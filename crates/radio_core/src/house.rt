@@ -3,7 +3,7 @@
 ghost use Rattle.std.specs.Prelude.{◌≡◌, find, unwrap_or, IfOk, OnOk, OnErr};
 ghost use Rattle.std.specs.Option.{option_copied};
 ghost use Rattle.radio_core.specs.Sessions.{session_of};
-ghost use Rattle.radio_core.specs.Facts.{live_end};
+ghost use Rattle.radio_core.specs.Facts.{live_end, live_number};
 ghost use Rattle.radio_core.specs.Source.{shown_for};
 ghost use Rattle.radio_core.specs.Changes.{now_in_state, admitted, begun, retitled, timed_out_by};
 ghost use Rattle.radio_core.specs.KeptChanges.{kept_received};
@@ -53,6 +53,16 @@ impl House {
     {
         match self.session(mount) {
             Some(session) => session.stream.end(),
+            None => 0,
+        }
+    }
+
+    /// The number of the mount's session.
+    pub(crate) fn live_number(&self, mount: &MountName) -> u64
+        ensures { result ≡ live_number self.now mount.now }
+    {
+        match self.session(mount) {
+            Some(session) => session.number,
             None => 0,
         }
     }

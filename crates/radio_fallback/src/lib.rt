@@ -5,7 +5,8 @@
 #![tactic(auto)]
 
 mod view;
+mod walker;
 mod walking;
 
-pub use view::View;
+pub use view::{StreamEnd, View};
 pub use walking::{Found, Landing, Walk, walk_from};

@@ -4,8 +4,18 @@ ghost use Rattle.std.specs.Prelude.{◌≡◌};
 ghost use Rattle.std.specs.Option.{option_copied};
 ghost use Rattle.radio_fallback.specs.Walk.{Sight};
 
+use radio_blocks::Place;
 use radio_creds::Pair;
 use radio_settings::MountName;
+
+/// The end of a live mount's stream.
+#[derive(Clone, Copy)]
+pub struct StreamEnd {
+    /// The number of the mount's session.
+    pub session: u64,
+    /// The place behind the last byte of its stream.
+    pub place: Place,
+}
 
 /// What a walk asks of the server.
 pub trait View {
@@ -27,4 +37,16 @@ pub trait View {
     /// Whether a user may sit at the mount more than once.
     fn allows_duplicates(&self, mount: &MountName) -> bool
         ensures { result ≡ (sight self.now).allows_duplicates mount.now };
+
+    /// The mount to which a walk goes on from this one; `None` where there is no such mount.
+    fn fallback(&self, mount: &MountName) -> Option<MountName>
+        ensures { result ≡ (sight self.now).fallback mount.now };
+
+    /// Whether the mount sends on to its fallback where it is full.
+    fn hands_on_when_full(&self, mount: &MountName) -> bool
+        ensures { result ≡ (sight self.now).hands_on_when_full mount.now };
+
+    /// Where the stream of the mount ends; nobody asks it of a mount that is not live.
+    fn stream_end(&self, mount: &MountName) -> StreamEnd
+        ensures { result ≡ (sight self.now).stream_end mount.now };
 }

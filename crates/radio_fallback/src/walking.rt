@@ -2,9 +2,10 @@
 
 ghost use Rattle.std.specs.Prelude.{◌≡◌};
 ghost use Rattle.std.specs.Option.{option_copied};
-ghost use Rattle.radio_fallback.specs.Walk.{is_full, sits_already, found_at, stop_of, stop_in, landing};
+ghost use Rattle.radio_fallback.specs.Walk.{found_at, stop_of, stop_in, landing};
 
 use crate::View;
+use crate::walker::{MOST_MOUNTS, Walker, landed};
 use radio_creds::Pair;
 use radio_policy::Rule;
 use radio_seats::Seats;
@@ -72,49 +73,23 @@ pub struct Walk {
     pub landing: Landing,
 }
 
-/// A walk from the mount, of one who sends this pair, or none: what it finds there, and where it
-/// ends. Mounts have no fallbacks yet, so it looks at that mount alone. The time grows as the
-/// number of listeners where a user may sit there once alone.
+/// A walk from the mount, of one who sends this pair, or none, and does not sit yet: what it finds
+/// there, and where it ends. From a mount that is not live it goes on to that mount's fallback, and
+/// so it does from a full one whose settings say so; it looks at ten mounts at the most. The time
+/// grows as the number of listeners where a user may sit at a mount once alone.
 pub fn walk_from<V: View>(view: &V, seats: &Seats, mount: &MountName, pair: Option<&Pair>) -> Walk
     ensures first { result.first ≡ found_at (V.sight view.now) seats.now.seats mount.now (option_copied pair.entry) }
     ensures landing { result.landing ≡ landing (V.sight view.now) seats.now.seats (option_copied pair.entry) mount.now }
 {
-    let first = found_at(view, seats, mount, pair);
-    let landing = match first.stop() {
-        Some(rule) => Landing::Stops(rule),
-        None => Landing::Lands(*mount),
+    let walker = Walker {
+        view,
+        seats,
+        own: None,
+    };
+    let first = walker.found_at(mount, pair);
+    let landing = match walker.next_mount(mount) {
+        Some(next) => walker.walk(MOST_MOUNTS - 1, next, pair),
+        None => landed(mount, first.stop()),
     };
     Walk { first, landing }
-}
-
-/// What one who sends this pair, or none, finds at the mount.
-fn found_at<V: View>(view: &V, seats: &Seats, mount: &MountName, pair: Option<&Pair>) -> Found
-    ensures { result ≡ found_at (V.sight view.now) seats.now.seats mount.now (option_copied pair.entry) }
-{
-    Found {
-        is_live: view.is_live(mount),
-        is_full: is_full(seats.count(mount), view.limit(mount)),
-        users_accept: view.lets_in(mount, pair),
-        user_is_twice: !view.allows_duplicates(mount) && has_user_of(seats, mount, pair),
-    }
-}
-
-/// Whether so many are as many as may sit there.
-fn is_full(count: u64, limit: Option<u32>) -> bool
-    ensures { result ≡ is_full count limit }
-{
-    match limit {
-        Some(most) => count >= u64::from(most),
-        None => false,
-    }
-}
-
-/// Whether the user that was sent sits at the mount. Without a pair nobody does.
-fn has_user_of(seats: &Seats, mount: &MountName, pair: Option<&Pair>) -> bool
-    ensures { result ≡ sits_already seats.now.seats mount.now (option_copied pair.entry) }
-{
-    match pair {
-        Some(pair) => seats.user_at(mount, pair.user()),
-        None => false,
-    }
 }
