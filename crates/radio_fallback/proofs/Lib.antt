@@ -1,1 +1,3 @@
 pub mod WalkLaws
+pub mod CarryLemmas
+pub mod TurnLemmas

@@ -17,6 +17,12 @@ pub one_step : (left : ℕ) (sight : Sight) (others : List Listener) (pair : Opt
 one_step zero sight others pair mount some = absurd (omega (arith, some))
 one_step (suc left) sight others pair mount some = let less : suc left - 1 ≡ left = omega arith in rw less refl
 
+-- ten mounts at the most
+pub walks_ten : (sight : Sight) (others : List Listener) (pair : Option Credentials) (mount : List ℕ)
+    → walk 10 sight others pair mount ≡ landing sight others pair mount
+unfolding landing
+walks_ten sight others pair mount = refl
+
 pub landing_is : (sight : Sight) (others : List Listener) (pair : Option Credentials) (mount : List ℕ)
     → landing sight others pair mount ≡ onward (walk 9 sight others pair) (landing_here sight others pair mount) (next_mount sight others mount)
 unfolding landing

@@ -1,5 +1,5 @@
 -- What a walk finds at a mount, and where it ends.
-use Rattle.std.specs.Prelude.{ℕ, zero, suc, Bool, false, not, ◌&&◌, ◌||◌, nat_lt, if◌then◌else◌, List, Option, Some, None}
+use Rattle.std.specs.Prelude.{◌≡◌, ℕ, zero, suc, Bool, true, false, not, ◌&&◌, ◌||◌, nat_lt, if◌then◌else◌, List, Option, Some, None}
 use Rattle.std.specs.Option.{option_map_or}
 use Rattle.radio_creds.specs.Credentials.{Credentials}
 use Rattle.radio_policy.specs.declared.rule.Rule.{Rule}
@@ -106,3 +106,9 @@ landing sight others pair mount = walk most_mounts sight others pair mount
 abbrev pub stop_in : Landing → Option Rule
 stop_in (Lands mount) = None
 stop_in (Stops rule) = Some rule
+
+-- he may sit at the mount: it is live, not full for him, and open to him
+pub record MaySit (sight : Sight) (others : List Listener) (pair : Option Credentials) (mount : List ℕ) : Type 0 where
+  pub is_live : sight.is_live mount ≡ true
+  pub has_room : is_full_for sight others mount ≡ false
+  pub is_open : is_open_to sight others pair mount ≡ true

@@ -16,13 +16,13 @@ pub(crate) const MOST_MOUNTS: u8 = 10;
 
 /// One who walks: what he sees, those who sit, and his own number if he is among them.
 #[derive(Clone, Copy)]
-pub(crate) struct Walker<'a, V: View> {
-    pub(crate) view: &'a V,
-    pub(crate) seats: &'a Seats,
+pub(crate) struct Walker<'v, 's, V: View> {
+    pub(crate) view: &'v V,
+    pub(crate) seats: &'s Seats,
     pub(crate) own: Option<u64>,
 }
 
-impl<V: View> Walker<'_, V> {
+impl<V: View> Walker<'_, '_, V> {
     /// What he finds at the mount if he sends this pair, or none.
     pub(crate) fn found_at(&self, mount: &MountName, pair: Option<&Pair>) -> Found
         ensures { result ≡ found_at (V.sight self.now.view.now) (others_of self.now.seats.now.seats self.now.own) mount.now (option_copied pair.entry) }

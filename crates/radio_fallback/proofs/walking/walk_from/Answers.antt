@@ -12,10 +12,10 @@ returns-clause-landing g c =
     let pair = option_copied c.args.pair in
     let whole = landing_is sight seats pair c.args.mount.now in
     elim c.match-next_mount.branch [
-      in-Some w ↦
+      | in-Some w ↦
           w.landing-is ∙ w.walk-landing.ensures
           ∙ sym (whole ∙ ap (onward (walk 9 sight seats pair) (landing_here sight seats pair c.args.mount.now)) (sym c.next_mount.ensures ∙ w.in-Some.is))
-    | in-None w ↦
+      | in-None w ↦
           w.landing-is ∙ w.landed-landing.ensures ∙ ap (landing_at c.args.mount.now) (w.stop.ensures ∙ ap stop_of c.found_at-first.ensures)
           ∙ sym (whole ∙ ap (onward (walk 9 sight seats pair) (landing_here sight seats pair c.args.mount.now)) (sym c.next_mount.ensures ∙ w.in-None.is))
     ]
