@@ -1,3 +1,4 @@
 pub mod WalkLaws
 pub mod CarryLemmas
 pub mod TurnLemmas
+pub mod FaresLemmas

@@ -3,15 +3,20 @@
 //! - [`View`]: what a walk asks of the server; [`walk_from`] goes over it, and over the table of those who sit.
 //! - [`Walk`]: what it [`Found`] at the mount from which it began, and its [`Landing`].
 //! - [`carry`]: a [`Move`] carries listeners along, and answers how many ([`Carried`]).
+//! - Laws of a carry, which run no code: `laws`.
 #![tactic(auto)]
 
 mod carrying;
+mod laws;
 mod moves;
 mod view;
 mod walker;
 mod walking;
 
 pub use carrying::carry;
+pub use laws::{
+    a_carry_asks_the_users, a_carry_keeps_limits, a_carry_keeps_numbers, a_carry_seats_users_once,
+};
 pub use moves::{Carried, Move};
 pub use view::{StreamEnd, View};
 pub use walking::{Found, Landing, Walk, walk_from};

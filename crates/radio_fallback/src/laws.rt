@@ -1,0 +1,34 @@
+//! Laws of a carry: functions that do nothing, each with a law for its contract.
+
+ghost use Rattle.std.specs.Prelude.{◌≡◌, ℕ, List, Some};
+ghost use Rattle.radio_seats.specs.declared.seat.Seat.{Seat};
+ghost use Rattle.radio_seats.specs.declared.seat.Listener.{Listener};
+ghost use Rattle.radio_seats.specs.Seats.{seat_of, AreByNumber};
+ghost use Rattle.radio_fallback.specs.declared.moves.Move.{Move};
+ghost use Rattle.radio_fallback.specs.Walk.{Sight};
+ghost use Rattle.radio_fallback.specs.Carry.{carried, numbers_of};
+ghost use Rattle.radio_fallback.specs.Fares.{IsWithinLimit, SitOnce, HadASeat};
+
+/// Whatever carries listeners along, the table has the same listeners after it.
+pub fn a_carry_keeps_numbers()
+    ensures { (sight : Sight) (move : Move) (seats : List Listener) → numbers_of (carried sight move seats).seats ≡ numbers_of seats }
+{}
+
+/// Whoever has a seat after a carry has the one that he had, or he was carried from it to the end of
+/// a live mount's stream, and that mount lets him in.
+pub fn a_carry_asks_the_users()
+    ensures { (sight : Sight) (move : Move) (seats : List Listener) (id : ℕ) (seat : Seat)
+        → seat_of (carried sight move seats).seats id ≡ Some seat → HadASeat sight seats id seat }
+{}
+
+/// A mount that had no more listeners than may sit there has no more after a carry.
+pub fn a_carry_keeps_limits()
+    ensures { (sight : Sight) (move : Move) (seats : List Listener) (mount : List ℕ) → AreByNumber seats
+        → IsWithinLimit sight seats mount → IsWithinLimit sight (carried sight move seats).seats mount }
+{}
+
+/// Where each user may sit at a mount once, and nobody sat there twice, nobody does after a carry.
+pub fn a_carry_seats_users_once()
+    ensures { (sight : Sight) (move : Move) (seats : List Listener) (mount : List ℕ)
+        → SitOnce sight seats mount → SitOnce sight (carried sight move seats).seats mount }
+{}
