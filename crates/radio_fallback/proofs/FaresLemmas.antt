@@ -59,12 +59,12 @@ changed_at : (p : Listener → Bool) (f : Listener → Listener) (x : Listener) 
 changed_at p f x xs true e same later = find_here p (f x) xs (same ∙ e) ∙ sym (ap (option_map f) (find_here p x xs e))
 changed_at p f x xs false e same later = find_later p x (update_first p f xs) e ∙ later ∙ sym (ap (option_map f) (find_later p x xs e))
 
-found_changed : (p : Listener → Bool) (f : Listener → Listener) → ((x : Listener) → p (f x) ≡ p x) → (xs : List Listener)
+pub found_changed : (p : Listener → Bool) (f : Listener → Listener) → ((x : Listener) → p (f x) ≡ p x) → (xs : List Listener)
     → find p (update_first p f xs) ≡ option_map f (find p xs)
 found_changed p f same [] = refl
 found_changed p f same (x ∷ xs) = changed_at p f x xs (p x) refl (same x) (found_changed p f same xs)
 
-beside : (f : Listener → Listener) → ((x : Listener) → (f x).id ≡ x.id) → (seats : List Listener) (him id : ℕ) → (him == id) ≡ false
+pub beside : (f : Listener → Listener) → ((x : Listener) → (f x).id ≡ x.id) → (seats : List Listener) (him id : ℕ) → (him == id) ≡ false
     → listener_of (update_first (is_listener him) f seats) id ≡ listener_of seats id
 beside f same seats him id other =
     find_apart (is_listener id) (is_listener him) f

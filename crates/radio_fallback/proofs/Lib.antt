@@ -2,3 +2,4 @@ pub mod WalkLaws
 pub mod CarryLemmas
 pub mod TurnLemmas
 pub mod FaresLemmas
+pub mod HisTurn

@@ -2,7 +2,9 @@
 use Rattle.std.specs.Prelude.{◌≡◌, ◌⊎◌, ℕ, ◌≤◌, false, true, List, Option, Some}
 use Rattle.radio_seats.specs.declared.seat.Seat.{Seat}
 use Rattle.radio_seats.specs.declared.seat.Listener.{Listener}
-use Rattle.radio_seats.specs.Seats.{seat_of, count_at, SitsAs}
+use Rattle.radio_seats.specs.Seats.{seat_of, count_at, moved, loses, SitsAs}
+use Rattle.radio_fallback.specs.declared.moves.Turn.{Turn}
+use Rattle.radio_fallback.specs.declared.moves.Turn.TheVariants.{Stays, GoesTo, IsOut}
 use Rattle.radio_fallback.specs.Walk.{Sight}
 
 -- no more sit at the mount than may
@@ -27,3 +29,9 @@ pub record IsCarriedTo (sight : Sight) (old seat : Seat) (mount : List ℕ) : Ty
 -- who has this seat had one before: this one, or one from which he was carried here
 abbrev pub HadASeat : Sight → List Listener → ℕ → Seat → Type 0
 HadASeat sight seats id seat = (old : Seat) × (seat_of seats id ≡ Some old) × ((seat ≡ old) ⊎ ((mount : List ℕ) × IsCarriedTo sight old seat mount))
+
+-- how a listener fares by his turn
+abbrev pub fared : Sight → Turn → Listener → Listener
+fared sight Stays listener = listener
+fared sight (GoesTo mount) listener = moved mount (sight.stream_end mount).session (sight.stream_end mount).place listener
+fared sight (IsOut rule) listener = loses rule listener

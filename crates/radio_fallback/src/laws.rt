@@ -3,11 +3,11 @@
 ghost use Rattle.std.specs.Prelude.{◌≡◌, ℕ, List, Some};
 ghost use Rattle.radio_seats.specs.declared.seat.Seat.{Seat};
 ghost use Rattle.radio_seats.specs.declared.seat.Listener.{Listener};
-ghost use Rattle.radio_seats.specs.Seats.{seat_of, AreByNumber};
+ghost use Rattle.radio_seats.specs.Seats.{listener_of, seat_of, AreByNumber};
 ghost use Rattle.radio_fallback.specs.declared.moves.Move.{Move};
 ghost use Rattle.radio_fallback.specs.Walk.{Sight};
-ghost use Rattle.radio_fallback.specs.Carry.{carried, numbers_of};
-ghost use Rattle.radio_fallback.specs.Fares.{IsWithinLimit, SitOnce, HadASeat};
+ghost use Rattle.radio_fallback.specs.Carry.{carried, numbers_of, turn_of, at_his_turn};
+ghost use Rattle.radio_fallback.specs.Fares.{IsWithinLimit, SitOnce, HadASeat, fared};
 
 /// Whatever carries listeners along, the table has the same listeners after it.
 pub fn a_carry_keeps_numbers()
@@ -31,4 +31,12 @@ pub fn a_carry_keeps_limits()
 pub fn a_carry_seats_users_once()
     ensures { (sight : Sight) (move : Move) (seats : List Listener) (mount : List ℕ)
         → SitOnce sight seats mount → SitOnce sight (carried sight move seats).seats mount }
+{}
+
+/// What becomes of each listener is what his turn has in store for him, by what stands then: those of
+/// lower numbers have had their turns, and nobody else has.
+pub fn each_fares_by_his_turn()
+    ensures { (sight : Sight) (move : Move) (seats : List Listener) (id : ℕ) (listener : Listener) → AreByNumber seats
+        → listener_of seats id ≡ Some listener
+        → listener_of (carried sight move seats).seats id ≡ Some (fared sight (turn_of sight move (at_his_turn sight move seats id) id) listener) }
 {}

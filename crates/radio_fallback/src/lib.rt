@@ -16,6 +16,7 @@ mod walking;
 pub use carrying::carry;
 pub use laws::{
     a_carry_asks_the_users, a_carry_keeps_limits, a_carry_keeps_numbers, a_carry_seats_users_once,
+    each_fares_by_his_turn,
 };
 pub use moves::{Carried, Move};
 pub use view::{StreamEnd, View};

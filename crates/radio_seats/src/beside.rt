@@ -2,6 +2,7 @@
 
 ghost use Rattle.std.specs.Prelude.{◌≡◌, ◌&&◌, not, length};
 ghost use Rattle.std.specs.List.{list_any};
+ghost use Rattle.radio_seats.specs.Board.{is_prepared};
 ghost use Rattle.radio_seats.specs.Seats.{others_of, without_listener, count_at, sits_there, sits_at, next_number, AreByNumber};
 ghost use Rattle.radio_seats.specs.Rows.{is_row, user_state};
 
@@ -16,6 +17,13 @@ impl Seats {
         ensures { result ≡ length self.now.seats }
     {
         self.rows.len()
+    }
+
+    /// Whether the mount was prepared.
+    pub fn is_prepared(&self, mount: &MountName) -> bool
+        ensures { result ≡ is_prepared self.now.prepared mount.now }
+    {
+        self.mounts.number(mount).is_some()
     }
 
     /// The least number of a listener past the last one, or of all where no last one is given. The
