@@ -1,6 +1,7 @@
 use Rattle.std.proofs.Common.{inl, refl, sym, ◌∙◌, ap}
 use Rattle.radio_hall.specs.Connections.{Connection}
-use Rattle.radio_hall.proofs.Deeds.{leaves_nothing, leaves_not, leaves_as, leaves_so, open_from}
+use Rattle.radio_hall.proofs.Deeds.{open_from}
+use Rattle.radio_hall.proofs.DeedChains.{leaves_nothing, leaves_not, leaves_as, leaves_so}
 use Rattle.radio_hall.proofs.serving.leaving.leave.Goals as goal
 
 pub returns-then-is_open : goal.returns-then-is_open
