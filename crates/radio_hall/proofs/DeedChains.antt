@@ -1,5 +1,5 @@
 -- Entries of a server made for a connection, each on the one before.
-use Rattle.std.proofs.Common.{◌≡◌, ◌⊎◌, inl, inr, ◌<◌, ◌≤◌, ◌==◌, nat_le, length, arith, ℕ, Bool, true, false, List, take, drop, ap}
+use Rattle.std.proofs.Common.{◌≡◌, ◌⊎◌, inl, inr, ◌<◌, ◌≤◌, ◌==◌, nat_le, ◌-◌, length, arith, ℕ, Bool, true, false, List, take, drop, ap}
 use Rattle.std.proofs.Common.{[], ◌∷◌, ◌++◌, refl, sym, subst, ◌∙◌, append_assoc, append-nil}
 use Rattle.std.proofs.lemmas.Bool.{false≢true}
 use Rattle.std.proofs.lemmas.Bool.Decides.{nat_tests}
@@ -18,7 +18,7 @@ use Rattle.radio_hall.specs.Connections.{Connection, is_open}
 use Rattle.radio_hall.specs.declared.conn.Fate.{Fate}
 use Rattle.radio_hall.specs.declared.conn.Fate.TheVariants.{Open, Ended, Closed, Cut}
 use Rattle.radio_hall.specs.Course.{IsOver}
-use Rattle.radio_hall.specs.Duties.{IsWritten, IsLater, IsUnread, IsReadOnce, IsAskedOnce, IsAtMostLeaving, HasStalled, LacksMemory, Cause, WasCut, HasFailed, TookNothing, WasRefused}
+use Rattle.radio_hall.specs.Duties.{IsWritten, IsLater, IsUnread, IsReadOnce, IsAskedOnce, IsAtMostLeaving, HasTakenAll, HasStalled, LacksMemory, Cause, WasCut, HasFailed, TookNothing, WasRefused}
 use Rattle.radio_hall.specs.Duties.{HasEnded, HasLeft}
 use Rattle.radio_hall.specs.Turns.{StandsBefore, Stands, Chain, IsServed, EndsWithDraw, ServesInTurn}
 use Rattle.radio_hall.specs.Answering.{later_by, IsSpared, IsAnswered, AreAnswered, IsHeardOn}
@@ -26,7 +26,14 @@ use Rattle.radio_hall.specs.Leaving.{IsFlushed, IsPatient, IsSparedBefore, Liste
 use Rattle.radio_hall.specs.Connections.{Refused, one_refusal}
 use Rattle.radio_hall.proofs.Calling.{later_same, later_none, later_then, later_by_refusal, lacks_on, ended_on, unread_same, unread_then, once_between, once_at_most}
 use Rattle.radio_hall.proofs.Standing.{IsOne, still, cut_off, closed_out, heard_on, passed_over, taken_on, room_on, left_on}
-use Rattle.radio_hall.proofs.Deeds.{IsSame, ended_not_cut, closed_not_cut, over_from, not_over, served_then, served_by_none, served_by_note}
+use Rattle.radio_hall.proofs.Deeds.{IsSame, none_behind, ended_not_cut, closed_not_cut, over_from, not_over, served_then, served_by_none, served_by_note}
+
+-- what is the same with two lists behind it has nothing of the first
+none_of_all : (xs ys zs : List ℕ) → (xs ++ ys) ++ zs ≡ xs → ys ≡ []
+none_of_all xs ys zs e = first_none ys (none_behind xs (ys ++ zs) (sym (append_assoc xs ys zs) ∙ e)) where
+  first_none : (ws : List ℕ) → ws ++ zs ≡ [] → ws ≡ []
+  first_none [] e = refl
+  first_none (w ∷ ws) e = absurd (cc)
 
 module _ {S : Type 0} (steps : Steps S) where
   pub chain_then : (from mid to : S) (xs ys : List Entry) → Chain steps from xs mid → Chain steps mid ys to → Chain steps from (xs ++ ys) to
@@ -39,8 +46,9 @@ module _ {S : Type 0} (steps : Steps S) where
   -- its client leaves
   pub leaves_so : (from to : S) (c c' : Connection) → ((reply : Reply) × steps from (Leave c.id) reply to) → is_open c.status.fate ≡ false
       → c.status.has_left ≡ false → IsSame c c' → c'.calls ≡ c.calls → c'.refused ≡ c.refused
-      → c'.status.fate ≡ c.status.fate → c'.status.sits ≡ c.status.sits → c'.status.has_left ≡ true → Leaves steps from c to c'
-  leaves_so from to c c' r over here same calls refused fate sits left = record {
+      → c'.status.fate ≡ c.status.fate → c'.status.sits ≡ c.status.sits → c'.status.has_left ≡ true → c'.status.moved_ms ≡ c.status.moved_ms
+      → Leaves steps from c to c'
+  leaves_so from to c c' r over here same calls refused fate sits left moved = record {
     entries = entry (Leave c.id) r.0 ∷ [];
     chain = chain_one from to (entry (Leave c.id) r.0) r.1;
     served = record {
@@ -54,6 +62,7 @@ module _ {S : Type 0} (steps : Steps S) where
     sits = sits;
     unread = unread_same calls;
     session = same.session;
+    moved = moved;
     left = λ ended. inl left;
   }
 
@@ -69,13 +78,14 @@ module _ {S : Type 0} (steps : Steps S) where
     sits = refl;
     unread = unread_same refl;
     session = refl;
+    moved = refl;
     left = left;
   }
 
   -- or it is refused
   pub leaves_not : {from to : S} {c c' : Connection} → to ≡ from → IsOne c c' → IsSame c c' → c'.calls ≡ c.calls
-      → c'.refused ≡ one_refusal (Leave c.id) c.refused → c'.status.fate ≡ c.status.fate → Leaves steps from c to c'
-  leaves_not {from} {to} {c} {c'} e one same calls refused fate = record {
+      → c'.refused ≡ one_refusal (Leave c.id) c.refused → c'.status.fate ≡ c.status.fate → c'.status.moved_ms ≡ c.status.moved_ms → Leaves steps from c to c'
+  leaves_not {from} {to} {c} {c'} e one same calls refused fate moved = record {
     entries = [];
     chain = e;
     served = served_by_note c c' one (later_by_refusal (Leave c.id) calls same.taken refused) same fate;
@@ -85,6 +95,7 @@ module _ {S : Type 0} (steps : Steps S) where
     sits = one.sits;
     unread = unread_same calls;
     session = same.session;
+    moved = moved;
     left = λ ended. inr (omega (arith, ap (λ (x : Refused). x.leavings) refused));
   }
 
@@ -212,7 +223,9 @@ module _ {S : Type 0} (steps : Steps S) where
     given =
         λ goes some. omega
         (arith, first.given goes some, works.served.later.writes, left.served.later.writes, last.served.later.writes, over.served.later.writes);
-    waited = inl (rest.taken.0, rest.taken.1 ∙ ap (λ (xs : List ℕ). xs ++ rest.taken.0) (first.all none));
+    waited = inl all;
+    in_time = λ written. inl all;
+    unmoved = λ owed same. absurd (owed (none_of_all a.taken a.owed all.0 (sym all.1 ∙ same)));
     cut = cause_of first none works left.served.later left.fate left.session last over.served.later over.fate over.session;
     closed = λ closed.
         let at_e = sym over.fate ∙ closed in
@@ -237,6 +250,9 @@ module _ {S : Type 0} (steps : Steps S) where
     rest : IsLater b f
     rest = later_then b c f works.served.later (later_then c d f left.served.later (later_then d e f last.served.later over.served.later))
 
+    all : HasTakenAll a f
+    all = (rest.taken.0, rest.taken.1 ∙ ap (λ (xs : List ℕ). xs ++ rest.taken.0) (first.all none))
+
   -- a connection is written to, and still owed something
   pub kept_in_turn : {news : Bool} {from to : S} {ms patience : ℕ} {a b m c : Connection} → IsFlushed ms a b → (b.owed ≡ [] → ⊥) → IsPatient ms patience b m
       → Leaves steps from m to c → ServesInTurn steps ms patience news from a to c
@@ -254,6 +270,8 @@ module _ {S : Type 0} (steps : Steps S) where
           subst (λ (id : ℕ). IsAtMostLeaving id left.entries) (rests.served.same ∙ first.served.same) left.leaving,
         );
     cut = λ cut. by_wait (rests.cut (sym left.fate ∙ cut));
+    in_time = λ written. inr (subst (λ (n : ℕ). ms - n < patience) (sym (left.moved ∙ rests.moved)) (rests.in_time (subst IsWritten left.fate written)));
+    unmoved = λ owed same. left.moved ∙ rests.moved ∙ first.unmoved owed (first.served.later.taken.1 ∙ nothing same);
     closed = λ closed.
         let at_b = rests.closed (sym left.fate ∙ closed) in
         inl (sym (first.fate (λ cut. closed_not_cut (sym at_b ∙ cut))) ∙ at_b);
@@ -265,6 +283,15 @@ module _ {S : Type 0} (steps : Steps S) where
     by_leave : (c.status.has_left ≡ true) ⊎ (m.refused.leavings < c.refused.leavings) → (c.status.has_left ≡ true) ⊎ (a.refused.leavings < c.refused.leavings)
     by_leave (inl left) = inl left
     by_leave (inr more) = inr (omega (arith, first.served.later.leavings, rests.served.later.leavings, more))
+
+    later : IsLater b c
+    later = later_then b m c rests.served.later left.served.later
+
+    nothing : c.taken ≡ a.taken → a.taken ++ first.served.later.taken.0 ≡ a.taken
+    nothing same =
+        ap (λ (xs : List ℕ). a.taken ++ xs) (none_of_all a.taken first.served.later.taken.0 later.taken.0 (sym (later.taken.1
+        ∙ ap (λ (xs : List ℕ). xs ++ later.taken.0) first.served.later.taken.1) ∙ same))
+        ∙ append-nil a.taken
 
     by_moment : (b.status.moved_ms ≡ a.status.moved_ms) ⊎ (b.status.moved_ms ≡ ms) → HasStalled ms patience b → HasStalled ms patience a
     by_moment (inl same) stalled = omega (arith, same, stalled)

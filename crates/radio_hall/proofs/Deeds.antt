@@ -1,6 +1,6 @@
 -- Entries made for a connection, one after another.
-use Rattle.std.proofs.Common.{◌≡◌, ◌⊎◌, inl, inr, ◌<◌, ◌≤◌, ◌==◌, nat_le, length, arith, ℕ, Bool, true, false, List, take, drop, ap}
-use Rattle.std.proofs.Common.{[], ◌∷◌, ◌++◌, refl, sym, subst, ◌∙◌, append_assoc, append-nil}
+use Rattle.std.proofs.Common.{◌≡◌, ◌⊎◌, inl, inr, ◌<◌, ◌≤◌, ◌==◌, nat_le, length, arith, ℕ, zero, suc, Bool, true, false, List, take, drop, ap}
+use Rattle.std.proofs.Common.{[], ◌∷◌, ◌++◌, refl, sym, subst, ◌∙◌, append_assoc, append-nil, lt_irrefl}
 use Rattle.std.proofs.lemmas.Bool.{false≢true}
 use Rattle.std.proofs.lemmas.Bool.Decides.{nat_tests}
 use Rattle.std.proofs.lemmas.List.{take-append-drop}
@@ -94,6 +94,20 @@ empty_is (x ∷ xs) e = grind (arith, nat_tests, e)
 
 pub le_by : (a b : ℕ) → nat_le a b ≡ true → a ≤ b
 le_by a b e = grind (arith, nat_tests, e)
+
+pub lt_by : (a b : ℕ) → nat_le a b ≡ false → b < a
+lt_by a b e = grind (arith, nat_tests, e)
+
+-- what is the same with these behind it has none behind it
+pub none_behind : (xs ys : List ℕ) → xs ++ ys ≡ xs → ys ≡ []
+none_behind [] ys e = e
+none_behind (x ∷ xs) ys e = none_behind xs ys (ap (λ (zs : List ℕ). drop 1 zs) e)
+
+-- some of some are some
+pub takes_some : (n : ℕ) (xs : List ℕ) → 0 < n → 0 < length xs → take n xs ≡ [] → ⊥
+takes_some zero xs some more e = lt_irrefl 0 some
+takes_some (suc n) [] some more e = lt_irrefl 0 more
+takes_some (suc n) (x ∷ xs) some more e = cc
 
 pub served_then : (a b c : Connection) (xs ys : List Entry) → IsServed a xs b → IsServed b ys c → IsServed a (xs ++ ys) c
 served_then a b c xs ys f g = record {
