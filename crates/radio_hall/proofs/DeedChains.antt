@@ -1,31 +1,21 @@
 -- Entries of a server made for a connection, each on the one before.
-use Rattle.std.proofs.Common.{◌≡◌, ◌⊎◌, inl, inr, ◌<◌, ◌≤◌, ◌==◌, nat_le, ◌-◌, length, arith, ℕ, Bool, true, false, List, take, drop, ap}
+use Rattle.std.proofs.Common.{◌≡◌, ◌⊎◌, inl, inr, ◌<◌, ◌≤◌, ◌-◌, arith, ℕ, Bool, true, false, List, ap}
 use Rattle.std.proofs.Common.{[], ◌∷◌, ◌++◌, refl, sym, subst, ◌∙◌, append_assoc, append-nil}
-use Rattle.std.proofs.lemmas.Bool.{false≢true}
-use Rattle.std.proofs.lemmas.Bool.Decides.{nat_tests}
-use Rattle.std.proofs.lemmas.List.{take-append-drop}
-use Rattle.radio_events.specs.declared.event.Event.{Event}
-use Rattle.radio_events.specs.declared.event.Event.TheVariants.{Draw, Leave}
+use Rattle.radio_events.specs.declared.event.Event.TheVariants.{Leave}
 use Rattle.radio_events.specs.declared.reply.Reply.{Reply}
 use Rattle.radio_book.specs.declared.entry.Entry.{Entry}
 use Rattle.radio_book.specs.History.{entry}
-use Rattle.radio_session.specs.Hearing.{Heard, IsHeard}
 use Rattle.radio_session.specs.Exchanges.{Steps}
-use Rattle.radio_hall.specs.declared.line.Received.{Received}
-use Rattle.radio_hall.specs.declared.line.Received.TheVariants.{Bytes, Nothing, Closed as HasClosed, Fault}
-use Rattle.radio_hall.specs.Lines.{HasGiven}
 use Rattle.radio_hall.specs.Connections.{Connection, is_open}
-use Rattle.radio_hall.specs.declared.conn.Fate.{Fate}
 use Rattle.radio_hall.specs.declared.conn.Fate.TheVariants.{Open, Ended, Closed, Cut}
-use Rattle.radio_hall.specs.Course.{IsOver}
 use Rattle.radio_hall.specs.Duties.{IsWritten, IsLater, IsUnread, IsReadOnce, IsAskedOnce, IsAtMostLeaving, HasTakenAll, HasStalled, LacksMemory, Cause, WasCut, HasFailed, TookNothing, WasRefused}
 use Rattle.radio_hall.specs.Duties.{HasEnded, HasLeft}
-use Rattle.radio_hall.specs.Turns.{StandsBefore, Stands, Chain, IsServed, EndsWithDraw, ServesInTurn}
-use Rattle.radio_hall.specs.Answering.{later_by, IsSpared, IsAnswered, AreAnswered, IsHeardOn}
+use Rattle.radio_hall.specs.Turns.{Chain, IsServed, EndsWithDraw, ServesInTurn}
+use Rattle.radio_hall.specs.Answering.{IsHeardOn}
 use Rattle.radio_hall.specs.Leaving.{IsFlushed, IsPatient, IsSparedBefore, Listens, Works, Leaves, Draws}
 use Rattle.radio_hall.specs.Connections.{Refused, one_refusal}
 use Rattle.radio_hall.proofs.Calling.{later_same, later_none, later_then, later_by_refusal, lacks_on, ended_on, unread_same, unread_then, once_between, once_at_most}
-use Rattle.radio_hall.proofs.Standing.{IsOne, still, cut_off, closed_out, heard_on, passed_over, taken_on, room_on, left_on}
+use Rattle.radio_hall.proofs.Standing.{IsOne, left_on}
 use Rattle.radio_hall.proofs.Deeds.{IsSame, none_behind, ended_not_cut, closed_not_cut, over_from, not_over, served_then, served_by_none, served_by_note}
 
 -- what is the same with two lists behind it has nothing of the first

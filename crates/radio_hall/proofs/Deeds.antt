@@ -1,16 +1,13 @@
 -- Entries made for a connection, one after another.
-use Rattle.std.proofs.Common.{◌≡◌, ◌⊎◌, inl, inr, ◌<◌, ◌≤◌, ◌==◌, nat_le, length, arith, ℕ, zero, suc, Bool, true, false, List, take, drop, ap}
+use Rattle.std.proofs.Common.{◌≡◌, ◌<◌, ◌≤◌, ◌==◌, nat_le, length, arith, ℕ, zero, suc, true, false, List, take, drop, ap}
 use Rattle.std.proofs.Common.{[], ◌∷◌, ◌++◌, refl, sym, subst, ◌∙◌, append_assoc, append-nil, lt_irrefl}
 use Rattle.std.proofs.lemmas.Bool.{false≢true}
 use Rattle.std.proofs.lemmas.Bool.Decides.{nat_tests}
 use Rattle.std.proofs.lemmas.List.{take-append-drop}
 use Rattle.radio_events.specs.declared.event.Event.{Event}
-use Rattle.radio_events.specs.declared.event.Event.TheVariants.{Draw, Leave}
-use Rattle.radio_events.specs.declared.reply.Reply.{Reply}
+use Rattle.radio_events.specs.declared.event.Event.TheVariants.{Draw}
 use Rattle.radio_book.specs.declared.entry.Entry.{Entry}
-use Rattle.radio_book.specs.History.{entry}
 use Rattle.radio_session.specs.Hearing.{Heard, IsHeard}
-use Rattle.radio_session.specs.Exchanges.{Steps}
 use Rattle.radio_hall.specs.declared.line.Received.{Received}
 use Rattle.radio_hall.specs.declared.line.Received.TheVariants.{Bytes, Nothing, Closed as HasClosed, Fault}
 use Rattle.radio_hall.specs.Lines.{HasGiven}
@@ -18,14 +15,12 @@ use Rattle.radio_hall.specs.Connections.{Connection, is_open}
 use Rattle.radio_hall.specs.declared.conn.Fate.{Fate}
 use Rattle.radio_hall.specs.declared.conn.Fate.TheVariants.{Open, Ended, Closed, Cut}
 use Rattle.radio_hall.specs.Course.{IsOver}
-use Rattle.radio_hall.specs.Duties.{IsWritten, IsLater, IsUnread, IsReadOnce, IsAskedOnce, IsAtMostLeaving, HasStalled, LacksMemory, Cause, WasCut, HasFailed, TookNothing, WasRefused}
-use Rattle.radio_hall.specs.Duties.{HasEnded, HasLeft}
-use Rattle.radio_hall.specs.Turns.{StandsBefore, Stands, Chain, IsServed, EndsWithDraw, ServesInTurn}
+use Rattle.radio_hall.specs.Duties.{IsWritten, IsLater}
+use Rattle.radio_hall.specs.Turns.{StandsBefore, Stands, IsServed}
 use Rattle.radio_hall.specs.Answering.{later_by, IsSpared, IsAnswered, AreAnswered, IsHeardOn}
-use Rattle.radio_hall.specs.Leaving.{IsFlushed, IsPatient, IsSparedBefore, Listens, Works, Leaves, Draws}
-use Rattle.radio_hall.specs.Connections.{Refused, one_refusal}
-use Rattle.radio_hall.proofs.Calling.{later_same, later_none, later_then, later_by_refusal, lacks_on, ended_on, unread_same, unread_then, once_between, once_at_most}
-use Rattle.radio_hall.proofs.Standing.{IsOne, still, cut_off, closed_out, heard_on, passed_over, taken_on, room_on, left_on}
+use Rattle.radio_hall.specs.Leaving.{IsFlushed, IsPatient}
+use Rattle.radio_hall.proofs.Calling.{later_then, lacks_on}
+use Rattle.radio_hall.proofs.Standing.{IsOne, still, cut_off, closed_out, heard_on, passed_over, taken_on, room_on}
 
 -- what its line gave and took, what is owed, and how its session stands
 pub record IsSame (c c' : Connection) : Type 0 where
