@@ -66,6 +66,14 @@ HasWaited c entries c' = HasTakenAll c c' ⊎ (IsUnread c c' × IsAtMostLeaving 
 abbrev pub HasStalled : ℕ → ℕ → Connection → Type 0
 HasStalled ms patience c = patience ≤ ms - c.status.moved_ms
 
+-- Who is still served has taken all that he was owed, or something of it has moved within this time: who has stalled is cut off.
+abbrev pub IsInTime : ℕ → ℕ → Connection → Connection → Type 0
+IsInTime ms patience c c' = IsWritten c'.status.fate → HasTakenAll c c' ⊎ (ms - c'.status.moved_ms < patience)
+
+-- That counts from when its line last took something: where it has taken nothing of what it was owed, the moment is as it was.
+abbrev pub HasNotMoved : Connection → Connection → Type 0
+HasNotMoved c c' = IsOwed c → c'.taken ≡ c.taken → c'.status.moved_ms ≡ c.status.moved_ms
+
 -- memory was refused for what was to be done for it: its session has failed, or one of its events was refused
 abbrev pub LacksMemory : Connection → Connection → Type 0
 LacksMemory c c' = (c'.session.has_failed ≡ true) ⊎ (c.refused.events < c'.refused.events)

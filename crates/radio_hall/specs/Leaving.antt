@@ -1,12 +1,12 @@
 -- What each part of a connection's turn leaves of it.
-use Rattle.std.specs.Prelude.{◌≡◌, ◌<◌, ◌⊎◌, ℕ, Bool, true, false, List, [], ◌++◌}
+use Rattle.std.specs.Prelude.{◌≡◌, ◌<◌, ◌-◌, ◌⊎◌, ℕ, Bool, true, false, List, [], ◌++◌}
 use Rattle.radio_events.specs.declared.event.Event.TheVariants.{Leave}
 use Rattle.radio_events.specs.declared.reply.Reply.{Reply}
 use Rattle.radio_book.specs.declared.entry.Entry.{Entry}
 use Rattle.radio_session.specs.Exchanges.{Steps}
 use Rattle.radio_hall.specs.declared.conn.Fate.TheVariants.{Open, Ended, Closed, Cut}
 use Rattle.radio_hall.specs.Connections.{Connection, Refused, is_open, one_refusal}
-use Rattle.radio_hall.specs.Duties.{IsUnread, IsReadOnce, IsAskedOnce, IsGiven, IsAtMostLeaving, HasStalled, LacksMemory, HasEnded, HasLeft}
+use Rattle.radio_hall.specs.Duties.{IsWritten, IsUnread, IsReadOnce, IsAskedOnce, IsGiven, IsAtMostLeaving, HasStalled, HasNotMoved, LacksMemory, HasEnded, HasLeft}
 use Rattle.radio_hall.specs.Answering.{IsSpared}
 use Rattle.radio_hall.specs.Turns.{Chain, IsServed, IsOneDraw, HasDrawn}
 
@@ -28,6 +28,7 @@ pub record IsFlushed (ms : ℕ) (c c' : Connection) : Type 0 where
   pub cut : IsCutByFault c c'
   pub fate : (c'.status.fate ≡ Cut → ⊥) → c'.status.fate ≡ c.status.fate
   pub moved : (c'.status.moved_ms ≡ c.status.moved_ms) ⊎ (c'.status.moved_ms ≡ ms)
+  pub unmoved : HasNotMoved c c'
 
 -- it was given up, if nothing of what it is owed has moved for too long
 pub record IsPatient (ms patience : ℕ) (c c' : Connection) : Type 0 where
@@ -36,6 +37,8 @@ pub record IsPatient (ms patience : ℕ) (c c' : Connection) : Type 0 where
   pub unread : IsUnread c c'
   pub cut : c'.status.fate ≡ Cut → (c.status.fate ≡ Cut) ⊎ HasStalled ms patience c
   pub closed : c'.status.fate ≡ Closed → c.status.fate ≡ Closed
+  pub in_time : IsWritten c'.status.fate → ms - c.status.moved_ms < patience
+  pub moved : c'.status.moved_ms ≡ c.status.moved_ms
 
 -- it had ended, and has not begun again, nor is it cut off
 pub record IsEnded (c c' : Connection) : Type 0 where
@@ -82,6 +85,7 @@ module _ {S : Type 0} (steps : Steps S) where
     pub sits : c'.status.sits ≡ c.status.sits
     pub unread : IsUnread c c'
     pub session : c'.session ≡ c.session
+    pub moved : c'.status.moved_ms ≡ c.status.moved_ms
     pub left : HasLeft c c'
 
   -- a draw with this room was applied, or the connection was cut off

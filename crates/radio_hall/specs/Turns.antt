@@ -10,7 +10,7 @@ use Rattle.radio_hall.specs.declared.conn.Fate.{Fate}
 use Rattle.radio_hall.specs.declared.conn.Fate.TheVariants.{Open, Closed, Cut}
 use Rattle.radio_hall.specs.Connections.{Connection, stays}
 use Rattle.radio_hall.specs.Course.{Standing, Course}
-use Rattle.radio_hall.specs.Duties.{IsLater, IsAsked, IsAskedOnce, IsGiven, HasWaited, IsCutFor, IsClosedFor, HasLeft}
+use Rattle.radio_hall.specs.Duties.{IsLater, IsAsked, IsAskedOnce, IsGiven, HasWaited, IsCutFor, IsInTime, HasNotMoved, IsClosedFor, HasLeft}
 use Rattle.radio_hall.specs.Workers.{WorkerOf}
 
 -- What the line took, followed by what is owed to it, is what was told. Once it is closed, it took all; where it was cut off, the front.
@@ -72,6 +72,8 @@ module _ {S : Type 0} (steps : Steps S) where
     pub given : IsGiven c c'
     pub waited : HasWaited c entries c'
     pub cut : IsCutFor ms patience c c'
+    pub in_time : IsInTime ms patience c c'
+    pub unmoved : HasNotMoved c c'
     pub closed : IsClosedFor c c'
     pub left : HasLeft c c'
 

@@ -6,7 +6,8 @@ use Rattle.radio_hall.specs.declared.conn.Fate.TheVariants.{Open}
 use Rattle.radio_hall.specs.Course.{is_listen, is_seated}
 use Rattle.radio_hall.proofs.Standing.{answered_as}
 use Rattle.radio_hall.proofs.Calling.{later_same, later_by_refusal, more_refused}
-use Rattle.radio_hall.proofs.Deeds.{chain_one, answered_as_one, answered_by_cut, closed_not_cut}
+use Rattle.radio_hall.proofs.Deeds.{answered_as_one, answered_by_cut, closed_not_cut}
+use Rattle.radio_hall.proofs.DeedChains.{chain_one}
 use Rattle.radio_hall.proofs.serving.answering.answer.Goals as goal
 
 pub returns-in-Ok : goal.returns-in-Ok

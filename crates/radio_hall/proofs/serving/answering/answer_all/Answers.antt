@@ -9,7 +9,8 @@ use Rattle.radio_hall.specs.Connections.{Connection, is_open}
 use Rattle.radio_hall.specs.Turns.{StandsBefore}
 use Rattle.radio_hall.specs.Answering.{IsAnswered, later_by}
 use Rattle.radio_hall.proofs.Calling.{later_none, later_then}
-use Rattle.radio_hall.proofs.Deeds.{chain_then, open_from, later_by_over, spared_then, spared_open}
+use Rattle.radio_hall.proofs.Deeds.{open_from, later_by_over, spared_then, spared_open}
+use Rattle.radio_hall.proofs.DeedChains.{chain_then}
 use Rattle.radio_hall.proofs.serving.answering.answer_all.Goals as goal
 
 -- one more event is applied

@@ -2,7 +2,8 @@ use Rattle.std.proofs.Common.{[], inr, refl, sym, ◌∙◌, ap}
 use Rattle.std.proofs.lemmas.Bool.{false≢true}
 use Rattle.radio_hall.specs.Connections.{Connection}
 use Rattle.radio_hall.proofs.Calling.{later_same}
-use Rattle.radio_hall.proofs.Deeds.{draws_nothing, draws_as, not_over, served_then, served_by_note}
+use Rattle.radio_hall.proofs.Deeds.{not_over, served_then, served_by_note}
+use Rattle.radio_hall.proofs.DeedChains.{draws_nothing, draws_as}
 use Rattle.radio_hall.proofs.serving.drawing.draw.Goals as goal
 
 pub returns-then-not-is_open : goal.returns-then-not-is_open

@@ -4,7 +4,7 @@ use Rattle.radio_hall.specs.Connections.{Connection}
 use Rattle.radio_hall.specs.declared.line.Sent.TheVariants.{Took, Nothing, Fault}
 use Rattle.radio_hall.specs.Duties.{IsWritten}
 use Rattle.radio_hall.proofs.Calling.{later_by_write, written_once, unread_by_write, taken_all, none_of_some}
-use Rattle.radio_hall.proofs.Deeds.{not_cut, flushed_as, served_by_cut, served_by_write, served_by_note}
+use Rattle.radio_hall.proofs.Deeds.{not_cut, none_behind, takes_some, flushed_as, served_by_cut, served_by_write, served_by_note}
 use Rattle.radio_hall.proofs.serving.flushing.write.Goals as goal
 
 drop_nil : (n : ℕ) → drop {A = ℕ} n [] ≡ []
@@ -32,6 +32,10 @@ returns-in-Took g c =
       fate = λ n. refl;
       cut = λ e. inl e;
       moved = inr refl;
+      unmoved = λ owed same.
+          absurd (takes_some c.in-Took.count c.conn.inside.owed c.in-Took.ensures.taken.0
+          (subst (λ (o : Connection). 0 < length o.owed) (sym c.conn.view_is) c.requires.some)
+          (none_behind (g.L.Line.taken c.conn.inside.line) (take c.in-Took.count c.conn.inside.owed) (sym taken ∙ same)));
     })
 
 pub returns-in-Nothing : goal.returns-in-Nothing
@@ -52,6 +56,7 @@ returns-in-Nothing g c =
       fate = λ n. refl;
       cut = λ e. inl e;
       moved = inl refl;
+      unmoved = λ owed same. refl;
     })
 
 pub returns-in-Fault : goal.returns-in-Fault
@@ -72,4 +77,5 @@ returns-in-Fault g c =
       fate = λ n. absurd (n refl);
       cut = λ e. inr (omega (arith, ap (λ (x : Calls). x.faults) c.in-Fault.ensures.calls));
       moved = inl refl;
+      unmoved = λ owed same. refl;
     })

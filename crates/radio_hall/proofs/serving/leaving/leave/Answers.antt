@@ -1,6 +1,7 @@
 use Rattle.std.proofs.Common.{inl, refl, sym, ◌∙◌, ap}
 use Rattle.radio_hall.specs.Connections.{Connection}
-use Rattle.radio_hall.proofs.Deeds.{leaves_nothing, leaves_not, leaves_as, leaves_so, open_from}
+use Rattle.radio_hall.proofs.Deeds.{open_from}
+use Rattle.radio_hall.proofs.DeedChains.{leaves_nothing, leaves_not, leaves_as, leaves_so}
 use Rattle.radio_hall.proofs.serving.leaving.leave.Goals as goal
 
 pub returns-then-is_open : goal.returns-then-is_open
@@ -16,10 +17,10 @@ pub returns-then-asks_to_leave : goal.returns-then-asks_to_leave
 returns-then-asks_to_leave g c =
     leaves_as g.S.Server.steps c.conn.view_is
     (leaves_so g.S.Server.steps _ _ _ _ c.if-asks_to_leave.ensures.0 (sym c.is_open.ensures ∙ c.if-is_open.false) c.if-conn.false
-    (record { id = refl; given = refl; taken = refl; owed = refl; session = refl }) refl c.if-asks_to_leave.ensures.1 refl refl refl)
+    (record { id = refl; given = refl; taken = refl; owed = refl; session = refl }) refl c.if-asks_to_leave.ensures.1 refl refl refl refl)
 
 pub returns-else-asks_to_leave : goal.returns-else-asks_to_leave
 returns-else-asks_to_leave g c =
     leaves_as g.S.Server.steps c.conn.view_is
     (leaves_not g.S.Server.steps c.if-asks_to_leave.ensures.0 (record { id = refl; sits = refl; left = refl })
-    (record { id = refl; given = refl; taken = refl; owed = refl; session = refl }) refl c.if-asks_to_leave.ensures.1 refl)
+    (record { id = refl; given = refl; taken = refl; owed = refl; session = refl }) refl c.if-asks_to_leave.ensures.1 refl refl)

@@ -4,7 +4,8 @@ use Rattle.radio_hall.specs.Connections.{Connection}
 use Rattle.radio_hall.specs.Lines.{Calls}
 use Rattle.radio_hall.specs.declared.line.Received.TheVariants.{Bytes, Nothing, Closed, Fault}
 use Rattle.radio_hall.proofs.Calling.{later_by_read, read_by}
-use Rattle.radio_hall.proofs.Deeds.{listens_as, listens_by_hearing, served_by_hearing, served_by_note, served_by_close, open_is_written, not_closed, not_cut, closed_not_cut}
+use Rattle.radio_hall.proofs.Deeds.{served_by_hearing, served_by_note, served_by_close, open_is_written, not_closed, not_cut, closed_not_cut}
+use Rattle.radio_hall.proofs.DeedChains.{listens_as, listens_by_hearing}
 use Rattle.radio_hall.proofs.serving.listening.listen.Goals as goal
 
 pub returns-in-Bytes : goal.returns-in-Bytes

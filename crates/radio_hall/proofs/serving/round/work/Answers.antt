@@ -2,7 +2,8 @@ use Rattle.std.proofs.Common.{◌≡◌, inl, inr, refl, sym, ◌∙◌, ap}
 use Rattle.radio_hall.specs.declared.conn.Fate.TheVariants.{Open}
 use Rattle.radio_hall.specs.Connections.{Connection}
 use Rattle.radio_hall.proofs.Calling.{later_same, later_none, unread_same}
-use Rattle.radio_hall.proofs.Deeds.{works_in_turn, rests_in_turn, served_by_none, served_by_note, not_over, not_closed, not_cut, ended_not_open}
+use Rattle.radio_hall.proofs.Deeds.{served_by_none, served_by_note, not_over, not_closed, not_cut, ended_not_open}
+use Rattle.radio_hall.proofs.DeedChains.{works_in_turn, rests_in_turn}
 use Rattle.radio_hall.proofs.serving.round.work.Goals as goal
 
 pub returns-in-Open : goal.returns-in-Open
