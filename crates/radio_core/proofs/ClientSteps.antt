@@ -25,8 +25,8 @@ use Rattle.radio_core.specs.World.{World, standing_of}
 use Rattle.radio_seats.proofs.SeatLaws.{listener_seated}
 use Rattle.radio_core.proofs.Fates.{Fate, GoesOn, IsEnded}
 use Rattle.radio_core.proofs.FinishLemmas.{others_hold, finish_step, undecided_before}
-use Rattle.radio_core.proofs.GoneLemmas.{by_own}
-use Rattle.radio_core.proofs.ServiceLemmas.{replies_fit}
+use Rattle.radio_core.proofs.OwnLemmas.{by_own}
+use Rattle.radio_core.proofs.ReplyLemmas.{replies_fit}
 use Rattle.radio_core.proofs.SoundEnds.{turns_ended, turns_ended_and_left}
 use Rattle.radio_core.proofs.SoundRuns.{grown_world, lag_fates}
 use Rattle.radio_core.proofs.Standings.{turns_answered, turns_feeding, turns_sitting, turns_forgotten, stays_hearing}

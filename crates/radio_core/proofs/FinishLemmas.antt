@@ -1,11 +1,10 @@
--- the law of those who are told that they were finished, and what an event does to others
-use Rattle.std.proofs.Common.{◌≡◌, ◌⊎◌, inl, inr, true, false, ℕ, ◌+◌, ◌<◌, ◌==◌, Option, Some, None, List, [], ◌∷◌, ◌++◌, refl, ap, sym, subst, ◌∙◌, arith}
+-- what an event does to others, and whom it finishes
+use Rattle.std.proofs.Common.{◌≡◌, ◌⊎◌, inl, inr, true, false, ℕ, ◌+◌, ◌<◌, ◌==◌, Option, Some, None, List, refl, ap, sym, subst, ◌∙◌, arith}
 use Rattle.std.proofs.lemmas.Slice.Eq.{bytes_eq-Decides}
 use Rattle.radio_policy.specs.declared.rule.Rule.{Rule}
 use Rattle.radio_policy.specs.declared.rule.Rule.TheVariants.{NotLive}
 use Rattle.radio_addr.specs.declared.peer.Peer.{Peer}
-use Rattle.radio_settings.specs.declared.settings.Settings.{Settings}
-use Rattle.radio_access.specs.Lists.{Lists, passes}
+use Rattle.radio_access.specs.Lists.{passes}
 use Rattle.radio_tables.proofs.KeyLaws.{by_number}
 use Rattle.radio_core.specs.declared.clients.Client.{Client}
 use Rattle.radio_core.specs.declared.clients.ClientState.TheVariants.{Undecided as IsNew}
@@ -16,11 +15,10 @@ use Rattle.radio_core.specs.declared.outcome.Outcome.{Outcome}
 use Rattle.radio_events.specs.declared.reply.Reply.TheVariants.{Arrived, Finished}
 use Rattle.radio_core.specs.declared.standing.Standing.{Standing}
 use Rattle.radio_core.specs.declared.standing.Standing.TheVariants.{Unknown, Undecided, Feeds, Sits, Answered, Finished as HasFinished}
-use Rattle.radio_core.specs.World.{World, opening, standing_of, standing_in}
+use Rattle.radio_core.specs.World.{World, standing_of, standing_in}
 use Rattle.radio_core.specs.Changes.{session_ended}
-use Rattle.radio_core.specs.Finishes.{Cause, SessionIsOver, IsFarBehind, HasSatOut, HasAskedNothing, HasSentNothing, Finishes, WasFinished, FinishedAreTold}
+use Rattle.radio_core.specs.Finishes.{Cause, SessionIsOver, IsFarBehind, HasSatOut, HasAskedNothing, HasSentNothing, Finishes}
 use Rattle.radio_core.specs.Others.{StandsOn, OthersStandOn}
-use Rattle.radio_core.specs.Run.{world_after_all, run_after}
 use Rattle.radio_seats.specs.Seats.{listener_of, seat_of}
 use Rattle.radio_core.specs.Sessions.{session_of}
 use Rattle.radio_core.specs.Sound.{IsSound}
@@ -33,7 +31,6 @@ use Rattle.radio_core.proofs.Fates.{stops_there}
 use Rattle.radio_core.proofs.TickLemmas.{asking_at}
 use Rattle.radio_core.proofs.Standings.{Loses, silenced}
 use Rattle.radio_core.proofs.SoundEnds.{sits_no_more}
-use Rattle.radio_core.proofs.SoundRuns.{sound_after, sound_opening}
 use Rattle.radio_core.proofs.Ways.{way_of}
 
 -- what the end of a session does to whoever sits at its mount: he is finished by it
@@ -186,44 +183,7 @@ module _ (w : World) (s : IsSound w) (event : Event) where
       → (standing_of w id ≡ Undecided peer) ⊎ HasArrived id peer
   undecided_before id peer e = undecided_by id peer e (effect_of w s event)
 
--- from any state on: who stands finished in the end stood so at the start, or one of the events has finished him
-record Put (w : World) (events : List Event) (id : ℕ) (rule : Rule) : Type 0 where
-  before : List Event
-  event : Event
-  after : List Event
-  in_order : events ≡ before ++ event ∷ after
-  finishes : Finishes (world_after_all w before) event id rule
-
-since : (w : World) → IsSound w → (events : List Event) (id : ℕ) (rule : Rule) → standing_of (world_after_all w events) id ≡ HasFinished rule
-    → (standing_of w id ≡ HasFinished rule) ⊎ Put w events id rule
-since w s [] id rule e = inl e
-since w s (event ∷ events) id rule e = later (since (world_after w event) (sound_after w s event) events id rule e) where
-  here : (standing_of w id ≡ HasFinished rule) ⊎ Finishes w event id rule → (standing_of w id ≡ HasFinished rule) ⊎ Put w (event ∷ events) id rule
-  here (inl stood) = inl stood
-  here (inr finishes) = inr (record { before = []; event = event; after = events; in_order = refl; finishes = finishes })
-
-  later : (standing_of (world_after w event) id ≡ HasFinished rule) ⊎ Put (world_after w event) events id rule
-      → (standing_of w id ≡ HasFinished rule) ⊎ Put w (event ∷ events) id rule
-  later (inl stood) = here (finish_step w s event id rule stood)
-  later (inr put) =
-      inr (record {
-        before = event ∷ put.before;
-        event = put.event;
-        after = put.after;
-        in_order = ap (λ es. event ∷ es) put.in_order;
-        finishes =
-            put.finishes;
-      })
-
-pub was_finished : (settings : Settings) (lists : Lists) (events : List Event) (id : ℕ) (rule : Rule)
-    → standing_of (run_after settings lists events) id ≡ HasFinished rule
-    → WasFinished settings lists events id rule
-was_finished settings lists events id rule e = either (since (opening settings lists) (sound_opening settings lists) events id rule e) where
-  either : (standing_of (opening settings lists) id ≡ HasFinished rule) ⊎ Put (opening settings lists) events id rule
-      → WasFinished settings lists events id rule
-  either (inl stood) = cc
-  either (inr put) = record { before = put.before; event = put.event; after = put.after; in_order = put.in_order; finishes = put.finishes }
-
+-- who is told that he was finished stands so
 told_by : (w : World) (event : Event) (o : Outcome) → Way w event o → (rule : Rule) → o.reply ≡ Finished rule
     → (id : ℕ) × (client_in event ≡ Some id) × (standing_of w id ≡ HasFinished rule)
 told_by w event o (IsFinished _ him by its known) rule d = let same : by ≡ rule = cc in (him, its, known ∙ ap (λ (r : Rule). HasFinished r) same)
@@ -246,8 +206,3 @@ pub finished_told : (w : World) (event : Event) (rule : Rule) → reply_to w eve
     → (id : ℕ) × (client_in event ≡ Some id) × (standing_of w id ≡ HasFinished rule)
 unfolding reply_to
 finished_told w event rule d = told_by w event (outcome w event) (way_of w event) rule d
-
-pub finished_hold : (settings : Settings) (lists : Lists) (events : List Event) (event : Event) → FinishedAreTold settings lists events event
-finished_hold settings lists events event rule d =
-    let told = finished_told (run_after settings lists events) event rule d in
-    (told.0, told.1, was_finished settings lists events told.0 rule told.2)

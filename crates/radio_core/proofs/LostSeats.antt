@@ -17,9 +17,9 @@ use Rattle.radio_core.specs.Ways.{EndsAndLeaves, Leaves, HasPassed, Ticks}
 use Rattle.radio_events.specs.Events.{client_in}
 use Rattle.radio_core.specs.World.{World, standing_of}
 use Rattle.radio_core.proofs.FinishLemmas.{others_hold}
-use Rattle.radio_core.proofs.GoneLemmas.{by_own}
+use Rattle.radio_core.proofs.OwnLemmas.{by_own}
 use Rattle.radio_core.proofs.SeatedLemmas.{seat_of_sitting}
-use Rattle.radio_core.proofs.ServiceLemmas.{replies_fit}
+use Rattle.radio_core.proofs.ReplyLemmas.{replies_fit}
 use Rattle.radio_core.proofs.SoundSessions.{has_advanced}
 use Rattle.radio_core.proofs.Ways.{way_of}
 

@@ -27,10 +27,9 @@ use Rattle.radio_core.specs.Sessions.{Session, session_of}
 use Rattle.radio_core.specs.Sound.{IsSound}
 use Rattle.radio_core.specs.Step.{outcome, reply_to, world_after}
 use Rattle.radio_core.specs.Stream.{data_at, end_of}
-use Rattle.radio_core.specs.Stretches.{SeatsKeepTheirMounts}
 use Rattle.radio_core.specs.Ways.{Way, Misplaced, IsFinished, IsDenied, IsRefused, IsAdmitted, Begins, Receives, SetsTitle, TakesSeat, HandsOut, Ends}
 use Rattle.radio_core.specs.Ways.{EndsAndLeaves, Leaves, HasPassed, Ticks}
-use Rattle.radio_core.proofs.GoneLemmas.{not_of, nothing_of}
+use Rattle.radio_core.proofs.OwnLemmas.{not_of, nothing_of}
 use Rattle.radio_seats.proofs.SeatLaws.{is_no_listener, beside_left}
 use Rattle.radio_core.proofs.LostSeats.{loses_no_seat_else}
 use Rattle.radio_core.proofs.Soundness.{has_new_seat, had_no_seat, beside_new_seat}
@@ -38,7 +37,7 @@ use Rattle.radio_core.proofs.SoundSessions.{has_advanced, others_seats, behind_w
 use Rattle.radio_core.proofs.SoundEnds.{still_sits, sits_on, sits_no_more}
 use Rattle.radio_core.proofs.Fates.{Fate, GoesOn, IsEnded}
 use Rattle.radio_core.proofs.TickLemmas.{ticked_fates}
-use Rattle.radio_core.proofs.SoundRuns.{sound_after, grown_world, lag_fates}
+use Rattle.radio_core.proofs.SoundRuns.{grown_world, lag_fates}
 use Rattle.radio_core.proofs.Ways.{way_of}
 
 -- all that an event can do to a seat: nothing, hand out what stands at its place, give one to who had none, take it away
@@ -186,33 +185,3 @@ module _ (w : World) (s : IsSound w) (id : ℕ) where
 pub seats_step : (w : World) → IsSound w → (event : Event) → SeatsStep w event
 seats_step w s event id =
     by_turn w s id event (seat_of w.seats id) (handed_at w event id) (seat_of (world_after w event).seats id) refl refl (turn_of w s id event)
-
--- a seat that is kept is the same but for its place, which does not go back
-keeps : (w : World) (C : Rule → Type 0) (event : Event) (id : ℕ) (before later : Option Seat) (bytes : List ℕ) → SeatStep w C event id before bytes later
-    → (old seat : Seat) → before ≡ Some old
-    → later ≡ Some seat → (seat ≡ record old { place = seat.place }) × (old.place ≤ seat.place)
-keeps w C event id before later bytes (Stays same) old seat eo es =
-    let both : Some old ≡ Some seat = sym eo ∙ es in
-    let one : old ≡ seat = cc in
-    (subst (λ (x : Seat). seat ≡ record x { place = seat.place }) (sym one) refl, subst (λ (x : Seat). old.place ≤ x.place) one (omega arith))
-keeps w C event id before later bytes (IsHanded had session room asked live number within) old seat eo es =
-    let one : had ≡ old = cc in
-    let far = had.place + length (data_at session.stream had.place room) in
-    let moved : record had { place = far } ≡ seat = cc in (
-      subst (λ (x : Seat). x ≡ record old { place = x.place }) moved (ap (λ (x : Seat). record x { place = far }) one),
-      subst (λ (x : Seat). old.place ≤ x.place) moved (subst (λ (x : Seat). x.place ≤ far) one (omega arith)),
-    )
-keeps w C event id before later bytes (SitsDown asked peer session e his undecided live allowed) old seat eo es = cc
-keeps w C event id before later bytes (HeLeaves had left) old seat eo es = cc
-keeps w C event id before later bytes (HeIsEnded had rule cause) old seat eo es = cc
-
-pub mounts_kept : (w : World) → IsSound w → (event : Event) → SeatsKeepTheirMounts w event
-mounts_kept w s event id seat e =
-    let now = (sound_after w s event).seated id seat e in
-    record {
-      session = now.session;
-      is_live = now.is_live;
-      in_the_session = sym now.his_session;
-      kept = λ old had. keeps w (Finishes w event id) event id (seat_of w.seats id) (seat_of (world_after w event).seats id) (handed_at w event id)
-          (seats_step w s event id) old seat had e;
-    }

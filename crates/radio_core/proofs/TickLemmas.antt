@@ -1,18 +1,17 @@
--- what the clock ends, and that nobody outstays it
-use Rattle.std.proofs.Common.{◌≡◌, ◌⊎◌, inl, inr, Bool, true, false, ℕ, zero, suc, ◌≤◌, ◌==◌, Option, Some, None, List, [], ◌∷◌, length, refl, ap}
+-- what the clock ends
+use Rattle.std.proofs.Common.{◌≡◌, ◌⊎◌, inl, inr, Bool, true, false, ℕ, zero, suc, ◌==◌, Option, Some, None, List, length, refl, ap}
 use Rattle.std.proofs.Common.{sym, subst, ◌∙◌, arith}
-use Rattle.std.specs.Prelude.{if◌then◌else◌, map, find, not}
+use Rattle.std.specs.Prelude.{if◌then◌else◌, map, not}
 use Rattle.std.specs.Option.{option_map}
 use Rattle.std.specs.Str.{bytes_eq}
 use Rattle.std.proofs.lemmas.Bool.Decides.{nat_tests}
 use Rattle.std.proofs.lemmas.Slice.Eq.{bytes_eq-Decides}
 use Rattle.radio_policy.specs.declared.rule.Rule.TheVariants.{NotLive, TimeOver, HeaderTimeout, SourceSilent}
 use Rattle.radio_addr.specs.declared.peer.Peer.{Peer}
-use Rattle.radio_tables.proofs.FindLaws.{find_mapped, found_passes, found_has, passes_none}
+use Rattle.radio_tables.proofs.FindLaws.{find_mapped, found_passes}
 use Rattle.radio_tables.proofs.KeyLaws.{by_number, by_name}
 use Rattle.radio_seats.specs.declared.seat.Listener.{Listener}
 use Rattle.radio_seats.specs.declared.seat.Seat.{Seat}
-use Rattle.radio_seats.proofs.EndLaws.{kept_seat}
 use Rattle.radio_seats.specs.Seats.{listener_of, seat_of}
 use Rattle.radio_core.specs.declared.clients.Client.{Client}
 use Rattle.radio_core.specs.declared.clients.ClientState.{ClientState}
@@ -23,19 +22,16 @@ use Rattle.radio_core.specs.declared.standing.Standing.TheVariants.{Unknown, Und
 use Rattle.radio_core.specs.Changes.{session_ended, timed_out_by, durations_over, first_silent, session_silenced, on_silent, silence, ticked}
 use Rattle.radio_core.specs.Clients.{is_client, client_of, with_state}
 use Rattle.radio_core.specs.Finishes.{SessionIsOver, HasSatOut, HasAskedNothing, HasSentNothing}
-use Rattle.radio_core.specs.Outstaying.{IsInTime}
 use Rattle.radio_core.specs.Sessions.{Session, is_of, session_of}
 use Rattle.radio_core.specs.Sound.{IsSound}
 use Rattle.radio_core.specs.Timeouts.{has_sat_out, asks_nothing, asks_too_late, timed_out, is_silent}
 use Rattle.radio_core.specs.World.{World, standing_of, standing_in}
-use Rattle.radio_core.proofs.ApartLemmas.{kept_apart, found_own, shorter}
-use Rattle.radio_core.proofs.Fates.{IsActive, Fate, GoesOn, IsEnded, Fates, sound_fates, fates_none, fates_then, seats_fates, stops_there, sits_on_still}
+use Rattle.radio_core.proofs.ApartLemmas.{kept_apart, found_own}
+use Rattle.radio_core.proofs.Fates.{IsActive, Fate, GoesOn, IsEnded, Fates, sound_fates, fates_none, fates_then, seats_fates, stops_there}
 use Rattle.radio_core.proofs.Lookups.{beside_ended, is_over, beside_state, does}
 use Rattle.radio_core.proofs.SeatedLemmas.{seat_of_sitting}
 use Rattle.radio_core.proofs.SoundEnds.{still_sits, sits_on, sits_no_more}
 use Rattle.radio_core.proofs.Standings.{Turns, Loses, turns_ended_by, silenced}
-
--- clients who have asked for nothing in their time
 
 module _ (seconds ms : ℕ) where
   pub clients_after : (clients : List Client) (id : ℕ)
@@ -56,18 +52,6 @@ module _ (seconds ms : ℕ) where
       let one : timed_out seconds ms old ≡ client = cc in
       let same = late_at old (asks_too_late seconds ms old) seconds' ms' (ap (λ (x : Client). asks_too_late seconds' ms' x) one ∙ late) in
       ap (λ (x : Client). Some x) (sym same ∙ one)
-
-  -- nobody asks too late by the same measure
-  in_time_at : (client : Client) (b : Bool) → asks_too_late seconds ms client ≡ b
-      → asks_too_late seconds ms (with_state (if b then Ended HeaderTimeout else client.state) client) ≡ false
-  in_time_at client true e = refl
-  in_time_at client false e = e
-
-  in_time_in : (found : Option Client) (client : Client) → option_map (timed_out seconds ms) found ≡ Some client → asks_too_late seconds ms client ≡ false
-  in_time_in None client e = cc
-  in_time_in (Some old) client e =
-      let one : timed_out seconds ms old ≡ client = cc in
-      ap (λ (x : Client). asks_too_late seconds ms x) (sym one) ∙ in_time_at old (asks_too_late seconds ms old) refl
 
 -- who asks for nothing is undecided
 pub asking_at : (seconds ms arrived : ℕ) (state : ClientState) → asks_nothing seconds ms arrived state ≡ true → state ≡ IsNew
@@ -297,32 +281,6 @@ silence_fates (suc n) w s ms now = by_first (λ next sound. silence_fates n next
       let f = silenced_fates w s ms now session e in
       fates_then w next (silence n next) ms f (rest next (sound_fates w next (Clock ms) s f) now)
 
-silence_time : (n : ℕ) (w : World) → (silence n w).house.time ≡ w.house.time
-silence_time zero w = refl
-silence_time (suc n) w = by_first (silence_time n) (first_silent w) where
-  by_first : ((next : World) → (silence n next).house.time ≡ next.house.time) → (found : Option Session)
-      → (on_silent (silence n) w found).house.time ≡ w.house.time
-  by_first rest None = refl
-  by_first rest (Some session) = rest (session_silenced w session)
-
-none_left : (live : List Session) (p : Session → Bool) → length live ≤ 0 → find p live ≡ None
-none_left [] p e = refl
-none_left (session ∷ live) p e = absurd (omega (arith, e))
-
-none_silent : (n : ℕ) (w : World) → length w.house.live ≤ n → first_silent (silence n w) ≡ None
-none_silent zero w few = none_left w.house.live (is_silent w.house.settings.limits.source_timeout w.house.time) few
-none_silent (suc n) w few = by_first (none_silent n) (first_silent w) refl where
-  itself : (session : Session) → bytes_eq session.mount session.mount ≡ true
-  itself session = (bytes_eq-Decides session.mount session.mount).1 refl
-
-  by_first : ((next : World) → length next.house.live ≤ n → first_silent (silence n next) ≡ None) → (found : Option Session) → first_silent w ≡ found
-      → first_silent (on_silent (silence n) w found) ≡ None
-  by_first rest None e = e
-  by_first rest (Some session) e =
-      let less = shorter (is_silent w.house.settings.limits.source_timeout w.house.time) (λ x. not (is_of session.mount x)) w.house.live session
-      (ap not (itself session)) e in
-      rest (session_silenced w session) (omega (arith, less, few))
-
 -- the whole change
 module _ (w : World) (s : IsSound w) (ms : ℕ) where
   abbrev pub timed : World
@@ -345,37 +303,3 @@ module _ (w : World) (s : IsSound w) (ms : ℕ) where
 
   pub ticked_fates : Fates w (ticked w ms) (Clock ms)
   ticked_fates = fates_then w sat_out (ticked w ms) ms (fates_then w timed sat_out ms (timeout_fates w s ms) fates_sat_out) fates_silence
-
-  pub in_time : IsInTime (ticked w ms) ms
-  in_time = record {
-    is_now = silence_time (length sat_out.house.live) sat_out;
-    seats = λ id seat e.
-        let before = sits_on_still sat_out (ticked w ms) (Clock ms) sound_sat_out fates_silence id seat e in
-        ap (λ settings. has_sat_out settings ms seat) fates_silence.settings
-        ∙ kept_seat (has_sat_out w.house.settings ms) TimeOver w.seats id seat before.0;
-    clients = λ id client e. clients id client e;
-    sources = λ mount session e. sources mount session e;
-  } where
-    clients : (id : ℕ) (client : Client) → client_of (ticked w ms).house.clients id ≡ Some client
-        → asks_too_late (ticked w ms).house.settings.limits.header_timeout ms client ≡ false
-    clients id client e = by_test (asks_too_late (ticked w ms).house.settings.limits.header_timeout ms client) refl where
-      by_test : (b : Bool) → asks_too_late (ticked w ms).house.settings.limits.header_timeout ms client ≡ b
-          → asks_too_late (ticked w ms).house.settings.limits.header_timeout ms client ≡ false
-      by_test false h = h
-      by_test true h =
-          let before = fates_silence.late id client (ticked w ms).house.settings.limits.header_timeout ms e h in
-          let found : option_map (timed_out w.house.settings.limits.header_timeout ms) (client_of w.house.clients id) ≡ Some client =
-          sym (clients_after w.house.settings.limits.header_timeout ms w.house.clients id) ∙ before in
-          ap (λ settings. asks_too_late settings.limits.header_timeout ms client) fates_silence.settings
-          ∙ in_time_in w.house.settings.limits.header_timeout ms (client_of w.house.clients id) client found
-
-    sources : (mount : List ℕ) (session : Session) → session_of (ticked w ms).house.live mount ≡ Some session
-        → is_silent (ticked w ms).house.settings.limits.source_timeout ms session ≡ false
-    sources mount session e =
-        let later = ticked w ms in
-        let none = none_silent (length sat_out.house.live) sat_out (omega arith) in
-        let all = passes_none (is_silent later.house.settings.limits.source_timeout later.house.time) later.house.live none in
-        let not_silent = found_has (is_of mount) (λ (x : Session). is_silent later.house.settings.limits.source_timeout later.house.time x ≡ false)
-        later.house.live session all e in
-        ap (λ (moment : ℕ). is_silent later.house.settings.limits.source_timeout moment session) (sym (silence_time (length sat_out.house.live) sat_out))
-        ∙ not_silent

@@ -1,22 +1,17 @@
-use Rattle.std.specs.Prelude.{◌≡◌, ℕ, true, Some, None, List, ◌∷◌, ◌++◌}
+use Rattle.std.specs.Prelude.{◌≡◌, ℕ, true, Some, None, List}
 use Rattle.radio_policy.specs.declared.rule.Rule.{Rule}
 use Rattle.radio_policy.specs.declared.rule.Rule.TheVariants.{Lagged, TimeOver, HeaderTimeout, SourceSilent}
-use Rattle.radio_settings.specs.declared.settings.Settings.{Settings}
-use Rattle.radio_access.specs.Lists.{Lists}
 use Rattle.radio_core.specs.declared.clients.Client.{Client}
 use Rattle.radio_events.specs.declared.event.Event.{Event}
 use Rattle.radio_events.specs.declared.event.Event.TheVariants.{Push, Clock}
-use Rattle.radio_events.specs.declared.reply.Reply.TheVariants.{Finished}
 use Rattle.radio_core.specs.declared.standing.Standing.TheVariants.{Feeds, Finished as HasFinished}
 use Rattle.radio_seats.specs.declared.seat.Seat.{Seat}
 use Rattle.radio_core.specs.Clients.{client_of}
 use Rattle.radio_core.specs.Facts.{live_end, walk_stops}
 use Rattle.radio_core.specs.Timeouts.{lags_behind, has_sat_out, asks_too_late, is_silent}
-use Rattle.radio_core.specs.Run.{run_after}
 use Rattle.radio_seats.specs.Seats.{seat_of}
 use Rattle.radio_core.specs.Sessions.{Session, session_of}
-use Rattle.radio_core.specs.Step.{reply_to, world_after}
-use Rattle.radio_events.specs.Events.{client_in}
+use Rattle.radio_core.specs.Step.{world_after}
 use Rattle.radio_core.specs.World.{World, standing_of}
 
 -- what there is about the event by which it finishes the client by the rule, where the state was w and is `later`
@@ -43,16 +38,3 @@ pub record Finishes (w : World) (event : Event) (id : ℕ) (rule : Rule) : Type 
   pub cause : Cause w (world_after w event) event id rule
   pub has_finished : standing_of (world_after w event) id ≡ HasFinished rule
   pub has_none : seat_of (world_after w event).seats id ≡ None
-
--- one of the events of a run finished the client by the rule
-pub record WasFinished (settings : Settings) (lists : Lists) (events : List Event) (id : ℕ) (rule : Rule) : Type 0 where
-  pub before : List Event
-  pub event : Event
-  pub after : List Event
-  pub in_order : events ≡ before ++ event ∷ after
-  pub finishes : Finishes (run_after settings lists before) event id rule
-
--- a client who is told that he was finished by a rule was finished by it at an earlier event
-abbrev pub FinishedAreTold : Settings → Lists → List Event → Event → Type 0
-FinishedAreTold settings lists events event = (rule : Rule) → reply_to (run_after settings lists events) event ≡ Finished rule
-    → (id : ℕ) × (client_in event ≡ Some id) × WasFinished settings lists events id rule

@@ -7,7 +7,7 @@ use radio_tables::{Change, Row};
 
 /// What a client does.
 #[derive(Clone, Copy)]
-pub(crate) enum ClientState {
+pub enum ClientState {
     /// He has asked for nothing yet.
     Undecided,
     /// He is the source of the mount.
@@ -22,12 +22,12 @@ pub(crate) enum ClientState {
 
 /// A client that has arrived and has not left.
 #[derive(Clone, Copy)]
-pub(crate) struct Client {
-    pub(crate) id: u64,
-    pub(crate) peer: Peer,
+pub struct Client {
+    pub id: u64,
+    pub peer: Peer,
     /// The moment of his arrival, in milliseconds.
-    pub(crate) arrived: u64,
-    pub(crate) state: ClientState,
+    pub arrived: u64,
+    pub state: ClientState,
 }
 
 impl Row for Client {

@@ -25,7 +25,7 @@ use std::alloc::Global;
 
 /// All of the server's state but the table of listeners.
 #[derive(Drop)]
-pub(crate) struct House {
+pub struct House {
     /// The moment, in milliseconds.
     pub(crate) time: u64,
     pub(crate) settings: Settings,

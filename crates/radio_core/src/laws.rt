@@ -1,76 +1,18 @@
-//! The laws of every run: each holds after every list of events from the opening state, over the
-//! definitions that `Core::step` follows.
+//! What an event can do to one client, one seat and one session, and to what a core stands for, in
+//! every run of events from the opening state, over the definitions that `Core::step` follows.
 
-ghost use Rattle.std.specs.Prelude.{◌≡◌, ◌≤◌, ℕ, List, [], ◌∷◌, ◌++◌, Some};
+ghost use Rattle.std.specs.Prelude.{List};
 ghost use Rattle.radio_settings.specs.declared.settings.Settings.{Settings};
 ghost use Rattle.radio_access.specs.Lists.{Lists};
 ghost use Rattle.radio_events.specs.declared.event.Event.{Event};
-ghost use Rattle.radio_events.specs.declared.event.Event.TheVariants.{Leave};
-ghost use Rattle.radio_events.specs.declared.event.ListenRequest.{ListenRequest};
 ghost use Rattle.radio_core.specs.Run.{run_after};
-ghost use Rattle.radio_events.specs.Events.{client_in};
-ghost use Rattle.radio_core.specs.Denials.{DenialsAreThePolicys, AddressesAreDenied, OnlySourcesFeed, KnownMountsAreKnown};
-ghost use Rattle.radio_core.specs.Finishes.{FinishedAreTold};
-ghost use Rattle.radio_core.specs.Access.{AccessIsKept};
-ghost use Rattle.radio_core.specs.Limits.{IsWithinLimits, DeniesByLimits, AdmitsByLimits};
-ghost use Rattle.radio_core.specs.Admission.{BeginsAtABlock};
 ghost use Rattle.radio_core.specs.Lagging.{NobodyLags};
 ghost use Rattle.radio_core.specs.SessionSteps.{SessionsStep, KeepsSettings};
 ghost use Rattle.radio_core.specs.SeatSteps.{SeatsStep};
 ghost use Rattle.radio_core.specs.ClientSteps.{ClientsStep, ArrivalsStay};
-ghost use Rattle.radio_core.specs.Service.{Serves, ChangesNothing};
-ghost use Rattle.radio_core.specs.Stretches.{StretchesAreWhole, SeatsKeepTheirMounts};
-ghost use Rattle.radio_core.specs.TitlesTold.{TitlesAreTold};
 ghost use Rattle.radio_core.specs.Others.{OthersStandOn, RepliesFit, LosesNoSeatElse};
-ghost use Rattle.radio_core.specs.Timeouts.{TestsAreInNumbers};
-ghost use Rattle.radio_core.specs.Outstaying.{NobodyOutstays};
 ghost use Rattle.radio_core.specs.SourceReplies.{SourcesAreToldByTheirData, EndsAreTold};
 ghost use Rattle.radio_core.specs.CoreReplies.{CoresGoByTheirStates};
-ghost use Rattle.radio_core.specs.Gone.{HasLeft, IsOutOfPlace, StaysGone};
-
-use radio_policy::denials_name_the_first_rule;
-
-/// The law of denials.
-pub fn denials_are_the_policys()
-    // whatever has happened, what is denied is what the policy denies then, by its first rule, and
-    // nothing has changed but that an undecided client has had his answer
-    ensures denied { (settings : Settings) (lists : Lists) (events : List Event) (event : Event)
-        → DenialsAreThePolicys (run_after settings lists events) event }
-    // an address that the lists deny is denied for it, whatever else holds
-    ensures addresses { (settings : Settings) (lists : Lists) (events : List Event) → AddressesAreDenied (run_after settings lists events) }
-    // a source feeds only with the user and the password of the mount's source, byte for byte, and a type that is carried
-    ensures sources { (settings : Settings) (lists : Lists) (events : List Event) (event : Event) → OnlySourcesFeed (run_after settings lists events) event }
-    // a mount of the settings, one that a relay feeds and one that is live are never denied as unknown
-    ensures known { (settings : Settings) (lists : Lists) (events : List Event) (asked : ListenRequest)
-        → KnownMountsAreKnown (run_after settings lists events) asked }
-{
-    denials_name_the_first_rule();
-}
-
-/// The law of denials, for those who are told that they were finished.
-pub fn finished_are_told()
-    // whoever is told that he was finished by a rule was finished by that rule at an earlier event,
-    // at which its condition held: the end of his mount's session, a block that left him too far
-    // behind, or a moment at which his time was over
-    ensures finished { (settings : Settings) (lists : Lists) (events : List Event) (event : Event) → FinishedAreTold settings lists events event }
-{}
-
-/// The law of access.
-pub fn access_is_kept()
-    // whatever has happened, data is handed out to a draw alone, and it stands at the listener's
-    // place in the stream of the mount where his seat is, which is open to him
-    ensures access { (settings : Settings) (lists : Lists) (events : List Event) (event : Event) → AccessIsKept (run_after settings lists events) event }
-{}
-
-/// The law of limits.
-pub fn limits_are_kept()
-    // whatever has happened, no more sit at a mount than its settings let, and nobody sits twice where its settings let each user sit once
-    ensures within { (settings : Settings) (lists : Lists) (events : List Event) → IsWithinLimits (run_after settings lists events) }
-    // and whoever is denied by a limit is denied only where it is reached then, and as a user who sits at the mount only where that very user does
-    ensures denied { (settings : Settings) (lists : Lists) (events : List Event) (event : Event) → DeniesByLimits (run_after settings lists events) event }
-    // and a client arrives, and a source feeds, only where fewer are there than may be
-    ensures admitted { (settings : Settings) (lists : Lists) (events : List Event) (event : Event) → AdmitsByLimits (run_after settings lists events) event }
-{}
 
 /// The law of sessions.
 pub fn sessions_are_their_sources()
@@ -104,43 +46,6 @@ pub fn nobody_lags()
     ensures near { (settings : Settings) (lists : Lists) (events : List Event) → NobodyLags (run_after settings lists events) }
 {}
 
-/// The law of admission.
-pub fn listeners_begin_at_a_block()
-    // whatever has happened, only who asks to hear a mount is seated, in the session that the mount
-    // has then, and he begins at the earliest start of one of its blocks, or at its end, that his
-    // burst allows
-    ensures seated { (settings : Settings) (lists : Lists) (events : List Event) (event : Event) → BeginsAtABlock (run_after settings lists events) event }
-{}
-
-/// The law of service.
-pub fn whoever_may_is_served()
-    // whatever has happened, what the policy allows happens; a title and the end of a source's data are noted; and a listener
-    // who has a seat is handed what stands at his place, as much as is there and as he has room for
-    ensures served { (settings : Settings) (lists : Lists) (events : List Event) → Serves (run_after settings lists events) }
-    // and what is out of place, or comes from one who was finished, changes nothing
-    ensures nothing { (settings : Settings) (lists : Lists) (events : List Event) (event : Event) → ChangesNothing (run_after settings lists events) event }
-{
-    denials_name_the_first_rule();
-}
-
-/// The law of stretches.
-pub fn stretches_are_whole()
-    // over every run, all that a listener is handed is stretches, one for each of his sittings:
-    // each a contiguous slice, without gap or repeat, of what the source delivered in whose session
-    // he sat
-    ensures stretches { (settings : Settings) (lists : Lists) (events : List Event) → StretchesAreWhole settings lists events }
-    // and through each event a listener who keeps a seat keeps all of it but his place, and does not go back
-    ensures mounts { (settings : Settings) (lists : Lists) (events : List Event) (event : Event)
-        → SeatsKeepTheirMounts (run_after settings lists events) event }
-{}
-
-/// The law of titles.
-pub fn listeners_are_told_titles()
-    // over every run, whoever is handed data is told the last title that the source has set in
-    // whose session he sits, by a title that was noted, or none where it has set none
-    ensures told { (settings : Settings) (lists : Lists) (events : List Event) (event : Event) → TitlesAreTold settings lists events event }
-{}
-
 /// What an event does to its own client, and to others.
 pub fn events_are_of_their_clients()
     // whatever has happened, who is told that he has arrived, feeds or is seated asked for it, and stands so then; and who
@@ -150,30 +55,6 @@ pub fn events_are_of_their_clients()
     ensures others { (settings : Settings) (lists : Lists) (events : List Event) (event : Event) → OthersStandOn (run_after settings lists events) event }
     // and whoever has lost his seat has left by the event, or it finishes him by a rule whose condition holds then
     ensures seats { (settings : Settings) (lists : Lists) (events : List Event) (event : Event) → LosesNoSeatElse (run_after settings lists events) event }
-{}
-
-/// The law of time.
-pub fn nobody_outstays()
-    // whatever has happened, a moment that has passed changes nothing; and when any other was
-    // heard, no listener is there who has sat as long as his mount allows, no client who has asked
-    // for nothing in the time for it, and no source that has sent nothing in the time for it
-    // and each of them is ended by his own rule: who has sat out his time by `time-over`, also where his session ends as well
-    ensures in_time { (settings : Settings) (lists : Lists) (events : List Event) (ms : ℕ) → NobodyOutstays (run_after settings lists events) ms }
-    // and what that time is, and how far behind is too far, in numbers
-    ensures tests { TestsAreInNumbers }
-{}
-
-/// The law of those who have left.
-pub fn who_left_is_gone()
-    // whoever was given a number and leaves is no client then
-    ensures left { (settings : Settings) (lists : Lists) (events : List Event) (id : ℕ) → id ≤ (run_after settings lists events).house.last_id
-        → HasLeft (run_after settings lists (events ++ Leave id ∷ [])) id }
-    // whatever happens in the name of one who has left is out of place, and changes nothing
-    ensures strays { (settings : Settings) (lists : Lists) (events : List Event) (event : Event) (id : ℕ) → HasLeft (run_after settings lists events) id
-        → client_in event ≡ Some id → IsOutOfPlace (run_after settings lists events) event }
-    // and whatever else happens, he does not come back: his number is given to nobody, he is handed nothing more, and nothing more comes from him
-    ensures gone { (settings : Settings) (lists : Lists) (events more : List Event) (id : ℕ) → HasLeft (run_after settings lists events) id
-        → StaysGone (run_after settings lists events) more id }
 {}
 
 /// What a source is replied goes by its data, and not by how they are cut into blocks.

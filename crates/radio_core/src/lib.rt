@@ -1,7 +1,12 @@
 //! The server's state, and what each event does to it.
 //!
 //! - [`Core`]: the state; [`Core::step`] is one event (`radio_events`).
-//! - [`access_is_kept`] and the other functions of `laws`: what holds of every run of events.
+//! - [`clients_stand_by_their_events`] and the other functions of `laws`: what an event can do to
+//!   one client, one seat and one session, in every run. The laws of every run stand on them
+//!   (`radio_laws`).
+//! - [`House`], [`Client`], [`ClientState`], [`Standing`], [`Outcome`], [`Change`]: the words in
+//!   which contracts and laws speak of the state, and of what comes of an event. No call takes or
+//!   gives one.
 //!
 //! The state has two parts: the house (the settings, the live mounts' sessions, the clients), and
 //! the table of those who listen. What comes of an event is worked out first (a file for each event
@@ -21,14 +26,16 @@ mod stream;
 mod timeouts;
 mod totals;
 
+pub use clients::{Client, ClientState};
+pub use house::House;
 pub use laws::{
-    access_is_kept, clients_stand_by_their_events, cores_go_by_their_states,
-    denials_are_the_policys, events_are_of_their_clients, finished_are_told, limits_are_kept,
-    listeners_are_told_titles, listeners_begin_at_a_block, nobody_lags, nobody_outstays,
-    seats_are_their_listeners, sessions_are_their_sources, sources_are_told_by_their_data,
-    stretches_are_whole, who_left_is_gone, whoever_may_is_served,
+    clients_stand_by_their_events, cores_go_by_their_states, events_are_of_their_clients,
+    nobody_lags, seats_are_their_listeners, sessions_are_their_sources,
+    sources_are_told_by_their_data,
 };
+pub use outcome::{Change, Outcome};
 pub use server::Core;
+pub use standing::Standing;
 pub use totals::clients_and_seats_add_up;
 
 /// What a call answers where memory was refused. Nothing has changed then, unless it is said.

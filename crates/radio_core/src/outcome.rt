@@ -10,7 +10,7 @@ use radio_settings::{MountName, Shown};
 
 /// What an event changes.
 #[derive(Drop)]
-pub(crate) enum Change {
+pub enum Change {
     /// Nothing.
     Nothing,
     /// The client has had his answer.
@@ -70,9 +70,9 @@ pub(crate) enum Change {
 
 /// What comes of an event.
 #[derive(Drop)]
-pub(crate) struct Outcome {
-    pub(crate) reply: Reply,
-    pub(crate) change: Change,
+pub struct Outcome {
+    pub reply: Reply,
+    pub change: Change,
 }
 
 impl Outcome {

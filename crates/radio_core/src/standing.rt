@@ -4,7 +4,7 @@ use radio_settings::MountName;
 
 /// How a client stands: what decides which of his events count.
 #[derive(Clone, Copy)]
-pub(crate) enum Standing {
+pub enum Standing {
     /// There is no client of that number.
     Unknown,
     /// He has asked for nothing yet.

@@ -8,7 +8,7 @@ use Rattle.radio_events.specs.declared.reply.Reply.{Reply}
 use Rattle.radio_events.specs.declared.reply.Reply.TheVariants.{Arrived, Feeding, Seated, Drawn, Noted, Deny, Finished, Stray}
 use Rattle.radio_core.specs.Handing.{data_in, is_number, of_client, handed, delivered}
 use Rattle.radio_core.specs.Step.{reply_to, world_after}
-use Rattle.radio_core.specs.Stretches.{sittings, AreStretches, StretchesAreWhole}
+use Rattle.radio_laws.specs.Stretches.{sittings, AreStretches, StretchesAreWhole}
 use Rattle.radio_events.specs.Events.{client_in}
 use Rattle.radio_core.specs.World.{World, opening}
 use Rattle.radio_icy.specs.Weaving.{Call}

@@ -19,7 +19,7 @@ use Rattle.radio_core.specs.Handing.{of_client, delivered}
 use Rattle.radio_core.specs.Listen.{interval_for}
 use Rattle.radio_core.specs.Source.{shown_for}
 use Rattle.radio_core.specs.Step.{reply_to, world_after}
-use Rattle.radio_core.specs.Stretches.{Sitting, sittings, AreStretches}
+use Rattle.radio_laws.specs.Stretches.{Sitting, sittings, AreStretches}
 use Rattle.radio_core.specs.World.{World, opening}
 use Rattle.radio_session.specs.Conversation.{Conversation, fresh}
 use Rattle.radio_session.specs.Draws.{interval_told, joined_draws}

@@ -10,7 +10,7 @@ ghost use Rattle.radio_floor.specs.LastWords.{DenialsAreTold, FinishesAreTold, C
 ghost use Rattle.radio_floor.specs.ScriptEvents.{ScriptsComeToEvents};
 ghost use Rattle.radio_floor.specs.HearsSlices.{DrawsAreStretches};
 
-use radio_core::stretches_are_whole;
+use radio_laws::stretches_are_whole;
 use radio_session::{hearing_is_one, last_words_name_the_rule};
 
 /// The server does one thing at each delivery. So a script has one transcript, and what the whole

@@ -1,5 +1,0 @@
-use Rattle.radio_core.proofs.FinishLemmas.{finished_hold}
-use Rattle.radio_core.proofs.laws.finished_are_told.Goals as goal
-
-pub returns : goal.returns
-returns c = record { finished = λ settings lists events event. finished_hold settings lists events event }

@@ -1,5 +1,0 @@
-use Rattle.radio_core.proofs.TitleLemmas.{titles_hold}
-use Rattle.radio_core.proofs.laws.listeners_are_told_titles.Goals as goal
-
-pub returns : goal.returns
-returns c = record { told = λ settings lists events event. titles_hold settings lists events event }

@@ -1,0 +1,135 @@
+-- the law of those who have left
+use Rattle.std.proofs.Common.{◌≡◌, inl, inr, true, false, ℕ, ◌≤◌, Bool, Some, List, [], ◌∷◌, ◌++◌, refl, ap, sym, subst, ◌∙◌, arith}
+use Rattle.std.specs.Prelude.{if◌then◌else◌}
+use Rattle.std.proofs.lemmas.List.{append-nil}
+use Rattle.radio_settings.specs.declared.settings.Settings.{Settings}
+use Rattle.radio_access.specs.Lists.{Lists}
+use Rattle.radio_events.specs.declared.event.Event.{Event}
+use Rattle.radio_events.specs.declared.event.Event.TheVariants.{Arrive, Source, Push, SourceEnd, Title, Listen, Draw, Leave, Clock}
+use Rattle.radio_core.specs.declared.outcome.Outcome.{Outcome}
+use Rattle.radio_core.specs.declared.standing.Standing.{Standing}
+use Rattle.radio_core.specs.declared.standing.Standing.TheVariants.{Unknown, Undecided, Feeds, Sits, Answered, Finished}
+use Rattle.radio_core.specs.World.{World, standing_of}
+use Rattle.radio_core.specs.Changes.{changed, session_ended}
+use Rattle.radio_laws.specs.Gone.{HasLeft, IsOutOfPlace, StaysGone}
+use Rattle.radio_core.specs.Handing.{data_in, block_in, handed_at, handed, delivered_at, delivered}
+use Rattle.radio_core.specs.Leave.{leaves_from}
+use Rattle.radio_core.specs.Others.{StandsOn}
+use Rattle.radio_core.specs.Run.{world_after_all, run_after}
+use Rattle.radio_core.specs.Sound.{IsSound}
+use Rattle.radio_core.specs.Step.{outcome, reply_to, world_after}
+use Rattle.radio_core.specs.Ways.{Way, Misplaced, IsFinished, IsDenied, IsRefused, IsAdmitted, Begins, Receives, SetsTitle, TakesSeat, HandsOut, Ends}
+use Rattle.radio_core.specs.Ways.{EndsAndLeaves, Leaves, HasPassed, Ticks}
+use Rattle.radio_events.specs.Events.{client_in}
+use Rattle.radio_core.proofs.FinishLemmas.{others_hold, known_before}
+use Rattle.radio_core.proofs.ReplyLemmas.{replies_fit}
+use Rattle.radio_core.proofs.SoundRuns.{sound_after}
+use Rattle.radio_core.proofs.Standings.{turns_forgotten}
+use Rattle.radio_core.proofs.TickLemmas.{ticked_fates}
+use Rattle.radio_core.proofs.Ways.{way_of}
+use Rattle.radio_core.proofs.OwnLemmas.{by_own, not_of, nothing_of}
+
+-- runs are joined
+after_joined : (w : World) (events more : List Event) → world_after_all w (events ++ more) ≡ world_after_all (world_after_all w events) more
+after_joined w [] more = refl
+after_joined w (event ∷ events) more = after_joined (world_after w event) events more
+
+-- who leaves is gone
+left_by : (w : World) (id : ℕ) → id ≤ w.house.last_id → (s : Standing) → standing_of w id ≡ s → HasLeft (changed w (leaves_from id s).change) id
+left_by w id given Unknown e = (given, e)
+left_by w id given (Feeds mount) e = (given, (turns_forgotten (session_ended w mount) id).his)
+left_by w id given (Undecided peer) e = (given, (turns_forgotten w id).his)
+left_by w id given Sits e = (given, (turns_forgotten w id).his)
+left_by w id given Answered e = (given, (turns_forgotten w id).his)
+left_by w id given (Finished rule) e = (given, (turns_forgotten w id).his)
+
+left_at_once : (w : World) (id : ℕ) → id ≤ w.house.last_id → HasLeft (world_after w (Leave id)) id
+unfolding world_after outcome
+left_at_once w id given = left_by w id given (standing_of w id) refl
+
+pub has_left : (settings : Settings) (lists : Lists) (events : List Event) (id : ℕ) → id ≤ (run_after settings lists events).house.last_id
+    → HasLeft (run_after settings lists (events ++ Leave id ∷ [])) id
+has_left settings lists events id given =
+    subst (λ (x : World). HasLeft x id) (sym (after_joined _ events (Leave id ∷ []))) (left_at_once (run_after settings lists events) id given)
+
+-- whatever happens in his name is out of place
+module _ (w : World) (id : ℕ) (unknown : standing_of w id ≡ Unknown) where
+  his_standing : (him : ℕ) → Some him ≡ Some id → standing_of w him ≡ Unknown
+  his_standing him e = let same : him ≡ id = cc in ap (standing_of w) same ∙ unknown
+
+  pub strays : (event : Event) → client_in event ≡ Some id → IsOutOfPlace w event
+  unfolding outcome
+  strays (Arrive peer) e = cc
+  strays (Source asked) e = rw (his_standing asked.id e) refl
+  strays (Push him block) e = rw (his_standing him e) refl
+  strays (SourceEnd him) e = rw (his_standing him e) refl
+  strays (Title him text) e = rw (his_standing him e) refl
+  strays (Listen asked) e = rw (his_standing asked.id e) refl
+  strays (Draw him room) e = rw (his_standing him e) refl
+  strays (Leave him) e = rw (his_standing him e) refl
+  strays (Clock ms) e = cc
+
+-- numbers are not taken back
+low_by : (w : World) → IsSound w → (event : Event) (o : Outcome) → Way w event o → w.house.last_id ≤ (changed w o.change).house.last_id
+low_by w s event o (IsAdmitted peer allowed) = omega arith
+low_by w s event o (Misplaced _) = omega arith
+low_by w s event o (IsFinished _ him by its known) = omega arith
+low_by w s event o (IsDenied _ by v nobody) = omega arith
+low_by w s event o (IsRefused _ him by v its undecided) = omega arith
+low_by w s event o (Begins asked undecided none allowed) = omega arith
+low_by w s event o (Receives him mount block feeding) = omega arith
+low_by w s event o (SetsTitle him mount text feeding) = omega arith
+low_by w s event o (HasPassed ms e) = omega arith
+low_by w s event o (Ticks ms e) = let last = (ticked_fates w s ms).last in omega (arith, last)
+low_by w s event o (TakesSeat asked peer session undecided live allowed) = omega arith
+low_by w s event o (HandsOut him room seat session sits has live) = omega arith
+low_by w s event o (Ends him mount feeding) = omega arith
+low_by w s event o (EndsAndLeaves him mount feeding) = omega arith
+low_by w s event o (Leaves him other) = omega arith
+
+pub last_rises : (w : World) → IsSound w → (event : Event) → w.house.last_id ≤ (world_after w event).house.last_id
+unfolding world_after
+last_rises w s event = low_by w s event (outcome w event) (way_of w event)
+
+-- what is of nobody else, and what brings nothing
+pub his_own : {A : Type 0} (b : Bool) (brought : List A) → b ≡ true → brought ≡ (if b then brought else [])
+his_own true brought e = refl
+his_own false brought e = cc
+
+pub with_nothing : {A : Type 0} (xs ys : List A) → ys ≡ [] → xs ≡ xs ++ ys
+with_nothing xs ys e = sym (ap (λ zs. xs ++ zs) e ∙ append-nil xs)
+
+module _ (w : World) (s : IsSound w) (event : Event) (id : ℕ) (left : HasLeft w id) where
+  still_left : HasLeft (world_after w event) id
+  unfolding world_after
+  still_left =
+      by_own event id
+      (λ own. subst (λ (o : Outcome). HasLeft (changed w o.change) id) (sym (strays w id left.1 event own)) left)
+      (λ other apart. beside (others_hold w s event id other)) where
+        beside : StandsOn w event id → HasLeft (world_after w event) id
+        beside (inl same) = let low = last_rises w s event in (omega (arith, low, left.0), same ∙ left.1)
+        beside (inr (inl (rule, finishes))) = absurd (known_before w s event id rule finishes left.1)
+        beside (inr (inr arrived)) = let above = ((replies_fit w s event).arrived id arrived).2 in absurd (omega (arith, above, left.0))
+
+  nothing_handed : handed_at w event id ≡ []
+  unfolding reply_to
+  nothing_handed =
+      by_own event id
+      (λ own. nothing_of event id (data_in (reply_to w event)) (ap (λ (o : Outcome). data_in o.reply) (strays w id left.1 event own)))
+      (λ other apart. not_of event id (data_in (reply_to w event)) apart)
+
+  nothing_delivered : delivered_at w event id ≡ []
+  nothing_delivered =
+      by_own event id
+      (λ own. nothing_of event id (block_in (outcome w event).change) (ap (λ (o : Outcome). block_in o.change) (strays w id left.1 event own)))
+      (λ other apart. not_of event id (block_in (outcome w event).change) apart)
+
+pub stays_gone : (w : World) → IsSound w → (events : List Event) (id : ℕ) → HasLeft w id → StaysGone w events id
+stays_gone w s [] id left = record { is_gone = left; is_handed_nothing = refl; brings_nothing = refl }
+stays_gone w s (event ∷ events) id left =
+    let rest = stays_gone (world_after w event) (sound_after w s event) events id (still_left w s event id left) in
+    record {
+      is_gone = rest.is_gone;
+      is_handed_nothing = ap (λ xs. xs ++ handed (world_after w event) events id) (nothing_handed w s event id left) ∙ rest.is_handed_nothing;
+      brings_nothing = ap (λ xs. xs ++ delivered (world_after w event) events id) (nothing_delivered w s event id left) ∙ rest.brings_nothing;
+    }

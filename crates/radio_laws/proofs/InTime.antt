@@ -1,0 +1,97 @@
+-- after the clock was heard, nobody is there whose time is over
+use Rattle.std.proofs.Common.{◌≡◌, Bool, true, false, ℕ, zero, suc, ◌≤◌, Option, Some, None, List, [], ◌∷◌, length, refl, ap}
+use Rattle.std.proofs.Common.{sym, ◌∙◌, arith}
+use Rattle.std.specs.Prelude.{if◌then◌else◌, find, not}
+use Rattle.std.specs.Option.{option_map}
+use Rattle.std.specs.Str.{bytes_eq}
+use Rattle.std.proofs.lemmas.Slice.Eq.{bytes_eq-Decides}
+use Rattle.radio_policy.specs.declared.rule.Rule.TheVariants.{TimeOver, HeaderTimeout}
+use Rattle.radio_tables.proofs.FindLaws.{found_has, passes_none}
+use Rattle.radio_seats.proofs.EndLaws.{kept_seat}
+use Rattle.radio_core.specs.declared.clients.Client.{Client}
+use Rattle.radio_core.specs.declared.clients.ClientState.TheVariants.{Ended}
+use Rattle.radio_events.specs.declared.event.Event.TheVariants.{Clock}
+use Rattle.radio_core.specs.Changes.{first_silent, session_silenced, on_silent, silence, ticked}
+use Rattle.radio_core.specs.Clients.{client_of, with_state}
+use Rattle.radio_laws.specs.Outstaying.{IsInTime}
+use Rattle.radio_core.specs.Sessions.{Session, is_of, session_of}
+use Rattle.radio_core.specs.Sound.{IsSound}
+use Rattle.radio_core.specs.Timeouts.{has_sat_out, asks_too_late, timed_out, is_silent}
+use Rattle.radio_core.specs.World.{World}
+use Rattle.radio_core.proofs.ApartLemmas.{shorter}
+use Rattle.radio_core.proofs.Fates.{sits_on_still}
+use Rattle.radio_core.proofs.TickLemmas.{clients_after, sat_out, sound_sat_out, fates_silence}
+
+module _ (seconds ms : ℕ) where
+  -- nobody asks too late by the same measure
+  in_time_at : (client : Client) (b : Bool) → asks_too_late seconds ms client ≡ b
+      → asks_too_late seconds ms (with_state (if b then Ended HeaderTimeout else client.state) client) ≡ false
+  in_time_at client true e = refl
+  in_time_at client false e = e
+
+  in_time_in : (found : Option Client) (client : Client) → option_map (timed_out seconds ms) found ≡ Some client → asks_too_late seconds ms client ≡ false
+  in_time_in None client e = cc
+  in_time_in (Some old) client e =
+      let one : timed_out seconds ms old ≡ client = cc in
+      ap (λ (x : Client). asks_too_late seconds ms x) (sym one) ∙ in_time_at old (asks_too_late seconds ms old) refl
+
+silence_time : (n : ℕ) (w : World) → (silence n w).house.time ≡ w.house.time
+silence_time zero w = refl
+silence_time (suc n) w = by_first (silence_time n) (first_silent w) where
+  by_first : ((next : World) → (silence n next).house.time ≡ next.house.time) → (found : Option Session)
+      → (on_silent (silence n) w found).house.time ≡ w.house.time
+  by_first rest None = refl
+  by_first rest (Some session) = rest (session_silenced w session)
+
+none_left : (live : List Session) (p : Session → Bool) → length live ≤ 0 → find p live ≡ None
+none_left [] p e = refl
+none_left (session ∷ live) p e = absurd (omega (arith, e))
+
+none_silent : (n : ℕ) (w : World) → length w.house.live ≤ n → first_silent (silence n w) ≡ None
+none_silent zero w few = none_left w.house.live (is_silent w.house.settings.limits.source_timeout w.house.time) few
+none_silent (suc n) w few = by_first (none_silent n) (first_silent w) refl where
+  itself : (session : Session) → bytes_eq session.mount session.mount ≡ true
+  itself session = (bytes_eq-Decides session.mount session.mount).1 refl
+
+  by_first : ((next : World) → length next.house.live ≤ n → first_silent (silence n next) ≡ None) → (found : Option Session) → first_silent w ≡ found
+      → first_silent (on_silent (silence n) w found) ≡ None
+  by_first rest None e = e
+  by_first rest (Some session) e =
+      let less = shorter (is_silent w.house.settings.limits.source_timeout w.house.time) (λ x. not (is_of session.mount x)) w.house.live session
+      (ap not (itself session)) e in
+      rest (session_silenced w session) (omega (arith, less, few))
+
+module _ (w : World) (s : IsSound w) (ms : ℕ) where
+  pub in_time : IsInTime (ticked w ms) ms
+  in_time = record {
+    is_now = silence_time (length (sat_out w s ms).house.live) (sat_out w s ms);
+    seats = λ id seat e.
+        let before = sits_on_still (sat_out w s ms) (ticked w ms) (Clock ms) (sound_sat_out w s ms) (fates_silence w s ms) id seat e in
+        ap (λ settings. has_sat_out settings ms seat) (fates_silence w s ms).settings
+        ∙ kept_seat (has_sat_out w.house.settings ms) TimeOver w.seats id seat before.0;
+    clients = λ id client e. clients id client e;
+    sources = λ mount session e. sources mount session e;
+  } where
+    clients : (id : ℕ) (client : Client) → client_of (ticked w ms).house.clients id ≡ Some client
+        → asks_too_late (ticked w ms).house.settings.limits.header_timeout ms client ≡ false
+    clients id client e = by_test (asks_too_late (ticked w ms).house.settings.limits.header_timeout ms client) refl where
+      by_test : (b : Bool) → asks_too_late (ticked w ms).house.settings.limits.header_timeout ms client ≡ b
+          → asks_too_late (ticked w ms).house.settings.limits.header_timeout ms client ≡ false
+      by_test false h = h
+      by_test true h =
+          let before = (fates_silence w s ms).late id client (ticked w ms).house.settings.limits.header_timeout ms e h in
+          let found : option_map (timed_out w.house.settings.limits.header_timeout ms) (client_of w.house.clients id) ≡ Some client =
+          sym (clients_after w.house.settings.limits.header_timeout ms w.house.clients id) ∙ before in
+          ap (λ settings. asks_too_late settings.limits.header_timeout ms client) (fates_silence w s ms).settings
+          ∙ in_time_in w.house.settings.limits.header_timeout ms (client_of w.house.clients id) client found
+
+    sources : (mount : List ℕ) (session : Session) → session_of (ticked w ms).house.live mount ≡ Some session
+        → is_silent (ticked w ms).house.settings.limits.source_timeout ms session ≡ false
+    sources mount session e =
+        let later = ticked w ms in
+        let none = none_silent (length (sat_out w s ms).house.live) (sat_out w s ms) (omega arith) in
+        let all = passes_none (is_silent later.house.settings.limits.source_timeout later.house.time) later.house.live none in
+        let not_silent = found_has (is_of mount) (λ (x : Session). is_silent later.house.settings.limits.source_timeout later.house.time x ≡ false)
+        later.house.live session all e in
+        ap (λ (moment : ℕ). is_silent later.house.settings.limits.source_timeout moment session) (sym (silence_time (length (sat_out w s ms).house.live) (sat_out w s ms)))
+        ∙ not_silent

@@ -1,0 +1,13 @@
+mod DenialLemmas
+mod LimitDenials
+mod LimitLemmas
+mod ListsLemmas
+mod AccessLemmas
+mod ToldLemmas
+mod ServiceLemmas
+mod GoneLemmas
+mod MountLemmas
+mod StretchLemmas
+mod TitleLemmas
+mod InTime
+mod TickOrder

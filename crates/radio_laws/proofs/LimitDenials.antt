@@ -1,0 +1,334 @@
+-- a listener is denied by a limit only where the limit is reached
+use Rattle.std.proofs.Common.{◌≡◌, inl, inr, Bool, true, false, ℕ, ◌<◌, ◌≤◌, ◌||◌, ◌&&◌, not, Option, Some, None, List, [], ◌∷◌, length, refl, ap, sym, ◌∙◌, arith}
+use Rattle.std.specs.Prelude.{if◌then◌else◌}
+use Rattle.std.specs.List.{list_any}
+use Rattle.std.specs.Str.{bytes_eq}
+use Rattle.std.proofs.lemmas.Bool.Decides.{nat_tests}
+use Rattle.std.proofs.lemmas.Slice.Eq.{bytes_eq-Decides}
+use Rattle.radio_creds.specs.Credentials.{Credentials}
+use Rattle.radio_policy.specs.declared.judgement.Verdict.TheVariants.{Deny as Denied}
+use Rattle.radio_policy.specs.declared.rule.Rule.{Rule}
+use Rattle.radio_policy.specs.declared.rule.Rule.TheVariants.{TooManyClients, TooManySources, MountFull, UserTwice, NumbersSpent}
+use Rattle.radio_policy.specs.Table.{Row, arrive_rows, source_rows}
+use Rattle.radio_policy.specs.Verdicts.{verdict_in}
+use Rattle.radio_settings.specs.MountName.{is_mount_name}
+use Rattle.radio_tables.specs.Lists.{Each, Has}
+use Rattle.radio_seats.specs.declared.seat.Listener.{Listener}
+use Rattle.radio_fallback.specs.declared.walking.Found.{Found}
+use Rattle.radio_seats.specs.declared.seat.Seat.{Seat}
+use Rattle.radio_seats.specs.declared.seat.Seating.{Seating}
+use Rattle.radio_seats.specs.declared.seat.Seating.TheVariants.{Sits as HasSeat, Finished as HasLostIt}
+use Rattle.radio_seats.specs.Seats.{seats_at, has_user, is_user_at}
+use Rattle.radio_fallback.specs.Walk.{is_full, sits_already}
+use Rattle.radio_events.specs.declared.event.Event.{Event}
+use Rattle.radio_events.specs.declared.event.Event.TheVariants.{Arrive, Source, Push, SourceEnd, Title, Listen, Draw, Leave, Clock}
+use Rattle.radio_events.specs.declared.event.SourceRequest.{SourceRequest}
+use Rattle.radio_events.specs.declared.event.ListenRequest.{ListenRequest}
+use Rattle.radio_core.specs.declared.outcome.Outcome.{Outcome}
+use Rattle.radio_events.specs.declared.reply.Reply.TheVariants.{Arrived, Feeding, Deny}
+use Rattle.radio_core.specs.declared.standing.Standing.{Standing}
+use Rattle.radio_core.specs.declared.standing.Standing.TheVariants.{Unknown, Undecided, Feeds, Sits, Answered, Finished}
+use Rattle.radio_core.specs.Facts.{is_full as is_too_many, is_known, arrive_facts, source_facts_at}
+use Rattle.radio_laws.specs.Limits.{IsFullAt, SentUser, HasUserAt, DeniesByLimits, AdmitsByLimits, most_at, allows_duplicates_at}
+use Rattle.radio_core.specs.Step.{outcome, reply_to}
+use Rattle.radio_core.specs.Ways.{Way, Misplaced, IsFinished, IsDenied, IsRefused, IsAdmitted, Begins, Receives, SetsTitle, TakesSeat, HandsOut, Ends}
+use Rattle.radio_core.specs.Ways.{EndsAndLeaves, Leaves, HasPassed, Ticks, rows_for, rows_from}
+use Rattle.radio_core.specs.World.{World, standing_of}
+use Rattle.radio_core.proofs.Ways.{way_of, rows_by, found_by, rows_there, may_feed, has_room_left}
+
+-- the rules of the limits of mounts, that of clients and that of sources
+abbrev is_limit : Rule → Bool
+is_limit MountFull = true
+is_limit UserTwice = true
+is_limit rule = false
+
+abbrev is_of_clients : Rule → Bool
+is_of_clients TooManyClients = true
+is_of_clients rule = false
+
+abbrev is_of_sources : Rule → Bool
+is_of_sources TooManySources = true
+is_of_sources rule = false
+
+-- rows that name no such rule
+module _ (meant : Rule → Bool) where
+  no_limit_at : (x : Row) (xs : List Row) (rule : Rule) (b : Bool) → x.holds ≡ b → meant x.rule ≡ false
+      → (verdict_in xs ≡ Denied rule → meant rule ≡ true → ⊥) → verdict_in (x ∷ xs) ≡ Denied rule → meant rule ≡ true → ⊥
+  no_limit_at x xs rule true e not later v limit =
+      let here : verdict_in (x ∷ xs) ≡ Denied x.rule = rw e refl in
+      let same : x.rule ≡ rule = cc in
+      let also : meant rule ≡ false = ap meant (sym same) ∙ not in
+      cc
+  no_limit_at x xs rule false e not later v limit = let past : verdict_in (x ∷ xs) ≡ verdict_in xs = rw e refl in later (sym past ∙ v) limit
+
+  no_limit : (rows : List Row) → Each (λ row. meant row.rule ≡ false) rows → (rule : Rule) → verdict_in rows ≡ Denied rule → meant rule ≡ true → ⊥
+  no_limit [] all rule v limit = cc
+  no_limit (x ∷ xs) all rule v limit = no_limit_at x xs rule x.holds refl all.0 (no_limit xs all.1 rule) v limit
+
+-- a listener finds it so whom the limits deny
+abbrev finding : Bool → Bool → Bool → Bool → Found
+finding live full accepted twice = record { is_live = live; is_full = full; users_accept = accepted; user_is_twice = twice }
+
+full_by : (named known live full accepted twice : Bool) → verdict_in (rows_by named known (finding live full accepted twice)) ≡ Denied MountFull
+    → full ≡ true
+full_by named known live true accepted twice v = refl
+full_by false known live false accepted twice v = cc
+full_by true false live false accepted twice v = cc
+full_by true true live false false twice v = cc
+full_by true true live false true true v = cc
+full_by true true false false true false v = cc
+full_by true true true false true false v = cc
+
+twice_by : (named known live full accepted twice : Bool) → verdict_in (rows_by named known (finding live full accepted twice)) ≡ Denied UserTwice
+    → twice ≡ true
+twice_by named known live full accepted true v = refl
+twice_by false known live full accepted false v = cc
+twice_by true false live full accepted false v = cc
+twice_by true true live full false false v = cc
+twice_by true true false full true false v = cc
+twice_by true true true true true false v = cc
+twice_by true true true false true false v = cc
+
+-- as many sit there as may
+full_at : (w : World) (mount : List ℕ) (limit : Option ℕ) → most_at w mount ≡ limit → is_full (length (seats_at w.seats mount)) limit ≡ true → IsFullAt w mount
+full_at w mount None limited full = cc
+full_at w mount (Some most) limited full = record { most = most; limited = limited; reached = grind (arith, nat_tests) }
+
+-- somebody sits there who sent the user
+any_at : {X : Type 0} (p : X → Bool) (x : X) (xs : List X) (b : Bool) → p x ≡ b → (b || list_any p xs) ≡ true
+    → (list_any p xs ≡ true → (y : X) × Has y xs × (p y ≡ true)) → (y : X) × Has y (x ∷ xs) × (p y ≡ true)
+any_at p x xs true e some later = (x, inl refl, e)
+any_at p x xs false e some later = let found = later some in (found.0, inr found.1, found.2)
+
+some_one : {X : Type 0} (p : X → Bool) (xs : List X) → list_any p xs ≡ true → (y : X) × Has y xs × (p y ≡ true)
+some_one p [] some = cc
+some_one p (x ∷ xs) some = any_at p x xs (p x) refl some (some_one p xs)
+
+both : (a b : Bool) → (a && b) ≡ true → (a ≡ true) × (b ≡ true)
+both true true e = (refl, refl)
+both true false e = cc
+both false b e = cc
+
+sent_by : (user : List ℕ) (pair : Option Credentials) → has_user user pair ≡ true → SentUser user pair
+sent_by user None e = cc
+sent_by user (Some sent) e = (sent, refl, (bytes_eq-Decides sent.user user).0 e)
+
+seat_there : (mount user : List ℕ) (seating : Seating) → is_user_at mount user seating ≡ true
+    → (seat : Seat) × (seating ≡ HasSeat seat) × (seat.mount ≡ mount) × SentUser user seat.pair
+seat_there mount user (HasSeat seat) e =
+    let is = both (bytes_eq seat.mount mount) (has_user user seat.pair) e in
+    (seat, refl, (bytes_eq-Decides seat.mount mount).0 is.0, sent_by user seat.pair is.1)
+seat_there mount user (HasLostIt rule) e = cc
+
+there_already : (w : World) (mount : List ℕ) (pair : Option Credentials) (allows : Bool) → allows_duplicates_at w mount ≡ allows
+    → (not allows && sits_already w.seats mount pair) ≡ true → HasUserAt w mount pair
+there_already w mount pair true once is = cc
+there_already w mount None false once is = cc
+there_already w mount (Some sent) false once is =
+    let found = some_one (λ (x : Listener). is_user_at mount sent.user x.seating) w.seats is in
+    let there = seat_there mount sent.user found.0.seating found.2 in
+    record {
+      once = once;
+      user = sent.user;
+      sent = (sent, refl, refl);
+      listener = found.0;
+      is_one = found.1;
+      seat = there.0;
+      sits = there.1;
+      at_the_mount = there.2;
+      his_user = there.3;
+    }
+
+-- as many are there as may be
+reached : (count limit : ℕ) → is_too_many count limit ≡ true → limit ≤ count
+reached count limit full = grind (arith, nat_tests)
+
+below : (count limit : ℕ) → is_too_many count limit ≡ false → count < limit
+below count limit room = grind (arith, nat_tests)
+
+-- clients are too many, and sources are, only by their own rows
+clients_by : (denied allowed full spent : Bool)
+    → verdict_in (arrive_rows (record { address_is_denied = denied; address_is_allowed = allowed; clients_are_full = full; number_is_spent = spent }))
+    ≡ Denied TooManyClients → full ≡ true
+clients_by denied allowed true spent v = refl
+clients_by true allowed false spent v = cc
+clients_by false false false spent v = cc
+clients_by false true false true v = cc
+clients_by false true false false v = cc
+
+sources_by : (named its full live refused : Bool)
+    → verdict_in (source_rows (if named then Some (record { is_source_pair = its; sources_are_full = full; mount_is_live = live; type_is_refused = refused })
+    else None)) ≡ Denied TooManySources → full ≡ true
+sources_by named its true live refused v = refl
+sources_by false its false live refused v = cc
+sources_by true false false live refused v = cc
+sources_by true true false true refused v = cc
+sources_by true true false false true v = cc
+sources_by true true false false false v = cc
+
+no_clients_to_hear : (named known live full accepted twice : Bool) → verdict_in (rows_by named known (finding live full accepted twice)) ≡ Denied TooManyClients
+    → ⊥
+no_clients_to_hear false known live full accepted twice v = cc
+no_clients_to_hear true false live full accepted twice v = cc
+no_clients_to_hear true true live full false twice v = cc
+no_clients_to_hear true true live full true true v = cc
+no_clients_to_hear true true false full true false v = cc
+no_clients_to_hear true true true true true false v = cc
+no_clients_to_hear true true true false true false v = cc
+
+no_sources_to_hear : (named known live full accepted twice : Bool) → verdict_in (rows_by named known (finding live full accepted twice)) ≡ Denied TooManySources
+    → ⊥
+no_sources_to_hear false known live full accepted twice v = cc
+no_sources_to_hear true false live full accepted twice v = cc
+no_sources_to_hear true true live full false twice v = cc
+no_sources_to_hear true true live full true true v = cc
+no_sources_to_hear true true false full true false v = cc
+no_sources_to_hear true true true true true false v = cc
+no_sources_to_hear true true true false true false v = cc
+
+module _ (w : World) where
+  -- a source is denied its blocks by the rule of numbers alone
+  only_numbers : (meant : Rule → Bool) → meant NumbersSpent ≡ false → (block : List ℕ) (s : Standing)
+      → Each (λ row. meant row.rule ≡ false) (rows_from w.house block s)
+  only_numbers meant not block (Feeds mount) = (not, tt)
+  only_numbers meant not block Unknown = tt
+  only_numbers meant not block (Undecided peer) = tt
+  only_numbers meant not block Sits = tt
+  only_numbers meant not block Answered = tt
+  only_numbers meant not block (Finished by) = tt
+
+  -- nor what it asks for
+  no_limit_to_feed : (asked : SourceRequest) (named : Bool)
+      → Each (λ row. is_limit row.rule ≡ false) (source_rows (if named then Some (source_facts_at w.house asked.mount asked) else None))
+  no_limit_to_feed asked true = (refl, (refl, (refl, (refl, tt))))
+  no_limit_to_feed asked false = (refl, tt)
+
+  -- the limits deny only who wants to hear a mount
+  only_listeners : {A : Type 0} (rule : Rule) → is_limit rule ≡ true → (event : Event) → verdict_in (rows_for w event) ≡ Denied rule
+      → ((asked : ListenRequest) → event ≡ Listen asked → verdict_in (rows_for w (Listen asked)) ≡ Denied rule → A) → A
+  only_listeners rule limit (Listen asked) v goes = goes asked refl v
+  only_listeners rule limit (Arrive peer) v goes = absurd (no_limit is_limit (rows_for w (Arrive peer)) (refl, (refl, (refl, (refl, tt)))) rule v limit)
+  only_listeners rule limit (Source asked) v goes =
+      absurd (no_limit is_limit (rows_for w (Source asked)) (no_limit_to_feed asked (is_mount_name asked.mount)) rule v limit)
+  only_listeners rule limit (Push id block) v goes =
+      absurd (no_limit is_limit (rows_from w.house block (standing_of w id)) (only_numbers is_limit refl block (standing_of w id)) rule v limit)
+  only_listeners rule limit (SourceEnd id) v goes = cc
+  only_listeners rule limit (Title id text) v goes = cc
+  only_listeners rule limit (Draw id room) v goes = cc
+  only_listeners rule limit (Leave id) v goes = cc
+  only_listeners rule limit (Clock ms) v goes = cc
+
+  abbrev DeniesWhere : Event → (ListenRequest → Type 0) → Type 0
+  DeniesWhere event P = (asked : ListenRequest) × (event ≡ Listen asked) × P asked
+
+  full_there : (event : Event) → verdict_in (rows_for w event) ≡ Denied MountFull → DeniesWhere event (λ asked. IsFullAt w asked.mount)
+  full_there event v = only_listeners MountFull refl event v (λ asked same denied. (asked, same, at asked denied)) where
+    at : (asked : ListenRequest) → verdict_in (rows_for w (Listen asked)) ≡ Denied MountFull → IsFullAt w asked.mount
+    at asked denied =
+        let found = found_by w asked in
+        full_at w asked.mount (most_at w asked.mount) refl
+        (full_by (is_mount_name asked.mount) (is_known w.house asked.mount) found.is_live found.is_full found.users_accept found.user_is_twice
+        (ap verdict_in (sym (rows_there w asked)) ∙ denied))
+
+  twice_there : (event : Event) → verdict_in (rows_for w event) ≡ Denied UserTwice → DeniesWhere event (λ asked. HasUserAt w asked.mount asked.pair)
+  twice_there event v = only_listeners UserTwice refl event v (λ asked same denied. (asked, same, at asked denied)) where
+    at : (asked : ListenRequest) → verdict_in (rows_for w (Listen asked)) ≡ Denied UserTwice → HasUserAt w asked.mount asked.pair
+    at asked denied =
+        let found = found_by w asked in
+        there_already w asked.mount asked.pair (allows_duplicates_at w asked.mount) refl
+        (twice_by (is_mount_name asked.mount) (is_known w.house asked.mount) found.is_live found.is_full found.users_accept found.user_is_twice
+        (ap verdict_in (sym (rows_there w asked)) ∙ denied))
+
+  -- whoever may not arrive since there are as many clients as may be, or not feed since there are as many sources
+  many_clients : (event : Event) → verdict_in (rows_for w event) ≡ Denied TooManyClients → w.house.settings.limits.clients ≤ length w.house.clients
+  many_clients (Arrive peer) v =
+      let facts = arrive_facts w.house peer in
+      reached (length w.house.clients) w.house.settings.limits.clients
+      (clients_by facts.address_is_denied facts.address_is_allowed facts.clients_are_full facts.number_is_spent v)
+  many_clients (Source asked) v = absurd (no_limit is_of_clients (rows_for w (Source asked)) (to_feed (is_mount_name asked.mount)) TooManyClients v refl) where
+    to_feed : (named : Bool)
+        → Each (λ row. is_of_clients row.rule ≡ false) (source_rows (if named then Some (source_facts_at w.house asked.mount asked) else None))
+    to_feed true = (refl, (refl, (refl, (refl, tt))))
+    to_feed false = (refl, tt)
+  many_clients (Push id block) v =
+      absurd (no_limit is_of_clients (rows_from w.house block (standing_of w id)) (only_numbers is_of_clients refl block (standing_of w id)) TooManyClients v refl)
+  many_clients (Listen asked) v =
+      let found = found_by w asked in
+      absurd (no_clients_to_hear (is_mount_name asked.mount) (is_known w.house asked.mount) found.is_live found.is_full found.users_accept found.user_is_twice
+      (ap verdict_in (sym (rows_there w asked)) ∙ v))
+  many_clients (SourceEnd id) v = cc
+  many_clients (Title id text) v = cc
+  many_clients (Draw id room) v = cc
+  many_clients (Leave id) v = cc
+  many_clients (Clock ms) v = cc
+
+  many_sources : (event : Event) → verdict_in (rows_for w event) ≡ Denied TooManySources → w.house.settings.limits.sources ≤ length w.house.live
+  many_sources (Source asked) v =
+      let facts = source_facts_at w.house asked.mount asked in
+      reached (length w.house.live) w.house.settings.limits.sources
+      (sources_by (is_mount_name asked.mount) facts.is_source_pair facts.sources_are_full facts.mount_is_live facts.type_is_refused v)
+  many_sources (Arrive peer) v = absurd (no_limit is_of_sources (rows_for w (Arrive peer)) (refl, (refl, (refl, (refl, tt)))) TooManySources v refl)
+  many_sources (Push id block) v =
+      absurd (no_limit is_of_sources (rows_from w.house block (standing_of w id)) (only_numbers is_of_sources refl block (standing_of w id)) TooManySources v refl)
+  many_sources (Listen asked) v =
+      let found = found_by w asked in
+      absurd (no_sources_to_hear (is_mount_name asked.mount) (is_known w.house asked.mount) found.is_live found.is_full found.users_accept found.user_is_twice
+      (ap verdict_in (sym (rows_there w asked)) ∙ v))
+  many_sources (SourceEnd id) v = cc
+  many_sources (Title id text) v = cc
+  many_sources (Draw id room) v = cc
+  many_sources (Leave id) v = cc
+  many_sources (Clock ms) v = cc
+
+  -- only a verdict of the policy denies
+  pub denied_by : {A : Type 0} (rule : Rule) (event : Event) (o : Outcome) → Way w event o → o.reply ≡ Deny rule
+      → (verdict_in (rows_for w event) ≡ Denied rule → A) → A
+  denied_by rule event o (IsDenied _ by v nobody) d goes = let same : by ≡ rule = cc in goes (v ∙ ap (λ (r : Rule). Denied r) same)
+  denied_by rule event o (IsRefused _ him by v his undecided) d goes = let same : by ≡ rule = cc in goes (v ∙ ap (λ (r : Rule). Denied r) same)
+  denied_by rule event o (Misplaced _) d goes = cc
+  denied_by rule event o (IsFinished _ him by his told) d goes = cc
+  denied_by rule event o (IsAdmitted peer allowed) d goes = cc
+  denied_by rule event o (Begins asked undecided none allowed) d goes = cc
+  denied_by rule event o (Receives him mount block feeding) d goes = cc
+  denied_by rule event o (SetsTitle him mount text feeding) d goes = cc
+  denied_by rule event o (HasPassed ms e) d goes = cc
+  denied_by rule event o (Ticks ms e) d goes = cc
+  denied_by rule event o (TakesSeat asked peer session undecided live allowed) d goes = cc
+  denied_by rule event o (HandsOut him room seat session sits has live) d goes = cc
+  denied_by rule event o (Ends him mount feeding) d goes = cc
+  denied_by rule event o (EndsAndLeaves him mount feeding) d goes = cc
+  denied_by rule event o (Leaves him other) d goes = cc
+
+  pub limits_deny : (event : Event) → DeniesByLimits w event
+  unfolding reply_to
+  limits_deny event = record {
+    clients = λ d. denied_by TooManyClients event (outcome w event) (way_of w event) d (many_clients event);
+    sources = λ d. denied_by TooManySources event (outcome w event) (way_of w event) d (many_sources event);
+    full = λ d. denied_by MountFull event (outcome w event) (way_of w event) d (full_there event);
+    twice = λ d. denied_by UserTwice event (outcome w event) (way_of w event) d (twice_there event);
+  }
+
+  -- whoever arrives or feeds finds room
+  admits_by : (event : Event) (o : Outcome) → Way w event o → ((id : ℕ) → o.reply ≡ Arrived id → length w.house.clients < w.house.settings.limits.clients)
+      × (o.reply ≡ Feeding → length w.house.live < w.house.settings.limits.sources)
+  admits_by event o (IsAdmitted peer allowed) =
+      (λ id d. below (length w.house.clients) w.house.settings.limits.clients (has_room_left w.house peer allowed), λ d. cc)
+  admits_by event o (Begins asked undecided none allowed) =
+      (λ id d. cc, λ d. below (length w.house.live) w.house.settings.limits.sources (may_feed w.house asked allowed).has_room)
+  admits_by event o (Misplaced _) = (λ id d. cc, λ d. cc)
+  admits_by event o (IsFinished _ him by his told) = (λ id d. cc, λ d. cc)
+  admits_by event o (IsDenied _ by v nobody) = (λ id d. cc, λ d. cc)
+  admits_by event o (IsRefused _ him by v his undecided) = (λ id d. cc, λ d. cc)
+  admits_by event o (Receives him mount block feeding) = (λ id d. cc, λ d. cc)
+  admits_by event o (SetsTitle him mount text feeding) = (λ id d. cc, λ d. cc)
+  admits_by event o (HasPassed ms e) = (λ id d. cc, λ d. cc)
+  admits_by event o (Ticks ms e) = (λ id d. cc, λ d. cc)
+  admits_by event o (TakesSeat asked peer session undecided live allowed) = (λ id d. cc, λ d. cc)
+  admits_by event o (HandsOut him room seat session sits has live) = (λ id d. cc, λ d. cc)
+  admits_by event o (Ends him mount feeding) = (λ id d. cc, λ d. cc)
+  admits_by event o (EndsAndLeaves him mount feeding) = (λ id d. cc, λ d. cc)
+  admits_by event o (Leaves him other) = (λ id d. cc, λ d. cc)
+
+  pub limits_admit : (event : Event) → AdmitsByLimits w event
+  unfolding reply_to
+  limits_admit event = let room = admits_by event (outcome w event) (way_of w event) in record { clients = room.0; sources = room.1 }

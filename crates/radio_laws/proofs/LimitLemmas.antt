@@ -1,0 +1,200 @@
+-- in every state of a run, no more sit at a mount than may, and nobody sits twice where each may sit once
+use Rattle.std.proofs.Common.{◌≡◌, Bool, true, false, ℕ, zero, suc, ◌<◌, ◌≤◌, ◌==◌, ◌&&◌, not, Option, Some, None, List, [], ◌∷◌, length, refl, ap}
+use Rattle.std.proofs.Common.{sym, subst, ◌∙◌, arith}
+use Rattle.std.proofs.lemmas.Bool.Decides.{nat_tests}
+use Rattle.std.proofs.lemmas.Slice.Eq.{bytes_eq-Decides}
+use Rattle.radio_creds.specs.Credentials.{Credentials}
+use Rattle.radio_addr.specs.declared.peer.Peer.{Peer}
+use Rattle.radio_settings.specs.declared.settings.Settings.{Settings}
+use Rattle.radio_access.specs.Lists.{Lists}
+use Rattle.radio_tables.proofs.KeyLaws.{by_number, by_name}
+use Rattle.radio_seats.specs.declared.seat.Listener.{Listener}
+use Rattle.radio_seats.specs.declared.seat.Seat.{Seat}
+use Rattle.radio_seats.specs.Seats.{seats_at, count_at, SitsAs, has_user, sits_there}
+use Rattle.radio_seats.proofs.CountLaws.{NobodyCame, nobody_came, nobody_came_twice, nobody_came_hearing, nobody_came_finishing, nobody_came_leaving}
+use Rattle.radio_seats.proofs.CountLaws.{one_more_at, no_more_elsewhere, nobody_sits_as}
+use Rattle.radio_fallback.specs.Walk.{is_full, sits_already}
+use Rattle.radio_events.specs.declared.event.Event.{Event}
+use Rattle.radio_events.specs.declared.event.ListenRequest.{ListenRequest}
+use Rattle.radio_core.specs.declared.outcome.Outcome.{Outcome}
+use Rattle.radio_core.specs.declared.outcome.Change.TheVariants.{TakeSeat}
+use Rattle.radio_core.specs.declared.standing.Standing.TheVariants.{Undecided}
+use Rattle.radio_core.specs.Changes.{changed, session_ended, received, timed_out_by, durations_over, first_silent, session_silenced, on_silent, silence, ticked}
+use Rattle.radio_laws.specs.Limits.{IsWithinLimits, SentUser, SitsThereAs, most_at, allows_duplicates_at}
+use Rattle.radio_core.specs.Listen.{first_seat}
+use Rattle.radio_core.specs.Run.{world_after_all, run_after}
+use Rattle.radio_core.specs.Sessions.{Session, session_of}
+use Rattle.radio_core.specs.Sound.{IsSound}
+use Rattle.radio_core.specs.Step.{outcome, world_after}
+use Rattle.radio_core.specs.Ways.{Way, Misplaced, IsFinished, IsDenied, IsRefused, IsAdmitted, Begins, Receives, SetsTitle, TakesSeat, HandsOut, Ends}
+use Rattle.radio_core.specs.Ways.{EndsAndLeaves, Leaves, HasPassed, Ticks}
+use Rattle.radio_core.specs.World.{World, opening, standing_of}
+use Rattle.radio_core.proofs.Lookups.{found_named}
+use Rattle.radio_core.proofs.SoundRuns.{sound_after, sound_opening}
+use Rattle.radio_core.proofs.TickLemmas.{ticked_fates}
+use Rattle.radio_policy.specs.declared.rule.Rule.TheVariants.{NotLive, Lagged, TimeOver}
+use Rattle.radio_seats.proofs.EndLaws.{nobody_came_ending}
+use Rattle.radio_core.specs.Facts.{live_end}
+use Rattle.radio_core.specs.Timeouts.{lags_behind, has_sat_out}
+use Rattle.radio_core.proofs.Soundness.{has_new_seat, beside_new_seat}
+use Rattle.radio_core.proofs.Ways.{way_of, may_listen, IsWelcome, found_by}
+
+-- the limits, with users compared as the table does it
+pub record Within (w : World) : Type 0 where
+  pub not_too_many : (mount : List ℕ) (most : ℕ) → most_at w mount ≡ Some most → length (seats_at w.seats mount) ≤ most
+  pub none_twice : (mount user : List ℕ) (id other : ℕ) → allows_duplicates_at w mount ≡ false → SitsAs w.seats id mount user
+      → SitsAs w.seats other mount user → id ≡ other
+
+-- an equal user is the same bytes
+pub sent_as : (user : List ℕ) (pair : Option Credentials) → SentUser user pair → has_user user pair ≡ true
+sent_as user pair sent = ap (has_user user) sent.1 ∙ (bytes_eq-Decides sent.0.user user).1 sent.2
+
+pub sits_as : (w : World) (id : ℕ) (mount user : List ℕ) → SitsThereAs w id mount user → SitsAs w.seats id mount user
+sits_as w id mount user sits = (sits.seat, sits.has_the_seat, sits.at_the_mount, sent_as user sits.seat.pair sits.his_user)
+
+pub within_limits : (w : World) → Within w → IsWithinLimits w
+within_limits w l = record {
+  not_too_many = l.not_too_many;
+  none_twice = λ mount user id other once his theirs. l.none_twice mount user id other once (sits_as w id mount user his) (sits_as w other mount user theirs);
+}
+
+-- a mount that is not full has room for one more
+room_left : (count most : ℕ) (limit : Option ℕ) → limit ≡ Some most → is_full count limit ≡ false → count < most
+room_left count most (Some other) e room = let same : other ≡ most = cc in grind (arith, nat_tests)
+room_left count most None e room = cc
+
+-- who may sit down is no user who sits there
+not_there : (allows : Bool) (seats : List Listener) (mount user : List ℕ) (pair : Option Credentials) → allows ≡ false
+    → (not allows && sits_already seats mount pair) ≡ false
+    → has_user user pair ≡ true → sits_there seats mount user ≡ false
+not_there true seats mount user pair once none his = cc
+not_there false seats mount user None once none his = cc
+not_there false seats mount user (Some sent) once none his =
+    let same : sent.user ≡ user = (bytes_eq-Decides sent.user user).0 his in subst (λ (x : List ℕ). sits_there seats mount x ≡ false) same none
+
+-- by the clock nobody comes
+nobody_came_silencing : (n : ℕ) (w : World) → NobodyCame w.seats (silence n w).seats
+nobody_came_silencing zero w = nobody_came w.seats
+nobody_came_silencing (suc n) w = by_first (nobody_came_silencing n) (first_silent w) where
+  by_first : ((next : World) → NobodyCame next.seats (silence n next).seats) → (found : Option Session)
+      → NobodyCame w.seats (on_silent (silence n) w found).seats
+  by_first rest None = nobody_came w.seats
+  by_first rest (Some session) =
+      let next = session_silenced w session in
+      nobody_came_twice w.seats next.seats (silence n next).seats (nobody_came_finishing w.seats session.mount NotLive) (rest next)
+
+nobody_came_ticking : (w : World) (ms : ℕ) → NobodyCame w.seats (ticked w ms).seats
+nobody_came_ticking w ms =
+    let timed = record w { house = timed_out_by w.house ms } in
+    let later = durations_over timed in
+    nobody_came_twice w.seats later.seats (ticked w ms).seats (nobody_came_ending (has_sat_out w.house.settings ms) TimeOver w.seats)
+    (nobody_came_silencing (length later.house.live) later)
+
+module _ (w : World) (s : IsSound w) (l : Within w) where
+  -- where nobody has come, the limits hold still
+  within_still : (later : World) → later.house.settings ≡ w.house.settings → NobodyCame w.seats later.seats → Within later
+  within_still later same came = record {
+    not_too_many = λ mount most e.
+        let before = l.not_too_many mount most (ap (λ (x : Settings). most_in x mount) (sym same) ∙ e) in omega (arith, came.no_more mount, before);
+    none_twice = λ mount user id other once his theirs.
+        l.none_twice mount user id other (ap (λ (x : Settings). allows_in x mount) (sym same) ∙ once) (came.sat id mount user his)
+        (came.sat other mount user theirs);
+  } where
+    most_in : Settings → List ℕ → Option ℕ
+    most_in settings mount = most_at (record w { house = record w.house { settings = settings } }) mount
+
+    allows_in : Settings → List ℕ → Bool
+    allows_in settings mount = allows_duplicates_at (record w { house = record w.house { settings = settings } }) mount
+
+  -- a listener sits down where he is welcome
+  module _ (asked : ListenRequest) (peer : Peer) (session : Session) (e : standing_of w asked.id ≡ Undecided peer)
+      (live : session_of w.house.live asked.mount ≡ Some session) (welcome : IsWelcome (found_by w asked)) where
+    abbrev new : Seat
+    new = first_seat w.house asked peer session
+
+    abbrev later : World
+    later = changed w (TakeSeat asked.id new)
+
+    at_the_mount : session.mount ≡ asked.mount
+    at_the_mount = found_named w.house.live asked.mount session live
+
+    still_room : (mount : List ℕ) (most : ℕ) → most_at w mount ≡ Some most → length (seats_at later.seats mount) ≤ most
+    still_room mount most limit =
+        by_name session.mount mount
+        (λ same.
+        let here : asked.mount ≡ mount = sym at_the_mount ∙ same in
+        let room : is_full (count_at w.seats asked.mount) (most_at w asked.mount) ≡ false = welcome.has_room in
+        let low = room_left (count_at w.seats asked.mount) most (most_at w asked.mount) (ap (most_at w) here ∙ limit) room in
+        let below : count_at w.seats mount < most = subst (λ (m : List ℕ). count_at w.seats m < most) here low in
+        omega (arith, below, one_more_at w.seats asked.id new mount))
+        (λ apart. omega (arith, no_more_elsewhere w.seats asked.id new mount apart, l.not_too_many mount most limit))
+
+    -- whoever sat there before did not send his user
+    nobody_else : (mount user : List ℕ) (other : ℕ) → allows_duplicates_at w mount ≡ false → SitsAs later.seats asked.id mount user
+        → SitsAs w.seats other mount user → ⊥
+    nobody_else mount user other once his theirs =
+        let found : Some new ≡ Some his.0 = sym (has_new_seat w s asked peer session e live) ∙ his.1 in
+        let one : new ≡ his.0 = cc in
+        let here : asked.mount ≡ mount = sym at_the_mount ∙ ap (λ (x : Seat). x.mount) one ∙ his.2 in
+        let sent : has_user user asked.pair ≡ true = ap (λ (x : Seat). has_user user x.pair) one ∙ his.3 in
+        let off : allows_duplicates_at w asked.mount ≡ false = ap (allows_duplicates_at w) here ∙ once in
+        let none = not_there (allows_duplicates_at w asked.mount) w.seats asked.mount user asked.pair off welcome.once sent in
+        nobody_sits_as w.seats other mount user (subst (λ (m : List ℕ). sits_there w.seats m user ≡ false) here none) theirs
+
+    sat_before : (mount user : List ℕ) (id : ℕ) → (asked.id == id) ≡ false → SitsAs later.seats id mount user → SitsAs w.seats id mount user
+    sat_before mount user id apart sits = (sits.0, sym (beside_new_seat w s asked peer session e live id apart) ∙ sits.1, sits.2, sits.3)
+
+    his_now : (mount user : List ℕ) (id : ℕ) → asked.id ≡ id → SitsAs later.seats id mount user → SitsAs later.seats asked.id mount user
+    his_now mount user id same sits = subst (λ (n : ℕ). SitsAs later.seats n mount user) (sym same) sits
+
+    one_each : (mount user : List ℕ) (id other : ℕ) → allows_duplicates_at w mount ≡ false → SitsAs later.seats id mount user
+        → SitsAs later.seats other mount user → id ≡ other
+    one_each mount user id other once his theirs =
+        by_number asked.id id
+        (λ same. by_number asked.id other (λ also. sym same ∙ also)
+        (λ apart. absurd (nobody_else mount user other once (his_now mount user id same his) (sat_before mount user other apart theirs))))
+        (λ away. by_number asked.id other
+        (λ same. absurd (nobody_else mount user id once (his_now mount user other same theirs) (sat_before mount user id away his)))
+        (λ apart. l.none_twice mount user id other once (sat_before mount user id away his) (sat_before mount user other apart theirs)))
+
+    within_seated : Within later
+    within_seated = record { not_too_many = still_room; none_twice = one_each }
+
+  within_by : (event : Event) (o : Outcome) → Way w event o → Within (changed w o.change)
+  within_by event o (Misplaced _) = l
+  within_by event o (IsFinished _ him rule his finished) = l
+  within_by event o (IsDenied _ rule v nobody) = l
+  within_by event o (IsRefused _ him rule v his undecided) = within_still (changed w o.change) refl (nobody_came w.seats)
+  within_by event o (IsAdmitted peer allowed) = within_still (changed w o.change) refl (nobody_came w.seats)
+  within_by event o (Begins asked undecided none allowed) = within_still (changed w o.change) refl (nobody_came w.seats)
+  within_by event o (Receives him mount block feeding) =
+      within_still (changed w o.change) refl
+      (nobody_came_ending (lags_behind mount (live_end (received w.house mount block) mount) w.house.settings.limits.queue_size) Lagged w.seats)
+  within_by event o (HasPassed ms e) = l
+  within_by event o (Ticks ms e) = within_still (changed w o.change) (ticked_fates w s ms).settings (nobody_came_ticking w ms)
+  within_by event o (SetsTitle him mount text feeding) = within_still (changed w o.change) refl (nobody_came w.seats)
+  within_by event o (TakesSeat asked peer session undecided live allowed) = within_seated asked peer session undecided live (may_listen w asked allowed)
+  within_by event o (HandsOut him room old session sits has live) = within_still (changed w o.change) refl (nobody_came_hearing w.seats him _ old has)
+  within_by event o (Ends him mount feeding) = within_still (changed w o.change) refl (nobody_came_finishing w.seats mount _)
+  within_by event o (EndsAndLeaves him mount feeding) =
+      within_still (changed w o.change) refl
+      (nobody_came_twice w.seats (session_ended w mount).seats (changed w o.change).seats (nobody_came_finishing w.seats mount _)
+      (nobody_came_leaving (session_ended w mount).seats him))
+  within_by event o (Leaves him other) = within_still (changed w o.change) refl (nobody_came_leaving w.seats him)
+
+  pub within_after : (event : Event) → Within (world_after w event)
+  unfolding world_after
+  within_after event = within_by event (outcome w event) (way_of w event)
+
+within_after_all : (w : World) → IsSound w → Within w → (events : List Event) → Within (world_after_all w events)
+within_after_all w s l [] = l
+within_after_all w s l (event ∷ events) = within_after_all (world_after w event) (sound_after w s event) (within_after w s l event) events
+
+pub within_run : (settings : Settings) (lists : Lists) (events : List Event) → Within (run_after settings lists events)
+within_run settings lists events = within_after_all (opening settings lists) (sound_opening settings lists) (record {
+  not_too_many = λ mount most e. omega arith;
+  none_twice = λ mount user id other once his theirs. let none = his.1 in cc;
+}) events
+
+pub limits_run : (settings : Settings) (lists : Lists) (events : List Event) → IsWithinLimits (run_after settings lists events)
+limits_run settings lists events = within_limits (run_after settings lists events) (within_run settings lists events)

@@ -1,0 +1,222 @@
+-- the law of service
+use Rattle.std.proofs.Common.{◌≡◌, ◌↔◌, true, ℕ, ◌+◌, ◌-◌, ◌==◌, Option, Some, None, is_some, List, length, drop, refl, ap, ◌∙◌, arith}
+use Rattle.std.specs.Prelude.{min}
+use Rattle.std.proofs.lemmas.Bool.Decides.{nat_tests}
+use Rattle.std.proofs.lemmas.List.{length-take, length-drop}
+use Rattle.radio_policy.specs.declared.rule.Rule.{Rule}
+use Rattle.radio_policy.specs.declared.judgement.Verdict.{Verdict}
+use Rattle.radio_policy.specs.declared.judgement.Verdict.TheVariants.{Allow, Deny as Denied}
+use Rattle.radio_policy.specs.Table.{Row}
+use Rattle.radio_policy.specs.Verdicts.{verdict_in, Allows}
+use Rattle.radio_addr.specs.declared.peer.Peer.{Peer}
+use Rattle.radio_events.specs.declared.event.Event.{Event}
+use Rattle.radio_events.specs.declared.event.Event.TheVariants.{Arrive, Source, Push, SourceEnd, Title, Listen, Draw}
+use Rattle.radio_events.specs.declared.event.SourceRequest.{SourceRequest}
+use Rattle.radio_events.specs.declared.event.ListenRequest.{ListenRequest}
+use Rattle.radio_core.specs.declared.clients.Client.{Client}
+use Rattle.radio_core.specs.declared.clients.ClientState.TheVariants.{Undecided as IsNew}
+use Rattle.radio_core.specs.declared.outcome.Change.{Change}
+use Rattle.radio_core.specs.declared.outcome.Change.TheVariants.{SetTitle, End}
+use Rattle.radio_core.specs.declared.outcome.Outcome.{Outcome}
+use Rattle.radio_events.specs.declared.reply.Reply.TheVariants.{Noted, Finished, Stray}
+use Rattle.radio_seats.specs.declared.seat.Seat.{Seat}
+use Rattle.radio_core.specs.declared.standing.Standing.{Standing}
+use Rattle.radio_core.specs.declared.standing.Standing.TheVariants.{Undecided, Feeds, Sits, Answered}
+use Rattle.radio_core.specs.World.{World, standing_of}
+use Rattle.radio_core.specs.Changes.{changed}
+use Rattle.radio_core.specs.Facts.{rows_to_arrive, rows_to_feed, rows_to_push, rows_to_listen}
+use Rattle.radio_core.specs.Outcomes.{says, on_verdict, if_undecided, if_feeding, if_sitting}
+use Rattle.radio_core.specs.Arrive.{admits_client}
+use Rattle.radio_core.specs.Source.{shown_for, begins}
+use Rattle.radio_core.specs.Push.{takes_in}
+use Rattle.radio_core.specs.Listen.{first_seat, takes_seat}
+use Rattle.radio_core.specs.Draw.{hands_out, hands_out_at}
+use Rattle.radio_seats.specs.Seats.{seat_of}
+use Rattle.radio_laws.specs.Service.{IsTakenIn, IsHanded, Serves, ChangesNothing}
+use Rattle.radio_core.specs.Sessions.{Session, session_of}
+use Rattle.radio_core.specs.Sound.{IsSound}
+use Rattle.radio_core.specs.Step.{outcome, reply_to, world_after}
+use Rattle.radio_core.specs.Ways.{Way, Misplaced, IsFinished, IsDenied, IsRefused, IsAdmitted, Begins, Receives, SetsTitle, TakesSeat, HandsOut, Ends}
+use Rattle.radio_core.specs.Ways.{EndsAndLeaves, Leaves, HasPassed, Ticks}
+use Rattle.radio_core.specs.Clients.{client_of}
+use Rattle.radio_core.specs.Stream.{WholeStream, end_of, data_at}
+use Rattle.radio_core.proofs.Lookups.{is_new_client, is_longer, is_titled, is_over}
+use Rattle.radio_core.proofs.SoundEnds.{turns_ended}
+use Rattle.radio_core.proofs.SoundSessions.{has_advanced}
+use Rattle.radio_core.proofs.SeatedLemmas.{seat_of_sitting}
+use Rattle.radio_core.proofs.Standings.{turns_feeding, turns_sitting, turns_admitted}
+use Rattle.radio_core.proofs.Ways.{way_of, may_listen}
+
+is_allowed : (v : Verdict) (denied : Change) (allowed : Outcome) → v ≡ Allow → on_verdict v denied allowed ≡ allowed
+is_allowed Allow denied allowed e = refl
+is_allowed (Denied rule) denied allowed e = cc
+
+goes_undecided : (s : Standing) (peer : Peer) (go : Peer → Outcome) → s ≡ Undecided peer → if_undecided s go ≡ go peer
+goes_undecided s peer go e = rw e refl
+
+goes_feeding : (s : Standing) (mount : List ℕ) (go : List ℕ → Outcome) → s ≡ Feeds mount → if_feeding s go ≡ go mount
+goes_feeding s mount go e = rw e refl
+
+goes_sitting : (s : Standing) (go : Outcome) → s ≡ Sits → if_sitting s go ≡ go
+goes_sitting s go e = rw e refl
+
+-- a draw hands out all that is there, or as much as there is room for
+all_there : (stream : WholeStream) (place room : ℕ) → length (data_at stream place room) ≡ min room (end_of stream - place)
+all_there stream place room = length-take room (drop place stream.bytes) ∙ ap (min room) (length-drop place stream.bytes)
+
+-- a mount that is live has a session
+found_there : (found : Option Session) → is_some found ≡ true → (session : Session) × (found ≡ Some session)
+found_there None e = cc
+found_there (Some session) e = (session, refl)
+
+module _ (allows : (rows : List Row) → (verdict_in rows ≡ Allow) ↔ Allows rows) (w : World) (s : IsSound w) where
+  outcome_arrive : (peer : Peer) → Allows (rows_to_arrive w.house peer) → outcome w (Arrive peer) ≡ admits_client w peer
+  unfolding outcome
+  outcome_arrive peer a = is_allowed (verdict_in (rows_to_arrive w.house peer)) _ (admits_client w peer) ((allows (rows_to_arrive w.house peer)).1 a)
+
+  outcome_source : (asked : SourceRequest) (peer : Peer) → standing_of w asked.id ≡ Undecided peer → Allows (rows_to_feed w.house asked)
+      → outcome w (Source asked) ≡ begins w.house asked
+  unfolding outcome
+  outcome_source asked peer e a =
+      goes_undecided (standing_of w asked.id) peer _ e
+      ∙ is_allowed (verdict_in (rows_to_feed w.house asked)) _ (begins w.house asked) ((allows (rows_to_feed w.house asked)).1 a)
+
+  outcome_push : (id : ℕ) (mount block : List ℕ) → standing_of w id ≡ Feeds mount → Allows (rows_to_push w.house mount block)
+      → outcome w (Push id block) ≡ takes_in mount block
+  unfolding outcome
+  outcome_push id mount block e a =
+      goes_feeding (standing_of w id) mount _ e
+      ∙ is_allowed (verdict_in (rows_to_push w.house mount block)) _ (takes_in mount block) ((allows (rows_to_push w.house mount block)).1 a)
+
+  outcome_title : (id : ℕ) (mount text : List ℕ) → standing_of w id ≡ Feeds mount → outcome w (Title id text) ≡ says Noted (SetTitle mount text)
+  unfolding outcome
+  outcome_title id mount text e = goes_feeding (standing_of w id) mount _ e
+
+  outcome_end : (id : ℕ) (mount : List ℕ) → standing_of w id ≡ Feeds mount → outcome w (SourceEnd id) ≡ says Noted (End id mount)
+  unfolding outcome
+  outcome_end id mount e = goes_feeding (standing_of w id) mount _ e
+
+  outcome_listen : (asked : ListenRequest) (peer : Peer) (session : Session) → standing_of w asked.id ≡ Undecided peer
+      → verdict_in (rows_to_listen w asked) ≡ Allow → session_of w.house.live asked.mount ≡ Some session
+      → outcome w (Listen asked) ≡ takes_seat w.house asked peer (Some session)
+  unfolding outcome
+  outcome_listen asked peer session e v found =
+      goes_undecided (standing_of w asked.id) peer _ e
+      ∙ is_allowed (verdict_in (rows_to_listen w asked)) _ (takes_seat w.house asked peer (session_of w.house.live asked.mount)) v
+      ∙ ap (takes_seat w.house asked peer) found
+
+  outcome_draw : (id room : ℕ) (seat : Seat) (session : Session) → standing_of w id ≡ Sits → seat_of w.seats id ≡ Some seat
+      → session_of w.house.live seat.mount ≡ Some session → outcome w (Draw id room) ≡ hands_out id seat room (Some session)
+  unfolding outcome
+  outcome_draw id room seat session e has live =
+      goes_sitting (standing_of w id) _ e
+      ∙ ap (hands_out_at w.house id room) has
+      ∙ ap (hands_out id seat room) live
+
+  after_outcome : (event : Event) (o : Outcome) (id : ℕ) (now : Standing) → outcome w event ≡ o → standing_of (changed w o.change) id ≡ now
+      → standing_of (world_after w event) id ≡ now
+  unfolding world_after
+  after_outcome event o id now e h = ap (λ (x : Outcome). standing_of (changed w x.change) id) e ∙ h
+
+  -- what is found in the state after it
+  found_after : {A : Type 0} (look : World → A) (event : Event) (o : Outcome) → outcome w event ≡ o → look (world_after w event) ≡ look (changed w o.change)
+  unfolding world_after
+  found_after look event o e = ap (λ (x : Outcome). look (changed w x.change)) e
+
+  reply_is : (event : Event) (o : Outcome) → outcome w event ≡ o → reply_to w event ≡ o.reply
+  unfolding reply_to
+  reply_is event o e = ap (λ (x : Outcome). x.reply) e
+
+  received : (asked : ListenRequest) (peer : Peer) → standing_of w asked.id ≡ Undecided peer → Allows (rows_to_listen w asked) → IsTakenIn w asked
+  received asked peer e a =
+      let v = (allows (rows_to_listen w asked)).1 a in
+      let there = found_there (session_of w.house.live asked.mount) (may_listen w asked v).lives in
+      let o = outcome_listen asked peer there.0 e v there.1 in
+      record {
+        session = there.0;
+        is_live = there.1;
+        is_shown = reply_is (Listen asked) (takes_seat w.house asked peer (Some there.0)) o;
+        sits = after_outcome (Listen asked) (takes_seat w.house asked peer (Some there.0)) asked.id Sits o
+            (turns_sitting w asked.id (first_seat w.house asked peer there.0) (λ u. cc)).his;
+      }
+
+  handed_out : (id room : ℕ) → standing_of w id ≡ Sits → IsHanded w id room
+  handed_out id room e =
+      let has = seat_of_sitting w id e in
+      let in_session = s.seated id has.0 has.1 in
+      let o = outcome_draw id room has.0 in_session.session e has.1 in_session.is_live in
+      let many = all_there in_session.session.stream has.0.place room in
+      record {
+        seat = has.0;
+        has_the_seat = has.1;
+        session = in_session.session;
+        is_live = in_session.is_live;
+        is_handed = reply_is (Draw id room) (hands_out id has.0 room (Some in_session.session)) o;
+        all_there = many;
+        goes_on = found_after (λ (x : World). seat_of x.seats id) (Draw id room) (hands_out id has.0 room (Some in_session.session)) o
+            ∙ has_advanced w s id room has.0 in_session.session e has.1 in_session.is_live
+            ∙ ap (λ (n : ℕ). Some (record has.0 { place = has.0.place + n })) many;
+      }
+
+  pub service_holds : Serves w
+  service_holds = record {
+    admits = λ peer a.
+        let o = outcome_arrive peer a in
+        let new : Client = record { id = w.house.last_id + 1; peer = peer; arrived = w.house.time; state = IsNew } in
+        let itself : (w.house.last_id + 1 == w.house.last_id + 1) ≡ true = grind (arith, nat_tests) in (
+          reply_is (Arrive peer) (admits_client w peer) o,
+          found_after (λ (x : World). client_of x.house.clients (w.house.last_id + 1)) (Arrive peer) (admits_client w peer) o
+              ∙ is_new_client w.house.clients new (w.house.last_id + 1) itself,
+          after_outcome (Arrive peer) (admits_client w peer) (w.house.last_id + 1) (Undecided peer) o
+              (turns_admitted w (w.house.last_id + 1) peer).his,
+        );
+    begins = λ asked peer e a.
+        let o = outcome_source asked peer e a in (
+          reply_is (Source asked) (begins w.house asked) o,
+          after_outcome (Source asked) (begins w.house asked) asked.id (Feeds asked.mount) o
+              (turns_feeding w asked.id asked.mount (shown_for w.house asked.mount asked.shown) (λ u. cc)).his,
+        );
+    takes_in = λ id mount block session e live a.
+        let o = outcome_push id mount block e a in (
+          reply_is (Push id block) (takes_in mount block) o,
+          found_after (λ (x : World). session_of x.house.live mount) (Push id block) (takes_in mount block) o
+              ∙ is_longer w.house.live mount block w.house.time session live,
+        );
+    titles = λ id mount text session e live.
+        let o = outcome_title id mount text e in (
+          reply_is (Title id text) (says Noted (SetTitle mount text)) o,
+          found_after (λ (x : World). session_of x.house.live mount) (Title id text) (says Noted (SetTitle mount text)) o
+              ∙ is_titled w.house.live mount text session live,
+        );
+    ends = λ id mount e.
+        let o = outcome_end id mount e in (
+          reply_is (SourceEnd id) (says Noted (End id mount)) o,
+          found_after (λ (x : World). session_of x.house.live mount) (SourceEnd id) (says Noted (End id mount)) o ∙ is_over w.house.live mount,
+          after_outcome (SourceEnd id) (says Noted (End id mount)) id Answered o (turns_ended w s id mount e).his,
+        );
+    seats = received;
+    hands_out = handed_out;
+  }
+
+-- what changes nothing
+nothing_by : (w : World) (event : Event) (o : Outcome) → Way w event o
+    → (o.reply ≡ Stray → changed w o.change ≡ w) × ((rule : Rule) → o.reply ≡ Finished rule → changed w o.change ≡ w)
+nothing_by w event o (Misplaced _) = (λ d. refl, λ rule d. refl)
+nothing_by w event o (IsFinished _ him by its known) = (λ d. refl, λ rule d. refl)
+nothing_by w event o (IsDenied _ by v nobody) = (λ d. refl, λ rule d. refl)
+nothing_by w event o (IsRefused _ him by v its undecided) = (λ d. cc, λ rule d. cc)
+nothing_by w event o (IsAdmitted peer allowed) = (λ d. cc, λ rule d. cc)
+nothing_by w event o (Begins asked undecided none allowed) = (λ d. cc, λ rule d. cc)
+nothing_by w event o (Receives him mount block feeding) = (λ d. cc, λ rule d. cc)
+nothing_by w event o (SetsTitle him mount text feeding) = (λ d. cc, λ rule d. cc)
+nothing_by w event o (TakesSeat asked peer session undecided live allowed) = (λ d. cc, λ rule d. cc)
+nothing_by w event o (HandsOut him room seat session sits has live) = (λ d. cc, λ rule d. cc)
+nothing_by w event o (Ends him mount feeding) = (λ d. cc, λ rule d. cc)
+nothing_by w event o (EndsAndLeaves him mount feeding) = (λ d. cc, λ rule d. cc)
+nothing_by w event o (Leaves him other) = (λ d. cc, λ rule d. cc)
+nothing_by w event o (HasPassed ms e) = (λ d. refl, λ rule d. refl)
+nothing_by w event o (Ticks ms e) = (λ d. cc, λ rule d. cc)
+
+pub changes_nothing : (w : World) (event : Event) → ChangesNothing w event
+unfolding reply_to world_after
+changes_nothing w event = let nothing = nothing_by w event (outcome w event) (way_of w event) in record { stray = nothing.0; finished = nothing.1 }

@@ -1,0 +1,209 @@
+-- the law of titles
+use Rattle.std.proofs.Common.{◌≡◌, ◌⊎◌, inl, inr, true, ℕ, ◌<◌, ◌==◌, Option, Some, None, List, [], ◌∷◌, ◌++◌, refl, ap, sym, subst, ◌∙◌, arith, append_assoc}
+use Rattle.std.specs.List.{last_or}
+use Rattle.std.specs.Str.{bytes_eq}
+use Rattle.std.proofs.lemmas.Bool.Decides.{nat_tests}
+use Rattle.std.proofs.lemmas.List.{append-nil}
+use Rattle.std.proofs.lemmas.Slice.Eq.{bytes_eq-Decides}
+use Rattle.radio_addr.specs.declared.peer.Peer.{Peer}
+use Rattle.radio_settings.specs.declared.settings.Settings.{Settings}
+use Rattle.radio_access.specs.Lists.{Lists, passes}
+use Rattle.radio_tables.proofs.KeyLaws.{by_number, by_name}
+use Rattle.radio_events.specs.declared.event.Event.{Event}
+use Rattle.radio_events.specs.declared.event.Event.TheVariants.{Push, Title}
+use Rattle.radio_core.specs.declared.outcome.Change.TheVariants.{Receive, SetTitle}
+use Rattle.radio_core.specs.declared.outcome.Outcome.{Outcome}
+use Rattle.radio_core.specs.declared.standing.Standing.TheVariants.{Unknown, Undecided, Feeds}
+use Rattle.radio_core.specs.World.{World, opening, standing_of}
+use Rattle.radio_core.specs.Changes.{changed}
+use Rattle.radio_core.specs.Handing.{of_client}
+use Rattle.radio_core.specs.Run.{world_after_all, run_after}
+use Rattle.radio_core.specs.Sessions.{Session, session_of, without_session}
+use Rattle.radio_core.specs.Sound.{IsSound}
+use Rattle.radio_core.specs.Source.{shown_for}
+use Rattle.radio_core.specs.Step.{outcome, reply_to, world_after}
+use Rattle.radio_laws.specs.TitlesTold.{title_in, if_noted, set_at, titles_set, last_title, TitlesAreTold}
+use Rattle.radio_core.specs.Ways.{Way, Misplaced, IsFinished, IsDenied, IsRefused, IsAdmitted, Begins, Receives, SetsTitle, TakesSeat, HandsOut, Ends}
+use Rattle.radio_core.specs.Ways.{EndsAndLeaves, Leaves, HasPassed, Ticks}
+use Rattle.radio_laws.proofs.AccessLemmas.{access_holds}
+use Rattle.radio_core.proofs.FinishLemmas.{undecided_before}
+use Rattle.radio_core.proofs.OwnLemmas.{not_of, nothing_of}
+use Rattle.radio_laws.proofs.GoneLemmas.{his_own, with_nothing, last_rises}
+use Rattle.radio_laws.proofs.ListsLemmas.{lists_run}
+use Rattle.radio_laws.proofs.LimitLemmas.{within_run}
+use Rattle.radio_core.proofs.Lookups.{beside_ended, is_over}
+use Rattle.radio_core.proofs.SoundRuns.{sound_after, sound_opening, sound_run}
+use Rattle.radio_core.proofs.SoundSessions.{begun_cases, grown_cases}
+use Rattle.radio_core.proofs.SoundTitles.{titled_cases}
+use Rattle.radio_core.proofs.TickLemmas.{ticked_fates}
+use Rattle.radio_core.proofs.Ways.{way_of}
+
+-- the last of a list with one more
+last_is : {A : Type 0} (o : Option A) (xs : List A) (x : A) → last_or o (xs ++ x ∷ []) ≡ Some x
+last_is o [] x = refl
+last_is o (y ∷ xs) x = last_is (Some y) xs x
+
+-- the last titles that were set so far are those that the sessions have
+record Told (w : World) (told : ℕ → List (List ℕ)) : Type 0 where
+  pub last : (mount : List ℕ) (session : Session) → session_of w.house.live mount ≡ Some session → session.title ≡ last_or None (told session.number)
+  pub none_yet : (id : ℕ) (peer : Peer) → standing_of w id ≡ Undecided peer → told id ≡ []
+  pub none_above : (id : ℕ) → w.house.last_id < id → told id ≡ []
+
+told_as : (w : World) (told now : ℕ → List (List ℕ)) → ((n : ℕ) → told n ≡ now n) → Told w told → Told w now
+told_as w told now same h = record {
+  last = λ mount session e. h.last mount session e ∙ ap (λ xs. last_or None xs) (same session.number);
+  none_yet = λ id peer e. sym (same id) ∙ h.none_yet id peer e;
+  none_above = λ id high. sym (same id) ∙ h.none_above id high;
+}
+
+-- what an outcome sets for the source of this number
+abbrev sets : Event → Outcome → ℕ → List (List ℕ)
+sets event o id = of_client event id (if_noted o.reply (title_in event))
+
+module _ (w : World) (s : IsSound w) (told : ℕ → List (List ℕ)) (h : Told w told) where
+  -- only a source sets a title
+  sets_nothing : (event : Event) (o : Outcome) → Way w event o → (id : ℕ) → ((mount : List ℕ) → standing_of w id ≡ Feeds mount → ⊥)
+      → sets event o id ≡ []
+  sets_nothing event o (SetsTitle him mount text feeding) id not =
+      by_number him id (λ same. absurd (not mount (ap (standing_of w) (sym same) ∙ feeding))) (λ other. not_of (Title him text) id (text ∷ []) other)
+  sets_nothing event o (Misplaced _) id not = nothing_of event id [] refl
+  sets_nothing event o (IsFinished _ him by its known) id not = nothing_of event id [] refl
+  sets_nothing event o (IsDenied _ by v nobody) id not = nothing_of event id [] refl
+  sets_nothing event o (IsRefused _ him by v its undecided) id not = nothing_of event id [] refl
+  sets_nothing event o (IsAdmitted peer allowed) id not = refl
+  sets_nothing event o (HasPassed ms e) id not = refl
+  sets_nothing event o (Ticks ms e) id not = refl
+  sets_nothing event o (Begins asked undecided none allowed) id not = nothing_of event id [] refl
+  sets_nothing event o (Receives him mount block feeding) id not = nothing_of event id [] refl
+  sets_nothing event o (TakesSeat asked peer session undecided live allowed) id not = nothing_of event id [] refl
+  sets_nothing event o (HandsOut him room seat session sits has live) id not = nothing_of event id [] refl
+  sets_nothing event o (Ends him mount feeding) id not = nothing_of event id [] refl
+  sets_nothing event o (EndsAndLeaves him mount feeding) id not = nothing_of event id [] refl
+  sets_nothing event o (Leaves him other) id not = nothing_of event id [] refl
+
+  last_now : Event → Outcome → Type 0
+  last_now event o = (mount : List ℕ) (session : Session) → session_of (changed w o.change).house.live mount ≡ Some session
+      → session.title ≡ last_or None (told session.number ++ sets event o session.number)
+
+  -- a session whose source sets nothing has the title that it had
+  as_it_was : (event : Event) (mount : List ℕ) (session : Session) → session_of w.house.live mount ≡ Some session
+      → session.title ≡ last_or None (told session.number ++ of_client event session.number [])
+  as_it_was event mount session live =
+      h.last mount session live
+      ∙ ap (λ xs. last_or None xs) (with_nothing (told session.number) (of_client event session.number []) (nothing_of event session.number [] refl))
+
+  left_over : (event : Event) (ended mount : List ℕ) (session : Session) → session_of (without_session w.house.live ended) mount ≡ Some session
+      → session.title ≡ last_or None (told session.number ++ of_client event session.number [])
+  left_over event ended mount session e =
+      by_name ended mount
+      (λ same. let none : session_of (without_session w.house.live ended) mount ≡ None =
+      ap (session_of (without_session w.house.live ended)) (sym same) ∙ is_over w.house.live ended in cc)
+      (λ apart. as_it_was event mount session (sym (beside_ended w.house.live ended mount apart) ∙ e))
+
+  grown_title : (him : ℕ) (mount block : List ℕ) → standing_of w him ≡ Feeds mount → (other : List ℕ) (now : Session)
+      → session_of (changed w (Receive mount block)).house.live other ≡ Some now
+      → now.title ≡ last_or None (told now.number ++ of_client (Push him block) now.number [])
+  grown_title him mount block feeding other now e =
+      grown_cases w s mount block other now e
+      (λ session same found one. subst (λ (x : Session). x.title ≡ last_or None (told x.number ++ of_client (Push him block) x.number [])) one
+      (as_it_was (Push him block) mount session found))
+      (λ apart found. as_it_was (Push him block) other now found)
+      (λ none. let ours = s.feeds him mount feeding in let found : session_of w.house.live mount ≡ Some ours.0 = ours.1 in cc)
+
+  -- the session of the source has the title that it sets, and the others have theirs
+  new_title : (him : ℕ) (mount text : List ℕ) → standing_of w him ≡ Feeds mount → (other : List ℕ) (now : Session)
+      → session_of (changed w (SetTitle mount text)).house.live other ≡ Some now
+      → now.title ≡ last_or None (told now.number ++ of_client (Title him text) now.number (text ∷ []))
+  new_title him mount text feeding other now e =
+      titled_cases w s mount text him feeding other now e
+      (λ session same found number one. subst
+      (λ (x : Session). x.title ≡ last_or None (told x.number ++ of_client (Title him text) x.number (text ∷ []))) one (here session number))
+      (λ apart found.
+      h.last other now found
+      ∙ ap (λ xs. last_or None xs) (with_nothing (told now.number) (of_client (Title him text) now.number (text ∷ []))
+      (by_number him now.number
+      (λ same. let both : Feeds mount ≡ Feeds other = sym feeding ∙ ap (standing_of w) same ∙ s.fed other now found in let one : mount ≡ other =
+      cc in let there : bytes_eq mount other ≡ true = (bytes_eq-Decides mount other).1 one in cc)
+      (λ away. not_of (Title him text) now.number (text ∷ []) away)))) where
+        here : (session : Session) → session.number ≡ him
+            → Some text ≡ last_or None (told session.number ++ of_client (Title him text) session.number (text ∷ []))
+        here session number =
+            let itself : (him == session.number) ≡ true = grind (arith, nat_tests) in
+            sym (last_is None (told session.number) text)
+            ∙ ap (λ xs. last_or None (told session.number ++ xs)) (his_own (him == session.number) (text ∷ []) itself)
+
+  last_by : (event : Event) (o : Outcome) → Way w event o → last_now event o
+  unfolding last_now
+  last_by event o (SetsTitle him mount text feeding) = new_title him mount text feeding
+  last_by event o (HasPassed ms e) = as_it_was event
+  last_by event o (Ticks ms e) = λ mount session h. as_it_was event mount session ((ticked_fates w s ms).live mount session h)
+  last_by event o (Receives him mount block feeding) = grown_title him mount block feeding
+  last_by event o (Begins asked undecided none allowed) = λ mount session e.
+      begun_cases w s asked.id asked.mount (shown_for w.house asked.mount asked.shown) undecided.0 undecided.1 none mount session e
+      (λ same one. subst (λ (x : Session). x.title ≡ last_or None (told x.number ++ of_client event x.number [])) one
+      (ap (λ xs. last_or None xs) (sym (h.none_yet asked.id undecided.0 undecided.1)
+      ∙ with_nothing (told asked.id) (of_client event asked.id []) (nothing_of event asked.id [] refl))))
+      (λ old. as_it_was event mount session old)
+  last_by event o (Ends him mount feeding) = left_over event mount
+  last_by event o (EndsAndLeaves him mount feeding) = left_over event mount
+  last_by event o (Misplaced _) = as_it_was event
+  last_by event o (IsFinished _ him by its known) = as_it_was event
+  last_by event o (IsDenied _ by v nobody) = as_it_was event
+  last_by event o (IsRefused _ him by v its undecided) = as_it_was event
+  last_by event o (IsAdmitted peer allowed) = as_it_was event
+  last_by event o (TakesSeat asked peer session undecided live allowed) = as_it_was event
+  last_by event o (HandsOut him room seat session sits has live) = as_it_was event
+  last_by event o (Leaves him other) = as_it_was event
+
+  told_step : (event : Event) → Told (world_after w event) (λ n. told n ++ set_at w event n)
+  unfolding world_after reply_to last_now
+  told_step event = record {
+    last = last_by event (outcome w event) (way_of w event);
+    none_yet = λ id peer e. none_yet id (undecided_before w s event id peer e);
+    none_above = λ id high.
+        let low = last_rises w s event in
+        let above : w.house.last_id < id = omega (arith, low, high) in
+        nothing id (h.none_above id above) (λ mount f. let unknown : standing_of w id ≡ Unknown = s.numbered id above in cc);
+  } where
+    nothing : (id : ℕ) → told id ≡ [] → ((mount : List ℕ) → standing_of w id ≡ Feeds mount → ⊥) → told id ++ set_at w event id ≡ []
+    nothing id none not = ap (λ xs. xs ++ set_at w event id) none ∙ sets_nothing event (outcome w event) (way_of w event) id not
+
+    none_yet : {peer : Peer} (id : ℕ) → (standing_of w id ≡ Undecided peer) ⊎ ((w.house.last_id < id) × (passes w.house.lists peer ≡ true))
+        → told id ++ set_at w event id ≡ []
+    none_yet {peer} id (inl before) = nothing id (h.none_yet id peer before) (λ mount f. cc)
+    none_yet id (inr new) = nothing id (h.none_above id new.0) (λ mount f. let unknown : standing_of w id ≡ Unknown = s.numbered id new.0 in cc)
+
+-- from any state on: after events, the sessions have the last titles that were set so far and by them
+told_all : (w : World) → IsSound w → (told : ℕ → List (List ℕ)) → Told w told → (events : List Event)
+    → Told (world_after_all w events) (λ n. told n ++ titles_set w events n)
+told_all w s told h [] = told_as w told (λ n. told n ++ []) (λ n. sym (append-nil (told n))) h
+told_all w s told h (event ∷ events) =
+    let later = world_after w event in
+    let now = λ (n : ℕ). told n ++ set_at w event n in
+    told_as (world_after_all later events) (λ n. now n ++ titles_set later events n) (λ n. told n ++ (set_at w event n ++ titles_set later events n))
+    (λ n. append_assoc (told n) (set_at w event n) (titles_set later events n))
+    (told_all later (sound_after w s event) now (told_step w s told h event) events)
+
+told_run : (settings : Settings) (lists : Lists) (events : List Event) → Told (run_after settings lists events) (titles_set (opening settings lists) events)
+told_run settings lists events =
+    told_all (opening settings lists) (sound_opening settings lists) (λ n. [])
+    (record { last = λ mount session e. cc; none_yet = λ n peer e. cc; none_above = λ n h. refl }) events
+
+pub titles_hold : (settings : Settings) (lists : Lists) (events : List Event) (event : Event) → TitlesAreTold settings lists events event
+titles_hold settings lists events event bytes title d =
+    let w = run_after settings lists events in
+    let sound = sound_run settings lists events in
+    let his = access_holds w sound (lists_run settings lists events) (within_run settings lists events) event bytes title d in
+    let old = sound.seated his.id his.seat his.has_the_seat in
+    let both : Some old.session ≡ Some his.session = sym old.is_live ∙ his.is_live in
+    let one : old.session ≡ his.session = cc in
+    let number : his.session.number ≡ his.seat.session = ap (λ (x : Session). x.number) (sym one) ∙ old.his_session in
+    record {
+      id = his.id;
+      room = his.room;
+      asked = his.asked;
+      seat = his.seat;
+      has_the_seat = his.has_the_seat;
+      is_last = his.is_title ∙ (told_run settings lists events).last his.seat.mount his.session his.is_live
+          ∙ ap (λ (n : ℕ). last_title (opening settings lists) events n) number;
+    }

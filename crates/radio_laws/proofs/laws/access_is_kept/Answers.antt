@@ -1,0 +1,12 @@
+use Rattle.radio_core.specs.Run.{run_after}
+use Rattle.radio_laws.proofs.ListsLemmas.{lists_run}
+use Rattle.radio_laws.proofs.LimitLemmas.{within_run}
+use Rattle.radio_core.proofs.SoundRuns.{sound_run}
+use Rattle.radio_laws.proofs.AccessLemmas.{access_holds}
+use Rattle.radio_laws.proofs.laws.access_is_kept.Goals as goal
+
+pub returns : goal.returns
+returns c = record {
+  access = λ settings lists events event. access_holds (run_after settings lists events) (sound_run settings lists events) (lists_run settings lists events)
+      (within_run settings lists events) event;
+}

@@ -1,0 +1,31 @@
+use Rattle.std.specs.Prelude.{◌≡◌, ℕ, List, Option, Some}
+use Rattle.radio_events.specs.declared.event.Event.{Event}
+use Rattle.radio_events.specs.declared.event.Event.TheVariants.{Draw}
+use Rattle.radio_events.specs.declared.reply.Reply.TheVariants.{Drawn}
+use Rattle.radio_seats.specs.declared.seat.Seat.{Seat}
+use Rattle.radio_core.specs.declared.standing.Standing.TheVariants.{Sits}
+use Rattle.radio_laws.specs.Open.{IsOpenTo}
+use Rattle.radio_seats.specs.Seats.{seat_of}
+use Rattle.radio_core.specs.Sessions.{Session, session_of}
+use Rattle.radio_core.specs.Step.{reply_to}
+use Rattle.radio_core.specs.Stream.{data_at}
+use Rattle.radio_core.specs.World.{World, standing_of}
+
+-- these bytes are the listener's to hear, who draws: they stand at his place in the stream of the mount where he sits, that mount is open to him, and the
+-- title is the one it has
+pub record IsHis (w : World) (event : Event) (bytes : List ℕ) (title : Option (List ℕ)) : Type 0 where
+  pub id : ℕ
+  pub room : ℕ
+  pub asked : event ≡ Draw id room
+  pub seat : Seat
+  pub session : Session
+  pub sits : standing_of w id ≡ Sits
+  pub has_the_seat : seat_of w.seats id ≡ Some seat
+  pub is_live : session_of w.house.live seat.mount ≡ Some session
+  pub is_data : bytes ≡ data_at session.stream seat.place room
+  pub is_title : title ≡ session.title
+  pub is_open : IsOpenTo w id seat
+
+-- what is handed out is the listener's to hear who asked for it
+abbrev pub AccessIsKept : World → Event → Type 0
+AccessIsKept w event = (bytes : List ℕ) (title : Option (List ℕ)) → reply_to w event ≡ Drawn bytes title → IsHis w event bytes title

@@ -1,0 +1,11 @@
+pub mod Denials
+pub mod FinishesTold
+pub mod Limits
+pub mod Open
+pub mod Access
+pub mod Admission
+pub mod Stretches
+pub mod TitlesTold
+pub mod Gone
+pub mod Service
+pub mod Outstaying

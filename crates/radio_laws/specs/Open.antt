@@ -1,0 +1,18 @@
+use Rattle.std.specs.Prelude.{◌≡◌, ℕ, true, false, Some, List}
+use Rattle.radio_access.specs.Lists.{passes, lets_in}
+use Rattle.radio_seats.specs.declared.seat.Seat.{Seat}
+use Rattle.radio_laws.specs.Limits.{SentUser, SitsThereAs, allows_duplicates_at}
+use Rattle.radio_core.specs.Sessions.{Session, session_of}
+use Rattle.radio_core.specs.World.{World}
+
+-- the mount where the listener of this number sits is open to him: it is live, in the session in which he was seated; his address
+-- passes the address lists; the mount has no users, or they accept the pair that he sent; and where each user may sit once, nobody
+-- else who sits there sent his user
+pub record IsOpenTo (w : World) (id : ℕ) (seat : Seat) : Type 0 where
+  pub session : Session
+  pub is_live : session_of w.house.live seat.mount ≡ Some session
+  pub his_session : session.number ≡ seat.session
+  pub passes_lists : passes w.house.lists seat.peer ≡ true
+  pub is_let_in : lets_in w.house.lists seat.mount seat.pair ≡ true
+  pub is_alone : (user : List ℕ) (other : ℕ) → allows_duplicates_at w seat.mount ≡ false → SentUser user seat.pair
+      → SitsThereAs w other seat.mount user → other ≡ id

@@ -1,0 +1,14 @@
+//! What holds of every run of the server, in the words of settings, events and bytes.
+//!
+//! Each law is a function that runs no code: whoever needs it calls it, and cites its clause. They
+//! stand on what `radio_core` says that an event can do to one client, to one seat and to the
+//! session of one mount.
+#![tactic(auto)]
+
+mod laws;
+
+pub use laws::{
+    access_is_kept, denials_are_the_policys, finished_are_told, limits_are_kept,
+    listeners_are_told_titles, listeners_begin_at_a_block, nobody_outstays, stretches_are_whole,
+    who_left_is_gone, whoever_may_is_served,
+};
