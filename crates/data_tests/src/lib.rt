@@ -3,6 +3,7 @@
 //! examples are rows and cases of the end-to-end scripts.
 //!
 //! - `seats`: listeners at prepared mounts; `tables`: rows by number and by name; `blocks`: the memory of blocks; `queue`: the blocks that are kept.
+//! - `fallbacks`: walks along fallbacks, and listeners whom a move carries along.
 //! - `bodies`: feeds behind an end or a fault; `icy`: sound with titles woven into it and taken out.
 //! - `addresses`: peers as texts; `credentials`: values that no head can hold, and secrets.
 //! - `heads`: queries, faults, heads of responses, and answers with a body.
@@ -18,6 +19,8 @@ mod blocks;
 mod bodies;
 #[cfg(test)]
 mod credentials;
+#[cfg(test)]
+mod fallbacks;
 #[cfg(test)]
 mod heads;
 #[cfg(test)]
