@@ -234,21 +234,19 @@ fn until_full(alloc: Global) -> Result<bool, OutOfMemory> {
     moves_one(alloc, &station, Rule::MountFull)
 }
 
-/// The mount of this letter, which falls back to that of the next.
-fn link(letter: u8, is_live: bool) -> Result<Mount, OutOfMemory> {
-    let next = name(&[b'/', letter.saturating_add(1)])?;
-    Ok(Mount {
-        fallback: Some(next),
-        ..plain(name(&[b'/', letter])?, is_live)
-    })
-}
-
 /// So many mounts, each of which falls back to the next, and the last of which is live.
 fn chain(alloc: Global, count: u8) -> Result<Station, OutOfMemory> {
     let mut mounts = Vec::new(alloc);
-    for place in 0..count {
-        let is_last = place.saturating_add(1) == count;
-        mounts.push(link(b'a'.saturating_add(place), is_last)?)?;
+    for letter in 0..count {
+        let next = name(&[b'/', b'a'.saturating_add(letter).saturating_add(1)])?;
+        let mount = plain(
+            name(&[b'/', b'a'.saturating_add(letter)])?,
+            letter.saturating_add(1) == count,
+        );
+        mounts.push(Mount {
+            fallback: Some(next),
+            ..mount
+        })?;
     }
     Ok(Station { mounts })
 }
@@ -299,9 +297,16 @@ fn in_a_circle(alloc: Global) -> Result<bool, OutOfMemory> {
 
 /// `/a` and `/b` are live.
 fn two_live(alloc: Global) -> Result<Station, OutOfMemory> {
+    let (a, b) = (name(b"/a")?, name(b"/b")?);
     let mut mounts = Vec::new(alloc);
-    mounts.push(plain(name(b"/a")?, true))?;
-    mounts.push(plain(name(b"/b")?, true))?;
+    mounts.push(Mount {
+        fallback: None,
+        ..plain(a, true)
+    })?;
+    mounts.push(Mount {
+        fallback: None,
+        ..plain(b, true)
+    })?;
     Ok(Station { mounts })
 }
 
