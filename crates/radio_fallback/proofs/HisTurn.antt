@@ -32,7 +32,7 @@ his_own sight id carry (GoesTo to) =
     found_changed (is_listener id) (moved to (sight.stream_end to).session (sight.stream_end to).place) (λ x. refl) carry.seats
 his_own sight id carry (IsOut rule) = found_changed (is_listener id) (loses rule) (λ x. refl) carry.seats
 
-others_turn : (sight : Sight) (him id : ℕ) (carry : Carry) (turn : Turn) → (him == id) ≡ false
+pub others_turn : (sight : Sight) (him id : ℕ) (carry : Carry) (turn : Turn) → (him == id) ≡ false
     → listener_of (after_turn sight him carry turn).seats id ≡ listener_of carry.seats id
 others_turn sight him id carry Stays apart = refl
 others_turn sight him id carry (GoesTo to) apart =

@@ -3,3 +3,4 @@ pub mod CarryLemmas
 pub mod TurnLemmas
 pub mod FaresLemmas
 pub mod HisTurn
+pub mod Faring

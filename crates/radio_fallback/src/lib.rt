@@ -2,7 +2,7 @@
 //!
 //! - [`View`]: what a walk asks of the server; [`walk_from`] goes over it, and over the table of those who sit.
 //! - [`Walk`]: what it [`Found`] at the mount from which it began, and its [`Landing`].
-//! - [`carry`]: a [`Move`] carries listeners along, and answers how many ([`Carried`]).
+//! - [`carry`]: a [`Move`] carries listeners along, and answers how many ([`Carried`]); contracts and laws speak of the [`Turn`] of each.
 //! - Laws of a carry, which run no code: `laws`.
 #![tactic(auto)]
 
@@ -18,6 +18,6 @@ pub use laws::{
     a_carry_asks_the_users, a_carry_keeps_limits, a_carry_keeps_numbers, a_carry_seats_users_once,
     each_fares_by_his_turn,
 };
-pub use moves::{Carried, Move};
+pub use moves::{Carried, Move, Turn};
 pub use view::{StreamEnd, View};
 pub use walking::{Found, Landing, Walk, walk_from};

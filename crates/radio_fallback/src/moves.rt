@@ -40,7 +40,7 @@ pub struct Carried {
 
 /// What a move does to one listener.
 #[derive(Clone, Copy)]
-pub(crate) enum Turn {
+pub enum Turn {
     /// He stays as he is.
     Stays,
     /// He sits at this mount from now on.
