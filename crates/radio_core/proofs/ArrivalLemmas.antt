@@ -1,5 +1,5 @@
 -- through each event, a client who is there keeps the address from which he came, and the moment
-use Rattle.std.proofs.Common.{◌≡◌, true, false, Bool, ℕ, ◌==◌, ◌+◌, zero, suc, Option, Some, None, List, [], ◌∷◌, length, map, refl, ap, sym, ◌∙◌, arith}
+use Rattle.std.proofs.Common.{◌≡◌, true, false, Bool, ℕ, ◌==◌, ◌+◌, zero, suc, Option, Some, None, List, [], ◌∷◌, length, map, refl, ap, sym, subst, ◌∙◌, arith}
 use Rattle.std.specs.Option.{option_map}
 use Rattle.std.proofs.lemmas.Bool.Decides.{nat_tests}
 use Rattle.radio_addr.specs.declared.peer.Peer.{Peer}
@@ -13,7 +13,9 @@ use Rattle.radio_core.specs.declared.clients.ClientState.TheVariants.{Undecided 
 use Rattle.radio_core.specs.declared.outcome.Outcome.{Outcome}
 use Rattle.radio_core.specs.declared.outcome.Change.TheVariants.{Admit}
 use Rattle.radio_core.specs.declared.standing.Standing.TheVariants.{Unknown}
-use Rattle.radio_core.specs.Changes.{changed, durations_over, first_silent, on_silent, session_silenced, silence, ticked, timed_out_by}
+use Rattle.radio_core.specs.declared.house.House.{House}
+use Rattle.radio_core.specs.Source.{shown_for}
+use Rattle.radio_core.specs.Changes.{changed, begun, durations_over, first_silent, on_silent, session_silenced, silence, ticked, timed_out_by}
 use Rattle.radio_core.specs.ClientSteps.{ArrivalsStay}
 use Rattle.radio_core.specs.Clients.{is_client, client_of, with_state, in_state, without_client}
 use Rattle.radio_core.specs.Sessions.{Session}
@@ -23,6 +25,7 @@ use Rattle.radio_core.specs.Timeouts.{timed_out}
 use Rattle.radio_core.specs.Ways.{Way, Misplaced, IsFinished, IsDenied, IsRefused, IsAdmitted, Begins, Receives, SetsTitle, TakesSeat, HandsOut, Ends}
 use Rattle.radio_core.specs.Ways.{EndsAndLeaves, Leaves, HasPassed, Ticks}
 use Rattle.radio_core.specs.World.{World, standing_of, standing_in}
+use Rattle.radio_core.proofs.CalledHome.{house_called}
 use Rattle.radio_core.proofs.Lookups.{does, beside_state, is_no_client, beside_forgotten, beside_new}
 use Rattle.radio_core.proofs.TickLemmas.{clients_after}
 use Rattle.radio_core.proofs.TotalLemmas.{is_known}
@@ -152,10 +155,13 @@ module _ (w : World) (s : IsSound w) where
   stay_by event o (IsFinished _ him by its known) = stays_so w (same_clients w.house.clients)
   stay_by event o (IsDenied _ by v nobody) = stays_so w (same_clients w.house.clients)
   stay_by event o (IsRefused _ him by v its undecided) = stays_so (changed w o.change) (keeps_state w.house.clients him HasHisAnswer)
-  stay_by event o (Begins asked undecided none allowed) = stays_so (changed w o.change) (keeps_state w.house.clients asked.id (IsSource asked.mount))
+  stay_by event o (Begins asked undecided none allowed) =
+      let up = record w { house = begun w.house asked.id asked.mount (shown_for w.house asked.mount asked.shown) } in
+      stays_so (changed w o.change) (subst (λ (h : House). Keeps w.house.clients h.clients) (sym (house_called up asked.mount))
+      (keeps_state w.house.clients asked.id (IsSource asked.mount)))
   stay_by event o (Receives him mount block feeding) = stays_so (changed w o.change) (same_clients w.house.clients)
   stay_by event o (SetsTitle him mount text feeding) = stays_so (changed w o.change) (same_clients w.house.clients)
-  stay_by event o (TakesSeat asked peer session undecided live allowed) = stays_so (changed w o.change) (keeps_state w.house.clients asked.id Listens)
+  stay_by event o (TakesSeat asked peer session undecided lands live allowed) = stays_so (changed w o.change) (keeps_state w.house.clients asked.id Listens)
   stay_by event o (HandsOut him room seat session sits has live) = stays_so (changed w o.change) (same_clients w.house.clients)
   stay_by event o (Ends him mount feeding) = stays_so (changed w o.change) (keeps_state w.house.clients him HasHisAnswer)
   stay_by event o (EndsAndLeaves him mount feeding) = stays_so (changed w o.change) (keeps_forgotten w.house.clients him)

@@ -13,7 +13,7 @@ use Rattle.radio_core.specs.declared.standing.Standing.TheVariants.{Unknown, Und
 use Rattle.radio_core.specs.Changes.{changed, taken_in}
 use Rattle.radio_core.specs.ClientSteps.{ClientStep, Stays, Arrives, IsAnswered, BeginsToFeed, SitsDown, StopsFeeding, ClientsStep}
 use Rattle.radio_core.specs.ClientSteps.{Leaves as HeLeaves, IsFinished as HeIsFinished}
-use Rattle.radio_core.specs.Finishes.{Finishes}
+use Rattle.radio_core.specs.Finishes.{Cause, Finishes}
 use Rattle.radio_core.specs.Listen.{first_seat}
 use Rattle.radio_core.specs.Others.{StandsOn}
 use Rattle.radio_core.specs.Sound.{IsSound}
@@ -23,13 +23,14 @@ use Rattle.radio_core.specs.Ways.{Way, Misplaced, IsFinished, IsDenied, IsRefuse
 use Rattle.radio_core.specs.Ways.{EndsAndLeaves, Leaves, HasPassed, Ticks}
 use Rattle.radio_core.specs.World.{World, standing_of}
 use Rattle.radio_seats.proofs.SeatLaws.{listener_seated}
-use Rattle.radio_core.proofs.Fates.{Fate, GoesOn, IsEnded}
+use Rattle.radio_core.proofs.CalledHome.{turns_up}
+use Rattle.radio_core.proofs.Fates.{Fate, GoesOn, IsEnded, HasStopped, IsMoved, HasEnded, Nobody}
 use Rattle.radio_core.proofs.FinishLemmas.{others_hold, finish_step, undecided_before}
 use Rattle.radio_core.proofs.OwnLemmas.{by_own}
 use Rattle.radio_core.proofs.ReplyLemmas.{replies_fit}
 use Rattle.radio_core.proofs.SoundEnds.{turns_ended, turns_ended_and_left}
-use Rattle.radio_core.proofs.SoundRuns.{grown_world, lag_fates}
-use Rattle.radio_core.proofs.Standings.{turns_answered, turns_feeding, turns_sitting, turns_forgotten, stays_hearing}
+use Rattle.radio_core.proofs.SoundRuns.{grown_world, NoMove, lag_fates}
+use Rattle.radio_core.proofs.Standings.{turns_answered, turns_sitting, turns_forgotten, stays_hearing}
 use Rattle.radio_core.proofs.Ways.{way_of}
 
 turned : (w : World) (C : Rule → Type 0) (event : Event) (id : ℕ) {before a later b : Standing} → before ≡ a → later ≡ b → ClientStep w C event id before later
@@ -56,7 +57,7 @@ module _ (w : World) (s : IsSound w) (id : ℕ) (C : Rule → Type 0) where
   own_by event o (Begins asked undecided none allowed) his fin denies =
       let same : asked.id ≡ id = cc in
       turned w C event id (sym undecided.1 ∙ ap (standing_of w) same)
-      (sym (turns_feeding w asked.id asked.mount (shown_for w.house asked.mount asked.shown) (λ u. let at = undecided.1 in cc)).his
+      (sym (turns_up w s asked.id asked.mount (shown_for w.house asked.mount asked.shown) undecided.0 undecided.1 none).his
       ∙ ap (standing_of (changed w o.change)) same)
       (BeginsToFeed undecided.0 asked refl same allowed)
   own_by event o (Receives him mount block feeding) his fin denies = by_fate ((lag_fates w s mount block him feeding).fate id) where
@@ -67,14 +68,16 @@ module _ (w : World) (s : IsSound w) (id : ℕ) (C : Rule → Type 0) where
     not_before rule (inl was) then_so = let is : standing_of w id ≡ Feeds mount = feeds in cc
     not_before rule (inr cause) then_so = then_so cause
 
-    by_fate : Fate (grown_world w mount block) (taken_in w mount block) (Push him block) id
+    by_fate : Fate (Cause w (taken_in w mount block) (Push him block)) NoMove Nobody HasEnded (grown_world w mount block) (taken_in w mount block) id
         → ClientStep w C (Push him block) id (standing_of w id) (standing_of (taken_in w mount block) id)
     by_fate (GoesOn same seat sources sits) = turned w C (Push him block) id refl (sym same) (Stays (standing_of w id))
     by_fate (IsEnded rule cause active ended none over) =
         not_before rule (fin rule ended)
         (λ why. turned w C (Push him block) id refl (sym ended) (HeIsFinished (standing_of w id) rule why))
+    by_fate (HasStopped other why feeds done none over) = absurd why
+    by_fate (IsMoved old session carries left had has same live opens) = absurd carries
   own_by event o (SetsTitle him mount text feeding) his fin denies = Stays (standing_of w id)
-  own_by event o (TakesSeat asked peer session undecided live allowed) his fin denies =
+  own_by event o (TakesSeat asked peer session undecided lands live allowed) his fin denies =
       let same : asked.id ≡ id = cc in
       turned w C event id (sym undecided ∙ ap (standing_of w) same)
       (sym (turns_sitting w asked.id (first_seat w.house asked peer session) (λ u. cc)).his ∙ ap (standing_of (changed w o.change)) same)

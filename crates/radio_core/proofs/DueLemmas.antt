@@ -4,7 +4,7 @@ use Rattle.std.specs.Prelude.{if◌then◌else◌, fold, find, map, not}
 use Rattle.std.specs.Option.{option_map_or}
 use Rattle.std.proofs.lemmas.Bool.Decides.{nat_tests}
 use Rattle.radio_policy.specs.declared.rule.Rule.{Rule}
-use Rattle.radio_policy.specs.declared.rule.Rule.TheVariants.{HeaderTimeout, NotLive, TimeOver, SourceSilent, Lagged}
+use Rattle.radio_policy.specs.declared.rule.Rule.TheVariants.{HeaderTimeout, TimeOver, SourceSilent, Lagged}
 use Rattle.radio_settings.specs.declared.settings.Settings.{Settings}
 use Rattle.radio_settings.specs.Options.{options_for}
 use Rattle.radio_access.specs.Lists.{Lists}
@@ -15,17 +15,21 @@ use Rattle.radio_seats.specs.declared.seat.Seat.{Seat}
 use Rattle.radio_seats.specs.declared.seat.Seating.{Seating}
 use Rattle.radio_seats.specs.declared.seat.Seating.TheVariants.{Sits, Finished}
 use Rattle.radio_seats.specs.declared.seat.Listener.{Listener}
-use Rattle.radio_seats.specs.Seats.{is_listener, by_listener, seated, advanced, holds_of, finished_if, with_ended, is_seat_at, finished_from}
+use Rattle.radio_seats.specs.Seats.{is_listener, by_listener, seated, advanced, moved, loses, holds_of, finished_if, with_ended}
 use Rattle.radio_core.specs.declared.clients.Client.{Client}
 use Rattle.radio_core.specs.declared.clients.ClientState.{ClientState}
 use Rattle.radio_core.specs.declared.clients.ClientState.TheVariants.{Undecided, Feeds, Listens, Answered, Ended}
 use Rattle.radio_core.specs.declared.outcome.Change.{Change}
 use Rattle.radio_core.specs.declared.outcome.Change.TheVariants.{Nothing, Answer, Admit, Begin, Receive, SetTitle, TakeSeat, Advance, End}
 use Rattle.radio_core.specs.declared.outcome.Change.TheVariants.{EndAndLeave, Forget, Tick}
-use Rattle.radio_core.specs.Changes.{session_ended, client_gone, timed_out_by, durations_over, first_silent, session_silenced, on_silent, silence, ticked}
+use Rattle.radio_fallback.specs.declared.moves.Move.{Move}
+use Rattle.radio_fallback.specs.declared.moves.Move.TheVariants.{Ended as SessionEnds, Up}
+use Rattle.radio_fallback.proofs.Faring.{each_carried}
+use Rattle.radio_core.specs.Changes.{begun, carried_along, session_over, session_ended, called_home, client_gone, timed_out_by, durations_over, first_silent}
+use Rattle.radio_core.specs.Changes.{session_silenced, on_silent, silence, ticked}
 use Rattle.radio_core.specs.Clients.{newcomer, is_client, by_number, with_state, in_state}
 use Rattle.radio_core.specs.Due.{last_moment, due_at, due_in_state, client_due, listener_due, session_due, IsDueFrom, earliest, first_due, due_by, at_moment}
-use Rattle.radio_core.specs.Facts.{live_end}
+use Rattle.radio_core.specs.Facts.{live_end, sight_of}
 use Rattle.radio_core.specs.KeptChanges.{kept_changed, longer_kept, kept_received}
 use Rattle.radio_core.specs.Sessions.{Session, is_of, by_mount, opened, with_title}
 use Rattle.radio_core.specs.Timeouts.{lies_back, lags_behind, asks_nothing, asks_too_late, timed_out, has_sat_out, is_silent}
@@ -187,13 +191,36 @@ module _ (moment : ℕ) (last : moment ≤ last_moment) where
   heard_due settings place id (Sits seat) h = h
   heard_due settings place id (Finished rule) h = h
 
+  -- who is carried along is due as before, since his home and the moment of his seat stay
+  moved_due : (settings : Settings) (to : List ℕ) (session place id : ℕ) (seating : Seating)
+      → moment ≤ listener_due settings (record { id = id; seating = seating })
+      → moment ≤ listener_due settings (moved to session place (record { id = id; seating = seating }))
+  moved_due settings to session place id (Sits seat) h = h
+  moved_due settings to session place id (Finished rule) h = h
+
+  lost_due : (settings : Settings) (rule : Rule) (id : ℕ) (seating : Seating) → moment ≤ listener_due settings (record { id = id; seating = seating })
+      → moment ≤ listener_due settings (loses rule (record { id = id; seating = seating }))
+  lost_due settings rule id (Sits seat) h = last
+  lost_due settings rule id (Finished other) h = h
+
+  carried_due : (w : World) (move : Move) → ListenersAreDue w w.seats → ListenersAreDue w (carried_along w move).seats
+  carried_due w move all =
+      each_carried (λ listener. moment ≤ listener_due w.house.settings listener)
+      (λ to session place listener h. moved_due w.house.settings to session place listener.id listener.seating h)
+      (λ rule listener h. lost_due w.house.settings rule listener.id listener.seating h) (sight_of w.house) move w.seats all
+
   over_due : (w : World) (mount : List ℕ) → IsDueFrom moment w → IsDueFrom moment (session_ended w mount)
   over_due w mount due = record {
     clients = due.clients;
-    listeners = Each_mapped _ _ (finished_from mount NotLive)
-        (λ listener h. ended_due w.house.settings NotLive listener.id listener.seating (is_seat_at mount listener.seating) h) w.seats due.listeners;
+    listeners = carried_due (session_over w mount) (SessionEnds mount) due.listeners;
     sessions = Each_kept _ _ (λ session. not (is_of mount session)) (λ session h e. h) w.house.live due.sessions;
   }
+
+  called_due : (w : World) (mount : List ℕ) → IsDueFrom moment w → IsDueFrom moment (called_home w mount)
+  called_due w mount due = by_test (options_for w.house.settings mount).listeners.fallback_override where
+    by_test : (b : Bool) → IsDueFrom moment (if b then carried_along w (Up mount) else w)
+    by_test true = record { clients = due.clients; listeners = carried_due w (Up mount) due.listeners; sessions = due.sessions }
+    by_test false = due
 
   forgotten_due : (w : World) (id : ℕ) → IsDueFrom moment w → IsDueFrom moment (client_gone w id)
   forgotten_due w id due = record {
@@ -253,11 +280,11 @@ module _ (moment : ℕ) (last : moment ≤ last_moment) where
     listeners = due.listeners;
     sessions = due.sessions;
   }
-  stays_due w (Begin id mount shown) due h = record {
+  stays_due w (Begin id mount shown) due h = called_due (record w { house = begun w.house id mount shown }) mount (record {
     clients = Each_updated _ (is_client id) (with_state (Feeds mount)) (λ client k. last) w.house.clients due.clients;
     listeners = due.listeners;
     sessions = Each_placed _ by_mount (opened mount id shown w.house.time) w.house.live h due.sessions;
-  }
+  })
   stays_due w (Receive mount block) due h = received_due w mount block due h
   stays_due w (SetTitle mount title) due h = record {
     clients = due.clients;

@@ -16,7 +16,6 @@ use Rattle.radio_events.specs.declared.reply.Reply.TheVariants.{Arrived, Finishe
 use Rattle.radio_core.specs.declared.standing.Standing.{Standing}
 use Rattle.radio_core.specs.declared.standing.Standing.TheVariants.{Unknown, Undecided, Feeds, Sits, Answered, Finished as HasFinished}
 use Rattle.radio_core.specs.World.{World, standing_of, standing_in}
-use Rattle.radio_core.specs.Changes.{session_ended}
 use Rattle.radio_core.specs.Finishes.{Cause, SessionIsOver, IsFarBehind, HasSatOut, HasAskedNothing, HasSentNothing, Finishes}
 use Rattle.radio_core.specs.Others.{StandsOn, OthersStandOn}
 use Rattle.radio_seats.specs.Seats.{listener_of, seat_of}
@@ -26,28 +25,9 @@ use Rattle.radio_core.specs.Step.{outcome, reply_to, world_after}
 use Rattle.radio_core.specs.Ways.{Way, Misplaced, IsFinished, IsDenied, IsRefused, IsAdmitted, Begins, Receives, SetsTitle, TakesSeat, HandsOut, Ends}
 use Rattle.radio_core.specs.Ways.{EndsAndLeaves, Leaves, HasPassed, Ticks}
 use Rattle.radio_events.specs.Events.{client_in}
-use Rattle.radio_core.proofs.Effects.{Effect, Same, Joins, Acts, Silences, Sweeps, IsSwept, GoesOnAs, IsOut, HasActed, effect_of}
-use Rattle.radio_core.proofs.Fates.{stops_there}
+use Rattle.radio_core.proofs.Effects.{Effect, Same, Joins, Acts, Sweeps, IsSwept, GoesOnAs, IsOut, HasDone, HasActed, effect_of}
 use Rattle.radio_core.proofs.TickLemmas.{asking_at}
-use Rattle.radio_core.proofs.Standings.{Loses, silenced}
-use Rattle.radio_core.proofs.SoundEnds.{sits_no_more}
 use Rattle.radio_core.proofs.Ways.{way_of}
-
--- what the end of a session does to whoever sits at its mount: he is finished by it
-module _ (w : World) (s : IsSound w) (event : Event) (mount : List ℕ) (over : session_of (world_after w event).house.live mount ≡ None)
-    (lost : (id : ℕ) → seat_of (session_ended w mount).seats id ≡ None → seat_of (world_after w event).seats id ≡ None) where
-  pub finished_by_silence : (id : ℕ) → Loses (listener_of w.seats id) (standing_of w id) (standing_of (session_ended w mount) id) mount
-      → standing_of (world_after w event) id ≡ HasFinished NotLive → Finishes w event id NotLive
-  finished_by_silence id loses finished =
-      let seat = loses.seat in
-      let old = s.seated id seat loses.had_a_seat in
-      let same : seat.mount ≡ mount = (bytes_eq-Decides seat.mount mount).0 loses.there in
-      let forgotten : session_of (world_after w event).house.live seat.mount ≡ None = ap (session_of (world_after w event).house.live) same ∙ over in
-      record {
-        cause = SessionIsOver NotLive seat old.session loses.had_a_seat old.is_live forgotten (stops_there (world_after w event) seat forgotten);
-        has_finished = finished;
-        has_none = lost id (sits_no_more w mount id seat loses.had_a_seat loses.there);
-      }
 
 -- whoever is finished by an event was there
 new_in : (listener : Option Listener) (client : Client) → client.state ≡ IsNew → standing_in listener (Some client) ≡ Unknown → ⊥
@@ -59,7 +39,7 @@ known_before w s event id rule finishes unknown = by_cause finishes.cause where
   no_seat seat has = let sat : standing_of w id ≡ Sits = s.sitting id seat has in cc
 
   by_cause : {by : Rule} → Cause w (world_after w event) event id by → ⊥
-  by_cause (SessionIsOver _ seat session has live over stops) = no_seat seat has
+  by_cause (SessionIsOver _ seat has leaves) = no_seat seat has
   by_cause (IsFarBehind him block seat e feeds has behind) = no_seat seat has
   by_cause (HasSatOut ms seat e has out) = no_seat seat has
   by_cause (HasAskedNothing ms client e found late) =
@@ -88,24 +68,17 @@ not_undecided Sits peer acted e = cc
 not_undecided Answered peer acted e = cc
 
 module _ (w : World) (s : IsSound w) (event : Event) where
-  abbrev Lost : List ℕ → ℕ → Type 0
-  Lost mount id = Loses (listener_of w.seats id) (standing_of w id) (standing_of (session_ended w mount) id) mount
-
-  -- the end of a session turns others only where they lose their seats
+  -- others stand as before, or are finished
   stands_by : (id : ℕ) → (client_in event ≡ Some id → ⊥) → Effect w (world_after w event) event (reply_to w event) → StandsOn w event id
   stands_by id not (Same same) = inl (same id)
   stands_by id not (Joins peer passing arrived t) = by_number (w.house.last_id + 1) id (λ same. inr (inr (arrived ∙ ap (λ (n : ℕ). Arrived n) same)))
       (λ other. inl (t.others id other))
   stands_by id not (Acts him now his acted t) = inl (t.others id (apart_from event him id his not))
-  stands_by id not (Silences him mount now his acted t over lost) = by_end (silenced w mount id) (t.others id (apart_from event him id his not)) where
-    by_end : (standing_of (session_ended w mount) id ≡ standing_of w id) ⊎ Lost mount id
-        → standing_of (world_after w event) id ≡ standing_of (session_ended w mount) id → StandsOn w event id
-    by_end (inl same) e = inl (e ∙ same)
-    by_end (inr loses) e = inr (inl (NotLive, finished_by_silence w s event mount over lost id loses (e ∙ loses.finished)))
   stands_by id not (Sweeps swept) = by_sweep (swept id) where
     by_sweep : IsSwept w (world_after w event) event id → StandsOn w event id
     by_sweep (GoesOnAs same) = inl same
     by_sweep (IsOut rule cause finished none) = inr (inl (rule, record { cause = cause; has_finished = finished; has_none = none }))
+    by_sweep (HasDone own acted) = absurd (not own)
 
   pub others_hold : OthersStandOn w event
   others_hold id not = stands_by id not (effect_of w s event)
@@ -122,18 +95,6 @@ module _ (w : World) (s : IsSound w) (event : Event) where
       by_number him id
       (λ same. absurd (not_finished now rule acted (sym t.his ∙ ap (standing_of (world_after w event)) same ∙ e)))
       (λ other. inl (sym (t.others id other) ∙ e))
-  finished_by id rule e (Silences him mount now his acted t over lost) =
-      by_number him id
-      (λ same. absurd (not_finished now rule acted (sym t.his ∙ ap (standing_of (world_after w event)) same ∙ e)))
-      (λ other. by_end (silenced w mount id) (sym (t.others id other) ∙ e)) where
-        by_end : (standing_of (session_ended w mount) id ≡ standing_of w id) ⊎ Lost mount id → standing_of (session_ended w mount) id ≡ HasFinished rule
-            → (standing_of w id ≡ HasFinished rule) ⊎ Finishes w event id rule
-        by_end (inl same) stood = inl (sym same ∙ stood)
-        by_end (inr loses) stood =
-            let both : HasFinished NotLive ≡ HasFinished rule = sym loses.finished ∙ stood in
-            let one : NotLive ≡ rule = cc in
-            inr (subst (λ (r : Rule). Finishes w event id r) one
-            (finished_by_silence w s event mount over lost id loses (e ∙ ap (λ (r : Rule). HasFinished r) (sym one))))
   finished_by id rule e (Sweeps swept) = by_sweep (swept id) where
     by_sweep : IsSwept w (world_after w event) event id → (standing_of w id ≡ HasFinished rule) ⊎ Finishes w event id rule
     by_sweep (GoesOnAs same) = inl (sym same ∙ e)
@@ -141,6 +102,7 @@ module _ (w : World) (s : IsSound w) (event : Event) where
         let both : HasFinished by ≡ HasFinished rule = sym finished ∙ e in
         let one : by ≡ rule = cc in
         inr (subst (λ (r : Rule). Finishes w event id r) one (record { cause = cause; has_finished = finished; has_none = none }))
+    by_sweep (HasDone own acted) = absurd (not_finished (standing_of (world_after w event) id) rule acted e)
 
   pub finish_step : (id : ℕ) (rule : Rule) → standing_of (world_after w event) id ≡ HasFinished rule
       → (standing_of w id ≡ HasFinished rule) ⊎ Finishes w event id rule
@@ -166,18 +128,11 @@ module _ (w : World) (s : IsSound w) (event : Event) where
       by_number him id
       (λ same. absurd (not_undecided now peer acted (sym t.his ∙ ap (standing_of (world_after w event)) same ∙ e)))
       (λ other. inl (sym (t.others id other) ∙ e))
-  undecided_by id peer e (Silences him mount now his acted t over lost) =
-      by_number him id
-      (λ same. absurd (not_undecided now peer acted (sym t.his ∙ ap (standing_of (world_after w event)) same ∙ e)))
-      (λ other. by_end (silenced w mount id) (sym (t.others id other) ∙ e)) where
-        by_end : (standing_of (session_ended w mount) id ≡ standing_of w id) ⊎ Lost mount id → standing_of (session_ended w mount) id ≡ Undecided peer
-            → (standing_of w id ≡ Undecided peer) ⊎ HasArrived id peer
-        by_end (inl same) stood = inl (sym same ∙ stood)
-        by_end (inr loses) stood = let finished : standing_of (session_ended w mount) id ≡ HasFinished NotLive = loses.finished in cc
   undecided_by id peer e (Sweeps swept) = by_sweep (swept id) where
     by_sweep : IsSwept w (world_after w event) event id → (standing_of w id ≡ Undecided peer) ⊎ HasArrived id peer
     by_sweep (GoesOnAs same) = inl (sym same ∙ e)
     by_sweep (IsOut by cause finished none) = cc
+    by_sweep (HasDone own acted) = absurd (not_undecided (standing_of (world_after w event) id) peer acted e)
 
   pub undecided_before : (id : ℕ) (peer : Peer) → standing_of (world_after w event) id ≡ Undecided peer
       → (standing_of w id ≡ Undecided peer) ⊎ HasArrived id peer
@@ -196,7 +151,7 @@ told_by w event o (Receives him mount block feeding) rule d = cc
 told_by w event o (SetsTitle him mount text feeding) rule d = cc
 told_by w event o (HasPassed ms e) rule d = cc
 told_by w event o (Ticks ms e) rule d = cc
-told_by w event o (TakesSeat asked peer session undecided live allowed) rule d = cc
+told_by w event o (TakesSeat asked peer session undecided lands live allowed) rule d = cc
 told_by w event o (HandsOut him room seat session sits has live) rule d = cc
 told_by w event o (Ends him mount feeding) rule d = cc
 told_by w event o (EndsAndLeaves him mount feeding) rule d = cc

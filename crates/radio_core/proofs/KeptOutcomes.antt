@@ -27,9 +27,11 @@ use Rattle.radio_core.specs.declared.house.House.{House}
 use Rattle.radio_core.specs.declared.outcome.Change.TheVariants.{Nothing, Answer, TakeSeat, Advance}
 use Rattle.radio_events.specs.declared.reply.Reply.TheVariants.{Seated, Drawn}
 use Rattle.radio_core.specs.Draw.{hands_out, hands_out_at}
-use Rattle.radio_core.specs.Facts.{largest_number, is_full, is_in_settings, sight_of, source_facts, listen_facts, live_number, live_end}
+use Rattle.radio_fallback.specs.declared.walking.Landing.{Landing}
+use Rattle.radio_fallback.specs.declared.walking.Landing.TheVariants.{Lands, Stops}
+use Rattle.radio_core.specs.Facts.{largest_number, is_full, is_in_settings, sight_of, walks_to, source_facts, listen_facts}
 use Rattle.radio_core.specs.Kept.{kept_session, kept_of}
-use Rattle.radio_core.specs.Listen.{burst_of, interval_for, first_seat, takes_seat}
+use Rattle.radio_core.specs.Listen.{burst_of, interval_for, first_seat, takes_seat, sits_where}
 use Rattle.radio_core.specs.Outcomes.{says, on_verdict, if_undecided, if_feeding, if_sitting}
 use Rattle.radio_core.specs.Push.{takes_in}
 use Rattle.radio_core.specs.Sessions.{Session, is_of, session_of}
@@ -39,10 +41,7 @@ use Rattle.radio_core.specs.Step.{outcome}
 use Rattle.radio_core.specs.World.{World, standing_of}
 use Rattle.radio_core.proofs.KeptStreams.{kept_data, kept_burst}
 use Rattle.radio_core.proofs.KeptLists.{kept_found, kept_ends}
-
-is_some_mapped : {A B : Type 0} (f : A → B) (found : Option A) → is_some (option_map f found) ≡ is_some found
-is_some_mapped f None = refl
-is_some_mapped f (Some x) = refl
+use Rattle.radio_core.proofs.KeptSights.{has_session, same_sight}
 
 module _ (w : World) (rise : Each HasRisingStarts w.house.live) (kept : SeatsAreKept w) where
   abbrev queue : ℕ
@@ -50,9 +49,6 @@ module _ (w : World) (rise : Each HasRisingStarts w.house.live) (kept : SeatsAre
 
   abbrev kept_house : House
   kept_house = (kept_of w).house
-
-  has_session : (mount : List ℕ) → is_some (session_of kept_house.live mount) ≡ is_some (session_of w.house.live mount)
-  has_session mount = ap is_some (kept_found queue w.house.live mount) ∙ is_some_mapped (kept_session queue) (session_of w.house.live mount)
 
   found_rises : (mount : List ℕ) (session : Session) → session_of w.house.live mount ≡ Some session → HasRisingStarts session
   found_rises mount session e = found_has (is_of mount) HasRisingStarts w.house.live session rise e
@@ -67,37 +63,9 @@ module _ (w : World) (rise : Each HasRisingStarts w.house.live) (kept : SeatsAre
         type_is_refused = is_refused_type asked.shown.content_type;
       }) else None) in
       ap (λ (count : ℕ). facts count (is_some (session_of kept_house.live asked.mount))) (length-map w.house.live (kept_session queue))
-      ∙ ap (facts (length w.house.live)) (has_session asked.mount)
+      ∙ ap (facts (length w.house.live)) (has_session w rise asked.mount)
 
   -- a listener asks
-  same_number : (mount : List ℕ) → live_number kept_house mount ≡ live_number w.house mount
-  same_number mount = ap number_in (kept_found queue w.house.live mount) ∙ by_found (session_of w.house.live mount) where
-    number_in : Option Session → ℕ
-    number_in found = option_map_or (λ (session : Session). session.number) found 0
-
-    by_found : (found : Option Session) → number_in (option_map (kept_session queue) found) ≡ number_in found
-    by_found None = refl
-    by_found (Some session) = refl
-
-  same_sight : sight_of kept_house ≡ sight_of w.house
-  same_sight =
-      ap (λ (is_live : List ℕ → Bool). sight is_live (live_number kept_house) (live_end kept_house)) (fun_ext has_session)
-      ∙ ap (λ (number : List ℕ → ℕ). sight (is_live_in w.house) number (live_end kept_house)) (fun_ext same_number)
-      ∙ ap (sight (is_live_in w.house) (live_number w.house)) (fun_ext (λ mount. kept_ends queue w.house.live mount rise)) where
-        is_live_in : House → List ℕ → Bool
-        is_live_in house mount = is_some (session_of house.live mount)
-
-        sight : (List ℕ → Bool) → (List ℕ → ℕ) → (List ℕ → ℕ) → Sight
-        sight is_live number end = record {
-          is_live = is_live;
-          limit = λ mount. (options_for w.house.settings mount).listeners.max_listeners;
-          lets_in = lets_in w.house.lists;
-          allows_duplicates = λ mount. (options_for w.house.settings mount).users.allow_duplicate_users;
-          fallback = λ mount. None;
-          hands_on_when_full = λ mount. false;
-          stream_end = λ mount. record { session = number mount; place = end mount };
-        }
-
   hear_facts : (asked : ListenRequest) → listen_facts kept_house w.seats asked ≡ listen_facts w.house w.seats asked
   hear_facts asked =
       let facts : Sight → Bool → Option ListenFacts = λ sight live.
@@ -107,22 +75,29 @@ module _ (w : World) (rise : Each HasRisingStarts w.house.live) (kept : SeatsAre
         user_is_twice = (found_at sight w.seats asked.mount asked.pair).user_is_twice;
         walk_stops = stop_in (landing sight w.seats asked.pair asked.mount);
       }) else None) in
-      ap (λ (sight : Sight). facts sight (is_some (session_of kept_house.live asked.mount))) same_sight
-      ∙ ap (facts (sight_of w.house)) (has_session asked.mount)
+      ap (λ (sight : Sight). facts sight (is_some (session_of kept_house.live asked.mount))) (same_sight w rise)
+      ∙ ap (facts (sight_of w.house)) (has_session w rise asked.mount)
 
   sits_alike : (asked : ListenRequest) (peer : Peer) (found : Option Session) → ((session : Session) → found ≡ Some session → HasRisingStarts session)
       → takes_seat kept_house asked peer (option_map (kept_session queue) found) ≡ takes_seat w.house asked peer found
   sits_alike asked peer None rises = refl
   sits_alike asked peer (Some session) rises =
-      ap (λ (place : ℕ). says (Seated (interval_for w.house session.mount asked.wants_metadata) session.shown)
+      ap (λ (place : ℕ). says (Seated (interval_for w.house asked.mount asked.wants_metadata) session.shown)
       (TakeSeat asked.id (record (first_seat w.house asked peer session) { place = place })))
       (kept_burst queue (burst_of w.house session.mount) session.stream (omega arith) (rises session refl))
 
+  lands_alike : (asked : ListenRequest) (peer : Peer) (l : Landing) → sits_where kept_house asked peer l ≡ sits_where w.house asked peer l
+  lands_alike asked peer (Stops rule) = refl
+  lands_alike asked peer (Lands mount) =
+      ap (takes_seat kept_house asked peer) (kept_found queue w.house.live mount)
+      ∙ sits_alike asked peer (session_of w.house.live mount) (found_rises mount)
+
   hears_alike : (asked : ListenRequest) (peer : Peer)
-      → takes_seat kept_house asked peer (session_of kept_house.live asked.mount) ≡ takes_seat w.house asked peer (session_of w.house.live asked.mount)
+      → sits_where kept_house asked peer (walks_to kept_house w.seats asked.mount asked.pair)
+      ≡ sits_where w.house asked peer (walks_to w.house w.seats asked.mount asked.pair)
   hears_alike asked peer =
-      ap (takes_seat kept_house asked peer) (kept_found queue w.house.live asked.mount)
-      ∙ sits_alike asked peer (session_of w.house.live asked.mount) (found_rises asked.mount)
+      ap (λ (sight : Sight). sits_where kept_house asked peer (landing sight w.seats asked.pair asked.mount)) (same_sight w rise)
+      ∙ lands_alike asked peer (walks_to w.house w.seats asked.mount asked.pair)
 
   -- a listener draws
   hands_alike : (id room : ℕ) (seat : Seat) → seat_of w.seats id ≡ Some seat → (found : Option Session) → session_of w.house.live seat.mount ≡ found
@@ -153,7 +128,7 @@ module _ (w : World) (rise : Each HasRisingStarts w.house.live) (kept : SeatsAre
   outcome_kept (Listen asked) =
       ap (λ (facts : Option ListenFacts). if_undecided (standing_of w asked.id) (λ peer.
       on_verdict (verdict_in (listen_rows facts)) (Answer asked.id)
-      (takes_seat kept_house asked peer (session_of kept_house.live asked.mount)))) (hear_facts asked)
+      (sits_where kept_house asked peer (walks_to kept_house w.seats asked.mount asked.pair)))) (hear_facts asked)
       ∙ ap (if_undecided (standing_of w asked.id)) (fun_ext (λ peer.
       ap (on_verdict (verdict_in (listen_rows (listen_facts w.house w.seats asked))) (Answer asked.id)) (hears_alike asked peer)))
   outcome_kept (Draw id room) = ap (if_sitting (standing_of w id)) (draws_alike id room (seat_of w.seats id) refl)

@@ -1,5 +1,5 @@
 -- what holds of each seat's place in the stream of its session holds still after each event
-use Rattle.std.proofs.Common.{◌≡◌, Bool, true, false, ℕ, zero, suc, ◌+◌, ◌-◌, ◌≤◌, ◌==◌, Option, Some, None, List, [], ◌∷◌, length, refl, ap, sym}
+use Rattle.std.proofs.Common.{◌≡◌, ◌⊎◌, inl, inr, Bool, true, false, ℕ, zero, suc, ◌+◌, ◌-◌, ◌≤◌, ◌==◌, Option, Some, None, List, [], ◌∷◌, length, refl, ap, sym}
 use Rattle.std.proofs.Common.{subst, ◌∙◌, arith}
 use Rattle.std.specs.Prelude.{◌&&◌, nat_lt, if◌then◌else◌}
 use Rattle.std.specs.Option.{option_map, option_map_or}
@@ -7,7 +7,7 @@ use Rattle.std.specs.Str.{bytes_eq}
 use Rattle.std.proofs.lemmas.Bool.{ltb-false}
 use Rattle.std.proofs.lemmas.Bool.Decides.{nat_tests}
 use Rattle.std.proofs.lemmas.Slice.Eq.{bytes_eq-Decides}
-use Rattle.radio_policy.specs.declared.rule.Rule.TheVariants.{NotLive, Lagged, TimeOver}
+use Rattle.radio_policy.specs.declared.rule.Rule.TheVariants.{Lagged, TimeOver}
 use Rattle.radio_addr.specs.declared.peer.Peer.{Peer}
 use Rattle.radio_settings.specs.declared.field.Shown.{Shown}
 use Rattle.radio_tables.specs.Lists.{update_first}
@@ -15,14 +15,21 @@ use Rattle.radio_tables.proofs.FindLaws.{find_here, find_later}
 use Rattle.radio_tables.proofs.KeyLaws.{by_number, by_name}
 use Rattle.radio_seats.specs.declared.seat.Seat.{Seat}
 use Rattle.radio_seats.proofs.EndLaws.{had_seat, kept_seat}
-use Rattle.radio_seats.specs.Seats.{seat_of, seat_in, with_seat, with_place, without_listener}
-use Rattle.radio_seats.proofs.SeatLaws.{beside_moved, beside_left, beside_seated, is_no_listener, has_sat_down, has_heard, sits_still}
+use Rattle.radio_seats.specs.Seats.{seat_of, seat_in, with_seat, with_place, without_listener, AreByNumber}
+use Rattle.radio_seats.proofs.SeatLaws.{beside_moved, beside_left, beside_seated, is_no_listener, has_sat_down, has_heard}
 use Rattle.radio_events.specs.declared.event.Event.{Event}
 use Rattle.radio_events.specs.declared.event.ListenRequest.{ListenRequest}
 use Rattle.radio_core.specs.declared.outcome.Change.TheVariants.{Begin, Receive, SetTitle, TakeSeat, Advance, End, EndAndLeave, Forget}
 use Rattle.radio_core.specs.declared.outcome.Outcome.{Outcome}
-use Rattle.radio_core.specs.Changes.{changed, received, session_ended, timed_out_by, durations_over, first_silent, session_silenced, on_silent, silence, ticked}
-use Rattle.radio_core.specs.Facts.{live_end}
+use Rattle.radio_settings.specs.Options.{options_for}
+use Rattle.radio_fallback.specs.declared.moves.Move.{Move}
+use Rattle.radio_fallback.specs.declared.moves.Move.TheVariants.{Ended as SessionEnds, Up}
+use Rattle.radio_fallback.specs.Fares.{seat_at_end}
+use Rattle.radio_fallback.proofs.Faring.{Faring, HasStayed, HasGone, HasLost, fares}
+use Rattle.radio_core.specs.declared.house.House.{House}
+use Rattle.radio_core.specs.Changes.{changed, begun, received, carried_along, session_over, session_ended, called_home, timed_out_by, durations_over}
+use Rattle.radio_core.specs.Changes.{first_silent, session_silenced, on_silent, silence, ticked}
+use Rattle.radio_core.specs.Facts.{live_end, sight_of}
 use Rattle.radio_core.specs.Lagging.{EachSeat}
 use Rattle.radio_core.specs.Listen.{burst_of, first_seat}
 use Rattle.radio_core.specs.Sessions.{Session, is_of, session_of, opened, longer, with_title}
@@ -33,37 +40,67 @@ use Rattle.radio_core.specs.Timeouts.{lags_behind, has_sat_out}
 use Rattle.radio_core.specs.Ways.{Way, Misplaced, IsFinished, IsDenied, IsRefused, IsAdmitted, Begins, Receives, SetsTitle, TakesSeat, HandsOut, Ends}
 use Rattle.radio_core.specs.Ways.{EndsAndLeaves, Leaves, HasPassed, Ticks}
 use Rattle.radio_core.specs.World.{World}
-use Rattle.radio_core.proofs.Lookups.{found_named, beside_fed, beside_titled, beside_ended, beside_begun, is_over, is_new_session}
+use Rattle.radio_core.proofs.CalledHome.{house_called}
+use Rattle.radio_core.proofs.CarriedFates.{order_carried}
+use Rattle.radio_core.proofs.Lookups.{beside_fed, beside_titled, beside_begun, is_new_session}
+use Rattle.radio_core.proofs.NumberOrder.{order_ended}
+use Rattle.radio_core.proofs.SoundEnds.{was_live}
 use Rattle.radio_core.proofs.Ways.{way_of}
 
--- nobody has a seat who had none, and no session is there that was not
+-- he sits at the end of his session's stream
+abbrev pub SitsAtEnd : World → Seat → Type 0
+SitsAtEnd w seat = (session : Session) → session_of w.house.live seat.mount ≡ Some session → seat.place ≡ end_of session.stream
+
+-- whoever has a seat had it, or sits at the end of his stream, and no session is there that was not
 record HasFewer (w later : World) : Type 0 where
   pub settings : later.house.settings ≡ w.house.settings
-  pub seats : (id : ℕ) (seat : Seat) → seat_of later.seats id ≡ Some seat → seat_of w.seats id ≡ Some seat
+  pub seats : (id : ℕ) (seat : Seat) → seat_of later.seats id ≡ Some seat → (seat_of w.seats id ≡ Some seat) ⊎ SitsAtEnd later seat
   pub sessions : (mount : List ℕ) (session : Session) → session_of later.house.live mount ≡ Some session → session_of w.house.live mount ≡ Some session
 
 fewer_twice : (w mid later : World) → HasFewer w mid → HasFewer mid later → HasFewer w later
 fewer_twice w mid later a b = record {
   settings = b.settings ∙ a.settings;
-  seats = λ id seat e. a.seats id seat (b.seats id seat e);
+  seats = λ id seat e. by_later id seat (b.seats id seat e);
   sessions = λ mount session e. a.sessions mount session (b.sessions mount session e);
-}
+} where
+  by_first : (id : ℕ) (seat : Seat) → (seat_of w.seats id ≡ Some seat) ⊎ SitsAtEnd mid seat → (seat_of w.seats id ≡ Some seat) ⊎ SitsAtEnd later seat
+  by_first id seat (inl had) = inl had
+  by_first id seat (inr ends) = inr (λ session live. ends session (b.sessions seat.mount session live))
 
-session_before : (w : World) (mount other : List ℕ) (session : Session) → session_of (session_ended w mount).house.live other ≡ Some session
-    → session_of w.house.live other ≡ Some session
-session_before w mount other session e =
-    by_name mount other
-    (λ same.
-    let none : session_of (session_ended w mount).house.live other ≡ None
-    = ap (session_of (session_ended w mount).house.live) (sym same) ∙ is_over w.house.live mount in cc)
-    (λ apart. sym (beside_ended w.house.live mount other apart) ∙ e)
+  by_later : (id : ℕ) (seat : Seat) → (seat_of mid.seats id ≡ Some seat) ⊎ SitsAtEnd later seat → (seat_of w.seats id ≡ Some seat) ⊎ SitsAtEnd later seat
+  by_later id seat (inl had) = by_first id seat (a.seats id seat had)
+  by_later id seat (inr ends) = inr ends
 
-fewer_ended : (w : World) (mount : List ℕ) → HasFewer w (session_ended w mount)
-fewer_ended w mount = record {
+-- whoever is carried along goes on at the end of a stream
+fewer_carried : (w : World) (move : Move) → AreByNumber w.seats → HasFewer w (carried_along w move)
+fewer_carried w move order = record {
   settings = refl;
-  seats = λ id seat e. (sits_still mount NotLive w.seats id seat e).had_a_seat;
-  sessions = session_before w mount;
-}
+  seats = λ id seat e. by_fare id seat e (fares (sight_of w.house) move w.seats order id);
+  sessions = λ mount session e. e;
+} where
+  end_in : Option Session → ℕ
+  end_in found = option_map_or (λ (x : Session). end_of x.stream) found 0
+
+  by_fare : (id : ℕ) (seat : Seat) → seat_of (carried_along w move).seats id ≡ Some seat → Faring (sight_of w.house) move w.seats id
+      → (seat_of w.seats id ≡ Some seat) ⊎ SitsAtEnd (carried_along w move) seat
+  by_fare id seat e (HasStayed same turn) = inl (sym (ap seat_in same) ∙ e)
+  by_fare id seat e (HasGone old to turn had concerned fits now) =
+      let both : Some (seat_at_end (sight_of w.house) to old) ≡ Some seat = sym (ap seat_in now) ∙ e in
+      let one : seat_at_end (sight_of w.house) to old ≡ seat = cc in
+      inr (λ session live.
+      let here : session_of w.house.live to ≡ Some session = ap (λ (x : Seat). session_of w.house.live x.mount) one ∙ live in
+      ap (λ (x : Seat). x.place) (sym one) ∙ ap end_in here)
+  by_fare id seat e (HasLost old rule turn had concerned now) = let none : seat_of (carried_along w move).seats id ≡ None = ap seat_in now in cc
+
+fewer_over : (w : World) (mount : List ℕ) → HasFewer w (session_over w mount)
+fewer_over w mount = record { settings = refl; seats = λ id seat e. inl e; sessions = λ other session e. was_live w mount other session e }
+
+fewer_ended : (w : World) (mount : List ℕ) → AreByNumber w.seats → HasFewer w (session_ended w mount)
+fewer_ended w mount order =
+    fewer_twice w (session_over w mount) (session_ended w mount) (fewer_over w mount) (fewer_carried (session_over w mount) (SessionEnds mount) order)
+
+order_over : (w : World) (mount : List ℕ) → AreByNumber w.seats → AreByNumber (session_ended w mount).seats
+order_over w mount order = order_carried (session_over w mount) (SessionEnds mount) order
 
 seat_before : (w : World) (him id : ℕ) (seat : Seat) → seat_of (without_listener w.seats him) id ≡ Some seat → seat_of w.seats id ≡ Some seat
 seat_before w him id seat e =
@@ -74,49 +111,57 @@ seat_before w him id seat e =
     (λ apart. sym (ap seat_in (beside_left w.seats him id apart)) ∙ e)
 
 fewer_left : (w : World) (him : ℕ) → HasFewer w (changed w (Forget him))
-fewer_left w him = record { settings = refl; seats = seat_before w him; sessions = λ mount session e. e }
+fewer_left w him = record { settings = refl; seats = λ id seat e. inl (seat_before w him id seat e); sessions = λ mount session e. e }
 
-fewer_silenced : (n : ℕ) (w : World) → HasFewer w (silence n w)
-fewer_silenced zero w = record { settings = refl; seats = λ id seat e. e; sessions = λ mount session e. e }
-fewer_silenced (suc n) w = by_first (fewer_silenced n) (first_silent w) where
-  by_first : ((next : World) → HasFewer next (silence n next)) → (found : Option Session) → HasFewer w (on_silent (silence n) w found)
-  by_first rest None = record { settings = refl; seats = λ id seat e. e; sessions = λ mount session e. e }
+fewer_silenced : (n : ℕ) (w : World) → AreByNumber w.seats → HasFewer w (silence n w)
+fewer_silenced zero w order = record { settings = refl; seats = λ id seat e. inl e; sessions = λ mount session e. e }
+fewer_silenced (suc n) w order = by_first (fewer_silenced n) (first_silent w) where
+  by_first : ((next : World) → AreByNumber next.seats → HasFewer next (silence n next)) → (found : Option Session) → HasFewer w (on_silent (silence n) w found)
+  by_first rest None = record { settings = refl; seats = λ id seat e. inl e; sessions = λ mount session e. e }
   by_first rest (Some session) =
-      let ended = fewer_ended w session.mount in
+      let ended = fewer_ended w session.mount order in
       let next = session_silenced w session in
-      fewer_twice w next (silence n next) (record { settings = refl; seats = ended.seats; sessions = ended.sessions }) (rest next)
+      fewer_twice w next (silence n next) (record { settings = refl; seats = ended.seats; sessions = ended.sessions })
+      (rest next (order_over w session.mount order))
 
-fewer_ticked : (w : World) (ms : ℕ) → HasFewer w (ticked w ms)
-fewer_ticked w ms =
+fewer_ticked : (w : World) (ms : ℕ) → AreByNumber w.seats → HasFewer w (ticked w ms)
+fewer_ticked w ms order =
     let later = durations_over (record w { house = timed_out_by w.house ms }) in
     fewer_twice w later (ticked w ms)
     (record {
       settings = refl;
-      seats = λ id seat e. had_seat (has_sat_out w.house.settings ms) TimeOver w.seats id seat e;
+      seats = λ id seat e. inl (had_seat (has_sat_out w.house.settings ms) TimeOver w.seats id seat e);
       sessions = λ mount session e. e;
     })
-    (fewer_silenced (length later.house.live) later)
+    (fewer_silenced (length later.house.live) later (order_ended w.seats order (has_sat_out w.house.settings ms) TimeOver))
+
+fewer_called : (w : World) (mount : List ℕ) → AreByNumber w.seats → HasFewer w (called_home w mount)
+fewer_called w mount order = by_test (options_for w.house.settings mount).listeners.fallback_override where
+  by_test : (b : Bool) → HasFewer w (if b then carried_along w (Up mount) else w)
+  by_test true = fewer_carried w (Up mount) order
+  by_test false = record { settings = refl; seats = λ id seat e. inl e; sessions = λ other session e. e }
 
 -- no change changes the settings
-settings_by : (w : World) (event : Event) (o : Outcome) → Way w event o → (changed w o.change).house.settings ≡ w.house.settings
-settings_by w event o (Misplaced _) = refl
-settings_by w event o (IsFinished _ id rule his told) = refl
-settings_by w event o (IsDenied _ rule v other) = refl
-settings_by w event o (IsRefused _ id rule v his undecided) = refl
-settings_by w event o (IsAdmitted peer allowed) = refl
-settings_by w event o (Begins asked undecided none allowed) = refl
-settings_by w event o (Receives id mount block feeding) = refl
-settings_by w event o (HasPassed ms e) = refl
-settings_by w event o (Ticks ms e) = (fewer_ticked w ms).settings
-settings_by w event o (SetsTitle id mount text feeding) = refl
-settings_by w event o (TakesSeat asked peer session undecided live allowed) = refl
-settings_by w event o (HandsOut id room seat session sits has live) = refl
-settings_by w event o (Ends id mount feeding) = refl
-settings_by w event o (EndsAndLeaves id mount feeding) = refl
-settings_by w event o (Leaves id other) = refl
+settings_by : (w : World) → AreByNumber w.seats → (event : Event) (o : Outcome) → Way w event o → (changed w o.change).house.settings ≡ w.house.settings
+settings_by w order event o (Misplaced _) = refl
+settings_by w order event o (IsFinished _ id rule his told) = refl
+settings_by w order event o (IsDenied _ rule v other) = refl
+settings_by w order event o (IsRefused _ id rule v his undecided) = refl
+settings_by w order event o (IsAdmitted peer allowed) = refl
+settings_by w order event o (Begins asked undecided none allowed) =
+    ap (λ (h : House). h.settings) (house_called (record w { house = begun w.house asked.id asked.mount (shown_for w.house asked.mount asked.shown) }) asked.mount)
+settings_by w order event o (Receives id mount block feeding) = refl
+settings_by w order event o (HasPassed ms e) = refl
+settings_by w order event o (Ticks ms e) = (fewer_ticked w ms order).settings
+settings_by w order event o (SetsTitle id mount text feeding) = refl
+settings_by w order event o (TakesSeat asked peer session undecided lands live allowed) = refl
+settings_by w order event o (HandsOut id room seat session sits has live) = refl
+settings_by w order event o (Ends id mount feeding) = refl
+settings_by w order event o (EndsAndLeaves id mount feeding) = refl
+settings_by w order event o (Leaves id other) = refl
 
-pub settings_stay : (w : World) (event : Event) → (changed w (outcome w event).change).house.settings ≡ w.house.settings
-settings_stay w event = settings_by w event (outcome w event) (way_of w event)
+pub settings_stay : (w : World) → AreByNumber w.seats → (event : Event) → (changed w (outcome w event).change).house.settings ≡ w.house.settings
+settings_stay w order event = settings_by w order event (outcome w event) (way_of w event)
 
 -- what is found where the session of a mount has changed
 module _ (live : List Session) (mount : List ℕ) (f : Session → Session) (same_test : (x : Session) → is_of mount (f x) ≡ is_of mount x) where
@@ -150,21 +195,28 @@ not_behind : {queue : ℕ} (there : Bool) (lag : ℕ) → there ≡ true → (th
 not_behind {queue} true lag e h = ltb-false queue lag h
 not_behind false lag e h = cc
 
--- what a seat keeps by: it holds at the start, of a burst and further on, and where the stream grows and the seat stays
+-- what a seat keeps by: it holds at the start, at the end, of a burst and further on, and where the stream grows and the seat stays
 pub record HoldsOn (P : WholeStream → ℕ → Type 0) (w : World) : Type 0 where
   pub at_none : (place : ℕ) → P no_data place
+  pub at_end : (mount : List ℕ) (session : Session) → session_of w.house.live mount ≡ Some session → P session.stream (end_of session.stream)
   pub at_burst : (mount : List ℕ) (session : Session) (burst : ℕ) → session_of w.house.live mount ≡ Some session
       → burst ≤ w.house.settings.limits.queue_size → P session.stream (burst_start session.stream burst)
   pub further : (stream : WholeStream) (place more : ℕ) → P stream place → P stream (place + more)
   pub longer : (mount block : List ℕ) (session : Session) (place : ℕ) → session_of w.house.live mount ≡ Some session → P session.stream place
       → end_of (with_block session.stream block) - place ≤ w.house.settings.limits.queue_size → P (with_block session.stream block) place
 
-module _ (P : WholeStream → ℕ → Type 0) (w : World) (holds : HoldsOn P w) (all : EachSeat P w) where
+module _ (P : WholeStream → ℕ → Type 0) (w : World) (order : AreByNumber w.seats) (holds : HoldsOn P w) (all : EachSeat P w) where
   each_fewer : (later : World) → HasFewer w later → EachSeat P later
-  each_fewer later fewer id seat session has live = all id seat session (fewer.seats id seat has) (fewer.sessions seat.mount session live)
+  each_fewer later fewer id seat session has live = by_seat (fewer.seats id seat has) where
+    before : session_of w.house.live seat.mount ≡ Some session
+    before = fewer.sessions seat.mount session live
+
+    by_seat : (seat_of w.seats id ≡ Some seat) ⊎ SitsAtEnd later seat → P session.stream seat.place
+    by_seat (inl had) = all id seat session had before
+    by_seat (inr ends) = subst (λ (n : ℕ). P session.stream n) (sym (ends session live)) (holds.at_end seat.mount session before)
 
   -- a session begins
-  each_begun : (him : ℕ) (mount : List ℕ) (shown : Shown) → EachSeat P (changed w (Begin him mount shown))
+  each_begun : (him : ℕ) (mount : List ℕ) (shown : Shown) → EachSeat P (record w { house = begun w.house him mount shown })
   each_begun him mount shown id seat session has live =
       let fresh = opened mount him shown w.house.time in
       by_name mount seat.mount
@@ -174,6 +226,31 @@ module _ (P : WholeStream → ℕ → Type 0) (w : World) (holds : HoldsOn P w) 
       let one : fresh ≡ session = cc in
       subst (λ (x : Session). P x.stream seat.place) one (holds.at_none seat.place))
       (λ apart. all id seat session has (sym (beside_begun w.house.live fresh seat.mount apart) ∙ live))
+
+  -- and those come home whom it calls
+  each_up : (him : ℕ) (mount : List ℕ) (shown : Shown) → EachSeat P (changed w (Begin him mount shown))
+  each_up him mount shown id seat session has live = by_seat (called.seats id seat has) where
+    up : World
+    up = record w { house = begun w.house him mount shown }
+
+    called : HasFewer (record w { house = begun w.house him mount shown }) (changed w (Begin him mount shown))
+    called = fewer_called (record w { house = begun w.house him mount shown }) mount order
+
+    before : session_of (begun w.house him mount shown).live seat.mount ≡ Some session
+    before = called.sessions seat.mount session live
+
+    by_seat : (seat_of w.seats id ≡ Some seat) ⊎ SitsAtEnd (changed w (Begin him mount shown)) seat → P session.stream seat.place
+    by_seat (inl had) = each_begun him mount shown id seat session had before
+    by_seat (inr ends) =
+        let fresh = opened mount him shown w.house.time in
+        subst (λ (n : ℕ). P session.stream n) (sym (ends session live))
+        (by_name mount seat.mount
+        (λ same.
+        let new = is_new_session w.house.live fresh seat.mount ((bytes_eq-Decides mount seat.mount).1 same) in
+        let found : Some fresh ≡ Some session = sym new ∙ before in
+        let one : fresh ≡ session = cc in
+        subst (λ (x : Session). P x.stream (end_of x.stream)) one (holds.at_none 0))
+        (λ apart. holds.at_end seat.mount session (sym (beside_begun w.house.live fresh seat.mount apart) ∙ before)))
 
   -- a title is set
   each_titled : (mount text : List ℕ) → EachSeat P (changed w (SetTitle mount text))
@@ -209,7 +286,7 @@ module _ (P : WholeStream → ℕ → Type 0) (w : World) (holds : HoldsOn P w) 
         had id seat e = had_seat (lags_behind mount (live_end (received w.house mount block) mount) w.house.settings.limits.queue_size) Lagged w.seats id seat e
 
   -- a listener sits down
-  each_seated : (asked : ListenRequest) (peer : Peer) (session : Session) → session_of w.house.live asked.mount ≡ Some session
+  each_seated : (asked : ListenRequest) (peer : Peer) (session : Session) → session_of w.house.live session.mount ≡ Some session
       → EachSeat P (changed w (TakeSeat asked.id (first_seat w.house asked peer session)))
   each_seated asked peer session live id seat other has found =
       let new = first_seat w.house asked peer session in
@@ -218,14 +295,12 @@ module _ (P : WholeStream → ℕ → Type 0) (w : World) (holds : HoldsOn P w) 
       let itself : (asked.id == asked.id) ≡ true = grind (arith, nat_tests) in
       let his : Some new ≡ Some seat = sym (ap seat_in (has_sat_down w.seats asked.id new itself)) ∙ ap (seat_of (with_seat w.seats asked.id new)) same ∙ has in
       let one : new ≡ seat = cc in
-      let named = found_named w.house.live asked.mount session live in
-      let here : session_of w.house.live seat.mount ≡ Some session = ap (λ (x : Seat). session_of w.house.live x.mount) (sym one)
-      ∙ ap (session_of w.house.live) named ∙ live in
+      let here : session_of w.house.live seat.mount ≡ Some session = ap (λ (x : Seat). session_of w.house.live x.mount) (sym one) ∙ live in
       let both : Some session ≡ Some other = sym here ∙ found in
       let its : session ≡ other = cc in
       subst (λ (x : Session). P x.stream seat.place) its
       (subst (λ (x : Seat). P session.stream x.place) one
-      (holds.at_burst asked.mount session (burst_of w.house session.mount) live (omega arith))))
+      (holds.at_burst session.mount session (burst_of w.house session.mount) live (omega arith))))
       (λ apart. all id seat other (sym (ap seat_in (beside_seated w.seats asked.id id apart new)) ∙ has) found)
 
   -- a listener hears on
@@ -246,19 +321,19 @@ module _ (P : WholeStream → ℕ → Type 0) (w : World) (holds : HoldsOn P w) 
   each_by event o (IsDenied _ rule v other) = all
   each_by event o (IsRefused _ id rule v his undecided) = all
   each_by event o (IsAdmitted peer allowed) = all
-  each_by event o (Begins asked undecided none allowed) = each_begun asked.id asked.mount (shown_for w.house asked.mount asked.shown)
+  each_by event o (Begins asked undecided none allowed) = each_up asked.id asked.mount (shown_for w.house asked.mount asked.shown)
   each_by event o (Receives id mount block feeding) = each_received mount block
   each_by event o (HasPassed ms e) = all
-  each_by event o (Ticks ms e) = each_fewer (ticked w ms) (fewer_ticked w ms)
+  each_by event o (Ticks ms e) = each_fewer (ticked w ms) (fewer_ticked w ms order)
   each_by event o (SetsTitle id mount text feeding) = each_titled mount text
-  each_by event o (TakesSeat asked peer session undecided live allowed) = each_seated asked peer session live
+  each_by event o (TakesSeat asked peer session undecided lands live allowed) = each_seated asked peer session live
   each_by event o (HandsOut id room seat session sits has live) = each_heard id seat (length (data_at session.stream seat.place room)) has
   each_by event o (Ends id mount feeding) =
-      let ended = fewer_ended w mount in
+      let ended = fewer_ended w mount order in
       each_fewer (changed w (End id mount)) (record { settings = refl; seats = ended.seats; sessions = ended.sessions })
   each_by event o (EndsAndLeaves id mount feeding) =
       each_fewer (changed w (EndAndLeave id mount))
-      (fewer_twice w (session_ended w mount) (changed w (EndAndLeave id mount)) (fewer_ended w mount) (fewer_left (session_ended w mount) id))
+      (fewer_twice w (session_ended w mount) (changed w (EndAndLeave id mount)) (fewer_ended w mount order) (fewer_left (session_ended w mount) id))
   each_by event o (Leaves id other) = each_fewer (changed w (Forget id)) (fewer_left w id)
 
   pub each_after : (event : Event) → EachSeat P (changed w (outcome w event).change)

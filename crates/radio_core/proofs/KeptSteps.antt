@@ -1,17 +1,19 @@
 -- a change of a state in which only a queue is kept of each stream is the change of the state; and blocks rise still
-use Rattle.std.proofs.Common.{◌≡◌, ℕ, zero, suc, Option, Some, None, List, length, refl, ap, ◌∙◌, arith, length-append}
+use Rattle.std.proofs.Common.{◌≡◌, ℕ, zero, suc, Option, Some, None, List, length, refl, ap, sym, subst, ◌∙◌, arith, length-append}
 use Rattle.std.specs.Prelude.{not}
 use Rattle.std.specs.Option.{option_map}
 use Rattle.std.proofs.lemmas.List.{length-map}
-use Rattle.radio_policy.specs.declared.rule.Rule.TheVariants.{Lagged}
+use Rattle.radio_policy.specs.declared.rule.Rule.TheVariants.{Lagged, SourceSilent}
 use Rattle.radio_tables.specs.Lists.{Each}
 use Rattle.radio_tables.proofs.EachLaws.{Each_kept, Each_updated, Each_placed}
 use Rattle.radio_seats.specs.Seats.{with_ended}
-use Rattle.radio_core.specs.declared.clients.ClientState.TheVariants.{Answered}
+use Rattle.radio_core.specs.declared.clients.ClientState.TheVariants.{Answered, Ended}
 use Rattle.radio_core.specs.declared.outcome.Change.{Change}
 use Rattle.radio_core.specs.declared.outcome.Change.TheVariants.{Nothing, Answer, Admit, Begin, Receive, SetTitle, TakeSeat, Advance, End}
 use Rattle.radio_core.specs.declared.outcome.Change.TheVariants.{EndAndLeave, Forget, Tick}
-use Rattle.radio_core.specs.Changes.{changed, session_ended, client_gone, laggards_ended, timed_out_by, durations_over, first_silent, session_silenced}
+use Rattle.radio_core.specs.declared.house.House.{House}
+use Rattle.radio_core.specs.Changes.{changed, now_in_state, begun, carried_along, session_over, session_ended, called_home, client_gone, laggards_ended}
+use Rattle.radio_core.specs.Changes.{timed_out_by, durations_over, first_silent, session_silenced}
 use Rattle.radio_core.specs.Changes.{on_silent, silence, ticked}
 use Rattle.radio_core.specs.Clients.{in_state}
 use Rattle.radio_core.specs.Kept.{kept_session, kept_live, kept_of}
@@ -21,6 +23,10 @@ use Rattle.radio_core.specs.StandsFor.{HasRisingStarts}
 use Rattle.radio_core.specs.Stream.{end_of, with_block}
 use Rattle.radio_core.specs.Timeouts.{lags_behind}
 use Rattle.radio_core.specs.World.{World}
+use Rattle.radio_settings.specs.declared.field.Shown.{Shown}
+use Rattle.radio_fallback.specs.declared.moves.Move.TheVariants.{Ended as HasEnded}
+use Rattle.radio_core.proofs.CalledHome.{house_called}
+use Rattle.radio_core.proofs.KeptSights.{carried_alike, called_alike}
 use Rattle.radio_core.proofs.Soundness.{rising_more}
 use Rattle.radio_core.proofs.KeptLists.{kept_silent, kept_ends, fed_kept, titled_kept, ended_kept, begun_kept}
 
@@ -49,11 +55,17 @@ rise_silenced (suc n) w rise = by_first (rise_silenced n) (first_silent w) where
   by_first rest None = rise
   by_first rest (Some session) = rest (session_silenced w session) (rise_ended w session.mount rise)
 
+rise_begun : (w : World) (id : ℕ) (mount : List ℕ) (shown : Shown) → Each HasRisingStarts w.house.live
+    → Each HasRisingStarts (begun w.house id mount shown).live
+rise_begun w id mount shown rise = Each_placed HasRisingStarts by_mount (opened mount id shown w.house.time) w.house.live tt rise
+
 pub rise_changed : (w : World) → Each HasRisingStarts w.house.live → (change : Change) → Each HasRisingStarts (changed w change).house.live
 rise_changed w rise Nothing = rise
 rise_changed w rise (Answer id) = rise
 rise_changed w rise (Admit id peer) = rise
-rise_changed w rise (Begin id mount shown) = Each_placed HasRisingStarts by_mount (opened mount id shown w.house.time) w.house.live tt rise
+rise_changed w rise (Begin id mount shown) =
+    subst (λ (h : House). Each HasRisingStarts h.live) (sym (house_called (record w { house = begun w.house id mount shown }) mount))
+    (rise_begun w id mount shown rise)
 rise_changed w rise (Receive mount block) = rise_fed w.house.live mount block w.house.time rise
 rise_changed w rise (SetTitle mount title) = Each_updated HasRisingStarts (is_of mount) (with_title (Some title)) (λ x r. r) w.house.live rise
 rise_changed w rise (TakeSeat id seat) = rise
@@ -71,18 +83,28 @@ module _ (w : World) where
   abbrev queue : ℕ
   queue = w.house.settings.limits.queue_size
 
-  silenced_alike : (session : Session) → session_silenced (kept_of w) (kept_session queue session) ≡ kept_of (session_silenced w session)
-  silenced_alike session = ap (λ (live : List Session). with_live (session_silenced w session) live) (ended_kept queue w.house.live session.mount)
+  over_alike : (mount : List ℕ) → session_over (kept_of w) mount ≡ kept_of (session_over w mount)
+  over_alike mount = ap (λ (live : List Session). with_live w live) (ended_kept queue w.house.live mount)
 
-silence_kept : (n : ℕ) (w : World) → silence n (kept_of w) ≡ kept_of (silence n w)
-silence_kept zero w = refl
-silence_kept (suc n) w =
+  ended_alike : (mount : List ℕ) → Each HasRisingStarts w.house.live → session_ended (kept_of w) mount ≡ kept_of (session_ended w mount)
+  ended_alike mount rise =
+      ap (λ (v : World). carried_along v (HasEnded mount)) (over_alike mount) ∙ carried_alike (session_over w mount) (rise_ended w mount rise) (HasEnded mount)
+
+  silenced_alike : (session : Session) → Each HasRisingStarts w.house.live
+      → session_silenced (kept_of w) (kept_session queue session) ≡ kept_of (session_silenced w session)
+  silenced_alike session rise =
+      ap (λ (v : World). record v { house = now_in_state v.house session.number (Ended SourceSilent) }) (ended_alike session.mount rise)
+
+silence_kept : (n : ℕ) (w : World) → Each HasRisingStarts w.house.live → silence n (kept_of w) ≡ kept_of (silence n w)
+silence_kept zero w rise = refl
+silence_kept (suc n) w rise =
     ap (on_silent (silence n) (kept_of w)) (kept_silent (queue w) w.house.live w.house.settings.limits.source_timeout w.house.time)
     ∙ by_first (silence_kept n) (first_silent w) where
-      by_first : ((next : World) → silence n (kept_of next) ≡ kept_of (silence n next)) → (found : Option Session)
+      by_first : ((next : World) → Each HasRisingStarts next.house.live → silence n (kept_of next) ≡ kept_of (silence n next)) → (found : Option Session)
           → on_silent (silence n) (kept_of w) (option_map (kept_session w.house.settings.limits.queue_size) found) ≡ kept_of (on_silent (silence n) w found)
       by_first rest None = refl
-      by_first rest (Some session) = ap (silence n) (silenced_alike w session) ∙ rest (session_silenced w session)
+      by_first rest (Some session) =
+          ap (silence n) (silenced_alike w session rise) ∙ rest (session_silenced w session) (rise_ended w session.mount rise)
 
 module _ (w : World) (rise : Each HasRisingStarts w.house.live) where
   received_alike : (mount block : List ℕ) → kept_changed (kept_of w) (Receive mount block) ≡ kept_of (changed w (Receive mount block))
@@ -92,26 +114,25 @@ module _ (w : World) (rise : Each HasRisingStarts w.house.live) where
       ∙ ap (λ (end : ℕ). record (with_live w (kept_live (queue w) live)) { seats = with_ended w.seats (lags_behind mount end (queue w)) Lagged })
       (kept_ends (queue w) live mount (rise_fed w.house.live mount block w.house.time rise))
 
-  ended_alike : (mount : List ℕ) → session_ended (kept_of w) mount ≡ kept_of (session_ended w mount)
-  ended_alike mount = ap (λ (live : List Session). with_live (session_ended w mount) live) (ended_kept (queue w) w.house.live mount)
-
   ticked_alike : (ms : ℕ) → ticked (kept_of w) ms ≡ kept_of (ticked w ms)
   ticked_alike ms =
       let later = durations_over (record w { house = timed_out_by w.house ms }) in
-      ap (λ (n : ℕ). silence n (kept_of later)) (length-map later.house.live (kept_session (queue w))) ∙ silence_kept (length later.house.live) later
+      ap (λ (n : ℕ). silence n (kept_of later)) (length-map later.house.live (kept_session (queue w))) ∙ silence_kept (length later.house.live) later rise
 
   pub changed_kept : (change : Change) → kept_changed (kept_of w) change ≡ kept_of (changed w change)
   changed_kept Nothing = refl
   changed_kept (Answer id) = refl
   changed_kept (Admit id peer) = refl
   changed_kept (Begin id mount shown) =
-      ap (λ (live : List Session). with_live (changed w (Begin id mount shown)) live) (begun_kept (queue w) w.house.live (opened mount id shown w.house.time))
+      let up = record w { house = begun w.house id mount shown } in
+      ap (λ (live : List Session). called_home (with_live up live) mount) (begun_kept (queue w) w.house.live (opened mount id shown w.house.time))
+      ∙ called_alike up (rise_begun w id mount shown rise) mount
   changed_kept (Receive mount block) = received_alike mount block
   changed_kept (SetTitle mount title) =
       ap (λ (live : List Session). with_live (changed w (SetTitle mount title)) live) (titled_kept (queue w) w.house.live mount title)
   changed_kept (TakeSeat id seat) = refl
   changed_kept (Advance id place) = refl
-  changed_kept (End id mount) = ap (λ (v : World). record v { house = record v.house { clients = in_state v.house.clients id Answered } }) (ended_alike mount)
-  changed_kept (EndAndLeave id mount) = ap (λ (v : World). client_gone v id) (ended_alike mount)
+  changed_kept (End id mount) = ap (λ (v : World). record v { house = record v.house { clients = in_state v.house.clients id Answered } }) (ended_alike w mount rise)
+  changed_kept (EndAndLeave id mount) = ap (λ (v : World). client_gone v id) (ended_alike w mount rise)
   changed_kept (Forget id) = refl
   changed_kept (Tick ms) = ticked_alike ms

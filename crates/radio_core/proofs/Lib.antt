@@ -7,6 +7,8 @@ pub mod SoundTitles
 pub mod ApartLemmas
 pub mod SeatedLemmas
 pub mod Fates
+pub mod CarriedFates
+pub mod CalledHome
 pub mod TickLemmas
 pub mod TimeoutLemmas
 pub mod SoundEnds
@@ -21,6 +23,7 @@ pub mod SeatSteps
 pub mod ClientSteps
 pub mod StepLemmas
 pub mod NumberLists
+pub mod NumberOrder
 pub mod TotalLemmas
 pub mod ArrivalLemmas
 mod SourceReplyLemmas
@@ -28,6 +31,7 @@ mod CoreReplyLemmas
 mod KeptQueues
 mod KeptStreams
 mod KeptLists
+mod KeptSights
 mod KeptOutcomes
 mod KeptSteps
 mod KeptSeats

@@ -40,14 +40,15 @@ module _ (w : World) (s : IsSound w) (id : ℕ) (seat : Seat) (has : seat_of w.s
       let same : him ≡ id = cc in let sat : standing_of w him ≡ Sits = ap (standing_of w) same ∙ sits in cc
   own_by event o (Ends him mount feeding) his none =
       let same : him ≡ id = cc in let sat : standing_of w him ≡ Sits = ap (standing_of w) same ∙ sits in cc
-  own_by event o (TakesSeat asked peer session undecided live allowed) his none =
+  own_by event o (TakesSeat asked peer session undecided lands live allowed) his none =
       let same : asked.id ≡ id = cc in let sat : standing_of w asked.id ≡ Sits = ap (standing_of w) same ∙ sits in cc
   own_by event o (Misplaced _) his none = cc
   own_by event o (IsFinished _ him by its known) his none = cc
   own_by event o (IsDenied _ by v nobody) his none = cc
   own_by event o (IsRefused _ him by v its undecided) his none = cc
   own_by event o (IsAdmitted peer allowed) his none = cc
-  own_by event o (Begins asked undecided free allowed) his none = cc
+  own_by event o (Begins asked undecided free allowed) his none =
+      let at = undecided.1 in let same : asked.id ≡ id = cc in let sat : standing_of w asked.id ≡ Sits = ap (standing_of w) same ∙ sits in cc
   own_by event o (SetsTitle him mount text feeding) his none = cc
   own_by event o (HasPassed ms e) his none = cc
   own_by event o (Ticks ms e) his none = cc

@@ -20,7 +20,8 @@ use Rattle.radio_core.specs.Step.{outcome, reply_to, world_after}
 use Rattle.radio_core.specs.Ways.{Way, Misplaced, IsFinished, IsDenied, IsRefused, IsAdmitted, Begins, Receives, SetsTitle, TakesSeat, HandsOut, Ends}
 use Rattle.radio_core.specs.Ways.{EndsAndLeaves, Leaves, HasPassed, Ticks, IsUndecided}
 use Rattle.radio_core.proofs.FinishLemmas.{finished_told}
-use Rattle.radio_core.proofs.Standings.{turns_feeding, turns_sitting, turns_admitted}
+use Rattle.radio_core.proofs.CalledHome.{turns_up}
+use Rattle.radio_core.proofs.Standings.{turns_sitting, turns_admitted}
 use Rattle.radio_core.proofs.Ways.{way_of}
 
 record Fits (w : World) (event : Event) (o : Outcome) : Type 0 where
@@ -51,11 +52,11 @@ module _ (w : World) (s : IsSound w) where
       let at = undecided.1 in
       record {
         arrived = λ id d. cc;
-        feeding = λ d. (asked, refl, undecided, (turns_feeding w asked.id asked.mount (shown_for w.house asked.mount asked.shown) (λ u. cc)).his);
+        feeding = λ d. (asked, refl, undecided, (turns_up w s asked.id asked.mount (shown_for w.house asked.mount asked.shown) undecided.0 undecided.1 none).his);
         seated =
             λ interval shown d. cc;
       }
-  fits_by event o (TakesSeat asked peer session undecided live allowed) =
+  fits_by event o (TakesSeat asked peer session undecided lands live allowed) =
       record {
         arrived = λ id d. cc;
         feeding = λ d. cc;

@@ -7,21 +7,34 @@ use Rattle.radio_policy.specs.declared.rule.Rule.{Rule}
 use Rattle.radio_policy.specs.declared.judgement.Verdict.TheVariants.{Allow}
 use Rattle.radio_policy.specs.Verdicts.{verdict_in}
 use Rattle.radio_addr.specs.declared.peer.Peer.{Peer}
-use Rattle.radio_tables.proofs.KeyLaws.{by_number}
+use Rattle.radio_tables.proofs.KeyLaws.{by_number, by_name}
 use Rattle.radio_events.specs.declared.event.Event.{Event}
-use Rattle.radio_events.specs.declared.event.Event.TheVariants.{Push, Listen, Draw, Leave, Clock}
+use Rattle.radio_events.specs.declared.event.Event.TheVariants.{Source, Push, SourceEnd, Listen, Draw, Leave, Clock}
 use Rattle.radio_events.specs.declared.event.ListenRequest.{ListenRequest}
-use Rattle.radio_core.specs.declared.outcome.Change.TheVariants.{TakeSeat, Advance}
+use Rattle.radio_core.specs.declared.outcome.Change.TheVariants.{Begin, TakeSeat, Advance, End, EndAndLeave}
 use Rattle.radio_core.specs.declared.outcome.Outcome.{Outcome}
 use Rattle.radio_seats.specs.declared.seat.Seat.{Seat}
-use Rattle.radio_core.specs.declared.standing.Standing.TheVariants.{Undecided, Sits}
+use Rattle.radio_core.specs.declared.standing.Standing.TheVariants.{Undecided, Feeds, Sits}
 use Rattle.radio_core.specs.World.{World, standing_of}
-use Rattle.radio_core.specs.Changes.{changed, session_ended, taken_in, ticked}
+use Rattle.radio_core.specs.Changes.{changed, taken_in, ticked}
 use Rattle.radio_core.specs.Handing.{data_in, of_client, handed_at}
-use Rattle.radio_core.specs.Facts.{rows_to_listen}
-use Rattle.radio_core.specs.Finishes.{Finishes}
+use Rattle.radio_core.specs.Facts.{sight_of, rows_to_feed, rows_to_listen, walks_to}
+use Rattle.radio_core.specs.Finishes.{Cause, Finishes}
+use Rattle.radio_core.specs.Moves.{TakesTo, ByComingUp, moved_into}
+use Rattle.radio_core.specs.Source.{shown_for}
+use Rattle.radio_core.specs.declared.house.House.{House}
+use Rattle.radio_access.specs.Lists.{lets_in}
+use Rattle.radio_settings.specs.declared.field.Shown.{Shown}
+use Rattle.radio_events.specs.declared.event.SourceRequest.{SourceRequest}
+use Rattle.radio_events.specs.Events.{client_in}
+use Rattle.radio_fallback.specs.declared.moves.Move.TheVariants.{Up}
+use Rattle.radio_fallback.specs.Carry.{at_his_turn}
+use Rattle.radio_fallback.proofs.Faring.{comes_home}
+use Rattle.radio_settings.specs.Options.{options_for}
+use Rattle.radio_fallback.specs.declared.walking.Landing.TheVariants.{Lands}
+use Rattle.std.proofs.lemmas.Slice.Eq.{bytes_eq-Decides}
 use Rattle.radio_core.specs.Listen.{first_seat}
-use Rattle.radio_core.specs.SeatSteps.{SeatStep, Stays, IsHanded, SitsDown, Leaves as HeLeaves, IsEnded as HeIsEnded, SeatsStep}
+use Rattle.radio_core.specs.SeatSteps.{IsSent, HisSessionIsOver, HeIsCalledHome, SeatStep, Stays, IsHanded, SitsDown, IsMoved as HeIsMoved, Leaves as HeLeaves, IsEnded as HeIsEnded, SeatsStep}
 use Rattle.radio_seats.specs.Seats.{seat_of, seat_in}
 use Rattle.radio_core.specs.Sessions.{Session, session_of}
 use Rattle.radio_core.specs.Sound.{IsSound}
@@ -34,75 +47,111 @@ use Rattle.radio_seats.proofs.SeatLaws.{is_no_listener, beside_left}
 use Rattle.radio_core.proofs.LostSeats.{loses_no_seat_else}
 use Rattle.radio_core.proofs.Soundness.{has_new_seat, had_no_seat, beside_new_seat}
 use Rattle.radio_core.proofs.SoundSessions.{has_advanced, others_seats, behind_within}
-use Rattle.radio_core.proofs.SoundEnds.{still_sits, sits_on, sits_no_more}
-use Rattle.radio_core.proofs.Fates.{Fate, GoesOn, IsEnded}
+use Rattle.radio_core.proofs.CalledHome.{IsCalled, Rests as CalledRests, Comes as CalledComes, is_called, house_called, just_begun, sound_just_begun}
+use Rattle.radio_core.proofs.SoundEnds.{ended_fates, ended_and_left_fates}
+use Rattle.radio_core.proofs.Fates.{Fate, GoesOn, IsEnded, HasStopped, IsMoved, Fates, HasEnded, Nobody}
 use Rattle.radio_core.proofs.TickLemmas.{ticked_fates}
-use Rattle.radio_core.proofs.SoundRuns.{grown_world, lag_fates}
+use Rattle.radio_core.proofs.SoundRuns.{grown_world, NoMove, lag_fates}
 use Rattle.radio_core.proofs.Ways.{way_of}
 
--- all that an event can do to a seat: nothing, hand out what stands at its place, give one to who had none, take it away
-data Turn (w : World) (event : Event) (id : ℕ) : Option Seat → List ℕ → Option Seat → Type 0 where
-  Rests : (seat : Option Seat) → Turn w event id seat [] seat
+-- all that an event can do to a seat: nothing, hand out what stands at its place, give one to who had none, carry it along, take it away
+data Turn (w later : World) (event : Event) (id : ℕ) : Option Seat → List ℕ → Option Seat → Type 0 where
+  Rests : (seat : Option Seat) → Turn w later event id seat [] seat
   Draws : (seat : Seat) (session : Session) (room : ℕ) → event ≡ Draw id room → session_of w.house.live seat.mount ≡ Some session
       → session.number ≡ seat.session → seat.place + length (data_at session.stream seat.place room) ≤ end_of session.stream
-      → Turn w event id (Some seat) (data_at session.stream seat.place room)
+      → Turn w later event id (Some seat) (data_at session.stream seat.place room)
       (Some (record seat { place = seat.place + length (data_at session.stream seat.place room) }))
   Comes : (asked : ListenRequest) (peer : Peer) (session : Session) → event ≡ Listen asked → asked.id ≡ id → standing_of w id ≡ Undecided peer
-      → session_of w.house.live asked.mount ≡ Some session → verdict_in (rows_to_listen w asked) ≡ Allow
-      → Turn w event id None [] (Some (first_seat w.house asked peer session))
-  Goes : (before : Option Seat) → Turn w event id before [] None
+      → walks_to w.house w.seats asked.mount asked.pair ≡ Lands session.mount → session_of w.house.live session.mount ≡ Some session
+      → verdict_in (rows_to_listen w asked) ≡ Allow → Turn w later event id None [] (Some (first_seat w.house asked peer session))
+  Moves : (seat : Seat) (session : Session) → TakesTo w event id session.mount → IsSent w later event seat session.mount → session_of later.house.live session.mount ≡ Some session
+      → lets_in w.house.lists session.mount seat.pair ≡ true → (seat.session == session.number) ≡ false
+      → Turn w later event id (Some seat) [] (Some (moved_into session seat))
+  Goes : (before : Option Seat) → Turn w later event id before [] None
 
-adapted : (w : World) (event : Event) (id : ℕ) {a before : Option Seat} {x bytes : List ℕ} {b later : Option Seat} → a ≡ before → x ≡ bytes → b ≡ later
-    → Turn w event id a x b → Turn w event id before bytes later
-adapted w event id {a} {before} {x} {bytes} {b} {later} ea ex eb step =
-    subst (λ (o : Option Seat). Turn w event id o bytes later) ea (subst (λ (xs : List ℕ). Turn w event id a xs later) ex
-    (subst (λ (o : Option Seat). Turn w event id a x o) eb step))
+adapted : (w now : World) (event : Event) (id : ℕ) {a before : Option Seat} {x bytes : List ℕ} {b later : Option Seat} → a ≡ before → x ≡ bytes → b ≡ later
+    → Turn w now event id a x b → Turn w now event id before bytes later
+adapted w now event id {a} {before} {x} {bytes} {b} {later} ea ex eb step =
+    subst (λ (o : Option Seat). Turn w now event id o bytes later) ea (subst (λ (xs : List ℕ). Turn w now event id a xs later) ex
+    (subst (λ (o : Option Seat). Turn w now event id a x o) eb step))
+
+-- who sits in the session of one mount does not sit in that of another
+apart_sessions : (w : World) → IsSound w → (id : ℕ) (seat : Seat) (session : Session) → seat_of w.seats id ≡ Some seat
+    → session_of w.house.live session.mount ≡ Some session → bytes_eq seat.mount session.mount ≡ false → (seat.session == session.number) ≡ false
+apart_sessions w s id seat session has live away =
+    by_number seat.session session.number
+    (λ same.
+    let old = s.seated id seat has in
+    let feeds : standing_of w session.number ≡ Feeds session.mount = s.fed session.mount session live in
+    let fed : standing_of w old.session.number ≡ Feeds seat.mount = s.fed seat.mount old.session old.is_live in
+    let both : Feeds seat.mount ≡ Feeds session.mount = sym fed ∙ ap (standing_of w) (old.his_session ∙ same) ∙ feeds in
+    let one : seat.mount ≡ session.mount = cc in
+    let there : bytes_eq seat.mount session.mount ≡ true = (bytes_eq-Decides seat.mount session.mount).1 one in
+    cc)
+    (λ apart. apart)
 
 module _ (w : World) (s : IsSound w) (id : ℕ) where
   abbrev mine : Option Seat
   mine = seat_of w.seats id
 
-  -- nothing is handed out, and his seat is as it was, or gone
-  stays : (event : Event) (bytes : List ℕ) (later : Option Seat) → bytes ≡ [] → later ≡ mine → Turn w event id mine bytes later
-  stays event bytes later none same = adapted w event id refl (sym none) (sym same) (Rests mine)
+  module _ (now : World) (event : Event) where
+    -- nothing is handed out, and his seat is as it was, or gone
+    stays : (bytes : List ℕ) (later : Option Seat) → bytes ≡ [] → later ≡ mine → Turn w now event id mine bytes later
+    stays bytes later none same = adapted w now event id refl (sym none) (sym same) (Rests mine)
 
-  loses : (event : Event) (bytes : List ℕ) (later : Option Seat) → bytes ≡ [] → later ≡ None → Turn w event id mine bytes later
-  loses event bytes later none forgotten = adapted w event id refl (sym none) (sym forgotten) (Goes mine)
+    loses : (bytes : List ℕ) (later : Option Seat) → bytes ≡ [] → later ≡ None → Turn w now event id mine bytes later
+    loses bytes later none forgotten = adapted w now event id refl (sym none) (sym forgotten) (Goes mine)
 
-  -- a session ends: he keeps his seat at another mount, or loses it
-  when_ended : {A : Type 0} (mount : List ℕ) → (seat_of (session_ended w mount).seats id ≡ mine → A)
-      → (seat_of (session_ended w mount).seats id ≡ None → A) → A
-  when_ended {A} mount same none = by_found mine refl where
-    no_seat : (found : Option Seat) → seat_of (session_ended w mount).seats id ≡ found → mine ≡ None → seat_of (session_ended w mount).seats id ≡ None
-    no_seat None e before = e
-    no_seat (Some seat) e before = let had : mine ≡ Some seat = (still_sits w mount id seat e).had_a_seat in cc
+    -- he is carried along
+    moves : (bytes : List ℕ) (old : Seat) (session : Session) → bytes ≡ [] → TakesTo w event id session.mount
+        → IsSent w now event old session.mount → mine ≡ Some old
+        → seat_of now.seats id ≡ Some (moved_into session old) → session_of now.house.live session.mount ≡ Some session
+        → lets_in w.house.lists session.mount old.pair ≡ true → (old.session == session.number) ≡ false
+        → Turn w now event id mine bytes (seat_of now.seats id)
+    moves bytes old session none takes sent had has live opens apart =
+        adapted w now event id (sym had) (sym none) (sym has) (Moves old session takes sent live opens apart)
 
-    by_found : (found : Option Seat) → mine ≡ found → A
-    by_found None e = none (no_seat (seat_of (session_ended w mount).seats id) refl e)
-    by_found (Some seat) e = by_test (bytes_eq seat.mount mount) refl where
-      by_test : (b : Bool) → bytes_eq seat.mount mount ≡ b → A
-      by_test true there = none (sits_no_more w mount id seat e there)
-      by_test false away = same (sits_on w mount id seat e away ∙ sym e)
+    -- he goes on, or is ended, or carried along from a mount whose session is over
+    fares : (S : ℕ → Type 0)
+        → Fates (Cause w now event) (λ him session. TakesTo w event him session.mount) S HasEnded w now
+        → (bytes : List ℕ) → bytes ≡ [] → Turn w now event id mine bytes (seat_of now.seats id)
+    fares S f bytes none = by_fate (f.fate id) where
+      by_fate : Fate (Cause w now event) (λ him session. TakesTo w event him session.mount) S HasEnded w now id
+          → Turn w now event id mine bytes (seat_of now.seats id)
+      by_fate (GoesOn same seats feeds sits) = stays bytes (seat_of now.seats id) none seats
+      by_fate (IsEnded rule cause active ended gone over) = loses bytes (seat_of now.seats id) none gone
+      by_fate (HasStopped mount why feeding done gone over) = loses bytes (seat_of now.seats id) none gone
+      by_fate (IsMoved old session takes left had has same live opens) =
+          moves bytes old session none takes (HisSessionIsOver left) had has live opens
+          (apart_sessions w s id old session had (f.live session.mount session live)
+          (by_name old.mount session.mount
+          (λ here. let gone : session_of now.house.live session.mount ≡ None = ap (session_of now.house.live) (sym here) ∙ left in cc)
+          (λ away. away)))
 
   -- he sits down
   takes_seat_at : (asked : ListenRequest) (peer : Peer) (session : Session) → standing_of w asked.id ≡ Undecided peer
-      → session_of w.house.live asked.mount ≡ Some session → verdict_in (rows_to_listen w asked) ≡ Allow → (bytes : List ℕ) → bytes ≡ []
-      → Turn w (Listen asked) id mine bytes (seat_of (changed w (TakeSeat asked.id (first_seat w.house asked peer session))).seats id)
-  takes_seat_at asked peer session undecided live allowed bytes none =
+      → walks_to w.house w.seats asked.mount asked.pair ≡ Lands session.mount → session_of w.house.live session.mount ≡ Some session
+      → verdict_in (rows_to_listen w asked) ≡ Allow → (bytes : List ℕ) → bytes ≡ []
+      → Turn w (changed w (TakeSeat asked.id (first_seat w.house asked peer session))) (Listen asked) id mine bytes
+      (seat_of (changed w (TakeSeat asked.id (first_seat w.house asked peer session))).seats id)
+  takes_seat_at asked peer session undecided lands live allowed bytes none =
       let seat = first_seat w.house asked peer session in
+      let now = changed w (TakeSeat asked.id seat) in
       by_number asked.id id
       (λ same.
       let here : seat_of (changed w (TakeSeat asked.id seat)).seats id ≡ Some seat =
       ap (seat_of (changed w (TakeSeat asked.id seat)).seats) (sym same) ∙ has_new_seat w s asked peer session undecided live in
       let before : mine ≡ None = ap (seat_of w.seats) (sym same) ∙ had_no_seat w s asked peer session undecided live in
-      adapted w (Listen asked) id (sym before) (sym none) (sym here)
-      (Comes asked peer session refl same (ap (standing_of w) (sym same) ∙ undecided) live allowed))
-      (λ other. stays (Listen asked) bytes (seat_of (changed w (TakeSeat asked.id seat)).seats id) none
+      adapted w now (Listen asked) id (sym before) (sym none) (sym here)
+      (Comes asked peer session refl same (ap (standing_of w) (sym same) ∙ undecided) lands live allowed))
+      (λ other. stays now (Listen asked) bytes (seat_of (changed w (TakeSeat asked.id seat)).seats id) none
       (beside_new_seat w s asked peer session undecided live id other))
 
   -- he is handed what stands at his place
   hands_at : (him room : ℕ) (seat : Seat) (session : Session) → standing_of w him ≡ Sits → seat_of w.seats him ≡ Some seat
-      → session_of w.house.live seat.mount ≡ Some session → Turn w (Draw him room) id mine (of_client (Draw him room) id (data_at session.stream seat.place room))
+      → session_of w.house.live seat.mount ≡ Some session
+      → Turn w (changed w (Advance him (seat.place + length (data_at session.stream seat.place room)))) (Draw him room) id mine
+      (of_client (Draw him room) id (data_at session.stream seat.place room))
       (seat_of (changed w (Advance him (seat.place + length (data_at session.stream seat.place room)))).seats id)
   hands_at him room seat session sits has live =
       let later = changed w (Advance him (seat.place + length (data_at session.stream seat.place room))) in
@@ -113,69 +162,101 @@ module _ (w : World) (s : IsSound w) (id : ℕ) where
       let old = s.seated him seat has in
       let both : Some old.session ≡ Some session = sym old.is_live ∙ live in
       let one : old.session ≡ session = cc in
-      adapted w (Draw him room) id (sym has ∙ ap (seat_of w.seats) same) (sym (his_bytes (him == id) bytes itself))
+      adapted w later (Draw him room) id (sym has ∙ ap (seat_of w.seats) same) (sym (his_bytes (him == id) bytes itself))
       (sym (has_advanced w s him room seat session sits has live) ∙ ap (seat_of later.seats) same)
       (Draws seat session room (ap (λ (n : ℕ). Draw n room) same) live (ap (λ (x : Session). x.number) (sym one) ∙ old.his_session) (behind_within w s him room seat session sits has live)))
-      (λ other. stays (Draw him room) (of_client (Draw him room) id bytes) (seat_of later.seats id) (not_of (Draw him room) id bytes other)
+      (λ other. stays later (Draw him room) (of_client (Draw him room) id bytes) (seat_of later.seats id) (not_of (Draw him room) id bytes other)
       (others_seats w s him room seat session sits has live id other)) where
         his_bytes : (b : Bool) (bytes : List ℕ) → b ≡ true → (if b then bytes else []) ≡ bytes
         his_bytes true bytes e = refl
         his_bytes false bytes e = cc
 
-  -- he goes on, or is ended
-  fares : (from later : World) (event : Event) → seat_of from.seats id ≡ mine → Fate from later event id → (bytes : List ℕ) → bytes ≡ []
-      → Turn w event id mine bytes (seat_of later.seats id)
-  fares from later event e (GoesOn same seats feeds sits) bytes none = stays event bytes (seat_of later.seats id) none (seats ∙ e)
-  fares from later event e (IsEnded rule cause active ended gone over) bytes none = loses event bytes (seat_of later.seats id) none gone
+  -- a block comes: he goes on, or is too far behind
+  lags : (him : ℕ) (mount block : List ℕ) → standing_of w him ≡ Feeds mount → (bytes : List ℕ) → bytes ≡ []
+      → Turn w (taken_in w mount block) (Push him block) id mine bytes (seat_of (taken_in w mount block).seats id)
+  lags him mount block feeding bytes none = by_fate ((lag_fates w s mount block him feeding).fate id) where
+    by_fate : Fate (Cause w (taken_in w mount block) (Push him block)) NoMove Nobody HasEnded (grown_world w mount block) (taken_in w mount block) id
+        → Turn w (taken_in w mount block) (Push him block) id mine bytes (seat_of (taken_in w mount block).seats id)
+    by_fate (GoesOn same seats feeds sits) = stays (taken_in w mount block) (Push him block) bytes (seat_of (taken_in w mount block).seats id) none seats
+    by_fate (IsEnded rule cause active ended gone over) =
+        loses (taken_in w mount block) (Push him block) bytes (seat_of (taken_in w mount block).seats id) none gone
+    by_fate (HasStopped other why feeds done gone over) = absurd why
+    by_fate (IsMoved old session carries left had has same live opens) = absurd carries
 
-  step_by : (event : Event) (o : Outcome) → Way w event o → Turn w event id mine (of_client event id (data_in o.reply)) (seat_of (changed w o.change).seats id)
-  step_by event o (Misplaced _) = stays event (of_client event id []) mine (nothing_of event id [] refl) refl
-  step_by event o (IsFinished _ him by its known) = stays event (of_client event id []) mine (nothing_of event id [] refl) refl
-  step_by event o (IsDenied _ by v nobody) = stays event (of_client event id []) mine (nothing_of event id [] refl) refl
-  step_by event o (IsRefused _ him by v its undecided) = stays event (of_client event id []) mine (nothing_of event id [] refl) refl
-  step_by event o (IsAdmitted peer allowed) = stays event [] mine refl refl
-  step_by event o (Begins asked undecided none allowed) = stays event (of_client event id []) mine (nothing_of event id [] refl) refl
-  step_by event o (Receives him mount block feeding) =
-      fares (grown_world w mount block) (taken_in w mount block) (Push him block) refl ((lag_fates w s mount block him feeding).fate id)
-      (of_client event id []) (nothing_of event id [] refl)
-  step_by event o (HasPassed ms e) = stays event [] mine refl refl
-  step_by event o (Ticks ms e) = fares w (ticked w ms) (Clock ms) refl ((ticked_fates w s ms).fate id) [] refl
-  step_by event o (SetsTitle him mount text feeding) = stays event (of_client event id []) mine (nothing_of event id [] refl) refl
-  step_by event o (TakesSeat asked peer session undecided live allowed) =
-      takes_seat_at asked peer session undecided live allowed (of_client event id []) (nothing_of event id [] refl)
+  -- a source comes up: he rests where he is, or comes home
+  module _ (asked : SourceRequest) (peer : Peer) (undecided : standing_of w asked.id ≡ Undecided peer) (free : session_of w.house.live asked.mount ≡ None)
+      (allowed : verdict_in (rows_to_feed w.house asked) ≡ Allow) (bytes : List ℕ) (none : bytes ≡ []) where
+    abbrev up : World
+    up = just_begun w s asked.id asked.mount (shown_for w.house asked.mount asked.shown) peer undecided free
+
+    abbrev come_up : World
+    come_up = changed w (Begin asked.id asked.mount (shown_for w.house asked.mount asked.shown))
+
+    sound_up_then : IsSound up
+    sound_up_then = sound_just_begun w s asked.id asked.mount (shown_for w.house asked.mount asked.shown) peer undecided free
+
+    abbrev Takes : ℕ → Session → Type 0
+    Takes him session = TakesTo w (Source asked) him session.mount × (session.mount ≡ asked.mount)
+        × ((options_for w.house.settings asked.mount).listeners.fallback_override ≡ true)
+
+    by_call : IsCalled Takes up come_up id → Turn w come_up (Source asked) id mine bytes (seat_of come_up.seats id)
+    by_call (CalledRests same seat) = stays come_up (Source asked) bytes (seat_of come_up.seats id) none seat
+    by_call (CalledComes old session takes left had has same live opens) =
+        moves come_up (Source asked) bytes old session none takes.0 (HeIsCalledHome asked refl takes.1 (left.1 ∙ takes.1) takes.2) had has live opens
+        (apart_sessions up sound_up_then id old session had (ap (λ (h : House). session_of h.live session.mount) (sym (house_called up asked.mount)) ∙ live) left.0)
+
+    comes_up : Turn w come_up (Source asked) id mine bytes (seat_of come_up.seats id)
+    comes_up =
+        by_call (is_called up sound_up_then asked.mount Takes
+        (λ calls him session turn. (
+          (Up asked.mount, up, ByComingUp asked peer undecided allowed calls, turn),
+          sym (comes_home (sight_of up.house) asked.mount (at_his_turn (sight_of up.house) (Up asked.mount) up.seats him) him session.mount turn),
+          calls,
+        )) id)
+
+  step_by : (event : Event) (o : Outcome) → Way w event o
+      → Turn w (changed w o.change) event id mine (of_client event id (data_in o.reply)) (seat_of (changed w o.change).seats id)
+  step_by event o (Misplaced _) = stays w event (of_client event id []) mine (nothing_of event id [] refl) refl
+  step_by event o (IsFinished _ him by its known) = stays w event (of_client event id []) mine (nothing_of event id [] refl) refl
+  step_by event o (IsDenied _ by v nobody) = stays w event (of_client event id []) mine (nothing_of event id [] refl) refl
+  step_by event o (IsRefused _ him by v its undecided) =
+      stays (changed w o.change) event (of_client event id []) mine (nothing_of event id [] refl) refl
+  step_by event o (IsAdmitted peer allowed) = stays (changed w o.change) event [] mine refl refl
+  step_by event o (Begins asked undecided none allowed) =
+      comes_up asked undecided.0 undecided.1 none allowed (of_client event id []) (nothing_of event id [] refl)
+  step_by event o (Receives him mount block feeding) = lags him mount block feeding (of_client event id []) (nothing_of event id [] refl)
+  step_by event o (HasPassed ms e) = stays w event [] mine refl refl
+  step_by event o (Ticks ms e) = fares (ticked w ms) (Clock ms) Nobody (ticked_fates w s ms) [] refl
+  step_by event o (SetsTitle him mount text feeding) =
+      stays (changed w o.change) event (of_client event id []) mine (nothing_of event id [] refl) refl
+  step_by event o (TakesSeat asked peer session undecided lands live allowed) =
+      takes_seat_at asked peer session undecided lands live allowed (of_client event id []) (nothing_of event id [] refl)
   step_by event o (HandsOut him room seat session sits has live) = hands_at him room seat session sits has live
   step_by event o (Ends him mount feeding) =
-      when_ended mount
-      (λ same. stays event (of_client event id []) (seat_of (changed w o.change).seats id) (nothing_of event id [] refl) same)
-      (λ none. loses event (of_client event id []) (seat_of (changed w o.change).seats id) (nothing_of event id [] refl) none)
+      fares (changed w (End him mount)) (SourceEnd him) (λ him'. client_in (SourceEnd him) ≡ Some him') (ended_fates w s him mount feeding)
+      (of_client event id []) (nothing_of event id [] refl)
   step_by event o (EndsAndLeaves him mount feeding) =
-      by_number him id
-      (λ same. loses event (of_client event id []) (seat_of (changed w o.change).seats id) (nothing_of event id [] refl)
-      (ap (seat_of (changed w o.change).seats) (sym same) ∙ ap seat_in (is_no_listener (session_ended w mount).seats him)))
-      (λ other.
-      let beside : seat_of (changed w o.change).seats id ≡ seat_of (session_ended w mount).seats id =
-      ap seat_in (beside_left (session_ended w mount).seats him id other) in
-      when_ended mount
-      (λ same. stays event (of_client event id []) (seat_of (changed w o.change).seats id) (nothing_of event id [] refl) (beside ∙ same))
-      (λ none. loses event (of_client event id []) (seat_of (changed w o.change).seats id) (nothing_of event id [] refl) (beside ∙ none)))
+      fares (changed w (EndAndLeave him mount)) (Leave him) (λ him'. client_in (Leave him) ≡ Some him') (ended_and_left_fates w s him mount feeding)
+      (of_client event id []) (nothing_of event id [] refl)
   step_by event o (Leaves him other) =
       by_number him id
-      (λ same. loses event (of_client event id []) (seat_of (changed w o.change).seats id) (nothing_of event id [] refl)
+      (λ same. loses (changed w o.change) event (of_client event id []) (seat_of (changed w o.change).seats id) (nothing_of event id [] refl)
       (ap (seat_of (changed w o.change).seats) (sym same) ∙ ap seat_in (is_no_listener w.seats him)))
-      (λ apart. stays event (of_client event id []) (seat_of (changed w o.change).seats id) (nothing_of event id [] refl)
+      (λ apart. stays (changed w o.change) event (of_client event id []) (seat_of (changed w o.change).seats id) (nothing_of event id [] refl)
       (ap seat_in (beside_left w.seats him id apart)))
 
-  turn_of : (event : Event) → Turn w event id mine (handed_at w event id) (seat_of (world_after w event).seats id)
+  turn_of : (event : Event) → Turn w (world_after w event) event id mine (handed_at w event id) (seat_of (world_after w event).seats id)
   unfolding reply_to world_after
   turn_of event = step_by event (outcome w event) (way_of w event)
 
   -- whoever has lost his seat has left, or was finished
   by_turn : (event : Event) (before : Option Seat) (bytes : List ℕ) (later : Option Seat) → mine ≡ before
-      → seat_of (world_after w event).seats id ≡ later → Turn w event id before bytes later → SeatStep w (Finishes w event id) event id before bytes later
+      → seat_of (world_after w event).seats id ≡ later → Turn w (world_after w event) event id before bytes later → SeatStep w (Finishes w event id) event id before bytes later
   by_turn event before bytes later had has (Rests seat) = Stays seat
   by_turn event before bytes later had has (Draws seat session room e live number within) = IsHanded seat session room e live number within
-  by_turn event before bytes later had has (Comes asked peer session e his undecided live allowed) =
-      SitsDown asked peer session e his undecided live allowed
+  by_turn event before bytes later had has (Comes asked peer session e his undecided lands live allowed) =
+      SitsDown asked peer session e his undecided lands live allowed
+  by_turn event before bytes later had has (Moves seat session takes sent live opens apart) = HeIsMoved seat session takes sent live opens apart
   by_turn event before bytes later had has (Goes None) = Stays None
   by_turn event before bytes later had has (Goes (Some seat)) = by_loss (loses_no_seat_else w s event id seat had has) where
     by_loss : (event ≡ Leave id) ⊎ ((rule : Rule) × Finishes w event id rule) → SeatStep w (Finishes w event id) event id (Some seat) [] None

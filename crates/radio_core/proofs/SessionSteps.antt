@@ -14,7 +14,9 @@ use Rattle.radio_core.specs.declared.clients.ClientState.TheVariants.{Undecided 
 use Rattle.radio_core.specs.declared.outcome.Change.TheVariants.{Begin, Receive, SetTitle}
 use Rattle.radio_core.specs.declared.outcome.Outcome.{Outcome}
 use Rattle.radio_core.specs.declared.standing.Standing.TheVariants.{Undecided, Feeds, Sits}
-use Rattle.radio_core.specs.Changes.{changed, session_ended, ticked}
+use Rattle.radio_core.specs.declared.house.House.{House}
+use Rattle.radio_core.specs.Changes.{changed, begun, session_ended, ticked}
+use Rattle.radio_core.specs.Moves.{TakesTo}
 use Rattle.radio_core.specs.Finishes.{Cause, SessionIsOver, IsFarBehind, HasSatOut, HasAskedNothing, HasSentNothing}
 use Rattle.radio_core.specs.Sessions.{Session, session_of, opened}
 use Rattle.radio_core.specs.SessionSteps.{IsShownAs, OfTheSettings, OfTheSource, SessionStep, Stays, Begins as ItBegins, Grows, IsTitled}
@@ -25,7 +27,8 @@ use Rattle.radio_core.specs.Step.{outcome, world_after}
 use Rattle.radio_core.specs.Ways.{Way, Misplaced, IsFinished, IsDenied, IsRefused, IsAdmitted, Begins, Receives, SetsTitle, TakesSeat, HandsOut, Ends}
 use Rattle.radio_core.specs.Ways.{EndsAndLeaves, Leaves, HasPassed, Ticks}
 use Rattle.radio_core.specs.World.{World, standing_of, standing_in}
-use Rattle.radio_core.proofs.Fates.{Fate, GoesOn, IsEnded}
+use Rattle.radio_core.proofs.CalledHome.{house_called}
+use Rattle.radio_core.proofs.Fates.{Fate, GoesOn, IsEnded, HasStopped, IsMoved, HasEnded, Nobody}
 use Rattle.radio_core.proofs.Lookups.{is_new_session, beside_begun, is_longer, beside_fed, is_titled, beside_titled, is_over, beside_ended}
 use Rattle.radio_core.proofs.TickLemmas.{asking_at, ticked_fates}
 use Rattle.radio_core.proofs.TimeoutLemmas.{tests_are_in_numbers}
@@ -48,7 +51,7 @@ module _ (w : World) (s : IsSound w) (mount : List ℕ) where
 
   begins : (asked : SourceRequest) → session_of w.house.live asked.mount ≡ None
       → SessionStep w (Source asked) mount mine
-      (session_of (changed w (Begin asked.id asked.mount (shown_for w.house asked.mount asked.shown))).house.live mount)
+      (session_of (record w { house = begun w.house asked.id asked.mount (shown_for w.house asked.mount asked.shown) }).house.live mount)
   begins asked none =
       let stream = (options_for w.house.settings asked.mount).stream in
       let fresh = opened asked.mount asked.id (shown_for w.house asked.mount asked.shown) w.house.time in
@@ -66,8 +69,17 @@ module _ (w : World) (s : IsSound w) (mount : List ℕ) where
         shows_name = is_shown stream.stream_name asked.shown.name;
         shows_genre = is_shown stream.genre asked.shown.genre;
       })))
-      (λ apart. stays (Source asked) (session_of (changed w (Begin asked.id asked.mount (shown_for w.house asked.mount asked.shown))).house.live mount)
+      (λ apart. stays (Source asked)
+      (session_of (record w { house = begun w.house asked.id asked.mount (shown_for w.house asked.mount asked.shown) }).house.live mount)
       (beside_begun w.house.live fresh mount apart))
+
+  -- those who are called home change no session
+  comes_up : (asked : SourceRequest) → session_of w.house.live asked.mount ≡ None
+      → SessionStep w (Source asked) mount mine
+      (session_of (changed w (Begin asked.id asked.mount (shown_for w.house asked.mount asked.shown))).house.live mount)
+  comes_up asked none =
+      let up = record w { house = begun w.house asked.id asked.mount (shown_for w.house asked.mount asked.shown) } in
+      turned (Source asked) refl (ap (λ (h : House). session_of h.live mount) (sym (house_called up asked.mount))) (begins asked none)
 
   grows : (him : ℕ) (fed block : List ℕ) → standing_of w him ≡ Feeds fed
       → SessionStep w (Push him block) mount mine (session_of (changed w (Receive fed block)).house.live mount)
@@ -112,7 +124,7 @@ module _ (w : World) (s : IsSound w) (mount : List ℕ) where
 
     is_silenced : (session : Session) → mine ≡ Some session → {rule : Rule} → Cause w (ticked w ms) (Clock ms) session.number rule → later ≡ None
         → SessionStep w (Clock ms) mount mine later
-    is_silenced session here (SessionIsOver _ seat old has live over stops) gone =
+    is_silenced session here (SessionIsOver _ seat has leaves) gone =
         let sat : standing_of w session.number ≡ Sits = s.sitting session.number seat has in
         let feeds : standing_of w session.number ≡ Feeds mount = s.fed mount session here in
         cc
@@ -147,9 +159,16 @@ module _ (w : World) (s : IsSound w) (mount : List ℕ) where
       none_there None e none = e
       none_there (Some session) e none = let was : mine ≡ Some session = (ticked_fates w s ms).live mount session e in cc
 
-      by_fate : (session : Session) → mine ≡ Some session → Fate w (ticked w ms) (Clock ms) session.number → SessionStep w (Clock ms) mount mine later
+      by_fate : (session : Session) → mine ≡ Some session
+          → Fate (Cause w (ticked w ms) (Clock ms)) (λ id session. TakesTo w (Clock ms) id session.mount) Nobody HasEnded w (ticked w ms) session.number
+          → SessionStep w (Clock ms) mount mine later
       by_fate session here (GoesOn same seat feeds sits) = stays (Clock ms) later (feeds mount (s.fed mount session here))
       by_fate session here (IsEnded rule cause active ended none over) = is_silenced session here cause (over mount (s.fed mount session here))
+      by_fate session here (HasStopped other why feeding done none over) = absurd why
+      by_fate session here (IsMoved old to carries left had has same live opens) =
+          let sat : standing_of w session.number ≡ Sits = s.sitting session.number old had in
+          let feeds : standing_of w session.number ≡ Feeds mount = s.fed mount session here in
+          cc
 
       by_found : (found : Option Session) → mine ≡ found → SessionStep w (Clock ms) mount mine later
       by_found None e = stays (Clock ms) later (none_there later refl e ∙ sym e)
@@ -161,10 +180,10 @@ module _ (w : World) (s : IsSound w) (mount : List ℕ) where
   step_by event o (IsDenied _ by v nobody) = Stays mine
   step_by event o (IsRefused _ him by v its undecided) = Stays mine
   step_by event o (IsAdmitted peer allowed) = Stays mine
-  step_by event o (Begins asked undecided none allowed) = begins asked none
+  step_by event o (Begins asked undecided none allowed) = comes_up asked none
   step_by event o (Receives him fed block feeding) = grows him fed block feeding
   step_by event o (SetsTitle him fed text feeding) = is_told him fed text feeding
-  step_by event o (TakesSeat asked peer session undecided live allowed) = Stays mine
+  step_by event o (TakesSeat asked peer session undecided lands live allowed) = Stays mine
   step_by event o (HandsOut him room seat session sits has live) = Stays mine
   step_by event o (Ends him fed feeding) = is_ended event him fed feeding (inl refl)
   step_by event o (EndsAndLeaves him fed feeding) = is_ended event him fed feeding (inr refl)
@@ -185,10 +204,12 @@ module _ (w : World) (s : IsSound w) where
   keeps_by event o (IsDenied _ by v nobody) = (refl, refl)
   keeps_by event o (IsRefused _ him by v its undecided) = (refl, refl)
   keeps_by event o (IsAdmitted peer allowed) = (refl, refl)
-  keeps_by event o (Begins asked undecided none allowed) = (refl, refl)
+  keeps_by event o (Begins asked undecided none allowed) =
+      let same = house_called (record w { house = begun w.house asked.id asked.mount (shown_for w.house asked.mount asked.shown) }) asked.mount in
+      (ap (λ (h : House). h.settings) same, ap (λ (h : House). h.lists) same)
   keeps_by event o (Receives him fed block feeding) = (refl, refl)
   keeps_by event o (SetsTitle him fed text feeding) = (refl, refl)
-  keeps_by event o (TakesSeat asked peer session undecided live allowed) = (refl, refl)
+  keeps_by event o (TakesSeat asked peer session undecided lands live allowed) = (refl, refl)
   keeps_by event o (HandsOut him room seat session sits has live) = (refl, refl)
   keeps_by event o (Ends him fed feeding) = (refl, refl)
   keeps_by event o (EndsAndLeaves him fed feeding) = (refl, refl)

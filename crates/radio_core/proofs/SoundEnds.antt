@@ -1,156 +1,206 @@
--- what holds of every state of a run holds still after the end of a session
-use Rattle.std.proofs.Common.{◌≡◌, ◌⊎◌, inl, inr, true, false, ℕ, ◌<◌, ◌==◌, Some, None, List, refl, ap, sym, ◌∙◌, arith}
+-- how each client fares where a session ends, and what holds of every state of a run holds still
+use Rattle.std.proofs.Common.{◌≡◌, Bool, true, false, ℕ, ◌==◌, Option, Some, None, List, refl, ap, sym, subst, ◌∙◌, arith}
 use Rattle.std.specs.Prelude.{not}
 use Rattle.std.specs.Str.{bytes_eq}
 use Rattle.std.proofs.lemmas.Bool.Decides.{nat_tests}
 use Rattle.std.proofs.lemmas.Slice.Eq.{bytes_eq-Decides}
-use Rattle.radio_policy.specs.declared.rule.Rule.TheVariants.{NotLive}
+use Rattle.radio_policy.specs.declared.rule.Rule.{Rule}
+use Rattle.radio_settings.specs.declared.settings.Settings.{Settings}
+use Rattle.radio_access.specs.Lists.{Lists}
 use Rattle.radio_tables.proofs.KeyLaws.{by_number, by_name}
+use Rattle.radio_fallback.specs.declared.moves.Move.TheVariants.{Ended as SessionEnds}
+use Rattle.radio_fallback.specs.declared.moves.Move.{Move}
+use Rattle.radio_fallback.specs.declared.moves.Turn.TheVariants.{Stays, GoesTo, IsOut}
+use Rattle.radio_fallback.specs.Carry.{concerns}
+use Rattle.radio_fallback.proofs.Faring.{Faring, HasStayed, HasGone, HasLost, fares, nobody_stays}
+use Rattle.radio_events.specs.declared.event.Event.{Event}
+use Rattle.radio_events.specs.declared.event.Event.TheVariants.{SourceEnd, Leave}
+use Rattle.radio_events.specs.Events.{client_in}
+use Rattle.radio_core.specs.declared.clients.Client.{Client}
+use Rattle.radio_core.specs.declared.clients.ClientState.{ClientState}
+use Rattle.radio_core.specs.declared.clients.ClientState.TheVariants.{Answered as HasHisAnswer}
 use Rattle.radio_core.specs.declared.outcome.Change.TheVariants.{End, EndAndLeave}
 use Rattle.radio_seats.specs.declared.seat.Seat.{Seat}
 use Rattle.radio_core.specs.declared.standing.Standing.{Standing}
-use Rattle.radio_core.specs.declared.standing.Standing.TheVariants.{Unknown, Feeds, Sits, Answered}
-use Rattle.radio_core.specs.World.{World, standing_of}
-use Rattle.radio_core.specs.Changes.{changed, session_ended}
-use Rattle.radio_seats.specs.Seats.{listener_of, seat_of, seat_in}
+use Rattle.radio_core.specs.declared.standing.Standing.TheVariants.{Unknown, Undecided, Feeds, Sits, Answered}
+use Rattle.radio_core.specs.World.{World, standing_of, standing_in}
+use Rattle.radio_core.specs.Changes.{changed, carried_along, session_over, session_ended}
+use Rattle.radio_core.specs.Clients.{is_client, client_of, with_state, in_state}
+use Rattle.radio_core.specs.Facts.{sight_of}
+use Rattle.radio_core.specs.Finishes.{Cause, SessionIsOver}
+use Rattle.radio_core.specs.Moves.{his_turn, ByItsEnd, ByItsLeaving, TakesTo}
+use Rattle.radio_seats.specs.Seats.{listener_of, seat_of, seat_in, AreByNumber}
 use Rattle.radio_core.specs.Sessions.{Session, is_of, session_of, without_session}
 use Rattle.radio_core.specs.Sound.{AreApart, IsSound}
-use Rattle.radio_seats.proofs.SeatLaws.{StillSits, sits_still, sits_on_elsewhere, has_lost_it, beside_left, is_no_listener}
-use Rattle.radio_core.proofs.ApartLemmas.{kept_apart}
-use Rattle.radio_core.proofs.Lookups.{beside_ended, is_over}
-use Rattle.radio_core.proofs.Standings.{Turns, Loses, turns_answered, turns_forgotten, silenced, ended_feeds, feeds_ended}
+use Rattle.radio_core.specs.Timeouts.{asks_too_late}
+use Rattle.radio_seats.proofs.SeatLaws.{beside_left, is_no_listener}
+use Rattle.radio_core.proofs.ApartLemmas.{kept_apart, bytes_apart}
+use Rattle.radio_core.proofs.CarriedFates.{order_carried, carried_fate}
+use Rattle.radio_core.proofs.Fates.{IsDone, Fate, GoesOn, HasStopped, Fates, HasEnded, sound_fates}
+use Rattle.radio_core.proofs.Lookups.{beside_ended, beside_state, beside_forgotten, does, is_over, is_no_client}
+use Rattle.radio_core.proofs.NumberOrder.{order_left}
+use Rattle.radio_core.proofs.Standings.{Turns, kept_of, turns_answered, turns_forgotten, feeds_whoever_sits}
 
--- who has a seat after the end of a mount's session had it before, and elsewhere
-pub still_sits : (w : World) (mount : List ℕ) (id : ℕ) (seat : Seat) → seat_of (session_ended w mount).seats id ≡ Some seat → StillSits w.seats mount id seat
-still_sits w mount id seat e = sits_still mount NotLive w.seats id seat e
+-- who has no seat has none when a move has carried the others along
+pub no_seat_carried : (w : World) (move : Move) → AreByNumber w.seats → (id : ℕ) → seat_of w.seats id ≡ None → seat_of (carried_along w move).seats id ≡ None
+no_seat_carried w move order id none = by_fare (fares (sight_of w.house) move w.seats order id) where
+  by_fare : Faring (sight_of w.house) move w.seats id → seat_of (carried_along w move).seats id ≡ None
+  by_fare (HasStayed same turn) = ap seat_in same ∙ none
+  by_fare (HasGone seat to turn had concerned fits now) = cc
+  by_fare (HasLost seat rule turn had concerned now) = cc
 
--- and who sits at another mount keeps his seat
-pub sits_on : (w : World) (mount : List ℕ) (id : ℕ) (seat : Seat) → seat_of w.seats id ≡ Some seat → bytes_eq seat.mount mount ≡ false
-    → seat_of (session_ended w mount).seats id ≡ Some seat
-sits_on w mount id seat has apart = sits_on_elsewhere mount NotLive w.seats id seat has apart
+-- a source has no seat
+pub source_has_none : (w : World) → IsSound w → (him : ℕ) (mount : List ℕ) → standing_of w him ≡ Feeds mount → seat_of w.seats him ≡ None
+source_has_none w s him mount feeding = by_found (seat_of w.seats him) refl where
+  by_found : (found : Option Seat) → seat_of w.seats him ≡ found → found ≡ None
+  by_found None e = refl
+  by_found (Some seat) e = let sat : standing_of w him ≡ Sits = s.sitting him seat e in cc
 
--- who sat at the mount has no seat
-pub sits_no_more : (w : World) (mount : List ℕ) (id : ℕ) (seat : Seat) → seat_of w.seats id ≡ Some seat → bytes_eq seat.mount mount ≡ true
-    → seat_of (session_ended w mount).seats id ≡ None
-sits_no_more w mount id seat has there = has_lost_it mount NotLive w.seats id seat has there
+-- what is live when a session is over was live before
+pub was_live : (w : World) (mount other : List ℕ) (session : Session) → session_of (without_session w.house.live mount) other ≡ Some session
+    → session_of w.house.live other ≡ Some session
+was_live w mount other session e =
+    by_name mount other
+    (λ same.
+    let none : session_of (without_session w.house.live mount) other ≡ None
+    = ap (session_of (without_session w.house.live mount)) (sym same) ∙ is_over w.house.live mount in cc)
+    (λ apart. sym (beside_ended w.house.live mount other apart) ∙ e)
 
--- the source of a mount stops feeding it, and its session is over
-module _ (w : World) (s : IsSound w) (him : ℕ) (mount : List ℕ) (feeding : standing_of w him ≡ Feeds mount) (later : World) (now : Standing)
-    (t : Turns (session_ended w mount) later him now) (kept : AreApart later.house.live) (live : (other : List ℕ)
-    → session_of later.house.live other ≡ session_of (without_session w.house.live mount) other)
-    (seats : (id : ℕ) (seat : Seat) → seat_of later.seats id ≡ Some seat → seat_of (session_ended w mount).seats id ≡ Some seat)
-    (last : w.house.last_id ≡ later.house.last_id) (not_now : (other : List ℕ) → now ≡ Feeds other → ⊥) where
-  over : session_of later.house.live mount ≡ None
-  over = live mount ∙ is_over w.house.live mount
+-- the session of a mount has ended, and its source turns to something else
+module _ (C : ℕ → Rule → Type 0) (M : ℕ → Session → Type 0) (S : ℕ → Type 0) (w : World) (s : IsSound w) (him : ℕ) (mount : List ℕ)
+    (feeding : standing_of w him ≡ Feeds mount) (later : World) (now : Standing) (t : Turns (session_ended w mount) later him now)
+    (live : later.house.live ≡ without_session w.house.live mount)
+    (seats : (id : ℕ) → (him == id) ≡ false → seat_of later.seats id ≡ seat_of (session_ended w mount).seats id) (his : Fate C M S HasEnded w later him)
+    (causes : (id : ℕ) (seat : Seat) (rule : Rule) → seat_of w.seats id ≡ Some seat → his_turn (session_over w mount) (SessionEnds mount) id ≡ IsOut rule
+    → C id rule)
+    (carries : (id : ℕ) (session : Session) → his_turn (session_over w mount) (SessionEnds mount) id ≡ GoesTo session.mount → M id session) where
+  live_then : (other : List ℕ) → session_of later.house.live other ≡ session_of (without_session w.house.live mount) other
+  live_then other = ap (λ (sessions : List Session). session_of sessions other) live
 
   left_over : (other : List ℕ) → bytes_eq mount other ≡ false → session_of later.house.live other ≡ session_of w.house.live other
-  left_over other apart = live other ∙ beside_ended w.house.live mount other apart
-
-  -- what is live now was live, at another mount
-  was_live : {A : Type 0} (other : List ℕ) (session : Session) → session_of later.house.live other ≡ Some session
-      → (bytes_eq mount other ≡ false → session_of w.house.live other ≡ Some session → A) → A
-  was_live {A} other session e old =
-      by_name mount other
-      (λ same. let none : session_of later.house.live other ≡ None = ap (session_of later.house.live) (sym same) ∙ over in cc)
-      (λ apart. old apart (sym (left_over other apart) ∙ e))
+  left_over other apart = live_then other ∙ beside_ended w.house.live mount other apart
 
   -- another source feeds another mount
-  other_mount : {A : Type 0} (id : ℕ) (other : List ℕ) → (him == id) ≡ false → standing_of w id ≡ Feeds other → mount ≡ other → A
-  other_mount {A} id other apart feeds same =
+  other_mount : (id : ℕ) (other : List ℕ) → (him == id) ≡ false → standing_of w id ≡ Feeds other → bytes_eq mount other ≡ false
+  other_mount id other apart feeds =
+      by_name mount other
+      (λ same.
       let ours = s.feeds him mount feeding in
       let theirs = s.feeds id other feeds in
       let both : Some ours.0 ≡ Some theirs.0 = sym ours.1 ∙ ap (session_of w.house.live) same ∙ theirs.1 in
       let number : ours.0.number ≡ theirs.0.number = cc in
       let one : him ≡ id = sym ours.2 ∙ number ∙ theirs.2 in
       let itself : (him == id) ≡ true = grind (arith, nat_tests) in
-      cc
+      cc)
+      (λ away. away)
 
-  unknown_still : (id : ℕ) → standing_of w id ≡ Unknown → standing_of (session_ended w mount) id ≡ Unknown
-  unknown_still id e = by_end (silenced w mount id) where
-    by_end : (standing_of (session_ended w mount) id ≡ standing_of w id) ⊎ Loses (listener_of w.seats id) (standing_of w id)
-        (standing_of (session_ended w mount) id) mount → standing_of (session_ended w mount) id ≡ Unknown
-    by_end (inl same) = same ∙ e
-    by_end (inr loses) = let sat : standing_of w id ≡ Sits = loses.sat in cc
+  -- who stays sits at another mount
+  elsewhere : (id : ℕ) (seat : Seat) → seat_of w.seats id ≡ Some seat → his_turn (session_over w mount) (SessionEnds mount) id ≡ Stays
+      → bytes_eq mount seat.mount ≡ false
+  elsewhere id seat has turn = by_test (bytes_eq seat.mount mount) refl where
+    by_test : (b : Bool) → bytes_eq seat.mount mount ≡ b → bytes_eq mount seat.mount ≡ false
+    by_test true there = absurd (nobody_stays (sight_of (session_over w mount).house) mount w.seats id seat has there turn)
+    by_test false away = bytes_apart seat.mount mount away
 
-  pub sound_over : IsSound later
-  sound_over = record {
-    numbered = λ id h.
-        let high : w.house.last_id < id = omega arith in
-        by_number him id
-        (λ same. let unknown : standing_of w him ≡ Unknown = ap (standing_of w) same ∙ s.numbered id high in cc)
-        (λ apart. t.others id apart ∙ unknown_still id (s.numbered id high));
-    feeds = λ id other e.
-        by_number him id
-        (λ same. absurd (not_now other (sym t.his ∙ ap (standing_of later) same ∙ e)))
-        (λ apart.
-        let before : standing_of w id ≡ Feeds other = feeds_ended w mount id other (sym (t.others id apart) ∙ e) in
-        let old = s.feeds id other before in
-        by_name mount other (λ same. other_mount id other apart before same) (λ away. (old.0, left_over other away ∙ old.1, old.2)));
-    fed = λ other session e.
-        was_live other session e
-        (λ away old.
-        let was = s.fed other session old in
-        by_number him session.number
-        (λ same.
-        let both : Feeds mount ≡ Feeds other = sym feeding ∙ ap (standing_of w) same ∙ was in
-        let one : mount ≡ other = cc in
-        let there : bytes_eq mount other ≡ true = (bytes_eq-Decides mount other).1 one in
-        cc)
-        (λ apart. t.others session.number apart ∙ ended_feeds w mount session.number other was));
-    apart = kept;
-    starts = λ other session e. was_live other session e (λ away old. s.starts other session old);
-    sitting = λ id seat e.
-        let still = still_sits w mount id seat (seats id seat e) in
-        let sat : standing_of w id ≡ Sits = s.sitting id seat still.had_a_seat in
-        by_number him id
-        (λ same. let also : standing_of w him ≡ Sits = ap (standing_of w) same ∙ sat in cc)
-        (λ apart. t.others id apart ∙ sits_still_at id seat still sat);
-    seated = λ id seat e.
-        let still = still_sits w mount id seat (seats id seat e) in
-        let old = s.seated id seat still.had_a_seat in
-        let turned : bytes_eq mount seat.mount ≡ false = bytes_apart seat.mount mount still.elsewhere in
-        record { session = old.session; is_live = left_over seat.mount turned ∙ old.is_live; his_session = old.his_session; within = old.within };
-  } where
-    sits_still_at : (id : ℕ) (seat : Seat) → StillSits w.seats mount id seat → standing_of w id ≡ Sits → standing_of (session_ended w mount) id ≡ Sits
-    sits_still_at id seat still sat = by_end (silenced w mount id) where
-      by_end : (standing_of (session_ended w mount) id ≡ standing_of w id) ⊎ Loses (listener_of w.seats id) (standing_of w id)
-          (standing_of (session_ended w mount) id) mount → standing_of (session_ended w mount) id ≡ Sits
-      by_end (inl same) = same ∙ sat
-      by_end (inr loses) =
-          let both : Some loses.seat ≡ Some seat = sym loses.had_a_seat ∙ still.had_a_seat in
-          let one : loses.seat ≡ seat = cc in
-          let there : bytes_eq seat.mount mount ≡ true = ap (λ (x : Seat). bytes_eq x.mount mount) (sym one) ∙ loses.there in
-          let away : bytes_eq seat.mount mount ≡ false = still.elsewhere in
-          cc
+  fate_of : (id : ℕ) → (him == id) ≡ false → Fate C M S HasEnded w later id
+  fate_of id other =
+      carried_fate C M S HasEnded w s (session_over w mount).house refl refl (SessionEnds mount) later live_then id
+      (t.others id other) (seats id other)
+      (λ turn same seats. GoesOn same seats (λ m feeds. left_over m (other_mount id m other feeds)) (λ seat has. left_over seat.mount
+      (elsewhere id seat has (turn seat has))))
+      (λ seat session there turn is_live.
+      let same : seat.mount ≡ mount = (bytes_eq-Decides seat.mount mount).0 there in
+      ap (session_of later.house.live) same ∙ live_then mount ∙ is_over w.house.live mount)
+      (causes id) (carries id)
 
-    bytes_apart : (a b : List ℕ) → bytes_eq a b ≡ false → bytes_eq b a ≡ false
-    bytes_apart a b e = by_name b a (λ same. let there : bytes_eq a b ≡ true = (bytes_eq-Decides a b).1 (sym same) in cc) (λ apart. apart)
+  module _ (last : later.house.last_id ≡ w.house.last_id) (lists : later.house.lists ≡ w.house.lists) (settings : later.house.settings ≡ w.house.settings)
+      (order : AreByNumber later.seats)
+      (late : (id : ℕ) (client : Client) (seconds ms : ℕ) → client_of later.house.clients id ≡ Some client → asks_too_late seconds ms client ≡ true
+      → client_of w.house.clients id ≡ Some client) where
+    pub over_fates : Fates C M S HasEnded w later
+    over_fates = record {
+      last = last;
+      lists = lists;
+      settings = settings;
+      live = λ other session e. was_live w mount other session (sym (live_then other) ∙ e);
+      apart = subst AreApart (sym live) (kept_apart (λ session. not (is_of mount session)) w.house.live s.apart);
+      by_number = order;
+      late = late;
+      fate = λ id. by_number him id (λ same. subst (λ (n : ℕ). Fate C M S HasEnded w later n) same his) (λ other. fate_of id other);
+    }
+
+-- who asks too late after one client has turned to something else was as he is
+pub late_beside : (clients : List Client) (him : ℕ) (state : ClientState) (old : Client) → client_of clients him ≡ Some old
+    → ((client : Client) (seconds ms : ℕ) → asks_too_late seconds ms (with_state state client) ≡ true → ⊥)
+    → (id : ℕ) (client : Client) (seconds ms : ℕ) → client_of (in_state clients him state) id ≡ Some client → asks_too_late seconds ms client ≡ true
+    → client_of clients id ≡ Some client
+late_beside clients him state old there never id client seconds ms e late =
+    by_number him id
+    (λ same.
+    let both : Some (with_state state old) ≡ Some client = sym (does clients him state old there) ∙ ap (client_of (in_state clients him state)) same ∙ e in
+    let one : with_state state old ≡ client = cc in
+    absurd (never old seconds ms (ap (λ (x : Client). asks_too_late seconds ms x) one ∙ late)))
+    (λ other. sym (beside_state clients him id other state) ∙ e)
 
 module _ (w : World) (s : IsSound w) (him : ℕ) (mount : List ℕ) (feeding : standing_of w him ≡ Feeds mount) where
-  left_apart : AreApart (without_session w.house.live mount)
-  left_apart = kept_apart (λ session. not (is_of mount session)) w.house.live s.apart
+  pub there : (client : Client) × (client_of w.house.clients him ≡ Some client)
+  there = kept_of w him (λ u. cc)
+
+  pub still_feeds : standing_of (session_ended w mount) him ≡ Feeds mount
+  still_feeds = feeds_whoever_sits w (session_ended w mount).seats him mount feeding
+
+  pub has_none_then : seat_of (session_ended w mount).seats him ≡ None
+  has_none_then = no_seat_carried (session_over w mount) (SessionEnds mount) s.by_number him (source_has_none w s him mount feeding)
+
+  pub order_then : AreByNumber (session_ended w mount).seats
+  order_then = order_carried (session_over w mount) (SessionEnds mount) s.by_number
+
+  -- his data have come to their end
+  abbrev ended : World
+  ended = changed w (End him mount)
 
   pub turns_ended : Turns (session_ended w mount) (changed w (End him mount)) him Answered
-  turns_ended = turns_answered (session_ended w mount) him (λ u. let still : standing_of (session_ended w mount) him ≡ Feeds mount =
-      ended_feeds w mount him mount feeding in cc)
+  turns_ended = turns_answered (session_ended w mount) him (λ u. let still : standing_of (session_ended w mount) him ≡ Feeds mount = still_feeds in cc)
+
+  pub ended_fates : Fates (Cause w (changed w (End him mount)) (SourceEnd him)) (λ id session. TakesTo w (SourceEnd him) id session.mount)
+      (λ id. client_in (SourceEnd him) ≡ Some id) HasEnded w (changed w (End him mount))
+  ended_fates =
+      over_fates (Cause w ended (SourceEnd him)) (λ id session. TakesTo w (SourceEnd him) id session.mount) (λ id. client_in (SourceEnd him) ≡ Some id)
+      w s him mount feeding ended Answered turns_ended refl (λ id other. refl)
+      (HasStopped mount refl feeding (subst IsDone (sym turns_ended.his) tt) has_none_then (is_over w.house.live mount))
+      (λ id seat rule had turn. SessionIsOver rule seat had (SessionEnds mount, session_over w mount, ByItsEnd him mount feeding, turn))
+      (λ id session turn. (SessionEnds mount, session_over w mount, ByItsEnd him mount feeding, turn))
+      refl refl refl order_then (late_beside w.house.clients him HasHisAnswer there.0 there.1 (λ client seconds ms late. cc))
+
+  -- he has left
+  abbrev gone : World
+  gone = changed w (EndAndLeave him mount)
 
   pub turns_ended_and_left : Turns (session_ended w mount) (changed w (EndAndLeave him mount)) him Unknown
   turns_ended_and_left = turns_forgotten (session_ended w mount) him
 
+  pub ended_and_left_fates : Fates (Cause w (changed w (EndAndLeave him mount)) (Leave him)) (λ id session. TakesTo w (Leave him) id session.mount)
+      (λ id. client_in (Leave him) ≡ Some id) HasEnded w (changed w (EndAndLeave him mount))
+  ended_and_left_fates =
+      over_fates (Cause w gone (Leave him)) (λ id session. TakesTo w (Leave him) id session.mount) (λ id. client_in (Leave him) ≡ Some id)
+      w s him mount feeding gone Unknown turns_ended_and_left refl
+      (λ id other. ap seat_in (beside_left (session_ended w mount).seats him id other))
+      (HasStopped mount refl feeding (subst IsDone (sym turns_ended_and_left.his) tt) (ap seat_in (is_no_listener (session_ended w mount).seats him))
+      (is_over w.house.live mount))
+      (λ id seat rule had turn. SessionIsOver rule seat had (SessionEnds mount, session_over w mount, ByItsLeaving him mount feeding, turn))
+      (λ id session turn. (SessionEnds mount, session_over w mount, ByItsLeaving him mount feeding, turn))
+      refl refl refl (order_left (session_ended w mount).seats order_then him)
+      (λ id client seconds ms e late.
+      by_number him id
+      (λ same. let none : client_of gone.house.clients id ≡ None = ap (client_of gone.house.clients) (sym same) ∙ is_no_client w.house.clients him in cc)
+      (λ other. sym (beside_forgotten w.house.clients him id other) ∙ e))
+
   pub sound_ended : IsSound (changed w (End him mount))
   sound_ended =
-      sound_over w s him mount feeding (changed w (End him mount)) Answered turns_ended left_apart (λ other. refl) (λ id seat e. e) refl (λ other f. cc)
-
-  -- nobody has a seat but who had one
-  pub seats_left : (id : ℕ) (seat : Seat) → seat_of (changed w (EndAndLeave him mount)).seats id ≡ Some seat
-      → seat_of (session_ended w mount).seats id ≡ Some seat
-  seats_left id seat e =
-      by_number him id
-      (λ same. let none : seat_of (changed w (EndAndLeave him mount)).seats id ≡ None =
-      ap (seat_of (changed w (EndAndLeave him mount)).seats) (sym same) ∙ ap seat_in (is_no_listener (session_ended w mount).seats him) in cc)
-      (λ apart. sym (ap seat_in (beside_left (session_ended w mount).seats him id apart)) ∙ e)
+      sound_fates (Cause w ended (SourceEnd him)) (λ id session. TakesTo w (SourceEnd him) id session.mount) (λ id. client_in (SourceEnd him) ≡ Some id)
+      HasEnded w ended s ended_fates
 
   pub sound_ended_and_left : IsSound (changed w (EndAndLeave him mount))
   sound_ended_and_left =
-      sound_over w s him mount feeding (changed w (EndAndLeave him mount)) Unknown turns_ended_and_left left_apart (λ other. refl) seats_left refl
-      (λ other f. cc)
+      sound_fates (Cause w gone (Leave him)) (λ id session. TakesTo w (Leave him) id session.mount) (λ id. client_in (Leave him) ≡ Some id)
+      HasEnded w gone s ended_and_left_fates

@@ -13,7 +13,8 @@ use Rattle.radio_core.specs.declared.outcome.Outcome.{Outcome}
 use Rattle.radio_core.specs.World.{World, opening, standing_of}
 use Rattle.radio_core.specs.Changes.{changed, received, taken_in, ticked}
 use Rattle.radio_core.specs.Facts.{live_end}
-use Rattle.radio_core.specs.Finishes.{IsFarBehind}
+use Rattle.radio_core.specs.Finishes.{Cause, IsFarBehind}
+use Rattle.radio_core.specs.Sessions.{Session}
 use Rattle.radio_core.specs.Timeouts.{lags_behind}
 use Rattle.radio_core.specs.Run.{world_after_all, run_after}
 use Rattle.radio_core.specs.Sound.{IsSound}
@@ -22,10 +23,12 @@ use Rattle.radio_core.specs.Step.{outcome, world_after}
 use Rattle.radio_core.specs.Ways.{Way, Misplaced, IsFinished, IsDenied, IsRefused, IsAdmitted, Begins, Receives, SetsTitle, TakesSeat, HandsOut, Ends}
 use Rattle.radio_core.specs.Ways.{EndsAndLeaves, Leaves, HasPassed, Ticks}
 use Rattle.radio_core.proofs.Soundness.{sound_answered, sound_forgotten, sound_admitted, sound_sits}
-use Rattle.radio_core.proofs.SoundSessions.{sound_begun, sound_grown, sound_heard}
+use Rattle.radio_core.proofs.CalledHome.{sound_up}
+use Rattle.radio_core.proofs.SoundSessions.{sound_grown, sound_heard}
+use Rattle.radio_core.proofs.NumberOrder.{in_order}
 use Rattle.radio_core.proofs.SoundTitles.{sound_titled}
-use Rattle.radio_core.proofs.Fates.{Fates, sound_fates, seats_fates}
-use Rattle.radio_core.proofs.TickLemmas.{ticked_fates}
+use Rattle.radio_core.proofs.Fates.{Fates, HasEnded, Nobody, sound_fates, seats_fates}
+use Rattle.radio_core.proofs.TickLemmas.{ClockCause, ClockCarries, ticked_fates}
 use Rattle.radio_core.proofs.SoundEnds.{sound_ended, sound_ended_and_left}
 use Rattle.radio_core.proofs.Ways.{way_of}
 
@@ -33,12 +36,17 @@ use Rattle.radio_core.proofs.Ways.{way_of}
 abbrev pub grown_world : World → List ℕ → List ℕ → World
 grown_world w mount block = record w { house = received w.house mount block }
 
+-- by a block nobody is moved
+abbrev pub NoMove : ℕ → Session → Type 0
+NoMove id session = ⊥
+
 pub lag_fates : (w : World) → IsSound w → (mount block : List ℕ) (him : ℕ) → standing_of w him ≡ Feeds mount
-    → Fates (grown_world w mount block) (taken_in w mount block) (Push him block)
+    → Fates (Cause w (taken_in w mount block) (Push him block)) NoMove Nobody HasEnded (grown_world w mount block) (taken_in w mount block)
 lag_fates w s mount block him feeding =
     let house = received w.house mount block in
     let queue = w.house.settings.limits.queue_size in
-    seats_fates (grown_world w mount block) (sound_grown w s mount block him feeding) (lags_behind mount (live_end house mount) queue) Lagged (Push him block)
+    seats_fates (Cause w (taken_in w mount block) (Push him block)) NoMove Nobody HasEnded (grown_world w mount block)
+    (sound_grown w s mount block him feeding) (lags_behind mount (live_end house mount) queue) Lagged
     (λ id seat has behind.
     let there : seat.mount ≡ mount = (bytes_eq-Decides seat.mount mount).0 (and_parts (bytes_eq seat.mount mount) _ behind).0 in
     IsFarBehind him block seat refl (feeding ∙ ap (λ (m : List ℕ). Feeds m) (sym there)) has
@@ -51,13 +59,14 @@ sound_by w s event o (IsDenied _ rule v other) = s
 sound_by w s event o (IsRefused _ id rule v his undecided) = sound_answered w s id undecided.0 undecided.1
 sound_by w s event o (IsAdmitted peer allowed) = sound_admitted w s peer
 sound_by w s event o (Begins asked undecided none allowed) =
-    sound_begun w s asked.id asked.mount (shown_for w.house asked.mount asked.shown) undecided.0 undecided.1 none
-sound_by w s event o (Receives id mount block feeding) = sound_fates (grown_world w mount block) (taken_in w mount block) (Push id block)
-    (sound_grown w s mount block id feeding) (lag_fates w s mount block id feeding)
+    sound_up w s asked.id asked.mount (shown_for w.house asked.mount asked.shown) undecided.0 undecided.1 none
+sound_by w s event o (Receives id mount block feeding) = sound_fates (Cause w (taken_in w mount block) (Push id block)) NoMove Nobody HasEnded
+    (grown_world w mount block) (taken_in w mount block) (sound_grown w s mount block id feeding) (lag_fates w s mount block id feeding)
 sound_by w s event o (HasPassed ms e) = s
-sound_by w s event o (Ticks ms e) = sound_fates w (ticked w ms) (Clock ms) s (ticked_fates w s ms)
+sound_by w s event o (Ticks ms e) =
+    sound_fates (ClockCause w s ms) (ClockCarries w s ms) Nobody HasEnded w (ticked w ms) s (ticked_fates w s ms)
 sound_by w s event o (SetsTitle id mount text feeding) = sound_titled w s mount text id feeding
-sound_by w s event o (TakesSeat asked peer session undecided live allowed) = sound_sits w s asked peer session undecided live
+sound_by w s event o (TakesSeat asked peer session undecided lands live allowed) = sound_sits w s asked peer session undecided live
 sound_by w s event o (HandsOut id room seat session sits has live) = sound_heard w s id room seat session sits has live
 sound_by w s event o (Ends id mount feeding) = sound_ended w s id mount feeding
 sound_by w s event o (EndsAndLeaves id mount feeding) = sound_ended_and_left w s id mount feeding
@@ -78,6 +87,7 @@ sound_opening settings lists = record {
   fed = λ mount session e. cc;
   apart = tt;
   starts = λ mount session e. cc;
+  by_number = in_order [] tt;
   sitting = λ id seat e. cc;
   seated = λ id seat e. cc;
 }

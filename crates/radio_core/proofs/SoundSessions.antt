@@ -6,19 +6,20 @@ use Rattle.std.proofs.lemmas.Slice.Eq.{bytes_eq-Decides}
 use Rattle.radio_addr.specs.declared.peer.Peer.{Peer}
 use Rattle.radio_settings.specs.declared.field.Shown.{Shown}
 use Rattle.radio_tables.proofs.KeyLaws.{by_number, by_name}
-use Rattle.radio_core.specs.declared.outcome.Change.TheVariants.{Begin, Advance}
+use Rattle.radio_core.specs.declared.outcome.Change.TheVariants.{Advance}
 use Rattle.radio_seats.specs.declared.seat.Seat.{Seat}
 use Rattle.radio_seats.specs.declared.seat.Seating.{Seating}
 use Rattle.radio_seats.specs.declared.seat.Seating.TheVariants.{Sits as HasSeat, Finished as HasFinished}
 use Rattle.radio_core.specs.declared.standing.Standing.TheVariants.{Unknown, Undecided, Feeds, Sits}
 use Rattle.radio_core.specs.World.{World, standing_of}
-use Rattle.radio_core.specs.Changes.{changed, received}
+use Rattle.radio_core.specs.Changes.{changed, begun, received}
 use Rattle.radio_seats.specs.Seats.{seat_of, seat_in, seat_held, heard_to}
 use Rattle.radio_core.specs.Sessions.{Session, is_of, session_of, opened, longer}
 use Rattle.radio_core.specs.Sound.{AreRising, IsSeatedIn, IsSound}
 use Rattle.radio_core.specs.Stream.{end_of, data_at}
 use Rattle.radio_seats.proofs.SeatLaws.{beside_moved, has_moved}
 use Rattle.radio_core.proofs.ApartLemmas.{begun_apart, updated_apart}
+use Rattle.radio_core.proofs.NumberOrder.{order_heard}
 use Rattle.radio_core.proofs.Lookups.{beside_fed, is_longer, is_new_session, beside_begun}
 use Rattle.radio_seats.proofs.SeatLaws.{listener_seated}
 use Rattle.radio_core.proofs.Standings.{Turns, turns_feeding, stays_hearing}
@@ -32,7 +33,7 @@ same_names mount other same = (bytes_eq-Decides mount other).1 same
 module _ (w : World) (s : IsSound w) (him : ℕ) (mount : List ℕ) (shown : Shown) (peer : Peer) (stood : standing_of w him ≡ Undecided peer)
     (not_live : session_of w.house.live mount ≡ None) where
   abbrev after_begin : World
-  after_begin = changed w (Begin him mount shown)
+  after_begin = record w { house = begun w.house him mount shown }
 
   abbrev fresh : Session
   fresh = opened mount him shown w.house.time
@@ -87,6 +88,7 @@ module _ (w : World) (s : IsSound w) (him : ℕ) (mount : List ℕ) (shown : Sho
         begun_cases other session e
         (λ same one. subst (λ (x : Session). AreRising x.stream.starts (end_of x.stream)) one tt)
         (λ old. s.starts other session old);
+    by_number = s.by_number;
     sitting = λ id seat e.
         let sat : standing_of w id ≡ Sits = s.sitting id seat e in
         by_number him id (λ same. let also : standing_of w him ≡ Sits = ap (standing_of w) same ∙ sat in cc) (λ apart. begin_turns.others id apart ∙ sat);
@@ -149,6 +151,7 @@ module _ (w : World) (s : IsSound w) (mount block : List ℕ) where
         (omega (arith, length-append session.stream.bytes block)) (s.starts mount session found)))
         (λ apart found. s.starts other now found)
         never;
+    by_number = s.by_number;
     sitting = λ id seat e. s.sitting id seat e;
     seated = λ id seat e.
         let old = s.seated id seat e in
@@ -202,6 +205,7 @@ module _ (w : World) (s : IsSound w) (him room : ℕ) (seat : Seat) (session : S
         fed = λ other now e. same now.number ∙ s.fed other now e;
         apart = s.apart;
         starts = λ other now e. s.starts other now e;
+        by_number = order_heard w.seats s.by_number him behind;
         sitting = λ id other e. same id ∙ sat_before id other e;
         seated = seated;
       } where

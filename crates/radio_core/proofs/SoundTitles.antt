@@ -71,6 +71,7 @@ module _ (w : World) (s : IsSound w) (mount text : List ℕ) (him : ℕ) (feedin
     starts = λ other now e.
         let old = was_live other now e in
         subst (λ (x : WholeStream). AreRising x.starts (end_of x)) old.2.stream (s.starts other old.0 old.1);
+    by_number = s.by_number;
     sitting = λ id seat e. s.sitting id seat e;
     seated = λ id seat e.
         let old = s.seated id seat e in

@@ -14,12 +14,12 @@ use Rattle.radio_core.specs.declared.standing.Standing.TheVariants.{Unknown, Und
 use Rattle.radio_core.specs.World.{World, standing_of}
 use Rattle.radio_core.specs.Changes.{changed}
 use Rattle.radio_core.specs.Listen.{first_seat, burst_of}
-use Rattle.radio_seats.specs.Seats.{seat_of, seat_in, without_listener}
+use Rattle.radio_seats.specs.Seats.{seat_of, seat_in, without_listener, AreByNumber}
 use Rattle.radio_core.specs.Sessions.{Session, session_of}
 use Rattle.radio_core.specs.Sound.{AreApart, AreRising, IsSeatedIn, IsSound}
 use Rattle.radio_core.specs.Stream.{end_of, burst_start}
 use Rattle.radio_seats.proofs.SeatLaws.{beside_left, beside_seated, is_no_listener, has_sat_down}
-use Rattle.radio_core.proofs.Lookups.{found_named}
+use Rattle.radio_core.proofs.NumberOrder.{order_left, order_seated}
 use Rattle.radio_core.proofs.Standings.{Turns, turns_answered, turns_sitting, turns_forgotten, turns_admitted}
 
 -- block starts rise still, one more at the end or a longer end
@@ -72,6 +72,7 @@ module _ (w : World) (s : IsSound w) where
 
   -- one client turns to something else, and neither fed a mount nor does now
   module _ (later : World) (him : ℕ) (now : Standing) (t : Turns w later him now) (apart : AreApart later.house.live)
+      (order : AreByNumber later.seats)
       (sessions : (mount : List ℕ) → session_of later.house.live mount ≡ session_of w.house.live mount)
       (sitting : (id : ℕ) (seat : Seat) → seat_of later.seats id ≡ Some seat → standing_of later id ≡ Sits)
       (seated : (id : ℕ) (seat : Seat) → seat_of later.seats id ≡ Some seat → IsSeatedIn later seat) (last : w.house.last_id ≤ later.house.last_id)
@@ -92,6 +93,7 @@ module _ (w : World) (s : IsSound w) where
           by_number him session.number (λ same. absurd (not_before mount (ap (standing_of w) same ∙ was))) (λ other. t.others session.number other ∙ was);
       apart = apart;
       starts = λ mount session e. s.starts mount session (sym (sessions mount) ∙ e);
+      by_number = order;
       sitting = sitting;
       seated = seated;
     }
@@ -103,14 +105,14 @@ module _ (w : World) (s : IsSound w) where
   pub sound_answered : (id : ℕ) (peer : Peer) → standing_of w id ≡ Undecided peer → IsSound (changed w (Answer id))
   sound_answered id peer e =
       let t = turns_answered w id (λ u. cc) in
-      sound_turned (changed w (Answer id)) id Answered t s.apart (λ mount. refl)
+      sound_turned (changed w (Answer id)) id Answered t s.apart s.by_number (λ mount. refl)
       (sits_still (changed w (Answer id)) id Answered t (λ him. refl) (λ u. cc))
       (λ him seat h. seated_still (changed w (Answer id)) (λ mount. refl) seat (s.seated him seat h))
       (omega arith) (λ high. known_low id (Undecided peer) e (λ u. cc) high) (λ mount f. cc) (λ mount f. cc)
 
   pub sound_forgotten : (id : ℕ) → ((mount : List ℕ) → standing_of w id ≡ Feeds mount → ⊥) → IsSound (changed w (Forget id))
   sound_forgotten id not_feeding =
-      sound_turned (changed w (Forget id)) id Unknown (turns_forgotten w id) s.apart (λ mount. refl) sitting seated
+      sound_turned (changed w (Forget id)) id Unknown (turns_forgotten w id) s.apart (order_left w.seats s.by_number id) (λ mount. refl) sitting seated
       (omega arith) (λ high. refl) not_feeding (λ mount f. cc) where
         sitting : (him : ℕ) (seat : Seat) → seat_of (without_listener w.seats id) him ≡ Some seat → standing_of (changed w (Forget id)) him ≡ Sits
         sitting him seat h =
@@ -132,14 +134,14 @@ module _ (w : World) (s : IsSound w) where
       let id = w.house.last_id + 1 in
       let unknown : standing_of w id ≡ Unknown = s.numbered id (omega arith) in
       let t = turns_admitted w id peer in
-      sound_turned (changed w (Admit id peer)) id (Undecided peer) t s.apart (λ mount. refl)
+      sound_turned (changed w (Admit id peer)) id (Undecided peer) t s.apart s.by_number (λ mount. refl)
       (sits_still (changed w (Admit id peer)) id (Undecided peer) t (λ him. refl) (λ u. cc))
       (λ him seat h. seated_still (changed w (Admit id peer)) (λ mount. refl) seat (s.seated him seat h))
       (omega arith) (λ high. absurd (omega arith)) (λ mount f. cc) (λ mount f. cc)
 
   -- a listener sits down
   module _ (asked : ListenRequest) (peer : Peer) (session : Session) (e : standing_of w asked.id ≡ Undecided peer)
-      (live : session_of w.house.live asked.mount ≡ Some session) where
+      (live : session_of w.house.live session.mount ≡ Some session) where
     abbrev pub new_seat : Seat
     new_seat = first_seat w.house asked peer session
 
@@ -167,9 +169,9 @@ module _ (w : World) (s : IsSound w) where
     new_seated : IsSeatedIn after_seat new_seat
     new_seated = record {
       session = session;
-      is_live = ap (session_of w.house.live) (found_named w.house.live asked.mount session live) ∙ live;
+      is_live = live;
       his_session = refl;
-      within = burst_within session (burst_of w.house session.mount) (s.starts asked.mount session live);
+      within = burst_within session (burst_of w.house session.mount) (s.starts session.mount session live);
     }
 
     all_seated : (id : ℕ) (seat : Seat) → seat_of after_seat.seats id ≡ Some seat → IsSeatedIn after_seat seat
@@ -189,5 +191,5 @@ module _ (w : World) (s : IsSound w) where
 
     pub sound_sits : IsSound after_seat
     sound_sits =
-        sound_turned after_seat asked.id Sits turns_seated s.apart (λ mount. refl) all_sit all_seated
+        sound_turned after_seat asked.id Sits turns_seated s.apart (order_seated w.seats s.by_number asked.id new_seat) (λ mount. refl) all_sit all_seated
         (omega arith) (λ high. known_low asked.id (Undecided peer) e (λ u. cc) high) (λ mount f. cc) (λ mount f. cc)

@@ -23,7 +23,7 @@ use Rattle.radio_core.specs.declared.standing.Standing.TheVariants.{Answered as 
 use Rattle.radio_core.specs.Clients.{client_of, in_state, with_state}
 use Rattle.radio_seats.specs.Seats.{listener_of, seat_in, ended_at, finished_from, advanced, heard_to}
 use Rattle.radio_core.specs.World.{World, standing_of, standing_in, standing_by, standing_seated, standing_of_listener}
-use Rattle.radio_core.specs.Changes.{changed, session_ended, now_in_state}
+use Rattle.radio_core.specs.Changes.{changed, begun, now_in_state}
 use Rattle.radio_seats.proofs.SeatLaws.{beside_moved, beside_left, beside_seated, has_moved, is_no_listener, has_sat_down, have_finished}
 use Rattle.radio_core.proofs.Lookups.{beside_state, beside_forgotten, does, is_no_client, is_new_client, beside_new}
 
@@ -76,9 +76,10 @@ module _ (w : World) (id : ℕ) where
   turns_ended_by rule known =
       (turns_state (Ended rule) known (record w { house = now_in_state w.house id (Ended rule) }) (listener_of w.seats id) refl refl (λ him other. refl)).1
 
-  pub turns_feeding : (mount : List ℕ) (shown : Shown) → (standing_of w id ≡ Unknown → ⊥) → Turns w (changed w (Begin id mount shown)) id (IsFeeding mount)
+  pub turns_feeding : (mount : List ℕ) (shown : Shown) → (standing_of w id ≡ Unknown → ⊥)
+      → Turns w (record w { house = begun w.house id mount shown }) id (IsFeeding mount)
   turns_feeding mount shown known =
-      (turns_state (Feeds mount) known (changed w (Begin id mount shown)) (listener_of w.seats id) refl refl (λ him other. refl)).1
+      (turns_state (Feeds mount) known (record w { house = begun w.house id mount shown }) (listener_of w.seats id) refl refl (λ him other. refl)).1
 
   pub turns_sitting : (seat : Seat) → (standing_of w id ≡ Unknown → ⊥) → Turns w (changed w (TakeSeat id seat)) id Sits
   turns_sitting seat known =
@@ -131,78 +132,39 @@ stays_hearing w him place listener found id = by_number him id his others where
   others : (him == id) ≡ false → standing_of (changed w (Advance him place)) id ≡ standing_of w id
   others other = ap (λ l. standing_in l (client_of w.house.clients id)) (beside_moved w.seats him id other place)
 
--- the end of a session leaves everybody as he stands, but those who sit at its mount, who finish
-pub record Loses (seats : Option Listener) (standing later : Standing) (mount : List ℕ) : Type 0 where
-  pub seat : Seat
-  pub had_a_seat : seat_in seats ≡ Some seat
-  pub there : bytes_eq seat.mount mount ≡ true
-  pub sat : standing ≡ Sits
-  pub finished : later ≡ Finished NotLive
+-- who feeds feeds whoever listens
+no_source : (seating : Seating) (mount : List ℕ) → standing_seated seating ≡ IsFeeding mount → ⊥
+no_source (HasSeat seat) mount e = cc
+no_source (HasFinished rule) mount e = cc
 
-module _ (mount : List ℕ) where
-  abbrev Silenced : Option Listener → (Option Listener → Standing) → Type 0
-  Silenced listener stands = (stands (option_map (finished_from mount NotLive) listener) ≡ stands listener) ⊎ Loses listener (stands listener)
-      (stands (option_map (finished_from mount NotLive) listener)) mount
+feeds_by : (listener other : Option Listener) (peer : Peer) (state : ClientState) (mount : List ℕ) → standing_by listener peer state ≡ IsFeeding mount
+    → standing_by other peer state ≡ IsFeeding mount
+feeds_by listener other peer Undecided mount e = cc
+feeds_by listener other peer (Feeds own) mount e = e
+feeds_by None other peer Listens mount e = cc
+feeds_by (Some listener) other peer Listens mount e = absurd (no_source listener.seating mount e)
+feeds_by listener other peer Answered mount e = cc
+feeds_by listener other peer (Ended rule) mount e = cc
 
-  abbrev after_ending : Option Listener → Standing
-  after_ending listener = standing_of_listener (option_map (finished_from mount NotLive) listener)
+feeds_in : (listener other : Option Listener) (client : Option Client) (mount : List ℕ) → standing_in listener client ≡ IsFeeding mount
+    → standing_in other client ≡ IsFeeding mount
+feeds_in listener other None mount e = cc
+feeds_in listener other (Some client) mount e = feeds_by listener other client.peer client.state mount e
 
-  silenced_at : (id : ℕ) (seat : Seat) (b : _) → bytes_eq seat.mount mount ≡ b
-      → (standing_seated (if b then HasFinished NotLive else HasSeat seat) ≡ Sits) ⊎
-      (standing_seated (if b then HasFinished NotLive else HasSeat seat) ≡ Finished NotLive) × (b ≡ true)
-  silenced_at id seat true e = inr (refl, refl)
-  silenced_at id seat false e = inl refl
+pub feeds_whoever_sits : (w : World) (seats : List Listener) (id : ℕ) (mount : List ℕ) → standing_of w id ≡ IsFeeding mount
+    → standing_of (record w { seats = seats }) id ≡ IsFeeding mount
+feeds_whoever_sits w seats id mount e = feeds_in (listener_of w.seats id) (listener_of seats id) (client_of w.house.clients id) mount e
 
-  silenced_seat : (id : ℕ) (seat : Seat) → Silenced (Some (record { id = id; seating = HasSeat seat })) standing_of_listener
-  silenced_seat id seat = by_end (silenced_at id seat (bytes_eq seat.mount mount) refl) where
-    sitting : Option Listener
-    sitting = Some (record { id = id; seating = HasSeat seat })
+-- who sits does so at whatever mount
+sits_by : (listener : Option Listener) (peer : Peer) (state : ClientState) (id : ℕ) (seat : Seat) → standing_by listener peer state ≡ Sits
+    → standing_by (Some (record { id = id; seating = HasSeat seat })) peer state ≡ Sits
+sits_by listener peer Undecided id seat e = cc
+sits_by listener peer (Feeds mount) id seat e = cc
+sits_by listener peer Listens id seat e = refl
+sits_by listener peer Answered id seat e = cc
+sits_by listener peer (Ended rule) id seat e = cc
 
-    by_end : (standing_seated (ended_at mount NotLive (HasSeat seat)) ≡ Sits) ⊎
-        (standing_seated (ended_at mount NotLive (HasSeat seat)) ≡ Finished NotLive) × (bytes_eq seat.mount mount ≡ true)
-        → Silenced (Some (record { id = id; seating = HasSeat seat })) standing_of_listener
-    by_end (inl e) = inl e
-    by_end (inr e) = inr (record { seat = seat; had_a_seat = refl; there = e.1; sat = refl; finished = e.0 })
-
-  silenced_seating : (id : ℕ) (seating : Seating) → Silenced (Some (record { id = id; seating = seating })) standing_of_listener
-  silenced_seating id (HasSeat seat) = silenced_seat id seat
-  silenced_seating id (HasFinished rule) = inl refl
-
-  silenced_listener : (listener : Option Listener) → Silenced listener standing_of_listener
-  silenced_listener None = inl refl
-  silenced_listener (Some listener) = silenced_seating listener.id listener.seating
-
-  silenced_by : (listener : Option Listener) (peer : Peer) (state : ClientState) → Silenced listener (λ l. standing_by l peer state)
-  silenced_by listener peer Undecided = inl refl
-  silenced_by listener peer (Feeds other) = inl refl
-  silenced_by listener peer Listens = silenced_listener listener
-  silenced_by listener peer Answered = inl refl
-  silenced_by listener peer (Ended rule) = inl refl
-
-  silenced_in : (listener : Option Listener) (client : Option Client) → Silenced listener (λ l. standing_in l client)
-  silenced_in listener None = inl refl
-  silenced_in listener (Some client) = silenced_by listener client.peer client.state
-
-pub silenced : (w : World) (mount : List ℕ) (id : ℕ) → (standing_of (session_ended w mount) id ≡ standing_of w id) ⊎ Loses (listener_of w.seats id)
-    (standing_of w id) (standing_of (session_ended w mount) id) mount
-silenced w mount id =
-    let client = client_of w.house.clients id in
-    let seats = have_finished w.seats mount NotLive id in
-    rw seats (silenced_in mount (listener_of w.seats id) client)
-
--- so a source still feeds, and whoever feeds did
-pub ended_feeds : (w : World) (mount : List ℕ) (id : ℕ) (other : List ℕ) → standing_of w id ≡ IsFeeding other
-    → standing_of (session_ended w mount) id ≡ IsFeeding other
-ended_feeds w mount id other e = by_end (silenced w mount id) where
-  by_end : (standing_of (session_ended w mount) id ≡ standing_of w id) ⊎ Loses (listener_of w.seats id) (standing_of w id)
-      (standing_of (session_ended w mount) id) mount → standing_of (session_ended w mount) id ≡ IsFeeding other
-  by_end (inl same) = same ∙ e
-  by_end (inr loses) = let sat : standing_of w id ≡ Sits = loses.sat in cc
-
-pub feeds_ended : (w : World) (mount : List ℕ) (id : ℕ) (other : List ℕ) → standing_of (session_ended w mount) id ≡ IsFeeding other
-    → standing_of w id ≡ IsFeeding other
-feeds_ended w mount id other e = by_end (silenced w mount id) where
-  by_end : (standing_of (session_ended w mount) id ≡ standing_of w id) ⊎ Loses (listener_of w.seats id) (standing_of w id)
-      (standing_of (session_ended w mount) id) mount → standing_of w id ≡ IsFeeding other
-  by_end (inl same) = sym same ∙ e
-  by_end (inr loses) = let finished : standing_of (session_ended w mount) id ≡ Finished NotLive = loses.finished in cc
+pub sits_in : (listener : Option Listener) (client : Option Client) (id : ℕ) (seat : Seat) → standing_in listener client ≡ Sits
+    → standing_in (Some (record { id = id; seating = HasSeat seat })) client ≡ Sits
+sits_in listener None id seat e = cc
+sits_in listener (Some client) id seat e = sits_by listener client.peer client.state id seat e

@@ -106,7 +106,7 @@ module _ (now later : World) (event : Event) (o : Outcome) (is_outcome : o ≡ o
           shows = ok ∙ ap (λ (x : Outcome). kept_changed now x.change) same
               ∙ ap (λ (x : World). kept_changed x (outcome w event).change) stands.shows ∙ changed_kept w stands.rise (outcome w event).change;
           rise = rise_changed w stands.rise (outcome w event).change;
-          kept = kept_on w stands.rise stands.kept event;
+          kept = kept_on w stands.rise stands.sound.by_number stands.kept event;
           sound = sound_after w stands.sound event;
         },
       )

@@ -1,5 +1,5 @@
 -- the law of totals
-use Rattle.std.proofs.Common.{◌≡◌, ◌⊎◌, inl, inr, Bool, true, ℕ, zero, suc, ◌+◌, not, Option, Some, None, is_some, List, [], ◌∷◌, length, refl, ap}
+use Rattle.std.proofs.Common.{◌≡◌, ◌⊎◌, inl, inr, Bool, true, false, ℕ, zero, suc, ◌+◌, not, Option, Some, None, is_some, List, [], ◌∷◌, length, refl, ap}
 use Rattle.std.proofs.Common.{sym, subst, ◌∙◌, arith}
 use Rattle.std.specs.Prelude.{map, if◌then◌else◌}
 use Rattle.std.proofs.lemmas.List.{length-map}
@@ -7,29 +7,37 @@ use Rattle.std.proofs.lemmas.List.Filters.{length-filter_both}
 use Rattle.radio_tables.proofs.KeyLaws.{by_number}
 use Rattle.radio_addr.specs.declared.peer.Peer.{Peer}
 use Rattle.radio_policy.specs.declared.rule.Rule.{Rule}
-use Rattle.radio_policy.specs.declared.rule.Rule.TheVariants.{NotLive, Lagged, TimeOver, SourceSilent}
+use Rattle.radio_policy.specs.declared.rule.Rule.TheVariants.{Lagged, TimeOver, SourceSilent}
 use Rattle.radio_settings.specs.declared.settings.Settings.{Settings}
 use Rattle.radio_access.specs.Lists.{Lists}
 use Rattle.radio_seats.specs.declared.seat.Listener.{Listener}
 use Rattle.radio_seats.specs.declared.seat.Seat.{Seat}
 use Rattle.radio_seats.specs.declared.seat.Seating.{Seating}
 use Rattle.radio_seats.specs.declared.seat.Seating.TheVariants.{Sits as HasSeat, Finished as HasFinished}
-use Rattle.radio_seats.specs.Seats.{is_listener, listener_of, advanced, finished_if, finished_from, finished_at, with_ended, seated}
+use Rattle.radio_seats.specs.Seats.{is_listener, listener_of, advanced, finished_if, with_ended, seated}
 use Rattle.radio_core.specs.declared.clients.Client.{Client}
 use Rattle.radio_core.specs.declared.clients.ClientState.{ClientState}
 use Rattle.radio_core.specs.declared.clients.ClientState.TheVariants.{Undecided as IsNew, Feeds as IsSource, Listens, Answered as HasHisAnswer, Ended}
 use Rattle.radio_events.specs.declared.event.Event.{Event}
-use Rattle.radio_events.specs.declared.event.Event.TheVariants.{Leave}
-use Rattle.radio_core.specs.declared.outcome.Change.TheVariants.{TakeSeat, Forget}
+use Rattle.radio_events.specs.declared.event.Event.TheVariants.{Push, Leave}
+use Rattle.radio_core.specs.declared.outcome.Change.TheVariants.{Begin, TakeSeat, Forget}
 use Rattle.radio_core.specs.declared.outcome.Outcome.{Outcome}
 use Rattle.radio_events.specs.declared.reply.Reply.{Reply}
 use Rattle.radio_events.specs.declared.reply.Reply.TheVariants.{Noted, Stray}
+use Rattle.radio_events.specs.Events.{client_in}
 use Rattle.radio_core.specs.declared.standing.Standing.{Standing}
 use Rattle.radio_core.specs.declared.standing.Standing.TheVariants.{Unknown, Undecided, Feeds, Answered}
 use Rattle.radio_core.specs.Clients.{is_client, client_of, in_state, with_state, newcomer}
-use Rattle.radio_core.specs.Changes.{changed, session_ended, received, taken_in, timed_out_by, durations_over, first_silent, session_silenced}
+use Rattle.radio_settings.specs.Options.{options_for}
+use Rattle.radio_settings.specs.declared.field.Shown.{Shown}
+use Rattle.radio_fallback.specs.declared.moves.Move.{Move}
+use Rattle.radio_fallback.specs.declared.moves.Move.TheVariants.{Ended as SessionEnds, Up}
+use Rattle.radio_fallback.proofs.FaresLemmas.{numbers_kept}
+use Rattle.radio_core.specs.Finishes.{Cause}
+use Rattle.radio_core.specs.Changes.{changed, begun, carried_along, session_over, session_ended, called_home, received, taken_in, timed_out_by}
+use Rattle.radio_core.specs.Changes.{durations_over, first_silent, session_silenced}
 use Rattle.radio_core.specs.Changes.{on_silent, silence, ticked}
-use Rattle.radio_core.specs.Facts.{live_end}
+use Rattle.radio_core.specs.Facts.{live_end, sight_of}
 use Rattle.radio_core.specs.Leave.{leaves_from}
 use Rattle.radio_core.specs.Listen.{first_seat}
 use Rattle.radio_core.specs.Run.{world_after_all, run_after}
@@ -42,14 +50,14 @@ use Rattle.radio_core.specs.Totals.{arrivals, departures, seatings, listeners_le
 use Rattle.radio_core.specs.Ways.{Way, Misplaced, IsFinished, IsDenied, IsRefused, IsAdmitted, Begins, Receives, SetsTitle, TakesSeat, HandsOut, Ends}
 use Rattle.radio_core.specs.Ways.{EndsAndLeaves, Leaves, HasPassed, Ticks}
 use Rattle.radio_core.specs.World.{World, opening, standing_of, standing_in, standing_by, standing_seated, standing_of_listener}
-use Rattle.radio_core.proofs.Effects.{IsSwept, GoesOnAs, IsOut, lag_swept, swept}
+use Rattle.radio_core.proofs.CalledHome.{turns_up}
+use Rattle.radio_core.proofs.Effects.{IsSwept, GoesOnAs, IsOut, HasDone, tick_swept}
+use Rattle.radio_core.proofs.Fates.{Fate, GoesOn, IsEnded, HasStopped, IsMoved, HasEnded, Nobody}
 use Rattle.radio_core.proofs.NumberLists.{IsRising, IsFree, has, without, placed_rising, placed_length, placed_free, kept_rising, one_less, kept_free}
 use Rattle.radio_core.proofs.NumberLists.{taken_free, numbers_updated, numbers_mapped, numbers_placed, numbers_without, number_found, number_free}
 use Rattle.radio_core.proofs.SoundEnds.{turns_ended}
-use Rattle.radio_core.proofs.SoundRuns.{sound_after, sound_opening}
-use Rattle.radio_core.proofs.Standings.{Turns, Loses, kept_of, turns_answered, turns_feeding, turns_sitting, turns_forgotten, turns_admitted}
-use Rattle.radio_core.proofs.Standings.{stays_hearing, silenced}
-use Rattle.radio_core.proofs.TickLemmas.{ticked_fates}
+use Rattle.radio_core.proofs.SoundRuns.{grown_world, NoMove, lag_fates, sound_after, sound_opening}
+use Rattle.radio_core.proofs.Standings.{Turns, kept_of, turns_answered, turns_sitting, turns_forgotten, turns_admitted, stays_hearing}
 use Rattle.radio_core.proofs.Ways.{way_of}
 use Rattle.radio_seats.proofs.SeatLaws.{listener_seated}
 
@@ -100,8 +108,11 @@ same_state id state clients = numbers_updated number_of (is_client id) (with_sta
 same_ended : (p : Seat → Bool) (rule : Rule) (seats : List Listener) → map row_of (with_ended seats p rule) ≡ map row_of seats
 same_ended p rule seats = numbers_mapped row_of (finished_if p rule) (λ x. refl) seats
 
-same_finished : (mount : List ℕ) (seats : List Listener) → map row_of (finished_at seats mount NotLive) ≡ map row_of seats
-same_finished mount seats = numbers_mapped row_of (finished_from mount NotLive) (λ x. refl) seats
+same_carried : (w : World) (move : Move) → map row_of (carried_along w move).seats ≡ map row_of w.seats
+same_carried w move = numbers_kept (sight_of w.house) move w.seats
+
+same_over_rows : (w : World) (mount : List ℕ) → map row_of (session_ended w mount).seats ≡ map row_of w.seats
+same_over_rows w mount = same_carried (session_over w mount) (SessionEnds mount)
 
 -- by the clock nobody comes or goes
 same_silenced : (n : ℕ) (w : World) → AreTheSame w (silence n w)
@@ -113,7 +124,7 @@ same_silenced (suc n) w = by_first (same_silenced n) (first_silent w) where
       let next = session_silenced w session in
       then_the_same w next (silence n next) (record {
         same_ids = same_state session.number (Ended SourceSilent) w.house.clients;
-        same_rows = same_finished session.mount w.seats;
+        same_rows = same_over_rows w session.mount;
         same_last = refl;
       }) (rest next)
 
@@ -126,6 +137,19 @@ same_ticked w ms =
       same_rows = same_ended (has_sat_out w.house.settings ms) TimeOver w.seats;
       same_last = refl;
     }) (same_silenced (length later.house.live) later)
+
+-- nor where a source comes up
+same_called : (w : World) (mount : List ℕ) → AreTheSame w (called_home w mount)
+same_called w mount = by_test (options_for w.house.settings mount).listeners.fallback_override where
+  by_test : (b : Bool) → AreTheSame w (if b then carried_along w (Up mount) else w)
+  by_test true = record { same_ids = refl; same_rows = same_carried w (Up mount); same_last = refl }
+  by_test false = nobody_else w
+
+same_begun : (w : World) (id : ℕ) (mount : List ℕ) (shown : Shown) → AreTheSame w (changed w (Begin id mount shown))
+same_begun w id mount shown =
+    let up = record w { house = begun w.house id mount shown } in
+    then_the_same w up (changed w (Begin id mount shown))
+    (record { same_ids = same_state id (IsSource mount) w.house.clients; same_rows = refl; same_last = refl }) (same_called up mount)
 
 same_received : (w : World) (mount block : List ℕ) → AreTheSame w (taken_in w mount block)
 same_received w mount block = record {
@@ -215,14 +239,14 @@ module _ (w : World) (s : IsSound w) (inv : AreInOrder w) where
       adds (changed w o.change) event o.reply refl (omega (arith, ap length (numbers_placed number_of new w.house.clients), more)) (omega arith)
   adds_by event o (Begins asked undecided none allowed) known =
       nobody_moves (changed w o.change) event o.reply
-      (record { same_ids = same_state asked.id (IsSource asked.mount) w.house.clients; same_rows = refl; same_last = refl }) refl refl refl refl
+      (same_begun w asked.id asked.mount (shown_for w.house asked.mount asked.shown)) refl refl refl refl
   adds_by event o (Receives him mount block feeding) known =
       nobody_moves (changed w o.change) event o.reply (same_received w mount block) refl refl refl refl
   adds_by event o (HasPassed ms e) known = nobody_moves w event o.reply (nobody_else w) refl refl refl refl
   adds_by event o (Ticks ms e) known = nobody_moves (changed w o.change) event o.reply (same_ticked w ms) refl refl refl refl
   adds_by event o (SetsTitle him mount text feeding) known =
       nobody_moves (changed w o.change) event o.reply (record { same_ids = refl; same_rows = refl; same_last = refl }) refl refl refl refl
-  adds_by event o (TakesSeat asked peer session undecided live allowed) known =
+  adds_by event o (TakesSeat asked peer session undecided lands live allowed) known =
       let new = seated asked.id (first_seat w.house asked peer session) in
       let free = inv.fresh asked.id (subst IsYetToAsk (sym undecided) tt) in
       let more = placed_length asked.id (rows w) free in
@@ -234,14 +258,14 @@ module _ (w : World) (s : IsSound w) (inv : AreInOrder w) where
       refl refl refl refl
   adds_by event o (Ends him mount feeding) known =
       nobody_moves (changed w o.change) event o.reply
-      (record { same_ids = same_state him HasHisAnswer w.house.clients; same_rows = same_finished mount w.seats; same_last = refl }) refl refl refl refl
+      (record { same_ids = same_state him HasHisAnswer w.house.clients; same_rows = same_over_rows w mount; same_last = refl }) refl refl refl refl
   adds_by event o (EndsAndLeaves him mount feeding) known =
       adds (changed w o.change) event o.reply (omega arith)
       (omega (arith, ap length (numbers_without number_of him w.house.clients), client_leaves him (λ unknown. known him refl refl unknown)))
       (omega (
         arith,
         ap length (numbers_without row_of him (session_ended w mount).seats),
-        ap (λ xs. length (without him xs)) (same_finished mount w.seats),
+        ap (λ xs. length (without him xs)) (same_over_rows w mount),
         listener_leaves him,
       ))
   adds_by event o (Leaves him other) known =
@@ -265,6 +289,27 @@ turned_free w later him now t none before id yet =
     (λ same. subst (λ n. IsFree n (rows later)) same none)
     (λ other. before id (subst IsYetToAsk (t.others id other) yet))
 
+-- whoever has yet to ask does so whoever listens
+no_yet_seating : (seating : Seating) → IsYetToAsk (standing_seated seating) → ⊥
+no_yet_seating (HasSeat seat) asks = asks
+no_yet_seating (HasFinished rule) asks = asks
+
+no_yet_listener : (listener : Option Listener) → IsYetToAsk (standing_of_listener listener) → ⊥
+no_yet_listener None asks = asks
+no_yet_listener (Some listener) asks = no_yet_seating listener.seating asks
+
+yet_by_state : (listener other : Option Listener) (peer : Peer) (state : ClientState) → IsYetToAsk (standing_by listener peer state)
+    → IsYetToAsk (standing_by other peer state)
+yet_by_state listener other peer IsNew asks = tt
+yet_by_state listener other peer (IsSource mount) asks = absurd asks
+yet_by_state listener other peer Listens asks = absurd (no_yet_listener listener asks)
+yet_by_state listener other peer HasHisAnswer asks = absurd asks
+yet_by_state listener other peer (Ended rule) asks = absurd asks
+
+yet_whoever_sits : (listener other : Option Listener) (client : Option Client) → IsYetToAsk (standing_in listener client) → IsYetToAsk (standing_in other client)
+yet_whoever_sits listener other None asks = tt
+yet_whoever_sits listener other (Some client) asks = yet_by_state listener other client.peer client.state asks
+
 module _ (w : World) (inv : AreInOrder w) where
   -- the same are there, and who has yet to ask then had yet to ask before
   order_still : (later : World) → AreTheSame w later → ((id : ℕ) → IsYetToAsk (standing_of later id) → IsYetToAsk (standing_of w id)) → AreInOrder later
@@ -281,20 +326,17 @@ module _ (w : World) (inv : AreInOrder w) where
     fresh = turned w later him now t never (λ id asks. subst (IsFree id) (sym same.same_rows) (inv.fresh id asks));
   }
 
-  swept_yet : (later : World) (event : Event) (id : ℕ) → IsSwept w later event id → IsYetToAsk (standing_of later id) → IsYetToAsk (standing_of w id)
-  swept_yet later event id (GoesOnAs same) asks = subst IsYetToAsk same asks
-  swept_yet later event id (IsOut rule cause out none) asks = absurd (subst IsYetToAsk out asks)
+  swept_yet : (later : World) (event : Event) (id : ℕ) → (client_in event ≡ Some id → ⊥) → IsSwept w later event id → IsYetToAsk (standing_of later id) → IsYetToAsk (standing_of w id)
+  swept_yet later event id not_own (GoesOnAs same) asks = subst IsYetToAsk same asks
+  swept_yet later event id not_own (IsOut rule cause out none) asks = absurd (subst IsYetToAsk out asks)
+  swept_yet later event id not_own (HasDone own acted) asks = absurd (not_own own)
 
   -- a session has ended
   ended_yet : (mount : List ℕ) (id : ℕ) → IsYetToAsk (standing_of (session_ended w mount) id) → IsYetToAsk (standing_of w id)
-  ended_yet mount id asks = by_end (silenced w mount id) where
-    by_end : (standing_of (session_ended w mount) id ≡ standing_of w id) ⊎ Loses (listener_of w.seats id) (standing_of w id)
-        (standing_of (session_ended w mount) id) mount → IsYetToAsk (standing_of w id)
-    by_end (inl same) = subst IsYetToAsk same asks
-    by_end (inr loses) = absurd (subst IsYetToAsk loses.finished asks)
+  ended_yet mount id asks = yet_whoever_sits (listener_of (session_ended w mount).seats id) (listener_of w.seats id) (client_of w.house.clients id) asks
 
   same_over : (mount : List ℕ) → AreTheSame w (session_ended w mount)
-  same_over mount = record { same_ids = refl; same_rows = same_finished mount w.seats; same_last = refl }
+  same_over mount = record { same_ids = refl; same_rows = same_over_rows w mount; same_last = refl }
 
   order_over : (mount : List ℕ) → AreInOrder (session_ended w mount)
   order_over mount = order_still (session_ended w mount) (same_over mount) (ended_yet mount)
@@ -349,17 +391,23 @@ module _ (w : World) (s : IsSound w) (inv : AreInOrder w) where
   order_by event o (Begins asked undecided none allowed) =
       let at = undecided.1 in
       order_turned w inv (changed w o.change) asked.id (Feeds asked.mount)
-      (record { same_ids = same_state asked.id (IsSource asked.mount) w.house.clients; same_rows = refl; same_last = refl })
-      (turns_feeding w asked.id asked.mount (shown_for w.house asked.mount asked.shown) (λ u. cc)) (λ h. h)
+      (same_begun w asked.id asked.mount (shown_for w.house asked.mount asked.shown))
+      (turns_up w s asked.id asked.mount (shown_for w.house asked.mount asked.shown) undecided.0 undecided.1 none) (λ h. h)
   order_by event o (Receives him mount block feeding) =
       order_still w inv (changed w o.change) (same_received w mount block)
-      (λ id. swept_yet w inv (taken_in w mount block) event id (lag_swept w s mount block him feeding id))
+      (λ id. lags_yet id ((lag_fates w s mount block him feeding).fate id)) where
+        lags_yet : (id : ℕ) → Fate (Cause w (taken_in w mount block) (Push him block)) NoMove Nobody HasEnded (grown_world w mount block) (taken_in w mount block) id
+            → IsYetToAsk (standing_of (taken_in w mount block) id) → IsYetToAsk (standing_of w id)
+        lags_yet id (GoesOn same seat feeds sits) asks = subst IsYetToAsk same asks
+        lags_yet id (IsEnded rule cause active ended none over) asks = absurd (subst IsYetToAsk ended asks)
+        lags_yet id (HasStopped other why feeds done none over) asks = absurd why
+        lags_yet id (IsMoved old session carries left had has_it same live opens) asks = absurd carries
   order_by event o (HasPassed ms e) = inv
   order_by event o (Ticks ms e) =
       order_still w inv (changed w o.change) (same_ticked w ms)
-      (λ id. swept_yet w inv (ticked w ms) event id (swept w (ticked w ms) event id ((ticked_fates w s ms).fate id)))
+      (λ id. swept_yet w inv (ticked w ms) event id (λ own. cc) (tick_swept w s ms id))
   order_by event o (SetsTitle him mount text feeding) = record { clients = inv.clients; seats = inv.seats; fresh = inv.fresh }
-  order_by event o (TakesSeat asked peer session undecided live allowed) =
+  order_by event o (TakesSeat asked peer session undecided lands live allowed) =
       order_seated w inv asked.id (first_seat w.house asked peer session) (λ u. cc)
   order_by event o (HandsOut him room seat session sits has_one live) =
       let listener = listener_seated w.seats him seat has_one in

@@ -22,18 +22,20 @@ use Rattle.radio_core.specs.declared.outcome.Outcome.{Outcome}
 use Rattle.radio_events.specs.declared.reply.Reply.TheVariants.{Deny, Noted}
 use Rattle.radio_seats.specs.declared.seat.Seat.{Seat}
 use Rattle.radio_fallback.specs.declared.walking.Found.{Found}
-use Rattle.radio_fallback.specs.Walk.{found_at, stop_of}
-use Rattle.radio_fallback.proofs.WalkLaws.{stopped_where_it_begins}
+use Rattle.radio_fallback.specs.declared.walking.Landing.{Landing}
+use Rattle.radio_fallback.specs.declared.walking.Landing.TheVariants.{Lands, Stops}
+use Rattle.radio_fallback.specs.Walk.{MaySit, found_at, stop_in}
+use Rattle.radio_fallback.proofs.TurnLemmas.{lands_where_he_fits}
 use Rattle.radio_core.specs.declared.standing.Standing.{Standing}
 use Rattle.radio_core.specs.declared.standing.Standing.TheVariants.{Unknown, Undecided, Feeds, Sits, Answered, Finished}
 use Rattle.radio_core.specs.World.{World, standing_of}
 use Rattle.radio_core.specs.Facts.{largest_number, is_full, is_known, sight_of, arrive_facts, source_facts_at, rows_to_arrive, rows_to_feed}
-use Rattle.radio_core.specs.Facts.{rows_to_push, rows_to_listen}
+use Rattle.radio_core.specs.Facts.{rows_to_push, rows_to_listen, walks_to, walk_stops}
 use Rattle.radio_core.specs.Outcomes.{says, on_verdict, out_of_place, if_undecided, if_feeding, if_sitting}
 use Rattle.radio_core.specs.Arrive.{admits_client}
 use Rattle.radio_core.specs.Source.{begins}
 use Rattle.radio_core.specs.Push.{takes_in}
-use Rattle.radio_core.specs.Listen.{takes_seat}
+use Rattle.radio_core.specs.Listen.{takes_seat, sits_where}
 use Rattle.radio_core.specs.Draw.{hands_out, hands_out_at}
 use Rattle.radio_core.specs.Leave.{leaves_from}
 use Rattle.radio_seats.specs.Seats.{seat_of}
@@ -42,6 +44,7 @@ use Rattle.radio_core.specs.Step.{outcome}
 use Rattle.radio_core.specs.Ways.{Way, Misplaced, IsFinished, IsDenied, IsRefused, IsAdmitted, Begins, Receives, SetsTitle, TakesSeat, HandsOut, Ends}
 use Rattle.radio_core.specs.Ways.{EndsAndLeaves, Leaves, HasPassed, Ticks, rows_for, IsUndecided}
 use Rattle.radio_events.specs.Events.{client_in}
+use Rattle.radio_core.proofs.Lookups.{found_named}
 
 module _ (w : World) (event : Event) where
   by_verdict : (denied : Change) (allowed : Outcome) (v : Verdict) → ((rule : Rule) → v ≡ Denied rule → Way w event (says (Deny rule) denied))
@@ -145,57 +148,58 @@ has_room_left house peer v =
     let facts = arrive_facts house peer in
     (passes_by facts.address_is_denied facts.address_is_allowed facts.clients_are_full facts.number_is_spent v).2
 
--- what a listener finds at the mount that he may hear: it is live, has room, lets him in, and is not his to sit at already
-pub record IsWelcome (found : Found) : Type 0 where
-  pub lives : found.is_live ≡ true
-  pub has_room : found.is_full ≡ false
-  pub accepts : found.users_accept ≡ true
-  pub once : found.user_is_twice ≡ false
+-- who may listen is accepted at the mount that he asked for, where he does not sit already, and no rule stops his walk from there
+pub record IsWelcome (accepted twice : Bool) (stop : Option Rule) : Type 0 where
+  pub accepts : accepted ≡ true
+  pub once : twice ≡ false
+  pub goes_on : stop ≡ None
 
-abbrev pub facts_from : Bool → Found → Option Rule → ListenFacts
-facts_from known found stop = record {
-  mount_is_known = known;
-  users_accept = found.users_accept;
-  user_is_twice = found.user_is_twice;
-  walk_stops = stop;
-}
-
-abbrev pub rows_by : Bool → Bool → Found → List Row
-rows_by named known found = listen_rows (if named then Some (facts_from known found (stop_of found)) else None)
-
-hears_by : (named known live full accepted twice : Bool)
-    → verdict_in (rows_by named known (record { is_live = live; is_full = full; users_accept = accepted; user_is_twice = twice })) ≡ Allow
-    → IsWelcome (record { is_live = live; is_full = full; users_accept = accepted; user_is_twice = twice })
-hears_by true true true false true false v = record { lives = refl; has_room = refl; accepts = refl; once = refl }
-hears_by true true true true true false v = cc
-hears_by true true false full true false v = cc
-hears_by true true live full true true v = cc
-hears_by true true live full false twice v = cc
-hears_by true false live full accepted twice v = cc
-hears_by false known live full accepted twice v = cc
+hears_by : (named known accepted twice : Bool) (stop : Option Rule)
+    → verdict_in (listen_rows (if named then Some (record { mount_is_known = known; users_accept = accepted; user_is_twice = twice; walk_stops = stop })
+    else None)) ≡ Allow → IsWelcome accepted twice stop
+hears_by true true true false None v = record { accepts = refl; once = refl; goes_on = refl }
+hears_by true true true false (Some rule) v = cc
+hears_by true true true true stop v = cc
+hears_by true true false twice stop v = cc
+hears_by true false accepted twice stop v = cc
+hears_by false known accepted twice stop v = cc
 
 -- what one who asks finds at the mount of his path
 abbrev pub found_by : World → ListenRequest → Found
 found_by w asked = found_at (sight_of w.house) w.seats asked.mount asked.pair
 
-pub rows_there : (w : World) (asked : ListenRequest)
-    → rows_to_listen w asked ≡ rows_by (is_mount_name asked.mount) (is_known w.house asked.mount) (found_by w asked)
-rows_there w asked =
-    let here = facts_from (is_known w.house asked.mount) (found_by w asked) in
-    ap (λ stop. listen_rows (if is_mount_name asked.mount then Some (here stop) else None))
-    (stopped_where_it_begins (sight_of w.house) w.seats asked.mount asked.pair refl)
-
-pub may_listen : (w : World) (asked : ListenRequest) → verdict_in (rows_to_listen w asked) ≡ Allow → IsWelcome (found_by w asked)
+pub may_listen : (w : World) (asked : ListenRequest) → verdict_in (rows_to_listen w asked) ≡ Allow
+    → IsWelcome (found_by w asked).users_accept (found_by w asked).user_is_twice (walk_stops w.house w.seats asked.mount asked.pair)
 may_listen w asked v =
-    let found = found_by w asked in
-    hears_by (is_mount_name asked.mount) (is_known w.house asked.mount) found.is_live found.is_full found.users_accept found.user_is_twice
-    (ap verdict_in (sym (rows_there w asked)) ∙ v)
+    hears_by (is_mount_name asked.mount) (is_known w.house asked.mount) (found_by w asked).users_accept (found_by w asked).user_is_twice
+    (walk_stops w.house w.seats asked.mount asked.pair) v
 
-sits : (w : World) (asked : ListenRequest) (peer : Peer) → standing_of w asked.id ≡ Undecided peer → verdict_in (rows_to_listen w asked) ≡ Allow
-    → (found : Option Session)
-    → session_of w.house.live asked.mount ≡ found → Way w (Listen asked) (takes_seat w.house asked peer found)
-sits w asked peer e v None none = Misplaced (Listen asked)
-sits w asked peer e v (Some session) found = TakesSeat asked peer session e found v
+-- so his walk lands where he may sit
+lands_by : (l : Landing) → stop_in l ≡ None → (to : List ℕ) × (l ≡ Lands to)
+lands_by (Lands to) e = (to, refl)
+lands_by (Stops rule) e = cc
+
+pub record LandsAt (w : World) (asked : ListenRequest) : Type 0 where
+  pub to : List ℕ
+  pub lands : walks_to w.house w.seats asked.mount asked.pair ≡ Lands to
+  pub fits : MaySit (sight_of w.house) w.seats asked.pair to
+
+pub lands_at : (w : World) (asked : ListenRequest) → verdict_in (rows_to_listen w asked) ≡ Allow → LandsAt w asked
+lands_at w asked v =
+    let where_to = lands_by (walks_to w.house w.seats asked.mount asked.pair) (may_listen w asked v).goes_on in
+    record { to = where_to.0; lands = where_to.1; fits = lands_where_he_fits (sight_of w.house) w.seats asked.pair asked.mount where_to.0 where_to.1 }
+
+module _ (w : World) (asked : ListenRequest) (peer : Peer) (e : standing_of w asked.id ≡ Undecided peer) (v : verdict_in (rows_to_listen w asked) ≡ Allow) where
+  sits_at : (to : List ℕ) → walks_to w.house w.seats asked.mount asked.pair ≡ Lands to → (found : Option Session) → session_of w.house.live to ≡ found
+      → Way w (Listen asked) (takes_seat w.house asked peer found)
+  sits_at to lands None none = Misplaced (Listen asked)
+  sits_at to lands (Some session) found =
+      let named : session.mount ≡ to = found_named w.house.live to session found in
+      TakesSeat asked peer session e (lands ∙ ap (λ (m : List ℕ). Lands m) (sym named)) (ap (session_of w.house.live) named ∙ found) v
+
+  sits : (l : Landing) → walks_to w.house w.seats asked.mount asked.pair ≡ l → Way w (Listen asked) (sits_where w.house asked peer l)
+  sits (Stops rule) stops = Misplaced (Listen asked)
+  sits (Lands to) lands = sits_at to lands (session_of w.house.live to) refl
 
 module _ (w : World) (id room : ℕ) (is_sitting : standing_of w id ≡ Sits) where
   hands : (seat : Seat) → seat_of w.seats id ≡ Some seat → (found : Option Session) → session_of w.house.live seat.mount ≡ found
@@ -242,10 +246,10 @@ way_of w (SourceEnd id) = by_feeding w (SourceEnd id) id refl _ (λ mount e. End
 way_of w (Title id text) = by_feeding w (Title id text) id refl _ (λ mount e. SetsTitle id mount text e) (standing_of w id) refl
 way_of w (Listen asked) =
     by_undecided w (Listen asked) asked.id refl _
-    (λ peer e. by_verdict w (Listen asked) (Answer asked.id) (takes_seat w.house asked peer (session_of w.house.live asked.mount))
+    (λ peer e. by_verdict w (Listen asked) (Answer asked.id) (sits_where w.house asked peer (walks_to w.house w.seats asked.mount asked.pair))
     (verdict_in (rows_for w (Listen asked)))
     (λ rule v. IsRefused (Listen asked) asked.id rule v refl (peer, e))
-    (λ v. sits w asked peer e v (session_of w.house.live asked.mount) refl))
+    (λ v. sits w asked peer e v (walks_to w.house w.seats asked.mount asked.pair) refl))
     (standing_of w asked.id) refl
 way_of w (Draw id room) = by_sitting w (Draw id room) id refl _ (λ e. hands_at w id room e (seat_of w.seats id) refl) (standing_of w id) refl
 way_of w (Leave id) = by_leaving w id (standing_of w id) refl

@@ -1,8 +1,12 @@
 -- What each change makes of the state.
-use Rattle.std.specs.Prelude.{ℕ, zero, suc, List, length, map, find, Option, Some, None}
-use Rattle.radio_policy.specs.declared.rule.Rule.TheVariants.{NotLive, Lagged, TimeOver, SourceSilent}
+use Rattle.std.specs.Prelude.{ℕ, zero, suc, if◌then◌else◌, List, length, map, find, Option, Some, None}
+use Rattle.radio_policy.specs.declared.rule.Rule.TheVariants.{Lagged, TimeOver, SourceSilent}
 use Rattle.radio_addr.specs.declared.peer.Peer.{Peer}
 use Rattle.radio_settings.specs.declared.field.Shown.{Shown}
+use Rattle.radio_settings.specs.Options.{options_for}
+use Rattle.radio_fallback.specs.declared.moves.Move.{Move}
+use Rattle.radio_fallback.specs.declared.moves.Move.TheVariants.{Ended as HasEnded, Up}
+use Rattle.radio_fallback.specs.Carry.{carried}
 use Rattle.radio_core.specs.declared.clients.ClientState.{ClientState}
 use Rattle.radio_core.specs.declared.clients.ClientState.TheVariants.{Feeds, Listens, Answered, Ended}
 use Rattle.radio_core.specs.declared.house.House.{House}
@@ -11,8 +15,8 @@ use Rattle.radio_core.specs.declared.outcome.Change.TheVariants.{Nothing, Answer
 use Rattle.radio_core.specs.declared.outcome.Change.TheVariants.{EndAndLeave, Forget, Tick}
 use Rattle.radio_core.specs.Clients.{newcomer, with_client, in_state, without_client}
 use Rattle.radio_core.specs.Sessions.{Session, opened, with_session, fed, titled, without_session}
-use Rattle.radio_seats.specs.Seats.{with_seat, with_place, finished_at, with_ended, without_listener}
-use Rattle.radio_core.specs.Facts.{live_end}
+use Rattle.radio_seats.specs.Seats.{with_seat, with_place, with_ended, without_listener}
+use Rattle.radio_core.specs.Facts.{live_end, sight_of}
 use Rattle.radio_core.specs.Timeouts.{lags_behind, timed_out, has_sat_out, is_silent}
 use Rattle.radio_core.specs.World.{World}
 
@@ -40,9 +44,21 @@ received house mount block = record house { live = fed house.live mount block ho
 abbrev pub retitled : House → List ℕ → List ℕ → House
 retitled house mount title = record house { live = titled house.live mount title }
 
--- the mount's session has ended; its listeners have finished, since the mount is not live any more
+-- a move has carried listeners along
+abbrev pub carried_along : World → Move → World
+carried_along w move = record w { seats = (carried (sight_of w.house) move w.seats).seats }
+
+-- the mount's session is over, and its listeners have not had their turns yet
+abbrev pub session_over : World → List ℕ → World
+session_over w mount = record w { house = record w.house { live = without_session w.house.live mount } }
+
+-- the mount's session has ended; each of its listeners has gone where his walk lands, or has finished by the rule that stops it
 abbrev pub session_ended : World → List ℕ → World
-session_ended w mount = record { house = record w.house { live = without_session w.house.live mount }; seats = finished_at w.seats mount NotLive }
+session_ended w mount = carried_along (session_over w mount) (HasEnded mount)
+
+-- a source has come up on the mount: where its settings say so, those have come home who had asked for it
+abbrev pub called_home : World → List ℕ → World
+called_home w mount = (if (options_for w.house.settings mount).listeners.fallback_override then carried_along w (Up mount) else w)
 
 -- nothing is left of the client
 abbrev pub client_gone : World → ℕ → World
@@ -93,7 +109,7 @@ abbrev pub changed : World → Change → World
 changed w Nothing = w
 changed w (Answer id) = record w { house = now_in_state w.house id Answered }
 changed w (Admit id peer) = record w { house = admitted w.house id peer }
-changed w (Begin id mount shown) = record w { house = begun w.house id mount shown }
+changed w (Begin id mount shown) = called_home (record w { house = begun w.house id mount shown }) mount
 changed w (Receive mount block) = taken_in w mount block
 changed w (SetTitle mount title) = record w { house = retitled w.house mount title }
 changed w (TakeSeat id seat) = record { house = now_in_state w.house id Listens; seats = with_seat w.seats id seat }

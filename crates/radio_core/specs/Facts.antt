@@ -17,6 +17,7 @@ use Rattle.radio_access.specs.Lists.{is_denied, is_allowed, lets_in}
 use Rattle.radio_access.specs.SourcePair.{is_source_pair}
 use Rattle.radio_access.specs.ContentTypes.{is_refused_type}
 use Rattle.radio_seats.specs.declared.seat.Listener.{Listener}
+use Rattle.radio_fallback.specs.declared.walking.Landing.{Landing}
 use Rattle.radio_fallback.specs.Walk.{Sight, found_at, landing, stop_in}
 use Rattle.radio_events.specs.declared.event.SourceRequest.{SourceRequest}
 use Rattle.radio_events.specs.declared.event.ListenRequest.{ListenRequest}
@@ -50,21 +51,25 @@ live_end house mount = option_map_or (λ session. end_of session.stream) (sessio
 abbrev pub live_number : House → List ℕ → ℕ
 live_number house mount = option_map_or (λ session. session.number) (session_of house.live mount) 0
 
--- what a walk sees of the house, in which no mount has a fallback yet
+-- what a walk sees of the house
 abbrev pub sight_of : House → Sight
 sight_of house = record {
   is_live = λ mount. is_some (session_of house.live mount);
   limit = λ mount. (options_for house.settings mount).listeners.max_listeners;
   lets_in = lets_in house.lists;
   allows_duplicates = λ mount. (options_for house.settings mount).users.allow_duplicate_users;
-  fallback = λ mount. None;
-  hands_on_when_full = λ mount. false;
+  fallback = λ mount. (options_for house.settings mount).listeners.fallback_mount;
+  hands_on_when_full = λ mount. (options_for house.settings mount).listeners.fallback_when_full;
   stream_end = λ mount. record { session = live_number house mount; place = live_end house mount };
 }
 
--- the rule that stops a walk from the mount, if one does
+-- where a walk from the mount ends, of one who does not sit yet
+abbrev pub walks_to : House → List Listener → List ℕ → Option Credentials → Landing
+walks_to house seats mount pair = landing (sight_of house) seats pair mount
+
+-- the rule that stops it, if one does
 abbrev pub walk_stops : House → List Listener → List ℕ → Option Credentials → Option Rule
-walk_stops house seats mount pair = stop_in (landing (sight_of house) seats pair mount)
+walk_stops house seats mount pair = stop_in (walks_to house seats mount pair)
 
 -- what is looked up for each action; nothing is where the path names no mount
 abbrev pub arrive_facts : House → Peer → ArriveFacts

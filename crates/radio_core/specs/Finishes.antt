@@ -7,7 +7,8 @@ use Rattle.radio_events.specs.declared.event.Event.TheVariants.{Push, Clock}
 use Rattle.radio_core.specs.declared.standing.Standing.TheVariants.{Feeds, Finished as HasFinished}
 use Rattle.radio_seats.specs.declared.seat.Seat.{Seat}
 use Rattle.radio_core.specs.Clients.{client_of}
-use Rattle.radio_core.specs.Facts.{live_end, walk_stops}
+use Rattle.radio_core.specs.Facts.{live_end}
+use Rattle.radio_core.specs.Moves.{LeavesOut}
 use Rattle.radio_core.specs.Timeouts.{lags_behind, has_sat_out, asks_too_late, is_silent}
 use Rattle.radio_seats.specs.Seats.{seat_of}
 use Rattle.radio_core.specs.Sessions.{Session, session_of}
@@ -16,9 +17,8 @@ use Rattle.radio_core.specs.World.{World, standing_of}
 
 -- what there is about the event by which it finishes the client by the rule, where the state was w and is `later`
 pub data Cause (w later : World) (event : Event) (id : ℕ) : Rule → Type 0 where
-  -- the session of the mount ends where he has a seat, and the rule is the one that stops a walk from that mount then
-  SessionIsOver : (rule : Rule) (seat : Seat) (session : Session) → seat_of w.seats id ≡ Some seat → session_of w.house.live seat.mount ≡ Some session
-      → session_of later.house.live seat.mount ≡ None → walk_stops later.house later.seats seat.mount seat.pair ≡ Some rule → Cause w later event id rule
+  -- the session of the mount where he sits ends, and the rule stops his walk from there at his turn
+  SessionIsOver : (rule : Rule) (seat : Seat) → seat_of w.seats id ≡ Some seat → LeavesOut w event id rule → Cause w later event id rule
   -- the source of his mount delivers a block, and he is further behind its end than a queue is long
   IsFarBehind : (him : ℕ) (block : List ℕ) (seat : Seat) → event ≡ Push him block → standing_of w him ≡ Feeds seat.mount → seat_of w.seats id ≡ Some seat
       → lags_behind seat.mount (live_end later.house seat.mount) w.house.settings.limits.queue_size seat ≡ true → Cause w later event id Lagged

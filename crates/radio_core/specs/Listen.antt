@@ -11,7 +11,9 @@ use Rattle.radio_seats.specs.declared.seat.Seat.{Seat}
 use Rattle.radio_core.specs.Sessions.{Session, session_of}
 use Rattle.radio_core.specs.Stream.{burst_start}
 use Rattle.radio_core.specs.World.{World, standing_of}
-use Rattle.radio_core.specs.Facts.{rows_to_listen}
+use Rattle.radio_fallback.specs.declared.walking.Landing.{Landing}
+use Rattle.radio_fallback.specs.declared.walking.Landing.TheVariants.{Lands, Stops}
+use Rattle.radio_core.specs.Facts.{rows_to_listen, walks_to}
 use Rattle.radio_core.specs.Outcomes.{says, on_verdict, if_undecided}
 
 -- how many bytes a new listener of the mount may be sent at once
@@ -22,26 +24,31 @@ burst_of house mount = min (options_for house.settings mount).stream.burst_size 
 abbrev pub interval_for : House → List ℕ → Bool → Option ℕ
 interval_for house mount wants_metadata = (if wants_metadata then Some (options_for house.settings mount).stream.mp3_metadata_interval else None)
 
--- the seat of a new listener: he asked for the mount, and begins at the start of a block
+-- the seat of a new listener in the session where his walk landed: the mount that he asked for is his home, and he begins at the start of a block
 abbrev pub first_seat : House → ListenRequest → Peer → Session → Seat
 first_seat house asked peer session = record {
-  home = session.mount;
+  home = asked.mount;
   mount = session.mount;
   session = session.number;
   place = burst_start session.stream (burst_of house session.mount);
   peer = peer;
   pair = asked.pair;
-  interval = interval_for house session.mount asked.wants_metadata;
+  interval = interval_for house asked.mount asked.wants_metadata;
   since = house.time;
 }
 
--- the listener sits down; where the mount is not live, which the policy denies, nothing happens
+-- the listener sits down; where the mount is not live, at which no walk lands, nothing happens
 abbrev pub takes_seat : House → ListenRequest → Peer → Option Session → Outcome
 takes_seat house asked peer None = says Stray Nothing
 takes_seat house asked peer (Some session) =
-    says (Seated (interval_for house session.mount asked.wants_metadata) session.shown) (TakeSeat asked.id (first_seat house asked peer session))
+    says (Seated (interval_for house asked.mount asked.wants_metadata) session.shown) (TakeSeat asked.id (first_seat house asked peer session))
+
+-- he sits down where his walk lands; where it is stopped, which the policy denies, nothing happens
+abbrev pub sits_where : House → ListenRequest → Peer → Landing → Outcome
+sits_where house asked peer (Stops rule) = says Stray Nothing
+sits_where house asked peer (Lands mount) = takes_seat house asked peer (session_of house.live mount)
 
 -- a client wants to hear the mount of this path
 abbrev pub asks_to_hear : World → ListenRequest → Outcome
 asks_to_hear w asked = if_undecided (standing_of w asked.id) (λ peer.
-    on_verdict (verdict_in (rows_to_listen w asked)) (Answer asked.id) (takes_seat w.house asked peer (session_of w.house.live asked.mount)))
+    on_verdict (verdict_in (rows_to_listen w asked)) (Answer asked.id) (sits_where w.house asked peer (walks_to w.house w.seats asked.mount asked.pair)))

@@ -1,16 +1,21 @@
 -- What an event does to the seat of one client, and what it hands to him.
-use Rattle.std.specs.Prelude.{◌≡◌, ℕ, ◌+◌, ◌≤◌, List, [], length, Option, Some, None}
+use Rattle.std.specs.Prelude.{◌≡◌, ◌==◌, ℕ, ◌+◌, ◌≤◌, true, false, List, [], length, Option, Some, None}
 use Rattle.radio_policy.specs.declared.rule.Rule.{Rule}
 use Rattle.radio_policy.specs.declared.judgement.Verdict.TheVariants.{Allow}
 use Rattle.radio_policy.specs.Verdicts.{verdict_in}
 use Rattle.radio_addr.specs.declared.peer.Peer.{Peer}
+use Rattle.radio_settings.specs.Options.{options_for}
 use Rattle.radio_seats.specs.declared.seat.Seat.{Seat}
 use Rattle.radio_seats.specs.Seats.{seat_of}
 use Rattle.radio_events.specs.declared.event.Event.{Event}
-use Rattle.radio_events.specs.declared.event.Event.TheVariants.{Listen, Draw, Leave}
+use Rattle.radio_events.specs.declared.event.Event.TheVariants.{Source, Listen, Draw, Leave}
+use Rattle.radio_events.specs.declared.event.SourceRequest.{SourceRequest}
 use Rattle.radio_events.specs.declared.event.ListenRequest.{ListenRequest}
 use Rattle.radio_core.specs.declared.standing.Standing.TheVariants.{Undecided}
-use Rattle.radio_core.specs.Facts.{rows_to_listen}
+use Rattle.radio_access.specs.Lists.{lets_in}
+use Rattle.radio_fallback.specs.declared.walking.Landing.TheVariants.{Lands}
+use Rattle.radio_core.specs.Facts.{rows_to_listen, walks_to}
+use Rattle.radio_core.specs.Moves.{TakesTo, moved_into}
 use Rattle.radio_core.specs.Finishes.{Finishes}
 use Rattle.radio_core.specs.Handing.{handed_at}
 use Rattle.radio_core.specs.Listen.{first_seat}
@@ -18,6 +23,13 @@ use Rattle.radio_core.specs.Sessions.{Session, session_of}
 use Rattle.radio_core.specs.Step.{world_after}
 use Rattle.radio_core.specs.Stream.{data_at, end_of}
 use Rattle.radio_core.specs.World.{World, standing_of}
+
+-- why a listener goes from his seat to the mount: the session in which he sat is over; or a source has come up at the mount, which is the one that he asked
+-- for, and calls its listeners home
+pub data IsSent (w later : World) (event : Event) (seat : Seat) (mount : List ℕ) : Type 0 where
+  HisSessionIsOver : session_of later.house.live seat.mount ≡ None → IsSent w later event seat mount
+  HeIsCalledHome : (asked : SourceRequest) → event ≡ Source asked → mount ≡ asked.mount → seat.home ≡ asked.mount
+      → (options_for w.house.settings asked.mount).listeners.fallback_override ≡ true → IsSent w later event seat mount
 
 -- all that an event can do to the seat of the client of this number, where a rule ends one only for its cause; between the seats, what it hands to him
 pub data SeatStep (w : World) (Cause : Rule → Type 0) (event : Event) (id : ℕ) : Option Seat → List ℕ → Option Seat → Type 0 where
@@ -28,10 +40,15 @@ pub data SeatStep (w : World) (Cause : Rule → Type 0) (event : Event) (id : �
       → session.number ≡ seat.session → seat.place + length (data_at session.stream seat.place room) ≤ end_of session.stream
       → SeatStep w Cause event id (Some seat) (data_at session.stream seat.place room)
       (Some (record seat { place = seat.place + length (data_at session.stream seat.place room) }))
-  -- he asks for a mount that is live, and the policy allows it
+  -- he asks for a mount, the policy allows it, and his walk lands at a mount that is live
   SitsDown : (asked : ListenRequest) (peer : Peer) (session : Session) → event ≡ Listen asked → asked.id ≡ id → standing_of w id ≡ Undecided peer
-      → session_of w.house.live asked.mount ≡ Some session → verdict_in (rows_to_listen w asked) ≡ Allow
+      → walks_to w.house w.seats asked.mount asked.pair ≡ Lands session.mount → session_of w.house.live session.mount ≡ Some session
+      → verdict_in (rows_to_listen w asked) ≡ Allow
       → SeatStep w Cause event id None [] (Some (first_seat w.house asked peer session))
+  -- a move that the event brings takes him, at his turn, to the end of the stream of another mount, which is live and lets him in
+  IsMoved : (seat : Seat) (session : Session) → TakesTo w event id session.mount → IsSent w (world_after w event) event seat session.mount
+      → session_of (world_after w event).house.live session.mount ≡ Some session → lets_in w.house.lists session.mount seat.pair ≡ true
+      → (seat.session == session.number) ≡ false → SeatStep w Cause event id (Some seat) [] (Some (moved_into session seat))
   -- he leaves
   Leaves : (seat : Seat) → event ≡ Leave id → SeatStep w Cause event id (Some seat) [] None
   -- he is finished by a rule

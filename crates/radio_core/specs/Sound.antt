@@ -4,7 +4,7 @@ use Rattle.std.specs.Str.{bytes_eq}
 use Rattle.radio_tables.specs.Lists.{Each}
 use Rattle.radio_seats.specs.declared.seat.Seat.{Seat}
 use Rattle.radio_core.specs.declared.standing.Standing.TheVariants.{Unknown, Feeds, Sits}
-use Rattle.radio_seats.specs.Seats.{seat_of}
+use Rattle.radio_seats.specs.Seats.{seat_of, AreByNumber}
 use Rattle.radio_core.specs.Sessions.{Session, session_of}
 use Rattle.radio_core.specs.Stream.{end_of}
 use Rattle.radio_core.specs.World.{World, standing_of}
@@ -37,6 +37,8 @@ pub record IsSound (w : World) : Type 0 where
   pub apart : AreApart w.house.live
   -- blocks start one after another
   pub starts : (mount : List ℕ) (session : Session) → session_of w.house.live mount ≡ Some session → AreRising session.stream.starts (end_of session.stream)
+  -- listeners stand in the order of their numbers
+  pub by_number : AreByNumber w.seats
   -- whoever has a seat sits, in the session that his mount has
   pub sitting : (id : ℕ) (seat : Seat) → seat_of w.seats id ≡ Some seat → standing_of w id ≡ Sits
   pub seated : (id : ℕ) (seat : Seat) → seat_of w.seats id ≡ Some seat → IsSeatedIn w seat

@@ -3,7 +3,7 @@
 ghost use Rattle.std.specs.Prelude.{◌≡◌};
 ghost use Rattle.std.specs.Option.{option_copied};
 ghost use Rattle.radio_settings.specs.Options.{options_for};
-ghost use Rattle.radio_core.specs.Facts.{arrive_facts, source_facts_at, listen_facts_at, is_full, is_in_settings, is_known};
+ghost use Rattle.radio_core.specs.Facts.{arrive_facts, source_facts_at, listen_facts_at, walks_to, is_full, is_in_settings, is_known};
 
 use crate::house::House;
 use radio_access::{is_refused_type, is_source_pair};
@@ -11,7 +11,7 @@ use radio_addr::Peer;
 use radio_blocks::Place;
 use radio_creds::Pair;
 use radio_events::SourceRequest;
-use radio_fallback::{StreamEnd, View, Walk, walk_from};
+use radio_fallback::{Landing, StreamEnd, View, Walk, walk_from};
 use radio_policy::{ArriveFacts, ListenFacts, SourceFacts};
 use radio_seats::Seats;
 use radio_settings::{MountName, Settings};
@@ -41,23 +41,26 @@ impl House {
         }
     }
 
-    /// What is looked up for a listener who sends this pair, or none, and wants to hear the mount. At
-    /// most one digest is made.
+    /// What is looked up for a listener who sends this pair, or none, and wants to hear the mount,
+    /// and where his walk from there ends. A digest is made for each mount with users at which the
+    /// walk looks for a seat: two at the most.
     pub(crate) fn listen_facts(
         &self,
         seats: &Seats,
         mount: &MountName,
         pair: Option<&Pair>,
-    ) -> ListenFacts
-        ensures { result ≡ listen_facts_at self.now seats.now.seats mount.now (option_copied pair.entry) }
+    ) -> (ListenFacts, Landing)
+        ensures facts { result.0 ≡ listen_facts_at self.now seats.now.seats mount.now (option_copied pair.entry) }
+        ensures landing { result.1 ≡ walks_to self.now seats.now.seats mount.now (option_copied pair.entry) }
     {
         let Walk { first, landing } = walk_from(self, seats, mount, pair);
-        ListenFacts {
+        let facts = ListenFacts {
             mount_is_known: self.is_known(mount),
             users_accept: first.users_accept,
             user_is_twice: first.user_is_twice,
             walk_stops: landing.stop(),
-        }
+        };
+        (facts, landing)
     }
 
     /// Whether the settings know the mount, or it is live.
@@ -89,12 +92,12 @@ impl View for House {
         self.settings.options(mount).users.allow_duplicate_users
     }
 
-    fn fallback(&self, _mount: &MountName) -> Option<MountName> {
-        None
+    fn fallback(&self, mount: &MountName) -> Option<MountName> {
+        self.settings.options(mount).listeners.fallback_mount
     }
 
-    fn hands_on_when_full(&self, _mount: &MountName) -> bool {
-        false
+    fn hands_on_when_full(&self, mount: &MountName) -> bool {
+        self.settings.options(mount).listeners.fallback_when_full
     }
 
     fn stream_end(&self, mount: &MountName) -> StreamEnd {

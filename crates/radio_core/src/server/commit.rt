@@ -2,7 +2,7 @@ ghost use Rattle.std.specs.Prelude.{◌≡◌, IsOk, OnOk, OnErr};
 ghost use Rattle.std.specs.Option.{option_map};
 ghost use Rattle.radio_seats.specs.declared.seat.Seat.{Seat as SeatOf};
 ghost use Rattle.radio_seats.specs.Seats.{seat_of};
-ghost use Rattle.radio_core.specs.Changes.{changed, laggards_ended, session_ended, client_gone};
+ghost use Rattle.radio_core.specs.Changes.{changed, laggards_ended, called_home, session_ended, client_gone};
 ghost use Rattle.radio_core.specs.KeptChanges.{kept_changed, kept_taken_in};
 ghost use Rattle.radio_core.specs.Step.{NeedsNoMemory};
 
@@ -12,6 +12,7 @@ use crate::clients::ClientState;
 use crate::outcome::Change;
 use crate::timeouts::LagsBehind;
 use radio_blocks::{Block, Place};
+use radio_fallback::{Move, carry};
 use radio_policy::Rule;
 use radio_seats::Seat;
 use radio_settings::{MountName, Shown};
@@ -90,14 +91,18 @@ impl State {
         Ok(())
     }
 
-    /// The client feeds the mount from now on, and listeners can be seated there.
+    /// The client feeds the mount from now on, listeners can be seated there, and those come home
+    /// whom it calls.
     fn begin(&mut self, id: u64, mount: MountName, shown: Shown) -> Result<(), OutOfMemory>
         ensures ok { OnOk result (self.new ≡ changed self.old (Change.Begin id mount shown)) }
         ensures err { OnErr result (self.new ≡ self.old) }
     {
         self.seats.prepare(&mount)?;
         match self.house.begin(self.alloc, id, mount, shown) {
-            Ok(()) => Ok(()),
+            Ok(()) => {
+                self.call_home(mount);
+                Ok(())
+            }
             Err(refused) => {
                 self.release_idle(&mount);
                 Err(refused)
@@ -115,12 +120,24 @@ impl State {
         }
     }
 
-    /// The mount's session ends, and its listeners finish. It takes no memory.
+    /// Where the mount calls its listeners home, those come who had asked for it and sit elsewhere.
+    /// It takes no memory.
+    fn call_home(&mut self, mount: MountName)
+        ensures { self.new ≡ called_home self.old mount }
+    {
+        let options = self.house.settings.options(&mount);
+        if options.listeners.fallback_override {
+            let _counts = carry(&self.house, &mut self.seats, &Move::Up(mount));
+        }
+    }
+
+    /// The mount's session ends, and its listeners go where their walks land, or finish. It takes no
+    /// memory.
     pub(super) fn end_session(&mut self, mount: MountName)
         ensures { self.new ≡ session_ended self.old mount }
     {
         drop(self.house.live.remove(&mount));
-        self.seats.finish_at(&mount, Rule::NotLive);
+        let _counts = carry(&self.house, &mut self.seats, &Move::Ended(mount));
         self.seats.release(&mount);
     }
 

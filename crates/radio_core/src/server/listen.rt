@@ -1,6 +1,6 @@
 ghost use Rattle.std.specs.Prelude.{◌≡◌, Some, IfOk, MatchResult};
 ghost use Rattle.radio_core.specs.Sessions.{session_of};
-ghost use Rattle.radio_core.specs.Listen.{asks_to_hear, takes_seat, burst_of, interval_for, first_seat};
+ghost use Rattle.radio_core.specs.Listen.{asks_to_hear, sits_where, takes_seat, burst_of, interval_for, first_seat};
 
 use super::state::State;
 use crate::OutOfMemory;
@@ -10,9 +10,21 @@ use crate::sessions::Session;
 use crate::standing::Standing;
 use radio_addr::Peer;
 use radio_events::{ListenRequest, Reply};
+use radio_fallback::Landing;
 use radio_policy::{Action, Rule, Verdict, judge};
-use radio_seats::Seat;
+use radio_seats::{KeptName, Seat};
 use radio_settings::MountName;
+use std::alloc::Global;
+
+/// One who may hear the mount that he asked for.
+#[derive(Clone, Copy)]
+struct Welcome {
+    peer: Peer,
+    /// The mount that he asked for.
+    home: MountName,
+    /// Where his walk from there ends.
+    landing: Landing,
+}
 
 impl State {
     /// A client wants to hear a mount. `OutOfMemory` where memory was refused.
@@ -20,16 +32,16 @@ impl State {
         ensures { IfOk result (λ o. o ≡ asks_to_hear self.now asked) }
     {
         match self.may_listen(&asked) {
-            Ok((peer, mount)) => self.take_seat(asked, peer, &mount),
+            Ok(welcome) => self.sit_where(asked, welcome),
             Err(other) => Ok(other),
         }
     }
 
-    /// The address of the client and the mount, if he may hear it, or what else comes of his asking.
-    fn may_listen(&self, asked: &ListenRequest) -> Result<(Peer, MountName), Outcome>
+    /// The client, the mount and where his walk ends, if he may hear it, or what else comes of his
+    /// asking.
+    fn may_listen(&self, asked: &ListenRequest) -> Result<Welcome, Outcome>
         ensures { MatchResult result
-            (λ may. (may.1 ≡ asked.now.mount)
-            × (asks_to_hear self.now asked.now ≡ takes_seat self.now.house asked.now may.0 (session_of self.now.house.live asked.now.mount)))
+            (λ may. (may.home ≡ asked.now.mount) × (asks_to_hear self.now asked.now ≡ sits_where self.now.house asked.now may.peer may.landing))
             (λ other. other ≡ asks_to_hear self.now asked.now) }
     {
         let peer = match self.standing(asked.id) {
@@ -37,15 +49,31 @@ impl State {
             Standing::Finished(rule) => return Err(Outcome::finished(rule)),
             _ => return Err(Outcome::stray()),
         };
-        let Some(mount) = MountName::read(asked.mount.as_slice()) else {
+        let Some(home) = MountName::read(asked.mount.as_slice()) else {
             return Err(Outcome::refused(Rule::BadMount, asked.id));
         };
-        let facts = self
+        let (facts, landing) = self
             .house
-            .listen_facts(&self.seats, &mount, asked.pair.as_ref());
+            .listen_facts(&self.seats, &home, asked.pair.as_ref());
         match judge(&Action::Listen(Some(facts))) {
             Verdict::Deny(rule) => Err(Outcome::refused(rule, asked.id)),
-            Verdict::Allow => Ok((peer, mount)),
+            Verdict::Allow => Ok(Welcome {
+                peer,
+                home,
+                landing,
+            }),
+        }
+    }
+
+    /// The listener sits down where his walk has landed.
+    fn sit_where(&self, asked: ListenRequest, welcome: Welcome) -> Result<Outcome, OutOfMemory>
+        requires { welcome.home ≡ asked.mount }
+        ensures { IfOk result (λ o. o ≡ sits_where self.now.house asked welcome.peer welcome.landing) }
+    {
+        let landing = welcome.landing;
+        match landing {
+            Landing::Lands(mount) => self.take_seat(asked, welcome, &mount),
+            Landing::Stops(_) => Ok(Outcome::stray()),
         }
     }
 
@@ -53,13 +81,14 @@ impl State {
     fn take_seat(
         &self,
         asked: ListenRequest,
-        peer: Peer,
+        welcome: Welcome,
         mount: &MountName,
     ) -> Result<Outcome, OutOfMemory>
-        ensures { IfOk result (λ o. o ≡ takes_seat self.now.house asked peer (session_of self.now.house.live mount.now)) }
+        requires { welcome.home ≡ asked.mount }
+        ensures { IfOk result (λ o. o ≡ takes_seat self.now.house asked welcome.peer (session_of self.now.house.live mount.now)) }
     {
         match self.house.session(mount) {
-            Some(session) => self.house.welcome(asked, peer, session),
+            Some(session) => self.house.welcome(self.alloc, asked, welcome, session),
             None => Ok(Outcome::stray()),
         }
     }
@@ -69,15 +98,17 @@ impl House {
     /// A listener is welcome in the session. `OutOfMemory` where memory was refused.
     fn welcome(
         &self,
+        alloc: Global,
         asked: ListenRequest,
-        peer: Peer,
+        welcome: Welcome,
         session: &Session,
     ) -> Result<Outcome, OutOfMemory>
-        ensures { IfOk result (λ o. o ≡ takes_seat self.now asked peer (Some session.now)) }
+        requires { welcome.home ≡ asked.mount }
+        ensures { IfOk result (λ o. o ≡ takes_seat self.now asked welcome.peer (Some session.now)) }
     {
         let shown = session.shown.clone()?;
         let id = asked.id;
-        let seat = self.first_seat(asked, peer, session)?;
+        let seat = self.first_seat(alloc, asked, welcome, session)?;
         Ok(Outcome {
             reply: Reply::Seated {
                 interval: seat.interval,
@@ -113,22 +144,40 @@ impl House {
         }
     }
 
+    /// The name of the mount, shared with its session where it is live. `OutOfMemory` where memory
+    /// was refused.
+    fn shared_name(&self, alloc: Global, mount: MountName) -> Result<KeptName, OutOfMemory>
+        ensures { IfOk result (λ name. name ≡ mount) }
+    {
+        match self.session(&mount) {
+            Some(session) => session.mount.clone(),
+            None => KeptName::new(alloc, mount),
+        }
+    }
+
     /// The seat of a new listener in the session. `OutOfMemory` where memory was refused.
     fn first_seat(
         &self,
+        alloc: Global,
         asked: ListenRequest,
-        peer: Peer,
+        welcome: Welcome,
         session: &Session,
     ) -> Result<Seat, OutOfMemory>
-        ensures { IfOk result (λ seat. seat ≡ first_seat self.now asked peer session.now) }
+        requires { welcome.home ≡ asked.mount }
+        ensures { IfOk result (λ seat. seat ≡ first_seat self.now asked welcome.peer session.now) }
     {
-        let home = session.mount.clone()?;
-        let name = session.mount.get();
-        let burst = self.burst_of(name);
-        let interval = self.interval_for(name, asked.wants_metadata);
+        let Welcome {
+            peer,
+            home: asked_for,
+            ..
+        } = welcome;
+        let home = self.shared_name(alloc, asked_for)?;
+        let mount = session.mount.get();
+        let burst = self.burst_of(mount);
+        let interval = self.interval_for(&asked_for, asked.wants_metadata);
         Ok(Seat {
             home,
-            mount: *name,
+            mount: *mount,
             session: session.number,
             place: session.stream.burst_start(burst),
             peer,

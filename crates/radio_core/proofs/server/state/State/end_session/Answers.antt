@@ -10,10 +10,14 @@ pub invariant_of-self : goal.invariant_of-self
 invariant_of-self c =
     let live = c.self.inside.house.live in
     let left = c.remove.new.self in
-    let board = c.finish_at.new.self in
+    let board = c.carry-counts.new.seats in
     let mount = c.args.mount in
     idle_released left board.prepared c.release.new.self.prepared mount (count_at board.seats mount == 0)
     (ap (λ (sessions : List Session). session_of sessions mount) c.remove.ensures.removed ∙ is_over live mount)
     c.release.ensures.prepared
     (ended_prepared live left board.prepared mount c.remove.ensures.removed
-    (still_prepared live live c.self.inside.seats.prepared board.prepared refl (ap (λ (b : Board). b.prepared) c.finish_at.ensures) c.self.invariant))
+    (still_prepared live live c.self.inside.seats.prepared board.prepared refl (ap (λ (b : Board). b.prepared) c.carry-counts.ensures.seats) c.self.invariant))
+
+pub carry-counts-requires : goal.carry-counts-requires
+carry-counts-requires c =
+    (ended_prepared c.self.inside.house.live c.remove.new.self c.self.inside.seats.prepared c.args.mount c.remove.ensures.removed c.self.invariant).each

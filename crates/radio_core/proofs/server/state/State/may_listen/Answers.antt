@@ -12,10 +12,10 @@ use Rattle.radio_core.specs.declared.outcome.Change.TheVariants.{Answer}
 use Rattle.radio_core.specs.declared.outcome.Outcome.{Outcome}
 use Rattle.radio_core.specs.declared.standing.Standing.{Standing}
 use Rattle.radio_core.specs.declared.standing.Standing.TheVariants.{Undecided}
-use Rattle.radio_core.specs.Facts.{listen_facts_at, rows_to_listen}
-use Rattle.radio_core.specs.Listen.{takes_seat}
+use Rattle.radio_fallback.specs.declared.walking.Landing.{Landing}
+use Rattle.radio_core.specs.Facts.{listen_facts_at, rows_to_listen, walks_to}
+use Rattle.radio_core.specs.Listen.{sits_where}
 use Rattle.radio_core.specs.Outcomes.{on_verdict, if_undecided}
-use Rattle.radio_core.specs.Sessions.{session_of}
 use Rattle.radio_core.specs.World.{World, standing_of}
 use Rattle.radio_core.proofs.server.state.State.may_listen.Goals as goal
 
@@ -33,11 +33,14 @@ decided s v peer verdict answered go undecided is = rw (undecided, is) refl
 
 module _ (w : World) (asked : ListenRequest) (peer : Peer) (undecided : standing_of w asked.id ≡ Undecided peer) (verdict : Verdict)
     (is : verdict_in (rows_to_listen w asked) ≡ verdict) where
+  abbrev end_of_walk : Landing
+  end_of_walk = walks_to w.house w.seats asked.mount asked.pair
+
   comes_to : if_undecided (standing_of w asked.id) (λ p. on_verdict (verdict_in (rows_to_listen w asked)) (Answer asked.id)
-      (takes_seat w.house asked p (session_of w.house.live asked.mount)))
-      ≡ on_verdict verdict (Answer asked.id) (takes_seat w.house asked peer (session_of w.house.live asked.mount))
+      (sits_where w.house asked p end_of_walk))
+      ≡ on_verdict verdict (Answer asked.id) (sits_where w.house asked peer end_of_walk)
   comes_to = decided (standing_of w asked.id) (verdict_in (rows_to_listen w asked)) peer verdict (Answer asked.id)
-      (λ p. takes_seat w.house asked p (session_of w.house.live asked.mount)) undecided is
+      (λ p. sits_where w.house asked p end_of_walk) undecided is
 
 pub returns-in-Deny : goal.returns-in-Deny
 returns-in-Deny c =
@@ -45,11 +48,11 @@ returns-in-Deny c =
     let asked = c.args.asked.now in
     let named : is_mount_name asked.mount ≡ true = ap is_mount_name (sym c.as_slice.ensures) ∙ c.in-Some.ensures.0 in
     let looked_up =
-    subst (λ (x : World). c.listen_facts-facts.result ≡ listen_facts_at x.house x.seats c.in-Some.mount c.args.asked.now.pair) c.self.view_is
-    (rw (← c.as_ref.ensures.value) c.listen_facts-facts.ensures) in
+    subst (λ (x : World). c.listen_facts-landing.result.0 ≡ listen_facts_at x.house x.seats c.in-Some.home c.args.asked.now.pair) c.self.view_is
+    (rw (← c.as_ref.ensures.value) c.listen_facts-landing.ensures.facts) in
     c.refused-in-Deny.ensures
     ∙ sym (comes_to w asked c.in-Undecided.peer (sym c.standing.ensures ∙ c.in-Undecided.is) (Denied c.in-Deny.rule)
-    (judged w asked c.in-Some.mount c.listen_facts-facts.result (Denied c.in-Deny.rule) named (c.in-Some.ensures.1 ∙ c.as_slice.ensures) looked_up
+    (judged w asked c.in-Some.home c.listen_facts-landing.result.0 (Denied c.in-Deny.rule) named (c.in-Some.ensures.1 ∙ c.as_slice.ensures) looked_up
     (sym c.in-Deny.is ∙ c.judge.ensures)))
 
 pub returns-in-Allow : goal.returns-in-Allow
@@ -58,10 +61,15 @@ returns-in-Allow c =
     let asked = c.args.asked.now in
     let named : is_mount_name asked.mount ≡ true = ap is_mount_name (sym c.as_slice.ensures) ∙ c.in-Some.ensures.0 in
     let looked_up =
-    subst (λ (x : World). c.listen_facts-facts.result ≡ listen_facts_at x.house x.seats c.in-Some.mount c.args.asked.now.pair) c.self.view_is
-    (rw (← c.as_ref.ensures.value) c.listen_facts-facts.ensures) in (
+    subst (λ (x : World). c.listen_facts-landing.result.0 ≡ listen_facts_at x.house x.seats c.in-Some.home c.args.asked.now.pair) c.self.view_is
+    (rw (← c.as_ref.ensures.value) c.listen_facts-landing.ensures.facts) in
+    let landed : c.listen_facts-landing.result.1 ≡ walks_to w.house w.seats asked.mount asked.pair =
+    subst (λ (x : World). c.listen_facts-landing.result.1 ≡ walks_to x.house x.seats c.in-Some.home c.args.asked.now.pair) c.self.view_is
+    (rw (← c.as_ref.ensures.value) c.listen_facts-landing.ensures.landing)
+    ∙ ap (λ (m : List ℕ). walks_to w.house w.seats m asked.pair) (c.in-Some.ensures.1 ∙ c.as_slice.ensures) in (
       c.in-Some.ensures.1 ∙ c.as_slice.ensures,
       comes_to w asked c.in-Undecided.peer (sym c.standing.ensures ∙ c.in-Undecided.is) Allow
-          (judged w asked c.in-Some.mount c.listen_facts-facts.result Allow named (c.in-Some.ensures.1 ∙ c.as_slice.ensures) looked_up
-          (sym c.in-Allow.is ∙ c.judge.ensures)),
+          (judged w asked c.in-Some.home c.listen_facts-landing.result.0 Allow named (c.in-Some.ensures.1 ∙ c.as_slice.ensures) looked_up
+          (sym c.in-Allow.is ∙ c.judge.ensures))
+          ∙ ap (sits_where w.house asked c.in-Undecided.peer) (sym landed),
     )

@@ -1,0 +1,71 @@
+-- a walk sees the same, and listeners are carried along alike, where only a queue is kept of each stream
+use Rattle.std.proofs.Common.{◌≡◌, Bool, true, false, ℕ, Option, Some, None, is_some, List, refl, ap, ◌∙◌}
+use Rattle.std.proofs.Math.Path.{fun_ext}
+use Rattle.std.specs.Prelude.{if◌then◌else◌}
+use Rattle.std.specs.Option.{option_map, option_map_or}
+use Rattle.radio_settings.specs.Options.{options_for}
+use Rattle.radio_access.specs.Lists.{lets_in}
+use Rattle.radio_tables.specs.Lists.{Each}
+use Rattle.radio_fallback.specs.declared.moves.Move.{Move}
+use Rattle.radio_fallback.specs.declared.moves.Move.TheVariants.{Up}
+use Rattle.radio_fallback.specs.Walk.{Sight}
+use Rattle.radio_fallback.specs.Carry.{carried}
+use Rattle.radio_core.specs.declared.house.House.{House}
+use Rattle.radio_core.specs.Changes.{carried_along, called_home}
+use Rattle.radio_core.specs.Facts.{sight_of, live_number, live_end}
+use Rattle.radio_core.specs.Kept.{kept_session, kept_of}
+use Rattle.radio_core.specs.Sessions.{Session, session_of}
+use Rattle.radio_core.specs.StandsFor.{HasRisingStarts}
+use Rattle.radio_core.specs.World.{World}
+use Rattle.radio_core.proofs.KeptLists.{kept_found, kept_ends}
+
+is_some_mapped : {A B : Type 0} (f : A → B) (found : Option A) → is_some (option_map f found) ≡ is_some found
+is_some_mapped f None = refl
+is_some_mapped f (Some x) = refl
+
+module _ (w : World) (rise : Each HasRisingStarts w.house.live) where
+  abbrev queue : ℕ
+  queue = w.house.settings.limits.queue_size
+
+  abbrev kept_house : House
+  kept_house = (kept_of w).house
+
+  pub has_session : (mount : List ℕ) → is_some (session_of kept_house.live mount) ≡ is_some (session_of w.house.live mount)
+  has_session mount = ap is_some (kept_found queue w.house.live mount) ∙ is_some_mapped (kept_session queue) (session_of w.house.live mount)
+
+  same_number : (mount : List ℕ) → live_number kept_house mount ≡ live_number w.house mount
+  same_number mount = ap number_in (kept_found queue w.house.live mount) ∙ by_found (session_of w.house.live mount) where
+    number_in : Option Session → ℕ
+    number_in found = option_map_or (λ (session : Session). session.number) found 0
+
+    by_found : (found : Option Session) → number_in (option_map (kept_session queue) found) ≡ number_in found
+    by_found None = refl
+    by_found (Some session) = refl
+
+  pub same_sight : sight_of (kept_of w).house ≡ sight_of w.house
+  same_sight =
+      ap (λ (is_live : List ℕ → Bool). sight is_live (live_number kept_house) (live_end kept_house)) (fun_ext has_session)
+      ∙ ap (λ (number : List ℕ → ℕ). sight (is_live_in w.house) number (live_end kept_house)) (fun_ext same_number)
+      ∙ ap (sight (is_live_in w.house) (live_number w.house)) (fun_ext (λ mount. kept_ends queue w.house.live mount rise)) where
+        is_live_in : House → List ℕ → Bool
+        is_live_in house mount = is_some (session_of house.live mount)
+
+        sight : (List ℕ → Bool) → (List ℕ → ℕ) → (List ℕ → ℕ) → Sight
+        sight is_live number end = record {
+          is_live = is_live;
+          limit = λ mount. (options_for w.house.settings mount).listeners.max_listeners;
+          lets_in = lets_in w.house.lists;
+          allows_duplicates = λ mount. (options_for w.house.settings mount).users.allow_duplicate_users;
+          fallback = λ mount. (options_for w.house.settings mount).listeners.fallback_mount;
+          hands_on_when_full = λ mount. (options_for w.house.settings mount).listeners.fallback_when_full;
+          stream_end = λ mount. record { session = number mount; place = end mount };
+        }
+
+  pub carried_alike : (move : Move) → carried_along (kept_of w) move ≡ kept_of (carried_along w move)
+  carried_alike move = ap (λ (sight : Sight). record (kept_of w) { seats = (carried sight move w.seats).seats }) same_sight
+
+  pub called_alike : (mount : List ℕ) → called_home (kept_of w) mount ≡ kept_of (called_home w mount)
+  called_alike mount = by_test (options_for w.house.settings mount).listeners.fallback_override where
+    by_test : (b : Bool) → (if b then carried_along (kept_of w) (Up mount) else kept_of w) ≡ kept_of (if b then carried_along w (Up mount) else w)
+    by_test true = carried_alike (Up mount)
+    by_test false = refl

@@ -1,0 +1,59 @@
+-- The moves that events bring, and the turn of each listener in them.
+use Rattle.std.specs.Prelude.{◌≡◌, ℕ, true, List, Some}
+use Rattle.radio_policy.specs.declared.rule.Rule.{Rule}
+use Rattle.radio_policy.specs.declared.judgement.Verdict.TheVariants.{Allow}
+use Rattle.radio_policy.specs.Verdicts.{verdict_in}
+use Rattle.radio_addr.specs.declared.peer.Peer.{Peer}
+use Rattle.radio_settings.specs.Options.{options_for}
+use Rattle.radio_fallback.specs.declared.moves.Move.{Move}
+use Rattle.radio_fallback.specs.declared.moves.Move.TheVariants.{Ended, Up}
+use Rattle.radio_fallback.specs.declared.moves.Turn.{Turn}
+use Rattle.radio_fallback.specs.declared.moves.Turn.TheVariants.{GoesTo, IsOut}
+use Rattle.radio_fallback.specs.Carry.{turn_of, at_his_turn}
+use Rattle.radio_seats.specs.declared.seat.Seat.{Seat}
+use Rattle.radio_events.specs.declared.event.Event.{Event}
+use Rattle.radio_events.specs.declared.event.Event.TheVariants.{Source, SourceEnd, Leave, Clock}
+use Rattle.radio_events.specs.declared.event.SourceRequest.{SourceRequest}
+use Rattle.radio_core.specs.declared.standing.Standing.TheVariants.{Undecided, Feeds}
+use Rattle.radio_core.specs.Changes.{begun, session_over, timed_out_by, durations_over, first_silent, session_silenced}
+use Rattle.radio_core.specs.Facts.{sight_of, rows_to_feed}
+use Rattle.radio_core.specs.Sessions.{Session}
+use Rattle.radio_core.specs.Source.{shown_for}
+use Rattle.radio_core.specs.Stream.{end_of}
+use Rattle.radio_core.specs.World.{World, standing_of}
+
+-- what the move has in store for the listener at his turn, where the state before the first turn is w: those of lower numbers have had theirs
+abbrev pub his_turn : World → Move → ℕ → Turn
+his_turn w move id = turn_of (sight_of w.house) move (at_his_turn (sight_of w.house) move w.seats id) id
+
+-- the seat that goes on in the session, from the end of its stream; all else of it stays
+abbrev pub moved_into : Session → Seat → Seat
+moved_into session seat = record seat { mount = session.mount; session = session.number; place = end_of session.stream }
+
+-- a state on the way of a clock from this one: silent sessions have ended, one after another
+pub data IsOnTheWay (w : World) : World → Type 0 where
+  AtFirst : IsOnTheWay w w
+  OneMore : (during : World) (session : Session) → IsOnTheWay w during → first_silent during ≡ Some session
+      → IsOnTheWay w (session_silenced during session)
+
+-- the event brings the move, and this is the state before the first listener has his turn
+pub data Brings (w : World) : Event → Move → World → Type 0 where
+  -- a source's data come to their end
+  ByItsEnd : (him : ℕ) (mount : List ℕ) → standing_of w him ≡ Feeds mount → Brings w (SourceEnd him) (Ended mount) (session_over w mount)
+  -- a source leaves
+  ByItsLeaving : (him : ℕ) (mount : List ℕ) → standing_of w him ≡ Feeds mount → Brings w (Leave him) (Ended mount) (session_over w mount)
+  -- a source has sent nothing in the time that it has for it
+  BySilence : (ms : ℕ) (during : World) (session : Session) → IsOnTheWay (durations_over (record w { house = timed_out_by w.house ms })) during
+      → first_silent during ≡ Some session → Brings w (Clock ms) (Ended session.mount) (session_over during session.mount)
+  -- a source comes up on a mount that calls its listeners home
+  ByComingUp : (asked : SourceRequest) (peer : Peer) → standing_of w asked.id ≡ Undecided peer → verdict_in (rows_to_feed w.house asked) ≡ Allow
+      → (options_for w.house.settings asked.mount).listeners.fallback_override ≡ true
+      → Brings w (Source asked) (Up asked.mount) (record w { house = begun w.house asked.id asked.mount (shown_for w.house asked.mount asked.shown) })
+
+-- a move that the event brings takes him to the mount at his turn
+abbrev pub TakesTo : World → Event → ℕ → List ℕ → Type 0
+TakesTo w event id mount = (move : Move) × (during : World) × Brings w event move during × (his_turn during move id ≡ GoesTo mount)
+
+-- a move that the event brings leaves him nowhere to sit: the rule stops his walk at his turn
+abbrev pub LeavesOut : World → Event → ℕ → Rule → Type 0
+LeavesOut w event id rule = (move : Move) × (during : World) × Brings w event move during × (his_turn during move id ≡ IsOut rule)
