@@ -23,7 +23,11 @@ use Rattle.radio_core.specs.Stream.{WholeStream, end_of, burst_start}
 use Rattle.radio_core.specs.Ways.{Way, Misplaced, IsFinished, IsDenied, IsRefused, IsAdmitted, Begins, Receives, SetsTitle, TakesSeat, HandsOut, Ends}
 use Rattle.radio_core.specs.Ways.{EndsAndLeaves, Leaves, HasPassed, Ticks}
 use Rattle.radio_seats.proofs.SeatLaws.{has_sat_down}
-use Rattle.radio_core.proofs.Lookups.{found_named}
+use Rattle.std.proofs.lemmas.Bool.{and_parts}
+use Rattle.radio_access.specs.Lists.{lets_in}
+use Rattle.radio_fallback.proofs.TurnLemmas.{lands_where_he_fits}
+use Rattle.radio_core.specs.Facts.{sight_of}
+use Rattle.radio_laws.proofs.WalkLemmas.{lands_on_his_way}
 use Rattle.radio_core.proofs.Soundness.{burst_within}
 use Rattle.radio_laws.proofs.LimitLemmas.{Within, sits_as, sent_as}
 use Rattle.radio_laws.proofs.ListsLemmas.{KeepsLists}
@@ -71,7 +75,7 @@ module _ (w : World) (s : IsSound w) (k : KeepsLists w) (l : Within w) where
   his_by event o (SetsTitle id mount text feeding) bytes title d = cc
   his_by event o (HasPassed ms e) bytes title d = cc
   his_by event o (Ticks ms e) bytes title d = cc
-  his_by event o (TakesSeat asked peer session undecided live allowed) bytes title d = cc
+  his_by event o (TakesSeat asked peer session undecided lands live allowed) bytes title d = cc
   his_by event o (Ends id mount feeding) bytes title d = cc
   his_by event o (EndsAndLeaves id mount feeding) bytes title d = cc
   his_by event o (Leaves id other) bytes title d = cc
@@ -183,13 +187,12 @@ no_interval house mount wants e = rw e refl
 module _ (w : World) (s : IsSound w) where
   seated_by : (event : Event) (o : Outcome) → Way w event o → (interval : Option ℕ) (shown : Shown) → o.reply ≡ Seated interval shown
       → ((id : ℕ) → seat_of (changed w o.change).seats id ≡ seat_of (world_after w event).seats id) → IsSeated w event interval shown
-  seated_by event o (TakesSeat asked peer session undecided live allowed) interval shown d after =
-      let name = found_named w.house.live asked.mount session live in
+  seated_by event o (TakesSeat asked peer session undecided lands live allowed) interval shown d after =
       let itself : (asked.id == asked.id) ≡ true = grind (arith, nat_tests) in
       let seat = first_seat w.house asked peer session in
-      let same : interval ≡ interval_for w.house session.mount asked.wants_metadata = sym (seated_interval d) in
-      let here : interval ≡ interval_for w.house asked.mount asked.wants_metadata =
-      same ∙ ap (λ (m : List ℕ). interval_for w.house m asked.wants_metadata) name in
+      let here : interval ≡ interval_for w.house asked.mount asked.wants_metadata = sym (seated_interval d) in
+      let way = lands_on_his_way w asked session.mount lands in
+      let fits = lands_where_he_fits (sight_of w.house) w.seats asked.pair asked.mount session.mount lands in
       record {
         asked = asked;
         listens = refl;
@@ -198,19 +201,21 @@ module _ (w : World) (s : IsSound w) where
         shows = sym (seated_shown d);
         seat = seat;
         has_the_seat = sym (after asked.id) ∙ ap seat_in (has_sat_down w.seats asked.id seat itself);
-        at_the_mount = name;
-        his_home = name;
+        steps = way.0;
+        not_too_far = way.1;
+        on_his_way = way.2;
+        lets_him_in = (and_parts (lets_in w.house.lists session.mount asked.pair) _ fits.is_open).0;
+        at_the_mount = refl;
+        his_home = refl;
         in_the_session = refl;
         his_address = undecided;
         his_pair = refl;
         from_now = refl;
-        his_interval = sym same;
+        his_interval = sym here;
         with_metadata = λ wants. here ∙ interval_asked w.house asked.mount asked.wants_metadata wants;
         without_metadata = λ wants. here ∙ no_interval w.house asked.mount asked.wants_metadata wants;
-        starts = subst (λ (m : List ℕ). IsEarliestStart session.stream (options_for w.house.settings m).stream.burst_size
-            w.house.settings.limits.queue_size seat.place) name
-            (within_both session.stream (options_for w.house.settings session.mount).stream.burst_size w.house.settings.limits.queue_size seat.place
-            (earliest_start session (burst_of w.house session.mount) (s.starts asked.mount session live)));
+        starts = within_both session.stream (options_for w.house.settings session.mount).stream.burst_size w.house.settings.limits.queue_size seat.place
+            (earliest_start session (burst_of w.house session.mount) (s.starts session.mount session live));
       } where
         seated_shown : {a b : Option ℕ} {t u : Shown} → Seated a t ≡ Seated b u → t ≡ u
         seated_shown e = cc

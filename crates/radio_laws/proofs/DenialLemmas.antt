@@ -43,9 +43,9 @@ use Rattle.radio_core.specs.Step.{outcome, reply_to, world_after}
 use Rattle.radio_core.specs.Ways.{Way, Misplaced, IsFinished, IsDenied, IsRefused, IsAdmitted, Begins, Receives, SetsTitle, TakesSeat, HandsOut, Ends}
 use Rattle.radio_core.specs.Ways.{EndsAndLeaves, Leaves, HasPassed, Ticks, rows_for, IsUndecided}
 use Rattle.radio_core.specs.World.{World, standing_of, standing_in}
-use Rattle.radio_laws.proofs.LimitDenials.{denied_by}
+use Rattle.radio_laws.proofs.LimitDenials.{denied_by, why_denied, unknown_where}
 use Rattle.radio_core.proofs.Lookups.{does, beside_state}
-use Rattle.radio_core.proofs.Ways.{way_of, rows_by, found_by, rows_there, may_feed}
+use Rattle.radio_core.proofs.Ways.{way_of, may_feed}
 
 module _ (denies : (rows : List Row) (rule : Rule) → (verdict_in rows ≡ Denied rule) ↔ Denies rows rule) (w : World) where
   abbrev Denial : Event → Outcome → Type 0
@@ -103,7 +103,7 @@ module _ (denies : (rows : List Row) (rule : Rule) → (verdict_in rows ≡ Deni
   denial_by event o (SetsTitle id mount text feeding) = λ rule d. cc
   denial_by event o (HasPassed ms e) = λ rule d. cc
   denial_by event o (Ticks ms e) = λ rule d. cc
-  denial_by event o (TakesSeat asked peer session undecided live allowed) = λ rule d. cc
+  denial_by event o (TakesSeat asked peer session undecided lands live allowed) = λ rule d. cc
   denial_by event o (HandsOut id room seat session sits has live) = λ rule d. cc
   denial_by event o (Ends id mount feeding) = λ rule d. cc
   denial_by event o (EndsAndLeaves id mount feeding) = λ rule d. cc
@@ -173,7 +173,7 @@ module _ (w : World) where
   source_by event o (SetsTitle him mount text feeding) d = cc
   source_by event o (HasPassed ms e) d = cc
   source_by event o (Ticks ms e) d = cc
-  source_by event o (TakesSeat asked peer session undecided live allowed) d = cc
+  source_by event o (TakesSeat asked peer session undecided lands live allowed) d = cc
   source_by event o (HandsOut him room seat session sits has live) d = cc
   source_by event o (Ends him mount feeding) d = cc
   source_by event o (EndsAndLeaves him mount feeding) d = cc
@@ -184,17 +184,6 @@ module _ (w : World) where
   only_sources_feed event d = source_by event (outcome w event) (way_of w event) d
 
 -- a mount that is known is not denied as unknown
-unknown_by : (named known live full accepted twice : Bool)
-    → verdict_in (rows_by named known (record { is_live = live; is_full = full; users_accept = accepted; user_is_twice = twice })) ≡ Denied NoMount
-    → known ≡ false
-unknown_by named false live full accepted twice v = refl
-unknown_by false true live full accepted twice v = cc
-unknown_by true true live full false twice v = cc
-unknown_by true true live full true true v = cc
-unknown_by true true false full true false v = cc
-unknown_by true true true true true false v = cc
-unknown_by true true true false true false v = cc
-
 found_one : {X : Type 0} (p : X → Bool) (x : X) (xs : List X) → Has x xs → p x ≡ true → is_some (find p xs) ≡ true
 found_one p x [] has e = absurd has
 found_one p x (y ∷ ys) has e = by_test (λ later. found_one p x ys later e) (p y) refl has where
@@ -208,9 +197,7 @@ module _ (w : World) (asked : ListenRequest) where
   unfolding reply_to
   is_unknown d =
       denied_by w NoMount (Listen asked) (outcome w (Listen asked)) (way_of w (Listen asked)) d
-      (λ v. let found = found_by w asked in
-      unknown_by (is_mount_name asked.mount) (is_known w.house asked.mount) found.is_live found.is_full found.users_accept found.user_is_twice
-      (ap verdict_in (sym (rows_there w asked)) ∙ v))
+      (λ v. unknown_where w asked (why_denied w asked NoMount v))
 
   -- each of three reasons for which it is known
   known_by : (set relayed live : Bool) → ((set || relayed) || live) ≡ false → (set ≡ false) × (relayed ≡ false) × (live ≡ false)

@@ -10,7 +10,10 @@ use Rattle.radio_core.specs.declared.outcome.Outcome.{Outcome}
 use Rattle.radio_core.specs.declared.standing.Standing.{Standing}
 use Rattle.radio_core.specs.declared.standing.Standing.TheVariants.{Unknown, Undecided, Feeds, Sits, Answered, Finished}
 use Rattle.radio_core.specs.World.{World, standing_of}
-use Rattle.radio_core.specs.Changes.{changed, session_ended}
+use Rattle.radio_core.specs.Changes.{changed, session_ended, begun}
+use Rattle.radio_core.specs.Source.{shown_for}
+use Rattle.radio_core.specs.declared.house.House.{House}
+use Rattle.radio_core.proofs.CalledHome.{house_called}
 use Rattle.radio_laws.specs.Gone.{HasLeft, IsOutOfPlace, StaysGone}
 use Rattle.radio_core.specs.Handing.{data_in, block_in, handed_at, handed, delivered_at, delivered}
 use Rattle.radio_core.specs.Leave.{leaves_from}
@@ -76,12 +79,14 @@ low_by w s event o (Misplaced _) = omega arith
 low_by w s event o (IsFinished _ him by its known) = omega arith
 low_by w s event o (IsDenied _ by v nobody) = omega arith
 low_by w s event o (IsRefused _ him by v its undecided) = omega arith
-low_by w s event o (Begins asked undecided none allowed) = omega arith
+low_by w s event o (Begins asked undecided none allowed) =
+    let up = record w { house = begun w.house asked.id asked.mount (shown_for w.house asked.mount asked.shown) } in
+    let last = ap (λ (h : House). h.last_id) (house_called up asked.mount) in omega (arith, last)
 low_by w s event o (Receives him mount block feeding) = omega arith
 low_by w s event o (SetsTitle him mount text feeding) = omega arith
 low_by w s event o (HasPassed ms e) = omega arith
 low_by w s event o (Ticks ms e) = let last = (ticked_fates w s ms).last in omega (arith, last)
-low_by w s event o (TakesSeat asked peer session undecided live allowed) = omega arith
+low_by w s event o (TakesSeat asked peer session undecided lands live allowed) = omega arith
 low_by w s event o (HandsOut him room seat session sits has live) = omega arith
 low_by w s event o (Ends him mount feeding) = omega arith
 low_by w s event o (EndsAndLeaves him mount feeding) = omega arith

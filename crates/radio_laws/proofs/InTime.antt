@@ -19,8 +19,11 @@ use Rattle.radio_core.specs.Sound.{IsSound}
 use Rattle.radio_core.specs.Timeouts.{has_sat_out, asks_too_late, timed_out, is_silent}
 use Rattle.radio_core.specs.World.{World}
 use Rattle.radio_core.proofs.ApartLemmas.{shorter}
-use Rattle.radio_core.proofs.Fates.{sits_on_still}
-use Rattle.radio_core.proofs.TickLemmas.{clients_after, sat_out, sound_sat_out, fates_silence}
+use Rattle.radio_seats.specs.declared.seat.Seat.{Seat}
+use Rattle.radio_seats.specs.Seats.{seat_of}
+use Rattle.radio_core.specs.Moves.{moved_into}
+use Rattle.radio_core.proofs.Fates.{Fate, GoesOn, IsEnded, HasStopped, IsMoved, HasEnded, Nobody}
+use Rattle.radio_core.proofs.TickLemmas.{ClockCause, ClockCarries, clients_after, sat_out, fates_silence}
 
 module _ (seconds ms : ℕ) where
   -- nobody asks too late by the same measure
@@ -66,12 +69,20 @@ module _ (w : World) (s : IsSound w) (ms : ℕ) where
   in_time = record {
     is_now = silence_time (length (sat_out w s ms).house.live) (sat_out w s ms);
     seats = λ id seat e.
-        let before = sits_on_still (sat_out w s ms) (ticked w ms) (Clock ms) (sound_sat_out w s ms) (fates_silence w s ms) id seat e in
-        ap (λ settings. has_sat_out settings ms seat) (fates_silence w s ms).settings
-        ∙ kept_seat (has_sat_out w.house.settings ms) TimeOver w.seats id seat before.0;
+        ap (λ settings. has_sat_out settings ms seat) (fates_silence w s ms).settings ∙ still_sits id seat e ((fates_silence w s ms).fate id);
     clients = λ id client e. clients id client e;
     sources = λ mount session e. sources mount session e;
   } where
+    still_sits : (id : ℕ) (seat : Seat) → seat_of (ticked w ms).seats id ≡ Some seat
+        → Fate (ClockCause w s ms) (ClockCarries w s ms) Nobody HasEnded (sat_out w s ms) (ticked w ms) id → has_sat_out w.house.settings ms seat ≡ false
+    still_sits id seat e (GoesOn same seats feeds sits) = kept_seat (has_sat_out w.house.settings ms) TimeOver w.seats id seat (sym seats ∙ e)
+    still_sits id seat e (IsEnded rule cause active ended none over) = cc
+    still_sits id seat e (HasStopped mount why feeding done none over) = cc
+    still_sits id seat e (IsMoved old session carries left had has same live opens) =
+        let both : Some (moved_into session old) ≡ Some seat = sym has ∙ e in
+        let one : moved_into session old ≡ seat = cc in
+        ap (has_sat_out w.house.settings ms) (sym one) ∙ kept_seat (has_sat_out w.house.settings ms) TimeOver w.seats id old had
+
     clients : (id : ℕ) (client : Client) → client_of (ticked w ms).house.clients id ≡ Some client
         → asks_too_late (ticked w ms).house.settings.limits.header_timeout ms client ≡ false
     clients id client e = by_test (asks_too_late (ticked w ms).house.settings.limits.header_timeout ms client) refl where

@@ -1,4 +1,5 @@
 mod DenialLemmas
+mod WalkLemmas
 mod LimitDenials
 mod LimitLemmas
 mod ListsLemmas
@@ -7,6 +8,7 @@ mod ToldLemmas
 mod ServiceLemmas
 mod GoneLemmas
 mod MountLemmas
+mod WalkingOnLemmas
 mod StretchLemmas
 mod TitleLemmas
 mod InTime

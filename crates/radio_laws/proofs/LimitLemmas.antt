@@ -10,16 +10,25 @@ use Rattle.radio_access.specs.Lists.{Lists}
 use Rattle.radio_tables.proofs.KeyLaws.{by_number, by_name}
 use Rattle.radio_seats.specs.declared.seat.Listener.{Listener}
 use Rattle.radio_seats.specs.declared.seat.Seat.{Seat}
-use Rattle.radio_seats.specs.Seats.{seats_at, count_at, SitsAs, has_user, sits_there}
-use Rattle.radio_seats.proofs.CountLaws.{NobodyCame, nobody_came, nobody_came_twice, nobody_came_hearing, nobody_came_finishing, nobody_came_leaving}
+use Rattle.radio_seats.specs.Seats.{seats_at, count_at, SitsAs, has_user, sits_there, AreByNumber}
+use Rattle.radio_seats.proofs.CountLaws.{NobodyCame, nobody_came, nobody_came_hearing, nobody_came_leaving}
 use Rattle.radio_seats.proofs.CountLaws.{one_more_at, no_more_elsewhere, nobody_sits_as}
-use Rattle.radio_fallback.specs.Walk.{is_full, sits_already}
+use Rattle.radio_fallback.specs.Walk.{MaySit, is_full, is_twice_for, sits_already}
 use Rattle.radio_events.specs.declared.event.Event.{Event}
 use Rattle.radio_events.specs.declared.event.ListenRequest.{ListenRequest}
 use Rattle.radio_core.specs.declared.outcome.Outcome.{Outcome}
 use Rattle.radio_core.specs.declared.outcome.Change.TheVariants.{TakeSeat}
 use Rattle.radio_core.specs.declared.standing.Standing.TheVariants.{Undecided}
-use Rattle.radio_core.specs.Changes.{changed, session_ended, received, timed_out_by, durations_over, first_silent, session_silenced, on_silent, silence, ticked}
+use Rattle.std.specs.Prelude.{if◌then◌else◌}
+use Rattle.std.proofs.lemmas.Bool.{and_parts}
+use Rattle.radio_access.specs.Lists.{lets_in}
+use Rattle.radio_settings.specs.Options.{options_for}
+use Rattle.radio_fallback.specs.declared.moves.Move.{Move}
+use Rattle.radio_fallback.specs.declared.moves.Move.TheVariants.{Ended as SessionEnds, Up}
+use Rattle.radio_fallback.proofs.FaresLemmas.{keeps_limit, sit_once}
+use Rattle.radio_fallback.proofs.TurnLemmas.{lands_where_he_fits}
+use Rattle.radio_core.specs.Source.{shown_for}
+use Rattle.radio_core.specs.Changes.{changed, begun, carried_along, session_over, session_ended, called_home, received, first_silent, session_silenced, on_silent, silence}
 use Rattle.radio_laws.specs.Limits.{IsWithinLimits, SentUser, SitsThereAs, most_at, allows_duplicates_at}
 use Rattle.radio_core.specs.Listen.{first_seat}
 use Rattle.radio_core.specs.Run.{world_after_all, run_after}
@@ -29,15 +38,15 @@ use Rattle.radio_core.specs.Step.{outcome, world_after}
 use Rattle.radio_core.specs.Ways.{Way, Misplaced, IsFinished, IsDenied, IsRefused, IsAdmitted, Begins, Receives, SetsTitle, TakesSeat, HandsOut, Ends}
 use Rattle.radio_core.specs.Ways.{EndsAndLeaves, Leaves, HasPassed, Ticks}
 use Rattle.radio_core.specs.World.{World, opening, standing_of}
-use Rattle.radio_core.proofs.Lookups.{found_named}
+use Rattle.radio_core.proofs.CarriedFates.{order_carried}
 use Rattle.radio_core.proofs.SoundRuns.{sound_after, sound_opening}
-use Rattle.radio_core.proofs.TickLemmas.{ticked_fates}
-use Rattle.radio_policy.specs.declared.rule.Rule.TheVariants.{NotLive, Lagged, TimeOver}
+use Rattle.radio_core.proofs.TickLemmas.{sat_out, sound_sat_out}
+use Rattle.radio_policy.specs.declared.rule.Rule.TheVariants.{Lagged, TimeOver}
 use Rattle.radio_seats.proofs.EndLaws.{nobody_came_ending}
-use Rattle.radio_core.specs.Facts.{live_end}
+use Rattle.radio_core.specs.Facts.{live_end, sight_of}
 use Rattle.radio_core.specs.Timeouts.{lags_behind, has_sat_out}
 use Rattle.radio_core.proofs.Soundness.{has_new_seat, beside_new_seat}
-use Rattle.radio_core.proofs.Ways.{way_of, may_listen, IsWelcome, found_by}
+use Rattle.radio_core.proofs.Ways.{way_of}
 
 -- the limits, with users compared as the table does it
 pub record Within (w : World) : Type 0 where
@@ -63,6 +72,10 @@ room_left : (count most : ℕ) (limit : Option ℕ) → limit ≡ Some most → 
 room_left count most (Some other) e room = let same : other ≡ most = cc in grind (arith, nat_tests)
 room_left count most None e room = cc
 
+not_true_at : (b : Bool) → not b ≡ true → b ≡ false
+not_true_at true e = cc
+not_true_at false e = refl
+
 -- who may sit down is no user who sits there
 not_there : (allows : Bool) (seats : List Listener) (mount user : List ℕ) (pair : Option Credentials) → allows ≡ false
     → (not allows && sits_already seats mount pair) ≡ false
@@ -72,59 +85,87 @@ not_there false seats mount user None once none his = cc
 not_there false seats mount user (Some sent) once none his =
     let same : sent.user ≡ user = (bytes_eq-Decides sent.user user).0 his in subst (λ (x : List ℕ). sits_there seats mount x ≡ false) same none
 
--- by the clock nobody comes
-nobody_came_silencing : (n : ℕ) (w : World) → NobodyCame w.seats (silence n w).seats
-nobody_came_silencing zero w = nobody_came w.seats
-nobody_came_silencing (suc n) w = by_first (nobody_came_silencing n) (first_silent w) where
-  by_first : ((next : World) → NobodyCame next.seats (silence n next).seats) → (found : Option Session)
-      → NobodyCame w.seats (on_silent (silence n) w found).seats
-  by_first rest None = nobody_came w.seats
-  by_first rest (Some session) =
-      let next = session_silenced w session in
-      nobody_came_twice w.seats next.seats (silence n next).seats (nobody_came_finishing w.seats session.mount NotLive) (rest next)
+-- a carry keeps the limits, also of mounts that are none of its own
+module _ (w : World) (move : Move) (order : AreByNumber w.seats) (l : Within w) where
+  pub within_carried : Within (carried_along w move)
+  within_carried = record {
+    not_too_many = λ mount most e. keeps_limit (sight_of w.house) move w.seats mount order (λ other limited. l.not_too_many mount other limited) most e;
+    none_twice = λ mount user id other once his theirs.
+        sit_once (sight_of w.house) move w.seats mount (λ alone one his_id their_id mine yours. l.none_twice mount one his_id their_id alone mine yours)
+        once user id other his theirs;
+  }
 
-nobody_came_ticking : (w : World) (ms : ℕ) → NobodyCame w.seats (ticked w ms).seats
-nobody_came_ticking w ms =
-    let timed = record w { house = timed_out_by w.house ms } in
-    let later = durations_over timed in
-    nobody_came_twice w.seats later.seats (ticked w ms).seats (nobody_came_ending (has_sat_out w.house.settings ms) TimeOver w.seats)
-    (nobody_came_silencing (length later.house.live) later)
+-- the limits hold of the house's settings and of who sits, whatever else there is
+other_house : (w later : World) → later.house.settings ≡ w.house.settings → later.seats ≡ w.seats → Within w → Within later
+other_house w later settings seats l = record {
+  not_too_many = λ mount most e.
+      subst (λ (xs : List Listener). length (seats_at xs mount) ≤ most) (sym seats) (l.not_too_many mount most (ap (λ (x : Settings). most_of x mount) (sym settings) ∙ e));
+  none_twice = λ mount user id other once his theirs.
+      l.none_twice mount user id other (ap (λ (x : Settings). allows_of x mount) (sym settings) ∙ once)
+      (subst (λ (xs : List Listener). SitsAs xs id mount user) seats his) (subst (λ (xs : List Listener). SitsAs xs other mount user) seats theirs);
+} where
+  most_of : Settings → List ℕ → Option ℕ
+  most_of settings mount = (options_for settings mount).listeners.max_listeners
+
+  allows_of : Settings → List ℕ → Bool
+  allows_of settings mount = (options_for settings mount).users.allow_duplicate_users
+
+within_ended : (w : World) (mount : List ℕ) → AreByNumber w.seats → Within w → Within (session_ended w mount)
+within_ended w mount order l =
+    within_carried (session_over w mount) (SessionEnds mount) order (other_house w (session_over w mount) refl refl l)
+
+within_called : (w : World) (mount : List ℕ) → AreByNumber w.seats → Within w → Within (called_home w mount)
+within_called w mount order l = by_test (options_for w.house.settings mount).listeners.fallback_override where
+  by_test : (b : Bool) → Within (if b then carried_along w (Up mount) else w)
+  by_test true = within_carried w (Up mount) order l
+  by_test false = l
+
+within_silence_at : (n : ℕ) (w : World) → AreByNumber w.seats → Within w
+    → ((next : World) → AreByNumber next.seats → Within next → Within (silence n next)) → (found : Option Session)
+    → Within (on_silent (silence n) w found)
+within_silence_at n w order l rest None = l
+within_silence_at n w order l rest (Some session) =
+    let ended = session_ended w session.mount in
+    rest (session_silenced w session) (order_carried (session_over w session.mount) (SessionEnds session.mount) order)
+    (other_house ended (session_silenced w session) refl refl (within_ended w session.mount order l))
+
+within_silence : (n : ℕ) (w : World) → AreByNumber w.seats → Within w → Within (silence n w)
+within_silence zero w order l = l
+within_silence (suc n) w order l = within_silence_at n w order l (within_silence n) (first_silent w)
+
+-- where nobody has come, the limits hold still
+within_kept : (w later : World) → Within w → later.house.settings ≡ w.house.settings → NobodyCame w.seats later.seats → Within later
+within_kept w later l same came = record {
+  not_too_many = λ mount most e.
+      let before = l.not_too_many mount most (ap (λ (x : Settings). most_of x mount) (sym same) ∙ e) in omega (arith, came.no_more mount, before);
+  none_twice = λ mount user id other once his theirs.
+      l.none_twice mount user id other (ap (λ (x : Settings). allows_of x mount) (sym same) ∙ once) (came.sat id mount user his)
+      (came.sat other mount user theirs);
+} where
+  most_of : Settings → List ℕ → Option ℕ
+  most_of settings mount = (options_for settings mount).listeners.max_listeners
+
+  allows_of : Settings → List ℕ → Bool
+  allows_of settings mount = (options_for settings mount).users.allow_duplicate_users
 
 module _ (w : World) (s : IsSound w) (l : Within w) where
-  -- where nobody has come, the limits hold still
   within_still : (later : World) → later.house.settings ≡ w.house.settings → NobodyCame w.seats later.seats → Within later
-  within_still later same came = record {
-    not_too_many = λ mount most e.
-        let before = l.not_too_many mount most (ap (λ (x : Settings). most_in x mount) (sym same) ∙ e) in omega (arith, came.no_more mount, before);
-    none_twice = λ mount user id other once his theirs.
-        l.none_twice mount user id other (ap (λ (x : Settings). allows_in x mount) (sym same) ∙ once) (came.sat id mount user his)
-        (came.sat other mount user theirs);
-  } where
-    most_in : Settings → List ℕ → Option ℕ
-    most_in settings mount = most_at (record w { house = record w.house { settings = settings } }) mount
-
-    allows_in : Settings → List ℕ → Bool
-    allows_in settings mount = allows_duplicates_at (record w { house = record w.house { settings = settings } }) mount
+  within_still later same came = within_kept w later l same came
 
   -- a listener sits down where he is welcome
   module _ (asked : ListenRequest) (peer : Peer) (session : Session) (e : standing_of w asked.id ≡ Undecided peer)
-      (live : session_of w.house.live asked.mount ≡ Some session) (welcome : IsWelcome (found_by w asked)) where
+      (live : session_of w.house.live session.mount ≡ Some session) (welcome : MaySit (sight_of w.house) w.seats asked.pair session.mount) where
     abbrev new : Seat
     new = first_seat w.house asked peer session
 
     abbrev later : World
     later = changed w (TakeSeat asked.id new)
 
-    at_the_mount : session.mount ≡ asked.mount
-    at_the_mount = found_named w.house.live asked.mount session live
-
     still_room : (mount : List ℕ) (most : ℕ) → most_at w mount ≡ Some most → length (seats_at later.seats mount) ≤ most
     still_room mount most limit =
         by_name session.mount mount
-        (λ same.
-        let here : asked.mount ≡ mount = sym at_the_mount ∙ same in
-        let room : is_full (count_at w.seats asked.mount) (most_at w asked.mount) ≡ false = welcome.has_room in
-        let low = room_left (count_at w.seats asked.mount) most (most_at w asked.mount) (ap (most_at w) here ∙ limit) room in
+        (λ here.
+        let low = room_left (count_at w.seats session.mount) most (most_at w session.mount) (ap (most_at w) here ∙ limit) welcome.has_room in
         let below : count_at w.seats mount < most = subst (λ (m : List ℕ). count_at w.seats m < most) here low in
         omega (arith, below, one_more_at w.seats asked.id new mount))
         (λ apart. omega (arith, no_more_elsewhere w.seats asked.id new mount apart, l.not_too_many mount most limit))
@@ -135,10 +176,12 @@ module _ (w : World) (s : IsSound w) (l : Within w) where
     nobody_else mount user other once his theirs =
         let found : Some new ≡ Some his.0 = sym (has_new_seat w s asked peer session e live) ∙ his.1 in
         let one : new ≡ his.0 = cc in
-        let here : asked.mount ≡ mount = sym at_the_mount ∙ ap (λ (x : Seat). x.mount) one ∙ his.2 in
+        let here : session.mount ≡ mount = ap (λ (x : Seat). x.mount) one ∙ his.2 in
         let sent : has_user user asked.pair ≡ true = ap (λ (x : Seat). has_user user x.pair) one ∙ his.3 in
-        let off : allows_duplicates_at w asked.mount ≡ false = ap (allows_duplicates_at w) here ∙ once in
-        let none = not_there (allows_duplicates_at w asked.mount) w.seats asked.mount user asked.pair off welcome.once sent in
+        let off : allows_duplicates_at w session.mount ≡ false = ap (allows_duplicates_at w) here ∙ once in
+        let alone = not_true_at (is_twice_for (sight_of w.house) w.seats asked.pair session.mount)
+        (and_parts (lets_in w.house.lists session.mount asked.pair) _ welcome.is_open).1 in
+        let none = not_there (allows_duplicates_at w session.mount) w.seats session.mount user asked.pair off alone sent in
         nobody_sits_as w.seats other mount user (subst (λ (m : List ℕ). sits_there w.seats m user ≡ false) here none) theirs
 
     sat_before : (mount user : List ℕ) (id : ℕ) → (asked.id == id) ≡ false → SitsAs later.seats id mount user → SitsAs w.seats id mount user
@@ -166,20 +209,25 @@ module _ (w : World) (s : IsSound w) (l : Within w) where
   within_by event o (IsDenied _ rule v nobody) = l
   within_by event o (IsRefused _ him rule v his undecided) = within_still (changed w o.change) refl (nobody_came w.seats)
   within_by event o (IsAdmitted peer allowed) = within_still (changed w o.change) refl (nobody_came w.seats)
-  within_by event o (Begins asked undecided none allowed) = within_still (changed w o.change) refl (nobody_came w.seats)
+  within_by event o (Begins asked undecided none allowed) =
+      let up = record w { house = begun w.house asked.id asked.mount (shown_for w.house asked.mount asked.shown) } in
+      within_called up asked.mount s.by_number (other_house w up refl refl l)
   within_by event o (Receives him mount block feeding) =
       within_still (changed w o.change) refl
       (nobody_came_ending (lags_behind mount (live_end (received w.house mount block) mount) w.house.settings.limits.queue_size) Lagged w.seats)
   within_by event o (HasPassed ms e) = l
-  within_by event o (Ticks ms e) = within_still (changed w o.change) (ticked_fates w s ms).settings (nobody_came_ticking w ms)
+  within_by event o (Ticks ms e) =
+      within_silence (length (sat_out w s ms).house.live) (sat_out w s ms) (sound_sat_out w s ms).by_number
+      (within_still (sat_out w s ms) refl (nobody_came_ending (has_sat_out w.house.settings ms) TimeOver w.seats))
   within_by event o (SetsTitle him mount text feeding) = within_still (changed w o.change) refl (nobody_came w.seats)
-  within_by event o (TakesSeat asked peer session undecided live allowed) = within_seated asked peer session undecided live (may_listen w asked allowed)
+  within_by event o (TakesSeat asked peer session undecided lands live allowed) =
+      within_seated asked peer session undecided live (lands_where_he_fits (sight_of w.house) w.seats asked.pair asked.mount session.mount lands)
   within_by event o (HandsOut him room old session sits has live) = within_still (changed w o.change) refl (nobody_came_hearing w.seats him _ old has)
-  within_by event o (Ends him mount feeding) = within_still (changed w o.change) refl (nobody_came_finishing w.seats mount _)
+  within_by event o (Ends him mount feeding) =
+      other_house (session_ended w mount) (changed w o.change) refl refl (within_ended w mount s.by_number l)
   within_by event o (EndsAndLeaves him mount feeding) =
-      within_still (changed w o.change) refl
-      (nobody_came_twice w.seats (session_ended w mount).seats (changed w o.change).seats (nobody_came_finishing w.seats mount _)
-      (nobody_came_leaving (session_ended w mount).seats him))
+      within_kept (session_ended w mount) (changed w o.change) (within_ended w mount s.by_number l) refl
+      (nobody_came_leaving (session_ended w mount).seats him)
   within_by event o (Leaves him other) = within_still (changed w o.change) refl (nobody_came_leaving w.seats him)
 
   pub within_after : (event : Event) → Within (world_after w event)

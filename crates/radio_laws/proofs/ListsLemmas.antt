@@ -12,17 +12,19 @@ use Rattle.radio_core.specs.Finishes.{Finishes}
 use Rattle.radio_core.specs.Handing.{handed_at}
 use Rattle.radio_core.specs.Listen.{first_seat}
 use Rattle.radio_core.specs.Run.{world_after_all, run_after}
-use Rattle.radio_core.specs.SeatSteps.{SeatStep, Stays, IsHanded, SitsDown, Leaves as HeLeaves, IsEnded as HeIsEnded}
+use Rattle.radio_core.specs.SeatSteps.{SeatStep, Stays, IsHanded, SitsDown, IsMoved, Leaves as HeLeaves, IsEnded as HeIsEnded}
 use Rattle.radio_core.specs.Sound.{IsSound}
 use Rattle.radio_core.specs.Step.{world_after}
 use Rattle.radio_core.specs.Stream.{data_at}
 use Rattle.radio_core.specs.World.{World, opening, standing_of}
 use Rattle.radio_core.proofs.FinishLemmas.{undecided_before}
-use Rattle.radio_core.proofs.Lookups.{found_named}
+use Rattle.std.proofs.lemmas.Bool.{and_parts}
+use Rattle.radio_fallback.proofs.TurnLemmas.{lands_where_he_fits}
+use Rattle.radio_core.specs.Facts.{sight_of}
+use Rattle.radio_core.specs.Moves.{moved_into}
 use Rattle.radio_core.proofs.SeatSteps.{seats_step}
 use Rattle.radio_core.proofs.SessionSteps.{keeps_settings}
 use Rattle.radio_core.proofs.SoundRuns.{sound_after, sound_opening}
-use Rattle.radio_core.proofs.Ways.{may_listen}
 
 -- the address of the seat passes the address lists, and its mount lets in whoever sent its pair
 pub record IsLetIn (lists : Lists) (seat : Seat) : Type 0 where
@@ -42,13 +44,17 @@ module _ (w : World) (s : IsSound w) (k : KeepsLists w) where
       let one : record old { place = old.place + length (data_at session.stream old.place room) } ≡ seat = cc in
       let is = k.seated id old had in
       subst (λ (x : Seat). IsLetIn w.house.lists x) one (record { passing = is.passing; accepted = is.accepted })
-  seated_by C event id before bytes later (SitsDown asked peer session e his undecided live allowed) had seat has =
+  seated_by C event id before bytes later (SitsDown asked peer session e his undecided lands live allowed) had seat has =
       let one : first_seat w.house asked peer session ≡ seat = cc in
-      let name : session.mount ≡ asked.mount = found_named w.house.live asked.mount session live in
+      let fits = lands_where_he_fits (sight_of w.house) w.seats asked.pair asked.mount session.mount lands in
       subst (λ (x : Seat). IsLetIn w.house.lists x) one (record {
         passing = k.arrived id peer undecided;
-        accepted = ap (λ (mount : List ℕ). lets_in w.house.lists mount asked.pair) name ∙ (may_listen w asked allowed).accepts;
+        accepted = (and_parts (lets_in w.house.lists session.mount asked.pair) _ fits.is_open).0;
       })
+  seated_by C event id before bytes later (IsMoved old session takes sent live opens apart) had seat has =
+      let one : moved_into session old ≡ seat = cc in
+      let is = k.seated id old had in
+      subst (λ (x : Seat). IsLetIn w.house.lists x) one (record { passing = is.passing; accepted = opens })
   seated_by C event id before bytes later (HeLeaves old left) had seat has = cc
   seated_by C event id before bytes later (HeIsEnded old rule cause) had seat has = cc
 

@@ -1,5 +1,5 @@
 -- the law of service
-use Rattle.std.proofs.Common.{◌≡◌, ◌↔◌, true, ℕ, ◌+◌, ◌-◌, ◌==◌, Option, Some, None, is_some, List, length, drop, refl, ap, ◌∙◌, arith}
+use Rattle.std.proofs.Common.{◌≡◌, ◌↔◌, true, ℕ, ◌+◌, ◌-◌, ◌==◌, Option, Some, None, is_some, List, length, drop, refl, ap, sym, subst, ◌∙◌, arith}
 use Rattle.std.specs.Prelude.{min}
 use Rattle.std.proofs.lemmas.Bool.Decides.{nat_tests}
 use Rattle.std.proofs.lemmas.List.{length-take, length-drop}
@@ -24,12 +24,15 @@ use Rattle.radio_core.specs.declared.standing.Standing.{Standing}
 use Rattle.radio_core.specs.declared.standing.Standing.TheVariants.{Undecided, Feeds, Sits, Answered}
 use Rattle.radio_core.specs.World.{World, standing_of}
 use Rattle.radio_core.specs.Changes.{changed}
-use Rattle.radio_core.specs.Facts.{rows_to_arrive, rows_to_feed, rows_to_push, rows_to_listen}
+use Rattle.radio_fallback.specs.declared.walking.Landing.TheVariants.{Lands}
+use Rattle.radio_core.specs.Facts.{rows_to_arrive, rows_to_feed, rows_to_push, rows_to_listen, walks_to}
+use Rattle.radio_laws.specs.Walks.{ComesBy}
+use Rattle.radio_laws.proofs.WalkLemmas.{lands_on_his_way}
 use Rattle.radio_core.specs.Outcomes.{says, on_verdict, if_undecided, if_feeding, if_sitting}
 use Rattle.radio_core.specs.Arrive.{admits_client}
 use Rattle.radio_core.specs.Source.{shown_for, begins}
 use Rattle.radio_core.specs.Push.{takes_in}
-use Rattle.radio_core.specs.Listen.{first_seat, takes_seat}
+use Rattle.radio_core.specs.Listen.{first_seat, takes_seat, sits_where}
 use Rattle.radio_core.specs.Draw.{hands_out, hands_out_at}
 use Rattle.radio_seats.specs.Seats.{seat_of}
 use Rattle.radio_laws.specs.Service.{IsTakenIn, IsHanded, Serves, ChangesNothing}
@@ -40,12 +43,13 @@ use Rattle.radio_core.specs.Ways.{Way, Misplaced, IsFinished, IsDenied, IsRefuse
 use Rattle.radio_core.specs.Ways.{EndsAndLeaves, Leaves, HasPassed, Ticks}
 use Rattle.radio_core.specs.Clients.{client_of}
 use Rattle.radio_core.specs.Stream.{WholeStream, end_of, data_at}
-use Rattle.radio_core.proofs.Lookups.{is_new_client, is_longer, is_titled, is_over}
+use Rattle.radio_core.proofs.CalledHome.{turns_up}
+use Rattle.radio_core.proofs.Lookups.{found_named, is_new_client, is_longer, is_titled, is_over}
 use Rattle.radio_core.proofs.SoundEnds.{turns_ended}
 use Rattle.radio_core.proofs.SoundSessions.{has_advanced}
 use Rattle.radio_core.proofs.SeatedLemmas.{seat_of_sitting}
-use Rattle.radio_core.proofs.Standings.{turns_feeding, turns_sitting, turns_admitted}
-use Rattle.radio_core.proofs.Ways.{way_of, may_listen}
+use Rattle.radio_core.proofs.Standings.{turns_sitting, turns_admitted}
+use Rattle.radio_core.proofs.Ways.{way_of, may_begin, lands_at}
 
 is_allowed : (v : Verdict) (denied : Change) (allowed : Outcome) → v ≡ Allow → on_verdict v denied allowed ≡ allowed
 is_allowed Allow denied allowed e = refl
@@ -97,12 +101,13 @@ module _ (allows : (rows : List Row) → (verdict_in rows ≡ Allow) ↔ Allows 
   outcome_end id mount e = goes_feeding (standing_of w id) mount _ e
 
   outcome_listen : (asked : ListenRequest) (peer : Peer) (session : Session) → standing_of w asked.id ≡ Undecided peer
-      → verdict_in (rows_to_listen w asked) ≡ Allow → session_of w.house.live asked.mount ≡ Some session
-      → outcome w (Listen asked) ≡ takes_seat w.house asked peer (Some session)
+      → verdict_in (rows_to_listen w asked) ≡ Allow → walks_to w.house w.seats asked.mount asked.pair ≡ Lands session.mount
+      → session_of w.house.live session.mount ≡ Some session → outcome w (Listen asked) ≡ takes_seat w.house asked peer (Some session)
   unfolding outcome
-  outcome_listen asked peer session e v found =
+  outcome_listen asked peer session e v lands found =
       goes_undecided (standing_of w asked.id) peer _ e
-      ∙ is_allowed (verdict_in (rows_to_listen w asked)) _ (takes_seat w.house asked peer (session_of w.house.live asked.mount)) v
+      ∙ is_allowed (verdict_in (rows_to_listen w asked)) _ (sits_where w.house asked peer (walks_to w.house w.seats asked.mount asked.pair)) v
+      ∙ ap (sits_where w.house asked peer) lands
       ∙ ap (takes_seat w.house asked peer) found
 
   outcome_draw : (id room : ℕ) (seat : Seat) (session : Session) → standing_of w id ≡ Sits → seat_of w.seats id ≡ Some seat
@@ -130,11 +135,17 @@ module _ (allows : (rows : List Row) → (verdict_in rows ≡ Allow) ↔ Allows 
   received : (asked : ListenRequest) (peer : Peer) → standing_of w asked.id ≡ Undecided peer → Allows (rows_to_listen w asked) → IsTakenIn w asked
   received asked peer e a =
       let v = (allows (rows_to_listen w asked)).1 a in
-      let there = found_there (session_of w.house.live asked.mount) (may_listen w asked v).lives in
-      let o = outcome_listen asked peer there.0 e v there.1 in
+      let landed = lands_at w asked v in
+      let there = found_there (session_of w.house.live landed.to) landed.fits.is_live in
+      let named : there.0.mount ≡ landed.to = found_named w.house.live landed.to there.0 there.1 in
+      let way = lands_on_his_way w asked landed.to landed.lands in
+      let o = outcome_listen asked peer there.0 e v (landed.lands ∙ ap (λ (m : List ℕ). Lands m) (sym named)) (ap (session_of w.house.live) named ∙ there.1) in
       record {
         session = there.0;
-        is_live = there.1;
+        steps = way.0;
+        not_too_far = way.1;
+        on_his_way = subst (λ (m : List ℕ). ComesBy w asked.mount way.0 m) (sym named) way.2;
+        is_live = ap (session_of w.house.live) named ∙ there.1;
         is_shown = reply_is (Listen asked) (takes_seat w.house asked peer (Some there.0)) o;
         sits = after_outcome (Listen asked) (takes_seat w.house asked peer (Some there.0)) asked.id Sits o
             (turns_sitting w asked.id (first_seat w.house asked peer there.0) (λ u. cc)).his;
@@ -174,7 +185,8 @@ module _ (allows : (rows : List Row) → (verdict_in rows ≡ Allow) ↔ Allows 
         let o = outcome_source asked peer e a in (
           reply_is (Source asked) (begins w.house asked) o,
           after_outcome (Source asked) (begins w.house asked) asked.id (Feeds asked.mount) o
-              (turns_feeding w asked.id asked.mount (shown_for w.house asked.mount asked.shown) (λ u. cc)).his,
+              (turns_up w s asked.id asked.mount (shown_for w.house asked.mount asked.shown) peer e
+              (may_begin w asked ((allows (rows_to_feed w.house asked)).1 a))).his,
         );
     takes_in = λ id mount block session e live a.
         let o = outcome_push id mount block e a in (
@@ -209,7 +221,7 @@ nothing_by w event o (IsAdmitted peer allowed) = (λ d. cc, λ rule d. cc)
 nothing_by w event o (Begins asked undecided none allowed) = (λ d. cc, λ rule d. cc)
 nothing_by w event o (Receives him mount block feeding) = (λ d. cc, λ rule d. cc)
 nothing_by w event o (SetsTitle him mount text feeding) = (λ d. cc, λ rule d. cc)
-nothing_by w event o (TakesSeat asked peer session undecided live allowed) = (λ d. cc, λ rule d. cc)
+nothing_by w event o (TakesSeat asked peer session undecided lands live allowed) = (λ d. cc, λ rule d. cc)
 nothing_by w event o (HandsOut him room seat session sits has live) = (λ d. cc, λ rule d. cc)
 nothing_by w event o (Ends him mount feeding) = (λ d. cc, λ rule d. cc)
 nothing_by w event o (EndsAndLeaves him mount feeding) = (λ d. cc, λ rule d. cc)

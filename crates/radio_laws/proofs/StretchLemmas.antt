@@ -13,12 +13,14 @@ use Rattle.radio_access.specs.Lists.{Lists, passes}
 use Rattle.radio_tables.proofs.KeyLaws.{by_number, by_name}
 use Rattle.radio_events.specs.declared.event.Event.{Event}
 use Rattle.radio_events.specs.declared.event.Event.TheVariants.{Push, Title}
-use Rattle.radio_core.specs.declared.outcome.Change.TheVariants.{Receive, SetTitle}
+use Rattle.radio_core.specs.declared.outcome.Change.TheVariants.{Begin, Receive, SetTitle}
 use Rattle.radio_core.specs.declared.outcome.Outcome.{Outcome}
 use Rattle.radio_seats.specs.declared.seat.Seat.{Seat}
 use Rattle.radio_core.specs.declared.standing.Standing.TheVariants.{Unknown, Undecided, Feeds}
 use Rattle.radio_core.specs.World.{World, opening, standing_of}
-use Rattle.radio_core.specs.Changes.{changed}
+use Rattle.radio_events.specs.declared.event.SourceRequest.{SourceRequest}
+use Rattle.radio_core.specs.declared.house.House.{House}
+use Rattle.radio_core.specs.Changes.{changed, begun}
 use Rattle.radio_core.specs.Handing.{block_in, of_client, handed_at, handed, delivered_at, delivered}
 use Rattle.radio_seats.specs.Seats.{seat_of}
 use Rattle.radio_core.specs.Sessions.{Session, session_of, without_session}
@@ -32,12 +34,14 @@ use Rattle.radio_core.specs.Ways.{EndsAndLeaves, Leaves, HasPassed, Ticks}
 use Rattle.radio_core.proofs.FinishLemmas.{undecided_before}
 use Rattle.radio_core.proofs.OwnLemmas.{not_of, nothing_of}
 use Rattle.radio_laws.proofs.GoneLemmas.{his_own, with_nothing, last_rises}
-use Rattle.radio_core.proofs.Lookups.{beside_ended, is_over, found_named}
+use Rattle.radio_core.proofs.CalledHome.{house_called}
+use Rattle.radio_core.proofs.Lookups.{beside_ended, is_over}
+use Rattle.radio_core.specs.Moves.{moved_into}
 use Rattle.radio_core.proofs.SeatSteps.{seats_step}
 use Rattle.radio_core.proofs.Soundness.{burst_within}
 use Rattle.radio_core.specs.Finishes.{Finishes}
 use Rattle.radio_core.specs.Listen.{first_seat, burst_of}
-use Rattle.radio_core.specs.SeatSteps.{SeatStep, Stays, IsHanded, SitsDown, Leaves as HeLeaves, IsEnded as HeIsEnded}
+use Rattle.radio_core.specs.SeatSteps.{SeatStep, Stays, IsHanded, SitsDown, IsMoved, Leaves as HeLeaves, IsEnded as HeIsEnded}
 use Rattle.radio_policy.specs.declared.rule.Rule.{Rule}
 use Rattle.radio_core.proofs.SoundSessions.{begun_cases, grown_cases}
 use Rattle.radio_core.proofs.SoundTitles.{titled_cases}
@@ -185,23 +189,43 @@ module _ (w : World) (s : IsSound w) (sent : ℕ → List ℕ) (whole : (mount :
       hears_as sent refl refl (ap (λ xs. heard ++ xs) (between_none seat.place (sent seat.session)))
       (Listening seat past (sitting_in seat) heard stretches refl (omega arith) (omega (arith, within, size)))
 
-  hears_step : (C : Rule → Type 0) (event : Event) (id : ℕ) (before later : Option Seat) (bytes : List ℕ) → SeatStep w C event id before bytes later
-      → (past : List Sitting) (heard : List ℕ) → Hears sent before past heard → Hears sent later (past ++ begun_sittings before later) (heard ++ bytes)
-  hears_step C event id before later bytes (Stays None) past heard h = unchanged None past [] heard refl h
-  hears_step C event id before later bytes (Stays (Some seat)) past heard h =
-      unchanged (Some seat) past (begun_sittings (Some seat) (Some seat)) heard (begun_none seat seat refl) h
-  hears_step C event id before later bytes (IsHanded seat session room asked live number within) past heard h =
-      let far : Seat = record seat { place = seat.place + length (data_at session.stream seat.place room) } in
-      hears_as sent refl (sym (ap (λ xs. past ++ xs) (begun_none seat far refl) ∙ append-nil past)) refl
-      (handed_on seat session room live number within past heard h)
-  hears_step C event id before later bytes (SitsDown asked peer session e his undecided live allowed) past heard h =
-      let name : session.mount ≡ asked.mount = found_named w.house.live asked.mount session live in
-      sits_in (first_seat w.house asked peer session) session (ap (session_of w.house.live) name ∙ live) refl
-      (burst_within session (burst_of w.house session.mount) (s.starts asked.mount session live)) past heard h
-  hears_step C event id before later bytes (HeLeaves seat left) past heard h =
-      unchanged None past [] heard refl (Idle past heard (heard_so_far sent (Some seat) past heard h))
-  hears_step C event id before later bytes (HeIsEnded seat rule cause) past heard h =
-      unchanged None past [] heard refl (Idle past heard (heard_so_far sent (Some seat) past heard h))
+  -- and more was sent by then, which is what the sessions have
+  module _ (event : Event) (more : ℕ → List ℕ)
+      (whole_then : (mount : List ℕ) (session : Session) → session_of (world_after w event).house.live mount ≡ Some session
+      → session.stream.bytes ≡ sent session.number ++ more session.number) where
+    abbrev now : ℕ → List ℕ
+    now n = sent n ++ more n
+
+    hears_step : (C : Rule → Type 0) (id : ℕ) (before later : Option Seat) (bytes : List ℕ) → SeatStep w C event id before bytes later
+        → (past : List Sitting) (heard : List ℕ) → Hears sent before past heard → Hears now later (past ++ begun_sittings before later) (heard ++ bytes)
+    hears_step C id before later bytes (Stays None) past heard h =
+        hears_grown sent more None (past ++ []) (heard ++ []) (unchanged None past [] heard refl h)
+    hears_step C id before later bytes (Stays (Some seat)) past heard h =
+        hears_grown sent more (Some seat) (past ++ begun_sittings (Some seat) (Some seat)) (heard ++ [])
+        (unchanged (Some seat) past (begun_sittings (Some seat) (Some seat)) heard (begun_none seat seat refl) h)
+    hears_step C id before later bytes (IsHanded seat session room asked live number within) past heard h =
+        let far : Seat = record seat { place = seat.place + length (data_at session.stream seat.place room) } in
+        hears_grown sent more (Some far) (past ++ begun_sittings (Some seat) (Some far)) (heard ++ data_at session.stream seat.place room)
+        (hears_as sent refl (sym (ap (λ xs. past ++ xs) (begun_none seat far refl) ∙ append-nil past)) refl
+        (handed_on seat session room live number within past heard h))
+    hears_step C id before later bytes (SitsDown asked peer session e his undecided lands live allowed) past heard h =
+        let seat = first_seat w.house asked peer session in
+        hears_grown sent more (Some seat) (past ++ sitting_in seat ∷ []) (heard ++ [])
+        (sits_in seat session live refl
+        (burst_within session (burst_of w.house session.mount) (s.starts session.mount session live)) past heard h)
+    hears_step C id before later bytes (IsMoved seat session takes why live opens apart) past heard h =
+        let new = moved_into session seat in
+        let started : begun_sittings (Some seat) (Some new) ≡ sitting_in new ∷ [] = ap (λ (b : Bool). if b then [] else sitting_in new ∷ []) apart in
+        let so_far = heard_so_far now (Some seat) past heard (hears_grown sent more (Some seat) past heard h) in
+        let size : end_of session.stream ≡ length (now session.number) = ap length (whole_then session.mount session live) in
+        hears_as now refl (ap (λ xs. past ++ xs) (sym started)) (ap (λ xs. heard ++ xs) (between_none new.place (now new.session)))
+        (Listening new past (sitting_in new) heard so_far refl (omega arith) (omega (arith, size)))
+    hears_step C id before later bytes (HeLeaves seat left) past heard h =
+        hears_grown sent more None (past ++ []) (heard ++ [])
+        (unchanged None past [] heard refl (Idle past heard (heard_so_far sent (Some seat) past heard h)))
+    hears_step C id before later bytes (HeIsEnded seat rule cause) past heard h =
+        hears_grown sent more None (past ++ []) (heard ++ [])
+        (unchanged None past [] heard refl (Idle past heard (heard_so_far sent (Some seat) past heard h)))
 
 -- what was sent so far is what the sessions have
 
@@ -209,6 +233,14 @@ record Sent (w : World) (sent : ℕ → List ℕ) : Type 0 where
   pub whole : (mount : List ℕ) (session : Session) → session_of w.house.live mount ≡ Some session → session.stream.bytes ≡ sent session.number
   pub none_yet : (id : ℕ) (peer : Peer) → standing_of w id ≡ Undecided peer → sent id ≡ []
   pub none_above : (id : ℕ) → w.house.last_id < id → sent id ≡ []
+
+-- who are called home change no session
+pub was_begun : (w : World) (asked : SourceRequest) (mount : List ℕ) (session : Session)
+    → session_of (changed w (Begin asked.id asked.mount (shown_for w.house asked.mount asked.shown))).house.live mount ≡ Some session
+    → session_of (begun w.house asked.id asked.mount (shown_for w.house asked.mount asked.shown)).live mount ≡ Some session
+was_begun w asked mount session e =
+    let up = record w { house = begun w.house asked.id asked.mount (shown_for w.house asked.mount asked.shown) } in
+    ap (λ (h : House). session_of h.live mount) (sym (house_called up asked.mount)) ∙ e
 
 module _ (w : World) (s : IsSound w) (sent : ℕ → List ℕ) (h : Sent w sent) where
   -- only a source brings something
@@ -225,7 +257,7 @@ module _ (w : World) (s : IsSound w) (sent : ℕ → List ℕ) (h : Sent w sent)
   brings_nothing event o (HasPassed ms e) id not = refl
   brings_nothing event o (Ticks ms e) id not = refl
   brings_nothing event o (Begins asked undecided none allowed) id not = nothing_of event id [] refl
-  brings_nothing event o (TakesSeat asked peer session undecided live allowed) id not = nothing_of event id [] refl
+  brings_nothing event o (TakesSeat asked peer session undecided lands live allowed) id not = nothing_of event id [] refl
   brings_nothing event o (HandsOut him room seat session sits has live) id not = nothing_of event id [] refl
   brings_nothing event o (Ends him mount feeding) id not = nothing_of event id [] refl
   brings_nothing event o (EndsAndLeaves him mount feeding) id not = nothing_of event id [] refl
@@ -289,7 +321,8 @@ module _ (w : World) (s : IsSound w) (sent : ℕ → List ℕ) (h : Sent w sent)
   whole_by event o (HasPassed ms e) = as_it_was event
   whole_by event o (Ticks ms e) = λ mount session h. as_it_was event mount session ((ticked_fates w s ms).live mount session h)
   whole_by event o (Begins asked undecided none allowed) = λ mount session e.
-      begun_cases w s asked.id asked.mount (shown_for w.house asked.mount asked.shown) undecided.0 undecided.1 none mount session e
+      begun_cases w s asked.id asked.mount (shown_for w.house asked.mount asked.shown) undecided.0 undecided.1 none mount session
+      (was_begun w asked mount session e)
       (λ same one. subst (λ (x : Session). x.stream.bytes ≡ sent x.number ++ of_client event x.number []) one
       (sym (h.none_yet asked.id undecided.0 undecided.1) ∙ with_nothing (sent asked.id) (of_client event asked.id []) (nothing_of event asked.id [] refl)))
       (λ old. as_it_was event mount session old)
@@ -300,7 +333,7 @@ module _ (w : World) (s : IsSound w) (sent : ℕ → List ℕ) (h : Sent w sent)
   whole_by event o (IsDenied _ by v nobody) = as_it_was event
   whole_by event o (IsRefused _ him by v its undecided) = as_it_was event
   whole_by event o (IsAdmitted peer allowed) = as_it_was event
-  whole_by event o (TakesSeat asked peer session undecided live allowed) = as_it_was event
+  whole_by event o (TakesSeat asked peer session undecided lands live allowed) = as_it_was event
   whole_by event o (HandsOut him room seat session sits has live) = as_it_was event
   whole_by event o (Leaves him other) = as_it_was event
 
@@ -338,11 +371,12 @@ all_stretches w s sent h id past heard so_far (event ∷ events) =
     let step = seats_step w s event id in
     let begun = begun_sittings (seat_of w.seats id) (seat_of later.seats id) in
     let bytes = handed_at w event id in
-    let heard_now = hears_step w s sent h.whole (Finishes w event id) event id (seat_of w.seats id) (seat_of later.seats id) bytes step past heard so_far in
     let more = λ (n : ℕ). delivered_at w event n in
     let now = λ (n : ℕ). sent n ++ more n in
-    let grown = hears_grown sent more (seat_of later.seats id) (past ++ begun) (heard ++ bytes) heard_now in
-    let rest = all_stretches later (sound_after w s event) now (sent_step w s sent h event) id (past ++ begun) (heard ++ bytes) grown events in
+    let sent_now = sent_step w s sent h event in
+    let heard_now = hears_step w s sent h.whole event more sent_now.whole (Finishes w event id) id (seat_of w.seats id) (seat_of later.seats id) bytes step
+    past heard so_far in
+    let rest = all_stretches later (sound_after w s event) now sent_now id (past ++ begun) (heard ++ bytes) heard_now events in
     same_stretches (λ n. now n ++ delivered later events n) (λ n. sent n ++ (more n ++ delivered later events n))
     (λ n. append_assoc (sent n) (more n) (delivered later events n)) (past ++ (begun ++ sittings later events id))
     (heard ++ (bytes ++ handed later events id))

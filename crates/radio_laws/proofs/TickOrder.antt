@@ -1,38 +1,65 @@
 -- who is ended at a moment, by which rule
-use Rattle.std.proofs.Common.{◌≡◌, true, false, Bool, ℕ, Option, Some, None, List, refl, ap, sym, subst, ◌∙◌}
+use Rattle.std.proofs.Common.{◌≡◌, ◌⊎◌, inl, inr, true, false, Bool, ℕ, zero, suc, ◌==◌, Option, Some, None, is_some, List, length, refl, ap, sym, subst, ◌∙◌}
 use Rattle.std.specs.Prelude.{if◌then◌else◌}
 use Rattle.std.specs.Option.{option_map}
+use Rattle.std.specs.Str.{bytes_eq}
+use Rattle.std.proofs.lemmas.Slice.Eq.{bytes_eq-Decides}
 use Rattle.radio_policy.specs.declared.rule.Rule.{Rule}
 use Rattle.radio_policy.specs.declared.rule.Rule.TheVariants.{HeaderTimeout, TimeOver, SourceSilent, NotLive}
+use Rattle.radio_settings.specs.Options.{options_for}
+use Rattle.radio_tables.proofs.KeyLaws.{by_number, by_name}
 use Rattle.radio_seats.specs.declared.seat.Listener.{Listener}
 use Rattle.radio_seats.specs.declared.seat.Seat.{Seat}
-use Rattle.radio_seats.proofs.EndLaws.{kept_seat}
-use Rattle.radio_seats.specs.Seats.{listener_of, seat_of}
+use Rattle.radio_seats.specs.declared.seat.Seating.{Seating}
+use Rattle.radio_seats.specs.declared.seat.Seating.TheVariants.{Sits as HasSeat, Finished as HasLostIt}
+use Rattle.radio_seats.proofs.EndLaws.{LosesSeat, have_ended, same_or_loses}
+use Rattle.radio_seats.proofs.SeatLaws.{listener_seated}
+use Rattle.radio_seats.specs.Seats.{listener_of, seat_held, seat_in, seat_of, ended_if, finished_if, without_listener}
+use Rattle.radio_fallback.specs.declared.moves.Move.TheVariants.{Ended as SessionEnds}
+use Rattle.radio_fallback.specs.declared.moves.Turn.{Turn}
+use Rattle.radio_fallback.specs.declared.moves.Turn.TheVariants.{Stays as TurnStays, GoesTo, IsOut}
+use Rattle.radio_fallback.specs.declared.walking.Found.{Found}
+use Rattle.radio_fallback.specs.declared.walking.Landing.{Landing}
+use Rattle.radio_fallback.specs.declared.walking.Landing.TheVariants.{Lands, Stops}
+use Rattle.radio_fallback.specs.Walk.{found_at, stop_of, stop_in, landing}
+use Rattle.radio_fallback.specs.Carry.{walks_on, turn_in, at_his_turn}
+use Rattle.radio_fallback.proofs.Faring.{Faring, HasStayed, HasGone, HasLost, fares, sits_as_before}
+use Rattle.radio_fallback.proofs.WalkLaws.{stopped_where_it_begins}
 use Rattle.radio_events.specs.declared.event.Event.TheVariants.{Clock}
 use Rattle.radio_core.specs.declared.clients.Client.{Client}
 use Rattle.radio_core.specs.declared.clients.ClientState.TheVariants.{Undecided as IsNew, Ended}
 use Rattle.radio_core.specs.declared.outcome.Change.TheVariants.{Nothing, Tick}
 use Rattle.radio_core.specs.declared.standing.Standing.{Standing}
 use Rattle.radio_core.specs.declared.standing.Standing.TheVariants.{Undecided, Feeds, Sits, Finished}
-use Rattle.radio_core.specs.Changes.{changed, ticked}
+use Rattle.radio_core.specs.Changes.{changed, session_over, session_ended, first_silent, session_silenced, on_silent, silence, ticked}
 use Rattle.radio_core.specs.Clients.{client_of, with_state}
+use Rattle.radio_core.specs.Facts.{sight_of}
 use Rattle.radio_core.specs.Finishes.{Cause, SessionIsOver, IsFarBehind, HasSatOut, HasAskedNothing, HasSentNothing}
+use Rattle.radio_core.specs.Moves.{IsOnTheWay, AtFirst, OneMore, TakesTo, his_turn}
 use Rattle.radio_laws.specs.Outstaying.{IsInTime, IsEndedInOrder, NobodyOutstays}
 use Rattle.radio_core.specs.Sessions.{Session, session_of}
 use Rattle.radio_core.specs.Sound.{IsSound}
 use Rattle.radio_core.specs.Step.{outcome, world_after}
 use Rattle.radio_core.specs.Timeouts.{asks_too_late, timed_out, has_sat_out, is_silent}
 use Rattle.radio_core.specs.World.{World, standing_of, standing_in}
-use Rattle.radio_core.proofs.Fates.{Fate, GoesOn, IsEnded, Fates, IsActive, stops_there}
-use Rattle.radio_core.proofs.TickLemmas.{asking_at, clients_after, timed, sat_out, sound_timed, fates_sat_out, fates_silence, ticked_fates}
+use Rattle.radio_core.proofs.ApartLemmas.{found_own}
+use Rattle.radio_core.proofs.Fates.{Fate, GoesOn, IsEnded, HasStopped, IsMoved, HasEnded, Nobody, IsActive, sound_fates, fates_then, lost_in}
+use Rattle.radio_core.proofs.Lookups.{is_over}
+use Rattle.radio_core.proofs.TickLemmas.{ClockCause, ClockCarries, ClockFates, asking_at, clients_after, timed, sat_out, sound_timed, sound_sat_out}
+use Rattle.radio_core.proofs.TickLemmas.{fates_sat_out, until_sat_out, silenced_fates, turned, fates_silence, ticked_fates}
 use Rattle.radio_laws.proofs.InTime.{in_time}
 
 -- who has finished stays so
-finished_on : (w later : World) (ms id : ℕ) (rule : Rule) → Fates w later (Clock ms) → standing_of w id ≡ Finished rule → standing_of later id ≡ Finished rule
-finished_on w later ms id rule f e = by_fate (f.fate id) where
-  by_fate : Fate w later (Clock ms) id → standing_of later id ≡ Finished rule
-  by_fate (GoesOn same seat feeds sits) = same ∙ e
-  by_fate (IsEnded other cause active ended none over) = absurd (subst (λ (x : Standing). IsActive x) e active)
+module _ (w : World) (s : IsSound w) (ms : ℕ) (from later : World) (f : ClockFates w s ms from later) (id : ℕ) (rule : Rule)
+    (e : standing_of from id ≡ Finished rule) where
+  finished_on : standing_of later id ≡ Finished rule
+  finished_on = by_fate (f.fate id) where
+    by_fate : Fate (Cause w (ticked w ms) (Clock ms)) (λ him session. TakesTo w (Clock ms) him session.mount) Nobody HasEnded from later id
+        → standing_of later id ≡ Finished rule
+    by_fate (GoesOn same seat feeds sits) = same ∙ e
+    by_fate (IsEnded other cause active ended none over) = absurd (subst (λ (x : Standing). IsActive x) e active)
+    by_fate (HasStopped mount why feeding done none over) = absurd why
+    by_fate (IsMoved old session carries left had has same live opens) = same ∙ e
 
 -- a client who has asked for nothing is undecided
 new_in : (listener : Option Listener) (found : Option Client) (client : Client) → found ≡ Some client → client.state ≡ IsNew
@@ -55,29 +82,33 @@ module _ (w : World) (s : IsSound w) (ms : ℕ) where
   -- a seat that ends when durations are looked at ends by them
   time_over : (id : ℕ) (seat : Seat) → seat_of w.seats id ≡ Some seat → has_sat_out w.house.settings ms seat ≡ true
       → standing_of (sat_out w s ms) id ≡ Finished TimeOver
-  time_over id seat has out = by_fate ((fates_sat_out w s ms).fate id) where
-    sits : standing_of (timed w s ms) id ≡ Sits
-    sits = (sound_timed w s ms).sitting id seat has
+  time_over id seat has out =
+      ap (λ l. standing_in l client) (have_ended test TimeOver w.seats id ∙ ap (option_map (finished_if test TimeOver)) listener.1)
+      ∙ by_seating listener.0.seating listener.2
+    where
+      test : Seat → Bool
+      test = has_sat_out w.house.settings ms
 
-    by_cause : {rule : Rule} → Cause (timed w s ms) (sat_out w s ms) (Clock ms) id rule → rule ≡ TimeOver
-    by_cause (SessionIsOver _ old session had live over stops) =
-        let both : None ≡ Some session = sym over ∙ live in cc
-    by_cause (IsFarBehind him block old e feeds had behind) = cc
-    by_cause (HasSatOut moment old e had was_out) = refl
-    by_cause (HasAskedNothing moment client e found late) =
-        let new : client.state ≡ IsNew = asking_at w.house.settings.limits.header_timeout moment client.arrived client.state late in
-        let undecided : standing_of (timed w s ms) id ≡ Undecided client.peer =
-        new_in (listener_of w.seats id) (client_of (timed w s ms).house.clients id) client found new in
-        let sat : standing_of (timed w s ms) id ≡ Sits = sits in
-        cc
-    by_cause (HasSentNothing moment session e feeds live silent) = let sat : standing_of (timed w s ms) id ≡ Sits = sits in cc
+      client : Option Client
+      client = client_of (timed w s ms).house.clients id
 
-    by_fate : Fate (timed w s ms) (sat_out w s ms) (Clock ms) id → standing_of (sat_out w s ms) id ≡ Finished TimeOver
-    by_fate (GoesOn same seats feeds goes) =
-        let still : seat_of (sat_out w s ms).seats id ≡ Some seat = seats ∙ has in
-        let not : has_sat_out w.house.settings ms seat ≡ false = kept_seat (has_sat_out w.house.settings ms) TimeOver w.seats id seat still in
-        cc
-    by_fate (IsEnded rule cause active ended none over) = ended ∙ ap (λ (r : Rule). Finished r) (by_cause cause)
+      listener : (him : Listener) × (listener_of w.seats id ≡ Some him) × (seat_held him.seating ≡ Some seat)
+      listener = listener_seated w.seats id seat has
+
+      sits : standing_of (timed w s ms) id ≡ Sits
+      sits = (sound_timed w s ms).sitting id seat has
+
+      ends : (b : Bool) (him : ℕ) (other : Seating) → b ≡ true
+          → standing_in (Some (record { id = him; seating = (if b then HasLostIt TimeOver else other) })) client ≡ Finished TimeOver
+      ends true him other e = lost_in (listener_of w.seats id) him TimeOver client sits
+      ends false him other e = cc
+
+      by_seating : (seating : Seating) → seat_held seating ≡ Some seat
+          → standing_in (Some (record { id = listener.0.id; seating = ended_if test TimeOver seating })) client ≡ Finished TimeOver
+      by_seating (HasSeat held) e =
+          let same : held ≡ seat = cc in
+          ends (test held) listener.0.id (HasSeat held) (ap test same ∙ out)
+      by_seating (HasLostIt rule) e = cc
 
   -- no session is left that was silent
   not_silent : (mount : List ℕ) (session : Session) → session_of (ticked w ms).house.live mount ≡ Some session
@@ -92,7 +123,7 @@ module _ (w : World) (s : IsSound w) (ms : ℕ) where
     feeding = s.fed mount session live
 
     by_cause : {rule : Rule} → Cause w (ticked w ms) (Clock ms) session.number rule → rule ≡ SourceSilent
-    by_cause (SessionIsOver _ seat old has there over stops) =
+    by_cause (SessionIsOver _ seat has leaves) =
         let sat : standing_of w session.number ≡ Sits = s.sitting session.number seat has in
         let feeds : standing_of w session.number ≡ Feeds mount = feeding in cc
     by_cause (IsFarBehind him block seat e feeds has behind) = cc
@@ -107,54 +138,158 @@ module _ (w : World) (s : IsSound w) (ms : ℕ) where
         cc
     by_cause (HasSentNothing moment other e feeds there is) = refl
 
-    by_fate : Fate w (ticked w ms) (Clock ms) session.number → standing_of (ticked w ms) session.number ≡ Finished SourceSilent
+    by_fate : Fate (Cause w (ticked w ms) (Clock ms)) (λ id session. TakesTo w (Clock ms) id session.mount) Nobody HasEnded w (ticked w ms) session.number
+        → standing_of (ticked w ms) session.number ≡ Finished SourceSilent
     by_fate (GoesOn same seat feeds goes) =
         let still : session_of (ticked w ms).house.live mount ≡ Some session = feeds mount feeding ∙ live in
         let not : is_silent w.house.settings.limits.source_timeout ms session ≡ false = not_silent mount session still in
         cc
     by_fate (IsEnded rule cause active ended none over) = ended ∙ ap (λ (r : Rule). Finished r) (by_cause cause)
+    by_fate (HasStopped other why feeds done none over) = absurd why
+    by_fate (IsMoved old to carries left had has same lives opens) =
+        let sat : standing_of w session.number ≡ Sits = s.sitting session.number old had in
+        let feeds : standing_of w session.number ≡ Feeds mount = feeding in cc
 
-  left_there : (id : ℕ) (seat : Seat) (session : Session) → seat_of w.seats id ≡ Some seat → has_sat_out w.house.settings ms seat ≡ false
-      → session_of w.house.live seat.mount ≡ Some session → is_silent w.house.settings.limits.source_timeout ms session ≡ true
-      → standing_of (ticked w ms) id ≡ Finished NotLive
-  left_there id seat session has not_out live silent = by_fate ((ticked_fates w s ms).fate id) where
-    sits : standing_of w id ≡ Sits
-    sits = s.sitting id seat has
+  -- where a listener's mount has no fallback, he sits there until its session ends, and is finished then
+  module _ (id : ℕ) (seat : Seat) (no_fallback : (options_for w.house.settings seat.mount).listeners.fallback_mount ≡ None) where
+    -- the seat that he has still, or that he has finished since his mount is not live any more
+    abbrev IsStillOrOut : World → Type 0
+    IsStillOrOut now = (seat_of now.seats id ≡ Some seat) ⊎ (standing_of now id ≡ Finished NotLive)
 
-    by_cause : {rule : Rule} → Cause w (ticked w ms) (Clock ms) id rule → rule ≡ NotLive
-    by_cause {rule} (SessionIsOver _ old other had there over stops) =
-        let both : Some rule ≡ Some NotLive = sym stops ∙ stops_there (ticked w ms) old over in cc
-    by_cause (IsFarBehind him block old e feeds had behind) = cc
-    by_cause (HasSatOut moment old e had out) =
-        let same : Some seat ≡ Some old = sym has ∙ had in
+    -- a move takes him nowhere
+    out_by_turn : (during : World) (mount : List ℕ) → during.house.settings ≡ w.house.settings → seat_of during.seats id ≡ Some seat → seat.mount ≡ mount
+        → his_turn (session_over during mount) (SessionEnds mount) id ≡ IsOut NotLive
+    out_by_turn during mount same has there =
+        let over = session_over during mount in
+        let sight = sight_of over.house in
+        let then_seats = at_his_turn sight (SessionEnds mount) during.seats id in
+        let others = without_listener then_seats id in
+        let sits : seat_of then_seats id ≡ Some seat = ap seat_in (sits_as_before sight (SessionEnds mount) during.seats id) ∙ has in
+        let here : bytes_eq seat.mount mount ≡ true = (bytes_eq-Decides seat.mount mount).1 there in
+        let none : sight.fallback mount ≡ None =
+        ap (λ settings. (options_for settings mount).listeners.fallback_mount) same
+        ∙ ap (λ (m : List ℕ). (options_for w.house.settings m).listeners.fallback_mount) (sym there) ∙ no_fallback in
+        ap (turn_in sight others (SessionEnds mount)) sits
+        ∙ chosen (bytes_eq seat.mount mount) (walks_on (landing sight others seat.pair mount)) here
+        ∙ stops (landing sight others seat.pair mount)
+        (stopped_where_it_begins sight others mount seat.pair none
+        ∙ idle (found_at sight others mount seat.pair) (ap is_some (is_over during.house.live mount))) where
+          chosen : (b : Bool) (turn : Turn) → b ≡ true → (if b then turn else TurnStays) ≡ turn
+          chosen true turn e = refl
+          chosen false turn e = cc
+
+          idle : (found : Found) → found.is_live ≡ false → stop_of found ≡ Some NotLive
+          idle found e = rw e refl
+
+          stops : (l : Landing) → stop_in l ≡ Some NotLive → walks_on l ≡ IsOut NotLive
+          stops (Lands to) e = cc
+          stops (Stops rule) e = let same : rule ≡ NotLive = cc in ap (λ (r : Rule). IsOut r) same
+
+    out_by_fare : (during : World) (mount : List ℕ) → IsSound during → during.house.settings ≡ w.house.settings → seat_of during.seats id ≡ Some seat
+        → seat.mount ≡ mount → Faring (sight_of (session_over during mount).house) (SessionEnds mount) during.seats id
+        → standing_of (session_ended during mount) id ≡ Finished NotLive
+    out_by_fare during mount sound same has there (HasStayed stays turn) =
+        let both : IsOut NotLive ≡ TurnStays = sym (out_by_turn during mount same has there) ∙ turn seat has in cc
+    out_by_fare during mount sound same has there (HasGone old to turn had concerned fits now) =
+        let both : IsOut NotLive ≡ GoesTo to = sym (out_by_turn during mount same has there) ∙ turn in cc
+    out_by_fare during mount sound same has there (HasLost old rule turn had concerned now) =
+        let both : IsOut NotLive ≡ IsOut rule = sym (out_by_turn during mount same has there) ∙ turn in
+        let one : NotLive ≡ rule = cc in
+        ap (λ l. standing_in l (client_of during.house.clients id)) now
+        ∙ lost_in (listener_of during.seats id) id rule (client_of during.house.clients id) (sound.sitting id seat has)
+        ∙ ap (λ (r : Rule). Finished r) (sym one)
+
+    still_there : (during : World) (mount : List ℕ) → IsSound during → seat_of during.seats id ≡ Some seat → bytes_eq seat.mount mount ≡ false
+        → Faring (sight_of (session_over during mount).house) (SessionEnds mount) during.seats id
+        → seat_of (session_ended during mount).seats id ≡ Some seat
+    still_there during mount sound has away (HasStayed stays turn) = ap seat_in stays ∙ has
+    still_there during mount sound has away (HasGone old to turn had concerned fits now) =
+        let both : Some seat ≡ Some old = sym has ∙ had in
         let one : seat ≡ old = cc in
-        let now : ms ≡ moment = cc in
-        let not : has_sat_out w.house.settings moment old ≡ false =
-        ap (λ (x : Seat). has_sat_out w.house.settings moment x) (sym one) ∙ ap (λ (m : ℕ). has_sat_out w.house.settings m seat) (sym now) ∙ not_out in
+        let there : bytes_eq seat.mount mount ≡ true = ap (λ (x : Seat). bytes_eq x.mount mount) one ∙ concerned in
         cc
-    by_cause (HasAskedNothing moment client e found late) =
-        let new : client.state ≡ IsNew = asking_at w.house.settings.limits.header_timeout moment client.arrived client.state late in
-        let undecided : standing_of w id ≡ Undecided client.peer =
-        new_in (listener_of w.seats id) (client_of w.house.clients id) client found new in
-        let sat : standing_of w id ≡ Sits = sits in
+    still_there during mount sound has away (HasLost old rule turn had concerned now) =
+        let both : Some seat ≡ Some old = sym has ∙ had in
+        let one : seat ≡ old = cc in
+        let there : bytes_eq seat.mount mount ≡ true = ap (λ (x : Seat). bytes_eq x.mount mount) one ∙ concerned in
         cc
-    by_cause (HasSentNothing moment other e feeds there is) = let sat : standing_of w id ≡ Sits = sits in cc
 
-    by_fate : Fate w (ticked w ms) (Clock ms) id → standing_of (ticked w ms) id ≡ Finished NotLive
-    by_fate (GoesOn same seats feeds goes) =
-        let still : session_of (ticked w ms).house.live seat.mount ≡ Some session = goes seat has ∙ live in
-        let not : is_silent w.house.settings.limits.source_timeout ms session ≡ false = not_silent seat.mount session still in
-        cc
-    by_fate (IsEnded rule cause active ended none over) = ended ∙ ap (λ (r : Rule). Finished r) (by_cause cause)
+    -- after a silent session has ended
+    after_silence : (during : World) (session : Session) → IsSound during → during.house.settings ≡ w.house.settings → first_silent during ≡ Some session
+        → IsStillOrOut during → IsSound (session_silenced during session)
+        → (standing_of during id ≡ Finished NotLive → standing_of (session_silenced during session) id ≡ Finished NotLive)
+        → ((session.number == id) ≡ false → standing_of (session_silenced during session) id ≡ standing_of (session_ended during session.mount) id)
+        → IsStillOrOut (session_silenced during session)
+    after_silence during session sound same found (inr out) next stays others = inr (stays out)
+    after_silence during session sound same found (inl has) next stays others =
+        let mount = session.mount in
+        let fare = fares (sight_of (session_over during mount).house) (SessionEnds mount) during.seats sound.by_number id in
+        by_name seat.mount mount
+        (λ there.
+        by_number session.number id
+        (λ his. absurd (no_source his))
+        (λ other. inr (others other ∙ out_by_fare during mount sound same has there fare)))
+        (λ away. inl (still_there during mount sound has away fare)) where
+          no_source : session.number ≡ id → ⊥
+          no_source his =
+              let live = found_own (is_silent during.house.settings.limits.source_timeout during.house.time) during.house.live session sound.apart found in
+              let feeds : standing_of during session.number ≡ Feeds session.mount = sound.fed session.mount session live in
+              let sat : standing_of during session.number ≡ Sits = ap (standing_of during) his ∙ sound.sitting id seat has in
+              cc
+
+    keeps_at : (n : ℕ) (during : World) (sound : IsSound during) (way : IsOnTheWay (sat_out w s ms) during) (now : during.house.time ≡ ms)
+        (so_far : ClockFates w s ms w during) → IsStillOrOut during
+        → ((next : World) → IsSound next → IsOnTheWay (sat_out w s ms) next → next.house.time ≡ ms → ClockFates w s ms w next → IsStillOrOut next
+        → IsStillOrOut (silence n next))
+        → (found : Option Session) → first_silent during ≡ found → IsStillOrOut (on_silent (silence n) during found)
+    keeps_at n during sound way now so_far holds rest None e = holds
+    keeps_at n during sound way now so_far holds rest (Some session) e =
+        let next = session_silenced during session in
+        let f = silenced_fates w s ms during sound way now so_far session e in
+        let sound_next = sound_fates (ClockCause w s ms) (ClockCarries w s ms) Nobody HasEnded during next sound f in
+        rest next sound_next (OneMore during session way e) now (fates_then (ClockCause w s ms) (ClockCarries w s ms) w during next so_far f)
+        (after_silence during session sound so_far.settings e holds sound_next (λ out. finished_on w s ms during next f id NotLive out)
+        (λ other. (turned w s ms during sound way now so_far session e).others id other))
+
+    keeps : (n : ℕ) (during : World) → IsSound during → IsOnTheWay (sat_out w s ms) during → during.house.time ≡ ms → ClockFates w s ms w during
+        → IsStillOrOut during → IsStillOrOut (silence n during)
+    keeps zero during sound way now so_far holds = holds
+    keeps (suc n) during sound way now so_far holds = keeps_at n during sound way now so_far holds (keeps n) (first_silent during) refl
+
+    left_there : (session : Session) → seat_of w.seats id ≡ Some seat → has_sat_out w.house.settings ms seat ≡ false
+        → session_of w.house.live seat.mount ≡ Some session → is_silent w.house.settings.limits.source_timeout ms session ≡ true
+        → standing_of (ticked w ms) id ≡ Finished NotLive
+    left_there session has not_out live silent =
+        by_end (keeps (length (sat_out w s ms).house.live) (sat_out w s ms) (sound_sat_out w s ms) AtFirst refl (until_sat_out w s ms)
+        (inl (by_loss (same_or_loses (has_sat_out w.house.settings ms) TimeOver w.seats id)))) where
+          by_loss : (listener_of (sat_out w s ms).seats id ≡ listener_of w.seats id)
+              ⊎ LosesSeat (has_sat_out w.house.settings ms) TimeOver (listener_of w.seats id) (listener_of (sat_out w s ms).seats id)
+              → seat_of (sat_out w s ms).seats id ≡ Some seat
+          by_loss (inl same) = ap seat_in same ∙ has
+          by_loss (inr loses) =
+              let both : Some loses.seat ≡ Some seat = sym loses.had_a_seat ∙ has in
+              let one : loses.seat ≡ seat = cc in
+              let out : has_sat_out w.house.settings ms seat ≡ true = ap (has_sat_out w.house.settings ms) (sym one) ∙ loses.holds in
+              cc
+
+          by_end : IsStillOrOut (ticked w ms) → standing_of (ticked w ms) id ≡ Finished NotLive
+          by_end (inr out) = out
+          by_end (inl still) =
+              let now = (sound_fates (ClockCause w s ms) (ClockCarries w s ms) Nobody HasEnded w (ticked w ms) s (ticked_fates w s ms)).seated id seat still in
+              let both : Some session ≡ Some now.session = sym live ∙ (ticked_fates w s ms).live seat.mount now.session now.is_live in
+              let one : session ≡ now.session = cc in
+              let not : is_silent w.house.settings.limits.source_timeout ms session ≡ false =
+              ap (is_silent w.house.settings.limits.source_timeout ms) one ∙ not_silent seat.mount now.session now.is_live in
+              cc
 
   ended_in_order : IsEndedInOrder w (ticked w ms) ms
   ended_in_order = record {
     clients = λ id client found late.
-        finished_on (sat_out w s ms) (ticked w ms) ms id HeaderTimeout (fates_silence w s ms)
-        (finished_on (timed w s ms) (sat_out w s ms) ms id HeaderTimeout (fates_sat_out w s ms) (too_late id client found late));
-    seats = λ id seat has out. finished_on (sat_out w s ms) (ticked w ms) ms id TimeOver (fates_silence w s ms) (time_over id seat has out);
+        finished_on w s ms (sat_out w s ms) (ticked w ms) (fates_silence w s ms) id HeaderTimeout
+        (finished_on w s ms (timed w s ms) (sat_out w s ms) (fates_sat_out w s ms) id HeaderTimeout (too_late id client found late));
+    seats = λ id seat has out. finished_on w s ms (sat_out w s ms) (ticked w ms) (fates_silence w s ms) id TimeOver (time_over id seat has out);
     sources = silent_source;
-    listeners = left_there;
+    listeners = λ id seat session has not_out live silent none. left_there id seat none session has not_out live silent;
   }
 
   pub nobody_outstays : NobodyOutstays w ms

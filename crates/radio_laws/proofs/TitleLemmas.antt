@@ -28,6 +28,7 @@ use Rattle.radio_core.specs.Ways.{EndsAndLeaves, Leaves, HasPassed, Ticks}
 use Rattle.radio_laws.proofs.AccessLemmas.{access_holds}
 use Rattle.radio_core.proofs.FinishLemmas.{undecided_before}
 use Rattle.radio_core.proofs.OwnLemmas.{not_of, nothing_of}
+use Rattle.radio_laws.proofs.StretchLemmas.{was_begun}
 use Rattle.radio_laws.proofs.GoneLemmas.{his_own, with_nothing, last_rises}
 use Rattle.radio_laws.proofs.ListsLemmas.{lists_run}
 use Rattle.radio_laws.proofs.LimitLemmas.{within_run}
@@ -75,7 +76,7 @@ module _ (w : World) (s : IsSound w) (told : ℕ → List (List ℕ)) (h : Told 
   sets_nothing event o (Ticks ms e) id not = refl
   sets_nothing event o (Begins asked undecided none allowed) id not = nothing_of event id [] refl
   sets_nothing event o (Receives him mount block feeding) id not = nothing_of event id [] refl
-  sets_nothing event o (TakesSeat asked peer session undecided live allowed) id not = nothing_of event id [] refl
+  sets_nothing event o (TakesSeat asked peer session undecided lands live allowed) id not = nothing_of event id [] refl
   sets_nothing event o (HandsOut him room seat session sits has live) id not = nothing_of event id [] refl
   sets_nothing event o (Ends him mount feeding) id not = nothing_of event id [] refl
   sets_nothing event o (EndsAndLeaves him mount feeding) id not = nothing_of event id [] refl
@@ -139,7 +140,8 @@ module _ (w : World) (s : IsSound w) (told : ℕ → List (List ℕ)) (h : Told 
   last_by event o (Ticks ms e) = λ mount session h. as_it_was event mount session ((ticked_fates w s ms).live mount session h)
   last_by event o (Receives him mount block feeding) = grown_title him mount block feeding
   last_by event o (Begins asked undecided none allowed) = λ mount session e.
-      begun_cases w s asked.id asked.mount (shown_for w.house asked.mount asked.shown) undecided.0 undecided.1 none mount session e
+      begun_cases w s asked.id asked.mount (shown_for w.house asked.mount asked.shown) undecided.0 undecided.1 none mount session
+      (was_begun w asked mount session e)
       (λ same one. subst (λ (x : Session). x.title ≡ last_or None (told x.number ++ of_client event x.number [])) one
       (ap (λ xs. last_or None xs) (sym (h.none_yet asked.id undecided.0 undecided.1)
       ∙ with_nothing (told asked.id) (of_client event asked.id []) (nothing_of event asked.id [] refl))))
@@ -151,7 +153,7 @@ module _ (w : World) (s : IsSound w) (told : ℕ → List (List ℕ)) (h : Told 
   last_by event o (IsDenied _ by v nobody) = as_it_was event
   last_by event o (IsRefused _ him by v its undecided) = as_it_was event
   last_by event o (IsAdmitted peer allowed) = as_it_was event
-  last_by event o (TakesSeat asked peer session undecided live allowed) = as_it_was event
+  last_by event o (TakesSeat asked peer session undecided lands live allowed) = as_it_was event
   last_by event o (HandsOut him room seat session sits has live) = as_it_was event
   last_by event o (Leaves him other) = as_it_was event
 

@@ -1,4 +1,4 @@
-use Rattle.std.specs.Prelude.{◌≡◌, ◌⊎◌, ℕ, ◌-◌, ◌≤◌, true, false, Option, Some, None}
+use Rattle.std.specs.Prelude.{◌≡◌, ◌⊎◌, ℕ, ◌-◌, ◌<◌, ◌≤◌, true, false, Option, Some, None}
 use Rattle.radio_settings.specs.declared.field.Shown.{Shown}
 use Rattle.radio_tables.specs.Lists.{Has}
 use Rattle.radio_events.specs.declared.event.Event.{Event}
@@ -13,6 +13,8 @@ use Rattle.radio_core.specs.Sessions.{Session, session_of}
 use Rattle.radio_core.specs.Step.{reply_to, world_after}
 use Rattle.radio_core.specs.Stream.{WholeStream, end_of}
 use Rattle.radio_core.specs.World.{World, standing_of}
+use Rattle.radio_access.specs.Lists.{lets_in}
+use Rattle.radio_laws.specs.Walks.{ComesBy}
 
 -- a block starts at the place, or it is the end, where the next one will
 abbrev pub IsBlockStart : WholeStream → ℕ → Type 0
@@ -25,18 +27,22 @@ pub record IsEarliestStart (stream : WholeStream) (burst queue place : ℕ) : Ty
   pub in_the_queue : end_of stream - place ≤ queue
   pub earliest : (other : ℕ) → IsBlockStart stream other → end_of stream - other ≤ burst → end_of stream - other ≤ queue → place ≤ other
 
--- the listener has a seat in the session that the mount of his path had when he asked, is shown what it shows, and begins at the earliest block start that
--- the mount's `burst-size` and the `queue-size` allow
+-- the listener has a seat in the session of a mount by which his walk came, which was live when he asked and let him in, is shown what it shows, and begins at
+-- the earliest block start that this mount's `burst-size` and the `queue-size` allow
 pub record IsSeated (w : World) (event : Event) (interval : Option ℕ) (shown : Shown) : Type 0 where
   pub asked : ListenRequest
   pub listens : event ≡ Listen asked
   pub session : Session
-  pub is_live : session_of w.house.live asked.mount ≡ Some session
+  pub is_live : session_of w.house.live session.mount ≡ Some session
   pub shows : shown ≡ session.shown
   pub seat : Seat
   pub has_the_seat : seat_of (world_after w event).seats asked.id ≡ Some seat
-  -- at the mount that he asked for, which is his home, in the session that it has
-  pub at_the_mount : seat.mount ≡ asked.mount
+  -- at a mount by which a walk comes from the one that he asked for, among the first ten; the one that he asked for is his home
+  pub steps : ℕ
+  pub not_too_far : steps < 10
+  pub on_his_way : ComesBy w asked.mount steps seat.mount
+  pub lets_him_in : lets_in w.house.lists seat.mount asked.pair ≡ true
+  pub at_the_mount : seat.mount ≡ session.mount
   pub his_home : seat.home ≡ asked.mount
   pub in_the_session : seat.session ≡ session.number
   -- from the address from which he came, with the pair that he sent, from now on
@@ -47,7 +53,7 @@ pub record IsSeated (w : World) (event : Event) (interval : Option ℕ) (shown :
   pub his_interval : seat.interval ≡ interval
   pub with_metadata : asked.wants_metadata ≡ true → interval ≡ Some (options_for w.house.settings asked.mount).stream.mp3_metadata_interval
   pub without_metadata : asked.wants_metadata ≡ false → interval ≡ None
-  pub starts : IsEarliestStart session.stream (options_for w.house.settings asked.mount).stream.burst_size w.house.settings.limits.queue_size seat.place
+  pub starts : IsEarliestStart session.stream (options_for w.house.settings seat.mount).stream.burst_size w.house.settings.limits.queue_size seat.place
 
 -- only who asks to hear a mount is seated, and he begins where his burst begins
 abbrev pub BeginsAtABlock : World → Event → Type 0

@@ -1,9 +1,12 @@
 pub mod Denials
 pub mod FinishesTold
 pub mod Limits
+pub mod Walks
+pub mod LimitDenials
 pub mod Open
 pub mod Access
 pub mod Admission
+pub mod WalkingOn
 pub mod Stretches
 pub mod TitlesTold
 pub mod Gone

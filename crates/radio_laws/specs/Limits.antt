@@ -46,26 +46,6 @@ pub record IsFullAt (w : World) (mount : List ℕ) : Type 0 where
   pub limited : most_at w mount ≡ Some most
   pub reached : most ≤ length (seats_at w.seats mount)
 
--- each user may sit at the mount once, and one of those who sit there sent the very user of this pair
-pub record HasUserAt (w : World) (mount : List ℕ) (pair : Option Credentials) : Type 0 where
-  pub once : allows_duplicates_at w mount ≡ false
-  pub user : List ℕ
-  pub sent : SentUser user pair
-  pub listener : Listener
-  pub is_one : Has listener w.seats
-  pub seat : Seat
-  pub sits : listener.seating ≡ HasSeat seat
-  pub at_the_mount : seat.mount ≡ mount
-  pub his_user : SentUser user seat.pair
-
--- clients and sources are denied as too many only where there are as many as there may be, a mount as full only where it is full, and a user as one who sits
--- there only where he does
-pub record DeniesByLimits (w : World) (event : Event) : Type 0 where
-  pub clients : reply_to w event ≡ Deny TooManyClients → w.house.settings.limits.clients ≤ length w.house.clients
-  pub sources : reply_to w event ≡ Deny TooManySources → w.house.settings.limits.sources ≤ length w.house.live
-  pub full : reply_to w event ≡ Deny MountFull → (asked : ListenRequest) × (event ≡ Listen asked) × IsFullAt w asked.mount
-  pub twice : reply_to w event ≡ Deny UserTwice → (asked : ListenRequest) × (event ≡ Listen asked) × HasUserAt w asked.mount asked.pair
-
 -- a client arrives only where fewer are there than may be, and a source feeds only where fewer sessions are live than may be
 pub record AdmitsByLimits (w : World) (event : Event) : Type 0 where
   pub clients : (id : ℕ) → reply_to w event ≡ Arrived id → length w.house.clients < w.house.settings.limits.clients

@@ -1,5 +1,5 @@
 -- What the policy allows happens, and who sits is handed what stands at his place.
-use Rattle.std.specs.Prelude.{◌≡◌, ℕ, ◌+◌, ◌-◌, min, List, [], ◌∷◌, ◌++◌, length, Some, None}
+use Rattle.std.specs.Prelude.{◌≡◌, ℕ, ◌+◌, ◌-◌, ◌<◌, min, List, [], ◌∷◌, ◌++◌, length, Some, None}
 use Rattle.radio_policy.specs.declared.rule.Rule.{Rule}
 use Rattle.radio_policy.specs.Verdicts.{Allows}
 use Rattle.radio_addr.specs.declared.peer.Peer.{Peer}
@@ -19,12 +19,16 @@ use Rattle.radio_core.specs.Stream.{end_of, data_at}
 use Rattle.radio_core.specs.Clients.{client_of}
 use Rattle.radio_core.specs.declared.clients.ClientState.TheVariants.{Undecided as IsNew}
 use Rattle.radio_core.specs.World.{World, standing_of}
+use Rattle.radio_laws.specs.Walks.{ComesBy}
 
--- a listener was seated in the session of the mount that he asked for, and shown what it shows
+-- a listener was seated in the session of a mount by which a walk comes from the one that he asked for, and shown what it shows
 pub record IsTakenIn (w : World) (asked : ListenRequest) : Type 0 where
   pub session : Session
-  pub is_live : session_of w.house.live asked.mount ≡ Some session
-  pub is_shown : reply_to w (Listen asked) ≡ Seated (interval_for w.house session.mount asked.wants_metadata) session.shown
+  pub steps : ℕ
+  pub not_too_far : steps < 10
+  pub on_his_way : ComesBy w asked.mount steps session.mount
+  pub is_live : session_of w.house.live session.mount ≡ Some session
+  pub is_shown : reply_to w (Listen asked) ≡ Seated (interval_for w.house asked.mount asked.wants_metadata) session.shown
   pub sits : standing_of (world_after w (Listen asked)) asked.id ≡ Sits
 
 -- a listener was handed what stands at his place in the stream of his mount, as much of it as is there and as he has room for, and the title that it has;

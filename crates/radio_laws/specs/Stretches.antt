@@ -1,5 +1,5 @@
 -- The stretches of which all that a listener is handed is made.
-use Rattle.std.specs.Prelude.{◌≡◌, ◌==◌, ℕ, ◌-◌, ◌≤◌, if◌then◌else◌, length, Option, Some, None, List, [], ◌∷◌, ◌++◌, take, drop}
+use Rattle.std.specs.Prelude.{◌≡◌, ◌⊎◌, ◌==◌, ℕ, ◌-◌, ◌≤◌, if◌then◌else◌, length, Option, Some, None, List, [], ◌∷◌, ◌++◌, take, drop}
 use Rattle.radio_settings.specs.declared.settings.Settings.{Settings}
 use Rattle.radio_access.specs.Lists.{Lists}
 use Rattle.radio_events.specs.declared.event.Event.{Event}
@@ -8,6 +8,9 @@ use Rattle.radio_core.specs.Handing.{handed, delivered}
 use Rattle.radio_seats.specs.Seats.{seat_of}
 use Rattle.radio_core.specs.Sessions.{Session, session_of}
 use Rattle.radio_core.specs.Step.{world_after}
+use Rattle.radio_core.specs.Moves.{TakesTo}
+use Rattle.radio_core.specs.SeatSteps.{IsSent}
+use Rattle.radio_core.specs.Stream.{end_of}
 use Rattle.radio_core.specs.World.{World, opening}
 
 -- what stands between two places of some data
@@ -45,12 +48,16 @@ abbrev pub StretchesAreWhole : Settings → Lists → List Event → Type 0
 StretchesAreWhole settings lists events = (id : ℕ) → AreStretches (delivered (opening settings lists) events) (sittings (opening settings lists) events id)
     (handed (opening settings lists) events id)
 
--- through an event, a listener who keeps a seat keeps all of it but his place, which does not go back; and a seat is in the session that its mount has
+-- through an event, a listener who keeps a seat keeps all of it but his place, which does not go back; or a move that the event brings has taken him, at his
+-- turn, to the end of the stream of the mount where his walk landed, and all else of his seat stays: the session in which he sat is over, or he is called
+-- home; and a seat is in the session that its mount has
 pub record KeepsItsMount (w : World) (event : Event) (id : ℕ) (seat : Seat) : Type 0 where
   pub session : Session
   pub is_live : session_of (world_after w event).house.live seat.mount ≡ Some session
   pub in_the_session : seat.session ≡ session.number
-  pub kept : (old : Seat) → seat_of w.seats id ≡ Some old → (seat ≡ record old { place = seat.place }) × (old.place ≤ seat.place)
+  pub kept : (old : Seat) → seat_of w.seats id ≡ Some old → ((seat ≡ record old { place = seat.place }) × (old.place ≤ seat.place))
+      ⊎ (TakesTo w event id seat.mount × IsSent w (world_after w event) event old seat.mount
+      × (seat ≡ record old { mount = seat.mount; session = session.number; place = end_of session.stream }))
 
 abbrev pub SeatsKeepTheirMounts : World → Event → Type 0
 SeatsKeepTheirMounts w event = (id : ℕ) (seat : Seat) → seat_of (world_after w event).seats id ≡ Some seat → KeepsItsMount w event id seat

@@ -12,10 +12,12 @@ ghost use Rattle.radio_events.specs.Events.{client_in};
 ghost use Rattle.radio_laws.specs.Denials.{DenialsAreThePolicys, AddressesAreDenied, OnlySourcesFeed, KnownMountsAreKnown};
 ghost use Rattle.radio_laws.specs.FinishesTold.{FinishedAreTold};
 ghost use Rattle.radio_laws.specs.Access.{AccessIsKept};
-ghost use Rattle.radio_laws.specs.Limits.{IsWithinLimits, DeniesByLimits, AdmitsByLimits};
+ghost use Rattle.radio_laws.specs.Limits.{IsWithinLimits, AdmitsByLimits};
+ghost use Rattle.radio_laws.specs.LimitDenials.{DeniesByLimits};
 ghost use Rattle.radio_laws.specs.Admission.{BeginsAtABlock};
 ghost use Rattle.radio_laws.specs.Service.{Serves, ChangesNothing};
 ghost use Rattle.radio_laws.specs.Stretches.{StretchesAreWhole, SeatsKeepTheirMounts};
+ghost use Rattle.radio_laws.specs.WalkingOn.{ListenersWalkOn, MovesAreWhole};
 ghost use Rattle.radio_laws.specs.TitlesTold.{TitlesAreTold};
 ghost use Rattle.radio_core.specs.Timeouts.{TestsAreInNumbers};
 ghost use Rattle.radio_laws.specs.Outstaying.{NobodyOutstays};
@@ -93,6 +95,17 @@ pub fn stretches_are_whole()
     // and through each event a listener who keeps a seat keeps all of it but his place, and does not go back
     ensures mounts { (settings : Settings) (lists : Lists) (events : List Event) (event : Event)
         → SeatsKeepTheirMounts (run_after settings lists events) event }
+{}
+
+/// The law of moves.
+pub fn listeners_walk_on()
+    // whatever has happened, a move that an event brings takes each listener, in the order of their numbers and by what stands
+    // at his turn, to the end of the stream of the mount where his walk lands, or finishes him by the rule that stops it, or
+    // leaves him where he is; and nobody stays whose mount's session has ended
+    ensures turns { (settings : Settings) (lists : Lists) (events : List Event) (event : Event)
+        → ListenersWalkOn (run_after settings lists events) event }
+    // and where a source comes up, ends or leaves that is all that becomes of the seats
+    ensures whole { (settings : Settings) (lists : Lists) (events : List Event) (event : Event) → MovesAreWhole (run_after settings lists events) event }
 {}
 
 /// The law of titles.

@@ -1,0 +1,95 @@
+-- where a walk ends, and by which mounts it comes
+use Rattle.std.proofs.Common.{◌≡◌, ℕ, zero, suc, ◌+◌, ◌<◌, Bool, true, false, ◌&&◌, ◌||◌, not, is_some, Option, Some, None, List, length, refl, ap, sym, subst, ◌∙◌, arith}
+use Rattle.std.specs.Prelude.{if◌then◌else◌}
+use Rattle.std.proofs.lemmas.Bool.Decides.{nat_tests}
+use Rattle.radio_policy.specs.declared.rule.Rule.{Rule}
+use Rattle.radio_policy.specs.declared.rule.Rule.TheVariants.{FallbackDepth}
+use Rattle.radio_creds.specs.Credentials.{Credentials}
+use Rattle.radio_settings.specs.Options.{options_for}
+use Rattle.radio_seats.specs.Seats.{seats_at}
+use Rattle.radio_fallback.specs.declared.walking.Landing.{Landing}
+use Rattle.radio_fallback.specs.declared.walking.Landing.TheVariants.{Lands, Stops}
+use Rattle.radio_fallback.specs.Walk.{Sight, is_full, is_full_for, found_at, stop_of, landing_at, landing_here, next_mount, onward, walk, landing}
+use Rattle.radio_fallback.proofs.WalkLaws.{walks_ten}
+use Rattle.radio_events.specs.declared.event.ListenRequest.{ListenRequest}
+use Rattle.radio_core.specs.Facts.{sight_of, walks_to}
+use Rattle.radio_core.specs.Sessions.{Session, session_of}
+use Rattle.radio_core.specs.World.{World}
+use Rattle.radio_laws.specs.Limits.{IsFullAt, most_at}
+use Rattle.radio_laws.specs.Walks.{GoesOn, HasNoSource, IsFull, ComesBy, AtFirst, Next}
+
+-- as many sit there as may
+pub full_at : (w : World) (mount : List ℕ) (limit : Option ℕ) → most_at w mount ≡ limit → is_full (length (seats_at w.seats mount)) limit ≡ true
+    → IsFullAt w mount
+full_at w mount None limited full = cc
+full_at w mount (Some most) limited full = record { most = most; limited = limited; reached = grind (arith, nat_tests) }
+
+none_there : (found : Option Session) → is_some found ≡ false → found ≡ None
+none_there None e = refl
+none_there (Some session) e = cc
+
+pub both : (a b : Bool) → (a && b) ≡ true → (a ≡ true) × (b ≡ true)
+both true true e = (refl, refl)
+both true false e = cc
+both false b e = cc
+
+module _ (w : World) (pair : Option Credentials) where
+  abbrev sight : Sight
+  sight = sight_of w.house
+
+  -- where a mount hands on to the next, it does so by its settings
+  hands_by : (mount next : List ℕ) (live full : Bool) → is_some (session_of w.house.live mount) ≡ live → is_full_for sight w.seats mount ≡ full
+      → (if not live || full && (options_for w.house.settings mount).listeners.fallback_when_full
+      then (options_for w.house.settings mount).listeners.fallback_mount else None) ≡ Some next → GoesOn w mount next
+  hands_by mount next false full l f e = HasNoSource e (none_there (session_of w.house.live mount) l)
+  hands_by mount next true true l f e = by_flag (options_for w.house.settings mount).listeners.fallback_when_full refl e where
+    by_flag : (b : Bool) → (options_for w.house.settings mount).listeners.fallback_when_full ≡ b
+        → (if b then (options_for w.house.settings mount).listeners.fallback_mount else None) ≡ Some next → GoesOn w mount next
+    by_flag true set goes = IsFull goes set (full_at w mount (most_at w mount) refl f)
+    by_flag false set goes = cc
+  hands_by mount next true false l f e = cc
+
+  goes_on : (mount next : List ℕ) → next_mount sight w.seats mount ≡ Some next → GoesOn w mount next
+  goes_on mount next e = hands_by mount next (is_some (session_of w.house.live mount)) (is_full_for sight w.seats mount) refl refl e
+
+  module _ (asked : List ℕ) where
+    -- how a walk ends that may look at so many mounts
+    pub data WalkEnds (most : ℕ) : Landing → Type 0 where
+      LandsThere : (steps : ℕ) (to : List ℕ) → steps < most → ComesBy w asked steps to → stop_of (found_at sight w.seats to pair) ≡ None → WalkEnds most (Lands to)
+      StopsThere : (steps : ℕ) (mount : List ℕ) (rule : Rule) → steps < most → ComesBy w asked steps mount
+          → stop_of (found_at sight w.seats mount pair) ≡ Some rule → WalkEnds most (Stops rule)
+      GoesTooFar : (mount : List ℕ) → ComesBy w asked most mount → WalkEnds most (Stops FallbackDepth)
+
+    ends_here : (steps more : ℕ) (mount : List ℕ) → ComesBy w asked steps mount → (stop : Option Rule) → stop_of (found_at sight w.seats mount pair) ≡ stop
+        → WalkEnds (steps + suc more) (landing_at mount stop)
+    ends_here steps more mount comes None e = LandsThere steps mount (omega arith) comes e
+    ends_here steps more mount comes (Some rule) e = StopsThere steps mount rule (omega arith) comes e
+
+    ends_at : (left steps : ℕ) (mount : List ℕ) → ComesBy w asked steps mount → (next : Option (List ℕ)) → next_mount sight w.seats mount ≡ next
+        → ((onto : List ℕ) → ComesBy w asked (suc steps) onto → WalkEnds (suc steps + left) (walk left sight w.seats pair onto))
+        → WalkEnds (steps + suc left) (onward (walk left sight w.seats pair) (landing_here sight w.seats pair mount) next)
+    ends_at left steps mount comes None e later = ends_here steps left mount comes (stop_of (found_at sight w.seats mount pair)) refl
+    ends_at left steps mount comes (Some onto) e later =
+        let same : suc steps + left ≡ steps + suc left = omega arith in
+        subst (λ (n : ℕ). WalkEnds n (walk left sight w.seats pair onto)) same (later onto (Next steps mount onto comes (goes_on mount onto e)))
+
+    ends_by : (left steps : ℕ) (mount : List ℕ) → ComesBy w asked steps mount → WalkEnds (steps + left) (walk left sight w.seats pair mount)
+    ends_by zero steps mount comes =
+        let same : steps ≡ steps + zero = omega arith in subst (λ (n : ℕ). WalkEnds n (Stops FallbackDepth)) same (GoesTooFar mount comes)
+    ends_by (suc left) steps mount comes =
+        ends_at left steps mount comes (next_mount sight w.seats mount) refl (λ onto comes_on. ends_by left (suc steps) onto comes_on)
+
+    pub walk_ends : WalkEnds 10 (walks_to w.house w.seats asked pair)
+    walk_ends = subst (λ (l : Landing). WalkEnds 10 l) (walks_ten sight w.seats pair asked) (ends_by 10 0 asked AtFirst)
+
+-- where a walk lands, it has come within ten mounts
+lands_by : (w : World) (pair : Option Credentials) (asked : List ℕ) (l : Landing) → WalkEnds w pair asked 10 l → (to : List ℕ) → l ≡ Lands to
+    → (steps : ℕ) × (steps < 10) × ComesBy w asked steps to
+lands_by w pair asked l (LandsThere steps there low comes none) to e =
+    let same : there ≡ to = cc in (steps, low, subst (λ (m : List ℕ). ComesBy w asked steps m) same comes)
+lands_by w pair asked l (StopsThere steps mount rule low comes stops) to e = cc
+lands_by w pair asked l (GoesTooFar mount comes) to e = cc
+
+pub lands_on_his_way : (w : World) (asked : ListenRequest) (to : List ℕ) → walks_to w.house w.seats asked.mount asked.pair ≡ Lands to
+    → (steps : ℕ) × (steps < 10) × ComesBy w asked.mount steps to
+lands_on_his_way w asked to e = lands_by w asked.pair asked.mount (walks_to w.house w.seats asked.mount asked.pair) (walk_ends w asked.pair asked.mount) to e

@@ -1,0 +1,175 @@
+-- what a move makes of each listener
+use Rattle.std.proofs.Common.{◌≡◌, Bool, true, false, ℕ, ◌==◌, Option, Some, None, is_some, List, refl, ap, sym, subst, ◌∙◌}
+use Rattle.std.specs.Prelude.{if◌then◌else◌}
+use Rattle.std.specs.Option.{option_map_or}
+use Rattle.std.specs.Str.{bytes_eq}
+use Rattle.std.proofs.lemmas.Slice.Eq.{bytes_eq-Decides}
+use Rattle.radio_policy.specs.declared.rule.Rule.{Rule}
+use Rattle.radio_policy.specs.declared.judgement.Verdict.{Verdict}
+use Rattle.radio_policy.specs.declared.judgement.Verdict.TheVariants.{Allow}
+use Rattle.radio_policy.specs.Verdicts.{verdict_in}
+use Rattle.radio_addr.specs.declared.peer.Peer.{Peer}
+use Rattle.radio_settings.specs.declared.settings.Settings.{Settings}
+use Rattle.radio_settings.specs.Options.{options_for}
+use Rattle.radio_access.specs.Lists.{Lists}
+use Rattle.radio_tables.proofs.KeyLaws.{by_number}
+use Rattle.radio_fallback.specs.declared.moves.Move.{Move}
+use Rattle.radio_fallback.specs.declared.moves.Move.TheVariants.{Ended, Up}
+use Rattle.radio_fallback.specs.declared.moves.Turn.{Turn}
+use Rattle.radio_fallback.specs.declared.moves.Turn.TheVariants.{Stays, GoesTo, IsOut}
+use Rattle.radio_fallback.specs.Carry.{concerns}
+use Rattle.radio_fallback.specs.Fares.{seat_at_end}
+use Rattle.radio_fallback.proofs.Faring.{Faring, HasStayed, HasGone, HasLost, fares, nobody_stays}
+use Rattle.radio_seats.specs.declared.seat.Seat.{Seat}
+use Rattle.radio_seats.specs.Seats.{listener_of, seat_in, seat_of, AreByNumber}
+use Rattle.radio_seats.proofs.SeatLaws.{beside_left}
+use Rattle.radio_events.specs.declared.event.Event.{Event}
+use Rattle.radio_events.specs.declared.event.Event.TheVariants.{Source, SourceEnd, Leave}
+use Rattle.radio_events.specs.declared.event.SourceRequest.{SourceRequest}
+use Rattle.radio_seats.specs.declared.seat.Seating.TheVariants.{Finished as HasFinished}
+use Rattle.radio_events.specs.declared.reply.Reply.TheVariants.{Noted}
+use Rattle.radio_core.specs.declared.outcome.Change.TheVariants.{Answer, End, EndAndLeave}
+use Rattle.radio_core.specs.declared.outcome.Outcome.{Outcome}
+use Rattle.radio_core.specs.declared.standing.Standing.{Standing}
+use Rattle.radio_core.specs.declared.standing.Standing.TheVariants.{Undecided, Feeds}
+use Rattle.radio_core.specs.Changes.{changed, begun, carried_along, called_home, session_over, session_silenced, first_silent}
+use Rattle.radio_core.specs.Facts.{sight_of, rows_to_feed, live_end}
+use Rattle.radio_core.specs.Moves.{Brings, ByItsEnd, ByItsLeaving, BySilence, ByComingUp, IsOnTheWay, AtFirst, OneMore, his_turn}
+use Rattle.radio_core.specs.Outcomes.{says, if_feeding, if_undecided, on_verdict}
+use Rattle.radio_core.specs.Leave.{leaves_from}
+use Rattle.radio_core.specs.Run.{run_after}
+use Rattle.radio_core.specs.Sessions.{Session, session_of}
+use Rattle.radio_core.specs.Sound.{IsSound}
+use Rattle.radio_core.specs.Source.{begins, shown_for}
+use Rattle.radio_core.specs.Step.{outcome, world_after}
+use Rattle.radio_core.specs.Stream.{end_of}
+use Rattle.radio_core.specs.World.{World, standing_of}
+use Rattle.radio_laws.specs.WalkingOn.{FaresByHisTurn, ListenersWalkOn, MovesAreWhole}
+use Rattle.radio_core.proofs.CarriedFates.{order_carried}
+use Rattle.radio_core.proofs.Lookups.{found_named}
+use Rattle.radio_core.proofs.TickLemmas.{sat_out, sound_sat_out}
+
+found_there : {A : Type 0} (found : Option A) → is_some found ≡ true → (x : A) × (found ≡ Some x)
+found_there None e = cc
+found_there (Some x) e = (x, refl)
+
+module _ (before : World) (move : Move) (order : AreByNumber before.seats) (id : ℕ) (seat : Seat) (has : seat_of before.seats id ≡ Some seat) where
+  abbrev FaringHere : Type 0
+  FaringHere = Faring (sight_of before.house) move before.seats id
+
+  his_fare : FaringHere
+  his_fare = fares (sight_of before.house) move before.seats order id
+
+  goes_by : FaringHere → (mount : List ℕ) → his_turn before move id ≡ GoesTo mount → (session : Session) × (session_of before.house.live mount ≡ Some session)
+      × (seat_of (carried_along before move).seats id ≡ Some (record seat { mount = mount; session = session.number; place = end_of session.stream }))
+  goes_by (HasStayed same turn) mount e = let both : GoesTo mount ≡ Stays = sym e ∙ turn seat has in cc
+  goes_by (HasGone old to turn had concerned fits now) mount e =
+      let both : GoesTo to ≡ GoesTo mount = sym turn ∙ e in
+      let there : to ≡ mount = cc in
+      let held : Some old ≡ Some seat = sym had ∙ has in
+      let one : old ≡ seat = cc in
+      let found = found_there (session_of before.house.live to) fits.is_live in
+      let end_in : Option Session → ℕ = λ (f : Option Session). option_map_or (λ (x : Session). end_of x.stream) f 0 in
+      let number_in : Option Session → ℕ = λ (f : Option Session). option_map_or (λ (x : Session). x.number) f 0 in (
+        found.0,
+        ap (session_of before.house.live) (sym there) ∙ found.1,
+        ap seat_in now
+            ∙ ap (λ (x : Seat). Some (seat_at_end (sight_of before.house) to x)) one
+            ∙ ap (λ (n : ℕ). Some (record seat { mount = to; session = n; place = live_end before.house to })) (ap number_in found.1)
+            ∙ ap (λ (n : ℕ). Some (record seat { mount = to; session = found.0.number; place = n })) (ap end_in found.1)
+            ∙ ap (λ (m : List ℕ). Some (record seat { mount = m; session = found.0.number; place = end_of found.0.stream })) there,
+      )
+  goes_by (HasLost old rule turn had concerned now) mount e = let both : GoesTo mount ≡ IsOut rule = sym e ∙ turn in cc
+
+  out_by : FaringHere → (rule : Rule) → his_turn before move id ≡ IsOut rule
+      → listener_of (carried_along before move).seats id ≡ Some (record { id = id; seating = HasFinished rule })
+  out_by (HasStayed same turn) rule e = let both : IsOut rule ≡ Stays = sym e ∙ turn seat has in cc
+  out_by (HasGone old to turn had concerned fits now) rule e = let both : IsOut rule ≡ GoesTo to = sym e ∙ turn in cc
+  out_by (HasLost old by turn had concerned now) rule e =
+      let both : IsOut by ≡ IsOut rule = sym turn ∙ e in
+      let one : by ≡ rule = cc in
+      now ∙ ap (λ (r : Rule). Some (record { id = id; seating = HasFinished r })) one
+
+  stays_by : FaringHere → his_turn before move id ≡ Stays → seat_of (carried_along before move).seats id ≡ Some seat
+  stays_by (HasStayed same turn) e = ap seat_in same ∙ has
+  stays_by (HasGone old to turn had concerned fits now) e = let both : Stays ≡ GoesTo to = sym e ∙ turn in cc
+  stays_by (HasLost old rule turn had concerned now) e = let both : Stays ≡ IsOut rule = sym e ∙ turn in cc
+
+  fares_by_turn : FaresByHisTurn before move id seat
+  fares_by_turn = record {
+    goes = goes_by his_fare;
+    is_out = out_by his_fare;
+    stays = stays_by his_fare;
+    leaves = λ mount same there e.
+        nobody_stays (sight_of before.house) mount before.seats id seat has ((bytes_eq-Decides seat.mount mount).1 there)
+        (subst (λ (m : Move). his_turn before m id ≡ Stays) same e);
+  }
+
+module _ (w : World) (s : IsSound w) where
+  order_on_the_way : (ms : ℕ) (during : World) → IsOnTheWay (sat_out w s ms) during → AreByNumber during.seats
+  order_on_the_way ms during AtFirst = (sound_sat_out w s ms).by_number
+  order_on_the_way ms during (OneMore before session way found) =
+      order_carried (session_over before session.mount) (Ended session.mount) (order_on_the_way ms before way)
+
+  walk_on_by : (event : Event) (move : Move) (before : World) → Brings w event move before → AreByNumber before.seats
+  walk_on_by event move before (ByItsEnd him mount feeding) = s.by_number
+  walk_on_by event move before (ByItsLeaving him mount feeding) = s.by_number
+  walk_on_by event move before (BySilence ms during session way found) = order_on_the_way ms during way
+  walk_on_by event move before (ByComingUp asked peer stood allowed calls) = s.by_number
+
+  pub walk_on : (event : Event) → ListenersWalkOn w event
+  walk_on event move before brings id seat has = fares_by_turn before move (walk_on_by event move before brings) id seat has
+
+-- the whole of what becomes of the seats
+module _ (w : World) where
+  feeds_so : {A : Type 0} (now : Standing) (mount : List ℕ) (go : List ℕ → Outcome) (look : Outcome → A) → now ≡ Feeds mount
+      → look (if_feeding now go) ≡ look (go mount)
+  feeds_so now mount go look e = rw e refl
+
+  asks_so : (now : Standing) (peer : Peer) (verdict : Verdict) (asked : SourceRequest) → now ≡ Undecided peer → verdict ≡ Allow
+      → if_undecided now (λ p. on_verdict verdict (Answer asked.id) (begins w.house asked)) ≡ begins w.house asked
+  asks_so now peer verdict asked e v = rw (e, v) refl
+
+  calls_so : (before : World) (mount : List ℕ) → (options_for before.house.settings mount).listeners.fallback_override ≡ true
+      → called_home before mount ≡ carried_along before (Up mount)
+  calls_so before mount e = rw e refl
+
+  coming : (asked : SourceRequest) (event : Event) (move : Move) (before : World) → event ≡ Source asked → Brings w event move before
+      → (world_after w event).seats ≡ (carried_along before move).seats
+  unfolding world_after outcome
+  coming asked event move before e (ByComingUp other peer stood allowed calls) =
+      ap (λ (o : Outcome). (changed w o.change).seats) (asks_so (standing_of w other.id) peer (verdict_in (rows_to_feed w.house other)) other stood allowed)
+      ∙ ap (λ (x : World). x.seats) (calls_so before other.mount calls)
+  coming asked event move before e (ByItsEnd him mount feeding) = cc
+  coming asked event move before e (ByItsLeaving him mount feeding) = cc
+  coming asked event move before e (BySilence ms during session way found) = cc
+
+  ending : (him : ℕ) (event : Event) (move : Move) (before : World) → event ≡ SourceEnd him → Brings w event move before
+      → (world_after w event).seats ≡ (carried_along before move).seats
+  unfolding world_after outcome
+  ending him event move before e (ByItsEnd he mount feeding) =
+      feeds_so (standing_of w he) mount (λ m. says Noted (End he m)) (λ (o : Outcome). (changed w o.change).seats) feeding
+  ending him event move before e (ByItsLeaving he mount feeding) = cc
+  ending him event move before e (BySilence ms during session way found) = cc
+  ending him event move before e (ByComingUp asked peer stood allowed calls) = cc
+
+  leaves_so : (he : ℕ) (mount : List ℕ) (now : Standing) → now ≡ Feeds mount → leaves_from he now ≡ says Noted (EndAndLeave he mount)
+  leaves_so he mount now e = rw e refl
+
+  leaving : (him : ℕ) (event : Event) (move : Move) (before : World) → event ≡ Leave him → Brings w event move before → (id : ℕ) → (him ≡ id → ⊥)
+      → listener_of (world_after w event).seats id ≡ listener_of (carried_along before move).seats id
+  unfolding world_after outcome
+  leaving him event move before e (ByItsLeaving he mount feeding) id apart =
+      let same : he ≡ him = cc in
+      ap (λ (o : Outcome). listener_of (changed w o.change).seats id) (leaves_so he mount (standing_of w he) feeding)
+      ∙ by_number he id (λ one. absurd (apart (sym same ∙ one))) (λ other. beside_left (carried_along (session_over w mount) (Ended mount)).seats he id other)
+  leaving him event move before e (ByItsEnd he mount feeding) id apart = cc
+  leaving him event move before e (BySilence ms during session way found) id apart = cc
+  leaving him event move before e (ByComingUp asked peer stood allowed calls) id apart = cc
+
+  pub moves_are_whole : (event : Event) → MovesAreWhole w event
+  moves_are_whole event = record {
+    at_its_coming = λ asked move before e brings. coming asked event move before e brings;
+    at_its_end = λ him move before e brings. ending him event move before e brings;
+    at_its_leaving = λ him move before e brings. leaving him event move before e brings;
+  }

@@ -1,0 +1,44 @@
+-- What a move makes of each listener, by what stands at his turn.
+use Rattle.std.specs.Prelude.{◌≡◌, ℕ, true, List, Option, Some, None}
+use Rattle.radio_policy.specs.declared.rule.Rule.{Rule}
+use Rattle.radio_fallback.specs.declared.moves.Move.{Move}
+use Rattle.radio_fallback.specs.declared.moves.Move.TheVariants.{Ended}
+use Rattle.radio_fallback.specs.declared.moves.Turn.TheVariants.{Stays, GoesTo, IsOut}
+use Rattle.radio_fallback.specs.Carry.{concerns}
+use Rattle.radio_seats.specs.declared.seat.Listener.{Listener}
+use Rattle.radio_seats.specs.declared.seat.Seat.{Seat}
+use Rattle.radio_seats.specs.declared.seat.Seating.TheVariants.{Finished}
+use Rattle.radio_seats.specs.Seats.{listener_of, seat_of}
+use Rattle.radio_events.specs.declared.event.Event.{Event}
+use Rattle.radio_events.specs.declared.event.Event.TheVariants.{Source, SourceEnd, Leave}
+use Rattle.radio_events.specs.declared.event.SourceRequest.{SourceRequest}
+use Rattle.radio_core.specs.Changes.{carried_along}
+use Rattle.radio_core.specs.Moves.{Brings, his_turn}
+use Rattle.radio_core.specs.Sessions.{Session, session_of}
+use Rattle.radio_core.specs.Step.{world_after}
+use Rattle.radio_core.specs.Stream.{end_of}
+use Rattle.radio_core.specs.World.{World}
+
+-- one who had this seat before the move: he goes on at the end of the stream of the mount to which his turn takes him, or has finished by the rule that leaves
+-- him out, or keeps his seat; and where the session of his mount has ended he does not stay
+pub record FaresByHisTurn (before : World) (move : Move) (id : ℕ) (seat : Seat) : Type 0 where
+  pub goes : (mount : List ℕ) → his_turn before move id ≡ GoesTo mount → (session : Session) × (session_of before.house.live mount ≡ Some session)
+      × (seat_of (carried_along before move).seats id ≡ Some (record seat { mount = mount; session = session.number; place = end_of session.stream }))
+  pub is_out : (rule : Rule) → his_turn before move id ≡ IsOut rule
+      → listener_of (carried_along before move).seats id ≡ Some (record { id = id; seating = Finished rule })
+  pub stays : his_turn before move id ≡ Stays → seat_of (carried_along before move).seats id ≡ Some seat
+  pub leaves : (mount : List ℕ) → move ≡ Ended mount → seat.mount ≡ mount → his_turn before move id ≡ Stays → ⊥
+
+-- a move that an event brings makes of each listener what his turn has in store for him
+abbrev pub ListenersWalkOn : World → Event → Type 0
+ListenersWalkOn w event = (move : Move) (before : World) → Brings w event move before → (id : ℕ) (seat : Seat) → seat_of before.seats id ≡ Some seat
+    → FaresByHisTurn before move id seat
+
+-- and at a source's coming, end or leaving, that is the whole of what becomes of the seats
+pub record MovesAreWhole (w : World) (event : Event) : Type 0 where
+  pub at_its_coming : (asked : SourceRequest) (move : Move) (before : World) → event ≡ Source asked → Brings w event move before
+      → (world_after w event).seats ≡ (carried_along before move).seats
+  pub at_its_end : (him : ℕ) (move : Move) (before : World) → event ≡ SourceEnd him → Brings w event move before
+      → (world_after w event).seats ≡ (carried_along before move).seats
+  pub at_its_leaving : (him : ℕ) (move : Move) (before : World) → event ≡ Leave him → Brings w event move before → (id : ℕ) → (him ≡ id → ⊥)
+      → listener_of (world_after w event).seats id ≡ listener_of (carried_along before move).seats id

@@ -1,0 +1,18 @@
+-- By which mounts a walk comes, in the words of the settings.
+use Rattle.std.specs.Prelude.{◌≡◌, ℕ, zero, suc, true, List, Option, Some, None}
+use Rattle.radio_settings.specs.Options.{options_for}
+use Rattle.radio_core.specs.Sessions.{session_of}
+use Rattle.radio_core.specs.World.{World}
+use Rattle.radio_laws.specs.Limits.{IsFullAt}
+
+-- a walk goes on from the mount to the next one, which is its `fallback-mount`: the mount has no source, or as many sit there as may and `fallback-when-full`
+-- is set
+pub data GoesOn (w : World) (mount next : List ℕ) : Type 0 where
+  HasNoSource : (options_for w.house.settings mount).listeners.fallback_mount ≡ Some next → session_of w.house.live mount ≡ None → GoesOn w mount next
+  IsFull : (options_for w.house.settings mount).listeners.fallback_mount ≡ Some next
+      → (options_for w.house.settings mount).listeners.fallback_when_full ≡ true → IsFullAt w mount → GoesOn w mount next
+
+-- a walk from the mount comes by another one, as the first, the second and so on after it
+pub data ComesBy (w : World) (mount : List ℕ) : ℕ → List ℕ → Type 0 where
+  AtFirst : ComesBy w mount 0 mount
+  Next : (steps : ℕ) (here next : List ℕ) → ComesBy w mount steps here → GoesOn w here next → ComesBy w mount (suc steps) next
