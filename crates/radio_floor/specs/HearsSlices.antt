@@ -1,6 +1,6 @@
 -- From the bytes of a script to those of its transcript: behind his head a listener is given slices of what sources have brought, one for
--- each time that he sat down, of the source in whose session he sat. It is defined, and not proved: it waits until moves are in.
-use Rattle.std.specs.Prelude.{◌≡◌, ◌==◌, ℕ, if◌then◌else◌, List, [], ◌∷◌, ◌++◌, Option, None, Some}
+-- each time that he sat down, of the source in whose session he sat. It is defined, and not proved.
+use Rattle.std.specs.Prelude.{◌≡◌, ◌==◌, ◌<◌, ℕ, if◌then◌else◌, List, [], ◌∷◌, ◌++◌, Option, None, Some}
 use Rattle.std.specs.List.{flat_map, AllByRecursion}
 use Rattle.radio_addr.specs.declared.peer.Peer.{Peer}
 use Rattle.radio_settings.specs.declared.settings.Settings.{Settings}
@@ -19,7 +19,9 @@ use Rattle.radio_core.specs.Handing.{of_client, delivered}
 use Rattle.radio_core.specs.Listen.{interval_for}
 use Rattle.radio_core.specs.Source.{shown_for}
 use Rattle.radio_core.specs.Step.{reply_to, world_after}
+use Rattle.radio_core.specs.Run.{run_after}
 use Rattle.radio_laws.specs.Stretches.{Sitting, sittings, AreStretches}
+use Rattle.radio_laws.specs.Walks.{ComesBy}
 use Rattle.radio_core.specs.World.{World, opening}
 use Rattle.radio_session.specs.Conversation.{Conversation, fresh}
 use Rattle.radio_session.specs.Draws.{interval_told, joined_draws}
@@ -93,12 +95,18 @@ module _ (settings : Settings) (lists : Lists) (deliveries : List Delivery) (eve
     pub undelivered : List ℕ
     pub is_front : pushed behind ≡ delivered (opening settings lists) events sitting.source ++ undelivered
 
-  -- a listener who asked so has sat down, first at the mount that he asked for, and each time in the session of a source
+  -- a listener who asked so has sat down, first at a mount by which a walk came from the one that he asked for when he did, one of the first ten, and each
+  -- time in the session of a source
   pub record SitsWithSources (asked : ListenRequest) (first : SourceRequest) (sat : List Sitting) : Type 0 where
     pub sitting : Sitting
     pub others : List Sitting
     pub in_order : sat ≡ sitting ∷ others
-    pub is_his_mount : sitting.mount ≡ asked.mount
+    pub past : List Event
+    pub to_come : List Event
+    pub when_he_asked : events ≡ past ++ Listen asked ∷ to_come
+    pub steps : ℕ
+    pub not_too_far : steps < 10
+    pub on_his_way : ComesBy (run_after settings lists past) asked.mount steps sitting.mount
     pub is_first : IsSourceOf sitting first
     pub are_sources : AllByRecursion (λ other. (feeding : SourceRequest) × IsSourceOf other feeding) others
 
