@@ -1,0 +1,299 @@
+"""A plain model of the server, written from docs/RULES.md and not from the code: what a script's lines come to.
+
+It knows what `scripts/try_random` makes: whole heads of SOURCE and GET, plain bodies, titles of ASCII; no address lists.
+"""
+import base64
+import collections
+import hashlib
+
+STATUSES = {
+    400: ("Bad Request", ["bad-mount"]),
+    401: ("Unauthorized", ["source-password", "listener-password"]),
+    403: ("Forbidden", ["too-many-clients", "too-many-sources", "mount-in-use", "user-twice", "mount-full"]),
+    404: ("Not Found", ["no-mount", "not-live", "fallback-depth"]),
+}
+STATUS_OF = {rule: status for status, (_, rules) in STATUSES.items() for rule in rules}
+WELCOME = b"HTTP/1.0 200 OK\r\n\r\n"
+
+
+def denial(rule):
+    status = STATUS_OF[rule]
+    body = f"denied: {rule}\n"
+    lines = [f"HTTP/1.0 {status} {STATUSES[status][0]}", "Content-Type: text/plain; charset=utf-8", f"Content-Length: {len(body)}"]
+    lines += ['WWW-Authenticate: Basic realm="radio"'] * (status == 401) + ["Connection: close", "", body]
+    return "\r\n".join(lines).encode()
+
+
+def escaped(text):
+    known = {13: "\\r", 10: "\\n", 92: "\\\\"}
+    return "".join(known.get(byte) or (chr(byte) if 32 <= byte < 127 else f"\\x{byte:02x}") for byte in text)
+
+
+class Mount:
+    """The settings of a mount."""
+
+    def __init__(self, name, table, limits):
+        self.name = name
+        self.most, self.duration = table.get("max-listeners"), table.get("max-listener-duration")
+        self.fallback, self.override = table.get("fallback-mount"), table.get("fallback-override", False)
+        self.when_full, self.users = table.get("fallback-when-full", False), table.get("users")
+        self.duplicates = table.get("allow_duplicate_users", True)
+        self.burst = min(table.get("burst-size", limits["burst-size"]), limits["queue-size"])
+        self.interval, self.shown = table.get("mp3-metadata-interval", 16000), table.get("stream-name", "")
+
+    def lets_in(self, pair):
+        return self.users is None or (pair is not None and (pair in self.users))
+
+
+class Session:
+    def __init__(self, mount, source, now):
+        self.mount, self.source, self.data, self.starts, self.title, self.last = mount, source, b"", [], None, now
+
+
+class Client:
+    """One who was let in. `rule` is the one by which he was finished; a listener who sits has a `mount` and a `session`."""
+
+    def __init__(self, number, now):
+        self.number, self.arrived, self.state, self.rule = number, now, "new", None
+        self.mount = self.session = self.home = self.pair = self.since = None
+        self.place, self.sound, self.sent = 0, 0, None
+
+
+class Model:
+    def __init__(self, settings):
+        self.limits = {"clients": 100, "sources": 2, "queue-size": 524288, "burst-size": 65536, "source-timeout": 10, "header-timeout": 15}
+        self.limits |= settings.get("limits", {})
+        self.tables = {table["mount-name"]: table for table in settings.get("mounts", [])}
+        self.now, self.last, self.clients, self.live, self.labels = 0, 0, {}, {}, {}
+        # how often what was met, so that it can be seen what scripts try
+        self.met = collections.Counter()
+
+    def mount(self, name):
+        return Mount(name, self.tables.get(name, {}), self.limits)
+
+    # who sits where
+
+    def seats(self):
+        return [one for _, one in sorted(self.clients.items()) if one.mount is not None and one.rule is None]
+
+    def at(self, name, but=None):
+        return [one for one in self.seats() if one.mount == name and one is not but]
+
+    def is_twice(self, name, pair, but=None):
+        return not self.mount(name).duplicates and pair is not None and any(one.pair and one.pair[0] == pair[0] for one in self.at(name, but))
+
+    def is_full(self, name, but=None):
+        most = self.mount(name).most
+        return most is not None and len(self.at(name, but)) >= most
+
+    def stop(self, name, pair, but=None):
+        """The rule that keeps one who sends this pair from the mount; `None` where he may sit there."""
+        if name not in self.live:
+            return "not-live"
+        if self.is_full(name, but):
+            return "mount-full"
+        if not self.mount(name).lets_in(pair):
+            return "listener-password"
+        return "user-twice" if self.is_twice(name, pair, but) else None
+
+    def walk(self, name, pair, but=None):
+        """Where a walk ends: the mount, or the rule that stops it."""
+        for _ in range(10):
+            mount = self.mount(name)
+            hands_on = name not in self.live or (self.is_full(name, but) and mount.when_full)
+            if not hands_on or mount.fallback is None:
+                rule = self.stop(name, pair, but)
+                return (None, rule) if rule else (name, None)
+            name = mount.fallback
+        return None, "fallback-depth"
+
+    def goes_to(self, one, name):
+        session = self.live[name]
+        one.mount, one.session, one.place = name, session, len(session.data)
+
+    def ends(self, name):
+        """The mount's session is over: its listeners walk on, one after another."""
+        del self.live[name]
+        for one in self.seats():
+            if one.mount == name:
+                lands, rule = self.walk(name, one.pair, one)
+                if lands is None:
+                    one.rule = rule
+                    self.met["out by " + rule] += 1
+                else:
+                    self.goes_to(one, lands)
+                    self.met["moved on"] += 1
+
+    def comes_up(self, name):
+        if self.mount(name).override:
+            for one in self.seats():
+                if one.home == name and one.mount != name and self.stop(name, one.pair, one) is None:
+                    self.goes_to(one, name)
+                    self.met["came home"] += 1
+
+    # what is asked
+
+    def feeds(self, client, name, pair):
+        table = self.tables.get(name, {})
+        if pair != (table.get("username", "source"), table.get("password", "hackme")):
+            return "source-password"
+        if len(self.live) >= self.limits["sources"]:
+            return "too-many-sources"
+        if name in self.live:
+            return "mount-in-use"
+        client.state = "feeds"
+        self.live[name] = Session(name, client, self.now)
+        client.feeding = name
+        self.comes_up(name)
+        return None
+
+    def listens(self, client, name, pair):
+        if name not in self.tables and name not in self.live:
+            return "no-mount"
+        if not self.mount(name).lets_in(pair):
+            return "listener-password"
+        if self.is_twice(name, pair):
+            return "user-twice"
+        lands, rule = self.walk(name, pair)
+        if lands is None:
+            return rule
+        self.met["sat down" if lands == name else "sat down elsewhere"] += 1
+        session = self.live[lands]
+        most = self.mount(lands).burst
+        end = len(session.data)
+        client.state, client.home, client.mount, client.session = "listens", name, lands, session
+        client.pair, client.since = pair, self.now
+        client.place = min([start for start in session.starts if end - start <= most] + [end])
+        return None
+
+    def takes(self, client, data):
+        session = self.live[client.feeding]
+        for at in range(0, len(data), 4096):
+            session.starts.append(len(session.data))
+            session.data += data[at : at + 4096]
+            session.last = self.now
+            for one in self.at(session.mount):
+                if len(session.data) - one.place > self.limits["queue-size"]:
+                    one.rule = "lagged"
+
+    def clock(self, ms):
+        if ms < self.now:
+            return
+        self.now = ms
+        for one in self.clients.values():
+            if one.state == "new" and one.rule is None and ms - one.arrived >= 1000 * self.limits["header-timeout"]:
+                one.rule = "header-timeout"
+        for one in self.seats():
+            duration = self.mount(one.home).duration
+            if duration is not None and ms - one.since >= 1000 * duration:
+                one.rule = "time-over"
+        for name in sorted(name for name, session in self.live.items() if ms - session.last >= 1000 * self.limits["source-timeout"]):
+            source = self.live[name].source
+            self.ends(name)
+            source.rule, source.state = "source-silent", "ended"
+
+    def leaves(self, client):
+        if client.state == "feeds":
+            self.ends(client.feeding)
+        del self.clients[client.number]
+
+    def draws(self, client, room):
+        data = client.session.data[client.place : client.place + room]
+        client.place += len(data)
+        if not client.wants:
+            return data
+        every, out = self.mount(client.home).interval, b""
+        while data:
+            piece, data = data[: every - client.sound], data[every - client.sound :]
+            out += piece
+            client.sound += len(piece)
+            if client.sound == every:
+                client.sound = 0
+                title = client.session.title
+                if title is not None and title != client.sent:
+                    text = b"StreamTitle='" + title + b"';"
+                    size = -(-len(text) // 16)
+                    out += bytes([size]) + text.ljust(16 * size, b"\0")
+                    client.sent = title
+                else:
+                    out += b"\0"
+        return out
+
+    # deliveries
+
+    def says(self, label, text=b"", word=None):
+        lines = [f"out {label} {escaped(text)}"] if text else []
+        if word is not None:
+            self.met["shut by " + word] += 1
+            lines.append(f"shut {label} {word}")
+            client = self.labels[label]
+            self.labels[label] = None
+            if client is not None and client.number in self.clients:
+                self.leaves(client)
+        return lines
+
+    def opens(self, label):
+        self.labels[label] = None
+        if len(self.clients) >= self.limits["clients"]:
+            return self.says(label, denial("too-many-clients"), "too-many-clients")
+        self.last += 1
+        self.labels[label] = self.clients[self.last] = Client(self.last, self.now)
+        return []
+
+    def asks(self, label, method, name, pair, wants):
+        client = self.labels[label]
+        if client is None or client.state != "new":
+            return []
+        if client.rule:
+            return self.says(label, word=client.rule)
+        client.wants = wants
+        rule = self.feeds(client, name, pair) if method == "SOURCE" else self.listens(client, name, pair)
+        if rule:
+            client.state = "answered"
+            return self.says(label, denial(rule), rule)
+        return self.says(label, WELCOME if method == "SOURCE" else self.head(client))
+
+    def head(self, client):
+        shown = self.mount(client.mount).shown
+        lines = ["HTTP/1.0 200 OK", "Content-Type: audio/mpeg"] + [f"icy-name: {shown}"] * (shown != "")
+        lines += [f"icy-metaint: {self.mount(client.home).interval}"] * client.wants + ["Connection: close", "", ""]
+        return "\r\n".join(lines).encode()
+
+    def brings(self, label, data):
+        client = self.labels[label]
+        if client is None or client.state not in ("feeds", "ended") or not data:
+            return []
+        if client.rule:
+            return self.says(label, word=client.rule)
+        self.takes(client, data)
+        return []
+
+    def titles(self, label, title):
+        client = self.labels[label]
+        if client is None:
+            return []
+        if client.rule:
+            return self.says(label, word=client.rule)
+        if client.state == "feeds":
+            self.live[client.feeding].title = title
+        return []
+
+    def rooms(self, label, room):
+        client = self.labels[label]
+        if client is None:
+            return []
+        if client.rule:
+            return self.says(label, word=client.rule)
+        return self.says(label, self.draws(client, room)) if client.state == "listens" else []
+
+    def closes(self, label):
+        client = self.labels[label]
+        return [] if client is None else self.says(label, word="done")
+
+
+def basic(pair):
+    return "" if pair is None else "Authorization: Basic " + base64.b64encode(":".join(pair).encode()).decode() + "\\r\\n"
+
+
+def user_line(pair):
+    return f"{pair[0]}:{hashlib.md5(pair[1].encode()).hexdigest()}\n"
