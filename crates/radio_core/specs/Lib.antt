@@ -15,6 +15,7 @@ pub mod Draw
 pub mod Leave
 pub mod Clock
 pub mod Changes
+pub mod Counts
 pub mod Moves
 pub mod Sound
 pub mod Due

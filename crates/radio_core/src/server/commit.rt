@@ -1,8 +1,9 @@
-ghost use Rattle.std.specs.Prelude.{◌≡◌, IsOk, OnOk, OnErr};
+ghost use Rattle.std.specs.Prelude.{◌≡◌, IsOk, IfOk, OnOk, OnErr};
 ghost use Rattle.std.specs.Option.{option_map};
 ghost use Rattle.radio_seats.specs.declared.seat.Seat.{Seat as SeatOf};
 ghost use Rattle.radio_seats.specs.Seats.{seat_of};
 ghost use Rattle.radio_core.specs.Changes.{changed, laggards_ended, called_home, session_ended, client_gone};
+ghost use Rattle.radio_core.specs.Counts.{counted, counts_home, counts_ended};
 ghost use Rattle.radio_core.specs.KeptChanges.{kept_changed, kept_taken_in};
 ghost use Rattle.radio_core.specs.Step.{NeedsNoMemory};
 
@@ -12,49 +13,82 @@ use crate::clients::ClientState;
 use crate::outcome::Change;
 use crate::timeouts::LagsBehind;
 use radio_blocks::{Block, Place};
-use radio_fallback::{Move, carry};
+use radio_fallback::{Carried, Move, carry};
 use radio_policy::Rule;
 use radio_seats::Seat;
 use radio_settings::{MountName, Shown};
 
+/// What a change answers that carries nobody along.
+pub(super) const NOBODY: Carried = Carried { moved: 0, ended: 0 };
+
 impl State {
-    /// Makes a change. `OutOfMemory` where memory was refused; nothing has changed then.
-    pub(super) fn commit(&mut self, change: Change) -> Result<(), OutOfMemory>
+    /// Makes a change, and answers how many listeners its move has carried along. `OutOfMemory` where
+    /// memory was refused; nothing has changed then.
+    pub(super) fn commit(&mut self, change: Change) -> Result<Carried, OutOfMemory>
         ensures ok { OnOk result (self.new ≡ kept_changed self.old change) }
+        ensures counts { IfOk result (λ counts. counts ≡ counted self.old change) }
         ensures err { OnErr result (self.new ≡ self.old) }
         ensures frees { NeedsNoMemory change → IsOk result }
     {
         match change {
-            Change::Admit { id, peer } => self.house.admit(id, peer),
-            Change::Begin { id, mount, shown } => self.begin(id, mount, shown),
-            Change::Receive { mount, block } => self.take_in(mount, block),
-            Change::TakeSeat { id, seat } => self.seat_listener(id, seat),
-            change => {
-                self.commit_in_place(change);
-                Ok(())
+            Change::Admit { id, peer } => {
+                self.house.admit(id, peer)?;
+                Ok(NOBODY)
             }
+            Change::Begin { id, mount, shown } => self.begin(id, mount, shown),
+            Change::Receive { mount, block } => {
+                self.take_in(mount, block)?;
+                Ok(NOBODY)
+            }
+            Change::TakeSeat { id, seat } => {
+                self.seat_listener(id, seat)?;
+                Ok(NOBODY)
+            }
+            change => Ok(self.commit_in_place(change)),
         }
     }
 
-    /// Makes a change that takes no memory.
-    fn commit_in_place(&mut self, change: Change)
-        ensures { NeedsNoMemory change → self.new ≡ changed self.old change }
+    /// Makes a change that takes no memory, and answers how many listeners its move has carried
+    /// along.
+    fn commit_in_place(&mut self, change: Change) -> Carried
+        ensures state { NeedsNoMemory change → self.new ≡ changed self.old change }
+        ensures counts { NeedsNoMemory change → result ≡ counted self.old change }
     {
         match change {
-            Change::Answer { id } => self.house.set_state(id, ClientState::Answered),
-            Change::SetTitle { mount, title } => self.house.set_title(&mount, title),
-            Change::Advance { id, place } => self.seats.advance(id, place),
             Change::End { id, mount } => {
-                self.end_session(mount);
+                let counts = self.end_session(mount);
                 self.house.set_state(id, ClientState::Answered);
+                counts
             }
             Change::EndAndLeave { id, mount } => {
-                self.end_session(mount);
+                let counts = self.end_session(mount);
                 self.forget(id);
+                counts
             }
-            Change::Forget { id } => self.forget(id),
-            Change::Tick { ms } => self.tick(ms),
-            other => drop(other),
+            Change::Answer { id } => {
+                self.house.set_state(id, ClientState::Answered);
+                NOBODY
+            }
+            Change::SetTitle { mount, title } => {
+                self.house.set_title(&mount, title);
+                NOBODY
+            }
+            Change::Advance { id, place } => {
+                self.seats.advance(id, place);
+                NOBODY
+            }
+            Change::Forget { id } => {
+                self.forget(id);
+                NOBODY
+            }
+            Change::Tick { ms } => {
+                self.tick(ms);
+                NOBODY
+            }
+            other => {
+                drop(other);
+                NOBODY
+            }
         }
     }
 
@@ -93,16 +127,14 @@ impl State {
 
     /// The client feeds the mount from now on, listeners can be seated there, and those come home
     /// whom it calls.
-    fn begin(&mut self, id: u64, mount: MountName, shown: Shown) -> Result<(), OutOfMemory>
+    fn begin(&mut self, id: u64, mount: MountName, shown: Shown) -> Result<Carried, OutOfMemory>
         ensures ok { OnOk result (self.new ≡ changed self.old (Change.Begin id mount shown)) }
+        ensures counts { IfOk result (λ counts. counts ≡ counted self.old (Change.Begin id mount shown)) }
         ensures err { OnErr result (self.new ≡ self.old) }
     {
         self.seats.prepare(&mount)?;
         match self.house.begin(self.alloc, id, mount, shown) {
-            Ok(()) => {
-                self.call_home(mount);
-                Ok(())
-            }
+            Ok(()) => Ok(self.call_home(mount)),
             Err(refused) => {
                 self.release_idle(&mount);
                 Err(refused)
@@ -122,23 +154,28 @@ impl State {
 
     /// Where the mount calls its listeners home, those come who had asked for it and sit elsewhere.
     /// It takes no memory.
-    fn call_home(&mut self, mount: MountName)
-        ensures { self.new ≡ called_home self.old mount }
+    fn call_home(&mut self, mount: MountName) -> Carried
+        ensures state { self.new ≡ called_home self.old mount }
+        ensures counts { result ≡ counts_home self.old mount }
     {
         let options = self.house.settings.options(&mount);
         if options.listeners.fallback_override {
-            let _counts = carry(&self.house, &mut self.seats, &Move::Up(mount));
+            carry(&self.house, &mut self.seats, &Move::Up(mount))
+        } else {
+            NOBODY
         }
     }
 
     /// The mount's session ends, and its listeners go where their walks land, or finish. It takes no
     /// memory.
-    pub(super) fn end_session(&mut self, mount: MountName)
-        ensures { self.new ≡ session_ended self.old mount }
+    pub(super) fn end_session(&mut self, mount: MountName) -> Carried
+        ensures state { self.new ≡ session_ended self.old mount }
+        ensures counts { result ≡ counts_ended self.old mount }
     {
         drop(self.house.live.remove(&mount));
-        let _counts = carry(&self.house, &mut self.seats, &Move::Ended(mount));
+        let counts = carry(&self.house, &mut self.seats, &Move::Ended(mount));
         self.seats.release(&mount);
+        counts
     }
 
     /// Nothing is left of the client. It takes no memory.

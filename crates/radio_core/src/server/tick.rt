@@ -53,7 +53,7 @@ impl State {
         };
         let mount = *session.mount.get();
         let number = session.number;
-        self.end_session(mount);
+        let _counts = self.end_session(mount);
         self.house
             .set_state(number, ClientState::Ended(Rule::SourceSilent));
         true

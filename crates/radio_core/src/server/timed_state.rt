@@ -2,6 +2,7 @@
 
 ghost use Rattle.std.specs.Prelude.{◌≡◌, IsOk, IfOk, OnOk, OnErr};
 ghost use Rattle.radio_core.specs.Changes.{ticked};
+ghost use Rattle.radio_core.specs.Counts.{counted};
 ghost use Rattle.radio_core.specs.Due.{at_moment, due_by, earliest, client_due, guest_due, last_moment, session_due, first_due};
 ghost use Rattle.radio_core.specs.KeptChanges.{kept_changed};
 ghost use Rattle.radio_seats.specs.Guests.{first_moment};
@@ -9,12 +10,14 @@ ghost use Rattle.radio_core.specs.Step.{outcome, StandsForSome, NeedsNoMemory};
 ghost use Rattle.radio_core.specs.World.{opening};
 ghost use Rattle.radio_events.specs.Events.{TakesNoMemory};
 
+use super::commit::NOBODY;
 use super::state::State;
 use crate::OutOfMemory;
 use crate::due::{GuestDue, LAST_MOMENT, client_due, due_at, seat_due};
 use crate::outcome::{Change, Outcome};
 use radio_access::Lists;
 use radio_events::Event;
+use radio_fallback::Carried;
 use radio_settings::Settings;
 use std::alloc::Global;
 use std::marker::Model;
@@ -72,30 +75,33 @@ impl TimedState {
         ensures frees { NeedsNoMemory change → IsOk result }
     {
         match self.commit(change) {
-            Ok(()) => Ok(told),
+            Ok(_counts) => Ok(told),
             Err(refused) => Err(refused),
         }
     }
 
-    /// Makes a change. `OutOfMemory` where memory was refused; nothing has changed then.
-    fn commit(&mut self, change: Change) -> Result<(), OutOfMemory>
+    /// Makes a change, and answers how many listeners its move has carried along. `OutOfMemory` where
+    /// memory was refused; nothing has changed then.
+    fn commit(&mut self, change: Change) -> Result<Carried, OutOfMemory>
         ensures ok { OnOk result (self.new ≡ kept_changed self.old change) }
+        ensures counts { IfOk result (λ counts. counts ≡ counted self.old change) }
         ensures err { OnErr result (self.new ≡ self.old) }
         ensures frees { NeedsNoMemory change → IsOk result }
     {
         match change {
             Change::Tick { ms } => {
                 self.tick(ms);
-                Ok(())
+                Ok(NOBODY)
             }
             change => self.commit_noting_due(change),
         }
     }
 
-    /// Makes a change, and notes when what it brings is due. `OutOfMemory` where memory was refused;
-    /// nothing has changed then.
-    fn commit_noting_due(&mut self, change: Change) -> Result<(), OutOfMemory>
+    /// Makes a change, and notes when what it brings is due; answers how many listeners its move has
+    /// carried along. `OutOfMemory` where memory was refused; nothing has changed then.
+    fn commit_noting_due(&mut self, change: Change) -> Result<Carried, OutOfMemory>
         ensures ok { OnOk result (self.new ≡ kept_changed self.old change) }
+        ensures counts { IfOk result (λ counts. counts ≡ counted self.old change) }
         ensures err { OnErr result (self.new ≡ self.old) }
         ensures frees { NeedsNoMemory change → IsOk result }
     {

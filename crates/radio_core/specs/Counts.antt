@@ -1,0 +1,35 @@
+-- How many listeners a change carries along.
+use Rattle.std.specs.Prelude.{ℕ, if◌then◌else◌, List}
+use Rattle.radio_settings.specs.Options.{options_for}
+use Rattle.radio_fallback.specs.declared.moves.Carried.{Carried}
+use Rattle.radio_fallback.specs.declared.moves.Move.{Move}
+use Rattle.radio_fallback.specs.declared.moves.Move.TheVariants.{Ended as HasEnded, Up}
+use Rattle.radio_fallback.specs.Carry.{carried}
+use Rattle.radio_core.specs.declared.outcome.Change.{Change}
+use Rattle.radio_core.specs.declared.outcome.Change.TheVariants.{Begin, End, EndAndLeave}
+use Rattle.radio_core.specs.Changes.{begun, session_over}
+use Rattle.radio_core.specs.Facts.{sight_of}
+use Rattle.radio_core.specs.World.{World}
+
+abbrev pub nobody : Carried
+nobody = record { moved = 0; ended = 0 }
+
+-- how many the move shifts and finishes, where this is the state before the first turn
+abbrev pub counts_along : World → Move → Carried
+counts_along w move = (carried (sight_of w.house) move w.seats).counts
+
+-- the mount's session ends: how many of its listeners go on elsewhere, and how many finish
+abbrev pub counts_ended : World → List ℕ → Carried
+counts_ended w mount = counts_along (session_over w mount) (HasEnded mount)
+
+-- a source has come up on the mount: how many come home
+abbrev pub counts_home : World → List ℕ → Carried
+counts_home w mount = (if (options_for w.house.settings mount).listeners.fallback_override then counts_along w (Up mount) else nobody)
+
+-- how many the move shifts and finishes that the change is, or brings; the moves of a clock, of which there may be several, are told to nobody and not
+-- counted
+abbrev pub counted : World → Change → Carried
+counted w (Begin id mount shown) = counts_home (record w { house = begun w.house id mount shown }) mount
+counted w (End id mount) = counts_ended w mount
+counted w (EndAndLeave id mount) = counts_ended w mount
+counted w change = nobody
