@@ -1,5 +1,5 @@
 -- sessions of mounts of which no two are the same, before and after a change of the list
-use Rattle.std.proofs.Common.{◌≡◌, Bool, true, false, ℕ, ◌<◌, ◌≤◌, Some, None, List, [], ◌∷◌, length, refl, ap, sym, subst, ◌∙◌, arith}
+use Rattle.std.proofs.Common.{◌≡◌, Bool, true, false, ℕ, Some, None, List, [], ◌∷◌, refl, ap, sym, subst, ◌∙◌}
 use Rattle.std.specs.Prelude.{find, filter, if◌then◌else◌}
 use Rattle.std.specs.Str.{bytes_eq}
 use Rattle.std.specs.declared.cmp.Ordering.{Ordering}
@@ -64,7 +64,7 @@ module _ (p : Session → Bool) where
   kept_apart (x ∷ live) apart = kept_apart_at x live (p x) apart (kept_apart live apart.1)
 
   -- a session that is found is the one of its mount
-  own_mount : (session : Session) → is_of session.mount session ≡ true
+  pub own_mount : (session : Session) → is_of session.mount session ≡ true
   own_mount session = (bytes_eq-Decides session.mount session.mount).1 refl
 
   found_own_at : (x : Session) (live : List Session) (session : Session) (b : Bool) → p x ≡ b → AreApart (x ∷ live)
@@ -82,34 +82,3 @@ module _ (p : Session → Bool) where
   pub found_own : (live : List Session) (session : Session) → AreApart live → find p live ≡ Some session → session_of live session.mount ≡ Some session
   found_own [] session apart found = cc
   found_own (x ∷ live) session apart found = found_own_at x live session (p x) refl apart (found_own live session apart.1) found
-
--- a list is shorter without an element that is found in it
-no_longer_at : {X : Type 0} (q : X → Bool) (x : X) (xs : List X) (b : Bool) → length (filter q xs) ≤ length xs
-    → length (if b then x ∷ filter q xs else filter q xs) ≤ length (x ∷ xs)
-no_longer_at q x xs true less = omega (arith, less)
-no_longer_at q x xs false less = omega (arith, less)
-
-no_longer : {X : Type 0} (q : X → Bool) (xs : List X) → length (filter q xs) ≤ length xs
-no_longer q [] = omega arith
-no_longer q (x ∷ xs) = no_longer_at q x xs (q x) (no_longer q xs)
-
-shorter_behind : {X : Type 0} (q : X → Bool) (x : X) (xs : List X) (b : Bool) → length (filter q xs) < length xs
-    → length (if b then x ∷ filter q xs else filter q xs) < length (x ∷ xs)
-shorter_behind q x xs true less = omega (arith, less)
-shorter_behind q x xs false less = omega (arith, less)
-
-without_first : {X : Type 0} (q : X → Bool) (x : X) (xs : List X) → q x ≡ false → length (filter q (x ∷ xs)) < length (x ∷ xs)
-without_first q x xs e = let less = no_longer q xs in rw e (omega (arith, less))
-
-module _ {X : Type 0} (p q : X → Bool) where
-  shorter_at : (x : X) (xs : List X) (found : X) (b : Bool) → p x ≡ b → q found ≡ false
-      → (find p xs ≡ Some found → length (filter q xs) < length xs) → find p (x ∷ xs) ≡ Some found → length (filter q (x ∷ xs)) < length (x ∷ xs)
-  shorter_at x xs found true e not later h =
-      let one : Some x ≡ Some found = sym (find_here p x xs e) ∙ h in
-      let same : x ≡ found = cc in
-      without_first q x xs (ap q same ∙ not)
-  shorter_at x xs found false e not later h = shorter_behind q x xs (q x) (later (sym (find_later p x xs e) ∙ h))
-
-  pub shorter : (xs : List X) (found : X) → q found ≡ false → find p xs ≡ Some found → length (filter q xs) < length xs
-  shorter [] found not h = cc
-  shorter (x ∷ xs) found not h = shorter_at x xs found (p x) refl not (shorter xs found not) h

@@ -1,5 +1,6 @@
 -- through each event, a client who is there keeps the address from which he came, and the moment
-use Rattle.std.proofs.Common.{◌≡◌, true, false, Bool, ℕ, ◌==◌, ◌+◌, zero, suc, Option, Some, None, List, [], ◌∷◌, length, map, refl, ap, sym, subst, ◌∙◌, arith}
+use Rattle.std.proofs.Common.{◌≡◌, true, false, Bool, ℕ, ◌==◌, ◌+◌, Option, Some, None, List, [], ◌∷◌, map, refl, ap, sym, subst, ◌∙◌, arith}
+use Rattle.std.specs.Prelude.{fold}
 use Rattle.std.specs.Option.{option_map}
 use Rattle.std.proofs.lemmas.Bool.Decides.{nat_tests}
 use Rattle.radio_addr.specs.declared.peer.Peer.{Peer}
@@ -15,7 +16,7 @@ use Rattle.radio_core.specs.declared.outcome.Change.TheVariants.{Admit}
 use Rattle.radio_core.specs.declared.standing.Standing.TheVariants.{Unknown}
 use Rattle.radio_core.specs.declared.house.House.{House}
 use Rattle.radio_core.specs.Source.{shown_for}
-use Rattle.radio_core.specs.Changes.{changed, begun, durations_over, first_silent, on_silent, session_silenced, silence, ticked, timed_out_by}
+use Rattle.radio_core.specs.Changes.{changed, begun, before_silence, session_silenced, silent_in, ticked}
 use Rattle.radio_core.specs.ClientSteps.{ArrivalsStay}
 use Rattle.radio_core.specs.Clients.{is_client, client_of, with_state, in_state, without_client}
 use Rattle.radio_core.specs.Sessions.{Session}
@@ -103,21 +104,18 @@ keeps_timed seconds ms xs id later e = by_found (client_of xs id) refl (sym (cli
         arrived = ap (λ (x : Client). x.arrived) (sym one);
       }
 
-keeps_silenced : (n : ℕ) (w : World) → Keeps w.house.clients (silence n w).house.clients
-keeps_silenced zero w = same_clients w.house.clients
-keeps_silenced (suc n) w = by_first (keeps_silenced n) (first_silent w) where
-  by_first : ((next : World) → Keeps next.house.clients (silence n next).house.clients) → (found : Option Session)
-      → Keeps w.house.clients (on_silent (silence n) w found).house.clients
-  by_first rest None = same_clients w.house.clients
-  by_first rest (Some session) =
-      let next = session_silenced w session in
-      keeps_then w.house.clients next.house.clients (silence n next).house.clients (keeps_state w.house.clients session.number _) (rest next)
+keeps_silenced : (sessions : List Session) (w : World) → Keeps w.house.clients (fold session_silenced w sessions).house.clients
+keeps_silenced [] w = same_clients w.house.clients
+keeps_silenced (session ∷ sessions) w =
+    let next = session_silenced w session in
+    keeps_then w.house.clients next.house.clients (fold session_silenced next sessions).house.clients (keeps_state w.house.clients session.number _)
+    (keeps_silenced sessions next)
 
 keeps_ticked : (w : World) (ms : ℕ) → Keeps w.house.clients (ticked w ms).house.clients
 keeps_ticked w ms =
-    let later = durations_over (record w { house = timed_out_by w.house ms }) in
+    let later = before_silence w ms in
     keeps_then w.house.clients later.house.clients (ticked w ms).house.clients
-    (keeps_timed w.house.settings.limits.header_timeout ms w.house.clients) (keeps_silenced (length later.house.live) later)
+    (keeps_timed w.house.settings.limits.header_timeout ms w.house.clients) (keeps_silenced (silent_in later) later)
 
 module _ (w : World) (s : IsSound w) where
   abbrev Stay : World → Type 0

@@ -1,6 +1,6 @@
 -- before anything is due a clock changes the time alone, and a moment from which on all is due stays one, where it is not past what a change brings
-use Rattle.std.proofs.Common.{◌≡◌, ℕ, zero, suc, ◌+◌, ◌*◌, ◌<◌, ◌≤◌, ◌==◌, Bool, true, false, Option, Some, None, List, [], ◌∷◌, min, Result, Ok, Err, OnOk, OnErr, refl, ap, sym, subst, ◌∙◌, arith, length}
-use Rattle.std.specs.Prelude.{if◌then◌else◌, fold, find, map, not}
+use Rattle.std.proofs.Common.{◌≡◌, ℕ, ◌+◌, ◌*◌, ◌<◌, ◌≤◌, ◌==◌, Bool, true, false, Option, Some, None, List, [], ◌∷◌, min, Result, Ok, Err, OnOk, OnErr, refl, ap, sym, subst, ◌∙◌, arith}
+use Rattle.std.specs.Prelude.{if◌then◌else◌, fold, filter, map, not}
 use Rattle.std.specs.Option.{option_map_or}
 use Rattle.std.proofs.lemmas.Bool.Decides.{nat_tests}
 use Rattle.radio_policy.specs.declared.rule.Rule.{Rule}
@@ -10,7 +10,6 @@ use Rattle.radio_settings.specs.Options.{options_for}
 use Rattle.radio_access.specs.Lists.{Lists}
 use Rattle.radio_tables.specs.Lists.{Each}
 use Rattle.radio_tables.proofs.EachLaws.{Each_each, Each_kept, Each_updated, Each_mapped, Each_placed}
-use Rattle.radio_tables.proofs.FindLaws.{finds_none}
 use Rattle.radio_seats.specs.declared.seat.Seat.{Seat}
 use Rattle.radio_seats.specs.declared.seat.Seating.{Seating}
 use Rattle.radio_seats.specs.declared.seat.Seating.TheVariants.{Sits, Finished}
@@ -25,14 +24,15 @@ use Rattle.radio_core.specs.declared.outcome.Change.TheVariants.{EndAndLeave, Fo
 use Rattle.radio_fallback.specs.declared.moves.Move.{Move}
 use Rattle.radio_fallback.specs.declared.moves.Move.TheVariants.{Ended as SessionEnds, Up}
 use Rattle.radio_fallback.proofs.Faring.{each_carried}
-use Rattle.radio_core.specs.Changes.{begun, carried_along, session_over, session_ended, called_home, client_gone, timed_out_by, durations_over, first_silent}
-use Rattle.radio_core.specs.Changes.{session_silenced, on_silent, silence, ticked}
+use Rattle.radio_core.specs.Changes.{begun, carried_along, session_over, session_ended, called_home, client_gone, before_silence}
+use Rattle.radio_core.specs.Changes.{session_silenced, silent_in, ticked}
 use Rattle.radio_core.specs.Clients.{newcomer, is_client, by_number, with_state, in_state}
 use Rattle.radio_core.specs.Due.{last_moment, due_at, due_in_state, client_due, listener_due, session_due, IsDueFrom, earliest, first_due, due_by, at_moment}
 use Rattle.radio_core.specs.Facts.{live_end, sight_of}
 use Rattle.radio_core.specs.KeptChanges.{kept_changed, longer_kept, kept_received}
 use Rattle.radio_core.specs.Sessions.{Session, is_of, by_mount, opened, with_title}
 use Rattle.radio_core.specs.Timeouts.{lies_back, lags_behind, asks_nothing, asks_too_late, timed_out, has_sat_out, is_silent}
+use Rattle.radio_core.proofs.SilentLemmas.{none_pass}
 use Rattle.radio_core.specs.World.{World, opening}
 
 -- before it is due, nothing has had its time
@@ -69,10 +69,6 @@ map_same : {X : Type 0} (f : X → X) (xs : List X) → Each (λ x. f x ≡ x) x
 map_same f [] all = refl
 map_same f (x ∷ xs) all = ap (λ y. y ∷ map f xs) all.0 ∙ ap (λ ys. x ∷ ys) (map_same f xs all.1)
 
-silence_none : (n : ℕ) (w : World) → first_silent w ≡ None → silence n w ≡ w
-silence_none zero w none = refl
-silence_none (suc n) w none = ap (on_silent (silence n) w) none
-
 module _ (w : World) (moment ms : ℕ) (due : IsDueFrom moment w) (before : ms < moment) where
   nobody_times_out : map (timed_out w.house.settings.limits.header_timeout ms) w.house.clients ≡ w.house.clients
   nobody_times_out =
@@ -90,20 +86,21 @@ module _ (w : World) (moment ms : ℕ) (due : IsDueFrom moment w) (before : ms <
       (λ listener h. ap (λ (b : Bool). record listener { seating = (if b then Finished TimeOver else listener.seating) })
       (has_not_sat_out w.house.settings ms listener.seating listener.id (omega (arith, before, h)))) w.seats due.listeners)
 
-  nobody_is_silent : find (is_silent w.house.settings.limits.source_timeout ms) w.house.live ≡ None
+  nobody_is_silent : filter (is_silent w.house.settings.limits.source_timeout ms) w.house.live ≡ []
   nobody_is_silent =
       let seconds = w.house.settings.limits.source_timeout in
-      finds_none (is_silent seconds ms) w.house.live
+      none_pass (is_silent seconds ms) w.house.live
       (Each_each (λ session. moment ≤ session_due seconds session) (λ session. is_silent seconds ms session ≡ false)
       (λ session h. not_yet seconds session.last_block ms (omega (arith, before, h))) w.house.live due.sessions)
 
   pub only_time_changes : at_moment w ms ≡ ticked w ms
   only_time_changes = sym (
-      ap (λ clients. silence n (record { house = record w.house { time = ms; clients = clients }; seats = with_ended w.seats (has_sat_out w.house.settings ms) TimeOver }))
+      ap (λ clients. all_silenced (record { house = record w.house { time = ms; clients = clients }; seats = with_ended w.seats (has_sat_out w.house.settings ms) TimeOver }))
       nobody_times_out
-      ∙ ap (λ seats. silence n (record (at_moment w ms) { seats = seats })) nobody_sits_out ∙ silence_none n (at_moment w ms) nobody_is_silent) where
-        n : ℕ
-        n = length w.house.live
+      ∙ ap (λ seats. all_silenced (record (at_moment w ms) { seats = seats })) nobody_sits_out
+      ∙ ap (λ sessions. fold session_silenced (at_moment w ms) sessions) nobody_is_silent) where
+        all_silenced : World → World
+        all_silenced later = fold session_silenced later (silent_in later)
 
 -- all is due at the earliest moment or later
 
@@ -241,13 +238,9 @@ module _ (moment : ℕ) (last : moment ≤ last_moment) where
         sessions = over.sessions;
       }
 
-  silence_due : (n : ℕ) (w : World) → IsDueFrom moment w → IsDueFrom moment (silence n w)
-  silence_due zero w due = due
-  silence_due (suc n) w due = by_first (silence_due n) (first_silent w) where
-    by_first : ((next : World) → IsDueFrom moment next → IsDueFrom moment (silence n next)) → (found : Option Session)
-        → IsDueFrom moment (on_silent (silence n) w found)
-    by_first rest None = due
-    by_first rest (Some session) = rest (session_silenced w session) (silenced_due w session due)
+  silence_due : (sessions : List Session) (w : World) → IsDueFrom moment w → IsDueFrom moment (fold session_silenced w sessions)
+  silence_due [] w due = due
+  silence_due (session ∷ sessions) w due = silence_due sessions (session_silenced w session) (silenced_due w session due)
 
   timed_out_due : (seconds ms : ℕ) (client : Client) (late : Bool) → moment ≤ client_due seconds client
       → moment ≤ client_due seconds (with_state (if late then Ended HeaderTimeout else client.state) client)
@@ -257,8 +250,8 @@ module _ (moment : ℕ) (last : moment ≤ last_moment) where
   ticked_due : (w : World) (ms : ℕ) → IsDueFrom moment w → IsDueFrom moment (ticked w ms)
   ticked_due w ms due =
       let seconds = w.house.settings.limits.header_timeout in
-      let later = durations_over (record w { house = timed_out_by w.house ms }) in
-      silence_due (length later.house.live) later (record {
+      let later = before_silence w ms in
+      silence_due (silent_in later) later (record {
         clients = Each_mapped _ _ (timed_out seconds ms) (λ client h. timed_out_due seconds ms client (asks_too_late seconds ms client) h) w.house.clients due.clients;
         listeners = ended_are_due w (has_sat_out w.house.settings ms) TimeOver due.listeners;
         sessions = due.sessions;

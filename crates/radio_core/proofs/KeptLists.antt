@@ -1,6 +1,6 @@
 -- the sessions with what is kept of their streams, through each change of the sessions
 use Rattle.std.proofs.Common.{◌≡◌, Bool, true, false, ℕ, Option, Some, None, List, [], ◌∷◌, refl, ap, ◌∙◌}
-use Rattle.std.specs.Prelude.{find, not, if◌then◌else◌}
+use Rattle.std.specs.Prelude.{filter, not, if◌then◌else◌}
 use Rattle.std.specs.declared.cmp.Ordering.{Ordering}
 use Rattle.std.specs.declared.cmp.Ordering.TheVariants.{Less, Equal, Greater}
 use Rattle.std.specs.Option.{option_map, option_map_or}
@@ -21,9 +21,19 @@ module _ (limit : ℕ) where
   pub kept_found : (live : List Session) (mount : List ℕ) → session_of (kept_live limit live) mount ≡ option_map (kept_session limit) (session_of live mount)
   kept_found live mount = find_mapped (is_of mount) (kept_session limit) (λ x. refl) live
 
+  -- and so are those that are silent
+  silent_at : (session : Session) (live : List Session) (seconds now : ℕ) (silent : Bool)
+      → filter (is_silent seconds now) (kept_live limit live) ≡ kept_live limit (filter (is_silent seconds now) live)
+      → (if silent then kept_session limit session ∷ filter (is_silent seconds now) (kept_live limit live)
+      else filter (is_silent seconds now) (kept_live limit live))
+      ≡ kept_live limit (if silent then session ∷ filter (is_silent seconds now) live else filter (is_silent seconds now) live)
+  silent_at session live seconds now true later = ap (λ (t : List Session). kept_session limit session ∷ t) later
+  silent_at session live seconds now false later = later
+
   pub kept_silent : (live : List Session) (seconds now : ℕ)
-      → find (is_silent seconds now) (kept_live limit live) ≡ option_map (kept_session limit) (find (is_silent seconds now) live)
-  kept_silent live seconds now = find_mapped (is_silent seconds now) (kept_session limit) (λ x. refl) live
+      → filter (is_silent seconds now) (kept_live limit live) ≡ kept_live limit (filter (is_silent seconds now) live)
+  kept_silent [] seconds now = refl
+  kept_silent (session ∷ live) seconds now = silent_at session live seconds now (is_silent seconds now session) (kept_silent live seconds now)
 
   end_in : (found : Option Session) → ((session : Session) → found ≡ Some session → HasRisingStarts session)
       → option_map_or (λ (session : Session). end_of session.stream) (option_map (kept_session limit) found) 0

@@ -1,7 +1,7 @@
 -- what holds of each seat's place in the stream of its session holds still after each event
-use Rattle.std.proofs.Common.{◌≡◌, ◌⊎◌, inl, inr, Bool, true, false, ℕ, zero, suc, ◌+◌, ◌-◌, ◌≤◌, ◌==◌, Option, Some, None, List, [], ◌∷◌, length, refl, ap, sym}
+use Rattle.std.proofs.Common.{◌≡◌, ◌⊎◌, inl, inr, Bool, true, false, ℕ, ◌+◌, ◌-◌, ◌≤◌, ◌==◌, Option, Some, None, List, [], ◌∷◌, length, refl, ap, sym}
 use Rattle.std.proofs.Common.{subst, ◌∙◌, arith}
-use Rattle.std.specs.Prelude.{◌&&◌, nat_lt, if◌then◌else◌}
+use Rattle.std.specs.Prelude.{◌&&◌, nat_lt, if◌then◌else◌, fold}
 use Rattle.std.specs.Option.{option_map, option_map_or}
 use Rattle.std.specs.Str.{bytes_eq}
 use Rattle.std.proofs.lemmas.Bool.{ltb-false}
@@ -27,8 +27,8 @@ use Rattle.radio_fallback.specs.declared.moves.Move.TheVariants.{Ended as Sessio
 use Rattle.radio_fallback.specs.Fares.{seat_at_end}
 use Rattle.radio_fallback.proofs.Faring.{Faring, HasStayed, HasGone, HasLost, fares}
 use Rattle.radio_core.specs.declared.house.House.{House}
-use Rattle.radio_core.specs.Changes.{changed, begun, received, carried_along, session_over, session_ended, called_home, timed_out_by, durations_over}
-use Rattle.radio_core.specs.Changes.{first_silent, session_silenced, on_silent, silence, ticked}
+use Rattle.radio_core.specs.Changes.{changed, begun, received, carried_along, session_over, session_ended, called_home}
+use Rattle.radio_core.specs.Changes.{before_silence, session_silenced, silent_in, ticked}
 use Rattle.radio_core.specs.Facts.{live_end, sight_of}
 use Rattle.radio_core.specs.Lagging.{EachSeat}
 use Rattle.radio_core.specs.Listen.{burst_of, first_seat}
@@ -113,27 +113,24 @@ seat_before w him id seat e =
 fewer_left : (w : World) (him : ℕ) → HasFewer w (changed w (Forget him))
 fewer_left w him = record { settings = refl; seats = λ id seat e. inl (seat_before w him id seat e); sessions = λ mount session e. e }
 
-fewer_silenced : (n : ℕ) (w : World) → AreByNumber w.seats → HasFewer w (silence n w)
-fewer_silenced zero w order = record { settings = refl; seats = λ id seat e. inl e; sessions = λ mount session e. e }
-fewer_silenced (suc n) w order = by_first (fewer_silenced n) (first_silent w) where
-  by_first : ((next : World) → AreByNumber next.seats → HasFewer next (silence n next)) → (found : Option Session) → HasFewer w (on_silent (silence n) w found)
-  by_first rest None = record { settings = refl; seats = λ id seat e. inl e; sessions = λ mount session e. e }
-  by_first rest (Some session) =
-      let ended = fewer_ended w session.mount order in
-      let next = session_silenced w session in
-      fewer_twice w next (silence n next) (record { settings = refl; seats = ended.seats; sessions = ended.sessions })
-      (rest next (order_over w session.mount order))
+fewer_silenced : (sessions : List Session) (w : World) → AreByNumber w.seats → HasFewer w (fold session_silenced w sessions)
+fewer_silenced [] w order = record { settings = refl; seats = λ id seat e. inl e; sessions = λ mount session e. e }
+fewer_silenced (session ∷ sessions) w order =
+    let ended = fewer_ended w session.mount order in
+    let next = session_silenced w session in
+    fewer_twice w next (fold session_silenced next sessions) (record { settings = refl; seats = ended.seats; sessions = ended.sessions })
+    (fewer_silenced sessions next (order_over w session.mount order))
 
 fewer_ticked : (w : World) (ms : ℕ) → AreByNumber w.seats → HasFewer w (ticked w ms)
 fewer_ticked w ms order =
-    let later = durations_over (record w { house = timed_out_by w.house ms }) in
+    let later = before_silence w ms in
     fewer_twice w later (ticked w ms)
     (record {
       settings = refl;
       seats = λ id seat e. inl (had_seat (has_sat_out w.house.settings ms) TimeOver w.seats id seat e);
       sessions = λ mount session e. e;
     })
-    (fewer_silenced (length later.house.live) later (order_ended w.seats order (has_sat_out w.house.settings ms) TimeOver))
+    (fewer_silenced (silent_in later) later (order_ended w.seats order (has_sat_out w.house.settings ms) TimeOver))
 
 fewer_called : (w : World) (mount : List ℕ) → AreByNumber w.seats → HasFewer w (called_home w mount)
 fewer_called w mount order = by_test (options_for w.house.settings mount).listeners.fallback_override where

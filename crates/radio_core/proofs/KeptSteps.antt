@@ -1,8 +1,6 @@
 -- a change of a state in which only a queue is kept of each stream is the change of the state; and blocks rise still
-use Rattle.std.proofs.Common.{◌≡◌, ℕ, zero, suc, Option, Some, None, List, length, refl, ap, sym, subst, ◌∙◌, arith, length-append}
-use Rattle.std.specs.Prelude.{not}
-use Rattle.std.specs.Option.{option_map}
-use Rattle.std.proofs.lemmas.List.{length-map}
+use Rattle.std.proofs.Common.{◌≡◌, ℕ, Some, List, [], ◌∷◌, refl, ap, sym, subst, ◌∙◌, arith, length-append}
+use Rattle.std.specs.Prelude.{not, fold}
 use Rattle.radio_policy.specs.declared.rule.Rule.TheVariants.{Lagged, SourceSilent}
 use Rattle.radio_tables.specs.Lists.{Each}
 use Rattle.radio_tables.proofs.EachLaws.{Each_kept, Each_updated, Each_placed}
@@ -13,8 +11,7 @@ use Rattle.radio_core.specs.declared.outcome.Change.TheVariants.{Nothing, Answer
 use Rattle.radio_core.specs.declared.outcome.Change.TheVariants.{EndAndLeave, Forget, Tick}
 use Rattle.radio_core.specs.declared.house.House.{House}
 use Rattle.radio_core.specs.Changes.{changed, now_in_state, begun, carried_along, session_over, session_ended, called_home, client_gone, laggards_ended}
-use Rattle.radio_core.specs.Changes.{timed_out_by, durations_over, first_silent, session_silenced}
-use Rattle.radio_core.specs.Changes.{on_silent, silence, ticked}
+use Rattle.radio_core.specs.Changes.{before_silence, session_silenced, silent_in, ticked}
 use Rattle.radio_core.specs.Clients.{in_state}
 use Rattle.radio_core.specs.Kept.{kept_session, kept_live, kept_of}
 use Rattle.radio_core.specs.KeptChanges.{kept_changed}
@@ -47,13 +44,10 @@ rise_fed live mount block moment rise = Each_updated HasRisingStarts (is_of moun
 rise_ended : (w : World) (mount : List ℕ) → Each HasRisingStarts w.house.live → Each HasRisingStarts (session_ended w mount).house.live
 rise_ended w mount rise = Each_kept HasRisingStarts HasRisingStarts (λ session. not (is_of mount session)) (λ x r e. r) w.house.live rise
 
-rise_silenced : (n : ℕ) (w : World) → Each HasRisingStarts w.house.live → Each HasRisingStarts (silence n w).house.live
-rise_silenced zero w rise = rise
-rise_silenced (suc n) w rise = by_first (rise_silenced n) (first_silent w) where
-  by_first : ((next : World) → Each HasRisingStarts next.house.live → Each HasRisingStarts (silence n next).house.live) → (found : Option Session)
-      → Each HasRisingStarts (on_silent (silence n) w found).house.live
-  by_first rest None = rise
-  by_first rest (Some session) = rest (session_silenced w session) (rise_ended w session.mount rise)
+rise_silenced : (sessions : List Session) (w : World) → Each HasRisingStarts w.house.live
+    → Each HasRisingStarts (fold session_silenced w sessions).house.live
+rise_silenced [] w rise = rise
+rise_silenced (session ∷ sessions) w rise = rise_silenced sessions (session_silenced w session) (rise_ended w session.mount rise)
 
 rise_begun : (w : World) (id : ℕ) (mount : List ℕ) (shown : Shown) → Each HasRisingStarts w.house.live
     → Each HasRisingStarts (begun w.house id mount shown).live
@@ -74,8 +68,8 @@ rise_changed w rise (End id mount) = rise_ended w mount rise
 rise_changed w rise (EndAndLeave id mount) = rise_ended w mount rise
 rise_changed w rise (Forget id) = rise
 rise_changed w rise (Tick ms) =
-    let later = durations_over (record w { house = timed_out_by w.house ms }) in
-    rise_silenced (length later.house.live) later rise
+    let later = before_silence w ms in
+    rise_silenced (silent_in later) later rise
 
 -- sessions end alike
 
@@ -95,16 +89,12 @@ module _ (w : World) where
   silenced_alike session rise =
       ap (λ (v : World). record v { house = now_in_state v.house session.number (Ended SourceSilent) }) (ended_alike session.mount rise)
 
-silence_kept : (n : ℕ) (w : World) → Each HasRisingStarts w.house.live → silence n (kept_of w) ≡ kept_of (silence n w)
-silence_kept zero w rise = refl
-silence_kept (suc n) w rise =
-    ap (on_silent (silence n) (kept_of w)) (kept_silent (queue w) w.house.live w.house.settings.limits.source_timeout w.house.time)
-    ∙ by_first (silence_kept n) (first_silent w) where
-      by_first : ((next : World) → Each HasRisingStarts next.house.live → silence n (kept_of next) ≡ kept_of (silence n next)) → (found : Option Session)
-          → on_silent (silence n) (kept_of w) (option_map (kept_session w.house.settings.limits.queue_size) found) ≡ kept_of (on_silent (silence n) w found)
-      by_first rest None = refl
-      by_first rest (Some session) =
-          ap (silence n) (silenced_alike w session rise) ∙ rest (session_silenced w session) (rise_ended w session.mount rise)
+silence_kept : (sessions : List Session) (w : World) → Each HasRisingStarts w.house.live
+    → fold session_silenced (kept_of w) (kept_live w.house.settings.limits.queue_size sessions) ≡ kept_of (fold session_silenced w sessions)
+silence_kept [] w rise = refl
+silence_kept (session ∷ sessions) w rise =
+    ap (λ (v : World). fold session_silenced v (kept_live w.house.settings.limits.queue_size sessions)) (silenced_alike w session rise)
+    ∙ silence_kept sessions (session_silenced w session) (rise_ended w session.mount rise)
 
 module _ (w : World) (rise : Each HasRisingStarts w.house.live) where
   received_alike : (mount block : List ℕ) → kept_changed (kept_of w) (Receive mount block) ≡ kept_of (changed w (Receive mount block))
@@ -116,8 +106,10 @@ module _ (w : World) (rise : Each HasRisingStarts w.house.live) where
 
   ticked_alike : (ms : ℕ) → ticked (kept_of w) ms ≡ kept_of (ticked w ms)
   ticked_alike ms =
-      let later = durations_over (record w { house = timed_out_by w.house ms }) in
-      ap (λ (n : ℕ). silence n (kept_of later)) (length-map later.house.live (kept_session (queue w))) ∙ silence_kept (length later.house.live) later rise
+      let later = before_silence w ms in
+      ap (λ (sessions : List Session). fold session_silenced (kept_of later) sessions)
+      (kept_silent (queue w) later.house.live later.house.settings.limits.source_timeout later.house.time)
+      ∙ silence_kept (silent_in later) later rise
 
   pub changed_kept : (change : Change) → kept_changed (kept_of w) change ≡ kept_of (changed w change)
   changed_kept Nothing = refl

@@ -5,6 +5,7 @@ pub mod Soundness
 pub mod SoundSessions
 pub mod SoundTitles
 pub mod ApartLemmas
+pub mod SilentLemmas
 pub mod SeatedLemmas
 pub mod Fates
 pub mod CarriedFates

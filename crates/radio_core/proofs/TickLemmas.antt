@@ -1,15 +1,12 @@
 -- what the clock ends
-use Rattle.std.proofs.Common.{◌≡◌, ◌⊎◌, inl, inr, Bool, true, false, ℕ, zero, suc, ◌==◌, Option, Some, None, List, length, refl, ap}
-use Rattle.std.proofs.Common.{sym, subst, ◌∙◌, arith}
-use Rattle.std.specs.Prelude.{if◌then◌else◌, map, not}
+use Rattle.std.proofs.Common.{◌≡◌, Bool, true, false, ℕ, Option, Some, None, List, [], ◌∷◌, ◌++◌, append_assoc, refl, ap}
+use Rattle.std.proofs.Common.{sym, subst, ◌∙◌}
+use Rattle.std.specs.Prelude.{if◌then◌else◌, find, fold, map}
 use Rattle.std.specs.Option.{option_map}
-use Rattle.std.specs.Str.{bytes_eq}
-use Rattle.std.proofs.lemmas.Bool.Decides.{nat_tests}
-use Rattle.std.proofs.lemmas.Slice.Eq.{bytes_eq-Decides}
-use Rattle.radio_policy.specs.declared.rule.Rule.TheVariants.{NotLive, TimeOver, HeaderTimeout, SourceSilent}
+use Rattle.std.proofs.lemmas.List.Sums.{fold-append}
+use Rattle.radio_policy.specs.declared.rule.Rule.TheVariants.{TimeOver, HeaderTimeout, SourceSilent}
 use Rattle.radio_addr.specs.declared.peer.Peer.{Peer}
 use Rattle.radio_tables.proofs.FindLaws.{find_mapped, found_passes}
-use Rattle.radio_tables.proofs.KeyLaws.{by_number, by_name}
 use Rattle.radio_seats.specs.declared.seat.Listener.{Listener}
 use Rattle.radio_seats.specs.declared.seat.Seat.{Seat}
 use Rattle.radio_seats.specs.Seats.{listener_of, seat_of}
@@ -18,21 +15,22 @@ use Rattle.radio_core.specs.declared.clients.ClientState.{ClientState}
 use Rattle.radio_core.specs.declared.clients.ClientState.TheVariants.{Undecided as IsNew, Feeds as IsSource, Listens, Answered as HasHisAnswer, Ended}
 use Rattle.radio_events.specs.declared.event.Event.TheVariants.{Clock}
 use Rattle.radio_core.specs.declared.standing.Standing.{Standing}
-use Rattle.radio_core.specs.declared.standing.Standing.TheVariants.{Unknown, Undecided, Feeds, Sits, Finished}
-use Rattle.radio_core.specs.Changes.{session_over, session_ended, timed_out_by, durations_over, first_silent, session_silenced, on_silent, silence, ticked}
+use Rattle.radio_core.specs.declared.standing.Standing.TheVariants.{Undecided, Feeds, Sits, Finished}
+use Rattle.radio_core.specs.Changes.{session_over, session_ended, timed_out_by, before_silence, silent_in, session_silenced, ticked}
 use Rattle.radio_core.specs.Clients.{is_client, client_of, with_state}
 use Rattle.radio_core.specs.Finishes.{Cause, SessionIsOver, HasSatOut, HasAskedNothing, HasSentNothing}
-use Rattle.radio_core.specs.Moves.{IsOnTheWay, AtFirst, OneMore, BySilence, TakesTo}
+use Rattle.radio_core.specs.Moves.{Brings, BySilence, TakesTo}
 use Rattle.radio_fallback.specs.declared.moves.Move.TheVariants.{Ended as SessionEnds}
 use Rattle.radio_policy.specs.declared.rule.Rule.{Rule}
 use Rattle.radio_settings.specs.declared.settings.Settings.{Settings}
-use Rattle.radio_core.specs.Sessions.{Session, is_of, session_of}
+use Rattle.radio_core.specs.Sessions.{Session, session_of}
 use Rattle.radio_core.specs.Sound.{IsSound}
 use Rattle.radio_core.specs.Timeouts.{has_sat_out, asks_nothing, asks_too_late, timed_out, is_silent}
 use Rattle.radio_core.specs.World.{World, standing_of, standing_in}
 use Rattle.radio_core.proofs.ApartLemmas.{found_own}
 use Rattle.radio_core.proofs.Fates.{IsActive, Fate, GoesOn, IsEnded, HasStopped, IsMoved, Fates, HasEnded, Nobody, feeds_on, sound_fates, fates_none, fates_then, seats_fates}
 use Rattle.radio_core.proofs.Lookups.{is_over}
+use Rattle.radio_core.proofs.SilentLemmas.{found_first, silent_then}
 use Rattle.radio_core.proofs.SoundEnds.{over_fates, late_beside, there, still_feeds, has_none_then, order_then}
 use Rattle.radio_core.proofs.Standings.{Turns, turns_ended_by}
 
@@ -150,82 +148,114 @@ module _ (w : World) (s : IsSound w) (ms : ℕ) where
   sound_timed = sound_fates ClockCause ClockCarries Nobody HasEnded w timed s timeout_fates
 
   -- listeners who have had their time
-  abbrev pub sat_out : World
-  sat_out = durations_over timed
-
-  pub fates_sat_out : ClockFates timed sat_out
+  pub fates_sat_out : ClockFates timed (before_silence w ms)
   fates_sat_out =
       seats_fates ClockCause ClockCarries Nobody HasEnded timed sound_timed (has_sat_out w.house.settings ms) TimeOver
       (λ id seat has out. HasSatOut ms seat refl has out)
 
-  pub sound_sat_out : IsSound sat_out
-  sound_sat_out = sound_fates ClockCause ClockCarries Nobody HasEnded timed sat_out sound_timed fates_sat_out
+  pub sound_sat_out : IsSound (before_silence w ms)
+  sound_sat_out = sound_fates ClockCause ClockCarries Nobody HasEnded timed (before_silence w ms) sound_timed fates_sat_out
+
+  pub until_sat_out : ClockFates w (before_silence w ms)
+  until_sat_out = fates_then ClockCause ClockCarries w timed (before_silence w ms) timeout_fates fates_sat_out
+
+  -- a state on the way of the clock: of the silent sessions some have ended, and these are to end still
+  pub record IsOnTheWay (sessions : List Session) (during : World) : Type 0 where
+    pub before : List Session
+    pub are_all : silent_in (before_silence w ms) ≡ before ++ sessions
+    pub have_ended : during ≡ fold session_silenced (before_silence w ms) before
+    pub are_left : silent_in during ≡ sessions
+    pub sound : IsSound during
+    pub now : during.house.time ≡ ms
+    pub so_far : ClockFates w during
+
+  pub at_first : IsOnTheWay (silent_in (before_silence w ms)) (before_silence w ms)
+  at_first = record {
+    before = [];
+    are_all = refl;
+    have_ended = refl;
+    are_left = refl;
+    sound = sound_sat_out;
+    now = refl;
+    so_far = until_sat_out;
+  }
 
   -- a silent session ends
-  module _ (during : World) (sound : IsSound during) (way : IsOnTheWay sat_out during) (now : during.house.time ≡ ms) (so_far : ClockFates w during)
-      (session : Session) (found : first_silent during ≡ Some session) where
+  module _ (session : Session) (sessions : List Session) (during : World) (way : IsOnTheWay (session ∷ sessions) during) where
     abbrev after_silence : World
     after_silence = session_silenced during session
 
-    live_there : session_of during.house.live session.mount ≡ Some session
-    live_there = found_own (is_silent during.house.settings.limits.source_timeout during.house.time) during.house.live session sound.apart found
+    abbrev silent_then_too : Session → Bool
+    silent_then_too = is_silent during.house.settings.limits.source_timeout during.house.time
+
+    found : find silent_then_too during.house.live ≡ Some session
+    found = found_first silent_then_too during.house.live session sessions way.are_left
+
+    pub live_there : session_of during.house.live session.mount ≡ Some session
+    live_there = found_own silent_then_too during.house.live session way.sound.apart found
 
     silent_now : is_silent w.house.settings.limits.source_timeout ms session ≡ true
     silent_now =
-        ap (λ (settings : Settings). is_silent settings.limits.source_timeout ms session) (sym so_far.settings)
-        ∙ ap (λ (moment : ℕ). is_silent during.house.settings.limits.source_timeout moment session) (sym now)
-        ∙ found_passes (is_silent during.house.settings.limits.source_timeout during.house.time) during.house.live session found
+        ap (λ (settings : Settings). is_silent settings.limits.source_timeout ms session) (sym way.so_far.settings)
+        ∙ ap (λ (moment : ℕ). is_silent during.house.settings.limits.source_timeout moment session) (sym way.now)
+        ∙ found_passes silent_then_too during.house.live session found
 
     feeding : standing_of during session.number ≡ Feeds session.mount
-    feeding = sound.fed session.mount session live_there
+    feeding = way.sound.fed session.mount session live_there
 
     fed_before : standing_of w session.number ≡ Feeds session.mount
-    fed_before = (feeds_on ClockCause ClockCarries Nobody HasEnded w during s so_far session.number session.mount feeding).0
+    fed_before = (feeds_on ClockCause ClockCarries Nobody HasEnded w during s way.so_far session.number session.mount feeding).0
+
+    brings : Brings w (Clock ms) (SessionEnds session.mount) (session_over during session.mount)
+    brings =
+        subst (λ (v : World). Brings w (Clock ms) (SessionEnds session.mount) (session_over v session.mount)) (sym way.have_ended)
+        (BySilence ms way.before sessions session way.are_all)
 
     pub turned : Turns (session_ended during session.mount) (session_silenced during session) session.number (Finished SourceSilent)
     turned = turns_ended_by (session_ended during session.mount) session.number SourceSilent
-        (λ u. let still = still_feeds during sound session.number session.mount feeding in cc)
+        (λ u. let still = still_feeds during way.sound session.number session.mount feeding in cc)
 
     pub silenced_fates : ClockFates during (session_silenced during session)
     silenced_fates =
-        over_fates ClockCause ClockCarries Nobody during sound session.number session.mount feeding after_silence (Finished SourceSilent) turned refl
+        over_fates ClockCause ClockCarries Nobody during way.sound session.number session.mount feeding after_silence (Finished SourceSilent) turned refl
         (λ id other. refl)
-        (IsEnded SourceSilent (HasSentNothing ms session refl fed_before (so_far.live session.mount session live_there) silent_now)
-        (subst (λ (x : Standing). IsActive x) (sym feeding) tt) turned.his (has_none_then during sound session.number session.mount feeding)
+        (IsEnded SourceSilent (HasSentNothing ms session refl fed_before (way.so_far.live session.mount session live_there) silent_now)
+        (subst (λ (x : Standing). IsActive x) (sym feeding) tt) turned.his (has_none_then during way.sound session.number session.mount feeding)
         (λ m e.
         let both : Feeds session.mount ≡ Feeds m = sym feeding ∙ e in
         let one : session.mount ≡ m = cc in
         ap (session_of after_silence.house.live) (sym one) ∙ is_over during.house.live session.mount))
         (λ id seat rule had turn.
-        let old = had_before ClockCause ClockCarries Nobody HasEnded w during so_far id seat had in
-        SessionIsOver rule old.0 old.1 (SessionEnds session.mount, session_over during session.mount, BySilence ms during session way found, turn))
-        (λ id target turn. (SessionEnds session.mount, session_over during session.mount, BySilence ms during session way found, turn))
-        refl refl refl (order_then during sound session.number session.mount feeding)
-        (late_beside during.house.clients session.number (Ended SourceSilent) (there during sound session.number session.mount feeding).0
-        (there during sound session.number session.mount feeding).1 (λ client seconds moment late. cc))
+        let old = had_before ClockCause ClockCarries Nobody HasEnded w during way.so_far id seat had in
+        SessionIsOver rule old.0 old.1 (SessionEnds session.mount, session_over during session.mount, brings, turn))
+        (λ id target turn. (SessionEnds session.mount, session_over during session.mount, brings, turn))
+        refl refl refl (order_then during way.sound session.number session.mount feeding)
+        (late_beside during.house.clients session.number (Ended SourceSilent) (there during way.sound session.number session.mount feeding).0
+        (there during way.sound session.number session.mount feeding).1 (λ client seconds moment late. cc))
+
+    pub goes_on : IsOnTheWay sessions (session_silenced during session)
+    goes_on = record {
+      before = way.before ++ session ∷ [];
+      are_all = way.are_all ∙ sym (append_assoc way.before (session ∷ []) sessions);
+      have_ended =
+          ap (λ (v : World). session_silenced v session) way.have_ended
+          ∙ sym (fold-append session_silenced (before_silence w ms) way.before (session ∷ []));
+      are_left = silent_then during session way.sound.apart sessions way.are_left;
+      sound = sound_fates ClockCause ClockCarries Nobody HasEnded during after_silence way.sound silenced_fates;
+      now = way.now;
+      so_far = fates_then ClockCause ClockCarries w during after_silence way.so_far silenced_fates;
+    }
 
   -- all silent sessions end
-  silence_at : (n : ℕ) (during : World) → IsSound during → IsOnTheWay sat_out during → during.house.time ≡ ms → ClockFates w during
-      → ((next : World) → IsSound next → IsOnTheWay sat_out next → next.house.time ≡ ms → ClockFates w next → ClockFates next (silence n next))
-      → (found : Option Session) → first_silent during ≡ found → ClockFates during (on_silent (silence n) during found)
-  silence_at n during sound way now so_far rest None e = fates_none ClockCause ClockCarries Nobody HasEnded during sound
-  silence_at n during sound way now so_far rest (Some session) e =
+  silence_fates : (sessions : List Session) (during : World) → IsOnTheWay sessions during → ClockFates during (fold session_silenced during sessions)
+  silence_fates [] during way = fates_none ClockCause ClockCarries Nobody HasEnded during way.sound
+  silence_fates (session ∷ sessions) during way =
       let next = session_silenced during session in
-      let f = silenced_fates during sound way now so_far session e in
-      fates_then ClockCause ClockCarries during next (silence n next) f
-      (rest next (sound_fates ClockCause ClockCarries Nobody HasEnded during next sound f) (OneMore during session way e) now
-      (fates_then ClockCause ClockCarries w during next so_far f))
+      fates_then ClockCause ClockCarries during next (fold session_silenced next sessions) (silenced_fates session sessions during way)
+      (silence_fates sessions next (goes_on session sessions during way))
 
-  silence_fates : (n : ℕ) (during : World) → IsSound during → IsOnTheWay sat_out during → during.house.time ≡ ms → ClockFates w during
-      → ClockFates during (silence n during)
-  silence_fates zero during sound way now so_far = fates_none ClockCause ClockCarries Nobody HasEnded during sound
-  silence_fates (suc n) during sound way now so_far = silence_at n during sound way now so_far (silence_fates n) (first_silent during) refl
-
-  pub until_sat_out : ClockFates w sat_out
-  until_sat_out = fates_then ClockCause ClockCarries w timed sat_out timeout_fates fates_sat_out
-
-  pub fates_silence : ClockFates sat_out (ticked w ms)
-  fates_silence = silence_fates (length sat_out.house.live) sat_out sound_sat_out AtFirst refl until_sat_out
+  pub fates_silence : ClockFates (before_silence w ms) (ticked w ms)
+  fates_silence = silence_fates (silent_in (before_silence w ms)) (before_silence w ms) at_first
 
   pub ticked_fates : ClockFates w (ticked w ms)
-  ticked_fates = fates_then ClockCause ClockCarries w sat_out (ticked w ms) until_sat_out fates_silence
+  ticked_fates = fates_then ClockCause ClockCarries w (before_silence w ms) (ticked w ms) until_sat_out fates_silence

@@ -1,7 +1,7 @@
 -- the law of totals
-use Rattle.std.proofs.Common.{◌≡◌, ◌⊎◌, inl, inr, Bool, true, false, ℕ, zero, suc, ◌+◌, not, Option, Some, None, is_some, List, [], ◌∷◌, length, refl, ap}
+use Rattle.std.proofs.Common.{◌≡◌, Bool, true, false, ℕ, ◌+◌, not, Option, Some, None, is_some, List, [], ◌∷◌, length, refl, ap}
 use Rattle.std.proofs.Common.{sym, subst, ◌∙◌, arith}
-use Rattle.std.specs.Prelude.{map, if◌then◌else◌}
+use Rattle.std.specs.Prelude.{map, if◌then◌else◌, fold}
 use Rattle.std.proofs.lemmas.List.{length-map}
 use Rattle.std.proofs.lemmas.List.Filters.{length-filter_both}
 use Rattle.radio_tables.proofs.KeyLaws.{by_number}
@@ -34,9 +34,8 @@ use Rattle.radio_fallback.specs.declared.moves.Move.{Move}
 use Rattle.radio_fallback.specs.declared.moves.Move.TheVariants.{Ended as SessionEnds, Up}
 use Rattle.radio_fallback.proofs.FaresLemmas.{numbers_kept}
 use Rattle.radio_core.specs.Finishes.{Cause}
-use Rattle.radio_core.specs.Changes.{changed, begun, carried_along, session_over, session_ended, called_home, received, taken_in, timed_out_by}
-use Rattle.radio_core.specs.Changes.{durations_over, first_silent, session_silenced}
-use Rattle.radio_core.specs.Changes.{on_silent, silence, ticked}
+use Rattle.radio_core.specs.Changes.{changed, begun, carried_along, session_over, session_ended, called_home, received, taken_in}
+use Rattle.radio_core.specs.Changes.{before_silence, session_silenced, silent_in, ticked}
 use Rattle.radio_core.specs.Facts.{live_end, sight_of}
 use Rattle.radio_core.specs.Leave.{leaves_from}
 use Rattle.radio_core.specs.Listen.{first_seat}
@@ -115,28 +114,24 @@ same_over_rows : (w : World) (mount : List ℕ) → map row_of (session_ended w 
 same_over_rows w mount = same_carried (session_over w mount) (SessionEnds mount)
 
 -- by the clock nobody comes or goes
-same_silenced : (n : ℕ) (w : World) → AreTheSame w (silence n w)
-same_silenced zero w = nobody_else w
-same_silenced (suc n) w = by_first (same_silenced n) (first_silent w) where
-  by_first : ((next : World) → AreTheSame next (silence n next)) → (found : Option Session) → AreTheSame w (on_silent (silence n) w found)
-  by_first rest None = nobody_else w
-  by_first rest (Some session) =
-      let next = session_silenced w session in
-      then_the_same w next (silence n next) (record {
-        same_ids = same_state session.number (Ended SourceSilent) w.house.clients;
-        same_rows = same_over_rows w session.mount;
-        same_last = refl;
-      }) (rest next)
+same_silenced : (sessions : List Session) (w : World) → AreTheSame w (fold session_silenced w sessions)
+same_silenced [] w = nobody_else w
+same_silenced (session ∷ sessions) w =
+    let next = session_silenced w session in
+    then_the_same w next (fold session_silenced next sessions) (record {
+      same_ids = same_state session.number (Ended SourceSilent) w.house.clients;
+      same_rows = same_over_rows w session.mount;
+      same_last = refl;
+    }) (same_silenced sessions next)
 
 same_ticked : (w : World) (ms : ℕ) → AreTheSame w (ticked w ms)
 same_ticked w ms =
-    let timed = record w { house = timed_out_by w.house ms } in
-    let later = durations_over timed in
+    let later = before_silence w ms in
     then_the_same w later (ticked w ms) (record {
       same_ids = numbers_mapped number_of (timed_out w.house.settings.limits.header_timeout ms) (λ x. refl) w.house.clients;
       same_rows = same_ended (has_sat_out w.house.settings ms) TimeOver w.seats;
       same_last = refl;
-    }) (same_silenced (length later.house.live) later)
+    }) (same_silenced (silent_in later) later)
 
 -- nor where a source comes up
 same_called : (w : World) (mount : List ℕ) → AreTheSame w (called_home w mount)

@@ -1,5 +1,5 @@
 -- What each change makes of the state.
-use Rattle.std.specs.Prelude.{ℕ, zero, suc, if◌then◌else◌, List, length, map, find, Option, Some, None}
+use Rattle.std.specs.Prelude.{ℕ, if◌then◌else◌, List, map, filter, fold}
 use Rattle.radio_policy.specs.declared.rule.Rule.TheVariants.{Lagged, TimeOver, SourceSilent}
 use Rattle.radio_addr.specs.declared.peer.Peer.{Peer}
 use Rattle.radio_settings.specs.declared.field.Shown.{Shown}
@@ -81,29 +81,21 @@ timed_out_by house ms = record house { time = ms; clients = map (timed_out house
 abbrev pub durations_over : World → World
 durations_over w = record w { seats = with_ended w.seats (has_sat_out w.house.settings w.house.time) TimeOver }
 
--- the first session whose source has sent nothing in its time
-abbrev pub first_silent : World → Option Session
-first_silent w = find (is_silent w.house.settings.limits.source_timeout w.house.time) w.house.live
+-- it is this moment, and clients and listeners who have had their time are finished; no session has ended yet
+abbrev pub before_silence : World → ℕ → World
+before_silence w ms = durations_over (record w { house = timed_out_by w.house ms })
 
--- it ends, and its source is finished
+-- the sessions whose sources have sent nothing in their time, in the order of their mounts
+abbrev pub silent_in : World → List Session
+silent_in w = filter (is_silent w.house.settings.limits.source_timeout w.house.time) w.house.live
+
+-- such a session ends, and its source is finished
 abbrev pub session_silenced : World → Session → World
 session_silenced w session = let after = session_ended w session.mount in record after { house = now_in_state after.house session.number (Ended SourceSilent) }
 
--- it ends, if there is one, and then what follows happens
-abbrev pub on_silent : (World → World) → World → Option Session → World
-on_silent next w None = w
-on_silent next w (Some session) = next (session_silenced w session)
-
--- such sessions end one after another, in the order of their mounts, and at most so many
-abbrev pub silence : ℕ → World → World
-silence zero w = w
-silence (suc n) w = on_silent (silence n) w (first_silent w)
-
--- it is this moment, and what has had its time ends
+-- it is this moment, and what has had its time ends: clients and listeners, and then sessions, one after another
 abbrev pub ticked : World → ℕ → World
-ticked w ms =
-    let later = durations_over (record w { house = timed_out_by w.house ms }) in
-    silence (length later.house.live) later
+ticked w ms = let later = before_silence w ms in fold session_silenced later (silent_in later)
 
 abbrev pub changed : World → Change → World
 changed w Nothing = w

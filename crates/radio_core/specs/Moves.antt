@@ -1,5 +1,5 @@
 -- The moves that events bring, and the turn of each listener in them.
-use Rattle.std.specs.Prelude.{◌≡◌, ℕ, true, List, Some}
+use Rattle.std.specs.Prelude.{◌≡◌, ℕ, true, List, ◌∷◌, ◌++◌, fold}
 use Rattle.radio_policy.specs.declared.rule.Rule.{Rule}
 use Rattle.radio_policy.specs.declared.judgement.Verdict.TheVariants.{Allow}
 use Rattle.radio_policy.specs.Verdicts.{verdict_in}
@@ -15,7 +15,7 @@ use Rattle.radio_events.specs.declared.event.Event.{Event}
 use Rattle.radio_events.specs.declared.event.Event.TheVariants.{Source, SourceEnd, Leave, Clock}
 use Rattle.radio_events.specs.declared.event.SourceRequest.{SourceRequest}
 use Rattle.radio_core.specs.declared.standing.Standing.TheVariants.{Undecided, Feeds}
-use Rattle.radio_core.specs.Changes.{begun, session_over, timed_out_by, durations_over, first_silent, session_silenced}
+use Rattle.radio_core.specs.Changes.{begun, session_over, before_silence, silent_in, session_silenced}
 use Rattle.radio_core.specs.Facts.{sight_of, rows_to_feed}
 use Rattle.radio_core.specs.Sessions.{Session}
 use Rattle.radio_core.specs.Source.{shown_for}
@@ -30,21 +30,15 @@ his_turn w move id = turn_of (sight_of w.house) move (at_his_turn (sight_of w.ho
 abbrev pub moved_into : Session → Seat → Seat
 moved_into session seat = record seat { mount = session.mount; session = session.number; place = end_of session.stream }
 
--- a state on the way of a clock from this one: silent sessions have ended, one after another
-pub data IsOnTheWay (w : World) : World → Type 0 where
-  AtFirst : IsOnTheWay w w
-  OneMore : (during : World) (session : Session) → IsOnTheWay w during → first_silent during ≡ Some session
-      → IsOnTheWay w (session_silenced during session)
-
 -- the event brings the move, and this is the state before the first listener has his turn
 pub data Brings (w : World) : Event → Move → World → Type 0 where
   -- a source's data come to their end
   ByItsEnd : (him : ℕ) (mount : List ℕ) → standing_of w him ≡ Feeds mount → Brings w (SourceEnd him) (Ended mount) (session_over w mount)
   -- a source leaves
   ByItsLeaving : (him : ℕ) (mount : List ℕ) → standing_of w him ≡ Feeds mount → Brings w (Leave him) (Ended mount) (session_over w mount)
-  -- a source has sent nothing in the time that it has for it
-  BySilence : (ms : ℕ) (during : World) (session : Session) → IsOnTheWay (durations_over (record w { house = timed_out_by w.house ms })) during
-      → first_silent during ≡ Some session → Brings w (Clock ms) (Ended session.mount) (session_over during session.mount)
+  -- a source has sent nothing in the time that it has for it; the sessions before its own that are silent too have ended
+  BySilence : (ms : ℕ) (before others : List Session) (session : Session) → silent_in (before_silence w ms) ≡ before ++ session ∷ others
+      → Brings w (Clock ms) (Ended session.mount) (session_over (fold session_silenced (before_silence w ms) before) session.mount)
   -- a source comes up on a mount that calls its listeners home
   ByComingUp : (asked : SourceRequest) (peer : Peer) → standing_of w asked.id ≡ Undecided peer → verdict_in (rows_to_feed w.house asked) ≡ Allow
       → (options_for w.house.settings asked.mount).listeners.fallback_override ≡ true

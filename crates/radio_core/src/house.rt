@@ -1,8 +1,11 @@
 //! All of the server's state but the table of listeners.
 
-ghost use Rattle.std.specs.Prelude.{◌≡◌, find, unwrap_or, IfOk, OnOk, OnErr};
+ghost use Rattle.std.specs.Prelude.{◌≡◌, find, map, unwrap_or, IfOk, OnOk, OnErr};
+ghost use Rattle.std.specs.Cmp.Lexicographic.{slice_cmp};
+ghost use Rattle.std.specs.List.Sorted.{IsStrictlySortedBy};
 ghost use Rattle.std.specs.Option.{option_copied};
-ghost use Rattle.radio_core.specs.Sessions.{session_of};
+ghost use Rattle.std.specs.Ordering.{nat_cmp};
+ghost use Rattle.radio_core.specs.Sessions.{Session as SessionOf, session_of};
 ghost use Rattle.radio_core.specs.Facts.{live_end, live_number};
 ghost use Rattle.radio_core.specs.Source.{shown_for};
 ghost use Rattle.radio_core.specs.Changes.{now_in_state, admitted, begun, retitled, timed_out_by};
@@ -161,7 +164,9 @@ impl House {
 
     /// The first session whose source has sent nothing in its time.
     pub(crate) fn first_silent(&self) -> Option<&Session>
-        ensures { option_copied result ≡ find (is_silent self.now.settings.limits.source_timeout self.now.time) self.now.live }
+        ensures first { option_copied result ≡ find (is_silent self.now.settings.limits.source_timeout self.now.time) self.now.live }
+        // so that each ends once
+        ensures rising { IsStrictlySortedBy (slice_cmp nat_cmp) (map (λ (session : SessionOf). session.mount) self.now.live) }
     {
         let seconds = self.settings.limits.source_timeout.get();
         self.live.iter().find(|session| lies_back(seconds, session.last_block, self.time))

@@ -1,29 +1,27 @@
 -- after the clock was heard, nobody is there whose time is over
-use Rattle.std.proofs.Common.{◌≡◌, Bool, true, false, ℕ, zero, suc, ◌≤◌, Option, Some, None, List, [], ◌∷◌, length, refl, ap}
-use Rattle.std.proofs.Common.{sym, ◌∙◌, arith}
-use Rattle.std.specs.Prelude.{if◌then◌else◌, find, not}
+use Rattle.std.proofs.Common.{◌≡◌, Bool, true, false, ℕ, Option, Some, None, List, [], ◌∷◌, refl, ap}
+use Rattle.std.proofs.Common.{sym, ◌∙◌}
+use Rattle.std.specs.Prelude.{if◌then◌else◌, fold, not}
 use Rattle.std.specs.Option.{option_map}
-use Rattle.std.specs.Str.{bytes_eq}
-use Rattle.std.proofs.lemmas.Slice.Eq.{bytes_eq-Decides}
 use Rattle.radio_policy.specs.declared.rule.Rule.TheVariants.{TimeOver, HeaderTimeout}
-use Rattle.radio_tables.proofs.FindLaws.{found_has, passes_none}
+use Rattle.radio_tables.proofs.FindLaws.{found_has}
 use Rattle.radio_seats.proofs.EndLaws.{kept_seat}
 use Rattle.radio_core.specs.declared.clients.Client.{Client}
 use Rattle.radio_core.specs.declared.clients.ClientState.TheVariants.{Ended}
-use Rattle.radio_events.specs.declared.event.Event.TheVariants.{Clock}
-use Rattle.radio_core.specs.Changes.{first_silent, session_silenced, on_silent, silence, ticked}
+use Rattle.radio_core.specs.Changes.{before_silence, session_silenced, silent_in, ticked}
 use Rattle.radio_core.specs.Clients.{client_of, with_state}
 use Rattle.radio_laws.specs.Outstaying.{IsInTime}
 use Rattle.radio_core.specs.Sessions.{Session, is_of, session_of}
-use Rattle.radio_core.specs.Sound.{IsSound}
+use Rattle.radio_core.specs.Sound.{AreApart, IsSound}
 use Rattle.radio_core.specs.Timeouts.{has_sat_out, asks_too_late, timed_out, is_silent}
 use Rattle.radio_core.specs.World.{World}
-use Rattle.radio_core.proofs.ApartLemmas.{shorter}
+use Rattle.radio_core.proofs.ApartLemmas.{kept_apart}
+use Rattle.radio_core.proofs.SilentLemmas.{no_pass, silent_then}
 use Rattle.radio_seats.specs.declared.seat.Seat.{Seat}
 use Rattle.radio_seats.specs.Seats.{seat_of}
 use Rattle.radio_core.specs.Moves.{moved_into}
 use Rattle.radio_core.proofs.Fates.{Fate, GoesOn, IsEnded, HasStopped, IsMoved, HasEnded, Nobody}
-use Rattle.radio_core.proofs.TickLemmas.{ClockCause, ClockCarries, clients_after, sat_out, fates_silence}
+use Rattle.radio_core.proofs.TickLemmas.{ClockCause, ClockCarries, clients_after, fates_silence, sound_sat_out}
 
 module _ (seconds ms : ℕ) where
   -- nobody asks too late by the same measure
@@ -38,43 +36,28 @@ module _ (seconds ms : ℕ) where
       let one : timed_out seconds ms old ≡ client = cc in
       ap (λ (x : Client). asks_too_late seconds ms x) (sym one) ∙ in_time_at old (asks_too_late seconds ms old) refl
 
-silence_time : (n : ℕ) (w : World) → (silence n w).house.time ≡ w.house.time
-silence_time zero w = refl
-silence_time (suc n) w = by_first (silence_time n) (first_silent w) where
-  by_first : ((next : World) → (silence n next).house.time ≡ next.house.time) → (found : Option Session)
-      → (on_silent (silence n) w found).house.time ≡ w.house.time
-  by_first rest None = refl
-  by_first rest (Some session) = rest (session_silenced w session)
+silence_time : (sessions : List Session) (w : World) → (fold session_silenced w sessions).house.time ≡ w.house.time
+silence_time [] w = refl
+silence_time (session ∷ sessions) w = silence_time sessions (session_silenced w session)
 
-none_left : (live : List Session) (p : Session → Bool) → length live ≤ 0 → find p live ≡ None
-none_left [] p e = refl
-none_left (session ∷ live) p e = absurd (omega (arith, e))
-
-none_silent : (n : ℕ) (w : World) → length w.house.live ≤ n → first_silent (silence n w) ≡ None
-none_silent zero w few = none_left w.house.live (is_silent w.house.settings.limits.source_timeout w.house.time) few
-none_silent (suc n) w few = by_first (none_silent n) (first_silent w) refl where
-  itself : (session : Session) → bytes_eq session.mount session.mount ≡ true
-  itself session = (bytes_eq-Decides session.mount session.mount).1 refl
-
-  by_first : ((next : World) → length next.house.live ≤ n → first_silent (silence n next) ≡ None) → (found : Option Session) → first_silent w ≡ found
-      → first_silent (on_silent (silence n) w found) ≡ None
-  by_first rest None e = e
-  by_first rest (Some session) e =
-      let less = shorter (is_silent w.house.settings.limits.source_timeout w.house.time) (λ x. not (is_of session.mount x)) w.house.live session
-      (ap not (itself session)) e in
-      rest (session_silenced w session) (omega (arith, less, few))
+-- when all silent sessions have ended, none is silent
+none_silent : (sessions : List Session) (w : World) → AreApart w.house.live → silent_in w ≡ sessions → silent_in (fold session_silenced w sessions) ≡ []
+none_silent [] w apart are = are
+none_silent (session ∷ sessions) w apart are =
+    none_silent sessions (session_silenced w session) (kept_apart (λ x. not (is_of session.mount x)) w.house.live apart)
+    (silent_then w session apart sessions are)
 
 module _ (w : World) (s : IsSound w) (ms : ℕ) where
   pub in_time : IsInTime (ticked w ms) ms
   in_time = record {
-    is_now = silence_time (length (sat_out w s ms).house.live) (sat_out w s ms);
+    is_now = silence_time (silent_in (before_silence w ms)) (before_silence w ms);
     seats = λ id seat e.
         ap (λ settings. has_sat_out settings ms seat) (fates_silence w s ms).settings ∙ still_sits id seat e ((fates_silence w s ms).fate id);
     clients = λ id client e. clients id client e;
     sources = λ mount session e. sources mount session e;
   } where
     still_sits : (id : ℕ) (seat : Seat) → seat_of (ticked w ms).seats id ≡ Some seat
-        → Fate (ClockCause w s ms) (ClockCarries w s ms) Nobody HasEnded (sat_out w s ms) (ticked w ms) id → has_sat_out w.house.settings ms seat ≡ false
+        → Fate (ClockCause w s ms) (ClockCarries w s ms) Nobody HasEnded (before_silence w ms) (ticked w ms) id → has_sat_out w.house.settings ms seat ≡ false
     still_sits id seat e (GoesOn same seats feeds sits) = kept_seat (has_sat_out w.house.settings ms) TimeOver w.seats id seat (sym seats ∙ e)
     still_sits id seat e (IsEnded rule cause active ended none over) = cc
     still_sits id seat e (HasStopped mount why feeding done none over) = cc
@@ -100,9 +83,9 @@ module _ (w : World) (s : IsSound w) (ms : ℕ) where
         → is_silent (ticked w ms).house.settings.limits.source_timeout ms session ≡ false
     sources mount session e =
         let later = ticked w ms in
-        let none = none_silent (length (sat_out w s ms).house.live) (sat_out w s ms) (omega arith) in
-        let all = passes_none (is_silent later.house.settings.limits.source_timeout later.house.time) later.house.live none in
+        let none = none_silent (silent_in (before_silence w ms)) (before_silence w ms) (sound_sat_out w s ms).apart refl in
+        let all = no_pass (is_silent later.house.settings.limits.source_timeout later.house.time) later.house.live none in
         let not_silent = found_has (is_of mount) (λ (x : Session). is_silent later.house.settings.limits.source_timeout later.house.time x ≡ false)
         later.house.live session all e in
-        ap (λ (moment : ℕ). is_silent later.house.settings.limits.source_timeout moment session) (sym (silence_time (length (sat_out w s ms).house.live) (sat_out w s ms)))
+        ap (λ (moment : ℕ). is_silent later.house.settings.limits.source_timeout moment session) (sym (silence_time (silent_in (before_silence w ms)) (before_silence w ms)))
         ∙ not_silent

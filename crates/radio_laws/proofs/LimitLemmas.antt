@@ -1,5 +1,5 @@
 -- in every state of a run, no more sit at a mount than may, and nobody sits twice where each may sit once
-use Rattle.std.proofs.Common.{◌≡◌, Bool, true, false, ℕ, zero, suc, ◌<◌, ◌≤◌, ◌==◌, ◌&&◌, not, Option, Some, None, List, [], ◌∷◌, length, refl, ap}
+use Rattle.std.proofs.Common.{◌≡◌, Bool, true, false, ℕ, ◌<◌, ◌≤◌, ◌==◌, ◌&&◌, not, Option, Some, None, List, [], ◌∷◌, length, refl, ap}
 use Rattle.std.proofs.Common.{sym, subst, ◌∙◌, arith}
 use Rattle.std.proofs.lemmas.Bool.Decides.{nat_tests}
 use Rattle.std.proofs.lemmas.Slice.Eq.{bytes_eq-Decides}
@@ -19,7 +19,7 @@ use Rattle.radio_events.specs.declared.event.ListenRequest.{ListenRequest}
 use Rattle.radio_core.specs.declared.outcome.Outcome.{Outcome}
 use Rattle.radio_core.specs.declared.outcome.Change.TheVariants.{TakeSeat}
 use Rattle.radio_core.specs.declared.standing.Standing.TheVariants.{Undecided}
-use Rattle.std.specs.Prelude.{if◌then◌else◌}
+use Rattle.std.specs.Prelude.{if◌then◌else◌, fold}
 use Rattle.std.proofs.lemmas.Bool.{and_parts}
 use Rattle.radio_access.specs.Lists.{lets_in}
 use Rattle.radio_settings.specs.Options.{options_for}
@@ -28,7 +28,7 @@ use Rattle.radio_fallback.specs.declared.moves.Move.TheVariants.{Ended as Sessio
 use Rattle.radio_fallback.proofs.FaresLemmas.{keeps_limit, sit_once}
 use Rattle.radio_fallback.proofs.TurnLemmas.{lands_where_he_fits}
 use Rattle.radio_core.specs.Source.{shown_for}
-use Rattle.radio_core.specs.Changes.{changed, begun, carried_along, session_over, session_ended, called_home, received, first_silent, session_silenced, on_silent, silence}
+use Rattle.radio_core.specs.Changes.{changed, begun, carried_along, session_over, session_ended, called_home, received, before_silence, session_silenced, silent_in}
 use Rattle.radio_laws.specs.Limits.{IsWithinLimits, SentUser, SitsThereAs, most_at, allows_duplicates_at}
 use Rattle.radio_core.specs.Listen.{first_seat}
 use Rattle.radio_core.specs.Run.{world_after_all, run_after}
@@ -40,7 +40,7 @@ use Rattle.radio_core.specs.Ways.{EndsAndLeaves, Leaves, HasPassed, Ticks}
 use Rattle.radio_core.specs.World.{World, opening, standing_of}
 use Rattle.radio_core.proofs.CarriedFates.{order_carried}
 use Rattle.radio_core.proofs.SoundRuns.{sound_after, sound_opening}
-use Rattle.radio_core.proofs.TickLemmas.{sat_out, sound_sat_out}
+use Rattle.radio_core.proofs.TickLemmas.{sound_sat_out}
 use Rattle.radio_policy.specs.declared.rule.Rule.TheVariants.{Lagged, TimeOver}
 use Rattle.radio_seats.proofs.EndLaws.{nobody_came_ending}
 use Rattle.radio_core.specs.Facts.{live_end, sight_of}
@@ -120,18 +120,12 @@ within_called w mount order l = by_test (options_for w.house.settings mount).lis
   by_test true = within_carried w (Up mount) order l
   by_test false = l
 
-within_silence_at : (n : ℕ) (w : World) → AreByNumber w.seats → Within w
-    → ((next : World) → AreByNumber next.seats → Within next → Within (silence n next)) → (found : Option Session)
-    → Within (on_silent (silence n) w found)
-within_silence_at n w order l rest None = l
-within_silence_at n w order l rest (Some session) =
+within_silence : (sessions : List Session) (w : World) → AreByNumber w.seats → Within w → Within (fold session_silenced w sessions)
+within_silence [] w order l = l
+within_silence (session ∷ sessions) w order l =
     let ended = session_ended w session.mount in
-    rest (session_silenced w session) (order_carried (session_over w session.mount) (SessionEnds session.mount) order)
+    within_silence sessions (session_silenced w session) (order_carried (session_over w session.mount) (SessionEnds session.mount) order)
     (other_house ended (session_silenced w session) refl refl (within_ended w session.mount order l))
-
-within_silence : (n : ℕ) (w : World) → AreByNumber w.seats → Within w → Within (silence n w)
-within_silence zero w order l = l
-within_silence (suc n) w order l = within_silence_at n w order l (within_silence n) (first_silent w)
 
 -- where nobody has come, the limits hold still
 within_kept : (w later : World) → Within w → later.house.settings ≡ w.house.settings → NobodyCame w.seats later.seats → Within later
@@ -217,8 +211,8 @@ module _ (w : World) (s : IsSound w) (l : Within w) where
       (nobody_came_ending (lags_behind mount (live_end (received w.house mount block) mount) w.house.settings.limits.queue_size) Lagged w.seats)
   within_by event o (HasPassed ms e) = l
   within_by event o (Ticks ms e) =
-      within_silence (length (sat_out w s ms).house.live) (sat_out w s ms) (sound_sat_out w s ms).by_number
-      (within_still (sat_out w s ms) refl (nobody_came_ending (has_sat_out w.house.settings ms) TimeOver w.seats))
+      within_silence (silent_in (before_silence w ms)) (before_silence w ms) (sound_sat_out w s ms).by_number
+      (within_still (before_silence w ms) refl (nobody_came_ending (has_sat_out w.house.settings ms) TimeOver w.seats))
   within_by event o (SetsTitle him mount text feeding) = within_still (changed w o.change) refl (nobody_came w.seats)
   within_by event o (TakesSeat asked peer session undecided lands live allowed) =
       within_seated asked peer session undecided live (lands_where_he_fits (sight_of w.house) w.seats asked.pair asked.mount session.mount lands)

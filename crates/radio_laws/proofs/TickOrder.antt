@@ -1,6 +1,6 @@
 -- who is ended at a moment, by which rule
-use Rattle.std.proofs.Common.{◌≡◌, ◌⊎◌, inl, inr, true, false, Bool, ℕ, zero, suc, ◌==◌, Option, Some, None, is_some, List, length, refl, ap, sym, subst, ◌∙◌}
-use Rattle.std.specs.Prelude.{if◌then◌else◌}
+use Rattle.std.proofs.Common.{◌≡◌, ◌⊎◌, inl, inr, true, false, Bool, ℕ, Option, Some, None, is_some, List, [], ◌∷◌, refl, ap, sym, subst, ◌∙◌}
+use Rattle.std.specs.Prelude.{if◌then◌else◌, fold}
 use Rattle.std.specs.Option.{option_map}
 use Rattle.std.specs.Str.{bytes_eq}
 use Rattle.std.proofs.lemmas.Slice.Eq.{bytes_eq-Decides}
@@ -31,22 +31,21 @@ use Rattle.radio_core.specs.declared.clients.ClientState.TheVariants.{Undecided 
 use Rattle.radio_core.specs.declared.outcome.Change.TheVariants.{Nothing, Tick}
 use Rattle.radio_core.specs.declared.standing.Standing.{Standing}
 use Rattle.radio_core.specs.declared.standing.Standing.TheVariants.{Undecided, Feeds, Sits, Finished}
-use Rattle.radio_core.specs.Changes.{changed, session_over, session_ended, first_silent, session_silenced, on_silent, silence, ticked}
+use Rattle.radio_core.specs.Changes.{changed, session_over, session_ended, before_silence, session_silenced, silent_in, ticked}
 use Rattle.radio_core.specs.Clients.{client_of, with_state}
 use Rattle.radio_core.specs.Facts.{sight_of}
 use Rattle.radio_core.specs.Finishes.{Cause, SessionIsOver, IsFarBehind, HasSatOut, HasAskedNothing, HasSentNothing}
-use Rattle.radio_core.specs.Moves.{IsOnTheWay, AtFirst, OneMore, TakesTo, his_turn}
+use Rattle.radio_core.specs.Moves.{TakesTo, his_turn}
 use Rattle.radio_laws.specs.Outstaying.{IsInTime, IsEndedInOrder, NobodyOutstays}
 use Rattle.radio_core.specs.Sessions.{Session, session_of}
 use Rattle.radio_core.specs.Sound.{IsSound}
 use Rattle.radio_core.specs.Step.{outcome, world_after}
 use Rattle.radio_core.specs.Timeouts.{asks_too_late, timed_out, has_sat_out, is_silent}
 use Rattle.radio_core.specs.World.{World, standing_of, standing_in}
-use Rattle.radio_core.proofs.ApartLemmas.{found_own}
-use Rattle.radio_core.proofs.Fates.{Fate, GoesOn, IsEnded, HasStopped, IsMoved, HasEnded, Nobody, IsActive, sound_fates, fates_then, lost_in}
+use Rattle.radio_core.proofs.Fates.{Fate, GoesOn, IsEnded, HasStopped, IsMoved, HasEnded, Nobody, IsActive, sound_fates, lost_in}
 use Rattle.radio_core.proofs.Lookups.{is_over}
-use Rattle.radio_core.proofs.TickLemmas.{ClockCause, ClockCarries, ClockFates, asking_at, clients_after, timed, sat_out, sound_timed, sound_sat_out}
-use Rattle.radio_core.proofs.TickLemmas.{fates_sat_out, until_sat_out, silenced_fates, turned, fates_silence, ticked_fates}
+use Rattle.radio_core.proofs.TickLemmas.{ClockCause, ClockCarries, ClockFates, asking_at, clients_after, timed, sound_timed}
+use Rattle.radio_core.proofs.TickLemmas.{fates_sat_out, IsOnTheWay, at_first, goes_on, live_there, silenced_fates, turned, fates_silence, ticked_fates}
 use Rattle.radio_laws.proofs.InTime.{in_time}
 
 -- who has finished stays so
@@ -81,7 +80,7 @@ module _ (w : World) (s : IsSound w) (ms : ℕ) where
 
   -- a seat that ends when durations are looked at ends by them
   time_over : (id : ℕ) (seat : Seat) → seat_of w.seats id ≡ Some seat → has_sat_out w.house.settings ms seat ≡ true
-      → standing_of (sat_out w s ms) id ≡ Finished TimeOver
+      → standing_of (before_silence w ms) id ≡ Finished TimeOver
   time_over id seat has out =
       ap (λ l. standing_in l client) (have_ended test TimeOver w.seats id ∙ ap (option_map (finished_if test TimeOver)) listener.1)
       ∙ by_seating listener.0.seating listener.2
@@ -215,56 +214,42 @@ module _ (w : World) (s : IsSound w) (ms : ℕ) where
         cc
 
     -- after a silent session has ended
-    after_silence : (during : World) (session : Session) → IsSound during → during.house.settings ≡ w.house.settings → first_silent during ≡ Some session
-        → IsStillOrOut during → IsSound (session_silenced during session)
-        → (standing_of during id ≡ Finished NotLive → standing_of (session_silenced during session) id ≡ Finished NotLive)
-        → ((session.number == id) ≡ false → standing_of (session_silenced during session) id ≡ standing_of (session_ended during session.mount) id)
-        → IsStillOrOut (session_silenced during session)
-    after_silence during session sound same found (inr out) next stays others = inr (stays out)
-    after_silence during session sound same found (inl has) next stays others =
+    after_silence : (session : Session) (sessions : List Session) (during : World) (way : IsOnTheWay w s ms (session ∷ sessions) during)
+        → IsStillOrOut during → IsStillOrOut (session_silenced during session)
+    after_silence session sessions during way (inr out) =
+        inr (finished_on w s ms during (session_silenced during session) (silenced_fates w s ms session sessions during way) id NotLive out)
+    after_silence session sessions during way (inl has) =
         let mount = session.mount in
-        let fare = fares (sight_of (session_over during mount).house) (SessionEnds mount) during.seats sound.by_number id in
+        let fare = fares (sight_of (session_over during mount).house) (SessionEnds mount) during.seats way.sound.by_number id in
         by_name seat.mount mount
         (λ there.
         by_number session.number id
         (λ his. absurd (no_source his))
-        (λ other. inr (others other ∙ out_by_fare during mount sound same has there fare)))
-        (λ away. inl (still_there during mount sound has away fare)) where
+        (λ other. inr ((turned w s ms session sessions during way).others id other
+        ∙ out_by_fare during mount way.sound way.so_far.settings has there fare)))
+        (λ away. inl (still_there during mount way.sound has away fare)) where
           no_source : session.number ≡ id → ⊥
           no_source his =
-              let live = found_own (is_silent during.house.settings.limits.source_timeout during.house.time) during.house.live session sound.apart found in
-              let feeds : standing_of during session.number ≡ Feeds session.mount = sound.fed session.mount session live in
-              let sat : standing_of during session.number ≡ Sits = ap (standing_of during) his ∙ sound.sitting id seat has in
+              let feeds : standing_of during session.number ≡ Feeds session.mount =
+              way.sound.fed session.mount session (live_there w s ms session sessions during way) in
+              let sat : standing_of during session.number ≡ Sits = ap (standing_of during) his ∙ way.sound.sitting id seat has in
               cc
 
-    keeps_at : (n : ℕ) (during : World) (sound : IsSound during) (way : IsOnTheWay (sat_out w s ms) during) (now : during.house.time ≡ ms)
-        (so_far : ClockFates w s ms w during) → IsStillOrOut during
-        → ((next : World) → IsSound next → IsOnTheWay (sat_out w s ms) next → next.house.time ≡ ms → ClockFates w s ms w next → IsStillOrOut next
-        → IsStillOrOut (silence n next))
-        → (found : Option Session) → first_silent during ≡ found → IsStillOrOut (on_silent (silence n) during found)
-    keeps_at n during sound way now so_far holds rest None e = holds
-    keeps_at n during sound way now so_far holds rest (Some session) e =
-        let next = session_silenced during session in
-        let f = silenced_fates w s ms during sound way now so_far session e in
-        let sound_next = sound_fates (ClockCause w s ms) (ClockCarries w s ms) Nobody HasEnded during next sound f in
-        rest next sound_next (OneMore during session way e) now (fates_then (ClockCause w s ms) (ClockCarries w s ms) w during next so_far f)
-        (after_silence during session sound so_far.settings e holds sound_next (λ out. finished_on w s ms during next f id NotLive out)
-        (λ other. (turned w s ms during sound way now so_far session e).others id other))
-
-    keeps : (n : ℕ) (during : World) → IsSound during → IsOnTheWay (sat_out w s ms) during → during.house.time ≡ ms → ClockFates w s ms w during
-        → IsStillOrOut during → IsStillOrOut (silence n during)
-    keeps zero during sound way now so_far holds = holds
-    keeps (suc n) during sound way now so_far holds = keeps_at n during sound way now so_far holds (keeps n) (first_silent during) refl
+    keeps : (sessions : List Session) (during : World) → IsOnTheWay w s ms sessions during → IsStillOrOut during
+        → IsStillOrOut (fold session_silenced during sessions)
+    keeps [] during way holds = holds
+    keeps (session ∷ sessions) during way holds =
+        keeps sessions (session_silenced during session) (goes_on w s ms session sessions during way) (after_silence session sessions during way holds)
 
     left_there : (session : Session) → seat_of w.seats id ≡ Some seat → has_sat_out w.house.settings ms seat ≡ false
         → session_of w.house.live seat.mount ≡ Some session → is_silent w.house.settings.limits.source_timeout ms session ≡ true
         → standing_of (ticked w ms) id ≡ Finished NotLive
     left_there session has not_out live silent =
-        by_end (keeps (length (sat_out w s ms).house.live) (sat_out w s ms) (sound_sat_out w s ms) AtFirst refl (until_sat_out w s ms)
+        by_end (keeps (silent_in (before_silence w ms)) (before_silence w ms) (at_first w s ms)
         (inl (by_loss (same_or_loses (has_sat_out w.house.settings ms) TimeOver w.seats id)))) where
-          by_loss : (listener_of (sat_out w s ms).seats id ≡ listener_of w.seats id)
-              ⊎ LosesSeat (has_sat_out w.house.settings ms) TimeOver (listener_of w.seats id) (listener_of (sat_out w s ms).seats id)
-              → seat_of (sat_out w s ms).seats id ≡ Some seat
+          by_loss : (listener_of (before_silence w ms).seats id ≡ listener_of w.seats id)
+              ⊎ LosesSeat (has_sat_out w.house.settings ms) TimeOver (listener_of w.seats id) (listener_of (before_silence w ms).seats id)
+              → seat_of (before_silence w ms).seats id ≡ Some seat
           by_loss (inl same) = ap seat_in same ∙ has
           by_loss (inr loses) =
               let both : Some loses.seat ≡ Some seat = sym loses.had_a_seat ∙ has in
@@ -285,9 +270,9 @@ module _ (w : World) (s : IsSound w) (ms : ℕ) where
   ended_in_order : IsEndedInOrder w (ticked w ms) ms
   ended_in_order = record {
     clients = λ id client found late.
-        finished_on w s ms (sat_out w s ms) (ticked w ms) (fates_silence w s ms) id HeaderTimeout
-        (finished_on w s ms (timed w s ms) (sat_out w s ms) (fates_sat_out w s ms) id HeaderTimeout (too_late id client found late));
-    seats = λ id seat has out. finished_on w s ms (sat_out w s ms) (ticked w ms) (fates_silence w s ms) id TimeOver (time_over id seat has out);
+        finished_on w s ms (before_silence w ms) (ticked w ms) (fates_silence w s ms) id HeaderTimeout
+        (finished_on w s ms (timed w s ms) (before_silence w ms) (fates_sat_out w s ms) id HeaderTimeout (too_late id client found late));
+    seats = λ id seat has out. finished_on w s ms (before_silence w ms) (ticked w ms) (fates_silence w s ms) id TimeOver (time_over id seat has out);
     sources = silent_source;
     listeners = λ id seat session has not_out live silent none. left_there id seat none session has not_out live silent;
   }

@@ -1,23 +1,18 @@
 -- what a move makes of each listener
-use Rattle.std.proofs.Common.{◌≡◌, Bool, true, false, ℕ, ◌==◌, Option, Some, None, is_some, List, refl, ap, sym, subst, ◌∙◌}
-use Rattle.std.specs.Prelude.{if◌then◌else◌}
+use Rattle.std.proofs.Common.{◌≡◌, true, ℕ, Option, Some, None, is_some, List, [], ◌∷◌, refl, ap, sym, subst, ◌∙◌}
+use Rattle.std.specs.Prelude.{fold}
 use Rattle.std.specs.Option.{option_map_or}
-use Rattle.std.specs.Str.{bytes_eq}
 use Rattle.std.proofs.lemmas.Slice.Eq.{bytes_eq-Decides}
 use Rattle.radio_policy.specs.declared.rule.Rule.{Rule}
 use Rattle.radio_policy.specs.declared.judgement.Verdict.{Verdict}
 use Rattle.radio_policy.specs.declared.judgement.Verdict.TheVariants.{Allow}
 use Rattle.radio_policy.specs.Verdicts.{verdict_in}
 use Rattle.radio_addr.specs.declared.peer.Peer.{Peer}
-use Rattle.radio_settings.specs.declared.settings.Settings.{Settings}
 use Rattle.radio_settings.specs.Options.{options_for}
-use Rattle.radio_access.specs.Lists.{Lists}
 use Rattle.radio_tables.proofs.KeyLaws.{by_number}
 use Rattle.radio_fallback.specs.declared.moves.Move.{Move}
 use Rattle.radio_fallback.specs.declared.moves.Move.TheVariants.{Ended, Up}
-use Rattle.radio_fallback.specs.declared.moves.Turn.{Turn}
 use Rattle.radio_fallback.specs.declared.moves.Turn.TheVariants.{Stays, GoesTo, IsOut}
-use Rattle.radio_fallback.specs.Carry.{concerns}
 use Rattle.radio_fallback.specs.Fares.{seat_at_end}
 use Rattle.radio_fallback.proofs.Faring.{Faring, HasStayed, HasGone, HasLost, fares, nobody_stays}
 use Rattle.radio_seats.specs.declared.seat.Seat.{Seat}
@@ -32,22 +27,20 @@ use Rattle.radio_core.specs.declared.outcome.Change.TheVariants.{Answer, End, En
 use Rattle.radio_core.specs.declared.outcome.Outcome.{Outcome}
 use Rattle.radio_core.specs.declared.standing.Standing.{Standing}
 use Rattle.radio_core.specs.declared.standing.Standing.TheVariants.{Undecided, Feeds}
-use Rattle.radio_core.specs.Changes.{changed, begun, carried_along, called_home, session_over, session_silenced, first_silent}
+use Rattle.radio_core.specs.Changes.{changed, carried_along, called_home, session_over, before_silence, session_silenced}
 use Rattle.radio_core.specs.Facts.{sight_of, rows_to_feed, live_end}
-use Rattle.radio_core.specs.Moves.{Brings, ByItsEnd, ByItsLeaving, BySilence, ByComingUp, IsOnTheWay, AtFirst, OneMore, his_turn}
+use Rattle.radio_core.specs.Moves.{Brings, ByItsEnd, ByItsLeaving, BySilence, ByComingUp, his_turn}
 use Rattle.radio_core.specs.Outcomes.{says, if_feeding, if_undecided, on_verdict}
 use Rattle.radio_core.specs.Leave.{leaves_from}
-use Rattle.radio_core.specs.Run.{run_after}
 use Rattle.radio_core.specs.Sessions.{Session, session_of}
 use Rattle.radio_core.specs.Sound.{IsSound}
-use Rattle.radio_core.specs.Source.{begins, shown_for}
+use Rattle.radio_core.specs.Source.{begins}
 use Rattle.radio_core.specs.Step.{outcome, world_after}
 use Rattle.radio_core.specs.Stream.{end_of}
 use Rattle.radio_core.specs.World.{World, standing_of}
 use Rattle.radio_laws.specs.WalkingOn.{FaresByHisTurn, ListenersWalkOn, MovesAreWhole}
 use Rattle.radio_core.proofs.CarriedFates.{order_carried}
-use Rattle.radio_core.proofs.Lookups.{found_named}
-use Rattle.radio_core.proofs.TickLemmas.{sat_out, sound_sat_out}
+use Rattle.radio_core.proofs.TickLemmas.{sound_sat_out}
 
 found_there : {A : Type 0} (found : Option A) → is_some found ≡ true → (x : A) × (found ≡ Some x)
 found_there None e = cc
@@ -106,15 +99,16 @@ module _ (before : World) (move : Move) (order : AreByNumber before.seats) (id :
   }
 
 module _ (w : World) (s : IsSound w) where
-  order_on_the_way : (ms : ℕ) (during : World) → IsOnTheWay (sat_out w s ms) during → AreByNumber during.seats
-  order_on_the_way ms during AtFirst = (sound_sat_out w s ms).by_number
-  order_on_the_way ms during (OneMore before session way found) =
-      order_carried (session_over before session.mount) (Ended session.mount) (order_on_the_way ms before way)
+  order_silenced : (sessions : List Session) (before : World) → AreByNumber before.seats → AreByNumber (fold session_silenced before sessions).seats
+  order_silenced [] before order = order
+  order_silenced (session ∷ sessions) before order =
+      order_silenced sessions (session_silenced before session) (order_carried (session_over before session.mount) (Ended session.mount) order)
 
   walk_on_by : (event : Event) (move : Move) (before : World) → Brings w event move before → AreByNumber before.seats
   walk_on_by event move before (ByItsEnd him mount feeding) = s.by_number
   walk_on_by event move before (ByItsLeaving him mount feeding) = s.by_number
-  walk_on_by event move before (BySilence ms during session way found) = order_on_the_way ms during way
+  walk_on_by event move before (BySilence ms silent others session all) =
+      order_silenced silent (before_silence w ms) (sound_sat_out w s ms).by_number
   walk_on_by event move before (ByComingUp asked peer stood allowed calls) = s.by_number
 
   pub walk_on : (event : Event) → ListenersWalkOn w event

@@ -1,7 +1,7 @@
 //! What the clock ends.
 
-ghost use Rattle.std.specs.Prelude.{◌≡◌, is_some, length};
-ghost use Rattle.radio_core.specs.Changes.{ticked, durations_over, on_silent, first_silent, silence};
+ghost use Rattle.std.specs.Prelude.{◌≡◌, fold};
+ghost use Rattle.radio_core.specs.Changes.{ticked, durations_over, session_silenced, silent_in};
 
 use super::state::State;
 use crate::clients::ClientState;
@@ -32,30 +32,14 @@ impl State {
 
     /// Sessions end whose sources have sent nothing in their time, in the order of their mounts.
     fn end_silent(&mut self)
-        ensures { self.new ≡ silence (length self.old.house.live) self.old }
+        ensures { self.new ≡ fold session_silenced self.old (silent_in self.old) }
     {
-        let mut left = self.house.live.len();
-        'sessions: while left > 0 {
-            if !self.end_first_silent() {
-                return;
-            }
-            left -= 1;
+        'sessions: while let Some(session) = self.house.first_silent() {
+            let mount = *session.mount.get();
+            let number = session.number;
+            let _counts = self.end_session(mount);
+            self.house
+                .set_state(number, ClientState::Ended(Rule::SourceSilent));
         }
-    }
-
-    /// The first session ends whose source has sent nothing in its time, if there is one.
-    fn end_first_silent(&mut self) -> bool
-        ensures ended { self.new ≡ on_silent (λ w. w) self.old (first_silent self.old) }
-        ensures some { result ≡ is_some (first_silent self.old) }
-    {
-        let Some(session) = self.house.first_silent() else {
-            return false;
-        };
-        let mount = *session.mount.get();
-        let number = session.number;
-        let _counts = self.end_session(mount);
-        self.house
-            .set_state(number, ClientState::Ended(Rule::SourceSilent));
-        true
     }
 }
