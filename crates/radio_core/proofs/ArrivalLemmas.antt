@@ -8,7 +8,6 @@ use Rattle.radio_tables.proofs.FindLaws.{find_here, find_later}
 use Rattle.radio_tables.proofs.KeyLaws.{by_number}
 use Rattle.radio_seats.specs.Seats.{listener_of}
 use Rattle.radio_events.specs.declared.event.Event.{Event}
-use Rattle.radio_core.specs.declared.clients.Client.{Client}
 use Rattle.radio_core.specs.declared.clients.ClientState.{ClientState}
 use Rattle.radio_core.specs.declared.clients.ClientState.TheVariants.{Undecided as IsNew, Feeds as IsSource, Listens, Answered as HasHisAnswer}
 use Rattle.radio_core.specs.declared.outcome.Outcome.{Outcome}
@@ -18,7 +17,7 @@ use Rattle.radio_core.specs.declared.house.House.{House}
 use Rattle.radio_core.specs.Source.{shown_for}
 use Rattle.radio_core.specs.Changes.{changed, begun, before_silence, session_silenced, silent_in, ticked}
 use Rattle.radio_core.specs.ClientSteps.{ArrivalsStay}
-use Rattle.radio_core.specs.Clients.{is_client, client_of, with_state, in_state, without_client}
+use Rattle.radio_core.specs.Clients.{Client, is_client, client_of, with_state, in_state, without_client}
 use Rattle.radio_core.specs.Sessions.{Session}
 use Rattle.radio_core.specs.Sound.{IsSound}
 use Rattle.radio_core.specs.Step.{outcome, world_after}

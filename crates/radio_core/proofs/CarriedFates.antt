@@ -17,11 +17,10 @@ use Rattle.radio_fallback.specs.Carry.{concerns, carried, numbers_of}
 use Rattle.radio_fallback.specs.Fares.{seat_at_end}
 use Rattle.radio_fallback.proofs.FaresLemmas.{numbers_kept}
 use Rattle.radio_fallback.proofs.Faring.{Faring, HasStayed, HasGone, HasLost, fares}
-use Rattle.radio_core.specs.declared.clients.Client.{Client}
 use Rattle.radio_core.specs.declared.house.House.{House}
 use Rattle.radio_core.specs.declared.standing.Standing.TheVariants.{Feeds, Sits}
 use Rattle.radio_core.specs.Changes.{carried_along}
-use Rattle.radio_core.specs.Clients.{client_of}
+use Rattle.radio_core.specs.Clients.{Client, client_of}
 use Rattle.radio_core.specs.Facts.{sight_of, live_end, live_number}
 use Rattle.radio_core.specs.Moves.{his_turn, moved_into}
 use Rattle.radio_core.specs.Sessions.{Session, session_of}

@@ -15,7 +15,6 @@ use Rattle.radio_seats.specs.declared.seat.Seating.{Seating}
 use Rattle.radio_seats.specs.declared.seat.Seating.TheVariants.{Sits, Finished}
 use Rattle.radio_seats.specs.declared.seat.Listener.{Listener}
 use Rattle.radio_seats.specs.Seats.{is_listener, by_listener, seated, advanced, moved, loses, holds_of, finished_if, with_ended}
-use Rattle.radio_core.specs.declared.clients.Client.{Client}
 use Rattle.radio_core.specs.declared.clients.ClientState.{ClientState}
 use Rattle.radio_core.specs.declared.clients.ClientState.TheVariants.{Undecided, Feeds, Listens, Answered, Ended}
 use Rattle.radio_core.specs.declared.outcome.Change.{Change}
@@ -26,7 +25,7 @@ use Rattle.radio_fallback.specs.declared.moves.Move.TheVariants.{Ended as Sessio
 use Rattle.radio_fallback.proofs.Faring.{each_carried}
 use Rattle.radio_core.specs.Changes.{begun, carried_along, session_over, session_ended, called_home, client_gone, before_silence}
 use Rattle.radio_core.specs.Changes.{session_silenced, silent_in, ticked}
-use Rattle.radio_core.specs.Clients.{newcomer, is_client, by_number, with_state, in_state}
+use Rattle.radio_core.specs.Clients.{Client, newcomer, is_client, by_number, with_state, in_state}
 use Rattle.radio_core.specs.Due.{last_moment, due_at, due_in_state, client_due, listener_due, session_due, IsDueFrom, earliest, first_due, due_by, at_moment}
 use Rattle.radio_core.specs.Facts.{live_end, sight_of}
 use Rattle.radio_core.specs.KeptChanges.{kept_changed, longer_kept, kept_received}

@@ -6,7 +6,7 @@ use Rattle.radio_policy.specs.declared.rule.Rule.TheVariants.{NotLive}
 use Rattle.radio_addr.specs.declared.peer.Peer.{Peer}
 use Rattle.radio_access.specs.Lists.{passes}
 use Rattle.radio_tables.proofs.KeyLaws.{by_number}
-use Rattle.radio_core.specs.declared.clients.Client.{Client}
+use Rattle.radio_core.specs.Clients.{Client}
 use Rattle.radio_core.specs.declared.clients.ClientState.TheVariants.{Undecided as IsNew}
 use Rattle.radio_seats.specs.declared.seat.Listener.{Listener}
 use Rattle.radio_seats.specs.declared.seat.Seat.{Seat}

@@ -9,9 +9,8 @@ use Rattle.std.proofs.lemmas.Cmp.{nat_cmp_total, nat_list_cmp_total}
 use Rattle.std.proofs.lemmas.Slice.Eq.{bytes_eq-Decides}
 use Rattle.radio_tables.proofs.FindLaws.{find_same, find_apart, find_removed, find_others, found_passes}
 use Rattle.radio_tables.proofs.KeyLaws.{number_is, name_is, find_placed}
-use Rattle.radio_core.specs.declared.clients.Client.{Client}
 use Rattle.radio_core.specs.declared.clients.ClientState.{ClientState}
-use Rattle.radio_core.specs.Clients.{is_client, client_of, with_client, with_state, in_state, without_client}
+use Rattle.radio_core.specs.Clients.{Client, is_client, client_of, with_client, with_state, in_state, without_client}
 use Rattle.radio_core.specs.Sessions.{Session, is_of, session_of, with_session, longer, fed, with_title, titled, without_session}
 
 -- a choice whose test is known

@@ -9,7 +9,7 @@ use Rattle.radio_seats.specs.Seats.{listener_of}
 use Rattle.radio_events.specs.declared.event.Event.{Event}
 use Rattle.radio_events.specs.declared.event.Event.TheVariants.{Source, Push, SourceEnd, Title, Leave, Clock}
 use Rattle.radio_events.specs.declared.event.SourceRequest.{SourceRequest}
-use Rattle.radio_core.specs.declared.clients.Client.{Client}
+use Rattle.radio_core.specs.Clients.{Client}
 use Rattle.radio_core.specs.declared.clients.ClientState.TheVariants.{Undecided as IsNew}
 use Rattle.radio_core.specs.declared.outcome.Change.TheVariants.{Begin, Receive, SetTitle}
 use Rattle.radio_core.specs.declared.outcome.Outcome.{Outcome}

@@ -16,7 +16,6 @@ use Rattle.radio_fallback.proofs.Faring.{Faring, HasStayed, HasGone, HasLost, fa
 use Rattle.radio_events.specs.declared.event.Event.{Event}
 use Rattle.radio_events.specs.declared.event.Event.TheVariants.{SourceEnd, Leave}
 use Rattle.radio_events.specs.Events.{client_in}
-use Rattle.radio_core.specs.declared.clients.Client.{Client}
 use Rattle.radio_core.specs.declared.clients.ClientState.{ClientState}
 use Rattle.radio_core.specs.declared.clients.ClientState.TheVariants.{Answered as HasHisAnswer}
 use Rattle.radio_core.specs.declared.outcome.Change.TheVariants.{End, EndAndLeave}
@@ -25,7 +24,7 @@ use Rattle.radio_core.specs.declared.standing.Standing.{Standing}
 use Rattle.radio_core.specs.declared.standing.Standing.TheVariants.{Unknown, Undecided, Feeds, Sits, Answered}
 use Rattle.radio_core.specs.World.{World, standing_of, standing_in}
 use Rattle.radio_core.specs.Changes.{changed, carried_along, session_over, session_ended}
-use Rattle.radio_core.specs.Clients.{is_client, client_of, with_state, in_state}
+use Rattle.radio_core.specs.Clients.{Client, is_client, client_of, with_state, in_state}
 use Rattle.radio_core.specs.Facts.{sight_of}
 use Rattle.radio_core.specs.Finishes.{Cause, SessionIsOver}
 use Rattle.radio_core.specs.Moves.{his_turn, ByItsEnd, ByItsLeaving, TakesTo}

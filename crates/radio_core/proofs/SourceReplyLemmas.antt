@@ -12,7 +12,6 @@ use Rattle.radio_seats.specs.declared.seat.Seating.{Seating}
 use Rattle.radio_seats.specs.declared.seat.Seating.TheVariants.{Sits as HasSeat, Finished as HasFinished}
 use Rattle.radio_seats.specs.Seats.{listener_of}
 use Rattle.radio_addr.specs.declared.peer.Peer.{Peer}
-use Rattle.radio_core.specs.declared.clients.Client.{Client}
 use Rattle.radio_core.specs.declared.clients.ClientState.{ClientState}
 use Rattle.radio_core.specs.declared.clients.ClientState.TheVariants.{Undecided, Feeds, Listens, Answered, Ended}
 use Rattle.radio_core.specs.declared.house.House.{House}
@@ -22,7 +21,7 @@ use Rattle.radio_core.specs.declared.standing.Standing.{Standing}
 use Rattle.radio_core.specs.declared.standing.Standing.TheVariants.{Unknown, Undecided as IsUndecided, Feeds as IsFeeding, Sits}
 use Rattle.radio_core.specs.declared.standing.Standing.TheVariants.{Answered as IsAnswered, Finished as IsFinished}
 use Rattle.radio_core.specs.Changes.{changed, received}
-use Rattle.radio_core.specs.Clients.{client_of}
+use Rattle.radio_core.specs.Clients.{Client, client_of}
 use Rattle.radio_core.specs.Facts.{largest_number, live_end, rows_to_push}
 use Rattle.radio_core.specs.Outcomes.{says, on_verdict, if_feeding}
 use Rattle.radio_core.specs.Push.{delivers, takes_in}

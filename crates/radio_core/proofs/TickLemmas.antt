@@ -10,14 +10,13 @@ use Rattle.radio_tables.proofs.FindLaws.{find_mapped, found_passes}
 use Rattle.radio_seats.specs.declared.seat.Listener.{Listener}
 use Rattle.radio_seats.specs.declared.seat.Seat.{Seat}
 use Rattle.radio_seats.specs.Seats.{listener_of, seat_of}
-use Rattle.radio_core.specs.declared.clients.Client.{Client}
 use Rattle.radio_core.specs.declared.clients.ClientState.{ClientState}
 use Rattle.radio_core.specs.declared.clients.ClientState.TheVariants.{Undecided as IsNew, Feeds as IsSource, Listens, Answered as HasHisAnswer, Ended}
 use Rattle.radio_events.specs.declared.event.Event.TheVariants.{Clock}
 use Rattle.radio_core.specs.declared.standing.Standing.{Standing}
 use Rattle.radio_core.specs.declared.standing.Standing.TheVariants.{Undecided, Feeds, Sits, Finished}
 use Rattle.radio_core.specs.Changes.{session_over, session_ended, timed_out_by, before_silence, silent_in, session_silenced, ticked}
-use Rattle.radio_core.specs.Clients.{is_client, client_of, with_state}
+use Rattle.radio_core.specs.Clients.{Client, is_client, client_of, with_state}
 use Rattle.radio_core.specs.Finishes.{Cause, SessionIsOver, HasSatOut, HasAskedNothing, HasSentNothing}
 use Rattle.radio_core.specs.Moves.{Brings, BySilence, TakesTo}
 use Rattle.radio_fallback.specs.declared.moves.Move.TheVariants.{Ended as SessionEnds}

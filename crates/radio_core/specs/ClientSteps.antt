@@ -15,8 +15,7 @@ use Rattle.radio_core.specs.declared.standing.Standing.{Standing}
 use Rattle.radio_core.specs.declared.standing.Standing.TheVariants.{Unknown, Undecided, Feeds, Sits, Answered, Finished}
 use Rattle.radio_core.specs.Facts.{rows_to_feed, rows_to_listen}
 use Rattle.radio_core.specs.Finishes.{Finishes}
-use Rattle.radio_core.specs.declared.clients.Client.{Client}
-use Rattle.radio_core.specs.Clients.{client_of}
+use Rattle.radio_core.specs.Clients.{Client, client_of}
 use Rattle.radio_core.specs.Step.{reply_to, world_after}
 use Rattle.radio_core.specs.World.{World, standing_of}
 

@@ -3,10 +3,18 @@ use Rattle.std.specs.Prelude.{ℕ, Bool, ◌==◌, List, Option, find, filter, n
 use Rattle.std.specs.declared.cmp.Ordering.{Ordering}
 use Rattle.std.specs.Ordering.{nat_cmp}
 use Rattle.radio_addr.specs.declared.peer.Peer.{Peer}
-use Rattle.radio_core.specs.declared.clients.Client.{Client}
 use Rattle.radio_core.specs.declared.clients.ClientState.{ClientState}
 use Rattle.radio_core.specs.declared.clients.ClientState.TheVariants.{Undecided}
 use Rattle.radio_tables.specs.Lists.{update_first, placed}
+
+-- a client who has arrived and has not left
+pub record Client : Type 0 where
+  pub id : ℕ
+  pub peer : Peer
+  -- the moment of his arrival, in milliseconds
+  pub arrived : ℕ
+  -- what he does
+  pub state : ClientState
 
 -- a client who has just arrived
 abbrev pub newcomer : ℕ → Peer → ℕ → Client

@@ -8,7 +8,7 @@ use Rattle.radio_seats.specs.declared.seat.Guest.{Guest}
 use Rattle.radio_seats.specs.declared.seat.Seat.{Seat}
 use Rattle.radio_seats.specs.Guests.{guest_in, moment_in, first_moment}
 use Rattle.radio_seats.specs.declared.seat.Listener.{Listener}
-use Rattle.radio_core.specs.declared.clients.Client.{Client}
+use Rattle.radio_core.specs.Clients.{Client}
 use Rattle.radio_core.specs.declared.clients.ClientState.{ClientState}
 use Rattle.radio_core.specs.declared.clients.ClientState.TheVariants.{Undecided}
 use Rattle.radio_core.specs.declared.outcome.Change.{Change}

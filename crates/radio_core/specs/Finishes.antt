@@ -1,12 +1,11 @@
 use Rattle.std.specs.Prelude.{◌≡◌, ℕ, true, Some, None, List}
 use Rattle.radio_policy.specs.declared.rule.Rule.{Rule}
 use Rattle.radio_policy.specs.declared.rule.Rule.TheVariants.{Lagged, TimeOver, HeaderTimeout, SourceSilent}
-use Rattle.radio_core.specs.declared.clients.Client.{Client}
 use Rattle.radio_events.specs.declared.event.Event.{Event}
 use Rattle.radio_events.specs.declared.event.Event.TheVariants.{Push, Clock}
 use Rattle.radio_core.specs.declared.standing.Standing.TheVariants.{Feeds, Finished as HasFinished}
 use Rattle.radio_seats.specs.declared.seat.Seat.{Seat}
-use Rattle.radio_core.specs.Clients.{client_of}
+use Rattle.radio_core.specs.Clients.{Client, client_of}
 use Rattle.radio_core.specs.Facts.{live_end}
 use Rattle.radio_core.specs.Moves.{LeavesOut}
 use Rattle.radio_core.specs.Timeouts.{lags_behind, has_sat_out, asks_too_late, is_silent}

@@ -6,10 +6,9 @@ use Rattle.radio_policy.specs.declared.rule.Rule.TheVariants.{HeaderTimeout}
 use Rattle.radio_settings.specs.declared.settings.Settings.{Settings}
 use Rattle.radio_settings.specs.Options.{options_for}
 use Rattle.radio_seats.specs.declared.seat.Seat.{Seat}
-use Rattle.radio_core.specs.declared.clients.Client.{Client}
 use Rattle.radio_core.specs.declared.clients.ClientState.{ClientState}
 use Rattle.radio_core.specs.declared.clients.ClientState.TheVariants.{Undecided, Ended}
-use Rattle.radio_core.specs.Clients.{with_state}
+use Rattle.radio_core.specs.Clients.{Client, with_state}
 use Rattle.radio_core.specs.Sessions.{Session}
 
 -- the moment lies so many seconds back, or more

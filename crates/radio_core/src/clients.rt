@@ -4,6 +4,7 @@ use radio_addr::Peer;
 use radio_policy::Rule;
 use radio_settings::MountName;
 use radio_tables::{Change, Row};
+use std::marker::Model;
 
 /// What a client does.
 #[derive(Clone, Copy)]
@@ -21,13 +22,21 @@ pub enum ClientState {
 }
 
 /// A client that has arrived and has not left.
-#[derive(Clone, Copy)]
-pub struct Client {
-    pub id: u64,
-    pub peer: Peer,
+#[derive(Drop)]
+pub(crate) struct Client {
+    pub(crate) id: u64,
+    pub(crate) peer: Peer,
     /// The moment of his arrival, in milliseconds.
-    pub arrived: u64,
-    pub state: ClientState,
+    pub(crate) arrived: u64,
+    pub(crate) state: ClientState,
+}
+
+impl Model for Client {
+    ghost use Rattle.radio_core.specs.Clients.{Client};
+
+    ghost Value = { Client };
+
+    ghost view = { λ c. record { id = c.id; peer = c.peer; arrived = c.arrived; state = c.state } };
 }
 
 impl Row for Client {

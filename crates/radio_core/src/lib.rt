@@ -4,9 +4,8 @@
 //! - [`clients_stand_by_their_events`] and the other functions of `laws`: what an event can do to
 //!   one client, one seat and one session, in every run. The laws of every run stand on them
 //!   (`radio_laws`).
-//! - [`House`], [`Client`], [`ClientState`], [`Standing`], [`Outcome`], [`Change`]: the words in
-//!   which contracts and laws speak of the state, and of what comes of an event. No call takes or
-//!   gives one.
+//! - [`House`], [`ClientState`], [`Standing`], [`Outcome`], [`Change`]: the words in which contracts
+//!   and laws speak of the state, and of what comes of an event. No call takes or gives one.
 //!
 //! The state has two parts: the house (the settings, the live mounts' sessions, the clients), and
 //! the table of those who listen. What comes of an event is worked out first (a file for each event
@@ -26,7 +25,7 @@ mod stream;
 mod timeouts;
 mod totals;
 
-pub use clients::{Client, ClientState};
+pub use clients::ClientState;
 pub use house::House;
 pub use laws::{
     clients_stand_by_their_events, cores_go_by_their_states, events_are_of_their_clients,

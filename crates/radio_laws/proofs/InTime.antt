@@ -6,10 +6,9 @@ use Rattle.std.specs.Option.{option_map}
 use Rattle.radio_policy.specs.declared.rule.Rule.TheVariants.{TimeOver, HeaderTimeout}
 use Rattle.radio_tables.proofs.FindLaws.{found_has}
 use Rattle.radio_seats.proofs.EndLaws.{kept_seat}
-use Rattle.radio_core.specs.declared.clients.Client.{Client}
 use Rattle.radio_core.specs.declared.clients.ClientState.TheVariants.{Ended}
 use Rattle.radio_core.specs.Changes.{before_silence, session_silenced, silent_in, ticked}
-use Rattle.radio_core.specs.Clients.{client_of, with_state}
+use Rattle.radio_core.specs.Clients.{Client, client_of, with_state}
 use Rattle.radio_laws.specs.Outstaying.{IsInTime}
 use Rattle.radio_core.specs.Sessions.{Session, is_of, session_of}
 use Rattle.radio_core.specs.Sound.{AreApart, IsSound}

@@ -13,7 +13,6 @@ use Rattle.radio_events.specs.declared.event.Event.{Event}
 use Rattle.radio_events.specs.declared.event.Event.TheVariants.{Arrive, Source, Push, SourceEnd, Title, Listen, Draw}
 use Rattle.radio_events.specs.declared.event.SourceRequest.{SourceRequest}
 use Rattle.radio_events.specs.declared.event.ListenRequest.{ListenRequest}
-use Rattle.radio_core.specs.declared.clients.Client.{Client}
 use Rattle.radio_core.specs.declared.clients.ClientState.TheVariants.{Undecided as IsNew}
 use Rattle.radio_core.specs.declared.outcome.Change.{Change}
 use Rattle.radio_core.specs.declared.outcome.Change.TheVariants.{SetTitle, End}
@@ -41,7 +40,7 @@ use Rattle.radio_core.specs.Sound.{IsSound}
 use Rattle.radio_core.specs.Step.{outcome, reply_to, world_after}
 use Rattle.radio_core.specs.Ways.{Way, Misplaced, IsFinished, IsDenied, IsRefused, IsAdmitted, Begins, Receives, SetsTitle, TakesSeat, HandsOut, Ends}
 use Rattle.radio_core.specs.Ways.{EndsAndLeaves, Leaves, HasPassed, Ticks}
-use Rattle.radio_core.specs.Clients.{client_of}
+use Rattle.radio_core.specs.Clients.{Client, client_of}
 use Rattle.radio_core.specs.Stream.{WholeStream, end_of, data_at}
 use Rattle.radio_core.proofs.CalledHome.{turns_up}
 use Rattle.radio_core.proofs.Lookups.{found_named, is_new_client, is_longer, is_titled, is_over}

@@ -26,13 +26,12 @@ use Rattle.radio_fallback.specs.Carry.{walks_on, turn_in, at_his_turn}
 use Rattle.radio_fallback.proofs.Faring.{Faring, HasStayed, HasGone, HasLost, fares, sits_as_before}
 use Rattle.radio_fallback.proofs.WalkLaws.{stopped_where_it_begins}
 use Rattle.radio_events.specs.declared.event.Event.TheVariants.{Clock}
-use Rattle.radio_core.specs.declared.clients.Client.{Client}
 use Rattle.radio_core.specs.declared.clients.ClientState.TheVariants.{Undecided as IsNew, Ended}
 use Rattle.radio_core.specs.declared.outcome.Change.TheVariants.{Nothing, Tick}
 use Rattle.radio_core.specs.declared.standing.Standing.{Standing}
 use Rattle.radio_core.specs.declared.standing.Standing.TheVariants.{Undecided, Feeds, Sits, Finished}
 use Rattle.radio_core.specs.Changes.{changed, session_over, session_ended, before_silence, session_silenced, silent_in, ticked}
-use Rattle.radio_core.specs.Clients.{client_of, with_state}
+use Rattle.radio_core.specs.Clients.{Client, client_of, with_state}
 use Rattle.radio_core.specs.Facts.{sight_of}
 use Rattle.radio_core.specs.Finishes.{Cause, SessionIsOver, IsFarBehind, HasSatOut, HasAskedNothing, HasSentNothing}
 use Rattle.radio_core.specs.Moves.{TakesTo, his_turn}

@@ -1,11 +1,10 @@
 -- After the clock was heard, nobody is there whose time is over.
 use Rattle.std.specs.Prelude.{◌≡◌, ℕ, nat_lt, true, false, List, Some, None}
-use Rattle.radio_core.specs.declared.clients.Client.{Client}
 use Rattle.radio_events.specs.declared.event.Event.TheVariants.{Clock}
 use Rattle.radio_seats.specs.declared.seat.Seat.{Seat}
 use Rattle.radio_seats.specs.Seats.{seat_of}
 use Rattle.radio_settings.specs.Options.{options_for}
-use Rattle.radio_core.specs.Clients.{client_of}
+use Rattle.radio_core.specs.Clients.{Client, client_of}
 use Rattle.radio_core.specs.Sessions.{Session, session_of}
 use Rattle.radio_core.specs.Step.{world_after}
 use Rattle.radio_core.specs.Timeouts.{has_sat_out, asks_too_late, is_silent}
