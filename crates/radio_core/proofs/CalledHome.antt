@@ -1,5 +1,5 @@
 -- how each listener fares where a source comes up on a mount that calls its listeners home
-use Rattle.std.proofs.Common.{◌≡◌, Bool, true, false, ℕ, Option, Some, None, List, refl, ap, sym, ◌∙◌}
+use Rattle.std.proofs.Common.{◌≡◌, Bool, true, false, ℕ, Some, None, List, refl, ap, sym, ◌∙◌}
 use Rattle.std.specs.Prelude.{◌&&◌, not, if◌then◌else◌}
 use Rattle.std.specs.Str.{bytes_eq}
 use Rattle.std.proofs.lemmas.Bool.{and_parts}
@@ -11,7 +11,7 @@ use Rattle.radio_seats.specs.declared.seat.Listener.{Listener}
 use Rattle.radio_seats.specs.declared.seat.Seat.{Seat}
 use Rattle.radio_seats.specs.Seats.{seat_of}
 use Rattle.radio_fallback.specs.declared.moves.Move.TheVariants.{Up}
-use Rattle.radio_fallback.specs.declared.moves.Turn.TheVariants.{GoesTo, IsOut}
+use Rattle.radio_fallback.specs.declared.moves.Turn.TheVariants.{GoesTo}
 use Rattle.radio_fallback.specs.Carry.{at_his_turn}
 use Rattle.radio_fallback.proofs.Faring.{comes_home, never_out}
 use Rattle.radio_core.specs.declared.outcome.Change.TheVariants.{Begin}

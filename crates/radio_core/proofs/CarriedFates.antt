@@ -1,6 +1,5 @@
 -- how each client fares where a move carries listeners along
-use Rattle.std.proofs.Common.{◌≡◌, Bool, true, false, ℕ, Option, Some, None, is_some, List, refl, ap, sym, subst, ◌∙◌}
-use Rattle.std.specs.Prelude.{◌&&◌, not, if◌then◌else◌}
+use Rattle.std.proofs.Common.{◌≡◌, true, ℕ, Option, Some, None, is_some, List, refl, ap, sym, ◌∙◌}
 use Rattle.std.specs.Option.{option_map_or}
 use Rattle.std.proofs.lemmas.Bool.{and_parts}
 use Rattle.radio_policy.specs.declared.rule.Rule.{Rule}
@@ -9,19 +8,18 @@ use Rattle.radio_seats.specs.declared.seat.Listener.{Listener}
 use Rattle.radio_seats.specs.declared.seat.Seat.{Seat}
 use Rattle.radio_seats.specs.declared.seat.Seating.TheVariants.{Sits as HasSeat, Finished as HasLostIt}
 use Rattle.radio_seats.specs.Seats.{listener_of, seat_of, seat_in, AreByNumber}
-use Rattle.radio_fallback.specs.declared.view.StreamEnd.{StreamEnd}
 use Rattle.radio_fallback.specs.declared.moves.Move.{Move}
 use Rattle.radio_fallback.specs.declared.moves.Turn.TheVariants.{Stays, GoesTo, IsOut}
-use Rattle.radio_fallback.specs.Walk.{Sight, MaySit}
-use Rattle.radio_fallback.specs.Carry.{concerns, carried, numbers_of}
+use Rattle.radio_fallback.specs.Walk.{MaySit}
+use Rattle.radio_fallback.specs.Carry.{concerns}
 use Rattle.radio_fallback.specs.Fares.{seat_at_end}
 use Rattle.radio_fallback.proofs.FaresLemmas.{numbers_kept}
 use Rattle.radio_fallback.proofs.Faring.{Faring, HasStayed, HasGone, HasLost, fares}
 use Rattle.radio_core.specs.declared.house.House.{House}
-use Rattle.radio_core.specs.declared.standing.Standing.TheVariants.{Feeds, Sits}
+use Rattle.radio_core.specs.declared.standing.Standing.TheVariants.{Sits}
 use Rattle.radio_core.specs.Changes.{carried_along}
 use Rattle.radio_core.specs.Clients.{Client, client_of}
-use Rattle.radio_core.specs.Facts.{sight_of, live_end, live_number}
+use Rattle.radio_core.specs.Facts.{sight_of, live_end}
 use Rattle.radio_core.specs.Moves.{his_turn, moved_into}
 use Rattle.radio_core.specs.Sessions.{Session, session_of}
 use Rattle.radio_core.specs.Sound.{IsSound}

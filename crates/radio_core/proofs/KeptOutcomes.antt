@@ -1,8 +1,8 @@
 -- what comes of an event is the same where only a queue is kept of each stream
-use Rattle.std.proofs.Common.{◌≡◌, Bool, false, ℕ, ◌+◌, ◌||◌, Option, Some, None, is_some, List, length, refl, ap, ◌∙◌, arith}
+use Rattle.std.proofs.Common.{◌≡◌, Bool, ℕ, ◌+◌, ◌||◌, Option, Some, None, is_some, List, length, refl, ap, ◌∙◌, arith}
 use Rattle.std.proofs.Math.Path.{fun_ext}
 use Rattle.std.specs.Prelude.{nat_lt, if◌then◌else◌}
-use Rattle.std.specs.Option.{option_map, option_map_or}
+use Rattle.std.specs.Option.{option_map}
 use Rattle.std.proofs.lemmas.List.{length-map}
 use Rattle.radio_policy.specs.declared.facts.SourceFacts.{SourceFacts}
 use Rattle.radio_policy.specs.declared.facts.ListenFacts.{ListenFacts}
@@ -10,8 +10,6 @@ use Rattle.radio_policy.specs.Table.{source_rows, push_rows, listen_rows}
 use Rattle.radio_policy.specs.Verdicts.{verdict_in}
 use Rattle.radio_addr.specs.declared.peer.Peer.{Peer}
 use Rattle.radio_settings.specs.MountName.{is_mount_name}
-use Rattle.radio_settings.specs.Options.{options_for}
-use Rattle.radio_access.specs.Lists.{lets_in}
 use Rattle.radio_access.specs.ContentTypes.{is_refused_type}
 use Rattle.radio_access.specs.SourcePair.{is_source_pair}
 use Rattle.radio_tables.specs.Lists.{Each}

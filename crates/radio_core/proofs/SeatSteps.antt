@@ -24,7 +24,6 @@ use Rattle.radio_core.specs.Moves.{TakesTo, ByComingUp, moved_into}
 use Rattle.radio_core.specs.Source.{shown_for}
 use Rattle.radio_core.specs.declared.house.House.{House}
 use Rattle.radio_access.specs.Lists.{lets_in}
-use Rattle.radio_settings.specs.declared.field.Shown.{Shown}
 use Rattle.radio_events.specs.declared.event.SourceRequest.{SourceRequest}
 use Rattle.radio_events.specs.Events.{client_in}
 use Rattle.radio_fallback.specs.declared.moves.Move.TheVariants.{Up}

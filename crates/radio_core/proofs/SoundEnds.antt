@@ -5,15 +5,11 @@ use Rattle.std.specs.Str.{bytes_eq}
 use Rattle.std.proofs.lemmas.Bool.Decides.{nat_tests}
 use Rattle.std.proofs.lemmas.Slice.Eq.{bytes_eq-Decides}
 use Rattle.radio_policy.specs.declared.rule.Rule.{Rule}
-use Rattle.radio_settings.specs.declared.settings.Settings.{Settings}
-use Rattle.radio_access.specs.Lists.{Lists}
 use Rattle.radio_tables.proofs.KeyLaws.{by_number, by_name}
 use Rattle.radio_fallback.specs.declared.moves.Move.TheVariants.{Ended as SessionEnds}
 use Rattle.radio_fallback.specs.declared.moves.Move.{Move}
 use Rattle.radio_fallback.specs.declared.moves.Turn.TheVariants.{Stays, GoesTo, IsOut}
-use Rattle.radio_fallback.specs.Carry.{concerns}
 use Rattle.radio_fallback.proofs.Faring.{Faring, HasStayed, HasGone, HasLost, fares, nobody_stays}
-use Rattle.radio_events.specs.declared.event.Event.{Event}
 use Rattle.radio_events.specs.declared.event.Event.TheVariants.{SourceEnd, Leave}
 use Rattle.radio_events.specs.Events.{client_in}
 use Rattle.radio_core.specs.declared.clients.ClientState.{ClientState}
@@ -21,14 +17,14 @@ use Rattle.radio_core.specs.declared.clients.ClientState.TheVariants.{Answered a
 use Rattle.radio_core.specs.declared.outcome.Change.TheVariants.{End, EndAndLeave}
 use Rattle.radio_seats.specs.declared.seat.Seat.{Seat}
 use Rattle.radio_core.specs.declared.standing.Standing.{Standing}
-use Rattle.radio_core.specs.declared.standing.Standing.TheVariants.{Unknown, Undecided, Feeds, Sits, Answered}
-use Rattle.radio_core.specs.World.{World, standing_of, standing_in}
+use Rattle.radio_core.specs.declared.standing.Standing.TheVariants.{Unknown, Feeds, Sits, Answered}
+use Rattle.radio_core.specs.World.{World, standing_of}
 use Rattle.radio_core.specs.Changes.{changed, carried_along, session_over, session_ended}
-use Rattle.radio_core.specs.Clients.{Client, is_client, client_of, with_state, in_state}
+use Rattle.radio_core.specs.Clients.{Client, client_of, with_state, in_state}
 use Rattle.radio_core.specs.Facts.{sight_of}
 use Rattle.radio_core.specs.Finishes.{Cause, SessionIsOver}
 use Rattle.radio_core.specs.Moves.{his_turn, ByItsEnd, ByItsLeaving, TakesTo}
-use Rattle.radio_seats.specs.Seats.{listener_of, seat_of, seat_in, AreByNumber}
+use Rattle.radio_seats.specs.Seats.{seat_of, seat_in, AreByNumber}
 use Rattle.radio_core.specs.Sessions.{Session, is_of, session_of, without_session}
 use Rattle.radio_core.specs.Sound.{AreApart, IsSound}
 use Rattle.radio_core.specs.Timeouts.{asks_too_late}

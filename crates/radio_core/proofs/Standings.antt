@@ -1,17 +1,13 @@
 -- how clients stand after each change
-use Rattle.std.proofs.Common.{◌≡◌, ◌⊎◌, inl, inr, true, false, ℕ, ◌==◌, Option, Some, None, List, refl, ap, sym, ◌∙◌, arith}
-use Rattle.std.specs.Prelude.{if◌then◌else◌}
-use Rattle.std.specs.Option.{option_map}
-use Rattle.std.specs.Str.{bytes_eq}
+use Rattle.std.proofs.Common.{◌≡◌, true, false, ℕ, ◌==◌, Option, Some, None, List, refl, ap, sym, ◌∙◌, arith}
 use Rattle.std.proofs.lemmas.Bool.Decides.{nat_tests}
 use Rattle.radio_policy.specs.declared.rule.Rule.{Rule}
-use Rattle.radio_policy.specs.declared.rule.Rule.TheVariants.{NotLive}
 use Rattle.radio_addr.specs.declared.peer.Peer.{Peer}
 use Rattle.radio_settings.specs.declared.field.Shown.{Shown}
 use Rattle.radio_tables.proofs.KeyLaws.{by_number}
 use Rattle.radio_core.specs.declared.clients.ClientState.{ClientState}
 use Rattle.radio_core.specs.declared.clients.ClientState.TheVariants.{Undecided, Feeds, Listens, Answered, Ended}
-use Rattle.radio_core.specs.declared.outcome.Change.TheVariants.{Answer, Admit, Begin, TakeSeat, Advance, Forget}
+use Rattle.radio_core.specs.declared.outcome.Change.TheVariants.{Answer, Admit, TakeSeat, Advance, Forget}
 use Rattle.radio_seats.specs.declared.seat.Listener.{Listener}
 use Rattle.radio_seats.specs.declared.seat.Seat.{Seat}
 use Rattle.radio_seats.specs.declared.seat.Seating.{Seating}
@@ -20,10 +16,10 @@ use Rattle.radio_core.specs.declared.standing.Standing.{Standing}
 use Rattle.radio_core.specs.declared.standing.Standing.TheVariants.{Unknown, Undecided as IsUndecided, Feeds as IsFeeding, Sits}
 use Rattle.radio_core.specs.declared.standing.Standing.TheVariants.{Answered as IsAnswered, Finished}
 use Rattle.radio_core.specs.Clients.{Client, client_of, in_state, with_state}
-use Rattle.radio_seats.specs.Seats.{listener_of, seat_in, ended_at, finished_from, advanced, heard_to}
-use Rattle.radio_core.specs.World.{World, standing_of, standing_in, standing_by, standing_seated, standing_of_listener}
+use Rattle.radio_seats.specs.Seats.{listener_of, advanced, heard_to}
+use Rattle.radio_core.specs.World.{World, standing_of, standing_in, standing_by, standing_seated}
 use Rattle.radio_core.specs.Changes.{changed, begun, now_in_state}
-use Rattle.radio_seats.proofs.SeatLaws.{beside_moved, beside_left, beside_seated, has_moved, is_no_listener, has_sat_down, have_finished}
+use Rattle.radio_seats.proofs.SeatLaws.{beside_moved, beside_left, beside_seated, has_moved, is_no_listener, has_sat_down}
 use Rattle.radio_core.proofs.Lookups.{beside_state, beside_forgotten, does, is_no_client, is_new_client, beside_new}
 
 -- one client stands so from now on, and the others as before

@@ -1,9 +1,9 @@
 -- what each turn of a carry keeps, and so the whole
-use Rattle.std.proofs.Common.{◌≡◌, Bool, true, false, ℕ, ◌+◌, ◌<◌, ◌≤◌, ◌==◌, ◌⊎◌, inl, inr, Option, Some, None, List, [], ◌∷◌, length, not, refl, ap, sym, subst, ◌∙◌, arith}
-use Rattle.std.specs.Prelude.{◌&&◌, find, filter, map, nat_lt, if◌then◌else◌}
+use Rattle.std.proofs.Common.{◌≡◌, Bool, true, false, ℕ, ◌+◌, ◌<◌, ◌≤◌, ◌==◌, ◌⊎◌, inl, inr, Option, Some, None, List, [], ◌∷◌, not, refl, ap, sym, subst, ◌∙◌, arith}
+use Rattle.std.specs.Prelude.{◌&&◌, find, nat_lt, if◌then◌else◌}
 use Rattle.std.specs.List.Sorted.{IsStrictlySortedBy}
 use Rattle.std.specs.Ordering.{nat_cmp}
-use Rattle.std.specs.Option.{option_map, option_map_or}
+use Rattle.std.specs.Option.{option_map}
 use Rattle.std.specs.Str.{bytes_eq}
 use Rattle.std.proofs.lemmas.Bool.{eqb-true}
 use Rattle.std.proofs.lemmas.Bool.Decides.{nat_tests}
@@ -20,11 +20,11 @@ use Rattle.radio_seats.specs.declared.seat.Seating.TheVariants.{Sits, Finished}
 use Rattle.radio_seats.specs.Seats.{is_listener, listener_of, seat_held, seat_in, seat_of, moved, moved_to, with_move, loses, lost_by, with_end, without_listener, is_seat_at, count_at, has_user, sits_there, SitsAs, AreByNumber}
 use Rattle.radio_seats.proofs.SeatLaws.{beside_left}
 use Rattle.radio_seats.proofs.CountLaws.{no_more_updated, nobody_sits_as}
-use Rattle.radio_seats.proofs.Lists.{one, held, passing, passing_updated, passing_removed}
+use Rattle.radio_seats.proofs.Lists.{one, held, passing_updated, passing_removed}
 use Rattle.radio_fallback.specs.declared.moves.Move.{Move}
 use Rattle.radio_fallback.specs.declared.moves.Turn.{Turn}
 use Rattle.radio_fallback.specs.declared.moves.Turn.TheVariants.{Stays, GoesTo, IsOut}
-use Rattle.radio_fallback.specs.Walk.{Sight, MaySit, is_full, is_full_for, is_twice_for, is_open_to, sits_already}
+use Rattle.radio_fallback.specs.Walk.{Sight, is_full, is_twice_for, sits_already}
 use Rattle.radio_fallback.specs.Carry.{Carry, turn_of, after_turn, turns, numbers_of, at_first, carried}
 use Rattle.radio_fallback.specs.Fares.{IsWithinLimit, SitOnce, seat_at_end, IsCarriedTo, HadASeat}
 use Rattle.radio_fallback.proofs.CarryLemmas.{same_numbers}

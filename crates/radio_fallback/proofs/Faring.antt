@@ -1,21 +1,19 @@
 -- how one listener fares in a carry, by his turn
-use Rattle.std.proofs.Common.{◌≡◌, Bool, true, false, ℕ, ◌==◌, Option, Some, None, List, [], ◌∷◌, refl, ap, sym, subst, ◌∙◌, arith}
+use Rattle.std.proofs.Common.{◌≡◌, Bool, true, false, ℕ, ◌==◌, Option, Some, None, List, [], ◌∷◌, refl, ap, sym, ◌∙◌, arith}
 use Rattle.std.specs.Prelude.{find, filter, nat_lt, if◌then◌else◌}
-use Rattle.std.specs.Option.{option_map}
 use Rattle.std.proofs.lemmas.Bool.{eqb-true}
 use Rattle.std.proofs.lemmas.Bool.Decides.{nat_tests}
 use Rattle.radio_policy.specs.declared.rule.Rule.{Rule}
 use Rattle.radio_tables.specs.Lists.{Each}
 use Rattle.radio_tables.proofs.EachLaws.{Each_updated}
 use Rattle.radio_tables.proofs.FindLaws.{found_passes}
-use Rattle.radio_tables.proofs.KeyLaws.{by_number}
 use Rattle.radio_seats.specs.declared.seat.Listener.{Listener}
 use Rattle.radio_seats.specs.declared.seat.Seat.{Seat}
 use Rattle.radio_seats.specs.declared.seat.Seating.{Seating}
 use Rattle.radio_seats.specs.declared.seat.Seating.TheVariants.{Sits, Finished}
 use Rattle.radio_seats.specs.Seats.{is_listener, listener_of, seat_held, seat_in, seat_of, moved, loses, without_listener, AreByNumber}
 use Rattle.radio_fallback.specs.declared.moves.Move.{Move}
-use Rattle.radio_fallback.specs.declared.moves.Move.TheVariants.{Ended, Up, To}
+use Rattle.radio_fallback.specs.declared.moves.Move.TheVariants.{Ended, Up}
 use Rattle.radio_fallback.specs.declared.moves.Turn.{Turn}
 use Rattle.radio_fallback.specs.declared.moves.Turn.TheVariants.{Stays, GoesTo, IsOut}
 use Rattle.radio_fallback.specs.declared.walking.Landing.{Landing}
@@ -25,7 +23,7 @@ use Rattle.radio_fallback.specs.Carry.{Carry, concerns, walks_on, is_asked, turn
 use Rattle.radio_fallback.specs.Fares.{fared, seat_at_end}
 use Rattle.radio_fallback.proofs.FaresLemmas.{numbers_kept, turn_cases}
 use Rattle.radio_fallback.proofs.HisTurn.{others_turn, by_his_turn}
-use Rattle.radio_fallback.proofs.TurnLemmas.{IsShifted, is_shifted}
+use Rattle.radio_fallback.proofs.TurnLemmas.{is_shifted}
 
 -- who is past his number is another
 below_apart : (n id : ℕ) → nat_lt n id ≡ true → (n == id) ≡ false

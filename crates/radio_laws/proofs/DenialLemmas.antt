@@ -13,7 +13,6 @@ use Rattle.radio_policy.specs.Verdicts.{verdict_in, Denies}
 use Rattle.radio_addr.specs.declared.peer.Peer.{Peer}
 use Rattle.radio_creds.specs.Credentials.{Credentials}
 use Rattle.radio_settings.specs.declared.settings.Login.{Login}
-use Rattle.radio_settings.specs.MountName.{is_mount_name}
 use Rattle.radio_settings.specs.Options.{options_for}
 use Rattle.radio_access.specs.SourcePair.{is_login, is_source_pair}
 use Rattle.radio_tables.specs.Lists.{Has}

@@ -1,5 +1,5 @@
 -- where a walk ends, and by which mounts it comes
-use Rattle.std.proofs.Common.{◌≡◌, ℕ, zero, suc, ◌+◌, ◌<◌, Bool, true, false, ◌&&◌, ◌||◌, not, is_some, Option, Some, None, List, length, refl, ap, sym, subst, ◌∙◌, arith}
+use Rattle.std.proofs.Common.{◌≡◌, ℕ, zero, suc, ◌+◌, ◌<◌, Bool, true, false, ◌&&◌, ◌||◌, not, is_some, Option, Some, None, List, length, refl, subst, arith}
 use Rattle.std.specs.Prelude.{if◌then◌else◌}
 use Rattle.std.proofs.lemmas.Bool.Decides.{nat_tests}
 use Rattle.radio_policy.specs.declared.rule.Rule.{Rule}
@@ -9,7 +9,7 @@ use Rattle.radio_settings.specs.Options.{options_for}
 use Rattle.radio_seats.specs.Seats.{seats_at}
 use Rattle.radio_fallback.specs.declared.walking.Landing.{Landing}
 use Rattle.radio_fallback.specs.declared.walking.Landing.TheVariants.{Lands, Stops}
-use Rattle.radio_fallback.specs.Walk.{Sight, is_full, is_full_for, found_at, stop_of, landing_at, landing_here, next_mount, onward, walk, landing}
+use Rattle.radio_fallback.specs.Walk.{Sight, is_full, is_full_for, found_at, stop_of, landing_at, landing_here, next_mount, onward, walk}
 use Rattle.radio_fallback.proofs.WalkLaws.{walks_ten}
 use Rattle.radio_events.specs.declared.event.ListenRequest.{ListenRequest}
 use Rattle.radio_core.specs.Facts.{sight_of, walks_to}

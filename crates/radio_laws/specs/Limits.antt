@@ -1,17 +1,11 @@
 -- How many may be there, how many may sit at a mount, and who may sit there once alone.
 use Rattle.std.specs.Prelude.{◌≡◌, ℕ, ◌<◌, ◌≤◌, Bool, false, List, length, Option, Some}
 use Rattle.radio_creds.specs.Credentials.{Credentials}
-use Rattle.radio_policy.specs.declared.rule.Rule.TheVariants.{TooManyClients, TooManySources, MountFull, UserTwice}
 use Rattle.radio_settings.specs.Options.{options_for}
-use Rattle.radio_tables.specs.Lists.{Has}
-use Rattle.radio_seats.specs.declared.seat.Listener.{Listener}
 use Rattle.radio_seats.specs.declared.seat.Seat.{Seat}
-use Rattle.radio_seats.specs.declared.seat.Seating.TheVariants.{Sits as HasSeat}
 use Rattle.radio_seats.specs.Seats.{seats_at, seat_of}
 use Rattle.radio_events.specs.declared.event.Event.{Event}
-use Rattle.radio_events.specs.declared.event.Event.TheVariants.{Listen}
-use Rattle.radio_events.specs.declared.event.ListenRequest.{ListenRequest}
-use Rattle.radio_events.specs.declared.reply.Reply.TheVariants.{Arrived, Feeding, Deny}
+use Rattle.radio_events.specs.declared.reply.Reply.TheVariants.{Arrived, Feeding}
 use Rattle.radio_core.specs.Step.{reply_to}
 use Rattle.radio_core.specs.World.{World}
 

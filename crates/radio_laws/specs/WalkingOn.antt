@@ -1,11 +1,9 @@
 -- What a move makes of each listener, by what stands at his turn.
-use Rattle.std.specs.Prelude.{◌≡◌, ℕ, true, List, Option, Some, None}
+use Rattle.std.specs.Prelude.{◌≡◌, ℕ, List, Some}
 use Rattle.radio_policy.specs.declared.rule.Rule.{Rule}
 use Rattle.radio_fallback.specs.declared.moves.Move.{Move}
 use Rattle.radio_fallback.specs.declared.moves.Move.TheVariants.{Ended}
 use Rattle.radio_fallback.specs.declared.moves.Turn.TheVariants.{Stays, GoesTo, IsOut}
-use Rattle.radio_fallback.specs.Carry.{concerns}
-use Rattle.radio_seats.specs.declared.seat.Listener.{Listener}
 use Rattle.radio_seats.specs.declared.seat.Seat.{Seat}
 use Rattle.radio_seats.specs.declared.seat.Seating.TheVariants.{Finished}
 use Rattle.radio_seats.specs.Seats.{listener_of, seat_of}

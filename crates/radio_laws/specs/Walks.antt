@@ -1,5 +1,5 @@
 -- By which mounts a walk comes, in the words of the settings.
-use Rattle.std.specs.Prelude.{◌≡◌, ℕ, zero, suc, true, List, Option, Some, None}
+use Rattle.std.specs.Prelude.{◌≡◌, ℕ, suc, true, List, Some, None}
 use Rattle.radio_settings.specs.Options.{options_for}
 use Rattle.radio_core.specs.Sessions.{session_of}
 use Rattle.radio_core.specs.World.{World}

@@ -1,4 +1,4 @@
-use Rattle.std.proofs.Common.{◌≡◌, ℕ, Some, List, Result, Ok, Err, IfOk, MatchResult, refl, ap, sym, ◌∙◌}
+use Rattle.std.proofs.Common.{◌≡◌, ℕ, Some, List, Result, Ok, Err, IfOk, MatchResult, ap, sym, ◌∙◌}
 use Rattle.std.specs.Option.{option_copied}
 use Rattle.radio_core.specs.Sessions.{Session, session_of}
 use Rattle.radio_core.proofs.Lookups.{found_named}
