@@ -1,0 +1,82 @@
+-- Lines of the log.
+use Rattle.std.specs.Prelude.{ℕ, List, [], ◌∷◌, ◌++◌, codes, decimal}
+use Rattle.std.specs.List.{flat_map}
+use Rattle.radio_addr.specs.Writing.{written}
+use Rattle.radio_log.specs.declared.facts.Fact.{Fact}
+use Rattle.radio_log.specs.declared.facts.Fact.TheVariants.{Started, Ended, ClientEnded, SourceUp, SourceGone, RelayUp, RelayGone, RelayFailed, MountUp, MountGone, Title, Command, Lost}
+use Rattle.radio_log.specs.declared.notes.Note.{Note}
+use Rattle.radio_log.specs.Moments.{moment_text}
+use Rattle.radio_log.specs.Shown.{shown}
+
+-- a name and a value
+abbrev pub Field : Type 0
+Field = List ℕ × List ℕ
+
+-- a field as a word: its name, `=`, its value
+unfoldable pub word : Field → List ℕ
+word field = field.0 ++ codes "=" ++ shown field.1
+
+-- the first word that a fact is told in
+abbrev pub kind_of : Fact → List ℕ
+kind_of (Started version address) = codes "started"
+kind_of (Ended why) = codes "ended"
+kind_of (ClientEnded c) = codes "client"
+kind_of (SourceUp s) = codes "source-up"
+kind_of (SourceGone s) = codes "source-gone"
+kind_of (RelayUp r) = codes "relay-up"
+kind_of (RelayGone r) = codes "relay-gone"
+kind_of (RelayFailed r) = codes "relay-failed"
+kind_of (MountUp mount) = codes "mount-up"
+kind_of (MountGone mount why) = codes "mount-gone"
+kind_of (Title t) = codes "title"
+kind_of (Command c) = codes "command"
+kind_of (Lost lines) = codes "lost"
+
+-- the fields that follow
+abbrev pub fields_of : Fact → List Field
+fields_of (Started version address) = (codes "version", version) ∷ (codes "address", address) ∷ []
+fields_of (Ended why) = (codes "why", why) ∷ []
+fields_of (ClientEnded c) =
+    (codes "peer", written c.peer) ∷ (codes "method", c.method) ∷ (codes "path", c.path)
+    ∷ (codes "mount", c.mount) ∷ (codes "status", decimal c.status) ∷ (codes "why", c.why)
+    ∷ (codes "user", c.user) ∷ (codes "seconds", decimal c.seconds) ∷ (codes "bytes", decimal c.bytes)
+    ∷ (codes "agent", c.agent) ∷ []
+fields_of (SourceUp s) =
+    (codes "mount", s.mount) ∷ (codes "peer", written s.peer) ∷ (codes "type", s.content_type)
+    ∷ (codes "agent", s.agent) ∷ []
+fields_of (SourceGone s) =
+    (codes "mount", s.mount) ∷ (codes "peer", written s.peer) ∷ (codes "why", s.why)
+    ∷ (codes "seconds", decimal s.seconds) ∷ (codes "bytes", decimal s.bytes) ∷ []
+fields_of (RelayUp r) =
+    (codes "mount", r.mount) ∷ (codes "master", r.master) ∷ (codes "type", r.content_type) ∷ []
+fields_of (RelayGone r) =
+    (codes "mount", r.mount) ∷ (codes "master", r.master) ∷ (codes "why", r.why)
+    ∷ (codes "seconds", decimal r.seconds) ∷ (codes "bytes", decimal r.bytes) ∷ []
+fields_of (RelayFailed r) = (codes "mount", r.mount) ∷ (codes "master", r.master) ∷ (codes "why", r.why) ∷ []
+fields_of (MountUp mount) = (codes "mount", mount) ∷ []
+fields_of (MountGone mount why) = (codes "mount", mount) ∷ (codes "why", why) ∷ []
+fields_of (Title t) = (codes "mount", t.mount) ∷ (codes "title", t.title) ∷ []
+fields_of (Command c) =
+    (codes "command", c.name) ∷ (codes "mount", c.mount) ∷ (codes "argument", c.argument)
+    ∷ (codes "user", c.user) ∷ (codes "peer", written c.peer) ∷ []
+fields_of (Lost lines) = (codes "lines", decimal lines) ∷ []
+
+-- a word behind a space
+unfoldable pub spaced : List ℕ → List ℕ
+spaced text = codes " " ++ text
+
+-- the words of fields, each behind a space
+abbrev pub fields_text : List Field → List ℕ
+fields_text fields = flat_map (λ (field : Field). spaced (word field)) fields
+
+-- what is told of a fact: its word and its fields
+abbrev pub told : Fact → List ℕ
+told fact = spaced (kind_of fact) ++ fields_text (fields_of fact)
+
+-- a line without its end: the moment, and the fact
+abbrev pub body : Note → List ℕ
+body note = moment_text note.moment ++ told note.fact
+
+-- a line: its body, and LF
+unfoldable pub line : Note → List ℕ
+line note = body note ++ codes "\n"

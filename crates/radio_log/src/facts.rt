@@ -1,0 +1,161 @@
+//! What a line can tell. No fact has a field for a password.
+
+use crate::Text;
+use radio_addr::Peer;
+
+/// What a line tells.
+#[derive(Drop)]
+pub enum Fact<'a> {
+    /// The program has started, in this version, and listens at this address.
+    Started {
+        version: Text<'a>,
+        address: Text<'a>,
+    },
+    /// The program has ended, for this reason.
+    Ended {
+        why: Text<'a>,
+    },
+    /// A client is gone.
+    ClientEnded(ClientEnded<'a>),
+    /// A source feeds a mount.
+    SourceUp(SourceUp<'a>),
+    /// A source feeds its mount no more.
+    SourceGone(SourceGone<'a>),
+    /// A relay feeds a mount.
+    RelayUp(RelayUp<'a>),
+    /// A relay feeds its mount no more.
+    RelayGone(RelayGone<'a>),
+    /// A relay could not be started, or has lost its master.
+    RelayFailed(RelayFailed<'a>),
+    /// A mount is live.
+    MountUp {
+        mount: Text<'a>,
+    },
+    /// A mount is live no more, for this reason.
+    MountGone {
+        mount: Text<'a>,
+        why: Text<'a>,
+    },
+    /// A mount has a new title.
+    Title(Title<'a>),
+    /// A command has changed something.
+    Command(Command<'a>),
+    /// So many lines before this one could not be written, and are lost.
+    Lost {
+        lines: u64,
+    },
+}
+
+/// A client who is gone.
+#[derive(Drop)]
+pub struct ClientEnded<'a> {
+    /// The address that he came from.
+    pub peer: Peer,
+    /// The method of his request, empty where none came.
+    pub method: Text<'a>,
+    /// The path of his request, without its query.
+    pub path: Text<'a>,
+    /// The mount where he sat last, empty where he sat nowhere.
+    pub mount: Text<'a>,
+    /// The status that he was answered, 0 where he was answered nothing.
+    pub status: u16,
+    /// The word of his end: the rule that denied or finished him, or `left`.
+    pub why: Text<'a>,
+    /// The user that he named, never his password; empty where he named none.
+    pub user: Text<'a>,
+    /// How many whole seconds he was there.
+    pub seconds: u64,
+    /// How many bytes he was handed.
+    pub bytes: u64,
+    /// His `User-Agent`, empty where he sent none.
+    pub agent: Text<'a>,
+}
+
+/// A source that feeds a mount.
+#[derive(Drop)]
+pub struct SourceUp<'a> {
+    /// The mount that it feeds.
+    pub mount: Text<'a>,
+    /// The address that it came from.
+    pub peer: Peer,
+    /// The media type of its stream.
+    pub content_type: Text<'a>,
+    /// Its `User-Agent`, empty where it sent none.
+    pub agent: Text<'a>,
+}
+
+/// A source that feeds its mount no more.
+#[derive(Drop)]
+pub struct SourceGone<'a> {
+    /// The mount that it fed.
+    pub mount: Text<'a>,
+    /// The address that it came from.
+    pub peer: Peer,
+    /// The word of its end.
+    pub why: Text<'a>,
+    /// How many whole seconds it was there.
+    pub seconds: u64,
+    /// How many bytes of its stream came.
+    pub bytes: u64,
+}
+
+/// A relay that feeds a mount.
+#[derive(Drop)]
+pub struct RelayUp<'a> {
+    /// The mount that it feeds.
+    pub mount: Text<'a>,
+    /// The server that it draws from, with its port.
+    pub master: Text<'a>,
+    /// The media type of its stream.
+    pub content_type: Text<'a>,
+}
+
+/// A relay that feeds its mount no more.
+#[derive(Drop)]
+pub struct RelayGone<'a> {
+    /// The mount that it fed.
+    pub mount: Text<'a>,
+    /// The server that it drew from, with its port.
+    pub master: Text<'a>,
+    /// The word of its end.
+    pub why: Text<'a>,
+    /// How many whole seconds it was there.
+    pub seconds: u64,
+    /// How many bytes of its stream came.
+    pub bytes: u64,
+}
+
+/// A relay that could not be started, or has lost its master.
+#[derive(Drop)]
+pub struct RelayFailed<'a> {
+    /// The mount that it was to feed.
+    pub mount: Text<'a>,
+    /// The server that it was to draw from, with its port.
+    pub master: Text<'a>,
+    /// What failed.
+    pub why: Text<'a>,
+}
+
+/// A new title of a mount.
+#[derive(Drop)]
+pub struct Title<'a> {
+    /// The mount.
+    pub mount: Text<'a>,
+    /// What plays there now, empty where nothing is told of it.
+    pub title: Text<'a>,
+}
+
+/// A command that has changed something.
+#[derive(Drop)]
+pub struct Command<'a> {
+    /// The name of the command.
+    pub name: Text<'a>,
+    /// The mount that it was said of, empty where it was said of none.
+    pub mount: Text<'a>,
+    /// What else it was told: a client's number, a mount to move to, a user; empty where it was told nothing.
+    pub argument: Text<'a>,
+    /// The user who gave it, never his password.
+    pub user: Text<'a>,
+    /// The address that he came from.
+    pub peer: Peer,
+}

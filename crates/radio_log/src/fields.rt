@@ -1,0 +1,86 @@
+//! A line in the making, to which fields are added.
+ghost use Rattle.std.specs.Prelude.{◌≡◌, ◌++◌, codes, decimal, IfOk, OnOk};
+ghost use Rattle.radio_addr.specs.Writing.{written};
+ghost use Rattle.radio_log.specs.Lines.{spaced, word};
+
+use crate::shown::push_shown;
+use crate::{OutOfMemory, Text};
+use radio_addr::Peer;
+use std::alloc::Global;
+use std::marker::Model;
+
+/// A line in the making. In contracts it is its bytes.
+#[derive(Drop)]
+pub(crate) struct Fields {
+    alloc: Global,
+    bytes: Vec<u8>,
+}
+
+impl Model for Fields {
+    ghost use Rattle.std.specs.Prelude.{ℕ, List};
+
+    ghost Value = { List ℕ };
+
+    ghost view = { λ fields. fields.bytes.items };
+}
+
+impl Fields {
+    /// Behind these bytes.
+    pub(crate) fn behind(alloc: Global, bytes: Vec<u8>) -> Fields
+        ensures { result ≡ bytes.items }
+    {
+        Fields { alloc, bytes }
+    }
+
+    /// The line with its end.
+    pub(crate) fn into_line(self) -> Result<Vec<u8>, OutOfMemory>
+        ensures { IfOk result (λ bytes. bytes.items ≡ self ++ codes "\n") }
+    {
+        let mut bytes = self.bytes;
+        bytes.push(b'\n')?;
+        Ok(bytes)
+    }
+
+    /// Adds the first word of a fact, as it stands.
+    #[tactic(auto, unfolding(crate::specs::Lines::spaced))]
+    pub(crate) fn put_kind(&mut self, kind: &str) -> Result<(), OutOfMemory>
+        ensures { OnOk result (self.new ≡ self.old ++ spaced kind.now) }
+    {
+        self.bytes.push(b' ')?;
+        self.bytes.extend_from_slice(kind.as_bytes())
+    }
+
+    /// Adds a field whose value is these bytes.
+    #[tactic(auto, unfolding(crate::specs::Lines::spaced, crate::specs::Lines::word))]
+    fn put(&mut self, name: &str, value: &[u8]) -> Result<(), OutOfMemory>
+        ensures { OnOk result (self.new ≡ self.old ++ spaced (word (name.now, value.now))) }
+    {
+        self.bytes.push(b' ')?;
+        self.bytes.extend_from_slice(name.as_bytes())?;
+        self.bytes.push(b'=')?;
+        push_shown(&mut self.bytes, value)
+    }
+
+    /// Adds a text.
+    pub(crate) fn put_text(&mut self, name: &str, text: &Text<'_>) -> Result<(), OutOfMemory>
+        ensures { OnOk result (self.new ≡ self.old ++ spaced (word (name.now, text.now))) }
+    {
+        self.put(name, text.as_bytes())
+    }
+
+    /// Adds a number.
+    pub(crate) fn put_count(&mut self, name: &str, number: u64) -> Result<(), OutOfMemory>
+        ensures { OnOk result (self.new ≡ self.old ++ spaced (word (name.now, decimal number))) }
+    {
+        let digits = number.to_string(self.alloc)?;
+        self.put(name, digits.as_bytes())
+    }
+
+    /// Adds an address.
+    pub(crate) fn put_peer(&mut self, name: &str, peer: Peer) -> Result<(), OutOfMemory>
+        ensures { OnOk result (self.new ≡ self.old ++ spaced (word (name.now, written peer))) }
+    {
+        let address = peer.to_string(self.alloc)?;
+        self.put(name, address.as_bytes())
+    }
+}

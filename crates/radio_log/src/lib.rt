@@ -1,0 +1,28 @@
+//! The log: one line for each thing that an operator should know of.
+//!
+//! - [`line`] writes a [`Note`]: a [`Moment`] in UTC and a [`Fact`].
+//! - `facts` has what each kind of fact holds; a [`Text`] is what others have said of themselves.
+//! - [`laws`] says what holds of all lines: that they are lines, and how they are read back.
+//!
+//! A line is that of `docs/FORMATS.md`, "The log", and in proofs that of `specs/Lines`.
+#![tactic(auto)]
+
+mod calendar;
+mod facts;
+mod fields;
+pub mod laws;
+mod moment;
+mod notes;
+mod shown;
+mod telling;
+mod text;
+
+pub use facts::{
+    ClientEnded, Command, Fact, RelayFailed, RelayGone, RelayUp, SourceGone, SourceUp, Title,
+};
+pub use moment::{LAST_SECOND, Moment};
+pub use notes::{Note, line};
+pub use text::Text;
+
+/// The error of each call that takes memory: there was none.
+pub type OutOfMemory = std::alloc::AllocError;

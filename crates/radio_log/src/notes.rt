@@ -1,0 +1,42 @@
+//! Notes, and the lines that tell them.
+ghost use Rattle.std.specs.Prelude.{◌≡◌, IfOk};
+ghost use Rattle.radio_log.specs.Lines.{body, line};
+
+use crate::facts::Fact;
+use crate::fields::Fields;
+use crate::{Moment, OutOfMemory};
+use std::alloc::Global;
+
+/// How many bytes most lines have at most.
+const USUAL_LENGTH: usize = 256;
+
+/// A moment, and what was so then.
+#[derive(Drop)]
+pub struct Note<'a> {
+    /// The moment, in UTC.
+    pub moment: Moment,
+    /// What was so then.
+    pub fact: Fact<'a>,
+}
+
+/// The line of the log that tells a note, with its LF.
+///
+/// The only error is `OutOfMemory`, where memory was refused; nothing was written then.
+#[tactic(auto, unfolding(crate::specs::Lines::line))]
+pub fn line(alloc: Global, note: &Note<'_>) -> Result<Vec<u8>, OutOfMemory>
+    ensures { IfOk result (λ bytes. bytes.items ≡ line note.now) }
+{
+    let fields = body(alloc, note)?;
+    fields.into_line()
+}
+
+/// A line without its end.
+fn body(alloc: Global, note: &Note<'_>) -> Result<Fields, OutOfMemory>
+    ensures { IfOk result (λ fields. fields ≡ body note.now) }
+{
+    let mut bytes = Vec::with_capacity(alloc, USUAL_LENGTH)?;
+    note.moment.push_to(&mut bytes)?;
+    let mut fields = Fields::behind(alloc, bytes);
+    note.fact.tell(&mut fields)?;
+    Ok(fields)
+}

@@ -1,0 +1,171 @@
+//! How each fact is told: its word, and its fields in their order.
+ghost use Rattle.std.specs.Prelude.{◌≡◌, ◌++◌, OnOk};
+ghost use Rattle.radio_log.specs.Lines.{told};
+ghost use Rattle.radio_log.specs.declared.facts.Fact.TheVariants as facts;
+
+use crate::facts::{
+    ClientEnded, Command, Fact, RelayFailed, RelayGone, RelayUp, SourceGone, SourceUp, Title,
+};
+use crate::fields::Fields;
+use crate::{OutOfMemory, Text};
+
+impl Fact<'_> {
+    /// Adds the fact's word and its fields.
+    pub(crate) fn tell(&self, to: &mut Fields) -> Result<(), OutOfMemory>
+        ensures { OnOk result (to.new ≡ to.old ++ told self.now) }
+    {
+        match self {
+            Fact::Started { version, address } => tell_start(to, version, address),
+            Fact::Ended { why } => tell_end(to, why),
+            Fact::ClientEnded(client) => client.tell(to),
+            Fact::SourceUp(source) => source.tell(to),
+            Fact::SourceGone(source) => source.tell(to),
+            Fact::RelayUp(relay) => relay.tell(to),
+            Fact::RelayGone(relay) => relay.tell(to),
+            Fact::RelayFailed(relay) => relay.tell(to),
+            Fact::MountUp { mount } => tell_mount_up(to, mount),
+            Fact::MountGone { mount, why } => tell_mount_gone(to, mount, why),
+            Fact::Title(title) => title.tell(to),
+            Fact::Command(command) => command.tell(to),
+            Fact::Lost { lines } => tell_lost(to, *lines),
+        }
+    }
+}
+
+fn tell_start(to: &mut Fields, version: &Text<'_>, address: &Text<'_>) -> Result<(), OutOfMemory>
+    ensures { OnOk result (to.new ≡ to.old ++ told (facts.Started version.now address.now)) }
+{
+    to.put_kind("started")?;
+    to.put_text("version", version)?;
+    to.put_text("address", address)
+}
+
+fn tell_end(to: &mut Fields, why: &Text<'_>) -> Result<(), OutOfMemory>
+    ensures { OnOk result (to.new ≡ to.old ++ told (facts.Ended why.now)) }
+{
+    to.put_kind("ended")?;
+    to.put_text("why", why)
+}
+
+fn tell_mount_up(to: &mut Fields, mount: &Text<'_>) -> Result<(), OutOfMemory>
+    ensures { OnOk result (to.new ≡ to.old ++ told (facts.MountUp mount.now)) }
+{
+    to.put_kind("mount-up")?;
+    to.put_text("mount", mount)
+}
+
+fn tell_mount_gone(to: &mut Fields, mount: &Text<'_>, why: &Text<'_>) -> Result<(), OutOfMemory>
+    ensures { OnOk result (to.new ≡ to.old ++ told (facts.MountGone mount.now why.now)) }
+{
+    to.put_kind("mount-gone")?;
+    to.put_text("mount", mount)?;
+    to.put_text("why", why)
+}
+
+fn tell_lost(to: &mut Fields, lines: u64) -> Result<(), OutOfMemory>
+    ensures { OnOk result (to.new ≡ to.old ++ told (facts.Lost lines)) }
+{
+    to.put_kind("lost")?;
+    to.put_count("lines", lines)
+}
+
+impl ClientEnded<'_> {
+    fn tell(&self, to: &mut Fields) -> Result<(), OutOfMemory>
+        ensures { OnOk result (to.new ≡ to.old ++ told (facts.ClientEnded self.now)) }
+    {
+        to.put_kind("client")?;
+        to.put_peer("peer", self.peer)?;
+        to.put_text("method", &self.method)?;
+        to.put_text("path", &self.path)?;
+        to.put_text("mount", &self.mount)?;
+        to.put_count("status", u64::from(self.status))?;
+        to.put_text("why", &self.why)?;
+        to.put_text("user", &self.user)?;
+        to.put_count("seconds", self.seconds)?;
+        to.put_count("bytes", self.bytes)?;
+        to.put_text("agent", &self.agent)
+    }
+}
+
+impl SourceUp<'_> {
+    fn tell(&self, to: &mut Fields) -> Result<(), OutOfMemory>
+        ensures { OnOk result (to.new ≡ to.old ++ told (facts.SourceUp self.now)) }
+    {
+        to.put_kind("source-up")?;
+        to.put_text("mount", &self.mount)?;
+        to.put_peer("peer", self.peer)?;
+        to.put_text("type", &self.content_type)?;
+        to.put_text("agent", &self.agent)
+    }
+}
+
+impl SourceGone<'_> {
+    fn tell(&self, to: &mut Fields) -> Result<(), OutOfMemory>
+        ensures { OnOk result (to.new ≡ to.old ++ told (facts.SourceGone self.now)) }
+    {
+        to.put_kind("source-gone")?;
+        to.put_text("mount", &self.mount)?;
+        to.put_peer("peer", self.peer)?;
+        to.put_text("why", &self.why)?;
+        to.put_count("seconds", self.seconds)?;
+        to.put_count("bytes", self.bytes)
+    }
+}
+
+impl RelayUp<'_> {
+    fn tell(&self, to: &mut Fields) -> Result<(), OutOfMemory>
+        ensures { OnOk result (to.new ≡ to.old ++ told (facts.RelayUp self.now)) }
+    {
+        to.put_kind("relay-up")?;
+        to.put_text("mount", &self.mount)?;
+        to.put_text("master", &self.master)?;
+        to.put_text("type", &self.content_type)
+    }
+}
+
+impl RelayGone<'_> {
+    fn tell(&self, to: &mut Fields) -> Result<(), OutOfMemory>
+        ensures { OnOk result (to.new ≡ to.old ++ told (facts.RelayGone self.now)) }
+    {
+        to.put_kind("relay-gone")?;
+        to.put_text("mount", &self.mount)?;
+        to.put_text("master", &self.master)?;
+        to.put_text("why", &self.why)?;
+        to.put_count("seconds", self.seconds)?;
+        to.put_count("bytes", self.bytes)
+    }
+}
+
+impl RelayFailed<'_> {
+    fn tell(&self, to: &mut Fields) -> Result<(), OutOfMemory>
+        ensures { OnOk result (to.new ≡ to.old ++ told (facts.RelayFailed self.now)) }
+    {
+        to.put_kind("relay-failed")?;
+        to.put_text("mount", &self.mount)?;
+        to.put_text("master", &self.master)?;
+        to.put_text("why", &self.why)
+    }
+}
+
+impl Title<'_> {
+    fn tell(&self, to: &mut Fields) -> Result<(), OutOfMemory>
+        ensures { OnOk result (to.new ≡ to.old ++ told (facts.Title self.now)) }
+    {
+        to.put_kind("title")?;
+        to.put_text("mount", &self.mount)?;
+        to.put_text("title", &self.title)
+    }
+}
+
+impl Command<'_> {
+    fn tell(&self, to: &mut Fields) -> Result<(), OutOfMemory>
+        ensures { OnOk result (to.new ≡ to.old ++ told (facts.Command self.now)) }
+    {
+        to.put_kind("command")?;
+        to.put_text("command", &self.name)?;
+        to.put_text("mount", &self.mount)?;
+        to.put_text("argument", &self.argument)?;
+        to.put_text("user", &self.user)?;
+        to.put_peer("peer", self.peer)
+    }
+}
