@@ -1,1 +1,6 @@
 pub mod CalendarLemmas
+pub mod ShownLemmas
+pub mod WordLemmas
+pub mod LineLemmas
+pub mod ByteLemmas
+pub mod ReadLemmas

@@ -1,3 +1,4 @@
 pub mod Shown
 pub mod Moments
 pub mod Lines
+pub mod Laws

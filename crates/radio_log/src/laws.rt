@@ -1,1 +1,32 @@
 //! Laws: what holds of all lines.
+//!
+//! Each law is a function that does nothing, and its contract is the law.
+//! A caller that needs a law in a proof calls the function, and cites its clause.
+ghost use Rattle.std.specs.Prelude.{◌≡◌, List};
+ghost use Rattle.std.specs.List.{AllByRecursion};
+ghost use Rattle.radio_log.specs.Laws.{IsNote, IsPrintable, IsReadBack, log};
+ghost use Rattle.radio_log.specs.Lines.{body};
+ghost use Rattle.radio_log.specs.declared.notes.Note.{Note as NoteOf};
+
+use radio_addr::written_peers;
+
+/// What stands in a line before its LF is printable ASCII, whatever others have said of themselves: no line end and no
+/// other control character.
+pub fn lines_are_printable()
+    ensures { (note : NoteOf) → IsNote note → AllByRecursion IsPrintable (body note) }
+{}
+
+/// A line is read as it was told, whatever stands behind it: it ends at the first LF, its words are parted by single spaces,
+/// and each word behind the second is a field, whose name ends at the first `=` and whose value is percent-encoded.
+pub fn lines_are_read_back()
+    ensures { (note : NoteOf) → IsNote note → IsReadBack note }
+{}
+
+/// A log tells one list of notes alone: nobody can forge a line, or a part of one.
+pub fn logs_tell_one_story()
+    ensures { (notes others : List NoteOf)
+        → AllByRecursion IsNote notes → AllByRecursion IsNote others
+        → log notes ≡ log others → notes ≡ others }
+{
+    written_peers();
+}

@@ -1,4 +1,4 @@
-use Rattle.std.proofs.Common.{◌≡◌, ℕ, ◌+◌, ◌-◌, ◌<◌, arith, rules}
+use Rattle.std.proofs.Common.{◌≡◌, ◌+◌, ◌-◌, arith, rules}
 use Rattle.httpdate.proofs.CalendarLemmas.{days_of_months_more}
 use Rattle.radio_log.proofs.CalendarLemmas.{no_months, december}
 use Rattle.radio_log.proofs.calendar.date_of.Goals as goal

@@ -1,4 +1,4 @@
-use Rattle.std.proofs.Common.{◌≡◌, ℕ, ◌+◌, ◌-◌, ◌<◌, arith, rules}
+use Rattle.std.proofs.Common.{arith}
 use Rattle.radio_log.proofs.CalendarLemmas.{no_years, years_more, last_year}
 use Rattle.radio_log.proofs.calendar.year_of.Goals as goal
 
