@@ -2,6 +2,7 @@
 use Rattle.std.specs.Prelude.{ℕ, List, [], ◌∷◌, ◌++◌, codes, decimal}
 use Rattle.std.specs.List.{flat_map}
 use Rattle.radio_addr.specs.Writing.{written}
+use Rattle.radio_log.specs.declared.facts.ClientEnded.{ClientEnded as Client}
 use Rattle.radio_log.specs.declared.facts.Fact.{Fact}
 use Rattle.radio_log.specs.declared.facts.Fact.TheVariants.{Started, Ended, ClientEnded, SourceUp, SourceGone, RelayUp, RelayGone, RelayFailed, MountUp, MountGone, Title, Command, Lost}
 use Rattle.radio_log.specs.declared.notes.Note.{Note}
@@ -32,15 +33,22 @@ kind_of (Title t) = codes "title"
 kind_of (Command c) = codes "command"
 kind_of (Lost lines) = codes "lost"
 
+-- what a client asked for, and what came of it
+abbrev pub request_fields : Client → List Field
+request_fields c =
+    (codes "peer", written c.peer) ∷ (codes "method", c.method) ∷ (codes "path", c.path)
+    ∷ (codes "mount", c.mount) ∷ []
+
+abbrev pub outcome_fields : Client → List Field
+outcome_fields c =
+    (codes "status", decimal c.status) ∷ (codes "why", c.why) ∷ (codes "user", c.user)
+    ∷ (codes "seconds", decimal c.seconds) ∷ (codes "bytes", decimal c.bytes) ∷ (codes "agent", c.agent) ∷ []
+
 -- the fields that follow
 abbrev pub fields_of : Fact → List Field
 fields_of (Started version address) = (codes "version", version) ∷ (codes "address", address) ∷ []
 fields_of (Ended why) = (codes "why", why) ∷ []
-fields_of (ClientEnded c) =
-    (codes "peer", written c.peer) ∷ (codes "method", c.method) ∷ (codes "path", c.path)
-    ∷ (codes "mount", c.mount) ∷ (codes "status", decimal c.status) ∷ (codes "why", c.why)
-    ∷ (codes "user", c.user) ∷ (codes "seconds", decimal c.seconds) ∷ (codes "bytes", decimal c.bytes)
-    ∷ (codes "agent", c.agent) ∷ []
+fields_of (ClientEnded c) = request_fields c ++ outcome_fields c
 fields_of (SourceUp s) =
     (codes "mount", s.mount) ∷ (codes "peer", written s.peer) ∷ (codes "type", s.content_type)
     ∷ (codes "agent", s.agent) ∷ []

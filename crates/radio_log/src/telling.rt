@@ -1,6 +1,6 @@
 //! How each fact is told: its word, and its fields in their order.
 ghost use Rattle.std.specs.Prelude.{◌≡◌, ◌++◌, OnOk};
-ghost use Rattle.radio_log.specs.Lines.{told};
+ghost use Rattle.radio_log.specs.Lines.{fields_text, outcome_fields, request_fields, told};
 ghost use Rattle.radio_log.specs.declared.facts.Fact.TheVariants as facts;
 
 use crate::facts::{
@@ -74,10 +74,24 @@ impl ClientEnded<'_> {
         ensures { OnOk result (to.new ≡ to.old ++ told (facts.ClientEnded self.now)) }
     {
         to.put_kind("client")?;
+        self.tell_request(to)?;
+        self.tell_outcome(to)
+    }
+
+    /// What he asked for.
+    fn tell_request(&self, to: &mut Fields) -> Result<(), OutOfMemory>
+        ensures { OnOk result (to.new ≡ to.old ++ fields_text (request_fields self.now)) }
+    {
         to.put_peer("peer", self.peer)?;
         to.put_text("method", &self.method)?;
         to.put_text("path", &self.path)?;
-        to.put_text("mount", &self.mount)?;
+        to.put_text("mount", &self.mount)
+    }
+
+    /// What came of it.
+    fn tell_outcome(&self, to: &mut Fields) -> Result<(), OutOfMemory>
+        ensures { OnOk result (to.new ≡ to.old ++ fields_text (outcome_fields self.now)) }
+    {
         to.put_count("status", u64::from(self.status))?;
         to.put_text("why", &self.why)?;
         to.put_text("user", &self.user)?;
