@@ -1,11 +1,7 @@
 -- The sums of the calendar, year by year and month by month.
-use Rattle.std.proofs.Common.{◌≡◌, ℕ, suc, ◌+◌, ◌-◌, ◌<◌, ◌≤◌, refl, arith}
+use Rattle.std.proofs.Common.{◌≡◌, ℕ, zero, suc, ◌+◌, ◌-◌, ◌*◌, ◌/◌, ◌<◌, ◌≤◌, refl, arith}
 use Rattle.httpdate.specs.Calendar.{days_in_year, days_of_years, days_of_months}
 use Rattle.httpdate.proofs.CalendarLemmas.{days_of_years_closed, days_of_months_more, days_of_months_all}
-
-pub no_years : days_of_years 0 ≡ 0
-unfolding days_of_years
-no_years = refl
 
 pub no_months : (y : ℕ) → days_of_months y 0 ≡ 0
 unfolding days_of_months
@@ -14,6 +10,18 @@ no_months y = refl
 next_year : (n : ℕ) → days_of_years (suc n) ≡ days_of_years n + days_in_year (1970 + n)
 unfolding days_of_years
 next_year n = refl
+
+-- no year has more than 366 days
+years_short : (n : ℕ) → days_of_years n ≤ 366 * n
+unfolding days_of_years
+years_short zero = omega arith
+years_short (suc n) = let before = years_short n in grind arith
+
+-- so a year has begun on the day that so many years of 366 days end with
+pub year_begun : (day before : ℕ) → before ≡ days_of_years (1970 + day / 366 - 1970) → before ≤ day
+year_begun day before is =
+    let back : 1970 + day / 366 - 1970 ≡ day / 366 = omega arith in
+    omega (arith, rw back at is, years_short (day / 366))
 
 -- a year more
 pub years_more : (y : ℕ) → 1970 ≤ y → days_of_years (y + 1 - 1970) ≡ days_of_years (y - 1970) + days_in_year y

@@ -2,8 +2,8 @@
 ghost use Rattle.std.specs.Prelude.{◌≡◌, ◌+◌, ◌-◌, ◌<◌, ◌≤◌};
 ghost use Rattle.httpdate.specs.Calendar as calendar;
 
-/// How many days lie between 1 January 1970 and 1 January 10000.
-pub(crate) const DAYS: u32 = 2_932_897;
+/// How many days lie between 1 January 1601, behind a year that ended a cycle of 400, and 1 January 1970.
+const DAYS_1601_TO_1970: u32 = 134_774;
 
 /// Whether February has 29 days: in every fourth year, but of the centuries only in every fourth.
 fn is_leap_year(year: u16) -> bool
@@ -28,6 +28,16 @@ fn days_in_month(year: u16, month: u8) -> u32
     }
 }
 
+/// How many days lie between 1 January 1970 and that of this year.
+fn days_before(year: u16) -> u32
+    requires low { 1970 ≤ year }
+    requires high { year ≤ 9999 }
+    ensures { result ≡ calendar.days_of_years (year - 1970) }
+{
+    let past = u32::from(year) - 1601;
+    past * 365 + past / 4 - past / 100 + past / 400 - DAYS_1601_TO_1970
+}
+
 /// The year of a day, and how many days of it lie before that day.
 fn year_of(day: u32) -> (u16, u32)
     requires { day < 2_932_897 }
@@ -36,8 +46,10 @@ fn year_of(day: u32) -> (u16, u32)
     ensures within { result.1 < calendar.days_in_year result.0 }
     ensures value { calendar.days_of_years (result.0 - 1970) + result.1 ≡ day }
 {
-    let mut left = day;
-    'years: for year in 1970..9999 {
+    // A year has 366 days at most, so this one has begun.
+    let earliest = 1970 + (day / 366) as u16;
+    let mut left = day - days_before(earliest);
+    'years: for year in earliest..9999 {
         let days = days_in_year(year);
         if left < days {
             return (year, left);
