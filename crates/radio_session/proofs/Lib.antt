@@ -16,3 +16,4 @@ mod SentTitleLemmas
 mod HeardBodyLemmas
 mod FieldLemmas
 mod GreetingLemmas
+mod FailingLemmas

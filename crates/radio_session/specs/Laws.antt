@@ -1,11 +1,13 @@
 -- Laws on sessions, for callers.
 use Rattle.std.specs.Prelude.{◌≡◌, ℕ, List}
 use Rattle.radio_events.specs.declared.event.Event.{Event}
+use Rattle.radio_events.specs.declared.reply.Reply.{Reply}
 use Rattle.radio_core.specs.World.{World}
 use Rattle.radio_core.specs.Step.{Represents}
 use Rattle.radio_session.specs.declared.session.Says.{Says}
-use Rattle.radio_session.specs.Conversation.{Conversation}
+use Rattle.radio_session.specs.Conversation.{Conversation, saying_now}
 use Rattle.radio_session.specs.Hearing.{Heard, IsHeard}
+use Rattle.radio_session.specs.Saying.{said}
 use Rattle.radio_session.specs.DataServers.{GoesByData}
 use Rattle.radio_session.specs.Exchanges.{Exchange, Exchanges, ExchangesAs, core_steps, exchanged}
 
@@ -22,3 +24,13 @@ CoresExchangeAsTheirStates = (id : ℕ) (says : Says) (events : List Event) (cor
 -- a core goes by the data of each of its sources
 abbrev pub CoresGoByData : Type 0
 CoresGoByData = (id : ℕ) → GoesByData core_steps id
+
+-- What is heard fails no session.
+abbrev pub HearingFailsNothing : Type 0
+HearingFailsNothing = (conversation : Conversation) (bytes : List ℕ) (heard : Heard) → IsHeard conversation bytes heard
+    → heard.conversation.has_failed ≡ conversation.has_failed
+
+-- Nor does what is told.
+abbrev pub TellingFailsNothing : Type 0
+TellingFailsNothing =
+    (conversation : Conversation) (reply : Reply) → (saying_now conversation (said conversation.says reply).says).has_failed ≡ conversation.has_failed

@@ -11,7 +11,7 @@ ghost use Rattle.radio_session.specs.Cuts.{CutsDoNotMatter, PiecesAreHeardAsOne}
 ghost use Rattle.radio_session.specs.CutTelling.{CutsAreToldAlike, PiecesAreToldAsOne};
 ghost use Rattle.radio_session.specs.Told.{DrawsFollowTheHead, PlainDrawsAreTheirData, JoinedDrawsAreWoven, DrawsAreTakenOutAgain, ExchangesTellReplies};
 ghost use Rattle.radio_session.specs.SentTitles.{TitlesAreSentInTime, NoTitleIsRepeated};
-ghost use Rattle.radio_session.specs.Laws.{HearingIsOne, CoresExchangeAsTheirStates, CoresGoByData};
+ghost use Rattle.radio_session.specs.Laws.{HearingIsOne, CoresExchangeAsTheirStates, CoresGoByData, HearingFailsNothing, TellingFailsNothing};
 
 use crate::exchanging::Applies;
 use radio_blocks::laws::blocks_are_the_data;
@@ -81,6 +81,13 @@ pub fn hearing_is_one()
 {
     readings_agree();
 }
+
+/// A session fails by a call that is refused memory alone: what bytes are heard as leaves it as it was in
+/// that, and so does each reply that is told.
+pub fn only_refused_calls_fail()
+    ensures heard { HearingFailsNothing }
+    ensures told { TellingFailsNothing }
+{}
 
 /// What a connection's events come to over a core is what they come to from any state that the core
 /// stands for.

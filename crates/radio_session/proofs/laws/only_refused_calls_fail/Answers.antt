@@ -1,0 +1,6 @@
+use Rattle.std.proofs.Common.{refl}
+use Rattle.radio_session.proofs.FailingLemmas.{hearing_fails_nothing}
+use Rattle.radio_session.proofs.laws.only_refused_calls_fail.Goals as goal
+
+pub returns : goal.returns
+returns c = record { heard = hearing_fails_nothing; told = λ conversation reply. refl }
