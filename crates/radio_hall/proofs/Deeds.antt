@@ -1,6 +1,6 @@
 -- Entries made for a connection, one after another.
 use Rattle.std.proofs.Common.{◌≡◌, ◌<◌, ◌≤◌, ◌==◌, nat_le, length, arith, ℕ, zero, suc, true, false, List, take, drop, ap}
-use Rattle.std.proofs.Common.{[], ◌∷◌, ◌++◌, refl, sym, subst, ◌∙◌, append_assoc, append-nil, lt_irrefl}
+use Rattle.std.proofs.Common.{[], ◌∷◌, ◌++◌, refl, sym, subst, ◌∙◌, append_assoc, append-nil, lt_irrefl, inl, inr, if◌then◌else◌}
 use Rattle.std.proofs.lemmas.Bool.{false≢true}
 use Rattle.std.proofs.lemmas.Bool.Decides.{nat_tests}
 use Rattle.std.proofs.lemmas.List.{take-append-drop}
@@ -17,18 +17,11 @@ use Rattle.radio_hall.specs.declared.conn.Fate.TheVariants.{Open, Ended, Closed,
 use Rattle.radio_hall.specs.Course.{IsOver}
 use Rattle.radio_hall.specs.Duties.{IsWritten, IsLater}
 use Rattle.radio_hall.specs.Turns.{StandsBefore, Stands, IsServed}
-use Rattle.radio_hall.specs.Answering.{later_by, IsSpared, IsAnswered, AreAnswered, IsHeardOn}
-use Rattle.radio_hall.specs.Leaving.{IsFlushed, IsPatient}
+use Rattle.radio_hall.specs.Answering.{later_by, IsUnwritten, IsSpared, IsAnswered, AreAnswered, IsHeardOn}
+use Rattle.radio_hall.proofs.Askings.{unwritten_then, notes_asking}
+use Rattle.radio_hall.specs.Leaving.{IsFlushed, IsPatient, IsSame}
 use Rattle.radio_hall.proofs.Calling.{later_then, lacks_on}
 use Rattle.radio_hall.proofs.Standing.{IsOne, still, cut_off, closed_out, heard_on, passed_over, taken_on, room_on}
-
--- what its line gave and took, what is owed, and how its session stands
-pub record IsSame (c c' : Connection) : Type 0 where
-  pub id : c'.id ≡ c.id
-  pub given : c'.given ≡ c.given
-  pub taken : c'.taken ≡ c.taken
-  pub owed : c'.owed ≡ c.owed
-  pub session : c'.session ≡ c.session
 
 pub not_cut : Cut ≡ Open → ⊥
 not_cut e = cc
@@ -45,6 +38,12 @@ ended_not_open f e x = absurd (different (sym e ∙ x)) where
 
 pub closed_not_cut : Closed ≡ Cut → ⊥
 closed_not_cut e = cc
+
+pub closed_not_ended : Closed ≡ Ended → ⊥
+closed_not_ended e = cc
+
+pub cut_not_ended : Cut ≡ Ended → ⊥
+cut_not_ended e = cc
 
 pub not_closed : Closed ≡ Open → ⊥
 not_closed e = cc
@@ -136,32 +135,38 @@ served_by_cut c c' one calls given taken fate =
     served_by_none c c' one.id calls (λ past st. cut_off c c' [] past one st [] (given ∙ sym (append-nil c.given)) taken fate)
 
 -- or was cut off with an event
-pub answered_by_cut : (c c' : Connection) (event : Event) → IsOne c c' → IsLater c c' → IsSpared c c' → c'.given ≡ c.given → c'.taken ≡ c.taken
-    → c'.status.fate ≡ Cut → IsAnswered event c [] c'
-answered_by_cut c c' event one calls spared given taken fate = record {
+pub answered_by_cut : (c c' : Connection) (event : Event) → IsOne c c' → IsLater c c' → IsSpared c c' → c'.taken ≡ c.taken
+    → c'.status.asked_ms ≡ c.status.asked_ms → c'.status.fate ≡ Cut → IsAnswered event c [] c'
+answered_by_cut c c' event one calls spared taken asked fate = record {
   same = one.id;
+  once = inl refl;
   made = λ goes. absurd (not_cut (sym fate ∙ goes));
   seat = λ other. one.sits;
   stands = λ later past st.
       subst (λ (es : List Event). StandsBefore es c' (past ++ [])) (ap (λ (f : Fate). later_by f later) (sym fate))
       (subst (λ (es : List Entry). Stands c' es) (sym (append-nil past))
-      (cut_off c c' (event ∷ later) past one st [] (given ∙ sym (append-nil c.given)) taken fate));
+      (cut_off c c' (event ∷ later) past one st [] (spared.given ∙ sym (append-nil c.given)) taken fate));
   later = calls;
   spared = spared;
+  asked = asked;
 }
 
 -- it is spared by what comes after something that called no line
-pub spared_then : (a b c : Connection) → IsLater a b → b.calls ≡ a.calls → IsSpared b c → IsSpared a c
-spared_then a b c before calls spared = record {
+pub spared_then : (a b c : Connection) → IsLater a b → b.calls ≡ a.calls → b.given ≡ a.given → IsUnwritten a b → IsSpared b c → IsSpared a c
+spared_then a b c before calls given unwritten spared = record {
   calls = spared.calls ∙ calls;
+  given = spared.given ∙ given;
+  unwritten = unwritten_then unwritten spared.unwritten;
   closed = spared.closed;
   cut = λ e. lacks_on a b c c before.refused (omega arith) refl (spared.cut e);
 }
 
 -- one that goes on is spared
-pub spared_open : (a b : Connection) → b.calls ≡ a.calls → b.status.fate ≡ Open → IsSpared a b
-spared_open a b calls goes = record {
+pub spared_open : (a b : Connection) → b.calls ≡ a.calls → b.given ≡ a.given → IsUnwritten a b → b.status.fate ≡ Open → IsSpared a b
+spared_open a b calls given unwritten goes = record {
   calls = calls;
+  given = given;
+  unwritten = unwritten;
   closed = λ e. not_closed (sym e ∙ goes);
   cut = λ e. absurd (not_cut (sym e ∙ goes));
 }
@@ -192,40 +197,45 @@ served_by_draw c c' room entries goes a = record {
 }
 
 -- bytes that its line gave are heard, and answered
-pub heard_so : (c m c' : Connection) (bytes : List ℕ) (heard : Heard) (entries : List Entry) → c.status.fate ≡ Open → IsHeard c.session bytes heard → IsOne c m
-    → IsLater c m → m.calls ≡ c.calls → m.given ≡ c.given
-    → m.taken ≡ c.taken → m.owed ≡ c.owed → m.session ≡ heard.conversation → m.status.fate ≡ c.status.fate → AreAnswered heard.events m entries c'
-    → IsHeardOn bytes c entries c'
-heard_so c m c' bytes heard entries goes is one calls same given taken owed session fate a = record {
+pub heard_so : (ms : ℕ) (c m c' : Connection) (bytes : List ℕ) (heard : Heard) (entries : List Entry) → c.status.fate ≡ Open → IsHeard c.session bytes heard
+    → IsOne c m → IsLater c m → m.calls ≡ c.calls → m.given ≡ c.given → IsUnwritten c m
+    → m.status.asked_ms ≡ (if length heard.events == 0 then c.status.asked_ms else ms)
+    → m.owed ≡ c.owed → m.session ≡ heard.conversation → m.status.fate ≡ c.status.fate → AreAnswered heard.events m entries c'
+    → IsHeardOn ms bytes c entries c'
+heard_so ms c m c' bytes heard entries goes is one calls same given unwritten asked owed session fate a = record {
   same = a.same ∙ one.id;
+  heard = inr (record { heard = heard; is = is; first = a.first });
+  asking = notes_asking ms c c' heard.events entries a.all (a.asked ∙ asked);
   stands = λ before past now st.
       a.stands past
       (heard_on (record c { given = before }) m past (record { id = one.id; sits = one.sits; left = one.left }) st goes bytes heard is (given
-      ∙ now) taken owed session fate);
+      ∙ now) unwritten.taken owed session fate);
   later = later_then c m c' calls a.later;
-  spared = spared_then c m c' calls same a.spared;
+  spared = spared_then c m c' calls same given unwritten a.spared;
 }
 
 -- or are not heard
-pub heard_by_cut : (c c' : Connection) (bytes : List ℕ) → IsOne c c' → IsLater c c' → IsSpared c c' → c'.given ≡ c.given → c'.taken ≡ c.taken
-    → c'.status.fate ≡ Cut → IsHeardOn bytes c [] c'
-heard_by_cut c c' bytes one calls spared given taken fate = record {
+pub heard_by_cut : (ms : ℕ) (c c' : Connection) (bytes : List ℕ) → IsOne c c' → IsLater c c' → IsSpared c c' → c'.taken ≡ c.taken
+    → c'.status.fate ≡ Cut → IsHeardOn ms bytes c [] c'
+heard_by_cut ms c c' bytes one calls spared taken fate = record {
   same = one.id;
+  heard = inl refl;
+  asking = record { some = λ goes. absurd (not_cut (sym fate ∙ goes)); none = λ goes. absurd (not_cut (sym fate ∙ goes)) };
   stands = λ before past now st.
       subst (λ (es : List Entry). Stands c' es) (sym (append-nil past))
-      (cut_off (record c { given = before }) c' [] past (record { id = one.id; sits = one.sits; left = one.left }) st bytes (given ∙ now) taken fate);
+      (cut_off (record c { given = before }) c' [] past (record { id = one.id; sits = one.sits; left = one.left }) st bytes (spared.given ∙ now) taken fate);
   later = calls;
   spared = spared;
 }
 
-pub heard_on_one : {a b c : Connection} {bytes : List ℕ} {xs : List Entry} → a ≡ b → IsHeardOn bytes a xs c → IsHeardOn bytes b xs c
-heard_on_one {a} {b} {c} {bytes} {xs} e = subst (λ (o : Connection). IsHeardOn bytes o xs c) e
+pub heard_on_one : {ms : ℕ} {a b c : Connection} {bytes : List ℕ} {xs : List Entry} → a ≡ b → IsHeardOn ms bytes a xs c → IsHeardOn ms bytes b xs c
+heard_on_one {ms} {a} {b} {c} {bytes} {xs} e = subst (λ (o : Connection). IsHeardOn ms bytes o xs c) e
 
 -- its line gives bytes, and they are heard
-pub served_by_hearing : (c m c' : Connection) (bytes : List ℕ) (entries : List Entry) → IsOne c m → IsLater c m → m.given ≡ c.given ++ bytes
+pub served_by_hearing : {ms : ℕ} (c m c' : Connection) (bytes : List ℕ) (entries : List Entry) → IsOne c m → IsLater c m → m.given ≡ c.given ++ bytes
     → m.taken ≡ c.taken → m.owed ≡ c.owed → m.session ≡ c.session
-    → m.status.fate ≡ c.status.fate → IsHeardOn bytes m entries c' → IsServed c entries c'
-served_by_hearing c m c' bytes entries one calls given taken owed session fate h = record {
+    → m.status.fate ≡ c.status.fate → IsHeardOn ms bytes m entries c' → IsServed c entries c'
+served_by_hearing {ms} c m c' bytes entries one calls given taken owed session fate h = record {
   same = h.same ∙ one.id;
   stands = λ past st.
       h.stands c.given past given

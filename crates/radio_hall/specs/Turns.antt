@@ -10,7 +10,8 @@ use Rattle.radio_hall.specs.declared.conn.Fate.{Fate}
 use Rattle.radio_hall.specs.declared.conn.Fate.TheVariants.{Open, Closed, Cut}
 use Rattle.radio_hall.specs.Connections.{Connection, stays}
 use Rattle.radio_hall.specs.Course.{Standing, Course}
-use Rattle.radio_hall.specs.Duties.{IsLater, IsAsked, IsAskedOnce, IsGiven, HasWaited, IsCutFor, IsInTime, HasNotMoved, IsClosedFor, HasLeft}
+use Rattle.radio_hall.specs.Duties.{IsLater, IsAsked, IsAskedOnce, IsGiven, HasWaited, IsCutFor, IsInTime, HasMoved, HasNotMoved, NotesTaking, IsClosedFor}
+use Rattle.radio_hall.specs.Duties.{IsLetGo, IsFinishedFor, HasLeft, IsOneTurn, IsAskedFor, NotesAsking}
 use Rattle.radio_hall.specs.Workers.{WorkerOf}
 
 -- What the line took, followed by what is owed to it, is what was told. Once it is closed, it took all; where it was cut off, the front.
@@ -36,6 +37,10 @@ pub record StandsBefore (pending : List Event) (c : Connection) (entries : List 
 -- and nothing is still to be applied
 abbrev pub Stands : Connection → List Entry → Type 0
 Stands c entries = StandsBefore [] c entries
+
+-- the session of one that stands so, and is open, has not failed
+abbrev pub OpenSessionsHaveNotFailed : Type 0
+OpenSessionsHaveNotFailed = (c : Connection) (entries : List Entry) → Stands c entries → c.status.fate ≡ Open → c.session.has_failed ≡ false
 
 -- from one state of the server these events were applied one after another, with these replies, and left the other
 abbrev pub Chain : {S : Type 0} → Steps S → S → List Entry → S → Type 0
@@ -73,9 +78,16 @@ module _ {S : Type 0} (steps : Steps S) where
     pub waited : HasWaited c entries c'
     pub cut : IsCutFor ms patience c c'
     pub in_time : IsInTime ms patience c c'
+    pub moved : HasMoved ms c c'
     pub unmoved : HasNotMoved c c'
-    pub closed : IsClosedFor c c'
+    pub taking : NotesTaking c c'
+    pub closed : IsClosedFor ms c c'
+    pub let_go : IsLetGo ms c c'
+    pub finished : IsFinishedFor c c'
     pub left : HasLeft c c'
+    pub one : IsOneTurn c entries c'
+    pub asked_for : IsAskedFor ms c entries c'
+    pub asking : NotesAsking ms c entries c'
 
   -- each connection was served, one after another
   abbrev pub ServesEach : ℕ → ℕ → Bool → S → List Connection → S → List Connection → Type 0

@@ -7,7 +7,7 @@
 //! - [`Line`], [`Gate`]: where a connection's bytes come from and go to, and who is told of writes.
 //! - [`CallCount`], [`History`]: what a line notes for proofs alone.
 //! - [`Conn`]: a connection. [`Worker::admit`] takes one in, and [`Worker::serve_turn`] serves all, by a [`Turn`].
-//! - [`passes_gain_what_was_applied`]: a law, which runs no code.
+//! - [`passes_gain_what_was_applied`], [`open_sessions_have_not_failed`]: laws, which run no code.
 //!
 //! Whenever the lock is free, its book has what [`Book::is_told`](radio_book::Book::is_told) says:
 //! there is one history, a run from the opening state, and the core stands for the state after it.
@@ -32,7 +32,7 @@ pub use calls::CallCount;
 pub use conn::{Conn, Fate, Status};
 pub use hall::{Hall, settle};
 pub use history::History;
-pub use laws::passes_gain_what_was_applied;
+pub use laws::{open_sessions_have_not_failed, passes_gain_what_was_applied};
 pub use line::{Gate, Line, OpenGate, Received, Sent};
 pub use lingering::{close_first_lingering, count_lingering};
 pub use server::{Caller, Server};

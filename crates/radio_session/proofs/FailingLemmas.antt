@@ -18,7 +18,7 @@ use Rattle.radio_session.specs.Framing.{is_source, framing_of, start_of}
 use Rattle.radio_session.specs.Asking.{asks_to_feed}
 use Rattle.radio_session.specs.Conversation.{Conversation}
 use Rattle.radio_session.specs.Hearing.{Heard, HearsAs, nothing_held, delivered, body_closes, body_heard, greeted, source_heard, listener_heard, refuses}
-use Rattle.radio_session.specs.Hearing.{request_heard, head_heard}
+use Rattle.radio_session.specs.Hearing.{head_heard}
 use Rattle.radio_session.specs.Laws.{HearingFailsNothing}
 
 delivering : (c : Conversation) (events : List Event) (place : Place) (word : Option LastWord) → (delivered c events place word).conversation.has_failed ≡ c.has_failed

@@ -1,6 +1,6 @@
 //! What there is for a connection.
 
-ghost use Rattle.std.specs.Prelude.{◌≡◌, true};
+ghost use Rattle.std.specs.Prelude.{◌≡◌, ◌-◌, nat_le, true};
 ghost use Rattle.radio_hall.specs.declared.conn.Fate.TheVariants.{Open};
 ghost use Rattle.radio_hall.specs.Leaving.{Draws, DrawsFor};
 
@@ -18,7 +18,7 @@ pub const DRAW_ROOM: u32 = 16384;
 /// no seat is asked for with a draw that has no room then: they hear by which rule they were finished,
 /// if they were.
 pub(crate) fn draw<S: Server, L: Line>(server: &mut S, conn: &mut Conn<L>, now: Now)
-    ensures { Draws S.steps now.news server.old conn.old server.new conn.new }
+    ensures { Draws S.steps now.ms now.news server.old conn.old server.new conn.new }
 {
     if !conn.status.fate.is_open() {
         return;
@@ -36,7 +36,8 @@ pub(crate) fn draw<S: Server, L: Line>(server: &mut S, conn: &mut Conn<L>, now: 
 
 /// Whether a draw is due for who stands so.
 fn is_due(status: Status, now: Now) -> bool
-    ensures { status.sits ≡ true → now.news ≡ true → result ≡ true }
+    ensures news { status.sits ≡ true → now.news ≡ true → result ≡ true }
+    ensures unasked { nat_le 500 (now.ms - status.asked_ms) ≡ true → result ≡ true }
 {
     if status.sits {
         if now.news || status.is_behind {

@@ -1,9 +1,9 @@
 //! A connection that has ended, and has nothing more to write.
 
-ghost use Rattle.std.specs.Prelude.{◌≡◌, []};
+ghost use Rattle.std.specs.Prelude.{◌≡◌, ◌-◌, [], true, nat_le};
 ghost use Rattle.radio_hall.specs.Duties.{IsReadOnce};
 ghost use Rattle.radio_hall.specs.Turns.{IsServed};
-ghost use Rattle.radio_hall.specs.Leaving.{IsEnded};
+ghost use Rattle.radio_hall.specs.Leaving.{IsEnded, NotesFinish, HasAnswered, is_over};
 
 use crate::serving::round::READ_ROOM;
 use crate::serving::{LINGER_MS, Now};
@@ -15,7 +15,7 @@ use crate::{Conn, Fate, Line, Received};
 pub(crate) fn linger<L: Line>(conn: &mut Conn<L>, buffer: &mut [u8; READ_ROOM], now: Now)
     requires fate { conn.old.status.fate ≡ Fate.Ended }
     requires all { conn.old.owed ≡ [] }
-    ensures { IsEnded conn.old conn.new }
+    ensures { IsEnded now.ms conn.old conn.new }
 {
     if conn.status.has_taken {
         wait_for_close(conn, buffer, now);
@@ -27,8 +27,9 @@ pub(crate) fn linger<L: Line>(conn: &mut Conn<L>, buffer: &mut [u8; READ_ROOM], 
 /// The same where something was written.
 fn wait_for_close<L: Line>(conn: &mut Conn<L>, buffer: &mut [u8; READ_ROOM], now: Now)
     requires fate { conn.old.status.fate ≡ Fate.Ended }
+    requires written { conn.old.status.has_taken ≡ true }
     requires all { conn.old.owed ≡ [] }
-    ensures { IsEnded conn.old conn.new }
+    ensures { IsEnded now.ms conn.old conn.new }
 {
     finish(conn, now);
     if is_over(pass_over(conn, buffer), conn.status.moved_ms, now) {
@@ -42,6 +43,10 @@ fn finish<L: Line>(conn: &mut Conn<L>, now: Now)
     ensures fate { conn.new.status.fate ≡ conn.old.status.fate }
     ensures owed { conn.new.owed ≡ conn.old.owed }
     ensures calls { conn.new.calls ≡ conn.old.calls }
+    ensures taken { conn.new.taken ≡ conn.old.taken }
+    ensures has_taken { conn.new.status.has_taken ≡ conn.old.status.has_taken }
+    ensures told { conn.new.status.is_finished ≡ true }
+    ensures noted { NotesFinish now.ms conn.old conn.new }
 {
     if conn.status.is_finished {
         return;
@@ -58,12 +63,16 @@ fn pass_over<L: Line>(conn: &mut Conn<L>, buffer: &mut [u8; READ_ROOM]) -> Recei
     ensures status { conn.new.status ≡ conn.old.status }
     ensures owed { conn.new.owed ≡ conn.old.owed }
     ensures once { IsReadOnce conn.old conn.new }
+    ensures taken { conn.new.taken ≡ conn.old.taken }
+    ensures answer { HasAnswered result conn.old.calls conn.new.calls }
 {
     conn.line.read(buffer)
 }
 
 /// Whether nothing more will come, or a second has passed.
-fn is_over(received: Received, since_ms: u64, now: Now) -> bool {
+fn is_over(received: Received, since_ms: u64, now: Now) -> bool
+    ensures { result ≡ is_over received (nat_le 1000 (now.ms - since_ms)) }
+{
     match received {
         Received::Bytes(_) | Received::Nothing => now.is_past(since_ms, LINGER_MS),
         Received::Closed | Received::Fault => true,

@@ -1,6 +1,6 @@
 //! What comes on a connection.
 
-ghost use Rattle.std.specs.Prelude.{◌≡◌, [], List};
+ghost use Rattle.std.specs.Prelude.{◌≡◌, [], List, if◌then◌else◌};
 ghost use Rattle.radio_book.specs.declared.entry.Entry.{Entry as EntryOf};
 ghost use Rattle.radio_hall.specs.Turns.{Chain};
 ghost use Rattle.radio_hall.specs.Leaving.{Listens};
@@ -21,7 +21,7 @@ pub(crate) fn listen<S: Server, L: Line>(
 )
     requires open { conn.old.status.fate ≡ Fate.Open }
     requires all { conn.old.owed ≡ [] }
-    ensures { Listens S.steps server.old conn.old server.new conn.new }
+    ensures { Listens S.steps now.ms server.old conn.old server.new conn.new }
 {
     match conn.line.read(buffer) {
         Received::Bytes(count) => hear(server, conn, &buffer[..count], now),
@@ -34,7 +34,7 @@ pub(crate) fn listen<S: Server, L: Line>(
 /// Hears these bytes, which its line gave. It is cut off where memory is refused.
 fn hear<S: Server, L: Line>(server: &mut S, conn: &mut Conn<L>, bytes: &[u8], now: Now)
     requires { conn.old.status.fate ≡ Fate.Open }
-    ensures { (entries : List EntryOf) × Chain S.steps server.old entries server.new × IsHeardOn bytes.now conn.old entries conn.new }
+    ensures { (entries : List EntryOf) × Chain S.steps server.old entries server.new × IsHeardOn now.ms bytes.now conn.old entries conn.new }
 {
     match conn.session.take(bytes) {
         Ok(events) => {
@@ -46,6 +46,8 @@ fn hear<S: Server, L: Line>(server: &mut S, conn: &mut Conn<L>, bytes: &[u8], no
 }
 
 /// When something was last asked for a connection: now, unless nothing is.
-fn asked_ms(is_nothing: bool, before_ms: u64, now: Now) -> u64 {
+fn asked_ms(is_nothing: bool, before_ms: u64, now: Now) -> u64
+    ensures { result ≡ (if is_nothing then before_ms else now.ms) }
+{
     if is_nothing { before_ms } else { now.ms }
 }

@@ -61,7 +61,7 @@ fn work<S: Server, L: Line>(
     now: Now,
 )
     requires { conn.old.owed ≡ [] }
-    ensures { Works S.steps now.news server.old conn.old server.new conn.new }
+    ensures { Works S.steps now.ms now.news server.old conn.old server.new conn.new }
 {
     let fate = conn.status.fate;
     match fate {

@@ -24,13 +24,26 @@ returns-in-Ok g c =
       chain_one g.S.Server.steps c.args.server.now c.apply.new.server made c.in-Ok.ensures.ok,
       answered_as_one c.conn.view_is (record {
         same = refl;
+        once = inr (c.in-Ok.reply, refl);
         made = λ goes. (c.in-Ok.reply, refl);
         seat = λ other. sits ∙ ap (λ (b : Bool). (b && is_seated c.in-Ok.reply) || before.sits) other;
         stands =
             λ later past st. answered_as _ _ c.args.event later past c.in-Ok.reply goes refl over.given over.taken sits left st c.tell-conn-inside.result refl
             c.tell-conn-inside.ensures.told;
         later = later_same over.calls over.taken c.in-Ok.ensures.none;
-        spared = record { calls = over.calls; closed = c.tell-conn-inside.ensures.closed; cut = λ e. inl (c.tell-conn-inside.ensures.cut e) };
+        spared = record {
+          calls = over.calls;
+          given = over.given;
+          unwritten = record {
+            taken = over.taken;
+            moved = ap (λ (s : Status). s.moved_ms) c.note.ensures;
+            has_taken = ap (λ (s : Status). s.has_taken) c.note.ensures;
+            finished = ap (λ (s : Status). s.is_finished) c.note.ensures;
+          };
+          closed = c.tell-conn-inside.ensures.closed;
+          cut = λ e. inl (c.tell-conn-inside.ensures.cut e);
+        };
+        asked = ap (λ (s : Status). s.asked_ms) c.note.ensures;
       }),
     )
 
@@ -40,5 +53,11 @@ returns-in-Err g c = (
   c.in-Err.ensures.err,
   answered_as_one c.conn.view_is
       (answered_by_cut _ _ c.args.event (record { id = refl; sits = refl; left = refl }) (later_by_refusal c.args.event refl refl c.in-Err.ensures.one)
-      (record { calls = refl; closed = λ e. closed_not_cut (sym e); cut = λ e. inr (more_refused c.args.event _ _ c.in-Err.ensures.one) }) refl refl refl),
+      (record {
+        calls = refl;
+        given = refl;
+        unwritten = record { taken = refl; moved = refl; has_taken = refl; finished = refl };
+        closed = λ e. closed_not_cut (sym e);
+        cut = λ e. inr (more_refused c.args.event _ _ c.in-Err.ensures.one);
+      }) refl refl refl),
 )

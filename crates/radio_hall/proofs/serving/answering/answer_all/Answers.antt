@@ -9,7 +9,9 @@ use Rattle.radio_hall.specs.Connections.{Connection, is_open}
 use Rattle.radio_hall.specs.Turns.{StandsBefore}
 use Rattle.radio_hall.specs.Answering.{IsAnswered, later_by}
 use Rattle.radio_hall.proofs.Calling.{later_none, later_then}
-use Rattle.radio_hall.proofs.Deeds.{open_from, later_by_over, spared_then, spared_open}
+use Rattle.radio_hall.specs.Duties.{AreFirstOf, events_of}
+use Rattle.radio_hall.proofs.Askings.{unwritten_none, unwritten_then, first_then, first_of_one, made_on}
+use Rattle.radio_hall.proofs.Deeds.{open_from, not_over, later_by_over, spared_then, spared_open}
 use Rattle.radio_hall.proofs.DeedChains.{chain_then}
 use Rattle.radio_hall.proofs.serving.answering.answer_all.Goals as goal
 
@@ -30,6 +32,10 @@ loop-event-init g c = record {
   goes = c.requires;
   later = later_none c.args.conn.now;
   calls = refl;
+  given = refl;
+  unwritten = unwritten_none c.args.conn.now;
+  asked = refl;
+  made = sym c.into_iter-event-iterator.ensures.into_iter_gives.0;
   stands = λ past st.
       subst (λ (es : List Entry). StandsBefore (into_iter_items c.into_iter-event-iterator.result) c.args.conn.now es) (sym (append-nil past))
       (subst (λ (es : List Event). StandsBefore es c.args.conn.now past) (sym c.into_iter-event-iterator.ensures.into_iter_gives.0) st);
@@ -45,13 +51,17 @@ returns-then-not-is_open g c =
       chain_then g.S.Server.steps _ _ _ inv.entries a.0 inv.chain a.1,
       record {
         same = a.2.same ∙ inv.same;
+        first = first_then inv.entries a.0 _ _ inv.made
+            (subst (λ (es : List Event). AreFirstOf a.0 es) (sym c.in-Some.ensures.steps.0) (first_of_one c.in-Some.event _ a.0 a.2.once));
+        all = λ goes. absurd (not_over c.answer.new.conn.status.fate over goes);
         stands = λ past st.
             subst (λ (es : List Event). StandsBefore es c.answer.new.conn (past ++ (inv.entries ++ a.0)))
             (later_by_over c.answer.new.conn.status.fate (into_iter_items c.next.new.self) over)
             (one_more _ _ _ c.in-Some.event (into_iter_items c.loop-event.event-iterator)
             (into_iter_items c.next.new.self) _ inv.entries a.0 c.in-Some.ensures.steps.0 a.2 inv.stands past st);
         later = later_then _ _ _ inv.later a.2.later;
-        spared = spared_then _ _ _ inv.later inv.calls a.2.spared;
+        spared = spared_then _ _ _ inv.later inv.calls inv.given inv.unwritten a.2.spared;
+        asked = a.2.asked ∙ inv.asked;
       },
     )
 
@@ -68,6 +78,12 @@ loop-event-preserved g c =
       goes = goes;
       later = later_then _ _ _ inv.later a.2.later;
       calls = a.2.spared.calls ∙ inv.calls;
+      given = a.2.spared.given ∙ inv.given;
+      unwritten = unwritten_then inv.unwritten a.2.spared.unwritten;
+      asked = a.2.asked ∙ inv.asked;
+      made = inv.made
+          ∙ ap (λ (es : List Event). events_of inv.entries ++ es) c.in-Some.ensures.steps.0
+          ∙ made_on inv.entries a.0 c.in-Some.event (into_iter_items c.next.new.self) (a.2.made goes);
       stands = λ past st.
           subst (λ (f : Fate). StandsBefore (later_by f (into_iter_items c.next.new.self)) c.answer.new.conn (past ++ (inv.entries ++ a.0))) goes
           (one_more _ _ _ c.in-Some.event (into_iter_items c.loop-event.event-iterator)
@@ -83,9 +99,12 @@ returns g c =
       inv.chain,
       record {
         same = inv.same;
+        first = (into_iter_items c.loop-event.event-iterator, inv.made);
+        all = λ goes. inv.made ∙ ap (λ (es : List Event). events_of inv.entries ++ es) none ∙ append-nil (events_of inv.entries);
         stands =
             λ past st. subst (λ (es : List Event). StandsBefore es c.loop-event.conn (past ++ inv.entries)) none (inv.stands past st);
         later = inv.later;
-        spared = spared_open _ _ inv.calls inv.goes;
+        spared = spared_open _ _ inv.calls inv.given inv.unwritten inv.goes;
+        asked = inv.asked;
       },
     )

@@ -2,7 +2,8 @@ use Rattle.std.proofs.Common.{◌≡◌, List, ◌++◌}
 use Rattle.std.specs.Vec.Iter.{into_iter_items}
 use Rattle.radio_book.specs.declared.entry.Entry.{Entry}
 use Rattle.radio_hall.specs.declared.conn.Fate.TheVariants.{Open}
-use Rattle.radio_hall.specs.Duties.{IsLater}
+use Rattle.radio_hall.specs.Duties.{IsLater, events_of}
+use Rattle.radio_hall.specs.Answering.{IsUnwritten}
 use Rattle.radio_hall.specs.Turns.{Chain, StandsBefore}
 use Rattle.radio_hall.proofs.serving.answering.answer_all.Given as goal
 
@@ -15,5 +16,9 @@ invariant-loop-event g l = record {
   goes : l.conn.status.fate ≡ Open;
   later : IsLater l.initial.conn l.conn;
   calls : l.conn.calls ≡ l.initial.conn.calls;
+  given : l.conn.given ≡ l.initial.conn.given;
+  unwritten : IsUnwritten l.initial.conn l.conn;
+  asked : l.conn.status.asked_ms ≡ l.initial.conn.status.asked_ms;
+  made : l.fn.events.items ≡ events_of entries ++ into_iter_items l.event-iterator;
   stands : (past : List Entry) → StandsBefore l.fn.events.items l.initial.conn past → StandsBefore (into_iter_items l.event-iterator) l.conn (past ++ entries);
 }

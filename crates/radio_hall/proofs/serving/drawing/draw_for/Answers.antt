@@ -10,4 +10,13 @@ returns g c =
     let a = c.answer.ensures in
     let answered =
     subst (λ (n : ℕ). IsAnswered (Draw n c.args.room) c.args.conn.now a.0 c.answer.new.conn) (ap (λ (o : Connection). o.id) c.conn.view_is) a.2 in
-    (a.0, a.1, served_by_draw c.args.conn.now c.answer.new.conn c.args.room a.0 c.requires answered, answered.made, answered.seat refl, answered.spared)
+    record {
+      entries = a.0;
+      chain = a.1;
+      served = served_by_draw c.args.conn.now c.answer.new.conn c.args.room a.0 c.requires answered;
+      drawn = answered.made;
+      once = answered.once;
+      sits = answered.seat refl;
+      asked = answered.asked;
+      spared = answered.spared;
+    }

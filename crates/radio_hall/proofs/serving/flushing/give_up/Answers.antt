@@ -12,7 +12,9 @@ returns-then-is_past g c =
       closed = λ e. absurd (closed_not_cut (sym e));
       cut = λ e. inr (le_by _ _ (sym c.is_past.ensures ∙ c.if-is_past.true));
       in_time = λ written. absurd written;
-      moved = refl;
+      noted = refl;
+      taken = refl;
+      owed = refl;
     })
 
 pub returns-else-is_past : goal.returns-else-is_past
@@ -26,5 +28,7 @@ returns-else-is_past g c =
       closed = λ e. e;
       cut = λ e. inl e;
       in_time = λ written. lt_by _ _ (sym c.is_past.ensures ∙ c.if-is_past.false);
-      moved = refl;
+      noted = refl;
+      taken = refl;
+      owed = refl;
     })

@@ -3,6 +3,7 @@ use Rattle.radio_hall.specs.Lines.{Calls}
 use Rattle.radio_hall.specs.Connections.{Connection}
 use Rattle.radio_hall.specs.declared.line.Sent.TheVariants.{Took, Nothing, Fault}
 use Rattle.radio_hall.specs.Duties.{IsWritten}
+use Rattle.radio_hall.specs.Leaving.{TookNone, TookSome}
 use Rattle.radio_hall.proofs.Calling.{later_by_write, written_once, unread_by_write, taken_all, none_of_some}
 use Rattle.radio_hall.proofs.Deeds.{not_cut, none_behind, takes_some, flushed_as, served_by_cut, served_by_write, served_by_note}
 use Rattle.radio_hall.proofs.serving.flushing.write.Goals as goal
@@ -31,11 +32,14 @@ returns-in-Took g c =
       session = refl;
       fate = λ n. refl;
       cut = λ e. inl e;
-      moved = inr refl;
-      unmoved = λ owed same.
-          absurd (takes_some c.in-Took.count c.conn.inside.owed c.in-Took.ensures.taken.0
+      noted = TookSome
+          (λ same. takes_some c.in-Took.count c.conn.inside.owed c.in-Took.ensures.taken.0
           (subst (λ (o : Connection). 0 < length o.owed) (sym c.conn.view_is) c.requires.some)
-          (none_behind (g.L.Line.taken c.conn.inside.line) (take c.in-Took.count c.conn.inside.owed) (sym taken ∙ same)));
+          (none_behind (g.L.Line.taken c.conn.inside.line) (take c.in-Took.count c.conn.inside.owed) (sym taken ∙ same)))
+          (subst (λ (o : Connection). IsWritten o.status.fate) (sym c.conn.view_is) c.requires.fate) refl;
+      given_same = c.write-sent.ensures.given;
+      closings = ap (λ (x : Calls). x.closings) c.in-Took.ensures.calls;
+      faults = λ whole. ap (λ (x : Calls). x.faults) c.in-Took.ensures.calls;
     })
 
 pub returns-in-Nothing : goal.returns-in-Nothing
@@ -55,8 +59,10 @@ returns-in-Nothing g c =
       session = refl;
       fate = λ n. refl;
       cut = λ e. inl e;
-      moved = inl refl;
-      unmoved = λ owed same. refl;
+      noted = TookNone c.in-Nothing.ensures.taken refl;
+      given_same = c.write-sent.ensures.given;
+      closings = ap (λ (x : Calls). x.closings) c.in-Nothing.ensures.calls;
+      faults = λ whole. ap (λ (x : Calls). x.faults) c.in-Nothing.ensures.calls;
     })
 
 pub returns-in-Fault : goal.returns-in-Fault
@@ -76,6 +82,8 @@ returns-in-Fault g c =
       session = refl;
       fate = λ n. absurd (n refl);
       cut = λ e. inr (omega (arith, ap (λ (x : Calls). x.faults) c.in-Fault.ensures.calls));
-      moved = inl refl;
-      unmoved = λ owed same. refl;
+      noted = TookNone c.in-Fault.ensures.taken refl;
+      given_same = c.write-sent.ensures.given;
+      closings = ap (λ (x : Calls). x.closings) c.in-Fault.ensures.calls;
+      faults = λ whole. absurd (whole refl);
     })

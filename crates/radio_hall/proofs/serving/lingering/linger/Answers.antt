@@ -2,7 +2,8 @@ use Rattle.std.proofs.Common.{◌≡◌, [], inl, refl, ◌∙◌, ap}
 use Rattle.radio_hall.specs.declared.conn.Fate.TheVariants.{Ended}
 use Rattle.radio_hall.specs.Connections.{Connection}
 use Rattle.radio_hall.proofs.Calling.{later_same, unread_same}
-use Rattle.radio_hall.proofs.Deeds.{served_as, served_by_close, ended_is_written}
+use Rattle.radio_hall.specs.Duties.{HeardNothing}
+use Rattle.radio_hall.proofs.Deeds.{served_as, served_by_close, ended_is_written, closed_not_ended}
 use Rattle.radio_hall.proofs.serving.lingering.linger.Goals as goal
 
 pub returns-else-conn : goal.returns-else-conn
@@ -16,4 +17,9 @@ returns-else-conn g c =
       over = refl;
       whole = λ e. cc;
       once = inl (unread_same (ap (λ (o : Connection). o.calls) c.conn.view_is));
+      taken = ap (λ (o : Connection). o.taken) c.conn.view_is;
+      has_taken = ap (λ (o : Connection). o.status.has_taken) c.conn.view_is;
+      noted = inl (ap (λ (o : Connection). o.status.is_finished) c.conn.view_is, ap (λ (o : Connection). o.status.moved_ms) c.conn.view_is);
+      closed = λ e. HeardNothing c.requires.fate c.if-conn.false;
+      lingers = λ e. absurd (closed_not_ended e);
     }

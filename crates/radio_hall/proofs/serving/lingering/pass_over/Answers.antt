@@ -1,6 +1,7 @@
 use Rattle.std.proofs.Common.{◌≡◌, refl, ◌∙◌, ap}
 use Rattle.radio_hall.specs.declared.conn.Fate.TheVariants.{Ended}
 use Rattle.radio_hall.specs.Connections.{Connection}
+use Rattle.radio_hall.proofs.Lingerings.{answered_as}
 use Rattle.radio_hall.proofs.Calling.{later_by_read, read_by, read_once_as}
 use Rattle.radio_hall.proofs.Deeds.{served_as, served_by_read_on}
 use Rattle.radio_hall.proofs.serving.lingering.pass_over.Goals as goal
@@ -14,3 +15,6 @@ returns-clause-served g c =
 
 pub returns-clause-once : goal.returns-clause-once
 returns-clause-once g c = read_once_as c.conn.view_is (read_by c.read.result c.read.ensures.calls (c.read.auto.buffer ∙ c.told-buffer))
+
+pub returns-clause-answer : goal.returns-clause-answer
+returns-clause-answer g c = answered_as c.read.result _ c.conn.view_is c.read.ensures.calls

@@ -2,7 +2,7 @@ use Rattle.std.proofs.Common.{◌==◌, List, ℕ, length, sym, ◌∙◌, ap}
 use Rattle.std.proofs.lemmas.Bool.{false≢true}
 use Rattle.radio_hall.specs.Connections.{Connection}
 use Rattle.radio_hall.proofs.Deeds.{empty_is}
-use Rattle.radio_hall.proofs.DeedChains.{served_in_turn, kept_in_turn}
+use Rattle.radio_hall.proofs.TurnDeeds.{served_in_turn, kept_in_turn}
 use Rattle.radio_hall.proofs.serving.round.serve.Goals as goal
 
 pub returns-then-not-is_empty : goal.returns-then-not-is_empty
