@@ -2,8 +2,9 @@
 
 use crate::memory_line::{Look, Manners, SILENT};
 use crate::rows::*;
-use crate::stations::{Meddled, Meddling, NO_MEDDLING, Station, make_station};
+use crate::stations::{Meddling, NO_MEDDLING, Station, make_station};
 use crate::steps::{Step, play};
+use radio_hall::Server;
 use radio_settings::SettingsFault;
 use std::alloc::Global;
 use std::process::Abort;
@@ -11,7 +12,7 @@ use std::test::Fail;
 
 /// How a line fails, at a call that is counted from 0.
 #[derive(Clone, Copy)]
-enum Failure {
+pub enum Failure {
     /// Each of its calls counts, reads and writes together: that one fails.
     Fault,
     /// Its reads count: at that one its peer has closed.
@@ -19,10 +20,10 @@ enum Failure {
 }
 
 /// How many calls a line of these tests sees at most.
-const CALLS: u64 = 12;
+pub const CALLS: u64 = 12;
 
 /// A line of these manners that fails so.
-fn failing(manners: Manners, failure: Failure, call: u64) -> Manners {
+pub fn failing(manners: Manners, failure: Failure, call: u64) -> Manners {
     match failure {
         Failure::Fault => Manners {
             fails_at: call,
@@ -37,19 +38,19 @@ fn failing(manners: Manners, failure: Failure, call: u64) -> Manners {
 
 /// A station with these settings more at which one comes whose line fails, and what happens before
 /// and after that.
-struct Beside {
-    settings: &'static str,
-    before: &'static [Step],
-    failing: Manners,
-    comes_at_ms: u64,
-    after: &'static [Step],
+pub struct Beside {
+    pub settings: &'static str,
+    pub before: &'static [Step],
+    pub failing: Manners,
+    pub comes_at_ms: u64,
+    pub after: &'static [Step],
 }
 
 const SERVED_SOURCE: &[Step] = &[Step::Comes(SOURCE, 0), Step::Turns(1, 1, 2)];
 
 /// A source, a listener who fails, and another listener. The other one hears all, the source is where
 /// it was, and the failing one was handed a front of it, and is gone.
-const PLAIN: &Beside = &Beside {
+pub const PLAIN: &Beside = &Beside {
     settings: "",
     before: SERVED_SOURCE,
     failing: LISTENER,
@@ -82,7 +83,7 @@ const WITH_TITLE: &Beside = &Beside {
 };
 
 /// A source that fails, and a listener. The source is gone, and the listener has ended.
-const BEHIND_A_SOURCE: &Beside = &Beside {
+pub const BEHIND_A_SOURCE: &Beside = &Beside {
     settings: "",
     before: &[],
     failing: SOURCE,
@@ -102,7 +103,12 @@ const WITH_NIGHT: Meddling = Meddling {
     ..NO_MEDDLING
 };
 
-fn are_played(station: &mut Station<Meddled>, beside: &Beside, manners: Manners) -> bool {
+/// Whether all of that can be played at the station with one of these manners as the one who fails.
+pub fn are_played<S: Server + Drop>(
+    station: &mut Station<S>,
+    beside: &Beside,
+    manners: Manners,
+) -> bool {
     station.plays(beside.before)
         && station.comes(manners, beside.comes_at_ms)
         && station.plays(beside.after)
@@ -230,20 +236,20 @@ fn a_denied_one_reads_his_denial(rt: HostRuntime) -> Result<(), Fail> {
 }
 
 /// Somebody comes. Whether he was taken in, or memory was refused and the others are as they were.
-fn comes(station: &mut Station<Meddled>, manners: Manners, ms: u64) -> bool {
+fn comes<S: Server + Drop>(station: &mut Station<S>, manners: Manners, ms: u64) -> bool {
     let before = station.count();
     let came = station.comes(manners, ms);
     station.count() == before.saturating_add(came as usize)
 }
 
 /// Whether the source was told what it was told, if it is there.
-fn source_was_told(station: &Station<Meddled>) -> bool {
+fn source_was_told<S: Server + Drop>(station: &Station<S>) -> bool {
     station.is_of(&[]) || station.is_of(&[2]) || station.shows(0, Look::Took(SOURCE_ANSWER))
 }
 
 /// A source and a listener over a server that is refused memory at one call: no more than one of them
 /// is gone, and the source was told what it was told.
-fn is_refused(station: &mut Station<Meddled>) -> bool {
+pub fn is_refused<S: Server + Drop>(station: &mut Station<S>) -> bool {
     let source = comes(station, SOURCE, 0);
     let was_in = station.is_of(&[1]);
     station.turns(1, 1, 2, true);

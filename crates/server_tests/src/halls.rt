@@ -6,6 +6,7 @@ ghost use Rattle.radio_core.specs.World.{opening};
 
 use crate::calls::{Callee, number_given};
 use crate::house::{is_lock_free, is_title_heard};
+use crate::kept_rows::{KeptRow, is_row_played};
 use crate::stations::settings;
 use crate::two_callers::{are_served, is_of_two};
 use radio_access::Lists;
@@ -55,6 +56,8 @@ pub enum Visit {
     Titling,
     /// A source and a listener are served through a gate that knocks.
     Knocking,
+    /// Connections that are slow or fail are served.
+    Row(KeptRow),
 }
 
 impl Visit {
@@ -75,6 +78,7 @@ impl Visit {
             Visit::Unused => history.is_empty(),
             Visit::Titling => history.len() == 7,
             Visit::Knocking => true,
+            Visit::Row(kept) => kept.leaves(history),
         }
     }
 
@@ -107,6 +111,7 @@ fn visit_with<H: House + Send + Sync, R: Threads + Wait + Sync>(
         Visit::Unused => takes_pass(rt, hall, passes),
         Visit::Titling => is_title_heard(rt, alloc, hall, passes),
         Visit::Knocking => is_lock_free(rt, alloc, hall, passes),
+        Visit::Row(kept) => is_row_played(rt, alloc, hall, passes, kept),
     }
 }
 

@@ -19,6 +19,7 @@
 //! - `steps`: what happens at a station and is seen there, as tables.
 //! - `rows`: sources and listeners who are served, turn after turn.
 //! - `house`: the same over a hall, beside another caller.
+//! - `kept_rows`: failing and slow connections over a hall, and who has left in its history.
 //! - `slow`: lines that take little or nothing.
 //! - `moments`: from when patience and lingering count, to the millisecond.
 //! - `faults`: lines that fail, at each call; and memory that is refused.
@@ -34,6 +35,8 @@ mod faults;
 mod halls;
 #[cfg(test)]
 mod house;
+#[cfg(test)]
+mod kept_rows;
 #[cfg(test)]
 mod memory_line;
 #[cfg(test)]

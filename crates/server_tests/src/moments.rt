@@ -6,7 +6,7 @@ use crate::steps::{Step, play};
 use std::test::Fail;
 
 /// A source that is silent for half a minute is no silent one.
-const LONG_TIMEOUT: &str = "[limits]\nsource-timeout = 60\n";
+pub const LONG_TIMEOUT: &str = "[limits]\nsource-timeout = 60\n";
 
 /// A listener whose line takes one byte in a write.
 const BYTE_BY_BYTE: Manners = Manners {
@@ -115,6 +115,23 @@ const CLOSES: &[Step] = &[
 #[test]
 fn one_lingers_until_his_peer_closes(rt: HostRuntime) -> Result<(), Fail> {
     play(&rt, "", CLOSES)
+}
+
+/// Who has no seat is asked for half a second after he was asked for the last time, and not before: he
+/// hears then that he was finished, and is closed a turn later.
+const ASKED_FOR: &[Step] = &[
+    Step::Comes(SILENT, 0),
+    Step::Quiet(2600, 1, 1),
+    Step::Quiet(3000, 99, 2),
+    Step::Quiet(3100, 1, 1),
+    Step::Clients(&[1]),
+    Step::Quiet(3101, 1, 1),
+    Step::Clients(&[]),
+];
+
+#[test]
+fn one_is_asked_for_after_half_a_second(rt: HostRuntime) -> Result<(), Fail> {
+    play(&rt, "[limits]\nheader-timeout = 3\n", ASKED_FOR)
 }
 
 /// A client who says nothing hears within half a second by which rule he was finished.

@@ -35,7 +35,7 @@ const STALLED: Manners = Manners {
 
 /// A turn less than the source timeout after the three bytes: the line is still there, and another
 /// listener, whose line takes all, heard all.
-const KEPT: &[Step] = &[
+pub const KEPT: &[Step] = &[
     Step::Comes(SOURCE, 0),
     Step::Turns(1, 1, 2),
     Step::Comes(STALLED, 2),
@@ -52,7 +52,7 @@ fn a_stalled_line_is_kept_for_the_source_timeout(rt: HostRuntime) -> Result<(), 
 }
 
 /// A turn a millisecond later: it is gone.
-const CLOSED: &[Step] = &[
+pub const CLOSED: &[Step] = &[
     Step::Comes(SOURCE, 0),
     Step::Turns(1, 1, 2),
     Step::Comes(STALLED, 2),
@@ -68,7 +68,7 @@ fn a_stalled_line_is_closed_then(rt: HostRuntime) -> Result<(), Fail> {
 }
 
 /// A queue of ten bytes, beside which one who is three blocks of four behind lags.
-const SHORT_QUEUE: &str = "[limits]\nqueue-size = 10\n";
+pub const SHORT_QUEUE: &str = "[limits]\nqueue-size = 10\n";
 
 /// Sources whose last blocks come when their listeners have heard the first.
 const TWO_MORE: Manners = Manners {
@@ -155,7 +155,7 @@ fn without_news_a_listener_waits(rt: HostRuntime) -> Result<(), Fail> {
 
 /// One who is three blocks behind was finished by the push of the third: he hears what he was owed
 /// before, and nothing more; another hears all meanwhile.
-const LAGS: &[Step] = &[
+pub const LAGS: &[Step] = &[
     Step::Comes(THREE_MORE, 0),
     Step::Turns(1, 1, 2),
     Step::Comes(STALLED_FOR_FOUR, 2),
@@ -184,7 +184,7 @@ const ALL_BUT_ONE: &[u8] =
     b"HTTP/1.0 200 OK\r\nContent-Type: audio/mpeg\r\nConnection: close\r\n\r\nabcdefg";
 
 /// He is there up to the last byte that he is owed, and has left when that is taken.
-const CLOSES_WHILE_OWED: &[Step] = &[
+pub const CLOSES_WHILE_OWED: &[Step] = &[
     Step::Comes(SOURCE, 0),
     Step::Turns(1, 1, 2),
     Step::Comes(CLOSED_WHILE_OWED, 2),

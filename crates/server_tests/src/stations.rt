@@ -29,16 +29,64 @@ pub const NO_MEDDLING: Meddling = Meddling {
     refuses_at: u64::MAX,
 };
 
-/// A core to which that is done. In contracts it is the core.
+/// A server that is refused memory at one call. In contracts it is the server.
 #[derive(Drop)]
-pub struct Meddled {
-    alloc: Global,
-    core: Core,
-    meddling: Meddling,
+pub struct Refusing<S: Server + Drop> {
+    server: S,
+    refuses_at: u64,
     calls: u64,
 }
 
-impl Model for Meddled {
+impl<S: Server + Drop> Model for Refusing<S> {
+    ghost Value = { S };
+
+    ghost view = { λ r. r.server };
+}
+
+impl<S: Server + Drop> Server for Refusing<S> {
+    ghost steps = { λ from event reply to. Unit {0} };
+
+    ghost refuses = { λ from event. Unit {0} };
+
+    fn apply(&mut self, event: Event) -> Result<Reply, OutOfMemory> {
+        let refuses = self.calls == self.refuses_at;
+        self.calls = self.calls.saturating_add(1);
+        if refuses {
+            drop(event);
+            return Err(AllocError);
+        }
+        self.server.apply(event)
+    }
+}
+
+impl<S: Server + Drop> Refusing<S> {
+    /// This server, refused memory at that call, counted from 0.
+    pub fn new(server: S, refuses_at: u64) -> Refusing<S> {
+        Refusing {
+            server,
+            refuses_at,
+            calls: 0,
+        }
+    }
+
+    /// The server.
+    pub fn into_server(self) -> S {
+        self.server
+    }
+}
+
+/// A core whose mount may have a title. In contracts it is the core.
+#[derive(Drop)]
+pub struct Titled {
+    alloc: Global,
+    core: Core,
+    has_title: bool,
+}
+
+/// A core to which something is done.
+pub type Meddled = Refusing<Titled>;
+
+impl Model for Titled {
     ghost use Rattle.std.specs.Coded.{codes};
     ghost use Rattle.radio_core.specs.contracts.server.Core as the_core;
     ghost use Rattle.radio_core.specs.World.{World};
@@ -50,18 +98,12 @@ impl Model for Meddled {
     ghost view = { λ m. m.core };
 }
 
-impl Server for Meddled {
+impl Server for Titled {
     ghost steps = { λ from event reply to. Unit {0} };
 
     ghost refuses = { λ from event. Unit {0} };
 
     fn apply(&mut self, event: Event) -> Result<Reply, OutOfMemory> {
-        let refuses = self.calls == self.meddling.refuses_at;
-        self.calls = self.calls.saturating_add(1);
-        if refuses {
-            drop(event);
-            return Err(AllocError);
-        }
         match self.core.apply(event) {
             Ok(reply) => {
                 self.note(&reply);
@@ -72,9 +114,9 @@ impl Server for Meddled {
     }
 }
 
-impl Meddled {
+impl Titled {
     fn note(&mut self, reply: &Reply) {
-        if self.meddling.has_title && matches!(reply, Reply::Feeding) {
+        if self.has_title && matches!(reply, Reply::Feeding) {
             self.set_title();
         }
     }
@@ -116,13 +158,12 @@ pub fn make_station(
     meddling: Meddling,
 ) -> Result<Station<Meddled>, SettingsFault> {
     let core = core(alloc, more)?;
-    let server = Meddled {
+    let titled = Titled {
         alloc,
         core,
-        meddling,
-        calls: 0,
+        has_title: meddling.has_title,
     };
-    Ok(Station::new(alloc, server))
+    Ok(Station::new(alloc, Refusing::new(titled, meddling.refuses_at)))
 }
 
 impl<S: Server + Drop> Station<S> {

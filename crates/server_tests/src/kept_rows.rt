@@ -1,0 +1,186 @@
+//! Failing and slow connections over a hall that stores its entries: whose connection is over has left, in the history
+//! too, and all passes settle, also where a call was refused.
+
+use crate::faults::{
+    BEHIND_A_SOURCE, Beside, CALLS, Failure, PLAIN, are_played, failing, is_refused,
+};
+use crate::halls::{Visit, visit_hall};
+use crate::moments::LONG_TIMEOUT;
+use crate::slow::{CLOSED, CLOSES_WHILE_OWED, KEPT, LAGS, SHORT_QUEUE};
+use crate::stations::{Refusing, Station};
+use crate::steps::Step;
+use radio_book::{Entry, House, Kept, Pass};
+use radio_events::Event;
+use radio_hall::{Caller, Hall, Server};
+use std::alloc::Global;
+use std::process::Abort;
+use std::sync::Wait;
+use std::test::Fail;
+use std::thread::Threads;
+
+/// What is played at a worker over the hall.
+#[derive(Clone, Copy)]
+pub enum Row {
+    /// These steps.
+    Steps(&'static [Step]),
+    /// One whose line fails so at that call, beside others.
+    Failing(&'static Beside, Failure, u64),
+    /// A source and a listener, and the worker is refused memory at that call.
+    Refused(u64),
+}
+
+/// A row, and whose leaving stands in the history then, in this order.
+#[derive(Clone, Copy)]
+pub struct KeptRow {
+    pub row: Row,
+    pub left: Option<&'static [u64]>,
+}
+
+impl Row {
+    fn is_played<S: Server + Drop>(self, station: &mut Station<S>) -> bool {
+        match self {
+            Row::Steps(steps) => station.plays(steps),
+            Row::Failing(beside, failure, call) => {
+                are_played(station, beside, failing(beside.failing, failure, call))
+            }
+            Row::Refused(_) => is_refused(station),
+        }
+    }
+
+    /// At which call the worker is refused memory.
+    fn refuses_at(self) -> u64 {
+        match self {
+            Row::Refused(call) => call,
+            Row::Steps(_) | Row::Failing(..) => u64::MAX,
+        }
+    }
+}
+
+impl KeptRow {
+    /// Whether those who have left in the history are those who should have.
+    pub fn leaves(self, history: &[Entry]) -> bool {
+        match self.left {
+            Some(ids) => have_left(history, ids),
+            None => true,
+        }
+    }
+}
+
+/// Who has left by an event.
+fn leaver(event: &Event) -> Option<u64> {
+    match event {
+        Event::Leave { id } => Some(*id),
+        _ => None,
+    }
+}
+
+/// Whether those who have left are these, in this order.
+fn have_left(history: &[Entry], ids: &[u64]) -> bool {
+    let mut count = 0;
+    for entry in history {
+        if let Some(id) = leaver(&entry.event) {
+            if ids.get(count) != Some(&id) {
+                return false;
+            }
+            count += 1;
+        }
+    }
+    count == ids.len()
+}
+
+/// Whether a row is played by a worker whose pass is added.
+pub fn is_row_played<H: House, R: Wait>(
+    rt: &R,
+    alloc: Global,
+    hall: &Hall<Kept, H>,
+    passes: &mut Vec<Pass<Kept, H>>,
+    kept: KeptRow,
+) -> bool {
+    let Some(pass) = hall.pass(rt) else {
+        return false;
+    };
+    let caller = Refusing::new(Caller::new(rt, hall, pass), kept.row.refuses_at());
+    let mut station = Station::new(alloc, caller);
+    let is_played = kept.row.is_played(&mut station);
+    let pass = station.into_server().into_server().into_pass();
+    passes.push(pass).is_ok() && is_played
+}
+
+/// Steps at a hall with these settings more.
+fn play_kept<R: Abort + AllocGlobal + Threads + Wait + Sync>(
+    rt: &R,
+    more: &str,
+    steps: &'static [Step],
+    left: &'static [u64],
+) -> Result<(), Fail> {
+    let kept = KeptRow {
+        row: Row::Steps(steps),
+        left: Some(left),
+    };
+    visit_hall(rt, more, Visit::Row(kept))
+}
+
+/// One whose line fails so at each call; then these have left.
+fn fail_kept<R: Abort + AllocGlobal + Threads + Wait + Sync>(
+    rt: &R,
+    beside: &'static Beside,
+    failure: Failure,
+    left: &'static [u64],
+) -> Result<(), Fail> {
+    for call in 0..CALLS {
+        let kept = KeptRow {
+            row: Row::Failing(beside, failure, call),
+            left: Some(left),
+        };
+        visit_hall(rt, beside.settings, Visit::Row(kept))?;
+    }
+    Ok(())
+}
+
+#[test]
+fn who_fails_has_left_the_house(rt: HostRuntime) -> Result<(), Fail> {
+    fail_kept(&rt, PLAIN, Failure::Fault, &[2])
+}
+
+#[test]
+fn whose_peer_closes_has_left_the_house(rt: HostRuntime) -> Result<(), Fail> {
+    fail_kept(&rt, PLAIN, Failure::Closing, &[2])
+}
+
+#[test]
+fn behind_a_source_both_have_left_the_house(rt: HostRuntime) -> Result<(), Fail> {
+    fail_kept(&rt, BEHIND_A_SOURCE, Failure::Fault, &[1, 2])
+}
+
+#[test]
+fn who_stalls_stays_in_the_house(rt: HostRuntime) -> Result<(), Fail> {
+    play_kept(&rt, LONG_TIMEOUT, KEPT, &[])
+}
+
+#[test]
+fn who_has_stalled_has_left_the_house(rt: HostRuntime) -> Result<(), Fail> {
+    play_kept(&rt, LONG_TIMEOUT, CLOSED, &[2])
+}
+
+#[test]
+fn who_lags_has_left_the_house(rt: HostRuntime) -> Result<(), Fail> {
+    play_kept(&rt, SHORT_QUEUE, LAGS, &[2])
+}
+
+#[test]
+fn who_closes_while_he_is_owed_has_left_the_house(rt: HostRuntime) -> Result<(), Fail> {
+    play_kept(&rt, "", CLOSES_WHILE_OWED, &[2])
+}
+
+/// The passes settle where the worker was refused memory, at each call.
+#[test]
+fn a_refused_call_settles(rt: HostRuntime) -> Result<(), Fail> {
+    for call in 0..CALLS {
+        let kept = KeptRow {
+            row: Row::Refused(call),
+            left: None,
+        };
+        visit_hall(&rt, "", Visit::Row(kept))?;
+    }
+    Ok(())
+}
