@@ -1,7 +1,7 @@
 -- Whose events are, and which take no memory.
 use Rattle.std.specs.Prelude.{ℕ, Option, Some, None}
 use Rattle.radio_events.specs.declared.event.Event.{Event}
-use Rattle.radio_events.specs.declared.event.Event.TheVariants.{Arrive, Source, Push, SourceEnd, Title, Listen, Draw, Leave, Clock}
+use Rattle.radio_events.specs.declared.event.Event.TheVariants.{Arrive, Source, Push, SourceEnd, Title, Listen, Draw, Command, Leave, Clock}
 
 -- the client of an event; an arrival and the clock have none
 abbrev pub client_in : Event → Option ℕ
@@ -12,6 +12,7 @@ client_in (SourceEnd id) = Some id
 client_in (Title id text) = Some id
 client_in (Listen asked) = Some asked.id
 client_in (Draw id room) = Some id
+client_in (Command asked) = Some asked.id
 client_in (Leave id) = Some id
 client_in (Clock ms) = None
 

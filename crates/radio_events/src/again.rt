@@ -3,7 +3,7 @@
 ghost use Rattle.std.specs.Prelude.{◌≡◌, IsOk, IfOk};
 ghost use Rattle.radio_events.specs.Events.{TakesNoMemory};
 
-use crate::{Event, ListenRequest, OutOfMemory, SourceRequest};
+use crate::{Asked, Command, CommandRequest, Event, ListenRequest, OutOfMemory, SourceRequest};
 use radio_creds::Pair;
 
 impl Event {
@@ -30,6 +30,7 @@ impl Event {
                 id: *id,
                 room: *room,
             }),
+            Event::Command(asked) => Ok(Event::Command(request_again(asked)?)),
             Event::Leave { id } => Ok(Event::Leave { id: *id }),
             Event::Clock { ms } => Ok(Event::Clock { ms: *ms }),
         }
@@ -58,6 +59,53 @@ fn listen_again(asked: &ListenRequest) -> Result<ListenRequest, OutOfMemory>
         pair: pair_again(&asked.pair)?,
         wants_metadata: asked.wants_metadata,
     })
+}
+
+/// An equal request. `OutOfMemory` where memory was refused.
+fn request_again(asked: &CommandRequest) -> Result<CommandRequest, OutOfMemory>
+    ensures { IfOk result (λ again. again ≡ asked.now) }
+{
+    Ok(CommandRequest {
+        id: asked.id,
+        asked: asked_again(&asked.asked)?,
+        pair: pair_again(&asked.pair)?,
+    })
+}
+
+/// The same again. `OutOfMemory` where memory was refused.
+fn asked_again(asked: &Asked) -> Result<Asked, OutOfMemory>
+    ensures { IfOk result (λ again. again ≡ asked.now) }
+{
+    match asked {
+        Asked::NoCommand => Ok(Asked::NoCommand),
+        Asked::MissingArgument(opened_by) => Ok(Asked::MissingArgument(*opened_by)),
+        Asked::Command(command) => Ok(Asked::Command(command_again(command)?)),
+    }
+}
+
+/// An equal command. `OutOfMemory` where memory was refused.
+fn command_again(command: &Command) -> Result<Command, OutOfMemory>
+    ensures { IfOk result (λ again. again ≡ command.now) }
+{
+    match command {
+        Command::MoveClients { mount, destination } => Ok(Command::MoveClients {
+            mount: *mount,
+            destination: *destination,
+        }),
+        Command::KillClient { mount, listener } => Ok(Command::KillClient {
+            mount: *mount,
+            listener: *listener,
+        }),
+        Command::KillSource { mount } => Ok(Command::KillSource { mount: *mount }),
+        Command::SetTitle { mount, title } => Ok(Command::SetTitle {
+            mount: *mount,
+            title: title.clone()?,
+        }),
+        Command::SetFallback { mount, fallback } => Ok(Command::SetFallback {
+            mount: *mount,
+            fallback: *fallback,
+        }),
+    }
 }
 
 /// The pair again, if there is one. `OutOfMemory` where memory was refused.

@@ -1,5 +1,6 @@
 //! What happens to the server.
 
+use crate::CommandRequest;
 use bytes::Bytes;
 use radio_addr::Peer;
 use radio_blocks::Block;
@@ -50,6 +51,8 @@ pub enum Event {
     Listen(ListenRequest),
     /// The listener has room for so many bytes of data.
     Draw { id: u64, room: u32 },
+    /// A client gives a command.
+    Command(CommandRequest),
     /// The client's connection is closed.
     Leave { id: u64 },
     /// It is this moment, in milliseconds; one that has passed does not count.

@@ -1,18 +1,23 @@
 //! What happens to the server, and what it replies.
 //!
-//! - [`Event`]: what happens; [`SourceRequest`] and [`ListenRequest`] are what a client asks for.
-//! - [`Reply`]: what the server replies.
+//! - [`Event`]: what happens; [`SourceRequest`], [`ListenRequest`] and [`CommandRequest`] are what a
+//!   client asks for.
+//! - [`Reply`]: what the server replies; a [`Text`] is what it says of a command.
 //! - `again` of either is an equal copy, `same` tells whether two are equal.
 #![tactic(auto)]
 
 mod again;
+mod command;
 mod data;
 mod event;
 mod reply;
 mod same;
+mod text;
 
+pub use command::{Asked, Command, CommandRequest, OpenedBy};
 pub use event::{Event, ListenRequest, SourceRequest};
 pub use reply::Reply;
+pub use text::Text;
 
 /// What a call answers where memory was refused. Nothing has changed then.
 pub type OutOfMemory = std::alloc::AllocError;

@@ -1,6 +1,6 @@
 //! What the server replies.
 
-use crate::OutOfMemory;
+use crate::{OutOfMemory, Text};
 use radio_blocks::Pieces;
 use radio_icy::Title;
 use radio_policy::Rule;
@@ -29,6 +29,8 @@ pub enum Reply {
     },
     /// It was done, and there is nothing to say.
     Noted,
+    /// The command was done, and this is said of it.
+    Text(Text),
     /// The policy denies it, by this rule.
     Deny(Rule),
     /// The client was finished before, by this rule.
@@ -59,6 +61,7 @@ impl Reply {
                 title: title.clone()?,
             }),
             Reply::Noted => Ok(Reply::Noted),
+            Reply::Text(text) => Ok(Reply::Text(*text)),
             Reply::Deny(rule) => Ok(Reply::Deny(*rule)),
             Reply::Finished(rule) => Ok(Reply::Finished(*rule)),
             Reply::Stray => Ok(Reply::Stray),

@@ -4,12 +4,14 @@ ghost use Rattle.std.specs.Prelude.{◌≡◌, ◌↔◌, IsTrue};
 ghost use Rattle.radio_events.specs.Events.{TakesNoMemory};
 
 use crate::data::is_same_data;
-use crate::{Event, ListenRequest, Reply, SourceRequest};
+use crate::{
+    Asked, Command, CommandRequest, Event, ListenRequest, OpenedBy, Reply, SourceRequest, Text,
+};
 use radio_addr::Peer;
 use radio_creds::Pair;
 use radio_icy::Title;
 use radio_policy::Rule;
-use radio_settings::Shown;
+use radio_settings::{MountName, Shown};
 
 impl Event {
     /// Whether the two events are equal.
@@ -29,6 +31,7 @@ impl Event {
             (Event::Draw { id: a, room: x }, Event::Draw { id: b, room: y }) => {
                 *a == *b && *x == *y
             }
+            (Event::Command(a), Event::Command(b)) => is_same_request(a, b),
             _ => is_same_end_or_clock(self, other),
         }
     }
@@ -75,6 +78,7 @@ impl Reply {
                 },
             ) => is_same_data(a.slices(), b.slices()) && is_same_title(x, y),
             (Reply::Noted, Reply::Noted) => true,
+            (Reply::Text(a), Reply::Text(b)) => is_same_text(*a, *b),
             (Reply::Deny(a), Reply::Deny(b)) => is_same_rule(*a, *b),
             (Reply::Finished(a), Reply::Finished(b)) => is_same_rule(*a, *b),
             (Reply::Stray, Reply::Stray) => true,
@@ -101,6 +105,90 @@ fn is_same_listener(a: &ListenRequest, b: &ListenRequest) -> bool
         && is_same_pair(&a.pair, &b.pair)
 }
 
+fn is_same_request(a: &CommandRequest, b: &CommandRequest) -> bool
+    ensures { IsTrue result ↔ a.now ≡ b.now }
+{
+    a.id == b.id && is_same_asked(&a.asked, &b.asked) && is_same_pair(&a.pair, &b.pair)
+}
+
+fn is_same_asked(a: &Asked, b: &Asked) -> bool
+    ensures { IsTrue result ↔ a.now ≡ b.now }
+{
+    match (a, b) {
+        (Asked::NoCommand, Asked::NoCommand) => true,
+        (Asked::MissingArgument(a), Asked::MissingArgument(b)) => is_same_opener(a, b),
+        (Asked::Command(a), Asked::Command(b)) => is_same_command(a, b),
+        _ => false,
+    }
+}
+
+fn is_same_opener(a: &OpenedBy, b: &OpenedBy) -> bool
+    ensures { IsTrue result ↔ a.now ≡ b.now }
+{
+    match (a, b) {
+        (OpenedBy::Admin, OpenedBy::Admin) => true,
+        (OpenedBy::Source(a), OpenedBy::Source(b)) => is_same_mount(a, b),
+        _ => false,
+    }
+}
+
+fn is_same_command(a: &Command, b: &Command) -> bool
+    ensures { IsTrue result ↔ a.now ≡ b.now }
+{
+    match (a, b) {
+        (
+            Command::MoveClients {
+                mount: a,
+                destination: x,
+            },
+            Command::MoveClients {
+                mount: b,
+                destination: y,
+            },
+        ) => is_same_name(a, b) && is_same_name(x, y),
+        (
+            Command::KillClient {
+                mount: a,
+                listener: x,
+            },
+            Command::KillClient {
+                mount: b,
+                listener: y,
+            },
+        ) => is_same_name(a, b) && *x == *y,
+        (Command::KillSource { mount: a }, Command::KillSource { mount: b }) => is_same_name(a, b),
+        (Command::SetTitle { mount: a, title: x }, Command::SetTitle { mount: b, title: y }) =>
+            is_same_name(a, b) && is_same_bytes(x.as_slice(), y.as_slice()),
+        (
+            Command::SetFallback {
+                mount: a,
+                fallback: x,
+            },
+            Command::SetFallback {
+                mount: b,
+                fallback: y,
+            },
+        ) => is_same_name(a, b) && is_same_mount(x, y),
+        _ => false,
+    }
+}
+
+fn is_same_name(a: &MountName, b: &MountName) -> bool
+    ensures { IsTrue result ↔ a.now ≡ b.now }
+{
+    is_same_bytes(a.as_bytes(), b.as_bytes())
+}
+
+fn is_same_mount(a: &Option<MountName>, b: &Option<MountName>) -> bool
+    ensures { IsTrue result ↔ a.now ≡ b.now }
+{
+    match (a, b) {
+        (Some(a), Some(b)) => is_same_name(a, b),
+        (None, None) => true,
+        _ => false,
+    }
+}
+
 /// Whether the numbers and the bytes are the same.
 fn are_same(a: u64, x: &[u8], b: u64, y: &[u8]) -> bool
     ensures { IsTrue result ↔ (a ≡ b) × (x.now ≡ y.now) }
@@ -121,6 +209,12 @@ fn is_same_peer(a: Peer, b: Peer) -> bool
 }
 
 fn is_same_rule(a: Rule, b: Rule) -> bool
+    ensures { IsTrue result ↔ a ≡ b }
+{
+    a == b
+}
+
+fn is_same_text(a: Text, b: Text) -> bool
     ensures { IsTrue result ↔ a ≡ b }
 {
     a == b

@@ -7,8 +7,14 @@ use Rattle.radio_policy.specs.declared.facts.ArriveFacts.{ArriveFacts}
 use Rattle.radio_policy.specs.declared.facts.SourceFacts.{SourceFacts}
 use Rattle.radio_policy.specs.declared.facts.PushFacts.{PushFacts}
 use Rattle.radio_policy.specs.declared.facts.ListenFacts.{ListenFacts}
+use Rattle.radio_policy.specs.declared.rule.Rule.TheVariants.{NoCommand, AdminPassword, RelayPassword, MissingArgument, NoDestination, SameMount, NoClient}
+use Rattle.radio_policy.specs.declared.facts.CommandFacts.{CommandFacts}
+use Rattle.radio_policy.specs.declared.facts.CommandNeeds.{CommandNeeds}
+use Rattle.radio_policy.specs.declared.facts.CommandNeeds.TheVariants.{Argument, Nothing, Mount, Destination, Client}
+use Rattle.radio_policy.specs.declared.facts.Opener.{Opener}
+use Rattle.radio_policy.specs.declared.facts.Opener.TheVariants.{Admin as AdminAlone, Source as ItsSource, Relay as Relays}
 use Rattle.radio_policy.specs.declared.facts.Action.{Action}
-use Rattle.radio_policy.specs.declared.facts.Action.TheVariants.{Arrive, Source, Push, Listen}
+use Rattle.radio_policy.specs.declared.facts.Action.TheVariants.{Arrive, Source, Push, Listen, Command}
 
 -- one row of the table: a rule, and whether its condition holds
 pub record Row : Type 0 where
@@ -61,9 +67,36 @@ listen_rows (Some facts) =
     row UserTwice facts.user_is_twice ∷
     walk_rows facts.walk_stops
 
+-- the rule that denies a command to whoever sends none of the pairs that open it
+abbrev pub password_rule : Opener → Rule
+password_rule AdminAlone = AdminPassword
+password_rule ItsSource = SourcePassword
+password_rule Relays = RelayPassword
+
+-- what a command needs is not there
+abbrev pub needs_rows : CommandNeeds → List Row
+needs_rows Argument = row MissingArgument true ∷ []
+needs_rows Nothing = []
+needs_rows (Mount is_live) = row NoMount (not is_live) ∷ []
+needs_rows (Destination facts) =
+    row NoMount (not facts.mount_is_live) ∷
+    row NoDestination (not facts.destination_is_live) ∷
+    row SameMount facts.is_same_mount ∷
+    []
+needs_rows (Client mount_is_live sits_there) =
+    row NoMount (not mount_is_live) ∷
+    row NoClient (not sits_there) ∷
+    []
+
+-- a client gives the command of a path
+abbrev pub command_rows : Option CommandFacts → List Row
+command_rows None = row NoCommand true ∷ []
+command_rows (Some facts) = row (password_rule facts.opener) (not facts.is_opened) ∷ needs_rows facts.needs
+
 -- the rows of an action, in the order in which they are asked
 abbrev pub table : Action → List Row
 table (Arrive facts) = arrive_rows facts
 table (Source facts) = source_rows facts
 table (Push facts) = push_rows facts
 table (Listen facts) = listen_rows facts
+table (Command facts) = command_rows facts

@@ -4,7 +4,8 @@ use Rattle.radio_policy.specs.declared.rule.Rule.TheVariants.{AddressDenied, Add
 use Rattle.radio_policy.specs.declared.rule.Rule.TheVariants.{TooManySources, MountInUse}
 use Rattle.radio_policy.specs.declared.rule.Rule.TheVariants.{ContentType, NoMount, ListenerPassword, UserTwice, NotLive, MountFull, FallbackDepth}
 use Rattle.radio_policy.specs.declared.rule.Rule.TheVariants.{NumbersSpent, BadHead, BadMethod}
-use Rattle.radio_policy.specs.declared.rule.Rule.TheVariants.{Lagged, TimeOver, HeaderTimeout, SourceSilent}
+use Rattle.radio_policy.specs.declared.rule.Rule.TheVariants.{NoCommand, AdminPassword, RelayPassword, MissingArgument, NoDestination, SameMount, NoClient}
+use Rattle.radio_policy.specs.declared.rule.Rule.TheVariants.{Lagged, TimeOver, HeaderTimeout, SourceSilent, Killed, SourceKilled}
 use Rattle.radio_policy.specs.declared.rule.Status.{Status}
 use Rattle.radio_policy.specs.declared.rule.Status.TheVariants.{BadRequest, Unauthorized, Forbidden, NotFound}
 
@@ -24,6 +25,13 @@ word_of UserTwice = codes "user-twice"
 word_of NotLive = codes "not-live"
 word_of MountFull = codes "mount-full"
 word_of FallbackDepth = codes "fallback-depth"
+word_of NoCommand = codes "no-command"
+word_of AdminPassword = codes "admin-password"
+word_of RelayPassword = codes "relay-password"
+word_of MissingArgument = codes "missing-argument"
+word_of NoDestination = codes "no-destination"
+word_of SameMount = codes "same-mount"
+word_of NoClient = codes "no-client"
 word_of NumbersSpent = codes "numbers-spent"
 word_of BadHead = codes "bad-head"
 word_of BadMethod = codes "bad-method"
@@ -31,6 +39,8 @@ word_of Lagged = codes "lagged"
 word_of TimeOver = codes "time-over"
 word_of HeaderTimeout = codes "header-timeout"
 word_of SourceSilent = codes "source-silent"
+word_of Killed = codes "killed"
+word_of SourceKilled = codes "source-killed"
 
 -- the status of the answer that tells a denial by the rule; a rule by which nothing is denied in an answer has none
 abbrev pub status_of : Rule → Option Status
@@ -48,6 +58,13 @@ status_of UserTwice = Some Forbidden
 status_of NotLive = Some NotFound
 status_of MountFull = Some Forbidden
 status_of FallbackDepth = Some NotFound
+status_of NoCommand = Some NotFound
+status_of AdminPassword = Some Unauthorized
+status_of RelayPassword = Some Unauthorized
+status_of MissingArgument = Some BadRequest
+status_of NoDestination = Some NotFound
+status_of SameMount = Some BadRequest
+status_of NoClient = Some NotFound
 status_of NumbersSpent = Some Forbidden
 status_of BadHead = Some BadRequest
 status_of BadMethod = Some BadRequest
@@ -55,3 +72,5 @@ status_of Lagged = None
 status_of TimeOver = None
 status_of HeaderTimeout = None
 status_of SourceSilent = None
+status_of Killed = None
+status_of SourceKilled = None

@@ -12,6 +12,8 @@ pub enum Action {
     Push(PushFacts),
     /// A listener wants to hear the mount of a path; `None` where the path names no mount.
     Listen(Option<ListenFacts>),
+    /// A client gives the command of a path; `None` where the path names no command.
+    Command(Option<CommandFacts>),
 }
 
 /// What is looked up for a connection that arrives.
@@ -58,4 +60,57 @@ pub struct ListenFacts {
     pub user_is_twice: bool,
     /// The rule that stops the walk from the mount asked for, if one does.
     pub walk_stops: Option<Rule>,
+}
+
+/// What is looked up for a client who gives a command.
+#[derive(Clone, Copy)]
+pub struct CommandFacts {
+    /// Whose pair opens the command, beside that of the admin.
+    pub opener: Opener,
+    /// The pair that was sent is one that opens it.
+    pub is_opened: bool,
+    /// What the command needs, and whether it is there.
+    pub needs: CommandNeeds,
+}
+
+/// Whose pair opens a command, beside that of the admin.
+#[derive(Clone, Copy, Debug, PartialEq, Eq)]
+pub enum Opener {
+    /// Nobody's: the admin's alone.
+    Admin,
+    /// That of the mount's source.
+    Source,
+    /// That of the relays.
+    Relay,
+}
+
+/// What a command needs, and whether it is there.
+#[derive(Clone, Copy)]
+pub enum CommandNeeds {
+    /// An argument, which is missing.
+    Argument,
+    /// Nothing.
+    Nothing,
+    /// A live mount.
+    Mount {
+        is_live: bool,
+    },
+    /// A live mount, and another one to which its listeners can go.
+    Destination(DestinationFacts),
+    /// A live mount, and a listener who sits there.
+    Client {
+        mount_is_live: bool,
+        sits_there: bool,
+    },
+}
+
+/// What is looked up for a command that moves listeners.
+#[derive(Clone, Copy)]
+pub struct DestinationFacts {
+    /// The mount that they are to leave has a live source.
+    pub mount_is_live: bool,
+    /// The mount to which they are to go has one.
+    pub destination_is_live: bool,
+    /// These are one mount.
+    pub is_same_mount: bool,
 }

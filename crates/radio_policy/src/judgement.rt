@@ -1,8 +1,12 @@
 ghost use Rattle.std.specs.Prelude.{◌≡◌};
 ghost use Rattle.radio_policy.specs.Table.{arrive_rows, source_rows, push_rows, listen_rows, table};
+ghost use Rattle.radio_policy.specs.Table.{password_rule, needs_rows, command_rows};
 ghost use Rattle.radio_policy.specs.Verdicts.{verdict_in};
 
-use crate::{Action, ArriveFacts, ListenFacts, PushFacts, Rule, SourceFacts};
+use crate::{
+    Action, ArriveFacts, CommandFacts, CommandNeeds, DestinationFacts, ListenFacts, Opener,
+    PushFacts, Rule, SourceFacts,
+};
 
 /// What the policy says to something that is asked for.
 #[derive(Clone, Copy, Debug, PartialEq, Eq)]
@@ -22,6 +26,7 @@ pub fn judge(action: &Action) -> Verdict
         Action::Source(facts) => judge_source(facts),
         Action::Push(facts) => judge_push(facts),
         Action::Listen(facts) => judge_listen(facts),
+        Action::Command(facts) => judge_command(facts),
     }
 }
 
@@ -88,5 +93,79 @@ fn judge_listen(facts: &Option<ListenFacts>) -> Verdict
     match facts.walk_stops {
         Some(rule) => Verdict::Deny(rule),
         None => Verdict::Allow,
+    }
+}
+
+fn judge_command(facts: &Option<CommandFacts>) -> Verdict
+    ensures { result ≡ verdict_in (command_rows facts.now) }
+{
+    let Some(facts) = facts else {
+        return Verdict::Deny(Rule::NoCommand);
+    };
+    if !facts.is_opened {
+        return Verdict::Deny(password_rule(facts.opener));
+    }
+    judge_needs(&facts.needs)
+}
+
+/// The rule that denies a command to whoever sends none of the pairs that open it.
+fn password_rule(opener: Opener) -> Rule
+    ensures { result ≡ password_rule opener }
+{
+    match opener {
+        Opener::Admin => Rule::AdminPassword,
+        Opener::Source => Rule::SourcePassword,
+        Opener::Relay => Rule::RelayPassword,
+    }
+}
+
+fn judge_needs(needs: &CommandNeeds) -> Verdict
+    ensures { result ≡ verdict_in (needs_rows needs.now) }
+{
+    match needs {
+        CommandNeeds::Argument => Verdict::Deny(Rule::MissingArgument),
+        CommandNeeds::Nothing => Verdict::Allow,
+        CommandNeeds::Mount { is_live } => judge_mount(*is_live),
+        CommandNeeds::Destination(facts) => judge_destination(facts),
+        CommandNeeds::Client {
+            mount_is_live,
+            sits_there,
+        } => judge_client(*mount_is_live, *sits_there),
+    }
+}
+
+fn judge_mount(is_live: bool) -> Verdict
+    ensures { result ≡ verdict_in (needs_rows (CommandNeeds.Mount is_live)) }
+{
+    if is_live {
+        Verdict::Allow
+    } else {
+        Verdict::Deny(Rule::NoMount)
+    }
+}
+
+fn judge_client(mount_is_live: bool, sits_there: bool) -> Verdict
+    ensures { result ≡ verdict_in (needs_rows (CommandNeeds.Client mount_is_live sits_there)) }
+{
+    if !mount_is_live {
+        Verdict::Deny(Rule::NoMount)
+    } else if !sits_there {
+        Verdict::Deny(Rule::NoClient)
+    } else {
+        Verdict::Allow
+    }
+}
+
+fn judge_destination(facts: &DestinationFacts) -> Verdict
+    ensures { result ≡ verdict_in (needs_rows (CommandNeeds.Destination facts.now)) }
+{
+    if !facts.mount_is_live {
+        Verdict::Deny(Rule::NoMount)
+    } else if !facts.destination_is_live {
+        Verdict::Deny(Rule::NoDestination)
+    } else if facts.is_same_mount {
+        Verdict::Deny(Rule::SameMount)
+    } else {
+        Verdict::Allow
     }
 }

@@ -7,7 +7,10 @@ mod judgement;
 mod laws;
 mod rule;
 
-pub use facts::{Action, ArriveFacts, ListenFacts, PushFacts, SourceFacts};
+pub use facts::{
+    Action, ArriveFacts, CommandFacts, CommandNeeds, DestinationFacts, ListenFacts, Opener,
+    PushFacts, SourceFacts,
+};
 pub use judgement::{Verdict, judge};
 pub use laws::denials_name_the_first_rule;
 pub use rule::{Rule, Status};

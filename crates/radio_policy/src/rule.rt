@@ -11,7 +11,7 @@ pub enum Status {
     Unauthorized,
     /// 403: the server is not willing.
     Forbidden,
-    /// 404: there is no such mount.
+    /// 404: there is no such mount, command or client.
     NotFound,
 }
 
@@ -26,7 +26,8 @@ pub enum Rule {
     TooManyClients,
     /// The path is no mount name.
     BadMount,
-    /// The pair that was sent, or none, is not that of the mount's source.
+    /// The pair that was sent, or none, is not that of the mount's source; nor, for a command, that
+    /// of the admin.
     SourcePassword,
     /// As many sources are live as may be.
     TooManySources,
@@ -36,7 +37,7 @@ pub enum Rule {
     ContentType,
     /// The mount has users, and they do not accept the pair that was sent, or none.
     ListenerPassword,
-    /// The server does not know the mount.
+    /// The server does not know the mount; or it is not live, for a command.
     NoMount,
     /// The user that was sent sits at the mount, where each may sit once.
     UserTwice,
@@ -46,6 +47,20 @@ pub enum Rule {
     MountFull,
     /// A walk would look at more mounts than it may.
     FallbackDepth,
+    /// The path names no command.
+    NoCommand,
+    /// The pair that was sent, or none, is not that of the admin, which alone opens the command.
+    AdminPassword,
+    /// The pair that was sent, or none, is neither that of the relays nor that of the admin.
+    RelayPassword,
+    /// An argument of the command is missing, or is not of its form.
+    MissingArgument,
+    /// The mount to which listeners are to go has no live source.
+    NoDestination,
+    /// The mount to which listeners are to go is the one that they are to leave.
+    SameMount,
+    /// No listener of that number sits at that mount.
+    NoClient,
     /// A count would pass the largest number of 64 bits.
     NumbersSpent,
     /// What came is no head of a request.
@@ -60,6 +75,10 @@ pub enum Rule {
     HeaderTimeout,
     /// A source has sent nothing in the time that it has for it.
     SourceSilent,
+    /// A command has finished the listener.
+    Killed,
+    /// A command has ended the source's session.
+    SourceKilled,
 }
 
 impl Rule {
@@ -84,6 +103,13 @@ impl Rule {
             Rule::NotLive => "not-live",
             Rule::MountFull => "mount-full",
             Rule::FallbackDepth => "fallback-depth",
+            Rule::NoCommand => "no-command",
+            Rule::AdminPassword => "admin-password",
+            Rule::RelayPassword => "relay-password",
+            Rule::MissingArgument => "missing-argument",
+            Rule::NoDestination => "no-destination",
+            Rule::SameMount => "same-mount",
+            Rule::NoClient => "no-client",
             Rule::NumbersSpent => "numbers-spent",
             Rule::BadHead => "bad-head",
             Rule::BadMethod => "bad-method",
@@ -91,6 +117,8 @@ impl Rule {
             Rule::TimeOver => "time-over",
             Rule::HeaderTimeout => "header-timeout",
             Rule::SourceSilent => "source-silent",
+            Rule::Killed => "killed",
+            Rule::SourceKilled => "source-killed",
         }
     }
 
@@ -104,9 +132,18 @@ impl Rule {
             | Rule::Lagged
             | Rule::TimeOver
             | Rule::HeaderTimeout
-            | Rule::SourceSilent => None,
-            Rule::BadMount | Rule::BadHead | Rule::BadMethod => Some(Status::BadRequest),
-            Rule::SourcePassword | Rule::ListenerPassword => Some(Status::Unauthorized),
+            | Rule::SourceSilent
+            | Rule::Killed
+            | Rule::SourceKilled => None,
+            Rule::BadMount
+            | Rule::BadHead
+            | Rule::BadMethod
+            | Rule::MissingArgument
+            | Rule::SameMount => Some(Status::BadRequest),
+            Rule::SourcePassword
+            | Rule::ListenerPassword
+            | Rule::AdminPassword
+            | Rule::RelayPassword => Some(Status::Unauthorized),
             Rule::TooManyClients
             | Rule::TooManySources
             | Rule::MountInUse
@@ -114,7 +151,12 @@ impl Rule {
             | Rule::UserTwice
             | Rule::MountFull
             | Rule::NumbersSpent => Some(Status::Forbidden),
-            Rule::NoMount | Rule::NotLive | Rule::FallbackDepth => Some(Status::NotFound),
+            Rule::NoMount
+            | Rule::NotLive
+            | Rule::FallbackDepth
+            | Rule::NoCommand
+            | Rule::NoDestination
+            | Rule::NoClient => Some(Status::NotFound),
         }
     }
 }

@@ -1,0 +1,66 @@
+//! What a client who gives a command asks for.
+
+use radio_creds::Pair;
+use radio_icy::Title;
+use radio_settings::MountName;
+
+/// What a client sends who gives a command.
+#[derive(Drop)]
+pub struct CommandRequest {
+    /// The number of the client.
+    pub id: u64,
+    /// What his path and its arguments ask for.
+    pub asked: Asked,
+    /// The user and the password that he sends, if he does.
+    pub pair: Option<Pair>,
+}
+
+/// What the path of a command and its arguments ask for.
+#[derive(Drop)]
+pub enum Asked {
+    /// The path names no command.
+    NoCommand,
+    /// An argument of the command is missing, or is not of its form; the command would be opened so.
+    MissingArgument(OpenedBy),
+    /// A command, with its arguments.
+    Command(Command),
+}
+
+/// Whose pair opens a command, beside that of the admin.
+#[derive(Clone, Copy)]
+pub enum OpenedBy {
+    /// Nobody's: the admin's alone.
+    Admin,
+    /// That of the source of the mount that was named; where none was, that of a mount without
+    /// settings of its own.
+    Source(Option<MountName>),
+}
+
+/// A command, with its arguments.
+#[derive(Drop)]
+pub enum Command {
+    /// The listeners of a mount go to another.
+    MoveClients {
+        mount: MountName,
+        destination: MountName,
+    },
+    /// The listener of this number at the mount is finished.
+    KillClient {
+        mount: MountName,
+        listener: u64,
+    },
+    /// The session of the mount ends, and its source is finished.
+    KillSource {
+        mount: MountName,
+    },
+    /// What the source of the mount feeds has this title from now on.
+    SetTitle {
+        mount: MountName,
+        title: Title,
+    },
+    /// The listeners of the mount fall back to that one from now on; to none where it is `None`.
+    SetFallback {
+        mount: MountName,
+        fallback: Option<MountName>,
+    },
+}
