@@ -44,6 +44,7 @@ impl State {
                 self.seat_listener(id, seat)?;
                 Ok(NOBODY)
             }
+            Change::Obey { id, command } => self.obey(id, command),
             change => Ok(self.commit_in_place(change)),
         }
     }

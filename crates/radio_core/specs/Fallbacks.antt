@@ -1,0 +1,32 @@
+-- The fallbacks that commands have set.
+use Rattle.std.specs.Prelude.{ℕ, Bool, List, Option, find, is_some, if◌then◌else◌}
+use Rattle.std.specs.declared.cmp.Ordering.{Ordering}
+use Rattle.std.specs.Cmp.Lexicographic.{slice_cmp}
+use Rattle.std.specs.Ordering.{nat_cmp}
+use Rattle.std.specs.Str.{bytes_eq}
+use Rattle.radio_tables.specs.Lists.{update_first, placed}
+
+-- the listeners of a mount fall back to another one, or to none, whatever the settings say
+pub record Fallback : Type 0 where
+  pub mount : List ℕ
+  pub fallback : Option (List ℕ)
+
+abbrev pub is_set_for : List ℕ → Fallback → Bool
+is_set_for mount set = bytes_eq set.mount mount
+
+-- what was set for the mount last, if anything was
+abbrev pub set_for : List Fallback → List ℕ → Option Fallback
+set_for fallbacks mount = find (is_set_for mount) fallbacks
+
+-- they stand in the order of their mounts' bytes
+abbrev pub by_name : Fallback → Fallback → Ordering
+by_name a b = slice_cmp nat_cmp a.mount b.mount
+
+abbrev pub falls_to : Option (List ℕ) → Fallback → Fallback
+falls_to fallback set = record set { fallback = fallback }
+
+-- it is set for the mount from now on
+abbrev pub with_fallback : List Fallback → List ℕ → Option (List ℕ) → List Fallback
+with_fallback fallbacks mount fallback =
+    if is_some (set_for fallbacks mount) then update_first (is_set_for mount) (falls_to fallback) fallbacks
+    else placed by_name (record { mount = mount; fallback = fallback }) fallbacks
