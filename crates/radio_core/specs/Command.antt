@@ -6,9 +6,6 @@ use Rattle.radio_events.specs.declared.command.Asked.TheVariants.{Command as Ask
 use Rattle.radio_events.specs.declared.command.Command.{Command as TheCommand}
 use Rattle.radio_events.specs.declared.command.Command.TheVariants.{MoveClients}
 use Rattle.radio_events.specs.declared.command.CommandRequest.{CommandRequest}
-use Rattle.radio_events.specs.declared.event.Event.{Event}
-use Rattle.radio_events.specs.declared.event.Event.TheVariants.{Command}
-use Rattle.radio_events.specs.declared.reply.Reply.{Reply}
 use Rattle.radio_events.specs.declared.reply.Reply.TheVariants.{Text as SaysText, Stray}
 use Rattle.radio_events.specs.declared.text.Text.{Text}
 use Rattle.radio_events.specs.declared.text.Text.TheVariants.{Done, Moved}

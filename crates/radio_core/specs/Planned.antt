@@ -1,6 +1,5 @@
 -- What is worked out of an event before its change is made: a reply that tells how many were moved is completed then.
 use Rattle.std.specs.Prelude.{ℕ}
-use Rattle.radio_fallback.specs.declared.moves.Carried.{Carried}
 use Rattle.radio_events.specs.declared.event.Event.{Event}
 use Rattle.radio_events.specs.declared.event.Event.TheVariants.{Command}
 use Rattle.radio_events.specs.declared.reply.Reply.{Reply}

@@ -22,9 +22,7 @@ impl State {
     {
         match asked {
             Asked::NoCommand => None,
-            Asked::MissingArgument(by) => {
-                Some(self.facts_for(by, CommandNeeds::Argument, pair))
-            }
+            Asked::MissingArgument(by) => { Some(self.facts_for(by, CommandNeeds::Argument, pair)) }
             Asked::Command(command) => {
                 Some(self.facts_for(&opened_by(command), self.needs_of(command), pair))
             }
@@ -72,9 +70,9 @@ impl House {
 
     fn destination_facts(&self, mount: &MountName, destination: &MountName) -> DestinationFacts
         ensures { CommandNeeds.Destination result ≡ CommandNeeds.Destination (record {
-            mount_is_live = is_live self.now mount.now;
-            destination_is_live = is_live self.now destination.now;
-            is_same_mount = bytes_eq mount.now destination.now;
+          mount_is_live = is_live self.now mount.now;
+          destination_is_live = is_live self.now destination.now;
+          is_same_mount = bytes_eq mount.now destination.now;
         }) }
     {
         DestinationFacts {

@@ -13,11 +13,10 @@ use crate::outcome::Outcome;
 use radio_access::Lists;
 use radio_events::{Event, Reply};
 use radio_settings::Settings;
+pub(crate) use state::State;
 use std::alloc::Global;
 use std::marker::Model;
 use timed_state::TimedState;
-
-pub(crate) use state::State;
 
 mod arrive;
 mod clock;

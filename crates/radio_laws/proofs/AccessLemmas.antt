@@ -21,7 +21,7 @@ use Rattle.radio_core.specs.Sound.{AreRising, IsSound}
 use Rattle.radio_core.specs.Step.{outcome, reply_to, world_after}
 use Rattle.radio_core.specs.Stream.{WholeStream, end_of, burst_start}
 use Rattle.radio_core.specs.Ways.{Way, Misplaced, IsFinished, IsDenied, IsRefused, IsAdmitted, Begins, Receives, SetsTitle, TakesSeat, HandsOut, Ends}
-use Rattle.radio_core.specs.Ways.{EndsAndLeaves, Leaves, HasPassed, Ticks}
+use Rattle.radio_core.specs.Ways.{EndsAndLeaves, Leaves, Obeys, HasPassed, Ticks}
 use Rattle.radio_seats.proofs.SeatLaws.{has_sat_down}
 use Rattle.std.proofs.lemmas.Bool.{and_parts}
 use Rattle.radio_access.specs.Lists.{lets_in}

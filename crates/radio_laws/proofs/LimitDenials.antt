@@ -35,7 +35,7 @@ use Rattle.radio_laws.specs.LimitDenials.{HasUserAt, ByAMount, DeniesByLimits}
 use Rattle.radio_laws.specs.Walks.{ComesBy, AtFirst}
 use Rattle.radio_core.specs.Step.{outcome, reply_to}
 use Rattle.radio_core.specs.Ways.{Way, Misplaced, IsFinished, IsDenied, IsRefused, IsAdmitted, Begins, Receives, SetsTitle, TakesSeat, HandsOut, Ends}
-use Rattle.radio_core.specs.Ways.{EndsAndLeaves, Leaves, HasPassed, Ticks, rows_for, rows_from}
+use Rattle.radio_core.specs.Ways.{EndsAndLeaves, Leaves, Obeys, HasPassed, Ticks, rows_for, rows_from}
 use Rattle.radio_core.specs.World.{World, standing_of}
 use Rattle.radio_core.proofs.Ways.{way_of, found_by, may_feed, has_room_left}
 use Rattle.radio_laws.proofs.WalkLemmas.{full_at, both, WalkEnds, LandsThere, StopsThere, GoesTooFar, walk_ends}

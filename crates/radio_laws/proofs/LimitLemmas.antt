@@ -36,7 +36,7 @@ use Rattle.radio_core.specs.Sessions.{Session, session_of}
 use Rattle.radio_core.specs.Sound.{IsSound}
 use Rattle.radio_core.specs.Step.{outcome, world_after}
 use Rattle.radio_core.specs.Ways.{Way, Misplaced, IsFinished, IsDenied, IsRefused, IsAdmitted, Begins, Receives, SetsTitle, TakesSeat, HandsOut, Ends}
-use Rattle.radio_core.specs.Ways.{EndsAndLeaves, Leaves, HasPassed, Ticks}
+use Rattle.radio_core.specs.Ways.{EndsAndLeaves, Leaves, Obeys, HasPassed, Ticks}
 use Rattle.radio_core.specs.World.{World, opening, standing_of}
 use Rattle.radio_core.proofs.CarriedFates.{order_carried}
 use Rattle.radio_core.proofs.SoundRuns.{sound_after, sound_opening}

@@ -30,7 +30,7 @@ use Rattle.radio_core.specs.Step.{outcome, world_after}
 use Rattle.radio_core.specs.Stream.{data_at, end_of}
 use Rattle.radio_laws.specs.Stretches.{between, Sitting, sitting_in, begun_sittings, sittings, AreStretches, StretchesAreWhole}
 use Rattle.radio_core.specs.Ways.{Way, Misplaced, IsFinished, IsDenied, IsRefused, IsAdmitted, Begins, Receives, SetsTitle, TakesSeat, HandsOut, Ends}
-use Rattle.radio_core.specs.Ways.{EndsAndLeaves, Leaves, HasPassed, Ticks}
+use Rattle.radio_core.specs.Ways.{EndsAndLeaves, Leaves, Obeys, HasPassed, Ticks}
 use Rattle.radio_core.proofs.FinishLemmas.{undecided_before}
 use Rattle.radio_core.proofs.OwnLemmas.{not_of, nothing_of}
 use Rattle.radio_laws.proofs.GoneLemmas.{his_own, with_nothing, last_rises}

@@ -42,8 +42,8 @@ impl State {
 fn allowed(asked: CommandRequest) -> Outcome
     ensures { (w : World) → result ≡ uncounted (does_asked w asked.id asked.asked) }
 {
-    let id = asked.id;
-    match asked.asked {
+    let CommandRequest { id, asked, .. } = asked;
+    match asked {
         Asked::Command(command) => Outcome {
             reply: Reply::Text(said_of(&command)),
             change: Change::Obey { id, command },

@@ -43,7 +43,11 @@ impl State {
     {
         match command {
             Command::MoveClients { mount, destination } => {
-                carry(&self.house, &mut self.seats, &Move::To { mount, destination })
+                carry(
+                    &self.house,
+                    &mut self.seats,
+                    &Move::To { mount, destination },
+                )
             }
             Command::KillClient { listener, .. } => {
                 self.seats.end(listener, Rule::Killed);
@@ -54,7 +58,7 @@ impl State {
                 NOBODY
             }
             Command::SetTitle { mount, title } => {
-                self.house.set_title(&mount, title);
+                self.set_title(&mount, title);
                 NOBODY
             }
             Command::SetFallback { .. } => NOBODY,
