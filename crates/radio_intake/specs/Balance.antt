@@ -3,6 +3,7 @@ use Rattle.std.specs.Prelude.{◌≡◌, ℕ, ◌+◌, ◌-◌, ◌<◌, List, [
 use mathlib.Core.Option.{some}
 use lib.ListN.{get_elem?}
 use Rattle.radio_intake.specs.declared.rule.Hand.{Hand}
+use Rattle.radio_intake.specs.declared.intake.TheConstants.{ROOM}
 use Rattle.radio_intake.specs.Passes.{AddsUp, all_parts, weigh}
 
 module _ {L : Type 0} where
@@ -24,7 +25,7 @@ module _ {L : Type 0} where
 
   -- a line was put; if he has all parts, there was room
   abbrev pub IsPut : Hand L → L → Hand L → Type 0
-  IsPut hand line hand' = (hand' ≡ record hand { put = hand.put ++ line ∷ [] }) × (left : List L) × (length left < 1024) × IsKnown hand left
+  IsPut hand line hand' = (hand' ≡ record hand { put = hand.put ++ line ∷ [] }) × (left : List L) × (length left < ROOM) × IsKnown hand left
 
   -- a line was taken
   abbrev pub IsTaken : Hand L → L → Hand L → Type 0
@@ -39,9 +40,21 @@ abbrev pub total : {A : Type 0} → (A → ℕ) → List A → ℕ
 total f [] = 0
 total f (x ∷ xs) = f x + total f xs
 
--- all parts are there, and what was put by all is what was taken by all and what is left
-abbrev pub IsBalanced : {L : Type 0} → List L → List (Hand L) → Type 0
-IsBalanced {L} left hands =
-    (total (λ h. h.parts) hands ≡ all_parts)
-    × ((weight : L → ℕ) → total (λ h. weigh weight h.put) hands ≡ total (λ h. weigh weight h.taken) hands + weigh weight left)
-    × IdleIsEmpty hands
+module _ {L : Type 0} where
+  abbrev pub parts_of : Hand L → ℕ
+  parts_of hand = hand.parts
+
+  -- what one has put weighs so much
+  abbrev pub put_by : (L → ℕ) → Hand L → ℕ
+  put_by weight hand = weigh weight hand.put
+
+  -- what one has taken weighs so much
+  abbrev pub taken_by : (L → ℕ) → Hand L → ℕ
+  taken_by weight hand = weigh weight hand.taken
+
+  -- all parts are there, and what was put by all is what was taken by all and what is left
+  abbrev pub IsBalanced : List L → List (Hand L) → Type 0
+  IsBalanced left hands =
+      (total parts_of hands ≡ all_parts)
+      × ((weight : L → ℕ) → total (put_by weight) hands ≡ total (taken_by weight) hands + weigh weight left)
+      × IdleIsEmpty hands

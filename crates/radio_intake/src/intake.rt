@@ -1,6 +1,7 @@
 //! The queue itself.
 
 ghost use Rattle.std.specs.Prelude.{◌≡◌, ◌+◌, ◌-◌, ◌<◌, List, [], ◌∷◌, ◌++◌, length, IfOk, IfErr, OnErr, OnOk, IfSome, IfNone, MatchResult};
+ghost use Rattle.radio_intake.specs.declared.intake.TheConstants.{ROOM};
 ghost use Rattle.radio_intake.specs.Passes.{AddsUp, all_parts, joined, unused};
 
 use crate::OutOfMemory;
@@ -24,19 +25,20 @@ pub struct Intake<L> {
 impl<L> Model for Intake<L> {
     ghost use Rattle.std.specs.Prelude.{◌≡◌};
     ghost use Rattle.crossbeam_queue.specs.Passes.{ruled_capacity};
+    ghost use Rattle.radio_intake.specs.declared.intake.TheConstants.{ROOM};
     ghost use Rattle.radio_intake.specs.Passes.{IntakeId};
 
     ghost Value = { IntakeId };
 
     ghost view = { λ i. i.queue.table.shared.table_id };
 
-    ghost invariant = { λ i. ruled_capacity i.queue ≡ 1024 };
+    ghost invariant = { λ i. ruled_capacity i.queue ≡ ROOM };
 }
 
 impl<L> Intake<L> {
     /// An empty intake, and the pass that has all its parts. `OutOfMemory` where memory was refused.
     pub fn new(alloc: Global) -> Result<(Intake<L>, IntakePass<L>), OutOfMemory>
-        ensures { IfOk result (λ made. made.1 ≡ unused made.0 all_parts) }
+        ensures whole { IfOk result (λ made. made.1 ≡ unused made.0 all_parts) }
     {
         let (queue, hand) = RuledArrayQueue::ruled(alloc, ROOM)?;
         Ok((Intake { queue }, IntakePass { hand }))
@@ -56,7 +58,7 @@ impl<L> Intake<L> {
     /// Takes another pass back: its parts, and what was put and taken through it.
     pub fn join(&self, pass: &mut IntakePass<L>, other: IntakePass<L>)
         requires own { (pass.old.intake ≡ self.now) × (other.intake ≡ self.now) }
-        ensures { pass.new ≡ joined pass.old other }
+        ensures both { pass.new ≡ joined pass.old other }
     {
         let IntakePass { hand } = other;
         self.queue.absorb::<Together>(&mut pass.hand, hand);
@@ -69,8 +71,8 @@ impl<L> Intake<L> {
         ensures ok { OnOk result (pass.new ≡ record pass.old { put = pass.old.put ++ line ∷ [] }) }
         ensures back { IfErr result (λ handed. handed ≡ line) }
         ensures err { OnErr result (pass.new ≡ pass.old) }
-        // who has all parts is handed it back exactly where 1024 are left
-        ensures room { pass.old.parts ≡ all_parts → MatchResult result (λ _. length pass.old.put < length pass.old.taken + 1024) (λ _. length pass.old.put ≡ length pass.old.taken + 1024) }
+        // who has all parts is handed it back exactly where [`ROOM`] are left
+        ensures room { pass.old.parts ≡ all_parts → MatchResult result (λ _. length pass.old.put < length pass.old.taken + ROOM) (λ _. length pass.old.put ≡ length pass.old.taken + ROOM) }
     {
         self.queue.push_as::<Puts, R>(rt, &mut pass.hand, line)
     }
