@@ -101,20 +101,6 @@ pub trait GuestMoment {
         ensures { result ≡ gives self.now guest.now };
 }
 
-/// A test that holds of everybody.
-#[derive(Drop)]
-pub(crate) struct Anybody;
-
-impl SeatTest for Anybody {
-    ghost use Rattle.std.specs.Prelude.{true};
-
-    ghost passes = { λ test place guest. true };
-
-    fn passes(&self, _place: Place, _guest: &Guest) -> bool {
-        true
-    }
-}
-
 /// A listener who sits at the mount of this number, and of whom the test holds, loses his seat by
 /// the rule.
 #[derive(Drop)]

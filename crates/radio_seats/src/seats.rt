@@ -7,14 +7,14 @@ ghost use Rattle.std.specs.List.Sorted.{IsStrictlySortedBy};
 ghost use Rattle.std.specs.Ordering.{nat_cmp};
 ghost use Rattle.radio_seats.specs.declared.row.ListenerRow.{ListenerRow as RowOf};
 ghost use Rattle.std.specs.Str.{bytes_eq};
-ghost use Rattle.radio_seats.specs.Seats.{listener_of, seat_of, with_seat, with_place, with_move, with_end, finished_at, with_ended, without_listener};
+ghost use Rattle.radio_seats.specs.Seats.{listener_of, seat_of, with_seat, with_place, with_move, with_end, with_ended, without_listener};
 ghost use Rattle.radio_seats.specs.Seats.{count_at, sits_there, AreByNumber};
 ghost use Rattle.radio_seats.specs.Board.{is_prepared};
 ghost use Rattle.radio_seats.specs.Guests.{passes_in, passes_at, first_moment};
 ghost use Rattle.radio_seats.specs.Lent.{lent_seat, standing_in};
 ghost use Rattle.radio_seats.specs.Rows.{is_row, number_in, holds_in, holds_at, user_state, state_moment, seated_row};
 
-use crate::changes::{Advances, Anybody, Ends, FinishesAt, Moves};
+use crate::changes::{Advances, Ends, FinishesAt, Moves};
 use crate::mounts::Mounts;
 use crate::row::{ListenerRow, NumberedSeat, RowState};
 use crate::{Guest, GuestMoment, LentSeat, ListenerStanding, OutOfMemory, Seat, SeatTest};
@@ -181,13 +181,6 @@ impl Seats {
         let from = number_of(&self.rows, id);
         drop(self.rows.remove(&id));
         self.mounts.leave(from);
-    }
-
-    /// All who sit at the mount lose their seats by the rule. It takes no memory.
-    pub fn finish_at(&mut self, mount: &MountName, rule: Rule)
-        ensures { self.new ≡ record self.old { seats = finished_at self.old.seats mount.now rule } }
-    {
-        self.finish_at_if(mount, &Anybody, rule);
     }
 
     /// All who sit at the mount, and of whom the test holds, lose their seats by the rule. It takes
