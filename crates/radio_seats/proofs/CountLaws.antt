@@ -7,7 +7,6 @@ use Rattle.std.specs.Ordering.{match_ordering}
 use Rattle.std.specs.declared.cmp.Ordering.{Ordering}
 use Rattle.std.specs.declared.cmp.Ordering.TheVariants.{Less, Equal, Greater}
 use Rattle.std.proofs.lemmas.Slice.Eq.{bytes_eq-Decides}
-use Rattle.radio_policy.specs.declared.rule.Rule.{Rule}
 use Rattle.radio_tables.specs.Lists.{update_first, placed}
 use Rattle.radio_tables.proofs.FindLaws.{find_here, find_later}
 use Rattle.radio_tables.proofs.KeyLaws.{by_number}

@@ -18,13 +18,11 @@ use Rattle.radio_seats.specs.declared.row.RowState.TheVariants.{Seated, Ended}
 use Rattle.radio_seats.specs.declared.seat.Guest.{Guest}
 use Rattle.radio_seats.specs.declared.seat.Listener.{Listener}
 use Rattle.radio_seats.specs.declared.seat.Seat.{Seat}
-use Rattle.radio_seats.specs.declared.seat.Seating.{Seating}
-use Rattle.radio_seats.specs.declared.seat.Seating.TheVariants.{Sits, Finished}
 use Rattle.radio_seats.specs.Guests.{passes_in, passes_at, moment_in}
 use Rattle.radio_seats.specs.Mounts.{sitting_in, one_at}
 use Rattle.radio_seats.specs.Rests.{how_many}
 use Rattle.radio_seats.specs.Rows.{is_row, named, named_state, state_at, sits_by, number_of, number_in, holds_in, holds_at, ended_where, state_moment, seated_row, shifted, with_state, AreCounted}
-use Rattle.radio_seats.specs.Seats.{holds_of, with_ended}
+use Rattle.radio_seats.specs.Seats.{holds_of}
 use Rattle.radio_seats.proofs.Lists.{passing, one, found_counts, passing_mapped, passing_same, passing_placed}
 use Rattle.radio_seats.proofs.Lists.{none_passes, map_counted}
 use Rattle.radio_seats.proofs.RowLemmas.{same_number, held_number, counted_there, follows_him}

@@ -1,13 +1,9 @@
 -- which listener is found, and who has a seat, after each change of the table
 use Rattle.std.proofs.Common.{◌≡◌, true, false, ℕ, ◌==◌, Option, Some, None, List, refl, ap, sym, ◌∙◌}
-use Rattle.std.specs.Prelude.{if◌then◌else◌}
-use Rattle.std.specs.Option.{option_map}
 use Rattle.std.specs.Ordering.{nat_cmp}
-use Rattle.std.specs.Str.{bytes_eq}
 use Rattle.std.proofs.lemmas.Bool.{eqb-true}
 use Rattle.std.proofs.lemmas.Cmp.{nat_cmp_total}
-use Rattle.radio_policy.specs.declared.rule.Rule.{Rule}
-use Rattle.radio_tables.proofs.FindLaws.{find_same, find_apart, find_removed, find_others, find_mapped}
+use Rattle.radio_tables.proofs.FindLaws.{find_same, find_apart, find_removed, find_others}
 use Rattle.radio_tables.proofs.KeyLaws.{number_is, find_placed}
 use Rattle.radio_seats.specs.declared.seat.Listener.{Listener}
 use Rattle.radio_seats.specs.declared.seat.Seat.{Seat}
