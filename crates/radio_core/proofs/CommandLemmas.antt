@@ -36,3 +36,15 @@ obeyed_keeps w id (KillClient mount listener) = (refl, refl)
 obeyed_keeps w id (KillSource mount) = killed_keeps (answered w id) (session_of w.house.live mount)
 obeyed_keeps w id (SetTitle mount text) = (refl, refl)
 obeyed_keeps w id (SetFallback mount fallback) = (refl, refl)
+
+-- or gives a number
+killed_last : (w : World) (found : Option Session) → (session_killed w found).house.last_id ≡ w.house.last_id
+killed_last w None = refl
+killed_last w (Some session) = refl
+
+pub obeyed_last : (w : World) (id : ℕ) (command : Command) → (changed w (Obey id command)).house.last_id ≡ w.house.last_id
+obeyed_last w id (MoveClients mount destination) = refl
+obeyed_last w id (KillClient mount listener) = refl
+obeyed_last w id (KillSource mount) = killed_last (answered w id) (session_of w.house.live mount)
+obeyed_last w id (SetTitle mount text) = refl
+obeyed_last w id (SetFallback mount fallback) = refl

@@ -121,7 +121,7 @@ fewer_left : (w : World) (him : ℕ) → HasFewer w (changed w (Forget him))
 fewer_left w him = record { settings = refl; seats = λ id seat e. inl (seat_before w him id seat e); sessions = λ mount session e. e }
 
 -- whoever has a seat after one has lost his had it before
-seat_unless_lost : (w : World) (him : ℕ) (rule : Rule) (id : ℕ) (seat : Seat) → seat_of (with_end w.seats him rule) id ≡ Some seat → seat_of w.seats id ≡ Some seat
+pub seat_unless_lost : (w : World) (him : ℕ) (rule : Rule) (id : ℕ) (seat : Seat) → seat_of (with_end w.seats him rule) id ≡ Some seat → seat_of w.seats id ≡ Some seat
 seat_unless_lost w him rule id seat e =
     by_number him id (λ same. by_found same (listener_of w.seats him) refl)
     (λ apart. sym (ap seat_in (find_apart (is_listener id) (is_listener him) (loses rule) (λ x his. (not_him x apart his, not_him x apart his)) w.seats)) ∙ e) where

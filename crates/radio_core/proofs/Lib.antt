@@ -1,15 +1,15 @@
-mod CommandLemmas
+pub mod CommandLemmas
 mod CoreReplyLemmas
 mod DueLemmas
 mod KeptLists
 mod KeptOutcomes
 mod KeptQueues
 mod KeptRuns
-mod KeptSeats
+pub mod KeptSeats
 mod KeptSights
 mod KeptSteps
 mod KeptStreams
-mod Obeyed
+pub mod Obeyed
 mod PlannedLemmas
 mod SourceReplyLemmas
 pub mod ApartLemmas

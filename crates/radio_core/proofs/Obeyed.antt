@@ -53,7 +53,7 @@ past_row rule true rows e = cc
 past_row rule false rows e = (refl, e)
 
 -- what a command needs is there
-may_act : (live : Bool) → verdict_in (row NoMount (not live) ∷ []) ≡ Allow → live ≡ true
+pub may_act : (live : Bool) → verdict_in (row NoMount (not live) ∷ []) ≡ Allow → live ≡ true
 may_act true e = refl
 may_act false e = cc
 
@@ -94,7 +94,7 @@ module _ (w : World) (s : IsSound w) (event : Event) where
     sound_heard = sound_answered w s c.asked.id c.peer c.undecided
 
     -- what it needs is there
-    needs_hold : verdict_in (needs_rows (needs_of w command)) ≡ Allow
+    pub needs_hold : verdict_in (needs_rows (needs_of w command)) ≡ Allow
     needs_hold =
         (past_row (password_rule (opener_in (opened_by command))) (not (opens w.house.settings (opened_by command) c.asked.pair)) (needs_rows (needs_of w command))
         (ap (λ (a : Asked). verdict_in (command_rows (facts_asked w a c.asked.pair))) (sym c.is_asked) ∙ c.allowed)).1

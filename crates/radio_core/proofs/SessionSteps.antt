@@ -149,7 +149,7 @@ module _ (w : World) (s : IsSound w) (mount : List ℕ) where
   title_live event named text c None none = let there = command_finds w s event named text c in let found : session_of w.house.live named ≡ Some there.0 = there.1 in cc
   title_live event named text c (Some session) found = is_retitled event named text c session found
 
-  obeys : (event : Event) (command : Command) (c : IsCommanded w event command)
+  pub obeys : (event : Event) (command : Command) (c : IsCommanded w event command)
       → SessionStep w event mount mine (session_of (changed w (Obey c.asked.id command)).house.live mount)
   obeys event (MoveClients named destination) c = Stays mine
   obeys event (KillClient named listener) c = Stays mine

@@ -73,6 +73,7 @@ module _ (w : World) (s : IsSound w) (k : KeepsLists w) (l : Within w) where
   his_by event o (Begins asked undecided none allowed) bytes title d = cc
   his_by event o (Receives id mount block feeding) bytes title d = cc
   his_by event o (SetsTitle id mount text feeding) bytes title d = cc
+  his_by event o (Obeys _ command c) bytes title d = cc
   his_by event o (HasPassed ms e) bytes title d = cc
   his_by event o (Ticks ms e) bytes title d = cc
   his_by event o (TakesSeat asked peer session undecided lands live allowed) bytes title d = cc
@@ -230,6 +231,7 @@ module _ (w : World) (s : IsSound w) where
   seated_by event o (Begins asked undecided none allowed) interval shown d after = cc
   seated_by event o (Receives id mount block feeding) interval shown d after = cc
   seated_by event o (SetsTitle id mount text feeding) interval shown d after = cc
+  seated_by event o (Obeys _ command c) interval shown d after = cc
   seated_by event o (HasPassed ms e) interval shown d after = cc
   seated_by event o (Ticks ms e) interval shown d after = cc
   seated_by event o (HandsOut id room seat session sits has live) interval shown d after = cc

@@ -225,6 +225,7 @@ nothing_by w event o (HandsOut him room seat session sits has live) = (λ d. cc,
 nothing_by w event o (Ends him mount feeding) = (λ d. cc, λ rule d. cc)
 nothing_by w event o (EndsAndLeaves him mount feeding) = (λ d. cc, λ rule d. cc)
 nothing_by w event o (Leaves him other) = (λ d. cc, λ rule d. cc)
+nothing_by w event o (Obeys _ command c) = (λ d. cc, λ rule d. cc)
 nothing_by w event o (HasPassed ms e) = (λ d. refl, λ rule d. refl)
 nothing_by w event o (Ticks ms e) = (λ d. cc, λ rule d. cc)
 

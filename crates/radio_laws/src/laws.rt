@@ -110,8 +110,9 @@ pub fn listeners_walk_on()
 
 /// The law of titles.
 pub fn listeners_are_told_titles()
-    // over every run, whoever is handed data is told the last title that the source has set in
-    // whose session he sits, by a title that was noted, or none where it has set none
+    // over every run, whoever is handed data is told the last title that was set for the source in
+    // whose session he sits, by the source or by a command that names its mount, or none where none
+    // was set
     ensures told { (settings : Settings) (lists : Lists) (events : List Event) (event : Event) → TitlesAreTold settings lists events event }
 {}
 
