@@ -113,7 +113,8 @@ any_alike : {X : Type 0} (p q : X → Bool) → ((x : X) → p x ≡ q x) → (x
 any_alike p q same [] = refl
 any_alike p q same (x ∷ xs) = let here = same x in let later = any_alike p q same xs in cc
 
-any_of_mark : (p : ℕ × ℕ → Bool) (mark : ℕ) (seats : BTreeSet (ℕ × ℕ)) → list_any p (of_mark mark seats) ≡ list_any (λ seat. (seat.0 == mark) && p seat) seats.keys
+any_of_mark : (p : ℕ × ℕ → Bool) (mark : ℕ) (seats : BTreeSet (ℕ × ℕ))
+    → list_any p (of_mark mark seats) ≡ list_any (λ seat. (seat.0 == mark) && p seat) seats.keys
 any_of_mark p mark seats =
     any_filtered p (range_contains by_mark (Included (mark, 0)) (Excluded (mark + 1, 0))) seats.keys
     ∙ any_alike (λ seat. range_contains by_mark (Included (mark, 0)) (Excluded (mark + 1, 0)) seat && p seat) (λ seat. (seat.0 == mark) && p seat)
@@ -122,7 +123,8 @@ any_of_mark p mark seats =
 -- a row that is changed so that its listener's user stays
 module _ (f : ListenerRow → ListenerRow) (same_id : (row : ListenerRow) → (f row).id ≡ row.id) (same : (row : ListenerRow) → IsSameUser row (f row)) where
   module _ (k : ℕ) where
-    head_by : (row : ListenerRow) (found : Option ListenerRow) (c : Bool) → mark_in (if c then Some (f row) else found) ≡ mark_in (if c then Some row else found)
+    head_by : (row : ListenerRow) (found : Option ListenerRow) (c : Bool)
+        → mark_in (if c then Some (f row) else found) ≡ mark_in (if c then Some row else found)
     head_by row found true = (same row).mark
     head_by row found false = refl
 
@@ -162,7 +164,8 @@ module _ (f : ListenerRow → ListenerRow) (same_id : (row : ListenerRow) → (f
       kept = λ mark k. are.kept mark k ∙ ap (is_mark mark) (sym (mark_mapped k rows));
     }
 
-module _ (seats : BTreeSet (ℕ × ℕ)) (rows : List ListenerRow) (are : AreKept seats rows) (id : ℕ) (before : Option ℕ) (is : before ≡ mark_in (find (is_row id) rows)) where
+module _ (seats : BTreeSet (ℕ × ℕ)) (rows : List ListenerRow) (are : AreKept seats rows) (id : ℕ) (before : Option ℕ)
+    (is : before ≡ mark_in (find (is_row id) rows)) where
   -- under which mark the listener of this number is kept
   kept_before : (mark k : ℕ) → (id == k) ≡ true → is_kept seats mark k ≡ is_mark mark before
   kept_before mark k e =
@@ -227,7 +230,8 @@ module _ (seats : BTreeSet (ℕ × ℕ)) (rows : List ListenerRow) (are : AreKep
           takes mark k
           ∙ ap (λ b. b && not ((id == k) && is_mark mark before && not (is_mark mark mark'))) (adds mark k)
           ∙ placed_by mark k (id == k) refl
-          ∙ sym (ap (λ found. is_mark mark (mark_in found)) (find_placed nat_cmp nat_cmp_total (λ (x : ListenerRow). x.id) is_row (λ n x. number_is n x.id) k row rows)
+          ∙ sym (ap (λ found. is_mark mark (mark_in found))
+          (find_placed nat_cmp nat_cmp_total (λ (x : ListenerRow). x.id) is_row (λ n x. number_is n x.id) k row rows)
           ∙ ap (λ n. is_mark mark (mark_in (if n == k then Some row else find (is_row k) rows))) his);
     } where
       placed_by : (mark k : ℕ) (c : Bool) → (id == k) ≡ c
@@ -249,7 +253,8 @@ module _ (seats : BTreeSet (ℕ × ℕ)) (rows : List ListenerRow) (are : AreKep
           ∙ refused_by mark k (id == k) refl;
     } where
       refused_by : (mark k : ℕ) (c : Bool) → (id == k) ≡ c
-          → ((is_kept seats mark k || (c && is_mark mark mark')) && not (c && is_mark mark mark' && not (is_mark mark before))) ≡ is_mark mark (mark_in (find (is_row k) rows))
+          → ((is_kept seats mark k || (c && is_mark mark mark')) && not (c && is_mark mark mark' && not (is_mark mark before)))
+          ≡ is_mark mark (mark_in (find (is_row k) rows))
       refused_by mark k true e =
           ap (λ b. (b || is_mark mark mark') && not (is_mark mark mark' && not (is_mark mark before))) (kept_before mark k e)
           ∙ old_here (is_mark mark before) (is_mark mark mark')
@@ -281,7 +286,8 @@ module _ where
   not_less : (a b : ℕ) → nat_cmp a b ≡ Less → (a == b) ≡ false
   not_less a b e = grind (arith, nat_tests)
 
-  all_has : (k : ℕ) (row : ListenerRow) (rows : List ListenerRow) → AllByRecursion (λ m. nat_cmp k m ≡ Less) (map (λ (x : ListenerRow). x.id) rows) → Has row rows
+  all_has : (k : ℕ) (row : ListenerRow) (rows : List ListenerRow)
+      → AllByRecursion (λ m. nat_cmp k m ≡ Less) (map (λ (x : ListenerRow). x.id) rows) → Has row rows
       → nat_cmp k row.id ≡ Less
   all_has k row [] all h = absurd h
   all_has k row (x ∷ rows) all (inl same) = subst (λ (y : ListenerRow). nat_cmp k y.id ≡ Less) (sym same) all.0
@@ -302,7 +308,8 @@ sent_mark : (user : List ℕ) (pair : Option Credentials) → has_user user pair
 sent_mark user None e = cc
 sent_mark user (Some pair) e = ap (λ u. Some (user_mark u)) ((bytes_eq-Decides pair.user user).0 e)
 
-state_mark : (number : ℕ) (user : List ℕ) (mark : Option ℕ) (state : RowState) → IsMarkOf mark state → user_state number user state ≡ true → mark ≡ Some (user_mark user)
+state_mark : (number : ℕ) (user : List ℕ) (mark : Option ℕ) (state : RowState)
+    → IsMarkOf mark state → user_state number user state ≡ true → mark ≡ Some (user_mark user)
 state_mark number user mark (Seated seat) is e = is ∙ sent_mark user seat.guest.pair (and_right (seat.mount == number) (has_user user seat.guest.pair) e)
 state_mark number user mark (Ended rule) is e = cc
 
@@ -330,11 +337,13 @@ module _ (seats : BTreeSet (ℕ × ℕ)) (rows : List ListenerRow) (own : Option
       let marked : IsMarked row.0 = found_has (is_row row.0.id) IsMarked rows row.0 are.marked found in
       let his = state_mark number user row.0.mark row.0.state marked (and_right (not (is_own own row.0.id)) (user_state number user row.0.state) row.2) in
       let kept : is_kept seats (user_mark user) row.0.id ≡ true
-      = are.kept (user_mark user) row.0.id ∙ ap (λ found. is_mark (user_mark user) (mark_in found)) found ∙ ap (is_mark (user_mark user)) his ∙ same_number (user_mark user) in
+      = are.kept (user_mark user) row.0.id ∙ ap (λ found. is_mark (user_mark user) (mark_in found)) found
+      ∙ ap (is_mark (user_mark user)) his ∙ same_number (user_mark user) in
       let seat = some_one (is_at (by_mark (user_mark user, row.0.id))) seats.keys kept in
       let at = at_seat (user_mark user) row.0.id seat.0 seat.2 in
       let marked_so : (seat.0.0 == user_mark user) ≡ true = ap (λ n. n == user_mark user) (sym at.0) ∙ same_number (user_mark user) in
-      let asked : asks seat.0 ≡ true = ap (λ n. is_other_in own number user (find (is_row n) rows)) (sym at.1) ∙ ap (is_other_in own number user) found ∙ row.2 in
+      let asked : asks seat.0 ≡ true = ap (λ n. is_other_in own number user (find (is_row n) rows)) (sym at.1)
+      ∙ ap (is_other_in own number user) found ∙ row.2 in
       any_has (λ s. (s.0 == user_mark user) && asks s) seat.0 seats.keys seat.1
       (rw (marked_so, asked) refl)
 
