@@ -38,32 +38,78 @@ fn take_until_empty<R: Wait>(rt: &R, intake: &Intake<u64>, pass: &mut IntakePass
     MANY
 }
 
+// Which line is handed back, how many are left then, how many come, and how many are left then.
+fn fill_and_empty<R: Wait>(
+    rt: &R,
+    intake: &Intake<u64>,
+    pass: &mut IntakePass<u64>,
+) -> (Option<u64>, usize, u64, usize)
+    requires { (pass.old.intake ≡ intake.now) × (pass.old.parts ≡ all_parts) }
+{
+    let handed = put_until_full(rt, intake, pass);
+    let full = intake.tally(rt, pass);
+    let came = take_until_empty(rt, intake, pass);
+    (handed, full, came, intake.tally(rt, pass))
+}
+
 #[test]
 fn the_1025th_is_handed_back(rt: HostRuntime) -> Result<(), Fail> {
     let (intake, mut pass) = Intake::new(rt.alloc())?;
-    assert_eq!(&rt; put_until_full(&rt, &intake, &mut pass), Some(1024));
-    assert_eq!(&rt; intake.tally(&rt, &mut pass), ROOM);
-    assert_eq!(&rt; take_until_empty(&rt, &intake, &mut pass), 1024);
-    assert_eq!(&rt; intake.tally(&rt, &mut pass), 0);
+    assert!(rt; fill_and_empty(&rt, &intake, &mut pass) == (Some(1024), ROOM, 1024, 0));
     Ok(())
 }
 
-fn number_of(line: Option<Box<u64>>) -> Option<u64> {
-    line.map(|line| *line)
+// Puts a line that owns memory: whether there was memory, and room.
+fn is_put<R: Wait>(
+    rt: &R,
+    alloc: Global,
+    intake: &Intake<Box<u64>>,
+    pass: &mut IntakePass<Box<u64>>,
+    number: u64,
+) -> bool
+    requires { pass.old.intake ≡ intake.now }
+    ensures { (pass.new.intake ≡ intake.now) × (pass.new.parts ≡ pass.old.parts) }
+{
+    let Ok(line) = Box::new(alloc, number) else {
+        return false;
+    };
+    intake.put(rt, pass, line).is_ok()
 }
 
-// Its lines own memory, and the one that is left goes with the intake.
+// Takes such a line: its number.
+fn number_taken<R: Wait>(
+    rt: &R,
+    intake: &Intake<Box<u64>>,
+    pass: &mut IntakePass<Box<u64>>,
+) -> Option<u64>
+    requires { pass.old.intake ≡ intake.now }
+    ensures { (pass.new.intake ≡ intake.now) × (pass.new.parts ≡ pass.old.parts) }
+{
+    intake.take(rt, pass).map(|line| *line)
+}
+
+// Two passes put a line each, and the second takes one: its number, and how many are left.
+fn hand_to_other<R: Wait>(
+    rt: &R,
+    alloc: Global,
+    intake: &Intake<Box<u64>>,
+    pass: &mut IntakePass<Box<u64>>,
+) -> (Option<u64>, usize)
+    requires { (pass.old.intake ≡ intake.now) × (pass.old.parts ≡ all_parts) }
+{
+    let mut other = intake.split(pass);
+    is_put(rt, alloc, intake, pass, 7);
+    is_put(rt, alloc, intake, &mut other, 8);
+    let taken = number_taken(rt, intake, &mut other);
+    intake.join(pass, other);
+    (taken, intake.tally(rt, pass))
+}
+
+// The line that is left goes with the intake.
 #[test]
 fn what_two_passes_tell(rt: HostRuntime) -> Result<(), Fail> {
-    let (seven, eight) = (Box::new(rt.alloc(), 7)?, Box::new(rt.alloc(), 8)?);
     let (intake, mut pass) = Intake::new(rt.alloc())?;
-    let mut other = intake.split(&mut pass);
-    assert!(&rt; intake.take(&rt, &mut other).is_none());
-    assert!(&rt; intake.put(&rt, &mut pass, seven).is_ok());
-    assert!(&rt; intake.put(&rt, &mut other, eight).is_ok());
-    assert_eq!(&rt; number_of(intake.take(&rt, &mut other)), Some(7));
-    intake.join(&mut pass, other);
-    assert_eq!(&rt; intake.tally(&rt, &mut pass), 1);
+    assert!(rt; hand_to_other(&rt, rt.alloc(), &intake, &mut pass) == (Some(7), 1));
     Ok(())
 }
 
