@@ -52,6 +52,10 @@ past_row : (rule : Rule) (holds : Bool) (rows : List Row) → verdict_in (row ru
 past_row rule true rows e = cc
 past_row rule false rows e = (refl, e)
 
+is_so : (b : Bool) → not b ≡ false → b ≡ true
+is_so true e = refl
+is_so false e = cc
+
 -- what a command needs is there
 pub may_act : (live : Bool) → verdict_in (row NoMount (not live) ∷ []) ≡ Allow → live ≡ true
 may_act true e = refl
@@ -93,6 +97,13 @@ module _ (w : World) (s : IsSound w) (event : Event) where
     sound_heard : IsSound heard
     sound_heard = sound_answered w s c.asked.id c.peer c.undecided
 
+    -- the pair that was sent opens the command
+    pub is_opened : opens w.house.settings (opened_by command) c.asked.pair ≡ true
+    is_opened =
+        is_so (opens w.house.settings (opened_by command) c.asked.pair)
+        (past_row (password_rule (opener_in (opened_by command))) (not (opens w.house.settings (opened_by command) c.asked.pair)) (needs_rows (needs_of w command))
+        (ap (λ (a : Asked). verdict_in (command_rows (facts_asked w a c.asked.pair))) (sym c.is_asked) ∙ c.allowed)).0
+
     -- what it needs is there
     pub needs_hold : verdict_in (needs_rows (needs_of w command)) ≡ Allow
     needs_hold =
@@ -104,7 +115,7 @@ module _ (w : World) (s : IsSound w) (event : Event) where
     abbrev moved_world : World
     moved_world = changed w (Obey c.asked.id (MoveClients mount destination))
 
-    is_another : bytes_eq mount destination ≡ false
+    pub is_another : bytes_eq mount destination ≡ false
     is_another = may_move (is_live w.house mount) (is_live w.house destination) (bytes_eq mount destination) (needs_hold c)
 
     sent : (seat : Seat) (to : List ℕ) → seat.mount ≡ mount → destination ≡ to → IsCommanded w event (MoveClients seat.mount to)
@@ -157,7 +168,7 @@ module _ (w : World) (s : IsSound w) (event : Event) where
     sits_by None e = cc
     sits_by (Some seat) e = (seat, refl, (bytes_eq-Decides seat.mount mount).0 e)
 
-    his_seat : (seat : Seat) × (seat_of w.seats listener ≡ Some seat) × (seat.mount ≡ mount)
+    pub his_seat : (seat : Seat) × (seat_of w.seats listener ≡ Some seat) × (seat.mount ≡ mount)
     his_seat = sits_by (seat_of w.seats listener) (may_kill (is_live w.house mount) (sits_at w.seats mount listener) (needs_hold c))
 
     abbrev KilledFate : ℕ → Type 0
@@ -171,20 +182,32 @@ module _ (w : World) (s : IsSound w) (event : Event) where
     his_row None e = cc
     his_row (Some row) e = (row, refl, loses_it row.seating his_seat.0 e)
 
+    held : (row : Listener) × (listener_of w.seats listener ≡ Some row) × (lost_by Killed row.seating ≡ HasLostIt Killed)
+    held = his_row (listener_of w.seats listener) his_seat.1
+
+    then_so : listener_of killed_world.seats listener ≡ Some (record { id = held.0.id; seating = HasLostIt Killed })
+    then_so =
+        find_same (is_listener listener) (loses Killed) (λ x. refl) w.seats held.0 held.1
+        ∙ ap (λ (seating : Seating). Some (record { id = held.0.id; seating = seating })) held.2
+
+    sat : standing_of (heard c) listener ≡ Sits
+    sat = (sound_heard c).sitting listener his_seat.0 his_seat.1
+
+    pub has_been_killed : standing_of killed_world listener ≡ Finished Killed
+    has_been_killed =
+        ap (λ l. standing_in l (client_of (heard c).house.clients listener)) then_so
+        ∙ lost_in (listener_of w.seats listener) held.0.id Killed (client_of (heard c).house.clients listener) sat
+
+    pub sits_no_more : seat_of killed_world.seats listener ≡ None
+    sits_no_more = ap seat_in then_so
+
     his_end : KilledFate listener
     his_end =
-        let held = his_row (listener_of w.seats listener) his_seat.1 in
-        let then_so : listener_of killed_world.seats listener ≡ Some (record { id = held.0.id; seating = HasLostIt Killed }) =
-        find_same (is_listener listener) (loses Killed) (λ x. refl) w.seats held.0 held.1
-        ∙ ap (λ (seating : Seating). Some (record { id = held.0.id; seating = seating })) held.2 in
-        let sat : standing_of (heard c) listener ≡ Sits = (sound_heard c).sitting listener his_seat.0 his_seat.1 in
         IsEnded Killed (IsKilled his_seat.0 his_seat.1 (subst (λ (m : List ℕ). IsCommanded w event (KillClient m listener)) (sym his_seat.2) c))
-        (active_sitter (standing_of (heard c) listener) sat)
-        (ap (λ l. standing_in l (client_of (heard c).house.clients listener)) then_so
-        ∙ lost_in (listener_of w.seats listener) held.0.id Killed (client_of (heard c).house.clients listener) sat)
-        (ap seat_in then_so) (λ m e. cc)
+        (active_sitter (standing_of (heard c) listener) sat) has_been_killed sits_no_more
+        (λ m e. let sits : standing_of (heard c) listener ≡ Sits = sat in cc)
 
-    beside_him : (id : ℕ) → (listener == id) ≡ false → listener_of killed_world.seats id ≡ listener_of w.seats id
+    pub beside_him : (id : ℕ) → (listener == id) ≡ false → listener_of killed_world.seats id ≡ listener_of w.seats id
     beside_him id apart =
         find_apart (is_listener id) (is_listener listener) (loses Killed)
         (λ x e. (grind (arith, nat_tests), grind (arith, nat_tests))) w.seats
@@ -222,13 +245,13 @@ module _ (w : World) (s : IsSound w) (event : Event) where
     found_by None e = cc
     found_by (Some session) e = (session, refl)
 
-    live : (session : Session) × (session_of w.house.live mount ≡ Some session)
+    pub live : (session : Session) × (session_of w.house.live mount ≡ Some session)
     live = found_by (session_of w.house.live mount) (may_act (is_live w.house mount) (needs_hold c))
 
     abbrev cut : Session
     cut = live.0
 
-    named : cut.mount ≡ mount
+    pub named : cut.mount ≡ mount
     named = found_named w.house.live mount cut live.1
 
     there_live : session_of w.house.live cut.mount ≡ Some cut
@@ -237,7 +260,7 @@ module _ (w : World) (s : IsSound w) (event : Event) where
     own : IsCommanded w event (KillSource cut.mount)
     own = subst (λ (m : List ℕ). IsCommanded w event (KillSource m)) (sym named) c
 
-    is_cut : cut_world ≡ session_ended_by SourceKilled (heard c) cut
+    pub is_cut : cut_world ≡ session_ended_by SourceKilled (heard c) cut
     is_cut = ap (session_killed (heard c)) live.1
 
     feeding : standing_of (heard c) cut.number ≡ Feeds cut.mount
@@ -249,7 +272,7 @@ module _ (w : World) (s : IsSound w) (event : Event) where
     abbrev after : World
     after = session_ended_by SourceKilled (heard c) cut
 
-    turned : Turns (session_ended (heard c) cut.mount) after cut.number (Finished SourceKilled)
+    pub turned : Turns (session_ended (heard c) cut.mount) after cut.number (Finished SourceKilled)
     turned =
         turns_ended_by (session_ended (heard c) cut.mount) cut.number SourceKilled
         (λ u. let still = still_feeds (heard c) (sound_heard c) cut.number cut.mount feeding in cc)

@@ -1,10 +1,10 @@
 -- The fallbacks that commands have set.
-use Rattle.std.specs.Prelude.{ℕ, Bool, List, Option, find, is_some, if◌then◌else◌}
+use Rattle.std.specs.Prelude.{ℕ, Bool, List, Option, find}
 use Rattle.std.specs.declared.cmp.Ordering.{Ordering}
 use Rattle.std.specs.Cmp.Lexicographic.{slice_cmp}
 use Rattle.std.specs.Ordering.{nat_cmp}
 use Rattle.std.specs.Str.{bytes_eq}
-use Rattle.radio_tables.specs.Lists.{update_first, placed}
+use Rattle.radio_tables.specs.Lists.{placed}
 
 -- the listeners of a mount fall back to another one, or to none, whatever the settings say
 pub record Fallback : Type 0 where
@@ -22,11 +22,6 @@ set_for fallbacks mount = find (is_set_for mount) fallbacks
 abbrev pub by_name : Fallback → Fallback → Ordering
 by_name a b = slice_cmp nat_cmp a.mount b.mount
 
-abbrev pub falls_to : Option (List ℕ) → Fallback → Fallback
-falls_to fallback set = record set { fallback = fallback }
-
--- it is set for the mount from now on
+-- it is set for the mount from now on, in place of what was set before
 abbrev pub with_fallback : List Fallback → List ℕ → Option (List ℕ) → List Fallback
-with_fallback fallbacks mount fallback =
-    if is_some (set_for fallbacks mount) then update_first (is_set_for mount) (falls_to fallback) fallbacks
-    else placed by_name (record { mount = mount; fallback = fallback }) fallbacks
+with_fallback fallbacks mount fallback = placed by_name (record { mount = mount; fallback = fallback }) fallbacks

@@ -1,7 +1,7 @@
 //! The fallbacks that commands have set.
 
 use radio_settings::MountName;
-use radio_tables::{Change, Row};
+use radio_tables::Row;
 use std::marker::Model;
 
 /// The listeners of a mount fall back to another one, or to none, whatever the settings say.
@@ -33,24 +33,5 @@ impl Row for Fallback {
 
     fn key(&self) -> MountName {
         self.mount
-    }
-}
-
-/// The mount's listeners fall back to this one from now on.
-#[derive(Drop)]
-pub(crate) struct FallsTo {
-    pub(crate) fallback: Option<MountName>,
-}
-
-impl Change<Fallback> for FallsTo {
-    ghost use Rattle.std.specs.Prelude.{refl};
-    ghost use Rattle.radio_core.specs.Fallbacks.{falls_to};
-
-    ghost gives = { λ change set. falls_to change.fallback set };
-
-    ghost keeps_key = { λ change set. refl };
-
-    fn apply(&self, row: &mut Fallback) {
-        row.fallback = self.fallback;
     }
 }

@@ -14,7 +14,7 @@ ghost use Rattle.radio_core.specs.Timeouts.{is_silent};
 
 use crate::OutOfMemory;
 use crate::clients::{Client, ClientState, SetState};
-use crate::fallbacks::{Fallback, FallsTo};
+use crate::fallbacks::Fallback;
 use crate::sessions::{Delivers, NewTitle, Session};
 use crate::stream::Stream;
 use crate::timeouts::{TimesOut, lies_back};
@@ -165,11 +165,7 @@ impl House {
         ensures ok { OnOk result (self.new ≡ falling_back self.old mount fallback) }
         ensures err { OnErr result (self.new ≡ self.old) }
     {
-        if self.fallbacks.get(&mount).is_none() {
-            return self.fallbacks.insert(Fallback { mount, fallback });
-        }
-        self.fallbacks.change(&mount, &FallsTo { fallback });
-        Ok(())
+        self.fallbacks.insert(Fallback { mount, fallback })
     }
 
     /// It is this moment, and the clients who have asked for nothing in their time are finished. It

@@ -1,8 +1,10 @@
 mod AccessLemmas
+mod CommandLaws
 mod CommandRows
 mod DenialLemmas
 mod GoneLemmas
 mod InTime
+mod KilledLemmas
 mod LimitDenials
 mod LimitLemmas
 mod ListsLemmas

@@ -1,17 +1,13 @@
 -- where a walk ends, and by which mounts it comes
-use Rattle.std.proofs.Common.{◌≡◌, inl, inr, ℕ, zero, suc, ◌+◌, ◌<◌, Bool, true, false, ◌&&◌, ◌||◌, not, is_some, Option, Some, None, List, [], ◌∷◌, length}
-use Rattle.std.proofs.Common.{refl, sym, subst, arith}
+use Rattle.std.proofs.Common.{◌≡◌, ℕ, zero, suc, ◌+◌, ◌<◌, Bool, true, false, ◌&&◌, ◌||◌, not, is_some, Option, Some, None, List, length}
+use Rattle.std.proofs.Common.{refl, subst, arith}
 use Rattle.std.specs.Prelude.{if◌then◌else◌}
 use Rattle.std.specs.Option.{option_map_or}
 use Rattle.std.proofs.lemmas.Bool.Decides.{nat_tests}
-use Rattle.std.proofs.lemmas.Slice.Eq.{bytes_eq-Decides}
 use Rattle.radio_policy.specs.declared.rule.Rule.{Rule}
 use Rattle.radio_policy.specs.declared.rule.Rule.TheVariants.{FallbackDepth}
 use Rattle.radio_creds.specs.Credentials.{Credentials}
 use Rattle.radio_settings.specs.Options.{options_for}
-use Rattle.radio_tables.specs.Lists.{Each, Has}
-use Rattle.radio_tables.proofs.EachLaws.{Has_found}
-use Rattle.radio_tables.proofs.FindLaws.{found_passes, passes_none}
 use Rattle.radio_seats.specs.Seats.{seats_at}
 use Rattle.radio_fallback.specs.declared.walking.Landing.{Landing}
 use Rattle.radio_fallback.specs.declared.walking.Landing.TheVariants.{Lands, Stops}
@@ -19,7 +15,7 @@ use Rattle.radio_fallback.specs.Walk.{Sight, is_full, is_full_for, found_at, sto
 use Rattle.radio_fallback.proofs.WalkLaws.{walks_ten}
 use Rattle.radio_events.specs.declared.event.ListenRequest.{ListenRequest}
 use Rattle.radio_core.specs.Facts.{sight_of, walks_to, fallback_of}
-use Rattle.radio_core.specs.Fallbacks.{Fallback, is_set_for, set_for}
+use Rattle.radio_core.specs.Fallbacks.{Fallback, set_for}
 use Rattle.radio_core.specs.Sessions.{Session, session_of}
 use Rattle.radio_core.specs.World.{World}
 use Rattle.radio_laws.specs.Limits.{IsFullAt, most_at}
@@ -40,29 +36,13 @@ both true true e = (refl, refl)
 both true false e = cc
 both false b e = cc
 
--- each of a list has what all of it have
-each_has : (P : Fallback → Type 0) (xs : List Fallback) (x : Fallback) → Each P xs → Has x xs → P x
-each_has P [] x all has = absurd has
-each_has P (y ∷ ys) x all (inl here) = subst P (sym here) all.0
-each_has P (y ∷ ys) x all (inr later) = each_has P ys x all.1 later
-
 -- to which mount listeners fall back
 pub falls_back : (w : World) (mount next : List ℕ) → fallback_of w.house mount ≡ Some next → FallsBack w mount next
 falls_back w mount next e = by_found (set_for w.house.fallbacks mount) refl e where
-  given : Option (List ℕ)
-  given = (options_for w.house.settings mount).listeners.fallback_mount
-
   by_found : (found : Option Fallback) → set_for w.house.fallbacks mount ≡ found
       → option_map_or (λ (set : Fallback). set.fallback) found (options_for w.house.settings mount).listeners.fallback_mount ≡ Some next → FallsBack w mount next
-  by_found None none goes =
-      ByTheSettings goes (λ set has named.
-      let other : is_set_for mount set ≡ false =
-      each_has (λ y. is_set_for mount y ≡ false) w.house.fallbacks set (passes_none (is_set_for mount) w.house.fallbacks none) has in
-      let his : is_set_for mount set ≡ true = (bytes_eq-Decides set.mount mount).1 named in
-      cc)
-  by_found (Some set) found goes =
-      ByACommand set (Has_found (is_set_for mount) set w.house.fallbacks found)
-      ((bytes_eq-Decides set.mount mount).0 (found_passes (is_set_for mount) w.house.fallbacks set found)) goes
+  by_found None none goes = ByTheSettings goes none
+  by_found (Some set) found goes = ByACommand set found goes
 
 -- where they fall back to none, there is none
 pub falls_nowhere : (w : World) (mount : List ℕ) → ((next : List ℕ) → FallsBack w mount next → ⊥) → fallback_of w.house mount ≡ None

@@ -39,6 +39,8 @@ use Rattle.radio_core.specs.Step.{outcome, world_after}
 use Rattle.radio_core.specs.Stream.{end_of}
 use Rattle.radio_core.specs.World.{World, standing_of}
 use Rattle.radio_laws.specs.WalkingOn.{FaresByHisTurn, ListenersWalkOn, MovesAreWhole}
+use Rattle.radio_laws.proofs.CommandLaws.{later_so}
+use Rattle.radio_core.proofs.Obeyed.{is_cut, named}
 use Rattle.radio_core.proofs.CarriedFates.{order_carried}
 use Rattle.radio_core.proofs.TickLemmas.{sound_sat_out}
 
@@ -169,8 +171,12 @@ module _ (w : World) where
   leaving him event move before e (ByMoving _ mount destination c) id apart = let other = c.is_event in cc
   leaving him event move before e (ByComingUp asked peer stood allowed calls) id apart = cc
 
-  pub moves_are_whole : (event : Event) → MovesAreWhole w event
-  moves_are_whole event = record {
+  pub moves_are_whole : IsSound w → (event : Event) → MovesAreWhole w event
+  moves_are_whole s event = record {
+    at_a_move = λ mount destination c. ap (λ (x : World). x.seats) (later_so w s event c);
+    at_a_kill = λ mount c.
+        ap (λ (x : World). x.seats) (later_so w s event c ∙ is_cut w s event mount c)
+        ∙ ap (λ (m : List ℕ). (carried_along (session_over w m) (Ended m)).seats) (named w s event mount c);
     at_its_coming = λ asked move before e brings. coming asked event move before e brings;
     at_its_end = λ him move before e brings. ending him event move before e brings;
     at_its_leaving = λ him move before e brings. leaving him event move before e brings;

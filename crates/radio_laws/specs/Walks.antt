@@ -1,17 +1,15 @@
 -- By which mounts a walk comes, in the words of the settings and of what commands have set.
 use Rattle.std.specs.Prelude.{◌≡◌, ℕ, suc, true, List, Some, None}
 use Rattle.radio_settings.specs.Options.{options_for}
-use Rattle.radio_tables.specs.Lists.{Has}
-use Rattle.radio_core.specs.Fallbacks.{Fallback}
+use Rattle.radio_core.specs.Fallbacks.{Fallback, set_for}
 use Rattle.radio_core.specs.Sessions.{session_of}
 use Rattle.radio_core.specs.World.{World}
 use Rattle.radio_laws.specs.Limits.{IsFullAt}
 
 -- the listeners of the mount fall back to the next one: `fallback-mount` names it and no command has said otherwise, or a command has said so
 pub data FallsBack (w : World) (mount next : List ℕ) : Type 0 where
-  ByTheSettings : (options_for w.house.settings mount).listeners.fallback_mount ≡ Some next
-      → ((set : Fallback) → Has set w.house.fallbacks → set.mount ≡ mount → ⊥) → FallsBack w mount next
-  ByACommand : (set : Fallback) → Has set w.house.fallbacks → set.mount ≡ mount → set.fallback ≡ Some next → FallsBack w mount next
+  ByTheSettings : (options_for w.house.settings mount).listeners.fallback_mount ≡ Some next → set_for w.house.fallbacks mount ≡ None → FallsBack w mount next
+  ByACommand : (set : Fallback) → set_for w.house.fallbacks mount ≡ Some set → set.fallback ≡ Some next → FallsBack w mount next
 
 -- a walk goes on from the mount to the next one, to which its listeners fall back: the mount has no source, or as many sit there as may and
 -- `fallback-when-full` is set
