@@ -3,7 +3,7 @@ use Rattle.std.proofs.Common.{◌≡◌, ℕ, List, [], ◌++◌, refl, sym, ◌
 use Rattle.radio_addr.specs.declared.peer.Peer.{Peer}
 use Rattle.radio_policy.specs.declared.rule.Rule.{Rule}
 use Rattle.radio_events.specs.declared.reply.Reply.{Reply}
-use Rattle.radio_events.specs.declared.reply.Reply.TheVariants.{Arrived, Feeding, Seated, Drawn, Noted, Deny, Finished, Stray}
+use Rattle.radio_events.specs.declared.reply.Reply.TheVariants.{Arrived, Feeding, Seated, Drawn, Noted, Text, Deny, Finished, Stray}
 use Rattle.radio_hall.specs.declared.conn.Status.{Status}
 use Rattle.radio_hall.specs.declared.conn.Fate.TheVariants.{Open, Ended}
 use Rattle.radio_hall.specs.Lines.{Calls}
@@ -25,6 +25,7 @@ lets_nobody_in Feeding other = tt
 lets_nobody_in (Seated interval shown) other = tt
 lets_nobody_in (Drawn bytes title) other = tt
 lets_nobody_in Noted other = tt
+lets_nobody_in (Text text) other = tt
 lets_nobody_in (Deny rule) other = tt
 lets_nobody_in (Finished rule) other = tt
 lets_nobody_in Stray other = tt
@@ -43,6 +44,7 @@ module _ (peer : Peer) (given taken : List ℕ) (ms : ℕ) (c : Connection) wher
   is_told_away (Seated interval shown) other away = tt
   is_told_away (Drawn bytes title) other away = tt
   is_told_away Noted other away = tt
+  is_told_away (Text text) other away = tt
   is_told_away (Deny rule) other away = is_denied rule away
   is_told_away (Finished rule) other away = tt
   is_told_away Stray other away = tt

@@ -12,6 +12,8 @@ use std::marker::Model;
 enum Kind {
     /// Something for the listeners of a mount.
     News,
+    /// Something for the listeners of a mount, if it is done.
+    Command,
     /// A client asks to feed a mount.
     Feeds(u64),
     /// A client leaves.
@@ -55,8 +57,8 @@ impl<S: Server + Drop> Watched<S> {
         }
     }
 
-    /// Whether listeners may have news since this was asked the last time: a block came, or a source
-    /// has ended.
+    /// Whether listeners may have news since this was asked the last time: a block or a title came, a
+    /// source has ended, or a command was done.
     pub fn take_news(&self) -> bool {
         self.has_news.replace(false)
     }
@@ -79,9 +81,18 @@ impl<S: Server + Drop> Watched<S> {
     {
         match kind {
             Kind::News => self.has_news.set(true),
+            Kind::Command => self.note_command(reply),
             Kind::Feeds(id) => self.note_source(id, reply),
             Kind::Leaves(id) => self.note_leave(id),
             Kind::Own => self.note_draw(reply),
+        }
+    }
+
+    fn note_command(&mut self, reply: &Reply)
+        ensures { self.new ≡ self.old }
+    {
+        if matches!(reply, Reply::Text(_)) {
+            self.has_news.set(true);
         }
     }
 
@@ -127,6 +138,7 @@ fn place_of(numbers: &[u64], id: u64) -> Option<usize> {
 fn kind_of(event: &Event) -> Kind {
     match event {
         Event::Push { .. } | Event::SourceEnd { .. } | Event::Title { .. } => Kind::News,
+        Event::Command(_) => Kind::Command,
         Event::Source(request) => Kind::Feeds(request.id),
         Event::Leave { id } => Kind::Leaves(*id),
         _ => Kind::Own,

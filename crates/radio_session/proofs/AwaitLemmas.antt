@@ -3,7 +3,7 @@ use Rattle.std.proofs.Common.{◌≡◌, ℕ, zero, suc, ◌+◌, ◌-◌, List,
 use Rattle.std.proofs.Math.Dec.{eqb-suc-zero}
 use Rattle.radio_events.specs.declared.event.Event.{Event}
 use Rattle.radio_events.specs.declared.reply.Reply.{Reply}
-use Rattle.radio_events.specs.declared.reply.Reply.TheVariants.{Arrived, Feeding, Seated, Drawn, Noted, Deny, Finished, Stray}
+use Rattle.radio_events.specs.declared.reply.Reply.TheVariants.{Arrived, Feeding, Seated, Drawn, Noted, Text, Deny, Finished, Stray}
 use Rattle.radio_session.specs.declared.session.Says.{Says}
 use Rattle.radio_session.specs.declared.session.Closing.{Closing}
 use Rattle.radio_session.specs.declared.session.LastWord.{LastWord}
@@ -74,6 +74,7 @@ told_awaiting says n word Noted = record {
   says = λ e. rw (eqb-suc-zero n) (ap (λ (m : ℕ). with_closing says (awaiting m word)) (less_one n));
   is_free = refl;
 }
+told_awaiting says n word (Text text) = record { bytes = refl; state = refl; says = λ e. cc; is_free = refl }
 told_awaiting says n word (Deny rule) = record { bytes = refl; state = refl; says = λ e. cc; is_free = refl }
 told_awaiting says n word (Finished rule) = record { bytes = refl; state = refl; says = λ e. cc; is_free = refl }
 told_awaiting says n word Stray = record {

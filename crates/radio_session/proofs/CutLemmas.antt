@@ -25,7 +25,7 @@ use Rattle.radio_source.specs.Feeding.{unfed}
 use Rattle.radio_session.specs.Conversation.{Conversation}
 use Rattle.radio_session.specs.Pushes.{pushes}
 use Rattle.radio_session.specs.Asking.{asks_to_feed}
-use Rattle.radio_session.specs.Hearing.{Heard, HearsAs, IsHeard, head_heard, request_heard, source_heard, listener_heard, body_heard, delivered}
+use Rattle.radio_session.specs.Hearing.{Heard, HearsAs, IsHeard, head_heard, request_heard, source_heard, get_heard, body_heard, delivered}
 use Rattle.radio_session.specs.Hearing.{closes_with, greeted, refuses, nothing_held, going_on}
 use Rattle.radio_policy.specs.declared.rule.Rule.TheVariants.{BadHead, BadMethod}
 use Rattle.radio_session.proofs.HearingLemmas.{heard-alike, hearing_is_one}
@@ -156,7 +156,7 @@ module _ (joined : AreJoined) (places : PlacesJoin) (found : DataJoin) where
 unfoldable pub request_by : Bool → Bool → Conversation → RequestParts → List ℕ → Heard
 request_by source get conversation request behind =
     if source then source_heard conversation request behind (framing_of request)
-    else if get then listener_heard conversation request
+    else if get then get_heard conversation request
     else refuses conversation BadMethod
 
 -- what was held before a head is heard as does not matter
@@ -185,7 +185,7 @@ unfolding request_by
 request-cut joined places found true get conversation request behind second two whole h w =
     source-cut joined places found (framing_of request) conversation request behind second two whole h w
 request-cut joined places found false true conversation request behind second two whole h w =
-    by_closed (listener_heard conversation request) (listener_heard conversation request) two whole h w refl refl
+    by_closed (get_heard conversation request) (get_heard conversation request) two whole h w refl refl
 request-cut joined places found false false conversation request behind second two whole h w =
     by_closed (refuses conversation BadMethod) (refuses conversation BadMethod) two whole h w refl refl
 

@@ -19,7 +19,7 @@ use Rattle.radio_session.specs.Framing.{is_source, framing_of, start_of}
 use Rattle.radio_source.specs.Place.{after, data_of}
 use Rattle.radio_session.specs.Asking.{asks_to_feed}
 use Rattle.radio_session.specs.Conversation.{Conversation}
-use Rattle.radio_session.specs.Hearing.{Heard, listener_heard, greeted, refuses, nothing_held}
+use Rattle.radio_session.specs.Hearing.{Heard, get_heard, greeted, refuses, nothing_held}
 use Rattle.radio_session.specs.Exchanges.{Steps, Exchange, nothing_exchanged}
 use Rattle.radio_session.specs.DataServers.{GoesByData}
 use Rattle.radio_session.specs.CutTelling.{IsTold, ThenTold, IsToldIn, AreToldAlike, CutsAreToldAlike, PiecesAreToldAsOne}
@@ -52,7 +52,7 @@ module _ {S : Type 0} (steps : Steps S) (joined : AreJoined) (valid : AreValid) 
         → AsRequest steps source get (nothing_held conversation) request behind from y end → AreToldAlike x y
     request_alike true get request behind e f = source_alike (framing_of request) request behind e f
     request_alike false true request behind e f = heard_alike conversation.id server from to end x y
-        (listener_heard (nothing_held conversation) request) e f
+        (get_heard (nothing_held conversation) request) e f
     request_alike false false request behind e f = heard_alike conversation.id server from to end x y (refuses conversation BadMethod) e f
 
     head_alike : (bytes : List ℕ) (r : Result (Progress RequestParts) HeadFault) → AsHead steps conversation bytes r from x to

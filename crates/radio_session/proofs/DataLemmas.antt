@@ -6,7 +6,7 @@ use Rattle.radio_blocks.specs.Block.{IsBlock}
 use Rattle.radio_events.specs.declared.event.Event.{Event}
 use Rattle.radio_events.specs.declared.event.Event.TheVariants.{Push}
 use Rattle.radio_events.specs.declared.reply.Reply.{Reply}
-use Rattle.radio_events.specs.declared.reply.Reply.TheVariants.{Arrived, Feeding, Seated, Drawn, Noted, Deny, Finished, Stray}
+use Rattle.radio_events.specs.declared.reply.Reply.TheVariants.{Arrived, Feeding, Seated, Drawn, Noted, Text, Deny, Finished, Stray}
 use Rattle.radio_session.specs.declared.session.Says.{Says}
 use Rattle.radio_session.specs.declared.state.State.{State}
 use Rattle.radio_session.specs.declared.state.State.TheVariants.{Running, Shut}
@@ -26,6 +26,7 @@ quiet_told says (Arrived id) q = absurd q
 quiet_told says Feeding q = absurd q
 quiet_told says (Seated interval shown) q = absurd q
 quiet_told says (Drawn bytes title) q = absurd q
+quiet_told says (Text text) q = absurd q
 quiet_told says (Deny rule) q = absurd q
 quiet_told says (Finished rule) q = absurd q
 
@@ -35,6 +36,7 @@ ends_told says Feeding e = absurd e
 ends_told says (Seated interval shown) e = absurd e
 ends_told says (Drawn bytes title) e = absurd e
 ends_told says Noted e = absurd e
+ends_told says (Text text) e = absurd e
 ends_told says Stray e = absurd e
 ends_told says (Deny rule) e = (By rule, refl)
 ends_told says (Finished rule) e = (By rule, refl)
@@ -46,6 +48,7 @@ never_both (Arrived id) q e = q
 never_both Feeding q e = q
 never_both (Seated interval shown) q e = q
 never_both (Drawn bytes title) q e = q
+never_both (Text text) q e = q
 never_both (Deny rule) q e = q
 never_both (Finished rule) q e = q
 

@@ -17,7 +17,7 @@ use Rattle.radio_session.specs.declared.session.framing.Framing.{Framing}
 use Rattle.radio_session.specs.Framing.{is_source, framing_of, start_of}
 use Rattle.radio_session.specs.Asking.{asks_to_feed}
 use Rattle.radio_session.specs.Conversation.{Conversation}
-use Rattle.radio_session.specs.Hearing.{Heard, HearsAs, nothing_held, delivered, body_closes, body_heard, greeted, source_heard, listener_heard, refuses}
+use Rattle.radio_session.specs.Hearing.{Heard, HearsAs, nothing_held, delivered, body_closes, body_heard, greeted, source_heard, get_heard, refuses}
 use Rattle.radio_session.specs.Hearing.{head_heard}
 use Rattle.radio_session.specs.Laws.{HearingFailsNothing}
 
@@ -35,7 +35,7 @@ of_source c request behind None = refl
 of_source c request behind (Some framing) = in_body (greeted c request) (asks_to_feed c.id request ∷ []) (start_of framing) behind
 
 of_request : (c : Conversation) (request : RequestParts) (behind : List ℕ) (feeds gets : Bool)
-    → (if feeds then source_heard c request behind (framing_of request) else if gets then listener_heard c request else refuses c BadMethod).conversation.has_failed
+    → (if feeds then source_heard c request behind (framing_of request) else if gets then get_heard c request else refuses c BadMethod).conversation.has_failed
     ≡ c.has_failed
 of_request c request behind true gets = of_source c request behind (framing_of request)
 of_request c request behind false true = refl

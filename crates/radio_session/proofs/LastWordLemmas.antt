@@ -12,9 +12,9 @@ use Rattle.radio_session.specs.declared.session.LastWord.TheVariants.{Refusal, C
 use Rattle.radio_session.specs.declared.session.Greeting.{Greeting}
 use Rattle.radio_session.specs.declared.session.Greeting.TheVariants.{Welcome, Continue}
 use Rattle.radio_session.specs.declared.state.Ending.TheVariants.{By, Done, BadBody}
-use Rattle.radio_session.specs.Saying.{denial, denial_with, body_text, noted}
+use Rattle.radio_session.specs.Saying.{denial, denial_with, body_text, noted, text_answer}
 use Rattle.radio_session.specs.LastWords.{EndsWith, IsAbout, DenialsNameTheirRule, RulesWithoutStatusAreSilent, LateDenialsAreSilent}
-use Rattle.radio_session.specs.LastWords.{FinishesAreSilent, RefusalsNameTheirRule, WholeBodiesAreDone, FaultyBodiesAreSilent}
+use Rattle.radio_session.specs.LastWords.{FinishesAreSilent, CommandsAreAnswered, RefusalsNameTheirRule, WholeBodiesAreDone, FaultyBodiesAreSilent}
 
 -- the text of a denial, by the rule's status
 denial_is : (rule : Rule) (status : Option Status) → status_of rule ≡ status → denial rule ≡ denial_with status rule
@@ -46,6 +46,14 @@ late_denials_are_silent says rule late = record {
 
 pub finishes_are_silent : FinishesAreSilent
 finishes_are_silent says rule = record { ending = By rule; bytes_told = refl; shut = refl; last_word = refl }
+
+pub commands_are_answered : CommandsAreAnswered
+commands_are_answered says text early = record {
+  ending = Done;
+  bytes_told = ap (λ (b : Bool). if b then [] else text_answer text) early;
+  shut = refl;
+  last_word = refl;
+}
 
 -- the last word itself
 module _ (says : Says) (word : LastWord) (about : IsAbout says word) where

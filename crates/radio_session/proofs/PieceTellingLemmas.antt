@@ -29,7 +29,7 @@ use Rattle.radio_source.specs.Feeding.{unfed}
 use Rattle.radio_session.specs.Asking.{asks_to_feed}
 use Rattle.radio_session.specs.Conversation.{Conversation, saying_now}
 use Rattle.radio_session.specs.Pushes.{pushes}
-use Rattle.radio_session.specs.Hearing.{Heard, HearsAs, head_heard, source_heard, listener_heard, body_heard, delivered, closes_with, greeted}
+use Rattle.radio_session.specs.Hearing.{Heard, HearsAs, head_heard, source_heard, get_heard, body_heard, delivered, closes_with, greeted}
 use Rattle.radio_session.specs.Hearing.{refuses, nothing_held, going_on}
 use Rattle.radio_session.specs.Exchanges.{Steps, Exchange, nothing_exchanged, prefixed, Exchanges}
 use Rattle.radio_session.specs.Cuts.{IsCutting, unheard}
@@ -82,7 +82,7 @@ module _ {S : Type 0} (steps : Steps S) where
 
   abbrev pub AsRequest : Bool → Bool → Conversation → RequestParts → List ℕ → S → Exchange → S → Type 0
   AsRequest true get conversation request behind from x to = AsSource (framing_of request) conversation request behind from x to
-  AsRequest false true conversation request behind from x to = AsHeard conversation.id (listener_heard conversation request) from x to
+  AsRequest false true conversation request behind from x to = AsHeard conversation.id (get_heard conversation request) from x to
   AsRequest false false conversation request behind from x to = AsHeard conversation.id (refuses conversation BadMethod) from x to
 
   abbrev pub AsHead : Conversation → List ℕ → Result (Progress RequestParts) HeadFault → S → Exchange → S → Type 0
@@ -235,7 +235,7 @@ module _ {S : Type 0} (steps : Steps S) where
     request_in true get conversation request behind pieces from mid to x cut is_free goes =
         source_in (framing_of request) conversation request behind pieces from mid to x cut is_free goes
     request_in false true conversation request behind pieces from mid to x cut is_free goes =
-        closed_in conversation.id (listener_heard conversation request) pieces from mid to x cut refl goes
+        closed_in conversation.id (get_heard conversation request) pieces from mid to x cut refl goes
     request_in false false conversation request behind pieces from mid to x cut is_free goes =
         closed_in conversation.id (refuses conversation BadMethod) pieces from mid to x cut refl goes
 

@@ -9,7 +9,8 @@ use Rattle.radio_icy.specs.Bare.{bare, block_texts, sound_in, texts_in}
 use Rattle.radio_heads.specs.Answer.{listener_head}
 use Rattle.radio_events.specs.declared.event.Event.{Event}
 use Rattle.radio_events.specs.declared.reply.Reply.{Reply}
-use Rattle.radio_events.specs.declared.reply.Reply.TheVariants.{Arrived, Feeding, Seated, Drawn, Noted, Deny, Finished, Stray}
+use Rattle.radio_events.specs.declared.reply.Reply.TheVariants.{Arrived, Feeding, Seated, Drawn, Noted, Text, Deny, Finished, Stray}
+use Rattle.radio_events.specs.declared.text.Text.{Text as CommandText}
 use Rattle.radio_core.specs.World.{World}
 use Rattle.radio_core.specs.Step.{reply_to, world_after}
 use Rattle.radio_policy.specs.declared.rule.Rule.{Rule}
@@ -19,7 +20,7 @@ use Rattle.radio_session.specs.declared.state.State.{State}
 use Rattle.radio_session.specs.declared.state.State.TheVariants.{Running, Shut}
 use Rattle.radio_session.specs.Draws.{draw, drawn, after_draw, drawn_by, interval_told, joined_draws}
 use Rattle.radio_session.specs.Exchanges.{WorldExchange, exchanged, then_exchanged}
-use Rattle.radio_session.specs.Saying.{Said, said, denied, noted, one_less, seated}
+use Rattle.radio_session.specs.Saying.{Said, said, denied, noted, one_less, seated, texted}
 use Rattle.radio_session.specs.Told.{told, while_open, draws_of, AdmitNobody, DrawsFollowTheHead, PlainDrawsAreTheirData, JoinedDrawsAreWoven}
 use Rattle.radio_session.specs.Told.{DrawsAreTakenOutAgain, replies_to, ExchangesTellReplies}
 
@@ -38,6 +39,10 @@ none_less closing e = ap (option_map one_less) e
 silent : (says : Says) (rule : Rule) → says.is_admitted ≡ true → (denied says rule).bytes ≡ []
 silent says rule e = rw e refl
 
+-- and so is what is said of a command
+unsaid : (says : Says) (text : CommandText) → says.is_admitted ≡ true → (texted says text).bytes ≡ []
+unsaid says text e = rw e refl
+
 -- on a listener's connection goes out what he draws
 pub draws_follow : (says : Says) (replies : List Reply) → says.is_admitted ≡ true → says.closing ≡ None → AdmitNobody replies
     → told says replies ≡ drawn_by says.weaver (draws_of replies)
@@ -51,6 +56,7 @@ draws_follow says (Drawn bytes title ∷ replies) a c n =
     ∙ one_draw_on says.weaver (draw bytes title) (draws_of replies)
 draws_follow says (Noted ∷ replies) a c n =
     ap (λ (here : Said). here.bytes ++ while_open here.state (told here.says replies)) (ap (noted says) c) ∙ draws_follow says replies a c n
+draws_follow says (Text text ∷ replies) a c n = rw (unsaid says text a) (sym (no_draws says.weaver))
 draws_follow says (Deny rule ∷ replies) a c n = rw (silent says rule a) (sym (no_draws says.weaver))
 draws_follow says (Finished rule ∷ replies) a c n = sym (no_draws says.weaver)
 draws_follow says (Stray ∷ replies) a c n = draws_follow (said says Stray).says replies a (none_less says.closing c) n

@@ -1,6 +1,8 @@
 -- What a request asks of the server.
-use Rattle.std.specs.Prelude.{ℕ, Bool, List, [], codes, Option, unwrap_or}
+use Rattle.std.specs.Prelude.{ℕ, nat_eq, Bool, if◌then◌else◌, List, [], codes, Option, unwrap_or}
+use Rattle.std.specs.List.{starts_with}
 use Rattle.std.specs.Option.{option_and_then}
+use Rattle.percent_encoding.specs.Percent.{percent_decode}
 use Rattle.radio_creds.specs.Authorization.{basic_pair}
 use Rattle.radio_creds.specs.Credentials.{Credentials}
 use Rattle.radio_settings.specs.declared.field.Shown.{Shown}
@@ -8,8 +10,9 @@ use Rattle.radio_settings.specs.Shown.{shown_of}
 use Rattle.radio_heads.specs.Head.{RequestParts}
 use Rattle.radio_heads.specs.Headers.{value_of}
 use Rattle.radio_session.specs.Framing.{is_word}
+use Rattle.radio_session.specs.Commands.{asked_in}
 use Rattle.radio_events.specs.declared.event.Event.{Event}
-use Rattle.radio_events.specs.declared.event.Event.TheVariants.{Source, Listen}
+use Rattle.radio_events.specs.declared.event.Event.TheVariants.{Source, Listen, Command}
 
 -- the user and the password that it sends, if its `Authorization` has them (RFC 7617)
 abbrev pub pair_of : RequestParts → Option Credentials
@@ -30,10 +33,31 @@ shown_by request = shown_of
 abbrev pub wants_metadata : RequestParts → Bool
 wants_metadata request = is_word (codes "1") (value_of (codes "Icy-MetaData") request.headers)
 
+-- the path that the target stands for: percent decoded (RFC 3986, section 2.1), where `+` stays
+abbrev pub path_in : RequestParts → List ℕ
+path_in request = percent_decode request.path
+
+-- the query behind it; where there is none, an empty one
+abbrev pub query_in : RequestParts → List ℕ
+query_in request = unwrap_or request.query []
+
+-- a path of commands
+abbrev pub is_for_commands : List ℕ → Bool
+is_for_commands path = starts_with nat_eq path (codes "/admin/")
+
 -- a client asks to feed the mount of his path
 abbrev pub asks_to_feed : ℕ → RequestParts → Event
-asks_to_feed id request = Source (record { id = id; mount = request.path; pair = pair_of request; shown = shown_by request })
+asks_to_feed id request = Source (record { id = id; mount = path_in request; pair = pair_of request; shown = shown_by request })
 
--- a client asks to hear the mount of his path
-abbrev pub asks_to_hear : ℕ → RequestParts → Event
-asks_to_hear id request = Listen (record { id = id; mount = request.path; pair = pair_of request; wants_metadata = wants_metadata request })
+-- a client asks to hear the mount of this path
+abbrev pub asks_to_hear : ℕ → RequestParts → List ℕ → Event
+asks_to_hear id request path = Listen (record { id = id; mount = path; pair = pair_of request; wants_metadata = wants_metadata request })
+
+-- a client gives the command of this path
+abbrev pub gives_command : ℕ → RequestParts → List ℕ → Event
+gives_command id request path = Command (record { id = id; asked = asked_in path (query_in request); pair = pair_of request })
+
+-- what a GET asks for: a command where its path is one of commands, and else to hear the mount of its path
+abbrev pub asks_by_get : ℕ → RequestParts → Event
+asks_by_get id request =
+    let path = path_in request in if is_for_commands path then gives_command id request path else asks_to_hear id request path

@@ -19,7 +19,7 @@ use Rattle.radio_session.specs.Framing.{is_source, framing_of, start_of, greetin
 use Rattle.radio_source.specs.declared.fault.BodyFault.{BodyFault}
 use Rattle.radio_source.specs.Place.{Place, after, data_of, has_ended, fault_at}
 use Rattle.radio_source.specs.Feeding.{unfed}
-use Rattle.radio_session.specs.Asking.{asks_to_feed, asks_to_hear}
+use Rattle.radio_session.specs.Asking.{asks_to_feed, asks_by_get}
 use Rattle.radio_session.specs.Conversation.{Conversation}
 use Rattle.radio_session.specs.Pushes.{pushes}
 
@@ -74,15 +74,15 @@ source_heard conversation request behind None = refuses conversation BadHead
 source_heard conversation request behind (Some framing) =
     body_heard (greeted conversation request) (asks_to_feed conversation.id request ∷ []) (start_of framing) behind
 
--- a listener's head has come
-abbrev pub listener_heard : Conversation → RequestParts → Heard
-listener_heard conversation request = record { events = asks_to_hear conversation.id request ∷ []; conversation = going_on conversation Nothing }
+-- a GET has come, by which a client asks to hear a mount, or gives a command
+abbrev pub get_heard : Conversation → RequestParts → Heard
+get_heard conversation request = record { events = asks_by_get conversation.id request ∷ []; conversation = going_on conversation Nothing }
 
--- a head has come, with these bytes behind it: SOURCE and PUT feed the mount of its path, GET hears it
+-- a head has come, with these bytes behind it: SOURCE and PUT feed the mount of its path, GET hears it or gives a command
 abbrev pub request_heard : Conversation → RequestParts → List ℕ → Heard
 request_heard conversation request behind =
     if is_source request then source_heard conversation request behind (framing_of request)
-    else if bytes_eq request.method (codes "GET") then listener_heard conversation request
+    else if bytes_eq request.method (codes "GET") then get_heard conversation request
     else refuses conversation BadMethod
 
 -- what these bytes, all that have come, are read as

@@ -3,7 +3,8 @@ use Rattle.std.specs.Prelude.{◌≡◌, ℕ, true, false, List, [], codes, None
 use Rattle.radio_policy.specs.declared.rule.Rule.{Rule}
 use Rattle.radio_policy.specs.declared.rule.Status.{Status}
 use Rattle.radio_policy.specs.Words.{word_of, status_of}
-use Rattle.radio_events.specs.declared.reply.Reply.TheVariants.{Noted, Deny, Finished}
+use Rattle.radio_events.specs.declared.reply.Reply.TheVariants.{Noted, Text, Deny, Finished}
+use Rattle.radio_events.specs.declared.text.Text.{Text as CommandText}
 use Rattle.radio_heads.specs.Answer.{denial_text, source_text}
 use Rattle.radio_session.specs.declared.session.Says.{Says}
 use Rattle.radio_session.specs.declared.session.LastWord.{LastWord}
@@ -12,7 +13,7 @@ use Rattle.radio_session.specs.declared.session.Greeting.TheVariants.{Welcome, C
 use Rattle.radio_session.specs.declared.state.State.TheVariants.{Shut}
 use Rattle.radio_session.specs.declared.state.Ending.{Ending}
 use Rattle.radio_session.specs.Conversation.{ending_word}
-use Rattle.radio_session.specs.Saying.{Said, said}
+use Rattle.radio_session.specs.Saying.{Said, said, text_answer}
 
 -- these bytes are told, and the connection is shut with this word
 pub record EndsWith (told : Said) (bytes word : List ℕ) : Type 0 where
@@ -41,6 +42,10 @@ LateDenialsAreSilent = (says : Says) (rule : Rule) → says.is_admitted ≡ true
 -- who was finished by a rule is told nothing, and the word is the rule's
 abbrev pub FinishesAreSilent : Type 0
 FinishesAreSilent = (says : Says) (rule : Rule) → EndsWith (said says (Finished rule)) [] (word_of rule)
+
+-- A command that was done is told in an answer of its text, and then the connection is done.
+abbrev pub CommandsAreAnswered : Type 0
+CommandsAreAnswered = (says : Says) (text : CommandText) → IsAsking says → EndsWith (said says (Text text)) (text_answer text) (codes "done")
 
 -- no other reply is awaited before the connection's own last word
 abbrev pub IsAbout : Says → LastWord → Type 0

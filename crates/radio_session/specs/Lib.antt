@@ -1,5 +1,6 @@
 pub mod Conversation
 pub mod Pushes
+pub mod Commands
 pub mod Asking
 pub mod Hearing
 pub mod Draws

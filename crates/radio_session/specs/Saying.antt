@@ -4,8 +4,11 @@ use Rattle.radio_policy.specs.declared.rule.Rule.{Rule}
 use Rattle.radio_policy.specs.declared.rule.Status.{Status}
 use Rattle.radio_policy.specs.Words.{word_of, status_of}
 use Rattle.radio_events.specs.declared.reply.Reply.{Reply}
-use Rattle.radio_events.specs.declared.reply.Reply.TheVariants.{Arrived, Feeding, Seated, Drawn, Noted, Deny, Finished, Stray}
-use Rattle.radio_heads.specs.Answer.{listener_head, source_text, continue_text, denial_text}
+use Rattle.radio_events.specs.declared.reply.Reply.TheVariants.{Arrived, Feeding, Seated, Drawn, Noted, Text, Deny, Finished, Stray}
+use Rattle.radio_events.specs.declared.text.Text.{Text as CommandText}
+use Rattle.radio_events.specs.Texts.{line_of}
+use Rattle.radio_heads.specs.Answer.{listener_head, source_text, continue_text, denial_text, sized_text, content_type}
+use Rattle.radio_heads.specs.declared.answer.TextKind.TheVariants.{Plain}
 use Rattle.radio_icy.specs.Weaving.{Call}
 use Rattle.radio_session.specs.Draws.{draw, interval_told, weaver_at, drawn, after_draw}
 use Rattle.radio_session.specs.declared.session.Says.{Says}
@@ -74,6 +77,13 @@ body_text Continue = source_text
 abbrev pub denied : Says → Rule → Said
 denied says rule = ends (if says.is_admitted then [] else denial rule) says (By rule)
 
+-- a command was done: it is said in an answer where nothing was admitted, else by closing alone
+abbrev pub text_answer : CommandText → List ℕ
+text_answer text = sized_text 200 (content_type Plain) (line_of text)
+
+abbrev pub texted : Says → CommandText → Said
+texted says text = ends (if says.is_admitted then [] else text_answer text) says Done
+
 -- the last word of the connection itself: its bytes, and how the connection ends
 abbrev pub last_text : Greeting → LastWord → List ℕ
 last_text greeting (Refusal rule) = denial rule
@@ -97,6 +107,7 @@ said says Feeding = tells (greeting_text says.greeting) (admitted says)
 said says (Seated interval shown) = tells (listener_head shown.content_type shown.name shown.genre (interval_told interval)) (seated says interval)
 said says (Drawn bytes title) = tells (drawn says.weaver (draw bytes title)) (drew says (draw bytes title))
 said says Noted = noted says says.closing
+said says (Text text) = texted says text
 said says (Deny rule) = denied says rule
 said says (Finished rule) = ends [] says (By rule)
 said says Stray = tells [] (counted says)

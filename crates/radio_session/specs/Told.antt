@@ -9,7 +9,7 @@ use Rattle.radio_settings.specs.declared.field.Shown.{Shown}
 use Rattle.radio_heads.specs.Answer.{listener_head}
 use Rattle.radio_events.specs.declared.event.Event.{Event}
 use Rattle.radio_events.specs.declared.reply.Reply.{Reply}
-use Rattle.radio_events.specs.declared.reply.Reply.TheVariants.{Feeding, Seated, Drawn, Deny, Finished}
+use Rattle.radio_events.specs.declared.reply.Reply.TheVariants.{Feeding, Seated, Drawn, Text, Deny, Finished}
 use Rattle.radio_core.specs.World.{World}
 use Rattle.radio_core.specs.Step.{reply_to, world_after}
 use Rattle.radio_session.specs.declared.session.Says.{Says}
@@ -33,6 +33,7 @@ told says (reply ∷ replies) = (said says reply).bytes ++ while_open (said says
 abbrev pub draws_of : List Reply → List Call
 draws_of [] = []
 draws_of (Drawn bytes title ∷ replies) = draw bytes title ∷ draws_of replies
+draws_of (Text text ∷ replies) = []
 draws_of (Deny rule ∷ replies) = []
 draws_of (Finished rule ∷ replies) = []
 draws_of (reply ∷ replies) = draws_of replies

@@ -3,7 +3,7 @@
 ghost use Rattle.std.specs.Prelude.{◌≡◌, codes};
 ghost use Rattle.radio_session.specs.Conversation.{ending_word};
 ghost use Rattle.radio_session.specs.declared.state.Ending.TheVariants.{Done};
-ghost use Rattle.radio_session.specs.LastWords.{DenialsNameTheirRule, RulesWithoutStatusAreSilent, LateDenialsAreSilent, FinishesAreSilent};
+ghost use Rattle.radio_session.specs.LastWords.{DenialsNameTheirRule, RulesWithoutStatusAreSilent, LateDenialsAreSilent, FinishesAreSilent, CommandsAreAnswered};
 ghost use Rattle.radio_session.specs.LastWords.{RefusalsNameTheirRule, WholeBodiesAreDone, FaultyBodiesAreSilent};
 ghost use Rattle.radio_session.specs.Bodies.{PlainBodiesAreHeard, SizedBodiesAreHeard, ChunkedBodiesAreHeard, FaultyBodiesAreHeard};
 ghost use Rattle.radio_session.specs.Greetings.{WhoWaitsIsToldToGoOn, NobodyElseIsToldToGoOn};
@@ -114,6 +114,8 @@ pub fn last_words_name_the_rule()
     ensures denied_late { LateDenialsAreSilent }
     // who was finished is told nothing
     ensures finished { FinishesAreSilent }
+    // a command was done: an answer of its text, and the word is `done`
+    ensures command { CommandsAreAnswered }
     // the connection's own refusal: an answer that names the rule
     ensures refused { RefusalsNameTheirRule }
     // the body is whole, or there is a fault in it

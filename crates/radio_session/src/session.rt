@@ -11,6 +11,7 @@ use std::alloc::Global;
 use std::marker::Model;
 
 mod asking;
+mod commands;
 mod feeding;
 mod framing;
 mod hearing;

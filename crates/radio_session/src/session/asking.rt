@@ -1,19 +1,25 @@
 //! What a request asks of the server.
 
 ghost use Rattle.std.specs.Prelude.{◌≡◌, IfOk};
-ghost use Rattle.radio_session.specs.Asking.{pair_of, value_or, shown_by, wants_metadata, asks_to_feed, asks_to_hear};
+ghost use Rattle.radio_session.specs.Asking.{pair_of, value_or, shown_by, wants_metadata, path_in, query_in};
+ghost use Rattle.radio_session.specs.Asking.{asks_to_feed, asks_by_get, asks_to_hear, gives_command};
 
 use crate::OutOfMemory;
+use crate::session::commands::asked_in;
 use crate::session::framing::is_word;
 use bytes::Bytes;
+use radio_admin::read_path;
 use radio_creds::{Pair, basic};
-use radio_events::{Event, ListenRequest, SourceRequest};
+use radio_events::{CommandRequest, Event, ListenRequest, SourceRequest};
 use radio_heads::Head;
 use radio_settings::Shown;
 use std::alloc::Global;
 
 /// What a session shows whose source names no content type (Icecast 2.4 documentation).
 const DEFAULT_CONTENT_TYPE: &[u8] = b"audio/mpeg";
+
+/// What the paths of commands begin with.
+const COMMANDS: &[u8] = b"/admin/";
 
 /// The event of a client who asks to feed the mount of his head's path. `OutOfMemory` where memory
 /// was refused.
@@ -22,7 +28,7 @@ pub(crate) fn asks_to_feed(alloc: Global, id: u64, head: &Head) -> Result<Event,
 {
     let shown = shown_by(alloc, head)?;
     let pair = pair_of(alloc, head)?;
-    let mount = Bytes::copy_from_slice(alloc, head.path())?;
+    let mount = path_in(alloc, head)?;
     Ok(Event::Source(SourceRequest {
         id,
         mount,
@@ -31,19 +37,58 @@ pub(crate) fn asks_to_feed(alloc: Global, id: u64, head: &Head) -> Result<Event,
     }))
 }
 
-/// The event of a client who asks to hear the mount of his head's path. `OutOfMemory` where memory
-/// was refused.
-pub(crate) fn asks_to_hear(alloc: Global, id: u64, head: &Head) -> Result<Event, OutOfMemory>
-    ensures { IfOk result (λ event. event ≡ asks_to_hear id head.now) }
+/// The event of a client who asks by GET: for a command where his head's path begins with `/admin/`,
+/// and else to hear the mount of it. `OutOfMemory` where memory was refused.
+pub(crate) fn asks_by_get(alloc: Global, id: u64, head: &Head) -> Result<Event, OutOfMemory>
+    ensures { IfOk result (λ event. event ≡ asks_by_get id head.now) }
+{
+    let path = path_in(alloc, head)?;
+    if path.as_slice().starts_with(COMMANDS) {
+        gives_command(alloc, id, head, &path)
+    } else {
+        asks_to_hear(alloc, id, head, path)
+    }
+}
+
+/// The event of a client who asks to hear the mount of this path. `OutOfMemory` where memory was
+/// refused.
+fn asks_to_hear(alloc: Global, id: u64, head: &Head, path: Bytes) -> Result<Event, OutOfMemory>
+    ensures { IfOk result (λ event. event ≡ asks_to_hear id head.now path) }
 {
     let pair = pair_of(alloc, head)?;
-    let mount = Bytes::copy_from_slice(alloc, head.path())?;
     Ok(Event::Listen(ListenRequest {
         id,
-        mount,
+        mount: path,
         pair,
         wants_metadata: wants_metadata(head),
     }))
+}
+
+/// The event of a client who gives the command of this path. `OutOfMemory` where memory was refused.
+fn gives_command(alloc: Global, id: u64, head: &Head, path: &Bytes) -> Result<Event, OutOfMemory>
+    ensures { IfOk result (λ event. event ≡ gives_command id head.now path.now) }
+{
+    let pair = pair_of(alloc, head)?;
+    let asked = asked_in(alloc, path.as_slice(), query_in(head))?;
+    Ok(Event::Command(CommandRequest { id, asked, pair }))
+}
+
+/// The path that a head's target stands for, percent decoded. `OutOfMemory` where memory was refused.
+fn path_in(alloc: Global, head: &Head) -> Result<Bytes, OutOfMemory>
+    ensures { IfOk result (λ path. path ≡ path_in head.now) }
+{
+    let path = read_path(alloc, head.path())?;
+    Bytes::copy_from_slice(alloc, path.as_slice())
+}
+
+/// The query behind it; where there is none, an empty one.
+fn query_in<'b>(head: &Head<'b>) -> &'b [u8]
+    ensures { result.now ≡ query_in head.now }
+{
+    match head.query() {
+        Some(query) => query,
+        None => b"",
+    }
 }
 
 /// The user and the password that a head sends, if its `Authorization` has them (RFC 7617).

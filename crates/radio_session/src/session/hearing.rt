@@ -1,12 +1,12 @@
 ghost use Rattle.std.specs.Prelude.{◌≡◌, ◌≤◌, [], ◌∷◌, ◌++◌, drop, length, take, true, IfOk, IsErr, OnErr};
-ghost use Rattle.radio_session.specs.Hearing.{IsHeard, HearsAs, request_heard, source_heard, listener_heard, body_heard, closes_with, refuses};
+ghost use Rattle.radio_session.specs.Hearing.{IsHeard, HearsAs, request_heard, source_heard, get_heard, body_heard, closes_with, refuses};
 ghost use Rattle.radio_session.specs.Hearing.{nothing_held, going_on};
 ghost use Rattle.radio_session.specs.Conversation.{IsOpen};
 ghost use Rattle.radio_session.specs.Framing.{framing_of};
 ghost use Rattle.radio_source.specs.Feeding.{unfed};
 
 use crate::OutOfMemory;
-use crate::session::asking::{asks_to_feed, asks_to_hear};
+use crate::session::asking::{asks_by_get, asks_to_feed};
 use crate::session::feeding::{KeptBody, push_blocks};
 use crate::session::framing::{body, framing_of, greeting, is_source};
 use crate::session::{Closing, Hears, LastWord, Session};
@@ -103,17 +103,17 @@ impl Session {
         if is_source(head) {
             self.take_source(head, behind)
         } else if head.method() == b"GET".as_slice() {
-            self.take_listener(head)
+            self.take_get(head)
         } else {
             self.refuse(Rule::BadMethod)
         }
     }
 
-    /// A listener's head.
-    fn take_listener(&mut self, head: &Head) -> Result<Vec<Event>, OutOfMemory>
-        ensures { IfOk result (λ events. listener_heard self.old head.now ≡ record { events = events.items; conversation = self.new }) }
+    /// The head of a GET.
+    fn take_get(&mut self, head: &Head) -> Result<Vec<Event>, OutOfMemory>
+        ensures { IfOk result (λ events. get_heard self.old head.now ≡ record { events = events.items; conversation = self.new }) }
     {
-        let event = asks_to_hear(self.alloc, self.id, head)?;
+        let event = asks_by_get(self.alloc, self.id, head)?;
         let mut events = Vec::new(self.alloc);
         events.push(event)?;
         self.go_on(Hears::Nothing);

@@ -1,7 +1,7 @@
 ghost use Rattle.std.specs.Prelude.{◌≡◌, ◌≤◌, ◌++◌, length, true, Some, option_copied, option_map, IfOk, IfSome, IsErr, OnOk, OnErr};
 ghost use Rattle.radio_heads.specs.Answer.{answer_text, listener_head};
 ghost use Rattle.radio_session.specs.Conversation.{saying_now};
-ghost use Rattle.radio_session.specs.Saying.{said, denied, noted, counted, one_less, admitted, seated, drew, last_text, last_ending, greeting_text, denial};
+ghost use Rattle.radio_session.specs.Saying.{said, texted, denied, noted, counted, one_less, admitted, seated, drew, last_text, last_ending, greeting_text, text_answer, denial};
 ghost use Rattle.radio_session.specs.Draws.{draw, drawn, interval_told, weaver_at};
 ghost use Rattle.radio_icy.specs.Limits.{max_title};
 ghost use Rattle.radio_session.specs.declared.state.State.TheVariants.{Running, Shut};
@@ -11,8 +11,8 @@ use crate::session::weaving::{interval_told, tell_draw, text_of, weaver_at};
 use crate::session::{Closing, Greeting, LastWord, Session};
 use crate::state::{Ending, State};
 use radio_blocks::Pieces;
-use radio_events::Reply;
-use radio_heads::{Answer, FieldValue, Welcome, write_answer};
+use radio_events::{Reply, Text};
+use radio_heads::{Answer, FieldValue, TextKind, Welcome, write_answer};
 use radio_policy::Rule;
 use radio_settings::Shown;
 use std::alloc::{AllocError, Global};
@@ -67,6 +67,7 @@ impl Session {
             Reply::Seated { interval, shown } => self.admit_listener(*interval, shown, out),
             Reply::Drawn { pieces, title } => self.tell_pieces(pieces, text_of(title), out),
             Reply::Noted => self.note(out),
+            Reply::Text(text) => self.tell_text(*text, out),
             Reply::Deny(rule) => self.deny(*rule, out),
             Reply::Finished(rule) => Ok(State::Shut(Ending::By(*rule))),
             Reply::Arrived(_) | Reply::Stray => {
@@ -123,6 +124,18 @@ impl Session {
         tell_draw(&mut self.says.weaver, pieces, title, out)?;
         self.count();
         Ok(State::Running)
+    }
+
+    /// A command was done, and this is said of it.
+    fn tell_text(&self, text: Text, out: &mut Vec<u8>) -> Result<State, OutOfMemory>
+        ensures bytes { IfOk result (λ _. out.new.items ≡ out.old.items ++ (texted self.now.says text).bytes) }
+        ensures state { IfOk result (λ state. state ≡ (texted self.now.says text).state) }
+        ensures silent { OnErr result (out.new.items ≡ out.old.items) }
+    {
+        if !self.says.is_admitted {
+            tell_line(self.alloc, text, out)?;
+        }
+        Ok(State::Shut(Ending::Done))
     }
 
     /// The policy denies.
@@ -254,6 +267,19 @@ fn welcome(
         genre: FieldValue::new(shown.genre.as_bytes()),
         interval,
     });
+    tell(alloc, &answer, out)
+}
+
+/// Appends the answer whose body is the line of the text.
+fn tell_line(alloc: Global, text: Text, out: &mut Vec<u8>) -> Result<(), OutOfMemory>
+    ensures ok { OnOk result (out.new.items ≡ out.old.items ++ text_answer text) }
+    ensures err { OnErr result (out.new.items ≡ out.old.items) }
+{
+    let line = text.to_string(alloc)?;
+    let answer = Answer::Text {
+        kind: TextKind::Plain,
+        body: line.as_bytes(),
+    };
     tell(alloc, &answer, out)
 }
 

@@ -8,6 +8,7 @@ returns c = record {
   no_status = lemmas.rules_without_status_are_silent;
   denied_late = lemmas.late_denials_are_silent;
   finished = lemmas.finishes_are_silent;
+  command = lemmas.commands_are_answered;
   refused = lemmas.refusals_name_their_rule;
   whole = lemmas.whole_bodies_are_done;
   faulty = lemmas.faulty_bodies_are_silent;

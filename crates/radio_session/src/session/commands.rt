@@ -1,0 +1,71 @@
+//! What the path of a command and its arguments ask of the server.
+
+ghost use Rattle.std.specs.Prelude.{◌≡◌, IfOk};
+ghost use Rattle.radio_session.specs.Commands.{asked_in, asked_with, lacking};
+
+use crate::OutOfMemory;
+use radio_admin::{AdminFault, Command as Read, CommandKind, read_command};
+use radio_events::{Asked, Command, OpenedBy};
+use radio_icy::Title;
+use radio_settings::MountName;
+use std::alloc::{AllocError, Global};
+
+/// What a decoded path of commands, and the query behind it, ask for. `OutOfMemory` where memory was
+/// refused.
+pub(super) fn asked_in(alloc: Global, path: &[u8], query: &[u8]) -> Result<Asked, OutOfMemory>
+    ensures { IfOk result (λ asked. asked ≡ asked_in path.now query.now) }
+{
+    match read_command(alloc, path, query) {
+        Ok(command) => asked_with(alloc, &command),
+        Err(AdminFault::NoCommand) => Ok(Asked::NoCommand),
+        Err(AdminFault::MissingArgument(kind, mount)) => Ok(lacking(kind, mount)),
+        Err(AdminFault::OutOfMemory) => Err(AllocError),
+    }
+}
+
+/// What a command that was read asks for; those that list are none yet. `OutOfMemory` where memory
+/// was refused.
+fn asked_with(alloc: Global, command: &Read) -> Result<Asked, OutOfMemory>
+    ensures { IfOk result (λ asked. asked ≡ asked_with command.now) }
+{
+    match command {
+        Read::MoveClients(sent) => Ok(Asked::Command(Command::MoveClients {
+            mount: sent.mount,
+            destination: sent.destination,
+        })),
+        Read::KillClient(sent) => Ok(Asked::Command(Command::KillClient {
+            mount: sent.mount,
+            listener: sent.id,
+        })),
+        Read::KillSource(mount) => Ok(Asked::Command(Command::KillSource { mount: *mount })),
+        Read::Metadata(sent) => Ok(Asked::Command(Command::SetTitle {
+            mount: sent.mount,
+            title: Title::clean(alloc, sent.title.as_bytes())?,
+        })),
+        Read::Fallbacks(sent) => Ok(Asked::Command(Command::SetFallback {
+            mount: sent.mount,
+            fallback: sent.fallback,
+        })),
+        Read::Stats | Read::ListMounts | Read::ListClients(_) | Read::StreamList => {
+            Ok(Asked::NoCommand)
+        }
+    }
+}
+
+/// What is asked for where a command of this kind lacks an argument, and names this mount, if any.
+fn lacking(kind: CommandKind, mount: Option<MountName>) -> Asked
+    ensures { result ≡ lacking kind mount }
+{
+    match kind {
+        CommandKind::Metadata | CommandKind::Fallbacks => {
+            Asked::MissingArgument(OpenedBy::Source(mount))
+        }
+        CommandKind::MoveClients | CommandKind::KillClient | CommandKind::KillSource => {
+            Asked::MissingArgument(OpenedBy::Admin)
+        }
+        CommandKind::Stats
+        | CommandKind::ListMounts
+        | CommandKind::ListClients
+        | CommandKind::StreamList => Asked::NoCommand,
+    }
+}
