@@ -214,12 +214,23 @@ fn one_moved(seats: &Seats, carried: Option<Carried>, rule: Rule) -> Result<bool
     Ok(lands && is_out(seats, 4, rule) && has_carried(carried, 1, 1))
 }
 
-/// Two sit at `/a`, whose session ends: one of them finds a seat, and the rule stops the other.
+/// Two sit down at `/a`, whose session ends: one of them finds a seat, and the rule stops the other.
+fn moves_one_of(
+    alloc: Global,
+    station: &Station,
+    seats: &mut Seats,
+    rule: Rule,
+) -> Result<bool, OutOfMemory> {
+    seat_two(alloc, seats)?;
+    let carried = carry_at(station, seats, &Move::Ended(name(b"/a")?));
+    one_moved(seats, carried, rule)
+}
+
 fn moves_one(alloc: Global, station: &Station, rule: Rule) -> Result<bool, OutOfMemory> {
     let mut seats = Seats::new(alloc);
-    seat_two(alloc, &mut seats)?;
-    let carried = carry_at(station, &mut seats, &Move::Ended(name(b"/a")?));
-    one_moved(&seats, carried, rule)
+    let moves = moves_one_of(alloc, station, &mut seats, rule);
+    drop(seats);
+    moves
 }
 
 /// The fallback asks its users, of whom the second is none.
@@ -325,12 +336,22 @@ fn one_came_home(seats: &Seats, carried: Option<Carried>) -> Result<bool, OutOfM
     Ok(sits_at_end(seats, 3, &a) && stays && has_carried(carried, 1, 0))
 }
 
-/// `/a` comes up: of the two who sit at `/b`, he whose home it is comes home.
+/// `/a` comes up: of the two who sit down at `/b`, he whose home it is comes home.
+fn one_comes_home(
+    alloc: Global,
+    station: &Station,
+    seats: &mut Seats,
+) -> Result<bool, OutOfMemory> {
+    seat_away(alloc, seats)?;
+    let carried = carry_at(station, seats, &Move::Up(name(b"/a")?));
+    one_came_home(seats, carried)
+}
+
 fn comes_home(alloc: Global, station: &Station) -> Result<bool, OutOfMemory> {
     let mut seats = Seats::new(alloc);
-    seat_away(alloc, &mut seats)?;
-    let carried = carry_at(station, &mut seats, &Move::Up(name(b"/a")?));
-    one_came_home(&seats, carried)
+    let comes = one_comes_home(alloc, station, &mut seats);
+    drop(seats);
+    comes
 }
 
 fn who_comes_home(alloc: Global) -> Result<bool, OutOfMemory> {
@@ -355,12 +376,22 @@ fn all_but_one(seats: &Seats, carried: Option<Carried>) -> Result<bool, OutOfMem
 }
 
 /// A thousand listeners are carried to a mount that has room for 999.
+fn carries_all_but_one(
+    alloc: Global,
+    station: &Station,
+    seats: &mut Seats,
+) -> Result<bool, OutOfMemory> {
+    seats.prepare(&name(b"/b")?)?;
+    seat_a_thousand(alloc, seats)?;
+    let carried = carry_at(station, seats, &Move::Ended(name(b"/a")?));
+    all_but_one(seats, carried)
+}
+
 fn carry_a_thousand(alloc: Global, station: &Station) -> Result<bool, OutOfMemory> {
     let mut seats = Seats::new(alloc);
-    seats.prepare(&name(b"/b")?)?;
-    seat_a_thousand(alloc, &mut seats)?;
-    let carried = carry_at(station, &mut seats, &Move::Ended(name(b"/a")?));
-    all_but_one(&seats, carried)
+    let carries = carries_all_but_one(alloc, station, &mut seats);
+    drop(seats);
+    carries
 }
 
 fn a_thousand(alloc: Global) -> Result<bool, OutOfMemory> {
