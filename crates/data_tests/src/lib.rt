@@ -7,6 +7,7 @@
 //! - `bodies`: feeds behind an end or a fault; `icy`: sound with titles woven into it and taken out.
 //! - `addresses`: peers as texts; `credentials`: values that no head can hold, and secrets.
 //! - `log_lines`: lines of the log, and the calendar.
+//! - `intake`: connections that are put, taken and counted, also by two threads.
 //! - `heads`: queries, faults, heads of responses, and answers with a body.
 //! - `settings`: every key read back, names and want of memory; `scripts`: whole scripts over devices that fail, and
 //!   lists of deliveries.
@@ -26,6 +27,8 @@ mod fallbacks;
 mod heads;
 #[cfg(test)]
 mod icy;
+#[cfg(test)]
+mod intake;
 #[cfg(test)]
 mod log_lines;
 #[cfg(test)]

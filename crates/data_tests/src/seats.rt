@@ -106,14 +106,14 @@ fn are_counted(alloc: Global, seats: &mut Seats) -> Result<bool, OutOfMemory> {
     Ok(begun && moved && gone && counts(seats, &one, &other) == (27, 22))
 }
 
-/// Those of a mount who came before a moment, then those of all mounts, then all of a mount.
+/// Those of a mount who came before a moment, then those of all mounts, then the rest.
 fn are_finished(seats: &mut Seats) -> Result<bool, OutOfMemory> {
     let (one, other) = (mount(b"/one")?, mount(b"/other")?);
     seats.finish_at_if(&one, &CameBefore { moment: 11 }, Rule::Lagged);
     let some = counts(seats, &one, &other) == (20, 22) && has_lost(seats, 10, Rule::Lagged);
     seats.finish_if(&CameBefore { moment: 41 }, Rule::TimeOver);
     let more = counts(seats, &one, &other) == (0, 10) && has_lost(seats, 40, Rule::TimeOver);
-    seats.finish_at(&other, Rule::NotLive);
+    seats.finish_at_if(&other, &CameBefore { moment: 51 }, Rule::NotLive);
     Ok(some && more && counts(seats, &one, &other) == (0, 0) && has_lost(seats, 50, Rule::NotLive))
 }
 

@@ -21,7 +21,7 @@ pub fn is_source_pair(settings: &Settings, mount: &MountName, pair: Option<&Pair
 }
 
 /// Whether a pair is the login.
-fn is_login(login: &Login, pair: &Pair) -> bool
+pub(crate) fn is_login(login: &Login, pair: &Pair) -> bool
     ensures { result ≡ is_login login.now pair.now }
 {
     let is_user = is_same(login.username.as_bytes(), pair.user());

@@ -7,23 +7,25 @@ use Rattle.radio_addr.specs.declared.peer.Peer.{Peer}
 use Rattle.radio_tables.proofs.FindLaws.{find_here, find_later}
 use Rattle.radio_tables.proofs.KeyLaws.{by_number}
 use Rattle.radio_seats.specs.Seats.{listener_of}
+use Rattle.radio_events.specs.declared.command.Command.{Command}
+use Rattle.radio_events.specs.declared.command.Command.TheVariants.{MoveClients, KillClient, KillSource, SetTitle, SetFallback}
 use Rattle.radio_events.specs.declared.event.Event.{Event}
 use Rattle.radio_core.specs.declared.clients.ClientState.{ClientState}
 use Rattle.radio_core.specs.declared.clients.ClientState.TheVariants.{Undecided as IsNew, Feeds as IsSource, Listens, Answered as HasHisAnswer}
 use Rattle.radio_core.specs.declared.outcome.Outcome.{Outcome}
-use Rattle.radio_core.specs.declared.outcome.Change.TheVariants.{Admit}
+use Rattle.radio_core.specs.declared.outcome.Change.TheVariants.{Admit, Obey}
 use Rattle.radio_core.specs.declared.standing.Standing.TheVariants.{Unknown}
 use Rattle.radio_core.specs.declared.house.House.{House}
 use Rattle.radio_core.specs.Source.{shown_for}
-use Rattle.radio_core.specs.Changes.{changed, begun, before_silence, session_silenced, silent_in, ticked}
+use Rattle.radio_core.specs.Changes.{answered, session_killed, changed, begun, before_silence, session_silenced, silent_in, ticked}
 use Rattle.radio_core.specs.ClientSteps.{ArrivalsStay}
 use Rattle.radio_core.specs.Clients.{Client, is_client, client_of, with_state, in_state, without_client}
-use Rattle.radio_core.specs.Sessions.{Session}
+use Rattle.radio_core.specs.Sessions.{Session, session_of}
 use Rattle.radio_core.specs.Sound.{IsSound}
 use Rattle.radio_core.specs.Step.{outcome, world_after}
 use Rattle.radio_core.specs.Timeouts.{timed_out}
 use Rattle.radio_core.specs.Ways.{Way, Misplaced, IsFinished, IsDenied, IsRefused, IsAdmitted, Begins, Receives, SetsTitle, TakesSeat, HandsOut, Ends}
-use Rattle.radio_core.specs.Ways.{EndsAndLeaves, Leaves, HasPassed, Ticks}
+use Rattle.radio_core.specs.Ways.{EndsAndLeaves, Leaves, Obeys, HasPassed, Ticks}
 use Rattle.radio_core.specs.World.{World, standing_of, standing_in}
 use Rattle.radio_core.proofs.CalledHome.{house_called}
 use Rattle.radio_core.proofs.Lookups.{does, beside_state, is_no_client, beside_forgotten, beside_new}
@@ -116,6 +118,22 @@ keeps_ticked w ms =
     keeps_then w.house.clients later.house.clients (ticked w ms).house.clients
     (keeps_timed w.house.settings.limits.header_timeout ms w.house.clients) (keeps_silenced (silent_in later) later)
 
+keeps_killed : (w : World) (found : Option Session) → Keeps w.house.clients (session_killed w found).house.clients
+keeps_killed w None = same_clients w.house.clients
+keeps_killed w (Some session) = keeps_state w.house.clients session.number _
+
+keeps_obeyed : (w : World) (him : ℕ) (command : Command) → Keeps w.house.clients (changed w (Obey him command)).house.clients
+keeps_obeyed w him command =
+    let heard = answered w him in
+    keeps_then w.house.clients heard.house.clients (changed w (Obey him command)).house.clients (keeps_state w.house.clients him HasHisAnswer)
+    (by_command command) where
+      by_command : (command : Command) → Keeps (answered w him).house.clients (changed w (Obey him command)).house.clients
+      by_command (MoveClients mount destination) = same_clients (answered w him).house.clients
+      by_command (KillClient mount listener) = same_clients (answered w him).house.clients
+      by_command (KillSource mount) = keeps_killed (answered w him) (session_of w.house.live mount)
+      by_command (SetTitle mount text) = same_clients (answered w him).house.clients
+      by_command (SetFallback mount fallback) = same_clients (answered w him).house.clients
+
 module _ (w : World) (s : IsSound w) where
   abbrev Stay : World → Type 0
   Stay now = (id : ℕ) (client later : Client) → client_of w.house.clients id ≡ Some client → client_of now.house.clients id ≡ Some later
@@ -163,6 +181,7 @@ module _ (w : World) (s : IsSound w) where
   stay_by event o (Ends him mount feeding) = stays_so (changed w o.change) (keeps_state w.house.clients him HasHisAnswer)
   stay_by event o (EndsAndLeaves him mount feeding) = stays_so (changed w o.change) (keeps_forgotten w.house.clients him)
   stay_by event o (Leaves him other) = stays_so (changed w o.change) (keeps_forgotten w.house.clients him)
+  stay_by event o (Obeys _ command c) = stays_so (changed w o.change) (keeps_obeyed w c.asked.id command)
   stay_by event o (HasPassed ms e) = stays_so w (same_clients w.house.clients)
   stay_by event o (Ticks ms e) = stays_so (ticked w ms) (keeps_ticked w ms)
 

@@ -11,7 +11,7 @@ use Rattle.radio_core.specs.declared.outcome.Outcome.{Outcome}
 use Rattle.radio_core.specs.declared.standing.Standing.{Standing}
 use Rattle.radio_core.specs.declared.standing.Standing.TheVariants.{Unknown, Undecided, Feeds, Finished as HasFinished}
 use Rattle.radio_core.specs.Changes.{changed, taken_in}
-use Rattle.radio_core.specs.ClientSteps.{ClientStep, Stays, Arrives, IsAnswered, BeginsToFeed, SitsDown, StopsFeeding, ClientsStep}
+use Rattle.radio_core.specs.ClientSteps.{ClientStep, Stays, Arrives, IsAnswered, IsObeyed, BeginsToFeed, SitsDown, StopsFeeding, ClientsStep}
 use Rattle.radio_core.specs.ClientSteps.{Leaves as HeLeaves, IsFinished as HeIsFinished}
 use Rattle.radio_core.specs.Finishes.{Cause, Finishes}
 use Rattle.radio_core.specs.Listen.{first_seat}
@@ -20,12 +20,14 @@ use Rattle.radio_core.specs.Sound.{IsSound}
 use Rattle.radio_core.specs.Source.{shown_for}
 use Rattle.radio_core.specs.Step.{outcome, reply_to, world_after}
 use Rattle.radio_core.specs.Ways.{Way, Misplaced, IsFinished, IsDenied, IsRefused, IsAdmitted, Begins, Receives, SetsTitle, TakesSeat, HandsOut, Ends}
-use Rattle.radio_core.specs.Ways.{EndsAndLeaves, Leaves, HasPassed, Ticks}
+use Rattle.radio_core.specs.Ways.{EndsAndLeaves, Leaves, Obeys, HasPassed, Ticks}
 use Rattle.radio_core.specs.World.{World, standing_of}
 use Rattle.radio_seats.proofs.SeatLaws.{listener_seated}
 use Rattle.radio_core.proofs.CalledHome.{turns_up}
 use Rattle.radio_core.proofs.Fates.{Fate, GoesOn, IsEnded, HasStopped, IsMoved, HasEnded, Nobody}
 use Rattle.radio_core.proofs.FinishLemmas.{others_hold, finish_step, undecided_before}
+use Rattle.radio_core.proofs.Effects.{his_event}
+use Rattle.radio_core.proofs.Obeyed.{is_answered}
 use Rattle.radio_core.proofs.OwnLemmas.{by_own}
 use Rattle.radio_core.proofs.ReplyLemmas.{replies_fit}
 use Rattle.radio_core.proofs.SoundEnds.{turns_ended, turns_ended_and_left}
@@ -98,6 +100,12 @@ module _ (w : World) (s : IsSound w) (id : ℕ) (C : Rule → Type 0) where
       let same : him ≡ id = cc in
       turned w C event id refl (sym (turns_forgotten w him).his ∙ ap (standing_of (changed w o.change)) same)
       (HeLeaves (standing_of w id) (ap (λ (n : ℕ). Leave n) same))
+  own_by event o (Obeys _ command c) his fin denies =
+      let both : Some c.asked.id ≡ Some id = sym (his_event w s event command c) ∙ his in
+      let same : c.asked.id ≡ id = cc in
+      turned w C event id (sym c.undecided ∙ ap (standing_of w) same)
+      (sym (is_answered w s event command c) ∙ ap (standing_of (changed w o.change)) same)
+      (IsObeyed c.peer command his c)
   own_by event o (HasPassed ms e) his fin denies = cc
   own_by event o (Ticks ms e) his fin denies = cc
 

@@ -4,7 +4,7 @@ use Rattle.std.specs.Prelude.{if◌then◌else◌, fold, filter, map, not}
 use Rattle.std.specs.Option.{option_map_or}
 use Rattle.std.proofs.lemmas.Bool.Decides.{nat_tests}
 use Rattle.radio_policy.specs.declared.rule.Rule.{Rule}
-use Rattle.radio_policy.specs.declared.rule.Rule.TheVariants.{HeaderTimeout, TimeOver, SourceSilent, Lagged}
+use Rattle.radio_policy.specs.declared.rule.Rule.TheVariants.{HeaderTimeout, TimeOver, SourceSilent, Lagged, Killed, SourceKilled}
 use Rattle.radio_settings.specs.declared.settings.Settings.{Settings}
 use Rattle.radio_settings.specs.Options.{options_for}
 use Rattle.radio_access.specs.Lists.{Lists}
@@ -15,21 +15,23 @@ use Rattle.radio_seats.specs.declared.seat.Seating.{Seating}
 use Rattle.radio_seats.specs.declared.seat.Seating.TheVariants.{Sits, Finished}
 use Rattle.radio_seats.specs.declared.seat.Listener.{Listener}
 use Rattle.radio_seats.specs.Seats.{is_listener, by_listener, seated, advanced, moved, loses, holds_of, finished_if, with_ended}
+use Rattle.radio_events.specs.declared.command.Command.{Command}
+use Rattle.radio_events.specs.declared.command.Command.TheVariants.{MoveClients, KillClient, KillSource, SetTitle as NewTitle, SetFallback}
 use Rattle.radio_core.specs.declared.clients.ClientState.{ClientState}
 use Rattle.radio_core.specs.declared.clients.ClientState.TheVariants.{Undecided, Feeds, Listens, Answered, Ended}
 use Rattle.radio_core.specs.declared.outcome.Change.{Change}
 use Rattle.radio_core.specs.declared.outcome.Change.TheVariants.{Nothing, Answer, Admit, Begin, Receive, SetTitle, TakeSeat, Advance, End}
-use Rattle.radio_core.specs.declared.outcome.Change.TheVariants.{EndAndLeave, Forget, Tick}
+use Rattle.radio_core.specs.declared.outcome.Change.TheVariants.{EndAndLeave, Forget, Tick, Obey}
 use Rattle.radio_fallback.specs.declared.moves.Move.{Move}
-use Rattle.radio_fallback.specs.declared.moves.Move.TheVariants.{Ended as SessionEnds, Up}
+use Rattle.radio_fallback.specs.declared.moves.Move.TheVariants.{Ended as SessionEnds, Up, To}
 use Rattle.radio_fallback.proofs.Faring.{each_carried}
-use Rattle.radio_core.specs.Changes.{begun, carried_along, session_over, session_ended, called_home, client_gone, before_silence}
+use Rattle.radio_core.specs.Changes.{answered, done, session_ended_by, session_killed, begun, carried_along, session_over, session_ended, called_home, client_gone, before_silence}
 use Rattle.radio_core.specs.Changes.{session_silenced, silent_in, ticked}
 use Rattle.radio_core.specs.Clients.{Client, newcomer, is_client, by_number, with_state, in_state}
 use Rattle.radio_core.specs.Due.{last_moment, due_at, due_in_state, client_due, listener_due, session_due, IsDueFrom, earliest, first_due, due_by, at_moment}
 use Rattle.radio_core.specs.Facts.{live_end, sight_of}
 use Rattle.radio_core.specs.KeptChanges.{kept_changed, longer_kept, kept_received}
-use Rattle.radio_core.specs.Sessions.{Session, is_of, by_mount, opened, with_title}
+use Rattle.radio_core.specs.Sessions.{Session, session_of, is_of, by_mount, opened, with_title}
 use Rattle.radio_core.specs.Timeouts.{lies_back, lags_behind, asks_nothing, asks_too_late, timed_out, has_sat_out, is_silent}
 use Rattle.radio_core.proofs.SilentLemmas.{none_pass}
 use Rattle.radio_core.specs.World.{World, opening}
@@ -162,6 +164,7 @@ brings_by_last w (End id mount) = omega arith
 brings_by_last w (EndAndLeave id mount) = omega arith
 brings_by_last w (Forget id) = omega arith
 brings_by_last w (Tick ms) = omega arith
+brings_by_last w (Obey id command) = omega arith
 
 -- a change brings nothing that is due earlier
 
@@ -228,18 +231,42 @@ module _ (moment : ℕ) (last : moment ≤ last_moment) where
   answered_are_due : (w : World) (id : ℕ) → ClientsAreDue w w.house.clients → ClientsAreDue w (in_state w.house.clients id Answered)
   answered_are_due w id all = Each_updated _ (is_client id) (with_state Answered) (λ client h. last) w.house.clients all
 
-  silenced_due : (w : World) (session : Session) → IsDueFrom moment w → IsDueFrom moment (session_silenced w session)
-  silenced_due w session due =
+  ended_by_due : (rule : Rule) (w : World) (session : Session) → IsDueFrom moment w → IsDueFrom moment (session_ended_by rule w session)
+  ended_by_due rule w session due =
       let over = over_due w session.mount due in
       record {
-        clients = Each_updated _ (is_client session.number) (with_state (Ended SourceSilent)) (λ client h. last) w.house.clients over.clients;
+        clients = Each_updated _ (is_client session.number) (with_state (Ended rule)) (λ client h. last) w.house.clients over.clients;
         listeners = over.listeners;
         sessions = over.sessions;
       }
 
+  killed_due : (w : World) (found : Option Session) → IsDueFrom moment w → IsDueFrom moment (session_killed w found)
+  killed_due w None due = due
+  killed_due w (Some session) due = ended_by_due SourceKilled w session due
+
+  answered_due : (w : World) (id : ℕ) → IsDueFrom moment w → IsDueFrom moment (answered w id)
+  answered_due w id due = record { clients = answered_are_due w id due.clients; listeners = due.listeners; sessions = due.sessions }
+
+  -- a command is done
+  done_due : (w : World) (command : Command) → IsDueFrom moment w → IsDueFrom moment (done w command)
+  done_due w (MoveClients mount destination) due =
+      record { clients = due.clients; listeners = carried_due w (To mount destination) due.listeners; sessions = due.sessions }
+  done_due w (KillClient mount listener) due = record {
+    clients = due.clients;
+    listeners = Each_updated _ (is_listener listener) (loses Killed) (λ x h. lost_due w.house.settings Killed x.id x.seating h) w.seats due.listeners;
+    sessions = due.sessions;
+  }
+  done_due w (KillSource mount) due = killed_due w (session_of w.house.live mount) due
+  done_due w (NewTitle mount text) due = record {
+    clients = due.clients;
+    listeners = due.listeners;
+    sessions = Each_updated _ (is_of mount) (with_title (Some text)) (λ session h. h) w.house.live due.sessions;
+  }
+  done_due w (SetFallback mount fallback) due = record { clients = due.clients; listeners = due.listeners; sessions = due.sessions }
+
   silence_due : (sessions : List Session) (w : World) → IsDueFrom moment w → IsDueFrom moment (fold session_silenced w sessions)
   silence_due [] w due = due
-  silence_due (session ∷ sessions) w due = silence_due sessions (session_silenced w session) (silenced_due w session due)
+  silence_due (session ∷ sessions) w due = silence_due sessions (session_silenced w session) (ended_by_due SourceSilent w session due)
 
   timed_out_due : (seconds ms : ℕ) (client : Client) (late : Bool) → moment ≤ client_due seconds client
       → moment ≤ client_due seconds (with_state (if late then Ended HeaderTimeout else client.state) client)
@@ -266,7 +293,7 @@ module _ (moment : ℕ) (last : moment ≤ last_moment) where
 
   stays_due : (w : World) (change : Change) → IsDueFrom moment w → moment ≤ due_by w change → IsDueFrom moment (kept_changed w change)
   stays_due w Nothing due h = due
-  stays_due w (Answer id) due h = record { clients = answered_are_due w id due.clients; listeners = due.listeners; sessions = due.sessions }
+  stays_due w (Answer id) due h = answered_due w id due
   stays_due w (Admit id peer) due h = record {
     clients = Each_placed _ by_number (newcomer id peer w.house.time) w.house.clients h due.clients;
     listeners = due.listeners;
@@ -299,6 +326,7 @@ module _ (moment : ℕ) (last : moment ≤ last_moment) where
   stays_due w (EndAndLeave id mount) due h = forgotten_due (session_ended w mount) id (over_due w mount due)
   stays_due w (Forget id) due h = forgotten_due w id due
   stays_due w (Tick ms) due h = ticked_due w ms due
+  stays_due w (Obey id command) due h = done_due (answered w id) command (answered_due w id due)
 
 due_after : (w : World) (change : Change) (moment : ℕ) → IsDueFrom moment w
     → IsDueFrom (min moment (due_by w change)) (kept_changed w change)

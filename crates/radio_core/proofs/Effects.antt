@@ -1,10 +1,13 @@
 -- what an event does to how clients stand
-use Rattle.std.proofs.Common.{◌≡◌, true, ℕ, ◌+◌, Some, None, List, refl}
+use Rattle.std.proofs.Common.{◌≡◌, true, false, ℕ, ◌+◌, ◌==◌, Some, None, List, refl, ap, sym, ◌∙◌}
 use Rattle.radio_addr.specs.declared.peer.Peer.{Peer}
 use Rattle.radio_policy.specs.declared.rule.Rule.{Rule}
 use Rattle.radio_events.specs.declared.event.Event.{Event}
 use Rattle.radio_events.specs.declared.event.Event.TheVariants.{Push, SourceEnd, Leave, Clock}
-use Rattle.radio_core.specs.declared.outcome.Change.TheVariants.{End, EndAndLeave}
+use Rattle.radio_tables.proofs.KeyLaws.{by_number}
+use Rattle.radio_events.specs.declared.command.Command.{Command}
+use Rattle.radio_core.specs.CommandFacts.{IsCommanded}
+use Rattle.radio_core.specs.declared.outcome.Change.TheVariants.{End, EndAndLeave, Obey}
 use Rattle.radio_core.specs.declared.outcome.Outcome.{Outcome}
 use Rattle.radio_events.specs.declared.reply.Reply.{Reply}
 use Rattle.radio_events.specs.declared.reply.Reply.TheVariants.{Arrived}
@@ -23,7 +26,7 @@ use Rattle.radio_core.specs.Sound.{IsSound}
 use Rattle.radio_core.specs.Source.{shown_for}
 use Rattle.radio_core.specs.Step.{outcome, reply_to, world_after}
 use Rattle.radio_core.specs.Ways.{Way, Misplaced, IsFinished, IsDenied, IsRefused, IsAdmitted, Begins, Receives, SetsTitle, TakesSeat, HandsOut, Ends}
-use Rattle.radio_core.specs.Ways.{EndsAndLeaves, Leaves, HasPassed, Ticks}
+use Rattle.radio_core.specs.Ways.{EndsAndLeaves, Leaves, Obeys, HasPassed, Ticks}
 use Rattle.radio_events.specs.Events.{client_in}
 use Rattle.radio_seats.proofs.SeatLaws.{listener_seated}
 use Rattle.radio_core.proofs.CalledHome.{turns_up}
@@ -32,6 +35,7 @@ use Rattle.radio_core.proofs.Fates.{IsDone, Fate, GoesOn, IsEnded, HasStopped, I
 use Rattle.radio_core.proofs.SoundEnds.{ended_fates, ended_and_left_fates}
 use Rattle.radio_core.proofs.SoundRuns.{grown_world, NoMove, lag_fates}
 use Rattle.radio_core.proofs.TickLemmas.{ClockCarries, ticked_fates}
+use Rattle.radio_core.proofs.Obeyed.{LeavesFor, Takes, obeyed, is_answered, others_stood}
 use Rattle.radio_core.proofs.Ways.{way_of, may_arrive}
 
 -- by his own event nobody finishes, or comes to have asked for nothing
@@ -83,6 +87,37 @@ module _ (w : World) (s : IsSound w) (mount block : List ℕ) (him : ℕ) (feedi
     by_fate (HasStopped other why feeds done none over) = absurd why
     by_fate (IsMoved old session carries left had has same live opens) = absurd carries
 
+-- a command is done: the client who gave it has had his answer, and whom it names is finished, or carried along
+module _ (w : World) (s : IsSound w) (event : Event) (command : Command) (c : IsCommanded w event command) where
+  abbrev then_world : World
+  then_world = changed w (Obey c.asked.id command)
+
+  pub his_event : client_in event ≡ Some c.asked.id
+  his_event = ap client_in c.is_event
+
+  has_his_answer : (now : Standing) → now ≡ Answered → HasActed now
+  has_his_answer Answered e = tt
+  has_his_answer Unknown e = tt
+  has_his_answer (Undecided peer) e = cc
+  has_his_answer (Feeds mount) e = tt
+  has_his_answer Sits e = tt
+  has_his_answer (Finished rule) e = cc
+
+  pub obeyed_swept : (id : ℕ) → IsSwept w (changed w (Obey c.asked.id command)) event id
+  obeyed_swept id =
+      by_number c.asked.id id
+      (λ same. HasDone (his_event ∙ ap (λ (n : ℕ). Some n) same)
+      (has_his_answer (standing_of then_world id) (ap (standing_of then_world) (sym same) ∙ is_answered w s event command c)))
+      (λ apart. by_fate apart ((obeyed w s event command c).fates.fate id)) where
+        by_fate : (c.asked.id == id) ≡ false
+            → Fate (Cause w (changed w (Obey c.asked.id command)) event) (Takes w event) Nobody (LeavesFor w event) (obeyed w s event command c).base
+            (changed w (Obey c.asked.id command)) id
+            → IsSwept w (changed w (Obey c.asked.id command)) event id
+        by_fate apart (GoesOn same seat feeds sits) = GoesOnAs (same ∙ others_stood w s event command c id apart)
+        by_fate apart (IsEnded rule cause active ended none over) = IsOut rule cause ended none
+        by_fate apart (HasStopped other why feeds done none over) = absurd why
+        by_fate apart (IsMoved old session carries left had has same live opens) = GoesOnAs (same ∙ others_stood w s event command c id apart)
+
 module _ (w : World) (s : IsSound w) where
   pub tick_swept : (ms : ℕ) (id : ℕ) → IsSwept w (ticked w ms) (Clock ms) id
   tick_swept ms id = swept w (ticked w ms) (Clock ms) (ClockCarries w s ms) Nobody HasEnded id (λ why. absurd why) ((ticked_fates w s ms).fate id)
@@ -96,6 +131,7 @@ module _ (w : World) (s : IsSound w) where
   effect_by event o (Begins asked undecided none allowed) = let at = undecided.1 in Acts asked.id (Feeds asked.mount) refl tt
       (turns_up w s asked.id asked.mount (shown_for w.house asked.mount asked.shown) undecided.0 undecided.1 none)
   effect_by event o (Receives him mount block feeding) = Sweeps (λ id. lag_swept w s mount block him feeding id)
+  effect_by event o (Obeys _ command c) = Sweeps (λ id. obeyed_swept w s event command c id)
   effect_by event o (HasPassed ms e) = Same (λ id. refl)
   effect_by event o (Ticks ms e) = Sweeps (λ id. tick_swept ms id)
   effect_by event o (SetsTitle him mount text feeding) = Same (λ id. refl)

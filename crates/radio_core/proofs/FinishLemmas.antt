@@ -14,13 +14,13 @@ use Rattle.radio_events.specs.declared.reply.Reply.TheVariants.{Arrived, Finishe
 use Rattle.radio_core.specs.declared.standing.Standing.{Standing}
 use Rattle.radio_core.specs.declared.standing.Standing.TheVariants.{Unknown, Undecided, Feeds, Sits, Answered, Finished as HasFinished}
 use Rattle.radio_core.specs.World.{World, standing_of, standing_in}
-use Rattle.radio_core.specs.Finishes.{Cause, SessionIsOver, IsFarBehind, HasSatOut, HasAskedNothing, HasSentNothing, Finishes}
+use Rattle.radio_core.specs.Finishes.{Cause, SessionIsOver, IsFarBehind, HasSatOut, HasAskedNothing, HasSentNothing, IsKilled, HisSessionIsKilled, Finishes}
 use Rattle.radio_core.specs.Others.{StandsOn, OthersStandOn}
 use Rattle.radio_seats.specs.Seats.{listener_of, seat_of}
 use Rattle.radio_core.specs.Sound.{IsSound}
 use Rattle.radio_core.specs.Step.{outcome, reply_to, world_after}
 use Rattle.radio_core.specs.Ways.{Way, Misplaced, IsFinished, IsDenied, IsRefused, IsAdmitted, Begins, Receives, SetsTitle, TakesSeat, HandsOut, Ends}
-use Rattle.radio_core.specs.Ways.{EndsAndLeaves, Leaves, HasPassed, Ticks}
+use Rattle.radio_core.specs.Ways.{EndsAndLeaves, Leaves, Obeys, HasPassed, Ticks}
 use Rattle.radio_events.specs.Events.{client_in}
 use Rattle.radio_core.proofs.Effects.{Effect, Same, Joins, Acts, Sweeps, IsSwept, GoesOnAs, IsOut, HasDone, HasActed, effect_of}
 use Rattle.radio_core.proofs.TickLemmas.{asking_at}
@@ -43,6 +43,8 @@ known_before w s event id rule finishes unknown = by_cause finishes.cause where
       new_in (listener_of w.seats id) client (asking_at w.house.settings.limits.header_timeout ms client.arrived client.state late)
       (ap (standing_in (listener_of w.seats id)) (sym found) ∙ unknown)
   by_cause (HasSentNothing ms session e feeds live silent) = cc
+  by_cause (IsKilled seat has named) = no_seat seat has
+  by_cause (HisSessionIsKilled session feeds live named) = cc
 
 -- two clients are one, or apart
 apart_from : (event : Event) (him id : ℕ) → client_in event ≡ Some him → (client_in event ≡ Some id → ⊥) → (him == id) ≡ false
@@ -146,6 +148,7 @@ told_by w event o (IsAdmitted peer allowed) rule d = cc
 told_by w event o (Begins asked undecided none allowed) rule d = cc
 told_by w event o (Receives him mount block feeding) rule d = cc
 told_by w event o (SetsTitle him mount text feeding) rule d = cc
+told_by w event o (Obeys _ command c) rule d = cc
 told_by w event o (HasPassed ms e) rule d = cc
 told_by w event o (Ticks ms e) rule d = cc
 told_by w event o (TakesSeat asked peer session undecided lands live allowed) rule d = cc

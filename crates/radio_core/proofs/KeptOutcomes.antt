@@ -3,10 +3,14 @@ use Rattle.std.proofs.Common.{◌≡◌, Bool, ℕ, ◌+◌, ◌||◌, Option, S
 use Rattle.std.proofs.Math.Path.{fun_ext}
 use Rattle.std.specs.Prelude.{nat_lt, if◌then◌else◌}
 use Rattle.std.specs.Option.{option_map}
+use Rattle.std.specs.Str.{bytes_eq}
 use Rattle.std.proofs.lemmas.List.{length-map}
 use Rattle.radio_policy.specs.declared.facts.SourceFacts.{SourceFacts}
 use Rattle.radio_policy.specs.declared.facts.ListenFacts.{ListenFacts}
-use Rattle.radio_policy.specs.Table.{source_rows, push_rows, listen_rows}
+use Rattle.radio_policy.specs.declared.facts.CommandFacts.{CommandFacts}
+use Rattle.radio_policy.specs.declared.facts.CommandNeeds.{CommandNeeds}
+use Rattle.radio_policy.specs.declared.facts.CommandNeeds.TheVariants.{Mount as MountNeeds, Destination, Client as ClientNeeds}
+use Rattle.radio_policy.specs.Table.{source_rows, push_rows, listen_rows, command_rows}
 use Rattle.radio_policy.specs.Verdicts.{verdict_in}
 use Rattle.radio_addr.specs.declared.peer.Peer.{Peer}
 use Rattle.radio_settings.specs.MountName.{is_mount_name}
@@ -20,10 +24,23 @@ use Rattle.radio_fallback.specs.Walk.{Sight, found_at, landing, stop_in}
 use Rattle.radio_events.specs.declared.event.SourceRequest.{SourceRequest}
 use Rattle.radio_events.specs.declared.event.ListenRequest.{ListenRequest}
 use Rattle.radio_events.specs.declared.event.Event.{Event}
-use Rattle.radio_events.specs.declared.event.Event.TheVariants.{Arrive, Source, Push, SourceEnd, Title, Listen, Draw, Leave, Clock}
+use Rattle.radio_events.specs.declared.event.Event.TheVariants.{Arrive, Source, Push, SourceEnd, Title, Listen, Draw, Command, Leave, Clock}
 use Rattle.radio_core.specs.declared.house.House.{House}
-use Rattle.radio_core.specs.declared.outcome.Change.TheVariants.{Nothing, Answer, TakeSeat, Advance}
-use Rattle.radio_events.specs.declared.reply.Reply.TheVariants.{Seated, Drawn}
+use Rattle.radio_core.specs.declared.outcome.Change.TheVariants.{Nothing, Answer, TakeSeat, Advance, Obey}
+use Rattle.radio_core.specs.declared.outcome.Outcome.{Outcome}
+use Rattle.radio_events.specs.declared.reply.Reply.TheVariants.{Seated, Drawn, Text as SaysText}
+use Rattle.radio_creds.specs.Credentials.{Credentials}
+use Rattle.radio_events.specs.declared.command.Asked.{Asked}
+use Rattle.radio_events.specs.declared.command.Asked.TheVariants.{NoCommand, MissingArgument, Command as Asks}
+use Rattle.radio_events.specs.declared.command.Command.{Command as TheCommand}
+use Rattle.radio_events.specs.declared.command.Command.TheVariants.{MoveClients, KillClient, KillSource, SetTitle, SetFallback}
+use Rattle.radio_events.specs.declared.command.CommandRequest.{CommandRequest}
+use Rattle.radio_fallback.specs.declared.moves.Carried.{Carried}
+use Rattle.radio_fallback.specs.declared.moves.Move.TheVariants.{To}
+use Rattle.radio_fallback.specs.Carry.{carried}
+use Rattle.radio_core.specs.Command.{said_of, does_asked, gives_command}
+use Rattle.radio_core.specs.CommandFacts.{sits_at, needs_of, facts_for, facts_asked, opened_by, rows_to_command}
+use Rattle.radio_core.specs.Counts.{counts_by}
 use Rattle.radio_core.specs.Draw.{hands_out, hands_out_at}
 use Rattle.radio_fallback.specs.declared.walking.Landing.{Landing}
 use Rattle.radio_fallback.specs.declared.walking.Landing.TheVariants.{Lands, Stops}
@@ -111,6 +128,43 @@ module _ (w : World) (rise : Each HasRisingStarts w.house.live) (kept : SeatsAre
       ap (hands_out id seat room) (kept_found queue w.house.live seat.mount)
       ∙ hands_alike id room seat has (session_of w.house.live seat.mount) refl
 
+  -- a client gives a command
+  needs_alike : (command : TheCommand) → needs_of (kept_of w) command ≡ needs_of w command
+  needs_alike (MoveClients mount destination) =
+      let facts : Bool → Bool → CommandNeeds = λ here there.
+      Destination (record { mount_is_live = here; destination_is_live = there; is_same_mount = bytes_eq mount destination }) in
+      ap (λ (here : Bool). facts here (is_some (session_of kept_house.live destination))) (has_session w rise mount)
+      ∙ ap (facts (is_some (session_of w.house.live mount))) (has_session w rise destination)
+  needs_alike (KillClient mount listener) = ap (λ (here : Bool). ClientNeeds here (sits_at w.seats mount listener)) (has_session w rise mount)
+  needs_alike (KillSource mount) = ap (λ (here : Bool). MountNeeds here) (has_session w rise mount)
+  needs_alike (SetTitle mount text) = ap (λ (here : Bool). MountNeeds here) (has_session w rise mount)
+  needs_alike (SetFallback mount fallback) = ap (λ (here : Bool). MountNeeds here) (has_session w rise mount)
+
+  facts_alike : (asked : Asked) (pair : Option Credentials) → facts_asked (kept_of w) asked pair ≡ facts_asked w asked pair
+  facts_alike NoCommand pair = refl
+  facts_alike (MissingArgument by) pair = refl
+  facts_alike (Asks command) pair = ap (λ (needs : CommandNeeds). Some (facts_for w (opened_by command) needs pair)) (needs_alike command)
+
+  counts_alike : (command : TheCommand) → counts_by (kept_of w) command ≡ counts_by w command
+  counts_alike (MoveClients mount destination) =
+      ap (λ (sight : Sight). (carried sight (To mount destination) w.seats).counts) (same_sight w rise)
+  counts_alike (KillClient mount listener) = refl
+  counts_alike (KillSource mount) = refl
+  counts_alike (SetTitle mount text) = refl
+  counts_alike (SetFallback mount fallback) = refl
+
+  does_alike : (id : ℕ) (asked : Asked) → does_asked (kept_of w) id asked ≡ does_asked w id asked
+  does_alike id NoCommand = refl
+  does_alike id (MissingArgument by) = refl
+  does_alike id (Asks command) = ap (λ (counts : Carried). says (SaysText (said_of command counts)) (Obey id command)) (counts_alike command)
+
+  commands_alike : (asked : CommandRequest) → gives_command (kept_of w) asked ≡ gives_command w asked
+  commands_alike asked =
+      ap (λ (facts : Option CommandFacts). if_undecided (standing_of w asked.id) (λ _.
+      on_verdict (verdict_in (command_rows facts)) (Answer asked.id) (does_asked (kept_of w) asked.id asked.asked))) (facts_alike asked.asked asked.pair)
+      ∙ ap (λ (o : Outcome). if_undecided (standing_of w asked.id) (λ _. on_verdict (verdict_in (rows_to_command w asked)) (Answer asked.id) o))
+      (does_alike asked.id asked.asked)
+
   pub outcome_kept : (event : Event) → outcome (kept_of w) event ≡ outcome w event
   unfolding outcome
   outcome_kept (Arrive peer) = refl
@@ -130,5 +184,6 @@ module _ (w : World) (rise : Each HasRisingStarts w.house.live) (kept : SeatsAre
       ∙ ap (if_undecided (standing_of w asked.id)) (fun_ext (λ peer.
       ap (on_verdict (verdict_in (listen_rows (listen_facts w.house w.seats asked))) (Answer asked.id)) (hears_alike asked peer)))
   outcome_kept (Draw id room) = ap (if_sitting (standing_of w id)) (draws_alike id room (seat_of w.seats id) refl)
+  outcome_kept (Command asked) = commands_alike asked
   outcome_kept (Leave id) = refl
   outcome_kept (Clock ms) = refl

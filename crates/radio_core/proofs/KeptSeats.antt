@@ -7,27 +7,33 @@ use Rattle.std.specs.Str.{bytes_eq}
 use Rattle.std.proofs.lemmas.Bool.{ltb-false}
 use Rattle.std.proofs.lemmas.Bool.Decides.{nat_tests}
 use Rattle.std.proofs.lemmas.Slice.Eq.{bytes_eq-Decides}
-use Rattle.radio_policy.specs.declared.rule.Rule.TheVariants.{Lagged, TimeOver}
+use Rattle.radio_policy.specs.declared.rule.Rule.{Rule}
+use Rattle.radio_policy.specs.declared.rule.Rule.TheVariants.{Lagged, TimeOver, Killed}
 use Rattle.radio_addr.specs.declared.peer.Peer.{Peer}
 use Rattle.radio_settings.specs.declared.field.Shown.{Shown}
 use Rattle.radio_tables.specs.Lists.{update_first}
-use Rattle.radio_tables.proofs.FindLaws.{find_here, find_later}
+use Rattle.radio_tables.proofs.FindLaws.{find_here, find_later, find_apart}
 use Rattle.radio_tables.proofs.KeyLaws.{by_number, by_name}
+use Rattle.radio_seats.specs.declared.seat.Listener.{Listener}
 use Rattle.radio_seats.specs.declared.seat.Seat.{Seat}
+use Rattle.radio_seats.specs.declared.seat.Seating.{Seating}
+use Rattle.radio_seats.specs.declared.seat.Seating.TheVariants.{Sits as HasSeat, Finished as HasFinished}
 use Rattle.radio_seats.proofs.EndLaws.{had_seat, kept_seat}
-use Rattle.radio_seats.specs.Seats.{seat_of, seat_in, with_seat, with_place, without_listener, AreByNumber}
+use Rattle.radio_seats.specs.Seats.{is_listener, listener_of, seat_held, loses, lost_by, with_end, seat_of, seat_in, with_seat, with_place, without_listener, AreByNumber}
 use Rattle.radio_seats.proofs.SeatLaws.{beside_moved, beside_left, beside_seated, is_no_listener, has_sat_down, has_heard}
+use Rattle.radio_events.specs.declared.command.Command.{Command}
+use Rattle.radio_events.specs.declared.command.Command.TheVariants.{MoveClients, KillClient, KillSource, SetTitle as NewTitle, SetFallback}
 use Rattle.radio_events.specs.declared.event.Event.{Event}
 use Rattle.radio_events.specs.declared.event.ListenRequest.{ListenRequest}
-use Rattle.radio_core.specs.declared.outcome.Change.TheVariants.{Begin, Receive, SetTitle, TakeSeat, Advance, End, EndAndLeave, Forget}
+use Rattle.radio_core.specs.declared.outcome.Change.TheVariants.{Begin, Receive, SetTitle, TakeSeat, Advance, End, EndAndLeave, Forget, Obey}
 use Rattle.radio_core.specs.declared.outcome.Outcome.{Outcome}
 use Rattle.radio_settings.specs.Options.{options_for}
 use Rattle.radio_fallback.specs.declared.moves.Move.{Move}
-use Rattle.radio_fallback.specs.declared.moves.Move.TheVariants.{Ended as SessionEnds, Up}
+use Rattle.radio_fallback.specs.declared.moves.Move.TheVariants.{Ended as SessionEnds, Up, To}
 use Rattle.radio_fallback.specs.Fares.{seat_at_end}
 use Rattle.radio_fallback.proofs.Faring.{Faring, HasStayed, HasGone, HasLost, fares}
 use Rattle.radio_core.specs.declared.house.House.{House}
-use Rattle.radio_core.specs.Changes.{changed, begun, received, carried_along, session_over, session_ended, called_home}
+use Rattle.radio_core.specs.Changes.{answered, session_killed, changed, begun, received, carried_along, session_over, session_ended, called_home}
 use Rattle.radio_core.specs.Changes.{before_silence, session_silenced, silent_in, ticked}
 use Rattle.radio_core.specs.Facts.{live_end, sight_of}
 use Rattle.radio_core.specs.Lagging.{EachSeat}
@@ -38,9 +44,10 @@ use Rattle.radio_core.specs.Step.{outcome}
 use Rattle.radio_core.specs.Stream.{WholeStream, no_data, end_of, with_block, burst_start, data_at}
 use Rattle.radio_core.specs.Timeouts.{lags_behind, has_sat_out}
 use Rattle.radio_core.specs.Ways.{Way, Misplaced, IsFinished, IsDenied, IsRefused, IsAdmitted, Begins, Receives, SetsTitle, TakesSeat, HandsOut, Ends}
-use Rattle.radio_core.specs.Ways.{EndsAndLeaves, Leaves, HasPassed, Ticks}
+use Rattle.radio_core.specs.Ways.{EndsAndLeaves, Leaves, Obeys, HasPassed, Ticks}
 use Rattle.radio_core.specs.World.{World}
 use Rattle.radio_core.proofs.CalledHome.{house_called}
+use Rattle.radio_core.proofs.CommandLemmas.{obeyed_keeps}
 use Rattle.radio_core.proofs.CarriedFates.{order_carried}
 use Rattle.radio_core.proofs.Lookups.{beside_fed, beside_titled, beside_begun, is_new_session}
 use Rattle.radio_core.proofs.NumberOrder.{order_ended}
@@ -113,6 +120,38 @@ seat_before w him id seat e =
 fewer_left : (w : World) (him : ℕ) → HasFewer w (changed w (Forget him))
 fewer_left w him = record { settings = refl; seats = λ id seat e. inl (seat_before w him id seat e); sessions = λ mount session e. e }
 
+-- whoever has a seat after one has lost his had it before
+pub seat_unless_lost : (w : World) (him : ℕ) (rule : Rule) (id : ℕ) (seat : Seat) → seat_of (with_end w.seats him rule) id ≡ Some seat → seat_of w.seats id ≡ Some seat
+seat_unless_lost w him rule id seat e =
+    by_number him id (λ same. by_found same (listener_of w.seats him) refl)
+    (λ apart. sym (ap seat_in (find_apart (is_listener id) (is_listener him) (loses rule) (λ x his. (not_him x apart his, not_him x apart his)) w.seats)) ∙ e) where
+      not_him : (x : Listener) → (him == id) ≡ false → is_listener him x ≡ true → is_listener id x ≡ false
+      not_him x apart his = grind (arith, nat_tests)
+
+      ends_at : (x : Listener) (xs : List Listener) (his : Bool) → is_listener him x ≡ his
+          → listener_of (with_end xs him rule) him ≡ option_map (loses rule) (listener_of xs him)
+          → listener_of (if his then loses rule x ∷ xs else x ∷ with_end xs him rule) him ≡ option_map (loses rule) (if his then Some x else listener_of xs him)
+      ends_at x xs true e later = find_here (is_listener him) (loses rule x) xs e
+      ends_at x xs false e later = find_later (is_listener him) x (with_end xs him rule) e ∙ later
+
+      ends_in : (xs : List Listener) → listener_of (with_end xs him rule) him ≡ option_map (loses rule) (listener_of xs him)
+      ends_in [] = refl
+      ends_in (x ∷ xs) = ends_at x xs (is_listener him x) refl (ends_in xs)
+
+      none_held : (seating : Seating) → seat_held (lost_by rule seating) ≡ None
+      none_held (HasSeat own) = refl
+      none_held (HasFinished by) = refl
+
+      by_found : him ≡ id → (found : Option Listener) → listener_of w.seats him ≡ found → seat_of w.seats id ≡ Some seat
+      by_found same None none =
+          let still : listener_of (with_end w.seats him rule) him ≡ None = ends_in w.seats ∙ ap (option_map (loses rule)) none in
+          let gone : seat_of (with_end w.seats him rule) id ≡ None = ap (seat_of (with_end w.seats him rule)) (sym same) ∙ ap seat_in still in cc
+      by_found same (Some listener) found =
+          let now : listener_of (with_end w.seats him rule) him ≡ Some (loses rule listener) =
+          ends_in w.seats ∙ ap (option_map (loses rule)) found in
+          let gone : seat_of (with_end w.seats him rule) id ≡ None =
+          ap (seat_of (with_end w.seats him rule)) (sym same) ∙ ap seat_in now ∙ none_held listener.seating in cc
+
 fewer_silenced : (sessions : List Session) (w : World) → AreByNumber w.seats → HasFewer w (fold session_silenced w sessions)
 fewer_silenced [] w order = record { settings = refl; seats = λ id seat e. inl e; sessions = λ mount session e. e }
 fewer_silenced (session ∷ sessions) w order =
@@ -148,6 +187,7 @@ settings_by w order event o (IsAdmitted peer allowed) = refl
 settings_by w order event o (Begins asked undecided none allowed) =
     ap (λ (h : House). h.settings) (house_called (record w { house = begun w.house asked.id asked.mount (shown_for w.house asked.mount asked.shown) }) asked.mount)
 settings_by w order event o (Receives id mount block feeding) = refl
+settings_by w order event o (Obeys _ command c) = (obeyed_keeps w c.asked.id command).0
 settings_by w order event o (HasPassed ms e) = refl
 settings_by w order event o (Ticks ms e) = (fewer_ticked w ms order).settings
 settings_by w order event o (SetsTitle id mount text feeding) = refl
@@ -312,6 +352,24 @@ module _ (P : WholeStream → ℕ → Type 0) (w : World) (order : AreByNumber w
       subst (λ (x : Seat). P session.stream x.place) one (holds.further session.stream old.place more (all him old session sits here)))
       (λ apart. all id seat session (sym (ap seat_in (beside_moved w.seats him id apart (old.place + more))) ∙ has) live)
 
+  -- a command is done
+  each_killed : (him : ℕ) (found : Option Session) → EachSeat P (session_killed (answered w him) found)
+  each_killed him None = all
+  each_killed him (Some session) =
+      let ended = fewer_ended (answered w him) session.mount order in
+      each_fewer (session_killed (answered w him) (Some session)) (record { settings = refl; seats = ended.seats; sessions = ended.sessions })
+
+  each_obeyed : (command : Command) (him : ℕ) → EachSeat P (changed w (Obey him command))
+  each_obeyed (MoveClients mount destination) him =
+      let moved = fewer_carried (answered w him) (To mount destination) order in
+      each_fewer (changed w (Obey him (MoveClients mount destination))) (record { settings = refl; seats = moved.seats; sessions = moved.sessions })
+  each_obeyed (KillClient mount listener) him =
+      each_fewer (changed w (Obey him (KillClient mount listener)))
+      (record { settings = refl; seats = λ id seat e. inl (seat_unless_lost w listener Killed id seat e); sessions = λ other session e. e })
+  each_obeyed (KillSource mount) him = each_killed him (session_of w.house.live mount)
+  each_obeyed (NewTitle mount text) him = each_titled mount text
+  each_obeyed (SetFallback mount fallback) him = all
+
   each_by : (event : Event) (o : Outcome) → Way w event o → EachSeat P (changed w o.change)
   each_by event o (Misplaced _) = all
   each_by event o (IsFinished _ id rule his told) = all
@@ -320,6 +378,7 @@ module _ (P : WholeStream → ℕ → Type 0) (w : World) (order : AreByNumber w
   each_by event o (IsAdmitted peer allowed) = all
   each_by event o (Begins asked undecided none allowed) = each_up asked.id asked.mount (shown_for w.house asked.mount asked.shown)
   each_by event o (Receives id mount block feeding) = each_received mount block
+  each_by event o (Obeys _ command c) = each_obeyed command c.asked.id
   each_by event o (HasPassed ms e) = all
   each_by event o (Ticks ms e) = each_fewer (ticked w ms) (fewer_ticked w ms order)
   each_by event o (SetsTitle id mount text feeding) = each_titled mount text

@@ -12,7 +12,7 @@ use Rattle.radio_fallback.specs.Walk.{Sight}
 use Rattle.radio_fallback.specs.Carry.{carried}
 use Rattle.radio_core.specs.declared.house.House.{House}
 use Rattle.radio_core.specs.Changes.{carried_along, called_home}
-use Rattle.radio_core.specs.Facts.{sight_of, live_number, live_end}
+use Rattle.radio_core.specs.Facts.{sight_of, live_number, live_end, fallback_of}
 use Rattle.radio_core.specs.Kept.{kept_session, kept_of}
 use Rattle.radio_core.specs.Sessions.{Session, session_of}
 use Rattle.radio_core.specs.StandsFor.{HasRisingStarts}
@@ -56,7 +56,7 @@ module _ (w : World) (rise : Each HasRisingStarts w.house.live) where
           limit = λ mount. (options_for w.house.settings mount).listeners.max_listeners;
           lets_in = lets_in w.house.lists;
           allows_duplicates = λ mount. (options_for w.house.settings mount).users.allow_duplicate_users;
-          fallback = λ mount. (options_for w.house.settings mount).listeners.fallback_mount;
+          fallback = fallback_of w.house;
           hands_on_when_full = λ mount. (options_for w.house.settings mount).listeners.fallback_when_full;
           stream_end = λ mount. record { session = number mount; place = end mount };
         }

@@ -1,31 +1,35 @@
 -- a change of a state in which only a queue is kept of each stream is the change of the state; and blocks rise still
-use Rattle.std.proofs.Common.{◌≡◌, ℕ, Some, List, [], ◌∷◌, refl, ap, sym, subst, ◌∙◌, arith, length-append}
+use Rattle.std.proofs.Common.{◌≡◌, ℕ, Option, None, Some, List, [], ◌∷◌, refl, ap, sym, subst, ◌∙◌, arith, length-append}
 use Rattle.std.specs.Prelude.{not, fold}
-use Rattle.radio_policy.specs.declared.rule.Rule.TheVariants.{Lagged, SourceSilent}
+use Rattle.std.specs.Option.{option_map}
+use Rattle.radio_policy.specs.declared.rule.Rule.{Rule}
+use Rattle.radio_policy.specs.declared.rule.Rule.TheVariants.{Lagged, SourceSilent, SourceKilled}
+use Rattle.radio_events.specs.declared.command.Command.{Command}
+use Rattle.radio_events.specs.declared.command.Command.TheVariants.{MoveClients, KillClient, KillSource, SetTitle as NewTitle, SetFallback}
 use Rattle.radio_tables.specs.Lists.{Each}
 use Rattle.radio_tables.proofs.EachLaws.{Each_kept, Each_updated, Each_placed}
 use Rattle.radio_seats.specs.Seats.{with_ended}
 use Rattle.radio_core.specs.declared.clients.ClientState.TheVariants.{Answered, Ended}
 use Rattle.radio_core.specs.declared.outcome.Change.{Change}
 use Rattle.radio_core.specs.declared.outcome.Change.TheVariants.{Nothing, Answer, Admit, Begin, Receive, SetTitle, TakeSeat, Advance, End}
-use Rattle.radio_core.specs.declared.outcome.Change.TheVariants.{EndAndLeave, Forget, Tick}
+use Rattle.radio_core.specs.declared.outcome.Change.TheVariants.{EndAndLeave, Forget, Tick, Obey}
 use Rattle.radio_core.specs.declared.house.House.{House}
-use Rattle.radio_core.specs.Changes.{changed, now_in_state, begun, carried_along, session_over, session_ended, called_home, client_gone, laggards_ended}
+use Rattle.radio_core.specs.Changes.{answered, done, session_ended_by, session_killed, changed, now_in_state, begun, carried_along, session_over, session_ended, called_home, client_gone, laggards_ended}
 use Rattle.radio_core.specs.Changes.{before_silence, session_silenced, silent_in, ticked}
 use Rattle.radio_core.specs.Clients.{in_state}
 use Rattle.radio_core.specs.Kept.{kept_session, kept_live, kept_of}
 use Rattle.radio_core.specs.KeptChanges.{kept_changed}
-use Rattle.radio_core.specs.Sessions.{Session, is_of, by_mount, opened, longer, fed, with_title}
+use Rattle.radio_core.specs.Sessions.{Session, session_of, is_of, by_mount, opened, longer, fed, with_title}
 use Rattle.radio_core.specs.StandsFor.{HasRisingStarts}
 use Rattle.radio_core.specs.Stream.{end_of, with_block}
 use Rattle.radio_core.specs.Timeouts.{lags_behind}
 use Rattle.radio_core.specs.World.{World}
 use Rattle.radio_settings.specs.declared.field.Shown.{Shown}
-use Rattle.radio_fallback.specs.declared.moves.Move.TheVariants.{Ended as HasEnded}
+use Rattle.radio_fallback.specs.declared.moves.Move.TheVariants.{Ended as HasEnded, To}
 use Rattle.radio_core.proofs.CalledHome.{house_called}
 use Rattle.radio_core.proofs.KeptSights.{carried_alike, called_alike}
 use Rattle.radio_core.proofs.Soundness.{rising_more}
-use Rattle.radio_core.proofs.KeptLists.{kept_silent, kept_ends, fed_kept, titled_kept, ended_kept, begun_kept}
+use Rattle.radio_core.proofs.KeptLists.{kept_found, kept_silent, kept_ends, fed_kept, titled_kept, ended_kept, begun_kept}
 
 -- the world with other sessions
 abbrev with_live : World → List Session → World
@@ -53,6 +57,17 @@ rise_begun : (w : World) (id : ℕ) (mount : List ℕ) (shown : Shown) → Each 
     → Each HasRisingStarts (begun w.house id mount shown).live
 rise_begun w id mount shown rise = Each_placed HasRisingStarts by_mount (opened mount id shown w.house.time) w.house.live tt rise
 
+rise_killed : (w : World) → Each HasRisingStarts w.house.live → (found : Option Session) → Each HasRisingStarts (session_killed w found).house.live
+rise_killed w rise None = rise
+rise_killed w rise (Some session) = rise_ended w session.mount rise
+
+rise_done : (w : World) → Each HasRisingStarts w.house.live → (command : Command) → Each HasRisingStarts (done w command).house.live
+rise_done w rise (MoveClients mount destination) = rise
+rise_done w rise (KillClient mount listener) = rise
+rise_done w rise (KillSource mount) = rise_killed w rise (session_of w.house.live mount)
+rise_done w rise (NewTitle mount text) = Each_updated HasRisingStarts (is_of mount) (with_title (Some text)) (λ x r. r) w.house.live rise
+rise_done w rise (SetFallback mount fallback) = rise
+
 pub rise_changed : (w : World) → Each HasRisingStarts w.house.live → (change : Change) → Each HasRisingStarts (changed w change).house.live
 rise_changed w rise Nothing = rise
 rise_changed w rise (Answer id) = rise
@@ -70,6 +85,7 @@ rise_changed w rise (Forget id) = rise
 rise_changed w rise (Tick ms) =
     let later = before_silence w ms in
     rise_silenced (silent_in later) later rise
+rise_changed w rise (Obey id command) = rise_done (answered w id) rise command
 
 -- sessions end alike
 
@@ -84,16 +100,30 @@ module _ (w : World) where
   ended_alike mount rise =
       ap (λ (v : World). carried_along v (HasEnded mount)) (over_alike mount) ∙ carried_alike (session_over w mount) (rise_ended w mount rise) (HasEnded mount)
 
-  silenced_alike : (session : Session) → Each HasRisingStarts w.house.live
-      → session_silenced (kept_of w) (kept_session queue session) ≡ kept_of (session_silenced w session)
-  silenced_alike session rise =
-      ap (λ (v : World). record v { house = now_in_state v.house session.number (Ended SourceSilent) }) (ended_alike session.mount rise)
+  ended_by_alike : (rule : Rule) (session : Session) → Each HasRisingStarts w.house.live
+      → session_ended_by rule (kept_of w) (kept_session queue session) ≡ kept_of (session_ended_by rule w session)
+  ended_by_alike rule session rise =
+      ap (λ (v : World). record v { house = now_in_state v.house session.number (Ended rule) }) (ended_alike session.mount rise)
+
+  killed_alike : (found : Option Session) → Each HasRisingStarts w.house.live
+      → session_killed (kept_of w) (option_map (kept_session queue) found) ≡ kept_of (session_killed w found)
+  killed_alike None rise = refl
+  killed_alike (Some session) rise = ended_by_alike SourceKilled session rise
+
+  -- a command is done alike
+  done_alike : Each HasRisingStarts w.house.live → (command : Command) → done (kept_of w) command ≡ kept_of (done w command)
+  done_alike rise (MoveClients mount destination) = carried_alike w rise (To mount destination)
+  done_alike rise (KillClient mount listener) = refl
+  done_alike rise (KillSource mount) = ap (session_killed (kept_of w)) (kept_found queue w.house.live mount) ∙ killed_alike (session_of w.house.live mount) rise
+  done_alike rise (NewTitle mount text) =
+      ap (λ (live : List Session). with_live w live) (titled_kept queue w.house.live mount text)
+  done_alike rise (SetFallback mount fallback) = refl
 
 silence_kept : (sessions : List Session) (w : World) → Each HasRisingStarts w.house.live
     → fold session_silenced (kept_of w) (kept_live w.house.settings.limits.queue_size sessions) ≡ kept_of (fold session_silenced w sessions)
 silence_kept [] w rise = refl
 silence_kept (session ∷ sessions) w rise =
-    ap (λ (v : World). fold session_silenced v (kept_live w.house.settings.limits.queue_size sessions)) (silenced_alike w session rise)
+    ap (λ (v : World). fold session_silenced v (kept_live w.house.settings.limits.queue_size sessions)) (ended_by_alike w SourceSilent session rise)
     ∙ silence_kept sessions (session_silenced w session) (rise_ended w session.mount rise)
 
 module _ (w : World) (rise : Each HasRisingStarts w.house.live) where
@@ -128,3 +158,4 @@ module _ (w : World) (rise : Each HasRisingStarts w.house.live) where
   changed_kept (EndAndLeave id mount) = ap (λ (v : World). client_gone v id) (ended_alike w mount rise)
   changed_kept (Forget id) = refl
   changed_kept (Tick ms) = ticked_alike ms
+  changed_kept (Obey id command) = done_alike (answered w id) rise command

@@ -1,41 +1,44 @@
-pub mod Lookups
-pub mod Standings
-pub mod Ways
-pub mod Soundness
-pub mod SoundSessions
-pub mod SoundTitles
+pub mod CommandLemmas
+mod CoreReplyLemmas
+mod DueLemmas
+mod KeptLists
+mod KeptOutcomes
+mod KeptQueues
+mod KeptRuns
+pub mod KeptSeats
+mod KeptSights
+mod KeptSteps
+mod KeptStreams
+pub mod Obeyed
+mod PlannedLemmas
+mod SourceReplyLemmas
 pub mod ApartLemmas
-pub mod SilentLemmas
-pub mod SeatedLemmas
-pub mod Fates
-pub mod CarriedFates
+pub mod ArrivalLemmas
 pub mod CalledHome
-pub mod TickLemmas
-pub mod TimeoutLemmas
-pub mod SoundEnds
-pub mod SoundRuns
-pub mod SessionSteps
-pub mod OwnLemmas
-pub mod Effects
-pub mod FinishLemmas
-pub mod ReplyLemmas
-pub mod LostSeats
-pub mod SeatSteps
+pub mod CarriedFates
 pub mod ClientSteps
-pub mod StepLemmas
+pub mod Effects
+pub mod Fates
+pub mod FinishLemmas
+pub mod Lookups
+pub mod LostSeats
 pub mod NumberLists
 pub mod NumberOrder
-pub mod TotalLemmas
-pub mod ArrivalLemmas
-mod SourceReplyLemmas
-mod CoreReplyLemmas
-mod KeptQueues
-mod KeptStreams
-mod KeptLists
-mod KeptSights
-mod KeptOutcomes
-mod KeptSteps
-mod KeptSeats
-mod KeptRuns
-mod DueLemmas
+pub mod OwnLemmas
 pub mod PreparedLemmas
+pub mod ReplyLemmas
+pub mod SeatSteps
+pub mod SeatedLemmas
+pub mod SessionSteps
+pub mod SilentLemmas
+pub mod SoundEnds
+pub mod SoundRuns
+pub mod SoundSessions
+pub mod SoundTitles
+pub mod Soundness
+pub mod Standings
+pub mod StepLemmas
+pub mod TickLemmas
+pub mod TimeoutLemmas
+pub mod TotalLemmas
+pub mod Ways

@@ -1,5 +1,5 @@
--- what is found among clients and among sessions after each change
-use Rattle.std.proofs.Common.{◌≡◌, true, false, ℕ, ◌==◌, Some, None, List, refl, ap, ◌∙◌}
+-- what is found among clients, sessions and fallbacks after each change
+use Rattle.std.proofs.Common.{◌≡◌, true, false, ℕ, ◌==◌, Option, Some, None, List, refl, ap, ◌∙◌}
 use Rattle.std.specs.Prelude.{if◌then◌else◌}
 use Rattle.std.specs.Ordering.{nat_cmp}
 use Rattle.std.specs.Cmp.Lexicographic.{slice_cmp}
@@ -11,6 +11,7 @@ use Rattle.radio_tables.proofs.FindLaws.{find_same, find_apart, find_removed, fi
 use Rattle.radio_tables.proofs.KeyLaws.{number_is, name_is, find_placed}
 use Rattle.radio_core.specs.declared.clients.ClientState.{ClientState}
 use Rattle.radio_core.specs.Clients.{Client, is_client, client_of, with_client, with_state, in_state, without_client}
+use Rattle.radio_core.specs.Fallbacks.{Fallback, is_set_for, set_for, with_fallback}
 use Rattle.radio_core.specs.Sessions.{Session, is_of, session_of, with_session, longer, fed, with_title, titled, without_session}
 
 -- a choice whose test is known
@@ -92,3 +93,18 @@ module _ (live : List Session) (new : Session) (mount : List ℕ) where
 
   pub beside_begun : bytes_eq new.mount mount ≡ false → session_of (with_session live new) mount ≡ session_of live mount
   beside_begun e = looked_up_session ∙ passed (Some new) (session_of live mount) e
+
+-- fallbacks
+
+module _ (fallbacks : List Fallback) (mount other : List ℕ) (fallback : Option (List ℕ)) where
+  looked_up_fallback : set_for (with_fallback fallbacks mount fallback) other
+      ≡ (if bytes_eq mount other then Some (record { mount = mount; fallback = fallback }) else set_for fallbacks other)
+  looked_up_fallback =
+      find_placed (slice_cmp nat_cmp) nat_list_cmp_total (λ (set : Fallback). set.mount) is_set_for (λ k set. name_is k set.mount) other
+      (record { mount = mount; fallback = fallback }) fallbacks
+
+  pub is_set : bytes_eq mount other ≡ true → set_for (with_fallback fallbacks mount fallback) other ≡ Some (record { mount = mount; fallback = fallback })
+  is_set e = looked_up_fallback ∙ chosen (Some (record { mount = mount; fallback = fallback })) (set_for fallbacks other) e
+
+  pub beside_set : bytes_eq mount other ≡ false → set_for (with_fallback fallbacks mount fallback) other ≡ set_for fallbacks other
+  beside_set e = looked_up_fallback ∙ passed (Some (record { mount = mount; fallback = fallback })) (set_for fallbacks other) e

@@ -10,7 +10,7 @@ use Rattle.radio_policy.specs.declared.rule.Rule.{Rule}
 use Rattle.radio_tables.specs.Lists.{Each}
 use Rattle.radio_seats.specs.declared.seat.Listener.{Listener}
 use Rattle.radio_seats.specs.declared.seat.Seat.{Seat}
-use Rattle.radio_seats.specs.Seats.{is_listener, seated, advanced, finished_if, with_seat, with_place, with_ended, without_listener, AreByNumber}
+use Rattle.radio_seats.specs.Seats.{is_listener, seated, advanced, finished_if, loses, with_seat, with_place, with_end, with_ended, without_listener, AreByNumber}
 use Rattle.radio_core.proofs.NumberLists.{IsRising, placed_rising, kept_rising, numbers_updated, numbers_mapped, numbers_placed, numbers_without}
 
 abbrev number : Listener → ℕ
@@ -47,6 +47,9 @@ same_order seats later same order = subst (IsStrictlySortedBy nat_cmp) (sym same
 module _ (seats : List Listener) (order : AreByNumber seats) where
   pub order_ended : (p : Seat → Bool) (rule : Rule) → AreByNumber (with_ended seats p rule)
   order_ended p rule = same_order seats (with_ended seats p rule) (numbers_mapped number (finished_if p rule) (λ x. refl) seats) order
+
+  pub order_lost : (id : ℕ) (rule : Rule) → AreByNumber (with_end seats id rule)
+  order_lost id rule = same_order seats (with_end seats id rule) (numbers_updated number (is_listener id) (loses rule) (λ x. refl) seats) order
 
   pub order_heard : (id place : ℕ) → AreByNumber (with_place seats id place)
   order_heard id place = same_order seats (with_place seats id place) (numbers_updated number (is_listener id) (advanced place) (λ x. refl) seats) order

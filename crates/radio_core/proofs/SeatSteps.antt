@@ -11,7 +11,7 @@ use Rattle.radio_tables.proofs.KeyLaws.{by_number, by_name}
 use Rattle.radio_events.specs.declared.event.Event.{Event}
 use Rattle.radio_events.specs.declared.event.Event.TheVariants.{Source, Push, SourceEnd, Listen, Draw, Leave, Clock}
 use Rattle.radio_events.specs.declared.event.ListenRequest.{ListenRequest}
-use Rattle.radio_core.specs.declared.outcome.Change.TheVariants.{Begin, TakeSeat, Advance, End, EndAndLeave}
+use Rattle.radio_core.specs.declared.outcome.Change.TheVariants.{Begin, TakeSeat, Advance, End, EndAndLeave, Obey}
 use Rattle.radio_core.specs.declared.outcome.Outcome.{Outcome}
 use Rattle.radio_seats.specs.declared.seat.Seat.{Seat}
 use Rattle.radio_core.specs.declared.standing.Standing.TheVariants.{Undecided, Feeds, Sits}
@@ -23,7 +23,9 @@ use Rattle.radio_core.specs.Finishes.{Cause, Finishes}
 use Rattle.radio_core.specs.Moves.{TakesTo, ByComingUp, moved_into}
 use Rattle.radio_core.specs.Source.{shown_for}
 use Rattle.radio_core.specs.declared.house.House.{House}
-use Rattle.radio_access.specs.Lists.{lets_in}
+use Rattle.radio_access.specs.Lists.{Lists, lets_in}
+use Rattle.radio_events.specs.declared.command.Command.{Command}
+use Rattle.radio_core.specs.CommandFacts.{IsCommanded}
 use Rattle.radio_events.specs.declared.event.SourceRequest.{SourceRequest}
 use Rattle.radio_events.specs.Events.{client_in}
 use Rattle.radio_fallback.specs.declared.moves.Move.TheVariants.{Up}
@@ -40,7 +42,8 @@ use Rattle.radio_core.specs.Sound.{IsSound}
 use Rattle.radio_core.specs.Step.{outcome, reply_to, world_after}
 use Rattle.radio_core.specs.Stream.{data_at, end_of}
 use Rattle.radio_core.specs.Ways.{Way, Misplaced, IsFinished, IsDenied, IsRefused, IsAdmitted, Begins, Receives, SetsTitle, TakesSeat, HandsOut, Ends}
-use Rattle.radio_core.specs.Ways.{EndsAndLeaves, Leaves, HasPassed, Ticks}
+use Rattle.radio_core.specs.Ways.{EndsAndLeaves, Leaves, Obeys, HasPassed, Ticks}
+use Rattle.radio_core.proofs.Obeyed.{IsObeyed, LeavesFor, Takes as TakesByIt, obeyed}
 use Rattle.radio_core.proofs.OwnLemmas.{not_of, nothing_of}
 use Rattle.radio_seats.proofs.SeatLaws.{is_no_listener, beside_left}
 use Rattle.radio_core.proofs.LostSeats.{loses_no_seat_else}
@@ -213,6 +216,27 @@ module _ (w : World) (s : IsSound w) (id : ℕ) where
           calls,
         )) id)
 
+  -- a command is done: he rests, or is finished, or is carried along
+  obeys : (event : Event) (command : Command) (c : IsCommanded w event command) (bytes : List ℕ) → bytes ≡ []
+      → Turn w (changed w (Obey c.asked.id command)) event id mine bytes (seat_of (changed w (Obey c.asked.id command)).seats id)
+  obeys event command c bytes none = by_fate (did.fates.fate id) where
+    did : IsObeyed w event c.asked.id (changed w (Obey c.asked.id command))
+    did = obeyed w s event command c
+
+    later : World
+    later = changed w (Obey c.asked.id command)
+
+    by_fate : Fate (Cause w (changed w (Obey c.asked.id command)) event) (TakesByIt w event) Nobody (LeavesFor w event) did.base
+        (changed w (Obey c.asked.id command)) id
+        → Turn w (changed w (Obey c.asked.id command)) event id mine bytes (seat_of (changed w (Obey c.asked.id command)).seats id)
+    by_fate (GoesOn same seats feeds sits) = stays later event bytes (seat_of later.seats id) none (seats ∙ did.seats id)
+    by_fate (IsEnded rule cause active ended gone over) = loses later event bytes (seat_of later.seats id) none gone
+    by_fate (HasStopped mount why feeding done gone over) = absurd why
+    by_fate (IsMoved old session takes left had has same live opens) =
+        moves later event bytes old session none takes left.0 (sym (did.seats id) ∙ had) has live
+        (ap (λ (x : Lists). lets_in x session.mount old.pair) (sym did.lists) ∙ opens)
+        (apart_sessions did.base did.sound id old session had (did.fates.live session.mount session live) left.1)
+
   step_by : (event : Event) (o : Outcome) → Way w event o
       → Turn w (changed w o.change) event id mine (of_client event id (data_in o.reply)) (seat_of (changed w o.change).seats id)
   step_by event o (Misplaced _) = stays w event (of_client event id []) mine (nothing_of event id [] refl) refl
@@ -224,6 +248,7 @@ module _ (w : World) (s : IsSound w) (id : ℕ) where
   step_by event o (Begins asked undecided none allowed) =
       comes_up asked undecided.0 undecided.1 none allowed (of_client event id []) (nothing_of event id [] refl)
   step_by event o (Receives him mount block feeding) = lags him mount block feeding (of_client event id []) (nothing_of event id [] refl)
+  step_by event o (Obeys _ command c) = obeys event command c (of_client event id []) (nothing_of event id [] refl)
   step_by event o (HasPassed ms e) = stays w event [] mine refl refl
   step_by event o (Ticks ms e) = fares (ticked w ms) (Clock ms) Nobody (ticked_fates w s ms) [] refl
   step_by event o (SetsTitle him mount text feeding) =

@@ -11,25 +11,30 @@ use Rattle.radio_events.specs.declared.event.Event.TheVariants.{Source, Push, So
 use Rattle.radio_events.specs.declared.event.SourceRequest.{SourceRequest}
 use Rattle.radio_core.specs.Clients.{Client}
 use Rattle.radio_core.specs.declared.clients.ClientState.TheVariants.{Undecided as IsNew}
-use Rattle.radio_core.specs.declared.outcome.Change.TheVariants.{Begin, Receive, SetTitle}
+use Rattle.radio_core.specs.declared.outcome.Change.TheVariants.{Begin, Receive, SetTitle, Obey}
 use Rattle.radio_core.specs.declared.outcome.Outcome.{Outcome}
 use Rattle.radio_core.specs.declared.standing.Standing.TheVariants.{Undecided, Feeds, Sits}
 use Rattle.radio_core.specs.declared.house.House.{House}
-use Rattle.radio_core.specs.Changes.{changed, begun, session_ended, ticked}
+use Rattle.radio_core.specs.Changes.{answered, changed, begun, session_ended, session_killed, ticked}
 use Rattle.radio_core.specs.Moves.{TakesTo}
-use Rattle.radio_core.specs.Finishes.{Cause, SessionIsOver, IsFarBehind, HasSatOut, HasAskedNothing, HasSentNothing}
-use Rattle.radio_core.specs.Sessions.{Session, session_of, opened}
+use Rattle.radio_core.specs.Finishes.{Cause, SessionIsOver, IsFarBehind, HasSatOut, HasAskedNothing, HasSentNothing, IsKilled, HisSessionIsKilled}
+use Rattle.radio_core.specs.Sessions.{Session, session_of, opened, titled, without_session}
 use Rattle.radio_core.specs.SessionSteps.{IsShownAs, OfTheSettings, OfTheSource, SessionStep, Stays, Begins as ItBegins, Grows, IsTitled}
-use Rattle.radio_core.specs.SessionSteps.{Ends as ItEnds, SessionsStep, KeepsSettings}
+use Rattle.radio_core.specs.SessionSteps.{Ends as ItEnds, IsRetitled, IsKilled as ItIsKilled, SessionsStep, KeepsSettings}
+use Rattle.radio_events.specs.declared.command.Command.{Command}
+use Rattle.radio_events.specs.declared.command.Command.TheVariants.{MoveClients, KillClient, KillSource, SetTitle as SetTitleOf, SetFallback}
+use Rattle.radio_core.specs.CommandFacts.{IsCommanded}
 use Rattle.radio_core.specs.Sound.{IsSound}
 use Rattle.radio_core.specs.Source.{shown_for}
 use Rattle.radio_core.specs.Step.{outcome, world_after}
 use Rattle.radio_core.specs.Ways.{Way, Misplaced, IsFinished, IsDenied, IsRefused, IsAdmitted, Begins, Receives, SetsTitle, TakesSeat, HandsOut, Ends}
-use Rattle.radio_core.specs.Ways.{EndsAndLeaves, Leaves, HasPassed, Ticks}
+use Rattle.radio_core.specs.Ways.{EndsAndLeaves, Leaves, Obeys, HasPassed, Ticks}
 use Rattle.radio_core.specs.World.{World, standing_of, standing_in}
 use Rattle.radio_core.proofs.CalledHome.{house_called}
 use Rattle.radio_core.proofs.Fates.{Fate, GoesOn, IsEnded, HasStopped, IsMoved, HasEnded, Nobody}
-use Rattle.radio_core.proofs.Lookups.{is_new_session, beside_begun, is_longer, beside_fed, is_titled, beside_titled, is_over, beside_ended}
+use Rattle.radio_core.proofs.CommandLemmas.{obeyed_keeps}
+use Rattle.radio_core.proofs.Obeyed.{title_live as command_finds}
+use Rattle.radio_core.proofs.Lookups.{found_named, is_new_session, beside_begun, is_longer, beside_fed, is_titled, beside_titled, is_over, beside_ended}
 use Rattle.radio_core.proofs.TickLemmas.{asking_at, ticked_fates}
 use Rattle.radio_core.proofs.TimeoutLemmas.{tests_are_in_numbers}
 use Rattle.radio_core.proofs.Ways.{way_of}
@@ -117,6 +122,41 @@ module _ (w : World) (s : IsSound w) (mount : List ℕ) where
         his session number (inl e) = inl (e ∙ ap (λ (n : ℕ). SourceEnd n) (sym number))
         his session number (inr e) = inr (inl (e ∙ ap (λ (n : ℕ). Leave n) (sym number)))
 
+  -- a command sets its title, or ends it
+  is_retitled : (event : Event) (named text : List ℕ) (c : IsCommanded w event (SetTitleOf named text)) (session : Session)
+      → session_of w.house.live named ≡ Some session
+      → SessionStep w event mount mine (session_of (changed w (Obey c.asked.id (SetTitleOf named text))).house.live mount)
+  is_retitled event named text c session found =
+      by_name named mount
+      (λ same. turned event (sym found ∙ ap (session_of w.house.live) same)
+      (sym (is_titled w.house.live named text session found) ∙ ap (session_of (titled w.house.live named text)) same)
+      (IsRetitled session text (subst (λ (m : List ℕ). IsCommanded w event (SetTitleOf m text)) same c)))
+      (λ apart. stays event (session_of (titled w.house.live named text) mount) (beside_titled w.house.live named mount apart text))
+
+  is_killed : (event : Event) (named : List ℕ) (c : IsCommanded w event (KillSource named)) (found : Option Session) → session_of w.house.live named ≡ found
+      → SessionStep w event mount mine (session_of (session_killed (answered w c.asked.id) found).house.live mount)
+  is_killed event named c None none = Stays mine
+  is_killed event named c (Some session) found =
+      let over = session_of (without_session w.house.live session.mount) in
+      let is = found_named w.house.live named session found in
+      by_name session.mount mount
+      (λ same. turned event (sym found ∙ ap (session_of w.house.live) (sym is ∙ same)) (sym (is_over w.house.live session.mount) ∙ ap over same)
+      (ItIsKilled session (subst (λ (m : List ℕ). IsCommanded w event (KillSource m)) (sym is ∙ same) c)))
+      (λ apart. stays event (over mount) (beside_ended w.house.live session.mount mount apart))
+
+  title_live : (event : Event) (named text : List ℕ) (c : IsCommanded w event (SetTitleOf named text)) (found : Option Session) → session_of w.house.live named ≡ found
+      → SessionStep w event mount mine (session_of (changed w (Obey c.asked.id (SetTitleOf named text))).house.live mount)
+  title_live event named text c None none = let there = command_finds w s event named text c in let found : session_of w.house.live named ≡ Some there.0 = there.1 in cc
+  title_live event named text c (Some session) found = is_retitled event named text c session found
+
+  pub obeys : (event : Event) (command : Command) (c : IsCommanded w event command)
+      → SessionStep w event mount mine (session_of (changed w (Obey c.asked.id command)).house.live mount)
+  obeys event (MoveClients named destination) c = Stays mine
+  obeys event (KillClient named listener) c = Stays mine
+  obeys event (KillSource named) c = is_killed event named c (session_of w.house.live named) refl
+  obeys event (SetTitleOf named text) c = title_live event named text c (session_of w.house.live named) refl
+  obeys event (SetFallback named fallback) c = Stays mine
+
   -- at a moment: it stays, or its source was silent
   module _ (ms : ℕ) where
     abbrev later : Option Session
@@ -129,6 +169,8 @@ module _ (w : World) (s : IsSound w) (mount : List ℕ) where
         let feeds : standing_of w session.number ≡ Feeds mount = s.fed mount session here in
         cc
     is_silenced session here (IsFarBehind him block seat e feeds has behind) gone = cc
+    is_silenced session here (IsKilled seat has named) gone = let e = named.is_event in cc
+    is_silenced session here (HisSessionIsKilled other feeds live named) gone = let e = named.is_event in cc
     is_silenced session here (HasSatOut moment seat e has out) gone =
         let sat : standing_of w session.number ≡ Sits = s.sitting session.number seat has in
         let feeds : standing_of w session.number ≡ Feeds mount = s.fed mount session here in
@@ -188,6 +230,7 @@ module _ (w : World) (s : IsSound w) (mount : List ℕ) where
   step_by event o (Ends him fed feeding) = is_ended event him fed feeding (inl refl)
   step_by event o (EndsAndLeaves him fed feeding) = is_ended event him fed feeding (inr refl)
   step_by event o (Leaves him other) = Stays mine
+  step_by event o (Obeys _ command c) = obeys event command c
   step_by event o (HasPassed ms e) = Stays mine
   step_by event o (Ticks ms e) = at_the_moment ms
 
@@ -214,6 +257,7 @@ module _ (w : World) (s : IsSound w) where
   keeps_by event o (Ends him fed feeding) = (refl, refl)
   keeps_by event o (EndsAndLeaves him fed feeding) = (refl, refl)
   keeps_by event o (Leaves him other) = (refl, refl)
+  keeps_by event o (Obeys _ command c) = obeyed_keeps w c.asked.id command
   keeps_by event o (HasPassed ms e) = (refl, refl)
 
   pub keeps_settings : (event : Event) → KeepsSettings w event

@@ -2,7 +2,7 @@
 use Rattle.std.specs.Prelude.{if◌then◌else◌, nat_lt}
 use Rattle.std.proofs.Common.{◌≡◌, Bool, true, false, ℕ, List, [], ◌∷◌, Some, Result, Ok, Err, OnOk, OnErr, IfOk, ◌≤◌, refl, ap, sym, subst, ◌∙◌}
 use Rattle.radio_events.specs.declared.event.Event.{Event}
-use Rattle.radio_events.specs.declared.event.Event.TheVariants.{Arrive, Source, Push, SourceEnd, Title, Listen, Draw, Leave, Clock}
+use Rattle.radio_events.specs.declared.event.Event.TheVariants.{Arrive, Source, Push, SourceEnd, Title, Listen, Draw, Command, Leave, Clock}
 use Rattle.radio_core.specs.declared.outcome.Outcome.{Outcome}
 use Rattle.radio_core.specs.declared.standing.Standing.{Standing}
 use Rattle.radio_core.specs.declared.standing.Standing.TheVariants.{Unknown, Undecided, Feeds, Sits, Answered, Finished}
@@ -15,6 +15,8 @@ use Rattle.radio_events.specs.Replies.{HoldsNoText}
 use Rattle.radio_core.specs.Changes.{changed}
 use Rattle.radio_core.specs.Kept.{first_start}
 use Rattle.radio_core.specs.KeptChanges.{kept_changed}
+use Rattle.radio_core.specs.Counts.{counted}
+use Rattle.radio_core.specs.Planned.{with_count, uncounted, planned}
 use Rattle.radio_core.specs.Sessions.{Session, session_of}
 use Rattle.radio_core.specs.Step.{outcome, reply_to, world_after, Step, Represents, StandsForSome, NeedsNoMemory}
 use Rattle.radio_events.specs.Events.{TakesNoMemory}
@@ -25,6 +27,7 @@ use Rattle.radio_access.specs.Lists.{Lists}
 use Rattle.radio_core.proofs.KeptOutcomes.{outcome_kept}
 use Rattle.radio_core.proofs.KeptRuns.{kept_on, seat_is_kept}
 use Rattle.radio_core.proofs.KeptSteps.{changed_kept, rise_changed}
+use Rattle.radio_core.proofs.PlannedLemmas.{planned_so, completed_so}
 use Rattle.radio_core.proofs.SoundRuns.{sound_after, sound_opening}
 use Rattle.radio_seats.specs.declared.seat.Seat.{Seat}
 use Rattle.radio_seats.specs.Seats.{seat_of}
@@ -53,8 +56,8 @@ clock_by : (ms : ℕ) (b : Bool) → IsSmall (says Noted (if b then Nothing else
 clock_by ms true = (tt, tt)
 clock_by ms false = (tt, tt)
 
-pub small_outcome : (w : World) (event : Event) → TakesNoMemory event → IsSmall (outcome w event)
-unfolding outcome
+pub small_outcome : (w : World) (event : Event) → TakesNoMemory event → IsSmall (planned w event)
+unfolding planned outcome
 small_outcome w (SourceEnd id) small = end_by id (standing_of w id)
 small_outcome w (Leave id) small = leave_by id (standing_of w id)
 small_outcome w (Clock ms) small = clock_by ms (nat_lt ms w.house.time)
@@ -64,6 +67,7 @@ small_outcome w (Push id block) small = absurd small
 small_outcome w (Title id text) small = absurd small
 small_outcome w (Listen asked) small = absurd small
 small_outcome w (Draw id room) small = absurd small
+small_outcome w (Command asked) small = absurd small
 
 -- the opening state stands for itself
 pub opening_represents : (settings : Settings) (lists : Lists) → Represents (opening settings lists) (opening settings lists)
@@ -94,16 +98,28 @@ seat_sits now stands id seat has =
     ∙ stands.1.sound.sitting id seat (sym (ap (λ (x : World). seat_of x.seats id) shows) ∙ has)
 
 -- an outcome that was worked out and committed is a step, from whatever state the core stood for
-module _ (now later : World) (event : Event) (o : Outcome) (is_outcome : o ≡ outcome now event) where
-  steps_to : later ≡ kept_changed now o.change → (w : World) → Represents now w → (w' : World) × Step w event o.reply w' × Represents later w'
+module _ (now later : World) (event : Event) (o : Outcome) (is_planned : o ≡ planned now event) where
+  -- the reply, with the number of those who were moved
+  abbrev told_reply : Reply
+  told_reply = with_count o.reply (counted now o.change).moved
+
+  is_uncounted : o ≡ uncounted (outcome now event)
+  is_uncounted = is_planned ∙ planned_so now event
+
+  is_told : told_reply ≡ (outcome now event).reply
+  is_told = ap (λ (x : Outcome). with_count x.reply (counted now x.change).moved) is_uncounted ∙ completed_so now event
+
+  steps_to : later ≡ kept_changed now o.change → (w : World) → Represents now w → (w' : World) × Step w event told_reply w' × Represents later w'
   unfolding Represents reply_to world_after
   steps_to ok w stands =
-      let same : o ≡ outcome w event
-      = is_outcome ∙ ap (λ (x : World). outcome x event) stands.shows ∙ outcome_kept w stands.rise stands.kept event in (
+      let alike : outcome now event ≡ outcome w event
+      = ap (λ (x : World). outcome x event) stands.shows ∙ outcome_kept w stands.rise stands.kept event in
+      let same : o.change ≡ (outcome w event).change
+      = ap (λ (x : Outcome). x.change) is_uncounted ∙ ap (λ (x : Outcome). x.change) alike in (
         changed w (outcome w event).change,
-        (ap (λ (x : Outcome). x.reply) same, refl),
+        (is_told ∙ ap (λ (x : Outcome). x.reply) alike, refl),
         record {
-          shows = ok ∙ ap (λ (x : Outcome). kept_changed now x.change) same
+          shows = ok ∙ ap (kept_changed now) same
               ∙ ap (λ (x : World). kept_changed x (outcome w event).change) stands.shows ∙ changed_kept w stands.rise (outcome w event).change;
           rise = rise_changed w stands.rise (outcome w event).change;
           kept = kept_on w stands.rise stands.sound.by_number stands.kept event;
@@ -118,7 +134,7 @@ module _ (now later : World) (event : Event) (o : Outcome) (is_outcome : o ≡ o
   still_stands (Ok x) ok err stands = let s = steps_to ok stands.0 stands.1 in (s.0, s.2)
   still_stands (Err e) ok err stands = (stands.0, subst (λ (x : World). Represents x stands.0) (sym err) stands.1)
 
-  pub step_done : {E : Type 0} (result : Result Reply E) → OnOk result (later ≡ kept_changed now o.change) → IfOk result (λ reply. reply ≡ o.reply)
+  pub step_done : {E : Type 0} (result : Result Reply E) → OnOk result (later ≡ kept_changed now o.change) → IfOk result (λ reply. reply ≡ told_reply)
       → (w : World) → Represents now w → IfOk result (λ reply. (w' : World) × Step w event reply w' × Represents later w')
   step_done (Ok reply) ok told w stands =
       let s = steps_to ok w stands in
@@ -126,15 +142,15 @@ module _ (now later : World) (event : Event) (o : Outcome) (is_outcome : o ≡ o
   step_done (Err refused) ok told w stands = tt
 
   pub steps_done : {E : Type 0} (result : Result (List Reply) E) → OnOk result (later ≡ kept_changed now o.change)
-      → IfOk result (λ replies. replies ≡ o.reply ∷ o.reply ∷ o.reply ∷ []) → (w : World) → Represents now w
+      → IfOk result (λ replies. replies ≡ told_reply ∷ told_reply ∷ told_reply ∷ []) → (w : World) → Represents now w
       → IfOk result (λ replies. (reply : Reply) × (w' : World) × Step w event reply w' × (replies ≡ reply ∷ reply ∷ reply ∷ []) × Represents later w')
   steps_done (Ok replies) ok told w stands =
       let s = steps_to ok w stands in
-      (o.reply, s.0, s.1, told, s.2)
+      (told_reply, s.0, s.1, told, s.2)
   steps_done (Err refused) ok told w stands = tt
 
   pub small_reply : TakesNoMemory event → HoldsNoText o.reply
-  small_reply small = subst (λ (x : Outcome). HoldsNoText x.reply) (sym is_outcome) (small_outcome now event small).0
+  small_reply small = subst (λ (x : Outcome). HoldsNoText x.reply) (sym is_planned) (small_outcome now event small).0
 
   pub small_change : TakesNoMemory event → NeedsNoMemory o.change
-  small_change small = subst (λ (x : Outcome). NeedsNoMemory x.change) (sym is_outcome) (small_outcome now event small).1
+  small_change small = subst (λ (x : Outcome). NeedsNoMemory x.change) (sym is_planned) (small_outcome now event small).1

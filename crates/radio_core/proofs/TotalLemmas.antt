@@ -1,25 +1,28 @@
 -- the law of totals
-use Rattle.std.proofs.Common.{◌≡◌, Bool, true, false, ℕ, ◌+◌, not, Option, Some, None, is_some, List, [], ◌∷◌, length, refl, ap}
+use Rattle.std.proofs.Common.{◌≡◌, Bool, true, false, ℕ, ◌+◌, ◌==◌, not, Option, Some, None, is_some, List, [], ◌∷◌, length, refl, ap}
 use Rattle.std.proofs.Common.{sym, subst, ◌∙◌, arith}
 use Rattle.std.specs.Prelude.{map, if◌then◌else◌, fold}
+use Rattle.std.proofs.lemmas.Bool.Decides.{nat_tests}
 use Rattle.std.proofs.lemmas.List.{length-map}
 use Rattle.std.proofs.lemmas.List.Filters.{length-filter_both}
 use Rattle.radio_tables.proofs.KeyLaws.{by_number}
 use Rattle.radio_addr.specs.declared.peer.Peer.{Peer}
 use Rattle.radio_policy.specs.declared.rule.Rule.{Rule}
-use Rattle.radio_policy.specs.declared.rule.Rule.TheVariants.{Lagged, TimeOver, SourceSilent}
+use Rattle.radio_policy.specs.declared.rule.Rule.TheVariants.{Lagged, TimeOver, SourceSilent, Killed, SourceKilled}
 use Rattle.radio_settings.specs.declared.settings.Settings.{Settings}
 use Rattle.radio_access.specs.Lists.{Lists}
 use Rattle.radio_seats.specs.declared.seat.Listener.{Listener}
 use Rattle.radio_seats.specs.declared.seat.Seat.{Seat}
 use Rattle.radio_seats.specs.declared.seat.Seating.{Seating}
 use Rattle.radio_seats.specs.declared.seat.Seating.TheVariants.{Sits as HasSeat, Finished as HasFinished}
-use Rattle.radio_seats.specs.Seats.{is_listener, listener_of, advanced, finished_if, with_ended, seated}
+use Rattle.radio_seats.specs.Seats.{is_listener, listener_of, advanced, finished_if, loses, with_ended, seated}
 use Rattle.radio_core.specs.declared.clients.ClientState.{ClientState}
 use Rattle.radio_core.specs.declared.clients.ClientState.TheVariants.{Undecided as IsNew, Feeds as IsSource, Listens, Answered as HasHisAnswer, Ended}
+use Rattle.radio_events.specs.declared.command.Command.{Command}
+use Rattle.radio_events.specs.declared.command.Command.TheVariants.{MoveClients, KillClient, KillSource, SetTitle, SetFallback}
 use Rattle.radio_events.specs.declared.event.Event.{Event}
 use Rattle.radio_events.specs.declared.event.Event.TheVariants.{Push, Leave}
-use Rattle.radio_core.specs.declared.outcome.Change.TheVariants.{Begin, TakeSeat, Forget}
+use Rattle.radio_core.specs.declared.outcome.Change.TheVariants.{Begin, TakeSeat, Forget, Obey}
 use Rattle.radio_core.specs.declared.outcome.Outcome.{Outcome}
 use Rattle.radio_events.specs.declared.reply.Reply.{Reply}
 use Rattle.radio_events.specs.declared.reply.Reply.TheVariants.{Noted, Stray}
@@ -30,29 +33,30 @@ use Rattle.radio_core.specs.Clients.{Client, is_client, client_of, in_state, wit
 use Rattle.radio_settings.specs.Options.{options_for}
 use Rattle.radio_settings.specs.declared.field.Shown.{Shown}
 use Rattle.radio_fallback.specs.declared.moves.Move.{Move}
-use Rattle.radio_fallback.specs.declared.moves.Move.TheVariants.{Ended as SessionEnds, Up}
+use Rattle.radio_fallback.specs.declared.moves.Move.TheVariants.{Ended as SessionEnds, Up, To}
 use Rattle.radio_fallback.proofs.FaresLemmas.{numbers_kept}
 use Rattle.radio_core.specs.Finishes.{Cause}
-use Rattle.radio_core.specs.Changes.{changed, begun, carried_along, session_over, session_ended, called_home, received, taken_in}
+use Rattle.radio_core.specs.Changes.{answered, session_killed, changed, begun, carried_along, session_over, session_ended, called_home, received, taken_in}
 use Rattle.radio_core.specs.Changes.{before_silence, session_silenced, silent_in, ticked}
 use Rattle.radio_core.specs.Facts.{live_end, sight_of}
 use Rattle.radio_core.specs.Leave.{leaves_from}
 use Rattle.radio_core.specs.Listen.{first_seat}
 use Rattle.radio_core.specs.Run.{world_after_all, run_after}
-use Rattle.radio_core.specs.Sessions.{Session}
+use Rattle.radio_core.specs.Sessions.{Session, session_of}
 use Rattle.radio_core.specs.Sound.{IsSound}
 use Rattle.radio_core.specs.Source.{shown_for}
 use Rattle.radio_core.specs.Step.{outcome, reply_to, world_after}
 use Rattle.radio_core.specs.Timeouts.{lags_behind, has_sat_out, timed_out}
 use Rattle.radio_core.specs.Totals.{arrivals, departures, seatings, listeners_leaving, has_seat, clients_there, seats_there, seats_lost, AddsUp}
 use Rattle.radio_core.specs.Ways.{Way, Misplaced, IsFinished, IsDenied, IsRefused, IsAdmitted, Begins, Receives, SetsTitle, TakesSeat, HandsOut, Ends}
-use Rattle.radio_core.specs.Ways.{EndsAndLeaves, Leaves, HasPassed, Ticks}
+use Rattle.radio_core.specs.Ways.{EndsAndLeaves, Leaves, Obeys, HasPassed, Ticks}
 use Rattle.radio_core.specs.World.{World, opening, standing_of, standing_in, standing_by, standing_seated, standing_of_listener}
 use Rattle.radio_core.proofs.CalledHome.{turns_up}
-use Rattle.radio_core.proofs.Effects.{IsSwept, GoesOnAs, IsOut, HasDone, tick_swept}
+use Rattle.radio_core.proofs.Effects.{IsSwept, GoesOnAs, IsOut, HasDone, tick_swept, obeyed_swept, his_event}
 use Rattle.radio_core.proofs.Fates.{Fate, GoesOn, IsEnded, HasStopped, IsMoved, HasEnded, Nobody}
 use Rattle.radio_core.proofs.NumberLists.{IsRising, IsFree, has, without, placed_rising, placed_length, placed_free, kept_rising, one_less, kept_free}
 use Rattle.radio_core.proofs.NumberLists.{taken_free, numbers_updated, numbers_mapped, numbers_placed, numbers_without, number_found, number_free}
+use Rattle.radio_core.proofs.Obeyed.{is_answered}
 use Rattle.radio_core.proofs.SoundEnds.{turns_ended}
 use Rattle.radio_core.proofs.SoundRuns.{grown_world, NoMove, lag_fates, sound_after, sound_opening}
 use Rattle.radio_core.proofs.Standings.{Turns, kept_of, turns_answered, turns_sitting, turns_forgotten, turns_admitted, stays_hearing}
@@ -108,6 +112,27 @@ same_ended p rule seats = numbers_mapped row_of (finished_if p rule) (λ x. refl
 
 same_carried : (w : World) (move : Move) → map row_of (carried_along w move).seats ≡ map row_of w.seats
 same_carried w move = numbers_kept (sight_of w.house) move w.seats
+
+-- a command is done
+same_killed : (w : World) (found : Option Session) → AreTheSame w (session_killed w found)
+same_killed w None = nobody_else w
+same_killed w (Some session) = record {
+  same_ids = same_state session.number (Ended SourceKilled) w.house.clients;
+  same_rows = same_carried (session_over w session.mount) (SessionEnds session.mount);
+  same_last = refl;
+}
+
+same_obeyed : (w : World) (id : ℕ) (command : Command) → AreTheSame w (changed w (Obey id command))
+same_obeyed w id command =
+    then_the_same w (answered w id) (changed w (Obey id command))
+    (record { same_ids = same_state id HasHisAnswer w.house.clients; same_rows = refl; same_last = refl }) (by_command command) where
+      by_command : (command : Command) → AreTheSame (answered w id) (changed w (Obey id command))
+      by_command (MoveClients mount destination) = record { same_ids = refl; same_rows = same_carried (answered w id) (To mount destination); same_last = refl }
+      by_command (KillClient mount listener) =
+          record { same_ids = refl; same_rows = numbers_updated row_of (is_listener listener) (loses Killed) (λ x. refl) w.seats; same_last = refl }
+      by_command (KillSource mount) = same_killed (answered w id) (session_of w.house.live mount)
+      by_command (SetTitle mount text) = record { same_ids = refl; same_rows = refl; same_last = refl }
+      by_command (SetFallback mount fallback) = record { same_ids = refl; same_rows = refl; same_last = refl }
 
 same_over_rows : (w : World) (mount : List ℕ) → map row_of (session_ended w mount).seats ≡ map row_of w.seats
 same_over_rows w mount = same_carried (session_over w mount) (SessionEnds mount)
@@ -236,6 +261,7 @@ module _ (w : World) (s : IsSound w) (inv : AreInOrder w) where
       (same_begun w asked.id asked.mount (shown_for w.house asked.mount asked.shown)) refl refl refl refl
   adds_by event o (Receives him mount block feeding) known =
       nobody_moves (changed w o.change) event o.reply (same_received w mount block) refl refl refl refl
+  adds_by event o (Obeys _ command c) known = nobody_moves (changed w o.change) event o.reply (same_obeyed w c.asked.id command) refl refl refl refl
   adds_by event o (HasPassed ms e) known = nobody_moves w event o.reply (nobody_else w) refl refl refl refl
   adds_by event o (Ticks ms e) known = nobody_moves (changed w o.change) event o.reply (same_ticked w ms) refl refl refl refl
   adds_by event o (SetsTitle him mount text feeding) known =
@@ -396,6 +422,18 @@ module _ (w : World) (s : IsSound w) (inv : AreInOrder w) where
         lags_yet id (IsEnded rule cause active ended none over) asks = absurd (subst IsYetToAsk ended asks)
         lags_yet id (HasStopped other why feeds done none over) asks = absurd why
         lags_yet id (IsMoved old session carries left had has_it same live opens) asks = absurd carries
+  order_by event o (Obeys _ command c) =
+      order_still w inv (changed w o.change) (same_obeyed w c.asked.id command)
+      (λ id asks.
+      by_number c.asked.id id
+      (λ same. absurd (subst IsYetToAsk (ap (standing_of (changed w o.change)) (sym same) ∙ is_answered w s event command c) asks))
+      (λ apart. swept_yet w inv (changed w o.change) event id
+      (λ his.
+      let both : Some c.asked.id ≡ Some id = sym (his_event w s event command c) ∙ his in
+      let one : c.asked.id ≡ id = cc in
+      let itself : (c.asked.id == id) ≡ true = grind (arith, nat_tests) in
+      cc)
+      (obeyed_swept w s event command c id) asks))
   order_by event o (HasPassed ms e) = inv
   order_by event o (Ticks ms e) =
       order_still w inv (changed w o.change) (same_ticked w ms)

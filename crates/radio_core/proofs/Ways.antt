@@ -13,7 +13,7 @@ use Rattle.radio_access.specs.Lists.{passes}
 use Rattle.radio_events.specs.declared.event.SourceRequest.{SourceRequest}
 use Rattle.radio_events.specs.declared.event.ListenRequest.{ListenRequest}
 use Rattle.radio_events.specs.declared.event.Event.{Event}
-use Rattle.radio_events.specs.declared.event.Event.TheVariants.{Arrive, Source, Push, SourceEnd, Title, Listen, Draw, Leave, Clock}
+use Rattle.radio_events.specs.declared.event.Event.TheVariants.{Arrive, Source, Push, SourceEnd, Title, Listen, Draw, Command, Leave, Clock}
 use Rattle.radio_core.specs.declared.house.House.{House}
 use Rattle.radio_core.specs.declared.outcome.Change.{Change}
 use Rattle.radio_core.specs.declared.outcome.Change.TheVariants.{Nothing, Answer, Tick}
@@ -37,11 +37,16 @@ use Rattle.radio_core.specs.Push.{takes_in}
 use Rattle.radio_core.specs.Listen.{takes_seat, sits_where}
 use Rattle.radio_core.specs.Draw.{hands_out, hands_out_at}
 use Rattle.radio_core.specs.Leave.{leaves_from}
+use Rattle.radio_events.specs.declared.command.Asked.{Asked}
+use Rattle.radio_events.specs.declared.command.Asked.TheVariants.{NoCommand, MissingArgument, Command as Asks}
+use Rattle.radio_events.specs.declared.command.CommandRequest.{CommandRequest}
+use Rattle.radio_core.specs.Command.{does_asked}
+use Rattle.radio_core.specs.CommandFacts.{rows_to_command}
 use Rattle.radio_seats.specs.Seats.{seat_of}
 use Rattle.radio_core.specs.Sessions.{Session, session_of}
 use Rattle.radio_core.specs.Step.{outcome}
 use Rattle.radio_core.specs.Ways.{Way, Misplaced, IsFinished, IsDenied, IsRefused, IsAdmitted, Begins, Receives, SetsTitle, TakesSeat, HandsOut, Ends}
-use Rattle.radio_core.specs.Ways.{EndsAndLeaves, Leaves, HasPassed, Ticks, rows_for, IsUndecided}
+use Rattle.radio_core.specs.Ways.{EndsAndLeaves, Leaves, Obeys, HasPassed, Ticks, rows_for, IsUndecided}
 use Rattle.radio_events.specs.Events.{client_in}
 use Rattle.radio_core.proofs.Lookups.{found_named}
 
@@ -222,6 +227,14 @@ by_clock : (w : World) (ms : ℕ) (b : Bool) → nat_lt ms w.house.time ≡ b �
 by_clock w ms true e = HasPassed ms e
 by_clock w ms false e = Ticks ms e
 
+-- what was asked is done, where the policy allows it
+module _ (w : World) (asked : CommandRequest) (peer : Peer) (e : standing_of w asked.id ≡ Undecided peer) (v : verdict_in (rows_to_command w asked) ≡ Allow) where
+  does : (what : Asked) → asked.asked ≡ what → Way w (Command asked) (does_asked w asked.id what)
+  does NoCommand is = Misplaced (Command asked)
+  does (MissingArgument by) is = Misplaced (Command asked)
+  does (Asks command) is =
+      Obeys (Command asked) command (record { asked = asked; is_event = refl; is_asked = is; peer = peer; undecided = e; allowed = v })
+
 pub way_of : (w : World) (event : Event) → Way w event (outcome w event)
 unfolding outcome
 way_of w (Arrive peer) =
@@ -251,5 +264,11 @@ way_of w (Listen asked) =
     (λ v. sits w asked peer e v (walks_to w.house w.seats asked.mount asked.pair) refl))
     (standing_of w asked.id) refl
 way_of w (Draw id room) = by_sitting w (Draw id room) id refl _ (λ e. hands_at w id room e (seat_of w.seats id) refl) (standing_of w id) refl
+way_of w (Command asked) =
+    by_undecided w (Command asked) asked.id refl _
+    (λ peer e. by_verdict w (Command asked) (Answer asked.id) (does_asked w asked.id asked.asked) (verdict_in (rows_for w (Command asked)))
+    (λ rule v. IsRefused (Command asked) asked.id rule v refl (peer, e))
+    (λ v. does w asked peer e v asked.asked refl))
+    (standing_of w asked.id) refl
 way_of w (Leave id) = by_leaving w id (standing_of w id) refl
 way_of w (Clock ms) = by_clock w ms (nat_lt ms w.house.time) refl

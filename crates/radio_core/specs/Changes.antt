@@ -1,21 +1,25 @@
 -- What each change makes of the state.
-use Rattle.std.specs.Prelude.{ℕ, if◌then◌else◌, List, map, filter, fold}
-use Rattle.radio_policy.specs.declared.rule.Rule.TheVariants.{Lagged, TimeOver, SourceSilent}
+use Rattle.std.specs.Prelude.{ℕ, if◌then◌else◌, List, Option, None, Some, map, filter, fold}
+use Rattle.radio_policy.specs.declared.rule.Rule.{Rule}
+use Rattle.radio_policy.specs.declared.rule.Rule.TheVariants.{Lagged, TimeOver, SourceSilent, Killed, SourceKilled}
 use Rattle.radio_addr.specs.declared.peer.Peer.{Peer}
 use Rattle.radio_settings.specs.declared.field.Shown.{Shown}
 use Rattle.radio_settings.specs.Options.{options_for}
 use Rattle.radio_fallback.specs.declared.moves.Move.{Move}
-use Rattle.radio_fallback.specs.declared.moves.Move.TheVariants.{Ended as HasEnded, Up}
+use Rattle.radio_fallback.specs.declared.moves.Move.TheVariants.{Ended as HasEnded, Up, To}
 use Rattle.radio_fallback.specs.Carry.{carried}
+use Rattle.radio_events.specs.declared.command.Command.{Command}
+use Rattle.radio_events.specs.declared.command.Command.TheVariants.{MoveClients, KillClient, KillSource, SetTitle as NewTitle, SetFallback}
 use Rattle.radio_core.specs.declared.clients.ClientState.{ClientState}
 use Rattle.radio_core.specs.declared.clients.ClientState.TheVariants.{Feeds, Listens, Answered, Ended}
 use Rattle.radio_core.specs.declared.house.House.{House}
 use Rattle.radio_core.specs.declared.outcome.Change.{Change}
 use Rattle.radio_core.specs.declared.outcome.Change.TheVariants.{Nothing, Answer, Admit, Begin, Receive, SetTitle, TakeSeat, Advance, End}
-use Rattle.radio_core.specs.declared.outcome.Change.TheVariants.{EndAndLeave, Forget, Tick}
+use Rattle.radio_core.specs.declared.outcome.Change.TheVariants.{EndAndLeave, Forget, Tick, Obey}
 use Rattle.radio_core.specs.Clients.{newcomer, with_client, in_state, without_client}
-use Rattle.radio_core.specs.Sessions.{Session, opened, with_session, fed, titled, without_session}
-use Rattle.radio_seats.specs.Seats.{with_seat, with_place, with_ended, without_listener}
+use Rattle.radio_core.specs.Fallbacks.{with_fallback}
+use Rattle.radio_core.specs.Sessions.{Session, session_of, opened, with_session, fed, titled, without_session}
+use Rattle.radio_seats.specs.Seats.{with_seat, with_place, with_end, with_ended, without_listener}
 use Rattle.radio_core.specs.Facts.{live_end, sight_of}
 use Rattle.radio_core.specs.Timeouts.{lags_behind, timed_out, has_sat_out, is_silent}
 use Rattle.radio_core.specs.World.{World}
@@ -43,6 +47,10 @@ received house mount block = record house { live = fed house.live mount block ho
 -- the mount's session has this title
 abbrev pub retitled : House → List ℕ → List ℕ → House
 retitled house mount title = record house { live = titled house.live mount title }
+
+-- the listeners of the mount fall back to this one, or to none
+abbrev pub falling_back : House → List ℕ → Option (List ℕ) → House
+falling_back house mount fallback = record house { fallbacks = with_fallback house.fallbacks mount fallback }
 
 -- a move has carried listeners along
 abbrev pub carried_along : World → Move → World
@@ -89,17 +97,42 @@ before_silence w ms = durations_over (record w { house = timed_out_by w.house ms
 abbrev pub silent_in : World → List Session
 silent_in w = filter (is_silent w.house.settings.limits.source_timeout w.house.time) w.house.live
 
--- such a session ends, and its source is finished
+-- the session ends, and its source is finished by the rule
+abbrev pub session_ended_by : Rule → World → Session → World
+session_ended_by rule w session = let after = session_ended w session.mount in record after { house = now_in_state after.house session.number (Ended rule) }
+
 abbrev pub session_silenced : World → Session → World
-session_silenced w session = let after = session_ended w session.mount in record after { house = now_in_state after.house session.number (Ended SourceSilent) }
+session_silenced w session = session_ended_by SourceSilent w session
 
 -- it is this moment, and what has had its time ends: clients and listeners, and then sessions, one after another
 abbrev pub ticked : World → ℕ → World
 ticked w ms = let later = before_silence w ms in fold session_silenced later (silent_in later)
 
+-- the session, if there is one, is ended by a command
+abbrev pub session_killed : World → Option Session → World
+session_killed w None = w
+session_killed w (Some session) = session_ended_by SourceKilled w session
+
+-- what a command does
+abbrev pub done : World → Command → World
+done w (MoveClients mount destination) = carried_along w (To mount destination)
+done w (KillClient mount listener) = record w { seats = with_end w.seats listener Killed }
+done w (KillSource mount) = session_killed w (session_of w.house.live mount)
+done w (NewTitle mount title) = record w { house = retitled w.house mount title }
+done w (SetFallback mount fallback) = record w { house = falling_back w.house mount fallback }
+
+-- all but the setting of a fallback takes no memory
+abbrev pub TakesNoRoom : Command → Type 0
+TakesNoRoom (SetFallback mount fallback) = ⊥
+TakesNoRoom command = Unit {0}
+
+-- the client has had his answer
+abbrev pub answered : World → ℕ → World
+answered w id = record w { house = now_in_state w.house id Answered }
+
 abbrev pub changed : World → Change → World
 changed w Nothing = w
-changed w (Answer id) = record w { house = now_in_state w.house id Answered }
+changed w (Answer id) = answered w id
 changed w (Admit id peer) = record w { house = admitted w.house id peer }
 changed w (Begin id mount shown) = called_home (record w { house = begun w.house id mount shown }) mount
 changed w (Receive mount block) = taken_in w mount block
@@ -110,3 +143,4 @@ changed w (End id mount) = let after = session_ended w mount in record after { h
 changed w (EndAndLeave id mount) = client_gone (session_ended w mount) id
 changed w (Forget id) = client_gone w id
 changed w (Tick ms) = ticked w ms
+changed w (Obey id command) = done (answered w id) command

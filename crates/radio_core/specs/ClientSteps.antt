@@ -13,6 +13,8 @@ use Rattle.radio_events.specs.declared.reply.Reply.TheVariants.{Deny}
 use Rattle.radio_events.specs.Events.{client_in}
 use Rattle.radio_core.specs.declared.standing.Standing.{Standing}
 use Rattle.radio_core.specs.declared.standing.Standing.TheVariants.{Unknown, Undecided, Feeds, Sits, Answered, Finished}
+use Rattle.radio_events.specs.declared.command.Command.{Command}
+use Rattle.radio_core.specs.CommandFacts.{IsCommanded}
 use Rattle.radio_core.specs.Facts.{rows_to_feed, rows_to_listen}
 use Rattle.radio_core.specs.Finishes.{Finishes}
 use Rattle.radio_core.specs.Clients.{Client, client_of}
@@ -28,6 +30,9 @@ pub data ClientStep (w : World) (Cause : Rule → Type 0) (event : Event) (id : 
       → ClientStep w Cause event id Unknown (Undecided peer)
   -- what he asks for is denied
   IsAnswered : (peer : Peer) (rule : Rule) → client_in event ≡ Some id → reply_to w event ≡ Deny rule → ClientStep w Cause event id (Undecided peer) Answered
+  -- he gives a command, and the policy allows it
+  IsObeyed : (peer : Peer) (command : Command) → client_in event ≡ Some id → IsCommanded w event command
+      → ClientStep w Cause event id (Undecided peer) Answered
   -- he asks to feed a mount, and the policy allows it
   BeginsToFeed : (peer : Peer) (asked : SourceRequest) → event ≡ Source asked → asked.id ≡ id → verdict_in (rows_to_feed w.house asked) ≡ Allow
       → ClientStep w Cause event id (Undecided peer) (Feeds asked.mount)

@@ -3,10 +3,12 @@ use Rattle.std.specs.Prelude.{ℕ, if◌then◌else◌, List}
 use Rattle.radio_settings.specs.Options.{options_for}
 use Rattle.radio_fallback.specs.declared.moves.Carried.{Carried}
 use Rattle.radio_fallback.specs.declared.moves.Move.{Move}
-use Rattle.radio_fallback.specs.declared.moves.Move.TheVariants.{Ended as HasEnded, Up}
+use Rattle.radio_fallback.specs.declared.moves.Move.TheVariants.{Ended as HasEnded, Up, To}
 use Rattle.radio_fallback.specs.Carry.{carried}
+use Rattle.radio_events.specs.declared.command.Command.{Command}
+use Rattle.radio_events.specs.declared.command.Command.TheVariants.{MoveClients}
 use Rattle.radio_core.specs.declared.outcome.Change.{Change}
-use Rattle.radio_core.specs.declared.outcome.Change.TheVariants.{Begin, End, EndAndLeave}
+use Rattle.radio_core.specs.declared.outcome.Change.TheVariants.{Begin, End, EndAndLeave, Obey}
 use Rattle.radio_core.specs.Changes.{begun, session_over}
 use Rattle.radio_core.specs.Facts.{sight_of}
 use Rattle.radio_core.specs.World.{World}
@@ -26,10 +28,16 @@ counts_ended w mount = counts_along (session_over w mount) (HasEnded mount)
 abbrev pub counts_home : World → List ℕ → Carried
 counts_home w mount = (if (options_for w.house.settings mount).listeners.fallback_override then counts_along w (Up mount) else nobody)
 
+-- how many a command moves; what else it brings is told to nobody and not counted
+abbrev pub counts_by : World → Command → Carried
+counts_by w (MoveClients mount destination) = counts_along w (To mount destination)
+counts_by w command = nobody
+
 -- how many the move shifts and finishes that the change is, or brings; the moves of a clock, of which there may be several, are told to nobody and not
 -- counted
 abbrev pub counted : World → Change → Carried
 counted w (Begin id mount shown) = counts_home (record w { house = begun w.house id mount shown }) mount
 counted w (End id mount) = counts_ended w mount
 counted w (EndAndLeave id mount) = counts_ended w mount
+counted w (Obey id command) = counts_by w command
 counted w change = nobody

@@ -22,6 +22,7 @@ use Rattle.radio_fallback.specs.Walk.{Sight, found_at, landing, stop_in}
 use Rattle.radio_events.specs.declared.event.SourceRequest.{SourceRequest}
 use Rattle.radio_events.specs.declared.event.ListenRequest.{ListenRequest}
 use Rattle.radio_core.specs.declared.house.House.{House}
+use Rattle.radio_core.specs.Fallbacks.{set_for}
 use Rattle.radio_core.specs.Stream.{end_of}
 use Rattle.radio_core.specs.Sessions.{session_of}
 use Rattle.radio_core.specs.World.{World}
@@ -51,6 +52,11 @@ live_end house mount = option_map_or (λ session. end_of session.stream) (sessio
 abbrev pub live_number : House → List ℕ → ℕ
 live_number house mount = option_map_or (λ session. session.number) (session_of house.live mount) 0
 
+-- to which mount the listeners of this one fall back, if to any: what a command has set, else what the settings say
+abbrev pub fallback_of : House → List ℕ → Option (List ℕ)
+fallback_of house mount =
+    option_map_or (λ set. set.fallback) (set_for house.fallbacks mount) (options_for house.settings mount).listeners.fallback_mount
+
 -- what a walk sees of the house
 abbrev pub sight_of : House → Sight
 sight_of house = record {
@@ -58,7 +64,7 @@ sight_of house = record {
   limit = λ mount. (options_for house.settings mount).listeners.max_listeners;
   lets_in = lets_in house.lists;
   allows_duplicates = λ mount. (options_for house.settings mount).users.allow_duplicate_users;
-  fallback = λ mount. (options_for house.settings mount).listeners.fallback_mount;
+  fallback = fallback_of house;
   hands_on_when_full = λ mount. (options_for house.settings mount).listeners.fallback_when_full;
   stream_end = λ mount. record { session = live_number house mount; place = live_end house mount };
 }

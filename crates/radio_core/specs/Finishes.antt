@@ -1,10 +1,12 @@
 use Rattle.std.specs.Prelude.{◌≡◌, ℕ, true, Some, None, List}
 use Rattle.radio_policy.specs.declared.rule.Rule.{Rule}
-use Rattle.radio_policy.specs.declared.rule.Rule.TheVariants.{Lagged, TimeOver, HeaderTimeout, SourceSilent}
+use Rattle.radio_policy.specs.declared.rule.Rule.TheVariants.{Lagged, TimeOver, HeaderTimeout, SourceSilent, Killed, SourceKilled}
 use Rattle.radio_events.specs.declared.event.Event.{Event}
 use Rattle.radio_events.specs.declared.event.Event.TheVariants.{Push, Clock}
 use Rattle.radio_core.specs.declared.standing.Standing.TheVariants.{Feeds, Finished as HasFinished}
 use Rattle.radio_seats.specs.declared.seat.Seat.{Seat}
+use Rattle.radio_events.specs.declared.command.Command.TheVariants.{KillClient, KillSource}
+use Rattle.radio_core.specs.CommandFacts.{IsCommanded}
 use Rattle.radio_core.specs.Clients.{Client, client_of}
 use Rattle.radio_core.specs.Facts.{live_end}
 use Rattle.radio_core.specs.Moves.{LeavesOut}
@@ -31,6 +33,11 @@ pub data Cause (w later : World) (event : Event) (id : ℕ) : Rule → Type 0 wh
   HasSentNothing : (ms : ℕ) (session : Session) → event ≡ Clock ms → standing_of w id ≡ Feeds session.mount
       → session_of w.house.live session.mount ≡ Some session → is_silent w.house.settings.limits.source_timeout ms session ≡ true
       → Cause w later event id SourceSilent
+  -- a command names him, and the mount where he sits
+  IsKilled : (seat : Seat) → seat_of w.seats id ≡ Some seat → IsCommanded w event (KillClient seat.mount id) → Cause w later event id Killed
+  -- a command ends the session that he feeds
+  HisSessionIsKilled : (session : Session) → standing_of w id ≡ Feeds session.mount → session_of w.house.live session.mount ≡ Some session
+      → IsCommanded w event (KillSource session.mount) → Cause w later event id SourceKilled
 
 -- the event finishes the client by the rule: there is a cause, and he stands so, without a seat
 pub record Finishes (w : World) (event : Event) (id : ℕ) (rule : Rule) : Type 0 where

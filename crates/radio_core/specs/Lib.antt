@@ -14,6 +14,10 @@ pub mod Listen
 pub mod Draw
 pub mod Leave
 pub mod Clock
+pub mod Fallbacks
+pub mod CommandFacts
+pub mod Command
+pub mod Planned
 pub mod Changes
 pub mod Counts
 pub mod Moves

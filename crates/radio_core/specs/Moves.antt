@@ -6,7 +6,7 @@ use Rattle.radio_policy.specs.Verdicts.{verdict_in}
 use Rattle.radio_addr.specs.declared.peer.Peer.{Peer}
 use Rattle.radio_settings.specs.Options.{options_for}
 use Rattle.radio_fallback.specs.declared.moves.Move.{Move}
-use Rattle.radio_fallback.specs.declared.moves.Move.TheVariants.{Ended, Up}
+use Rattle.radio_fallback.specs.declared.moves.Move.TheVariants.{Ended, Up, To}
 use Rattle.radio_fallback.specs.declared.moves.Turn.{Turn}
 use Rattle.radio_fallback.specs.declared.moves.Turn.TheVariants.{GoesTo, IsOut}
 use Rattle.radio_fallback.specs.Carry.{turn_of, at_his_turn}
@@ -16,6 +16,8 @@ use Rattle.radio_events.specs.declared.event.Event.TheVariants.{Source, SourceEn
 use Rattle.radio_events.specs.declared.event.SourceRequest.{SourceRequest}
 use Rattle.radio_core.specs.declared.standing.Standing.TheVariants.{Undecided, Feeds}
 use Rattle.radio_core.specs.Changes.{begun, session_over, before_silence, silent_in, session_silenced}
+use Rattle.radio_events.specs.declared.command.Command.TheVariants.{MoveClients, KillSource}
+use Rattle.radio_core.specs.CommandFacts.{IsCommanded}
 use Rattle.radio_core.specs.Facts.{sight_of, rows_to_feed}
 use Rattle.radio_core.specs.Sessions.{Session}
 use Rattle.radio_core.specs.Source.{shown_for}
@@ -43,6 +45,10 @@ pub data Brings (w : World) : Event → Move → World → Type 0 where
   ByComingUp : (asked : SourceRequest) (peer : Peer) → standing_of w asked.id ≡ Undecided peer → verdict_in (rows_to_feed w.house asked) ≡ Allow
       → (options_for w.house.settings asked.mount).listeners.fallback_override ≡ true
       → Brings w (Source asked) (Up asked.mount) (record w { house = begun w.house asked.id asked.mount (shown_for w.house asked.mount asked.shown) })
+  -- a command ends the session of a mount
+  ByKilling : (event : Event) (mount : List ℕ) → IsCommanded w event (KillSource mount) → Brings w event (Ended mount) (session_over w mount)
+  -- a command moves the listeners of a mount to another
+  ByMoving : (event : Event) (mount destination : List ℕ) → IsCommanded w event (MoveClients mount destination) → Brings w event (To mount destination) w
 
 -- a move that the event brings takes him to the mount at his turn
 abbrev pub TakesTo : World → Event → ℕ → List ℕ → Type 0

@@ -14,6 +14,8 @@ use Rattle.radio_events.specs.declared.event.ListenRequest.{ListenRequest}
 use Rattle.radio_core.specs.declared.standing.Standing.TheVariants.{Undecided}
 use Rattle.radio_access.specs.Lists.{lets_in}
 use Rattle.radio_fallback.specs.declared.walking.Landing.TheVariants.{Lands}
+use Rattle.radio_events.specs.declared.command.Command.TheVariants.{MoveClients}
+use Rattle.radio_core.specs.CommandFacts.{IsCommanded}
 use Rattle.radio_core.specs.Facts.{rows_to_listen, walks_to}
 use Rattle.radio_core.specs.Moves.{TakesTo, moved_into}
 use Rattle.radio_core.specs.Finishes.{Finishes}
@@ -25,11 +27,12 @@ use Rattle.radio_core.specs.Stream.{data_at, end_of}
 use Rattle.radio_core.specs.World.{World, standing_of}
 
 -- why a listener goes from his seat to the mount: the session in which he sat is over; or a source has come up at the mount, which is the one that he asked
--- for, and calls its listeners home
+-- for, and calls its listeners home; or a command moves the listeners of his mount there
 pub data IsSent (w later : World) (event : Event) (seat : Seat) (mount : List ℕ) : Type 0 where
   HisSessionIsOver : session_of later.house.live seat.mount ≡ None → IsSent w later event seat mount
   HeIsCalledHome : (asked : SourceRequest) → event ≡ Source asked → mount ≡ asked.mount → seat.home ≡ asked.mount
       → (options_for w.house.settings asked.mount).listeners.fallback_override ≡ true → IsSent w later event seat mount
+  IsCommandedThere : IsCommanded w event (MoveClients seat.mount mount) → IsSent w later event seat mount
 
 -- all that an event can do to the seat of the client of this number, where a rule ends one only for its cause; between the seats, what it hands to him
 pub data SeatStep (w : World) (Cause : Rule → Type 0) (event : Event) (id : ℕ) : Option Seat → List ℕ → Option Seat → Type 0 where

@@ -4,6 +4,8 @@ use Rattle.radio_settings.specs.Options.{options_for}
 use Rattle.radio_events.specs.declared.event.Event.{Event}
 use Rattle.radio_events.specs.declared.event.Event.TheVariants.{Source, Push, SourceEnd, Title, Leave, Clock}
 use Rattle.radio_events.specs.declared.event.SourceRequest.{SourceRequest}
+use Rattle.radio_events.specs.declared.command.Command.TheVariants.{KillSource, SetTitle}
+use Rattle.radio_core.specs.CommandFacts.{IsCommanded}
 use Rattle.radio_core.specs.Sessions.{Session, session_of}
 use Rattle.radio_core.specs.Step.{world_after}
 use Rattle.radio_core.specs.World.{World}
@@ -41,9 +43,14 @@ pub data SessionStep (w : World) (event : Event) (mount : List ℕ) : Option Ses
   -- its source sets its title
   IsTitled : (session : Session) (text : List ℕ) → event ≡ Title session.number text
       → SessionStep w event mount (Some session) (Some (record session { title = Some text }))
+  -- a command sets it
+  IsRetitled : (session : Session) (text : List ℕ) → IsCommanded w event (SetTitle mount text)
+      → SessionStep w event mount (Some session) (Some (record session { title = Some text }))
   -- it ends: its source has come to the end of its data, or has left, or has sent nothing in the time that it has for it
   Ends : (session : Session) → (event ≡ SourceEnd session.number) ⊎ (event ≡ Leave session.number) ⊎ ((ms : ℕ) × (event ≡ Clock ms)
       × (1000 * w.house.settings.limits.source_timeout ≤ ms - session.last_block)) → SessionStep w event mount (Some session) None
+  -- a command ends it
+  IsKilled : (session : Session) → IsCommanded w event (KillSource mount) → SessionStep w event mount (Some session) None
 
 abbrev pub SessionsStep : World → Event → Type 0
 SessionsStep w event = (mount : List ℕ) → SessionStep w event mount (session_of w.house.live mount) (session_of (world_after w event).house.live mount)

@@ -1,7 +1,7 @@
 -- One event of the server.
 use Rattle.std.specs.Prelude.{◌≡◌}
 use Rattle.radio_events.specs.declared.event.Event.{Event}
-use Rattle.radio_events.specs.declared.event.Event.TheVariants.{Arrive, Source, Push, SourceEnd, Title, Listen, Draw, Leave, Clock}
+use Rattle.radio_events.specs.declared.event.Event.TheVariants.{Arrive, Source, Push, SourceEnd, Title, Listen, Draw, Command, Leave, Clock}
 use Rattle.radio_events.specs.declared.reply.Reply.{Reply}
 use Rattle.radio_core.specs.declared.outcome.Change.{Change}
 use Rattle.radio_core.specs.declared.outcome.Change.TheVariants.{Nothing, Answer, SetTitle, Advance, End, EndAndLeave, Forget, Tick}
@@ -14,6 +14,7 @@ use Rattle.radio_core.specs.SourceEnd.{stops_feeding}
 use Rattle.radio_core.specs.Title.{sets_title}
 use Rattle.radio_core.specs.Listen.{asks_to_hear}
 use Rattle.radio_core.specs.Draw.{draws}
+use Rattle.radio_core.specs.Command.{gives_command}
 use Rattle.radio_core.specs.Leave.{leaves}
 use Rattle.radio_core.specs.Clock.{hears_clock}
 use Rattle.radio_core.specs.Changes.{changed}
@@ -28,6 +29,7 @@ outcome w (SourceEnd id) = stops_feeding w id
 outcome w (Title id text) = sets_title w id text
 outcome w (Listen asked) = asks_to_hear w asked
 outcome w (Draw id room) = draws w id room
+outcome w (Command asked) = gives_command w asked
 outcome w (Leave id) = leaves w id
 outcome w (Clock ms) = hears_clock w ms
 

@@ -8,7 +8,7 @@ use Rattle.radio_addr.specs.declared.peer.Peer.{Peer}
 use Rattle.radio_events.specs.declared.event.SourceRequest.{SourceRequest}
 use Rattle.radio_events.specs.declared.event.ListenRequest.{ListenRequest}
 use Rattle.radio_events.specs.declared.event.Event.{Event}
-use Rattle.radio_events.specs.declared.event.Event.TheVariants.{Arrive, Source, Push, SourceEnd, Title, Listen, Draw, Leave, Clock}
+use Rattle.radio_events.specs.declared.event.Event.TheVariants.{Arrive, Source, Push, SourceEnd, Title, Listen, Draw, Command, Leave, Clock}
 use Rattle.radio_core.specs.declared.house.House.{House}
 use Rattle.radio_core.specs.declared.outcome.Change.TheVariants.{Nothing, Answer, Admit, Receive, SetTitle, TakeSeat, Advance, End, EndAndLeave, Forget, Tick}
 use Rattle.radio_core.specs.declared.outcome.Outcome.{Outcome}
@@ -17,6 +17,9 @@ use Rattle.radio_seats.specs.declared.seat.Seat.{Seat}
 use Rattle.radio_core.specs.declared.standing.Standing.{Standing}
 use Rattle.radio_core.specs.declared.standing.Standing.TheVariants.{Undecided, Feeds, Sits, Finished as HasFinished}
 use Rattle.radio_fallback.specs.declared.walking.Landing.TheVariants.{Lands}
+use Rattle.radio_events.specs.declared.command.Command.{Command as TheCommand}
+use Rattle.radio_core.specs.Command.{obeys}
+use Rattle.radio_core.specs.CommandFacts.{IsCommanded, rows_to_command}
 use Rattle.radio_core.specs.Facts.{rows_to_arrive, rows_to_feed, rows_to_push, rows_to_listen, walks_to}
 use Rattle.radio_core.specs.Listen.{first_seat, interval_for}
 use Rattle.radio_core.specs.Outcomes.{says}
@@ -42,6 +45,7 @@ rows_for w (Arrive peer) = rows_to_arrive w.house peer
 rows_for w (Source asked) = rows_to_feed w.house asked
 rows_for w (Push id block) = rows_from w.house block (standing_of w id)
 rows_for w (Listen asked) = rows_to_listen w asked
+rows_for w (Command asked) = rows_to_command w asked
 rows_for w event = []
 
 pub data Way (w : World) : Event → Outcome → Type 0 where
@@ -72,5 +76,6 @@ pub data Way (w : World) : Event → Outcome → Type 0 where
   Ends : (id : ℕ) (mount : List ℕ) → standing_of w id ≡ Feeds mount → Way w (SourceEnd id) (says Noted (End id mount))
   EndsAndLeaves : (id : ℕ) (mount : List ℕ) → standing_of w id ≡ Feeds mount → Way w (Leave id) (says Noted (EndAndLeave id mount))
   Leaves : (id : ℕ) → ((mount : List ℕ) → standing_of w id ≡ Feeds mount → ⊥) → Way w (Leave id) (says Noted (Forget id))
+  Obeys : (event : Event) (command : TheCommand) (c : IsCommanded w event command) → Way w event (obeys w c.asked.id command)
   HasPassed : (ms : ℕ) → nat_lt ms w.house.time ≡ true → Way w (Clock ms) (says Noted Nothing)
   Ticks : (ms : ℕ) → nat_lt ms w.house.time ≡ false → Way w (Clock ms) (says Noted (Tick ms))

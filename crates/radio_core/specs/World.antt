@@ -17,14 +17,14 @@ use Rattle.radio_seats.specs.Seats.{listener_of}
 
 -- the house, and the table of those who listen in it
 pub record World : Type 0 where
-  -- the moment, the settings and their lists, the live sessions, the clients, and the number that was given last
+  -- the moment, the settings and their lists, the live sessions, the fallbacks that were set, the clients, and the number that was given last
   pub house : House
   -- the listeners, in order of their numbers
   pub seats : List Listener
 
 -- nothing has happened yet
 abbrev pub opening : Settings → Lists → World
-opening settings lists = record { house = record { time = 0; settings = settings; lists = lists; live = []; clients = []; last_id = 0 }; seats = [] }
+opening settings lists = record { house = record { time = 0; settings = settings; lists = lists; live = []; fallbacks = []; clients = []; last_id = 0 }; seats = [] }
 
 -- one who was admitted as a listener sits, or has finished by a rule
 abbrev pub standing_seated : Seating → Standing

@@ -93,7 +93,10 @@ impl View for House {
     }
 
     fn fallback(&self, mount: &MountName) -> Option<MountName> {
-        self.settings.options(mount).listeners.fallback_mount
+        match self.fallbacks.get(mount) {
+            Some(set) => set.fallback,
+            None => self.settings.options(mount).listeners.fallback_mount,
+        }
     }
 
     fn hands_on_when_full(&self, mount: &MountName) -> bool {

@@ -8,12 +8,13 @@ ghost use Rattle.std.specs.Ordering.{nat_cmp};
 ghost use Rattle.radio_core.specs.Sessions.{Session as SessionOf, session_of};
 ghost use Rattle.radio_core.specs.Facts.{live_end, live_number};
 ghost use Rattle.radio_core.specs.Source.{shown_for};
-ghost use Rattle.radio_core.specs.Changes.{now_in_state, admitted, begun, retitled, timed_out_by};
+ghost use Rattle.radio_core.specs.Changes.{now_in_state, admitted, begun, retitled, falling_back, timed_out_by};
 ghost use Rattle.radio_core.specs.KeptChanges.{kept_received};
 ghost use Rattle.radio_core.specs.Timeouts.{is_silent};
 
 use crate::OutOfMemory;
 use crate::clients::{Client, ClientState, SetState};
+use crate::fallbacks::Fallback;
 use crate::sessions::{Delivers, NewTitle, Session};
 use crate::stream::Stream;
 use crate::timeouts::{TimesOut, lies_back};
@@ -36,6 +37,8 @@ pub struct House {
     pub(crate) lists: Lists,
     /// The live mounts' sessions, in the order of the mounts' names.
     pub(crate) live: Table<Session>,
+    /// The fallbacks that commands have set, in the order of their mounts' names.
+    pub(crate) fallbacks: Table<Fallback>,
     /// The clients, in the order of their numbers.
     pub(crate) clients: Table<Client>,
     /// The number that was given last.
@@ -150,6 +153,19 @@ impl House {
     {
         let mut new = NewTitle { title: Some(title) };
         self.live.swap(mount, &mut new);
+    }
+
+    /// The mount's listeners fall back to this one from now on, or to none. `OutOfMemory` where
+    /// memory was refused; nothing has changed then.
+    pub(crate) fn set_fallback(
+        &mut self,
+        mount: MountName,
+        fallback: Option<MountName>,
+    ) -> Result<(), OutOfMemory>
+        ensures ok { OnOk result (self.new ≡ falling_back self.old mount fallback) }
+        ensures err { OnErr result (self.new ≡ self.old) }
+    {
+        self.fallbacks.insert(Fallback { mount, fallback })
     }
 
     /// It is this moment, and the clients who have asked for nothing in their time are finished. It

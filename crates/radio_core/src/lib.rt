@@ -13,8 +13,10 @@
 #![tactic(auto)]
 
 mod clients;
+mod command_facts;
 mod due;
 mod facts;
+mod fallbacks;
 mod house;
 mod laws;
 mod outcome;

@@ -2,7 +2,7 @@
 
 use radio_addr::Peer;
 use radio_blocks::{Block, Place};
-use radio_events::Reply;
+use radio_events::{Command, Reply};
 use radio_icy::Title;
 use radio_policy::Rule;
 use radio_seats::Seat;
@@ -65,6 +65,11 @@ pub enum Change {
     /// It is this moment, and what has had its time ends.
     Tick {
         ms: u64,
+    },
+    /// The command is done, and the client who gave it has had his answer.
+    Obey {
+        id: u64,
+        command: Command,
     },
 }
 

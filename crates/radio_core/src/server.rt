@@ -13,20 +13,24 @@ use crate::outcome::Outcome;
 use radio_access::Lists;
 use radio_events::{Event, Reply};
 use radio_settings::Settings;
+pub(crate) use state::State;
 use std::alloc::Global;
 use std::marker::Model;
 use timed_state::TimedState;
 
 mod arrive;
 mod clock;
+mod command;
 mod commit;
 mod draw;
 mod leave;
 mod listen;
+mod obey;
 mod push;
 mod source;
 mod source_end;
 mod state;
+mod telling;
 mod tick;
 mod timed_state;
 mod title;
@@ -97,7 +101,7 @@ impl Core {
     {
         let Outcome { reply, change } = self.state.outcome(event)?;
         match thrice(reply) {
-            Ok(replies) => self.state.commit_for(change, replies),
+            Ok(replies) => self.state.commit_for_each(change, replies),
             Err(refused) => {
                 drop(change);
                 Err(refused)

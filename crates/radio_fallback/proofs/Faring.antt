@@ -13,7 +13,7 @@ use Rattle.radio_seats.specs.declared.seat.Seating.{Seating}
 use Rattle.radio_seats.specs.declared.seat.Seating.TheVariants.{Sits, Finished}
 use Rattle.radio_seats.specs.Seats.{is_listener, listener_of, seat_held, seat_in, seat_of, moved, loses, without_listener, AreByNumber}
 use Rattle.radio_fallback.specs.declared.moves.Move.{Move}
-use Rattle.radio_fallback.specs.declared.moves.Move.TheVariants.{Ended, Up}
+use Rattle.radio_fallback.specs.declared.moves.Move.TheVariants.{Ended, Up, To}
 use Rattle.radio_fallback.specs.declared.moves.Turn.{Turn}
 use Rattle.radio_fallback.specs.declared.moves.Turn.TheVariants.{Stays, GoesTo, IsOut}
 use Rattle.radio_fallback.specs.declared.walking.Landing.{Landing}
@@ -195,6 +195,14 @@ module _ (sight : Sight) (others : List Listener) (mount : List ℕ) where
   never_out_in None rule e = cc
   never_out_in (Some seat) rule e = never_out_by seat rule (concerns (Up mount) seat.mount seat.home) e
 
+  there_in : (from : List ℕ) (held : Option Seat) (to : List ℕ) → turn_in sight others (To from mount) held ≡ GoesTo to → mount ≡ to
+  there_in from None to e = cc
+  there_in from (Some seat) to e = home_by seat to (concerns (To from mount) seat.mount seat.home) e
+
+  never_out_there_in : (from : List ℕ) (held : Option Seat) (rule : Rule) → turn_in sight others (To from mount) held ≡ IsOut rule → ⊥
+  never_out_there_in from None rule e = cc
+  never_out_there_in from (Some seat) rule e = never_out_by seat rule (concerns (To from mount) seat.mount seat.home) e
+
 pub comes_home : (sight : Sight) (mount : List ℕ) (seats : List Listener) (id : ℕ) (to : List ℕ) → turn_of sight (Up mount) seats id ≡ GoesTo to → mount ≡ to
 comes_home sight mount seats id to e = home_in sight (without_listener seats id) mount (seat_of seats id) to e
 
@@ -211,3 +219,12 @@ each_carried P moves ends sight move seats all =
     (moves to (sight.stream_end to).session (sight.stream_end to).place) carry.seats each)
     (λ carry id rule each. Each_updated P (is_listener id) (loses rule) (ends rule) carry.seats each)
     (numbers_of seats) (at_first seats) all
+
+-- where listeners are moved to a mount, nobody is out, and who goes goes there
+pub goes_there : (sight : Sight) (from mount : List ℕ) (seats : List Listener) (id : ℕ) (to : List ℕ) → turn_of sight (To from mount) seats id ≡ GoesTo to
+    → mount ≡ to
+goes_there sight from mount seats id to e = there_in sight (without_listener seats id) mount from (seat_of seats id) to e
+
+pub never_out_there : (sight : Sight) (from mount : List ℕ) (seats : List Listener) (id : ℕ) (rule : Rule) → turn_of sight (To from mount) seats id ≡ IsOut rule
+    → ⊥
+never_out_there sight from mount seats id rule e = never_out_there_in sight (without_listener seats id) mount from (seat_of seats id) rule e

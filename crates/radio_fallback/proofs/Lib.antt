@@ -4,3 +4,4 @@ pub mod TurnLemmas
 pub mod FaresLemmas
 pub mod HisTurn
 pub mod Faring
+pub mod MovedCounts

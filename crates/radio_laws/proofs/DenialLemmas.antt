@@ -39,7 +39,7 @@ use Rattle.radio_core.specs.Outcomes.{on_verdict}
 use Rattle.radio_core.specs.Sessions.{session_of}
 use Rattle.radio_core.specs.Step.{outcome, reply_to, world_after}
 use Rattle.radio_core.specs.Ways.{Way, Misplaced, IsFinished, IsDenied, IsRefused, IsAdmitted, Begins, Receives, SetsTitle, TakesSeat, HandsOut, Ends}
-use Rattle.radio_core.specs.Ways.{EndsAndLeaves, Leaves, HasPassed, Ticks, rows_for, IsUndecided}
+use Rattle.radio_core.specs.Ways.{EndsAndLeaves, Leaves, Obeys, HasPassed, Ticks, rows_for, IsUndecided}
 use Rattle.radio_core.specs.World.{World, standing_of, standing_in}
 use Rattle.radio_laws.proofs.LimitDenials.{denied_by, why_denied, unknown_where}
 use Rattle.radio_core.proofs.Lookups.{does, beside_state}
@@ -62,6 +62,7 @@ module _ (denies : (rows : List Row) (rule : Rule) → (verdict_in rows ≡ Deni
     settings = refl;
     lists = refl;
     live = refl;
+    fallbacks = refl;
     last = refl;
     seats = refl;
     answered = λ id him his there new. absurd (not id his (him.peer, is_undecided (listener_of w.seats id) (client_of w.house.clients id) him there new));
@@ -77,6 +78,7 @@ module _ (denies : (rows : List Row) (rule : Rule) → (verdict_in rows ≡ Deni
     settings = refl;
     lists = refl;
     live = refl;
+    fallbacks = refl;
     last = refl;
     seats = refl;
     answered = λ other him his there new.
@@ -99,6 +101,7 @@ module _ (denies : (rows : List Row) (rule : Rule) → (verdict_in rows ≡ Deni
   denial_by event o (Begins asked undecided none allowed) = λ rule d. cc
   denial_by event o (Receives id mount block feeding) = λ rule d. cc
   denial_by event o (SetsTitle id mount text feeding) = λ rule d. cc
+  denial_by event o (Obeys _ command c) = λ rule d. cc
   denial_by event o (HasPassed ms e) = λ rule d. cc
   denial_by event o (Ticks ms e) = λ rule d. cc
   denial_by event o (TakesSeat asked peer session undecided lands live allowed) = λ rule d. cc
@@ -169,6 +172,7 @@ module _ (w : World) where
   source_by event o (IsAdmitted peer allowed) d = cc
   source_by event o (Receives him mount block feeding) d = cc
   source_by event o (SetsTitle him mount text feeding) d = cc
+  source_by event o (Obeys _ command c) d = cc
   source_by event o (HasPassed ms e) d = cc
   source_by event o (Ticks ms e) d = cc
   source_by event o (TakesSeat asked peer session undecided lands live allowed) d = cc

@@ -5,7 +5,7 @@ use Rattle.std.proofs.lemmas.List.{append-nil}
 use Rattle.radio_settings.specs.declared.settings.Settings.{Settings}
 use Rattle.radio_access.specs.Lists.{Lists}
 use Rattle.radio_events.specs.declared.event.Event.{Event}
-use Rattle.radio_events.specs.declared.event.Event.TheVariants.{Arrive, Source, Push, SourceEnd, Title, Listen, Draw, Leave, Clock}
+use Rattle.radio_events.specs.declared.event.Event.TheVariants.{Arrive, Source, Push, SourceEnd, Title, Listen, Draw, Command, Leave, Clock}
 use Rattle.radio_core.specs.declared.outcome.Outcome.{Outcome}
 use Rattle.radio_core.specs.declared.standing.Standing.{Standing}
 use Rattle.radio_core.specs.declared.standing.Standing.TheVariants.{Unknown, Undecided, Feeds, Sits, Answered, Finished}
@@ -13,6 +13,7 @@ use Rattle.radio_core.specs.World.{World, standing_of}
 use Rattle.radio_core.specs.Changes.{changed, session_ended, begun}
 use Rattle.radio_core.specs.Source.{shown_for}
 use Rattle.radio_core.specs.declared.house.House.{House}
+use Rattle.radio_core.proofs.CommandLemmas.{obeyed_last}
 use Rattle.radio_core.proofs.CalledHome.{house_called}
 use Rattle.radio_laws.specs.Gone.{HasLeft, IsOutOfPlace, StaysGone}
 use Rattle.radio_core.specs.Handing.{data_in, block_in, handed_at, handed, delivered_at, delivered}
@@ -22,7 +23,7 @@ use Rattle.radio_core.specs.Run.{world_after_all, run_after}
 use Rattle.radio_core.specs.Sound.{IsSound}
 use Rattle.radio_core.specs.Step.{outcome, reply_to, world_after}
 use Rattle.radio_core.specs.Ways.{Way, Misplaced, IsFinished, IsDenied, IsRefused, IsAdmitted, Begins, Receives, SetsTitle, TakesSeat, HandsOut, Ends}
-use Rattle.radio_core.specs.Ways.{EndsAndLeaves, Leaves, HasPassed, Ticks}
+use Rattle.radio_core.specs.Ways.{EndsAndLeaves, Leaves, Obeys, HasPassed, Ticks}
 use Rattle.radio_events.specs.Events.{client_in}
 use Rattle.radio_core.proofs.FinishLemmas.{others_hold, known_before}
 use Rattle.radio_core.proofs.ReplyLemmas.{replies_fit}
@@ -69,6 +70,7 @@ module _ (w : World) (id : ℕ) (unknown : standing_of w id ≡ Unknown) where
   strays (Title him text) e = rw (his_standing him e) refl
   strays (Listen asked) e = rw (his_standing asked.id e) refl
   strays (Draw him room) e = rw (his_standing him e) refl
+  strays (Command asked) e = rw (his_standing asked.id e) refl
   strays (Leave him) e = rw (his_standing him e) refl
   strays (Clock ms) e = cc
 
@@ -84,6 +86,7 @@ low_by w s event o (Begins asked undecided none allowed) =
     let last = ap (λ (h : House). h.last_id) (house_called up asked.mount) in omega (arith, last)
 low_by w s event o (Receives him mount block feeding) = omega arith
 low_by w s event o (SetsTitle him mount text feeding) = omega arith
+low_by w s event o (Obeys _ command c) = let last = obeyed_last w c.asked.id command in omega (arith, last)
 low_by w s event o (HasPassed ms e) = omega arith
 low_by w s event o (Ticks ms e) = let last = (ticked_fates w s ms).last in omega (arith, last)
 low_by w s event o (TakesSeat asked peer session undecided lands live allowed) = omega arith

@@ -22,22 +22,24 @@ use Rattle.radio_seats.specs.Seats.{has_user, is_user_at}
 use Rattle.radio_fallback.specs.declared.walking.Landing.{Landing}
 use Rattle.radio_fallback.specs.Walk.{found_at, stop_of, stop_in, sits_already}
 use Rattle.radio_events.specs.declared.event.Event.{Event}
-use Rattle.radio_events.specs.declared.event.Event.TheVariants.{Arrive, Source, Push, SourceEnd, Title, Listen, Draw, Leave, Clock}
+use Rattle.radio_events.specs.declared.event.Event.TheVariants.{Arrive, Source, Push, SourceEnd, Title, Listen, Draw, Command, Leave, Clock}
 use Rattle.radio_events.specs.declared.event.SourceRequest.{SourceRequest}
 use Rattle.radio_events.specs.declared.event.ListenRequest.{ListenRequest}
 use Rattle.radio_core.specs.declared.outcome.Outcome.{Outcome}
 use Rattle.radio_events.specs.declared.reply.Reply.TheVariants.{Arrived, Feeding, Deny}
 use Rattle.radio_core.specs.declared.standing.Standing.{Standing}
 use Rattle.radio_core.specs.declared.standing.Standing.TheVariants.{Unknown, Undecided, Feeds, Sits, Answered, Finished}
+use Rattle.radio_core.specs.CommandFacts.{facts_asked, rows_to_command}
 use Rattle.radio_core.specs.Facts.{is_full as is_too_many, is_known, sight_of, walks_to, walk_stops, arrive_facts, source_facts_at}
 use Rattle.radio_laws.specs.Limits.{IsFullAt, SentUser, AdmitsByLimits, most_at, allows_duplicates_at}
 use Rattle.radio_laws.specs.LimitDenials.{HasUserAt, ByAMount, DeniesByLimits}
 use Rattle.radio_laws.specs.Walks.{ComesBy, AtFirst}
 use Rattle.radio_core.specs.Step.{outcome, reply_to}
 use Rattle.radio_core.specs.Ways.{Way, Misplaced, IsFinished, IsDenied, IsRefused, IsAdmitted, Begins, Receives, SetsTitle, TakesSeat, HandsOut, Ends}
-use Rattle.radio_core.specs.Ways.{EndsAndLeaves, Leaves, HasPassed, Ticks, rows_for, rows_from}
+use Rattle.radio_core.specs.Ways.{EndsAndLeaves, Leaves, Obeys, HasPassed, Ticks, rows_for, rows_from}
 use Rattle.radio_core.specs.World.{World, standing_of}
 use Rattle.radio_core.proofs.Ways.{way_of, found_by, may_feed, has_room_left}
+use Rattle.radio_laws.proofs.CommandRows.{of_no_command}
 use Rattle.radio_laws.proofs.WalkLemmas.{full_at, both, WalkEnds, LandsThere, StopsThere, GoesTooFar, walk_ends}
 
 -- the rules of the limits of mounts, that of clients and that of sources
@@ -342,6 +344,8 @@ module _ (w : World) where
   only_listeners rule limit (SourceEnd id) v goes = cc
   only_listeners rule limit (Title id text) v goes = cc
   only_listeners rule limit (Draw id room) v goes = cc
+  only_listeners rule limit (Command asked) v goes =
+      absurd (no_limit is_limit (rows_to_command w asked) (of_no_command is_limit refl refl refl refl refl refl refl refl refl (facts_asked w asked.asked asked.pair)) rule v limit)
   only_listeners rule limit (Leave id) v goes = cc
   only_listeners rule limit (Clock ms) v goes = cc
 
@@ -379,6 +383,9 @@ module _ (w : World) where
   many_clients (SourceEnd id) v = cc
   many_clients (Title id text) v = cc
   many_clients (Draw id room) v = cc
+  many_clients (Command asked) v =
+      absurd (no_limit is_of_clients (rows_to_command w asked) (of_no_command is_of_clients refl refl refl refl refl refl refl refl refl (facts_asked w asked.asked asked.pair))
+      TooManyClients v refl)
   many_clients (Leave id) v = cc
   many_clients (Clock ms) v = cc
 
@@ -395,6 +402,9 @@ module _ (w : World) where
   many_sources (SourceEnd id) v = cc
   many_sources (Title id text) v = cc
   many_sources (Draw id room) v = cc
+  many_sources (Command asked) v =
+      absurd (no_limit is_of_sources (rows_to_command w asked) (of_no_command is_of_sources refl refl refl refl refl refl refl refl refl (facts_asked w asked.asked asked.pair))
+      TooManySources v refl)
   many_sources (Leave id) v = cc
   many_sources (Clock ms) v = cc
 
@@ -409,6 +419,7 @@ module _ (w : World) where
   denied_by rule event o (Begins asked undecided none allowed) d goes = cc
   denied_by rule event o (Receives him mount block feeding) d goes = cc
   denied_by rule event o (SetsTitle him mount text feeding) d goes = cc
+  denied_by rule event o (Obeys _ command c) d goes = cc
   denied_by rule event o (HasPassed ms e) d goes = cc
   denied_by rule event o (Ticks ms e) d goes = cc
   denied_by rule event o (TakesSeat asked peer session undecided lands live allowed) d goes = cc
@@ -440,6 +451,7 @@ module _ (w : World) where
   admits_by event o (IsRefused _ him by v his undecided) = (λ id d. cc, λ d. cc)
   admits_by event o (Receives him mount block feeding) = (λ id d. cc, λ d. cc)
   admits_by event o (SetsTitle him mount text feeding) = (λ id d. cc, λ d. cc)
+  admits_by event o (Obeys _ command c) = (λ id d. cc, λ d. cc)
   admits_by event o (HasPassed ms e) = (λ id d. cc, λ d. cc)
   admits_by event o (Ticks ms e) = (λ id d. cc, λ d. cc)
   admits_by event o (TakesSeat asked peer session undecided lands live allowed) = (λ id d. cc, λ d. cc)

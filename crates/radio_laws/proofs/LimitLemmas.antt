@@ -17,18 +17,20 @@ use Rattle.radio_fallback.specs.Walk.{MaySit, is_full, is_twice_for, sits_alread
 use Rattle.radio_events.specs.declared.event.Event.{Event}
 use Rattle.radio_events.specs.declared.event.ListenRequest.{ListenRequest}
 use Rattle.radio_core.specs.declared.outcome.Outcome.{Outcome}
-use Rattle.radio_core.specs.declared.outcome.Change.TheVariants.{TakeSeat}
+use Rattle.radio_core.specs.declared.outcome.Change.TheVariants.{TakeSeat, Obey}
 use Rattle.radio_core.specs.declared.standing.Standing.TheVariants.{Undecided}
 use Rattle.std.specs.Prelude.{if◌then◌else◌, fold}
 use Rattle.std.proofs.lemmas.Bool.{and_parts}
 use Rattle.radio_access.specs.Lists.{lets_in}
 use Rattle.radio_settings.specs.Options.{options_for}
 use Rattle.radio_fallback.specs.declared.moves.Move.{Move}
-use Rattle.radio_fallback.specs.declared.moves.Move.TheVariants.{Ended as SessionEnds, Up}
+use Rattle.radio_fallback.specs.declared.moves.Move.TheVariants.{Ended as SessionEnds, Up, To}
 use Rattle.radio_fallback.proofs.FaresLemmas.{keeps_limit, sit_once}
 use Rattle.radio_fallback.proofs.TurnLemmas.{lands_where_he_fits}
 use Rattle.radio_core.specs.Source.{shown_for}
-use Rattle.radio_core.specs.Changes.{changed, begun, carried_along, session_over, session_ended, called_home, received, before_silence, session_silenced, silent_in}
+use Rattle.radio_events.specs.declared.command.Command.{Command as TheCommand}
+use Rattle.radio_events.specs.declared.command.Command.TheVariants.{MoveClients, KillClient, KillSource, SetTitle as NewTitle, SetFallback}
+use Rattle.radio_core.specs.Changes.{answered, session_killed, changed, begun, carried_along, session_over, session_ended, called_home, received, before_silence, session_silenced, silent_in}
 use Rattle.radio_laws.specs.Limits.{IsWithinLimits, SentUser, SitsThereAs, most_at, allows_duplicates_at}
 use Rattle.radio_core.specs.Listen.{first_seat}
 use Rattle.radio_core.specs.Run.{world_after_all, run_after}
@@ -36,12 +38,13 @@ use Rattle.radio_core.specs.Sessions.{Session, session_of}
 use Rattle.radio_core.specs.Sound.{IsSound}
 use Rattle.radio_core.specs.Step.{outcome, world_after}
 use Rattle.radio_core.specs.Ways.{Way, Misplaced, IsFinished, IsDenied, IsRefused, IsAdmitted, Begins, Receives, SetsTitle, TakesSeat, HandsOut, Ends}
-use Rattle.radio_core.specs.Ways.{EndsAndLeaves, Leaves, HasPassed, Ticks}
+use Rattle.radio_core.specs.Ways.{EndsAndLeaves, Leaves, Obeys, HasPassed, Ticks}
 use Rattle.radio_core.specs.World.{World, opening, standing_of}
 use Rattle.radio_core.proofs.CarriedFates.{order_carried}
 use Rattle.radio_core.proofs.SoundRuns.{sound_after, sound_opening}
 use Rattle.radio_core.proofs.TickLemmas.{sound_sat_out}
-use Rattle.radio_policy.specs.declared.rule.Rule.TheVariants.{Lagged, TimeOver}
+use Rattle.radio_policy.specs.declared.rule.Rule.TheVariants.{Lagged, TimeOver, Killed}
+use Rattle.radio_laws.proofs.ObeyLemmas.{nobody_came_losing}
 use Rattle.radio_seats.proofs.EndLaws.{nobody_came_ending}
 use Rattle.radio_core.specs.Facts.{live_end, sight_of}
 use Rattle.radio_core.specs.Timeouts.{lags_behind, has_sat_out}
@@ -197,6 +200,22 @@ module _ (w : World) (s : IsSound w) (l : Within w) where
     within_seated : Within later
     within_seated = record { not_too_many = still_room; none_twice = one_each }
 
+  -- a command is done
+  within_killed : (him : ℕ) (found : Option Session) → Within (session_killed (answered w him) found)
+  within_killed him None = within_still (answered w him) refl (nobody_came w.seats)
+  within_killed him (Some session) =
+      other_house (session_ended w session.mount) (session_killed (answered w him) (Some session)) refl refl (within_ended w session.mount s.by_number l)
+
+  within_obeyed : (him : ℕ) (command : TheCommand) → Within (changed w (Obey him command))
+  within_obeyed him (MoveClients mount destination) =
+      other_house (carried_along w (To mount destination)) (changed w (Obey him (MoveClients mount destination))) refl refl
+      (within_carried w (To mount destination) s.by_number l)
+  within_obeyed him (KillClient mount listener) =
+      within_still (changed w (Obey him (KillClient mount listener))) refl (nobody_came_losing w listener Killed)
+  within_obeyed him (KillSource mount) = within_killed him (session_of w.house.live mount)
+  within_obeyed him (NewTitle mount text) = within_still (changed w (Obey him (NewTitle mount text))) refl (nobody_came w.seats)
+  within_obeyed him (SetFallback mount fallback) = within_still (changed w (Obey him (SetFallback mount fallback))) refl (nobody_came w.seats)
+
   within_by : (event : Event) (o : Outcome) → Way w event o → Within (changed w o.change)
   within_by event o (Misplaced _) = l
   within_by event o (IsFinished _ him rule his finished) = l
@@ -209,6 +228,7 @@ module _ (w : World) (s : IsSound w) (l : Within w) where
   within_by event o (Receives him mount block feeding) =
       within_still (changed w o.change) refl
       (nobody_came_ending (lags_behind mount (live_end (received w.house mount block) mount) w.house.settings.limits.queue_size) Lagged w.seats)
+  within_by event o (Obeys _ command c) = within_obeyed c.asked.id command
   within_by event o (HasPassed ms e) = l
   within_by event o (Ticks ms e) =
       within_silence (silent_in (before_silence w ms)) (before_silence w ms) (sound_sat_out w s ms).by_number

@@ -27,10 +27,10 @@ use Rattle.radio_core.specs.Sessions.{Session, session_of, without_session}
 use Rattle.radio_core.specs.Sound.{IsSound}
 use Rattle.radio_core.specs.Source.{shown_for}
 use Rattle.radio_core.specs.Step.{outcome, world_after}
-use Rattle.radio_core.specs.Stream.{data_at, end_of}
+use Rattle.radio_core.specs.Stream.{WholeStream, data_at, end_of}
 use Rattle.radio_laws.specs.Stretches.{between, Sitting, sitting_in, begun_sittings, sittings, AreStretches, StretchesAreWhole}
 use Rattle.radio_core.specs.Ways.{Way, Misplaced, IsFinished, IsDenied, IsRefused, IsAdmitted, Begins, Receives, SetsTitle, TakesSeat, HandsOut, Ends}
-use Rattle.radio_core.specs.Ways.{EndsAndLeaves, Leaves, HasPassed, Ticks}
+use Rattle.radio_core.specs.Ways.{EndsAndLeaves, Leaves, Obeys, HasPassed, Ticks}
 use Rattle.radio_core.proofs.FinishLemmas.{undecided_before}
 use Rattle.radio_core.proofs.OwnLemmas.{not_of, nothing_of}
 use Rattle.radio_laws.proofs.GoneLemmas.{his_own, with_nothing, last_rises}
@@ -46,6 +46,7 @@ use Rattle.radio_policy.specs.declared.rule.Rule.{Rule}
 use Rattle.radio_core.proofs.SoundSessions.{begun_cases, grown_cases}
 use Rattle.radio_core.proofs.SoundTitles.{titled_cases}
 use Rattle.radio_core.proofs.TickLemmas.{ticked_fates}
+use Rattle.radio_laws.proofs.ObeyLemmas.{was_live_then}
 use Rattle.radio_core.proofs.SoundRuns.{sound_after, sound_opening}
 use Rattle.radio_core.proofs.Ways.{way_of}
 
@@ -254,6 +255,7 @@ module _ (w : World) (s : IsSound w) (sent : ℕ → List ℕ) (h : Sent w sent)
   brings_nothing event o (IsRefused _ him by v its undecided) id not = nothing_of event id [] refl
   brings_nothing event o (IsAdmitted peer allowed) id not = refl
   brings_nothing event o (SetsTitle him mount text feeding) id not = nothing_of event id [] refl
+  brings_nothing event o (Obeys _ command c) id not = nothing_of event id [] refl
   brings_nothing event o (HasPassed ms e) id not = refl
   brings_nothing event o (Ticks ms e) id not = refl
   brings_nothing event o (Begins asked undecided none allowed) id not = nothing_of event id [] refl
@@ -318,6 +320,10 @@ module _ (w : World) (s : IsSound w) (sent : ℕ → List ℕ) (h : Sent w sent)
   unfolding whole_now
   whole_by event o (Receives him mount block feeding) = grown_whole him mount block feeding
   whole_by event o (SetsTitle him mount text feeding) = titled_whole him mount text feeding
+  whole_by event o (Obeys _ command c) = λ mount session e.
+      let was = was_live_then w event command c mount s session e in
+      subst (λ (x : WholeStream). x.bytes ≡ sent session.number ++ of_client event session.number []) was.stream
+      (subst (λ (n : ℕ). was.old.stream.bytes ≡ sent n ++ of_client event n []) was.number (as_it_was event mount was.old was.was))
   whole_by event o (HasPassed ms e) = as_it_was event
   whole_by event o (Ticks ms e) = λ mount session h. as_it_was event mount session ((ticked_fates w s ms).live mount session h)
   whole_by event o (Begins asked undecided none allowed) = λ mount session e.

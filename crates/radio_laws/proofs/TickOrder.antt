@@ -1,12 +1,14 @@
 -- who is ended at a moment, by which rule
 use Rattle.std.proofs.Common.{◌≡◌, ◌⊎◌, inl, inr, true, false, Bool, ℕ, Option, Some, None, is_some, List, [], ◌∷◌, refl, ap, sym, subst, ◌∙◌}
 use Rattle.std.specs.Prelude.{if◌then◌else◌, fold}
-use Rattle.std.specs.Option.{option_map}
+use Rattle.std.specs.Option.{option_map, option_map_or}
 use Rattle.std.specs.Str.{bytes_eq}
 use Rattle.std.proofs.lemmas.Slice.Eq.{bytes_eq-Decides}
 use Rattle.radio_policy.specs.declared.rule.Rule.{Rule}
 use Rattle.radio_policy.specs.declared.rule.Rule.TheVariants.{HeaderTimeout, TimeOver, SourceSilent, NotLive}
+use Rattle.radio_settings.specs.declared.settings.Settings.{Settings}
 use Rattle.radio_settings.specs.Options.{options_for}
+use Rattle.radio_core.specs.Fallbacks.{Fallback, set_for}
 use Rattle.radio_tables.proofs.KeyLaws.{by_number, by_name}
 use Rattle.radio_seats.specs.declared.seat.Listener.{Listener}
 use Rattle.radio_seats.specs.declared.seat.Seat.{Seat}
@@ -32,8 +34,8 @@ use Rattle.radio_core.specs.declared.standing.Standing.{Standing}
 use Rattle.radio_core.specs.declared.standing.Standing.TheVariants.{Undecided, Feeds, Sits, Finished}
 use Rattle.radio_core.specs.Changes.{changed, session_over, session_ended, before_silence, session_silenced, silent_in, ticked}
 use Rattle.radio_core.specs.Clients.{Client, client_of, with_state}
-use Rattle.radio_core.specs.Facts.{sight_of}
-use Rattle.radio_core.specs.Finishes.{Cause, SessionIsOver, IsFarBehind, HasSatOut, HasAskedNothing, HasSentNothing}
+use Rattle.radio_core.specs.Facts.{sight_of, fallback_of}
+use Rattle.radio_core.specs.Finishes.{Cause, SessionIsOver, IsFarBehind, HasSatOut, HasAskedNothing, HasSentNothing, IsKilled, HisSessionIsKilled}
 use Rattle.radio_core.specs.Moves.{TakesTo, his_turn}
 use Rattle.radio_laws.specs.Outstaying.{IsInTime, IsEndedInOrder, NobodyOutstays}
 use Rattle.radio_core.specs.Sessions.{Session, session_of}
@@ -46,6 +48,12 @@ use Rattle.radio_core.proofs.Lookups.{is_over}
 use Rattle.radio_core.proofs.TickLemmas.{ClockCause, ClockCarries, ClockFates, asking_at, clients_after, timed, sound_timed}
 use Rattle.radio_core.proofs.TickLemmas.{fates_sat_out, IsOnTheWay, at_first, goes_on, live_there, silenced_fates, turned, fates_silence, ticked_fates}
 use Rattle.radio_laws.proofs.InTime.{in_time}
+use Rattle.radio_laws.proofs.WalkLemmas.{falls_nowhere}
+
+-- the end of sessions leaves the fallbacks as they were set
+silence_sets : (sessions : List Session) (v : World) → (fold session_silenced v sessions).house.fallbacks ≡ v.house.fallbacks
+silence_sets [] v = refl
+silence_sets (session ∷ sessions) v = silence_sets sessions (session_silenced v session)
 
 -- who has finished stays so
 module _ (w : World) (s : IsSound w) (ms : ℕ) (from later : World) (f : ClockFates w s ms from later) (id : ℕ) (rule : Rule)
@@ -135,6 +143,8 @@ module _ (w : World) (s : IsSound w) (ms : ℕ) where
         let feeds : standing_of w session.number ≡ Feeds mount = feeding in
         cc
     by_cause (HasSentNothing moment other e feeds there is) = refl
+    by_cause (IsKilled seat has named) = let e = named.is_event in cc
+    by_cause (HisSessionIsKilled other feeds there named) = let e = named.is_event in cc
 
     by_fate : Fate (Cause w (ticked w ms) (Clock ms)) (λ id session. TakesTo w (Clock ms) id session.mount) Nobody HasEnded w (ticked w ms) session.number
         → standing_of (ticked w ms) session.number ≡ Finished SourceSilent
@@ -149,15 +159,15 @@ module _ (w : World) (s : IsSound w) (ms : ℕ) where
         let feeds : standing_of w session.number ≡ Feeds mount = feeding in cc
 
   -- where a listener's mount has no fallback, he sits there until its session ends, and is finished then
-  module _ (id : ℕ) (seat : Seat) (no_fallback : (options_for w.house.settings seat.mount).listeners.fallback_mount ≡ None) where
+  module _ (id : ℕ) (seat : Seat) (no_fallback : fallback_of w.house seat.mount ≡ None) where
     -- the seat that he has still, or that he has finished since his mount is not live any more
     abbrev IsStillOrOut : World → Type 0
     IsStillOrOut now = (seat_of now.seats id ≡ Some seat) ⊎ (standing_of now id ≡ Finished NotLive)
 
     -- a move takes him nowhere
-    out_by_turn : (during : World) (mount : List ℕ) → during.house.settings ≡ w.house.settings → seat_of during.seats id ≡ Some seat → seat.mount ≡ mount
+    out_by_turn : (during : World) (mount : List ℕ) → during.house.settings ≡ w.house.settings → during.house.fallbacks ≡ w.house.fallbacks → seat_of during.seats id ≡ Some seat → seat.mount ≡ mount
         → his_turn (session_over during mount) (SessionEnds mount) id ≡ IsOut NotLive
-    out_by_turn during mount same has there =
+    out_by_turn during mount same set has there =
         let over = session_over during mount in
         let sight = sight_of over.house in
         let then_seats = at_his_turn sight (SessionEnds mount) during.seats id in
@@ -165,13 +175,18 @@ module _ (w : World) (s : IsSound w) (ms : ℕ) where
         let sits : seat_of then_seats id ≡ Some seat = ap seat_in (sits_as_before sight (SessionEnds mount) during.seats id) ∙ has in
         let here : bytes_eq seat.mount mount ≡ true = (bytes_eq-Decides seat.mount mount).1 there in
         let none : sight.fallback mount ≡ None =
-        ap (λ settings. (options_for settings mount).listeners.fallback_mount) same
-        ∙ ap (λ (m : List ℕ). (options_for w.house.settings m).listeners.fallback_mount) (sym there) ∙ no_fallback in
+        ap (λ (settings : Settings). falls_in settings during.house.fallbacks mount) same
+        ∙ ap (λ (fallbacks : List Fallback). falls_in w.house.settings fallbacks mount) set
+        ∙ ap (fallback_of w.house) (sym there) ∙ no_fallback in
         ap (turn_in sight others (SessionEnds mount)) sits
         ∙ chosen (bytes_eq seat.mount mount) (walks_on (landing sight others seat.pair mount)) here
         ∙ stops (landing sight others seat.pair mount)
         (stopped_where_it_begins sight others mount seat.pair none
         ∙ idle (found_at sight others mount seat.pair) (ap is_some (is_over during.house.live mount))) where
+          falls_in : Settings → List Fallback → List ℕ → Option (List ℕ)
+          falls_in settings fallbacks m =
+              option_map_or (λ (x : Fallback). x.fallback) (set_for fallbacks m) (options_for settings m).listeners.fallback_mount
+
           chosen : (b : Bool) (turn : Turn) → b ≡ true → (if b then turn else TurnStays) ≡ turn
           chosen true turn e = refl
           chosen false turn e = cc
@@ -183,15 +198,16 @@ module _ (w : World) (s : IsSound w) (ms : ℕ) where
           stops (Lands to) e = cc
           stops (Stops rule) e = let same : rule ≡ NotLive = cc in ap (λ (r : Rule). IsOut r) same
 
-    out_by_fare : (during : World) (mount : List ℕ) → IsSound during → during.house.settings ≡ w.house.settings → seat_of during.seats id ≡ Some seat
+    out_by_fare : (during : World) (mount : List ℕ) → IsSound during → during.house.settings ≡ w.house.settings
+        → during.house.fallbacks ≡ w.house.fallbacks → seat_of during.seats id ≡ Some seat
         → seat.mount ≡ mount → Faring (sight_of (session_over during mount).house) (SessionEnds mount) during.seats id
         → standing_of (session_ended during mount) id ≡ Finished NotLive
-    out_by_fare during mount sound same has there (HasStayed stays turn) =
-        let both : IsOut NotLive ≡ TurnStays = sym (out_by_turn during mount same has there) ∙ turn seat has in cc
-    out_by_fare during mount sound same has there (HasGone old to turn had concerned fits now) =
-        let both : IsOut NotLive ≡ GoesTo to = sym (out_by_turn during mount same has there) ∙ turn in cc
-    out_by_fare during mount sound same has there (HasLost old rule turn had concerned now) =
-        let both : IsOut NotLive ≡ IsOut rule = sym (out_by_turn during mount same has there) ∙ turn in
+    out_by_fare during mount sound same set has there (HasStayed stays turn) =
+        let both : IsOut NotLive ≡ TurnStays = sym (out_by_turn during mount same set has there) ∙ turn seat has in cc
+    out_by_fare during mount sound same set has there (HasGone old to turn had concerned fits now) =
+        let both : IsOut NotLive ≡ GoesTo to = sym (out_by_turn during mount same set has there) ∙ turn in cc
+    out_by_fare during mount sound same set has there (HasLost old rule turn had concerned now) =
+        let both : IsOut NotLive ≡ IsOut rule = sym (out_by_turn during mount same set has there) ∙ turn in
         let one : NotLive ≡ rule = cc in
         ap (λ l. standing_in l (client_of during.house.clients id)) now
         ∙ lost_in (listener_of during.seats id) id rule (client_of during.house.clients id) (sound.sitting id seat has)
@@ -225,8 +241,11 @@ module _ (w : World) (s : IsSound w) (ms : ℕ) where
         by_number session.number id
         (λ his. absurd (no_source his))
         (λ other. inr ((turned w s ms session sessions during way).others id other
-        ∙ out_by_fare during mount way.sound way.so_far.settings has there fare)))
+        ∙ out_by_fare during mount way.sound way.so_far.settings set_then has there fare)))
         (λ away. inl (still_there during mount way.sound has away fare)) where
+          set_then : during.house.fallbacks ≡ w.house.fallbacks
+          set_then = ap (λ (v : World). v.house.fallbacks) way.have_ended ∙ silence_sets way.before (before_silence w ms)
+
           no_source : session.number ≡ id → ⊥
           no_source his =
               let feeds : standing_of during session.number ≡ Feeds session.mount =
@@ -273,7 +292,7 @@ module _ (w : World) (s : IsSound w) (ms : ℕ) where
         (finished_on w s ms (timed w s ms) (before_silence w ms) (fates_sat_out w s ms) id HeaderTimeout (too_late id client found late));
     seats = λ id seat has out. finished_on w s ms (before_silence w ms) (ticked w ms) (fates_silence w s ms) id TimeOver (time_over id seat has out);
     sources = silent_source;
-    listeners = λ id seat session has not_out live silent none. left_there id seat none session has not_out live silent;
+    listeners = λ id seat session has not_out live silent nowhere. left_there id seat (falls_nowhere w seat.mount nowhere) session has not_out live silent;
   }
 
   pub nobody_outstays : NobodyOutstays w ms

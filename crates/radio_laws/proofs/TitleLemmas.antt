@@ -1,6 +1,8 @@
 -- the law of titles
-use Rattle.std.proofs.Common.{◌≡◌, ◌⊎◌, inl, inr, true, ℕ, ◌<◌, ◌==◌, Option, Some, None, List, [], ◌∷◌, ◌++◌, refl, ap, sym, subst, ◌∙◌, arith, append_assoc}
+use Rattle.std.proofs.Common.{◌≡◌, ◌⊎◌, inl, inr, Bool, true, false, ℕ, ◌<◌, ◌==◌, Option, Some, None, List, [], ◌∷◌, ◌++◌, refl, ap, sym, subst, ◌∙◌, arith, append_assoc}
+use Rattle.std.specs.Prelude.{if◌then◌else◌}
 use Rattle.std.specs.List.{last_or}
+use Rattle.std.specs.Option.{option_map}
 use Rattle.std.specs.Str.{bytes_eq}
 use Rattle.std.proofs.lemmas.Bool.Decides.{nat_tests}
 use Rattle.std.proofs.lemmas.List.{append-nil}
@@ -9,24 +11,31 @@ use Rattle.radio_addr.specs.declared.peer.Peer.{Peer}
 use Rattle.radio_settings.specs.declared.settings.Settings.{Settings}
 use Rattle.radio_access.specs.Lists.{Lists, passes}
 use Rattle.radio_tables.proofs.KeyLaws.{by_number, by_name}
+use Rattle.radio_events.specs.declared.command.Asked.{Asked}
+use Rattle.radio_events.specs.declared.command.Asked.TheVariants.{Command as Asks}
+use Rattle.radio_events.specs.declared.command.Command.{Command as TheCommand}
+use Rattle.radio_events.specs.declared.command.Command.TheVariants.{MoveClients, KillClient, KillSource, SetTitle as CommandsTitle, SetFallback}
 use Rattle.radio_events.specs.declared.event.Event.{Event}
 use Rattle.radio_events.specs.declared.event.Event.TheVariants.{Push, Title}
 use Rattle.radio_core.specs.declared.outcome.Change.TheVariants.{Receive, SetTitle}
 use Rattle.radio_core.specs.declared.outcome.Outcome.{Outcome}
 use Rattle.radio_core.specs.declared.standing.Standing.TheVariants.{Unknown, Undecided, Feeds}
 use Rattle.radio_core.specs.World.{World, opening, standing_of}
-use Rattle.radio_core.specs.Changes.{changed}
-use Rattle.radio_core.specs.Handing.{of_client}
+use Rattle.radio_core.specs.Changes.{answered, changed, session_killed}
+use Rattle.radio_core.specs.Command.{obeys as obeys_it}
+use Rattle.radio_core.specs.CommandFacts.{IsCommanded}
+use Rattle.radio_core.specs.Handing.{is_number, of_client}
 use Rattle.radio_core.specs.Run.{world_after_all, run_after}
 use Rattle.radio_core.specs.Sessions.{Session, session_of, without_session}
 use Rattle.radio_core.specs.Sound.{IsSound}
 use Rattle.radio_core.specs.Source.{shown_for}
 use Rattle.radio_core.specs.Step.{outcome, reply_to, world_after}
-use Rattle.radio_laws.specs.TitlesTold.{title_in, if_noted, set_at, titles_set, last_title, TitlesAreTold}
+use Rattle.radio_laws.specs.TitlesTold.{commanded_at, commanded_in, set_by, set_at, titles_set, last_title, TitlesAreTold}
 use Rattle.radio_core.specs.Ways.{Way, Misplaced, IsFinished, IsDenied, IsRefused, IsAdmitted, Begins, Receives, SetsTitle, TakesSeat, HandsOut, Ends}
-use Rattle.radio_core.specs.Ways.{EndsAndLeaves, Leaves, HasPassed, Ticks}
+use Rattle.radio_core.specs.Ways.{EndsAndLeaves, Leaves, Obeys, HasPassed, Ticks}
 use Rattle.radio_laws.proofs.AccessLemmas.{access_holds}
 use Rattle.radio_core.proofs.FinishLemmas.{undecided_before}
+use Rattle.radio_core.proofs.Obeyed.{title_live}
 use Rattle.radio_core.proofs.OwnLemmas.{not_of, nothing_of}
 use Rattle.radio_laws.proofs.StretchLemmas.{was_begun}
 use Rattle.radio_laws.proofs.GoneLemmas.{his_own, with_nothing, last_rises}
@@ -58,13 +67,51 @@ told_as w told now same h = record {
 }
 
 -- what an outcome sets for the source of this number
-abbrev sets : Event → Outcome → ℕ → List (List ℕ)
-sets event o id = of_client event id (if_noted o.reply (title_in event))
+abbrev sets : World → Event → Outcome → ℕ → List (List ℕ)
+sets w event o id = set_by w event o.reply id
 
 module _ (w : World) (s : IsSound w) (told : ℕ → List (List ℕ)) (h : Told w told) where
-  -- only a source sets a title
+  -- what a command sets
+  asked_so : (event : Event) (command : TheCommand) (c : IsCommanded w event command) (id : ℕ) → commanded_in w event id ≡ commanded_at w (Asks command) id
+  asked_so event command c id = ap (λ (e : Event). commanded_in w e id) c.is_event ∙ ap (λ (a : Asked). commanded_at w a id) c.is_asked
+
+  -- a command that sets no title
+  sets_no_title : (event : Event) (command : TheCommand) (c : IsCommanded w event command) (id : ℕ) → commanded_at w (Asks command) id ≡ []
+      → commanded_in w event id ++ of_client event id [] ≡ []
+  sets_no_title event command c id none =
+      ap (λ xs. xs ++ of_client event id []) (asked_so event command c id ∙ none) ∙ nothing_of event id [] refl
+
+  -- the source that feeds a mount, by its number
+  numbered : (found : Option Session) (session : Session) (id : ℕ) → found ≡ Some session
+      → is_number id (option_map (λ (x : Session). x.number) found) ≡ (session.number == id)
+  numbered found session id e = rw e refl
+
+  title_of_command : (event : Event) (mount text : List ℕ) (c : IsCommanded w event (CommandsTitle mount text)) (session : Session) (id : ℕ)
+      → session_of w.house.live mount ≡ Some session → (b : Bool) → (session.number == id) ≡ b
+      → commanded_in w event id ++ of_client event id [] ≡ (if b then text ∷ [] else [])
+  title_of_command event mount text c session id found b is =
+      ap (λ xs. xs ++ of_client event id []) (asked_so event (CommandsTitle mount text) c id)
+      ∙ ap (λ (x : Bool). (if x then text ∷ [] else []) ++ of_client event id []) (numbered (session_of w.house.live mount) session id found ∙ is)
+      ∙ alone (if b then text ∷ [] else []) where
+        alone : (xs : List (List ℕ)) → xs ++ of_client event id [] ≡ xs
+        alone xs = ap (λ ys. xs ++ ys) (nothing_of event id [] refl) ∙ append-nil xs
+
+  commands_nothing : (event : Event) (command : TheCommand) (c : IsCommanded w event command) (id : ℕ)
+      → ((mount : List ℕ) → standing_of w id ≡ Feeds mount → ⊥) → sets w event (obeys_it w c.asked.id command) id ≡ []
+  commands_nothing event (MoveClients mount destination) c id not = nothing_of event id [] refl
+  commands_nothing event (KillClient mount listener) c id not = sets_no_title event (KillClient mount listener) c id refl
+  commands_nothing event (KillSource mount) c id not = sets_no_title event (KillSource mount) c id refl
+  commands_nothing event (SetFallback mount fallback) c id not = sets_no_title event (SetFallback mount fallback) c id refl
+  commands_nothing event (CommandsTitle mount text) c id not =
+      let there = title_live w s event mount text c in
+      title_of_command event mount text c there.0 id there.1 false
+      (by_number there.0.number id
+      (λ same. absurd (not mount (ap (standing_of w) (sym same) ∙ s.fed mount there.0 there.1)))
+      (λ apart. apart))
+
+  -- only a source and a command set a title
   sets_nothing : (event : Event) (o : Outcome) → Way w event o → (id : ℕ) → ((mount : List ℕ) → standing_of w id ≡ Feeds mount → ⊥)
-      → sets event o id ≡ []
+      → sets w event o id ≡ []
   sets_nothing event o (SetsTitle him mount text feeding) id not =
       by_number him id (λ same. absurd (not mount (ap (standing_of w) (sym same) ∙ feeding))) (λ other. not_of (Title him text) id (text ∷ []) other)
   sets_nothing event o (Misplaced _) id not = nothing_of event id [] refl
@@ -72,6 +119,7 @@ module _ (w : World) (s : IsSound w) (told : ℕ → List (List ℕ)) (h : Told 
   sets_nothing event o (IsDenied _ by v nobody) id not = nothing_of event id [] refl
   sets_nothing event o (IsRefused _ him by v its undecided) id not = nothing_of event id [] refl
   sets_nothing event o (IsAdmitted peer allowed) id not = refl
+  sets_nothing event o (Obeys _ command c) id not = commands_nothing event command c id not
   sets_nothing event o (HasPassed ms e) id not = refl
   sets_nothing event o (Ticks ms e) id not = refl
   sets_nothing event o (Begins asked undecided none allowed) id not = nothing_of event id [] refl
@@ -84,7 +132,7 @@ module _ (w : World) (s : IsSound w) (told : ℕ → List (List ℕ)) (h : Told 
 
   last_now : Event → Outcome → Type 0
   last_now event o = (mount : List ℕ) (session : Session) → session_of (changed w o.change).house.live mount ≡ Some session
-      → session.title ≡ last_or None (told session.number ++ sets event o session.number)
+      → session.title ≡ last_or None (told session.number ++ sets w event o session.number)
 
   -- a session whose source sets nothing has the title that it had
   as_it_was : (event : Event) (mount : List ℕ) (session : Session) → session_of w.house.live mount ≡ Some session
@@ -133,9 +181,64 @@ module _ (w : World) (s : IsSound w) (told : ℕ → List (List ℕ)) (h : Told 
             sym (last_is None (told session.number) text)
             ∙ ap (λ xs. last_or None (told session.number ++ xs)) (his_own (him == session.number) (text ∷ []) itself)
 
+  -- after a command that sets no title each session has its own
+  none_set : (event : Event) (command : TheCommand) (c : IsCommanded w event command) → ((id : ℕ) → commanded_at w (Asks command) id ≡ []) → (mount : List ℕ)
+      (session : Session) → session_of w.house.live mount ≡ Some session
+      → session.title ≡ last_or None (told session.number ++ (commanded_in w event session.number ++ of_client event session.number []))
+  none_set event command c none mount session live =
+      h.last mount session live
+      ∙ ap (λ xs. last_or None xs) (with_nothing (told session.number) (commanded_in w event session.number ++ of_client event session.number [])
+      (sets_no_title event command c session.number (none session.number)))
+
+  still_live : (found : Option Session) (him : ℕ) (mount : List ℕ) (session : Session)
+      → session_of (session_killed (answered w him) found).house.live mount ≡ Some session → session_of w.house.live mount ≡ Some session
+  still_live None him mount session e = e
+  still_live (Some killed) him mount session e =
+      by_name killed.mount mount
+      (λ same. let none : session_of (without_session w.house.live killed.mount) mount ≡ None =
+      ap (session_of (without_session w.house.live killed.mount)) (sym same) ∙ is_over w.house.live killed.mount in cc)
+      (λ apart. sym (beside_ended w.house.live killed.mount mount apart) ∙ e)
+
+  -- after one that sets a title, that of the mount is this one
+  command_sets : (event : Event) (mount text : List ℕ) (c : IsCommanded w event (CommandsTitle mount text)) (other : List ℕ) (now : Session)
+      → session_of (changed w (SetTitle mount text)).house.live other ≡ Some now
+      → now.title ≡ last_or None (told now.number ++ (commanded_in w event now.number ++ of_client event now.number []))
+  command_sets event mount text c other now e =
+      titled_cases w s mount text there.0.number (s.fed mount there.0 there.1) other now e
+      (λ session same found number one. subst
+      (λ (x : Session). x.title ≡ last_or None (told x.number ++ (commanded_in w event x.number ++ of_client event x.number []))) one
+      (here session number))
+      (λ apart found.
+      h.last other now found
+      ∙ ap (λ xs. last_or None xs) (with_nothing (told now.number) (commanded_in w event now.number ++ of_client event now.number [])
+      (title_of_command event mount text c there.0 now.number there.1 false
+      (by_number there.0.number now.number
+      (λ same. let both : Feeds mount ≡ Feeds other = sym (s.fed mount there.0 there.1) ∙ ap (standing_of w) same ∙ s.fed other now found in let one : mount ≡ other =
+      cc in let at : bytes_eq mount other ≡ true = (bytes_eq-Decides mount other).1 one in cc)
+      (λ away. away))))) where
+        there : (session : Session) × (session_of w.house.live mount ≡ Some session)
+        there = title_live w s event mount text c
+
+        here : (session : Session) → session.number ≡ there.0.number
+            → Some text ≡ last_or None (told session.number ++ (commanded_in w event session.number ++ of_client event session.number []))
+        here session number =
+            let itself : (there.0.number == session.number) ≡ true = grind (arith, nat_tests) in
+            sym (last_is None (told session.number) text)
+            ∙ ap (λ xs. last_or None (told session.number ++ xs)) (sym (title_of_command event mount text c there.0 session.number there.1 true itself))
+
+  command_title : (event : Event) (command : TheCommand) (c : IsCommanded w event command) → last_now event (obeys_it w c.asked.id command)
+  unfolding last_now
+  command_title event (MoveClients mount destination) c = as_it_was event
+  command_title event (KillClient mount listener) c = none_set event (KillClient mount listener) c (λ id. refl)
+  command_title event (KillSource mount) c = λ other session e.
+      none_set event (KillSource mount) c (λ id. refl) other session (still_live (session_of w.house.live mount) c.asked.id other session e)
+  command_title event (SetFallback mount fallback) c = none_set event (SetFallback mount fallback) c (λ id. refl)
+  command_title event (CommandsTitle mount text) c = command_sets event mount text c
+
   last_by : (event : Event) (o : Outcome) → Way w event o → last_now event o
   unfolding last_now
   last_by event o (SetsTitle him mount text feeding) = new_title him mount text feeding
+  last_by event o (Obeys _ command c) = command_title event command c
   last_by event o (HasPassed ms e) = as_it_was event
   last_by event o (Ticks ms e) = λ mount session h. as_it_was event mount session ((ticked_fates w s ms).live mount session h)
   last_by event o (Receives him mount block feeding) = grown_title him mount block feeding

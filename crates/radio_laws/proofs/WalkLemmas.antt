@@ -1,6 +1,8 @@
 -- where a walk ends, and by which mounts it comes
-use Rattle.std.proofs.Common.{◌≡◌, ℕ, zero, suc, ◌+◌, ◌<◌, Bool, true, false, ◌&&◌, ◌||◌, not, is_some, Option, Some, None, List, length, refl, subst, arith}
+use Rattle.std.proofs.Common.{◌≡◌, ℕ, zero, suc, ◌+◌, ◌<◌, Bool, true, false, ◌&&◌, ◌||◌, not, is_some, Option, Some, None, List, length}
+use Rattle.std.proofs.Common.{refl, subst, arith}
 use Rattle.std.specs.Prelude.{if◌then◌else◌}
+use Rattle.std.specs.Option.{option_map_or}
 use Rattle.std.proofs.lemmas.Bool.Decides.{nat_tests}
 use Rattle.radio_policy.specs.declared.rule.Rule.{Rule}
 use Rattle.radio_policy.specs.declared.rule.Rule.TheVariants.{FallbackDepth}
@@ -12,11 +14,12 @@ use Rattle.radio_fallback.specs.declared.walking.Landing.TheVariants.{Lands, Sto
 use Rattle.radio_fallback.specs.Walk.{Sight, is_full, is_full_for, found_at, stop_of, landing_at, landing_here, next_mount, onward, walk}
 use Rattle.radio_fallback.proofs.WalkLaws.{walks_ten}
 use Rattle.radio_events.specs.declared.event.ListenRequest.{ListenRequest}
-use Rattle.radio_core.specs.Facts.{sight_of, walks_to}
+use Rattle.radio_core.specs.Facts.{sight_of, walks_to, fallback_of}
+use Rattle.radio_core.specs.Fallbacks.{Fallback, set_for}
 use Rattle.radio_core.specs.Sessions.{Session, session_of}
 use Rattle.radio_core.specs.World.{World}
 use Rattle.radio_laws.specs.Limits.{IsFullAt, most_at}
-use Rattle.radio_laws.specs.Walks.{GoesOn, HasNoSource, IsFull, ComesBy, AtFirst, Next}
+use Rattle.radio_laws.specs.Walks.{FallsBack, ByTheSettings, ByACommand, GoesOn, HasNoSource, IsFull, ComesBy, AtFirst, Next}
 
 -- as many sit there as may
 pub full_at : (w : World) (mount : List ℕ) (limit : Option ℕ) → most_at w mount ≡ limit → is_full (length (seats_at w.seats mount)) limit ≡ true
@@ -33,6 +36,21 @@ both true true e = (refl, refl)
 both true false e = cc
 both false b e = cc
 
+-- to which mount listeners fall back
+pub falls_back : (w : World) (mount next : List ℕ) → fallback_of w.house mount ≡ Some next → FallsBack w mount next
+falls_back w mount next e = by_found (set_for w.house.fallbacks mount) refl e where
+  by_found : (found : Option Fallback) → set_for w.house.fallbacks mount ≡ found
+      → option_map_or (λ (set : Fallback). set.fallback) found (options_for w.house.settings mount).listeners.fallback_mount ≡ Some next → FallsBack w mount next
+  by_found None none goes = ByTheSettings goes none
+  by_found (Some set) found goes = ByACommand set found goes
+
+-- where they fall back to none, there is none
+pub falls_nowhere : (w : World) (mount : List ℕ) → ((next : List ℕ) → FallsBack w mount next → ⊥) → fallback_of w.house mount ≡ None
+falls_nowhere w mount nowhere = by_fallback (fallback_of w.house mount) refl where
+  by_fallback : (fallback : Option (List ℕ)) → fallback_of w.house mount ≡ fallback → fallback_of w.house mount ≡ None
+  by_fallback None e = e
+  by_fallback (Some next) e = absurd (nowhere next (falls_back w mount next e))
+
 module _ (w : World) (pair : Option Credentials) where
   abbrev sight : Sight
   sight = sight_of w.house
@@ -40,12 +58,12 @@ module _ (w : World) (pair : Option Credentials) where
   -- where a mount hands on to the next, it does so by its settings
   hands_by : (mount next : List ℕ) (live full : Bool) → is_some (session_of w.house.live mount) ≡ live → is_full_for sight w.seats mount ≡ full
       → (if not live || full && (options_for w.house.settings mount).listeners.fallback_when_full
-      then (options_for w.house.settings mount).listeners.fallback_mount else None) ≡ Some next → GoesOn w mount next
-  hands_by mount next false full l f e = HasNoSource e (none_there (session_of w.house.live mount) l)
+      then fallback_of w.house mount else None) ≡ Some next → GoesOn w mount next
+  hands_by mount next false full l f e = HasNoSource (falls_back w mount next e) (none_there (session_of w.house.live mount) l)
   hands_by mount next true true l f e = by_flag (options_for w.house.settings mount).listeners.fallback_when_full refl e where
     by_flag : (b : Bool) → (options_for w.house.settings mount).listeners.fallback_when_full ≡ b
-        → (if b then (options_for w.house.settings mount).listeners.fallback_mount else None) ≡ Some next → GoesOn w mount next
-    by_flag true set goes = IsFull goes set (full_at w mount (most_at w mount) refl f)
+        → (if b then fallback_of w.house mount else None) ≡ Some next → GoesOn w mount next
+    by_flag true set goes = IsFull (falls_back w mount next goes) set (full_at w mount (most_at w mount) refl f)
     by_flag false set goes = cc
   hands_by mount next true false l f e = cc
 

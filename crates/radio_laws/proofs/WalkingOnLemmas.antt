@@ -29,7 +29,7 @@ use Rattle.radio_core.specs.declared.standing.Standing.{Standing}
 use Rattle.radio_core.specs.declared.standing.Standing.TheVariants.{Undecided, Feeds}
 use Rattle.radio_core.specs.Changes.{changed, carried_along, called_home, session_over, before_silence, session_silenced}
 use Rattle.radio_core.specs.Facts.{sight_of, rows_to_feed, live_end}
-use Rattle.radio_core.specs.Moves.{Brings, ByItsEnd, ByItsLeaving, BySilence, ByComingUp, his_turn}
+use Rattle.radio_core.specs.Moves.{Brings, ByItsEnd, ByItsLeaving, BySilence, ByComingUp, ByKilling, ByMoving, his_turn}
 use Rattle.radio_core.specs.Outcomes.{says, if_feeding, if_undecided, on_verdict}
 use Rattle.radio_core.specs.Leave.{leaves_from}
 use Rattle.radio_core.specs.Sessions.{Session, session_of}
@@ -39,6 +39,8 @@ use Rattle.radio_core.specs.Step.{outcome, world_after}
 use Rattle.radio_core.specs.Stream.{end_of}
 use Rattle.radio_core.specs.World.{World, standing_of}
 use Rattle.radio_laws.specs.WalkingOn.{FaresByHisTurn, ListenersWalkOn, MovesAreWhole}
+use Rattle.radio_laws.proofs.CommandLaws.{later_so}
+use Rattle.radio_core.proofs.Obeyed.{is_cut, named}
 use Rattle.radio_core.proofs.CarriedFates.{order_carried}
 use Rattle.radio_core.proofs.TickLemmas.{sound_sat_out}
 
@@ -110,6 +112,8 @@ module _ (w : World) (s : IsSound w) where
   walk_on_by event move before (BySilence ms silent others session all) =
       order_silenced silent (before_silence w ms) (sound_sat_out w s ms).by_number
   walk_on_by event move before (ByComingUp asked peer stood allowed calls) = s.by_number
+  walk_on_by event move before (ByKilling _ mount c) = s.by_number
+  walk_on_by event move before (ByMoving _ mount destination c) = s.by_number
 
   pub walk_on : (event : Event) → ListenersWalkOn w event
   walk_on event move before brings id seat has = fares_by_turn before move (walk_on_by event move before brings) id seat has
@@ -137,6 +141,8 @@ module _ (w : World) where
   coming asked event move before e (ByItsEnd him mount feeding) = cc
   coming asked event move before e (ByItsLeaving him mount feeding) = cc
   coming asked event move before e (BySilence ms during session way found) = cc
+  coming asked event move before e (ByKilling _ mount c) = let other = c.is_event in cc
+  coming asked event move before e (ByMoving _ mount destination c) = let other = c.is_event in cc
 
   ending : (him : ℕ) (event : Event) (move : Move) (before : World) → event ≡ SourceEnd him → Brings w event move before
       → (world_after w event).seats ≡ (carried_along before move).seats
@@ -145,6 +151,8 @@ module _ (w : World) where
       feeds_so (standing_of w he) mount (λ m. says Noted (End he m)) (λ (o : Outcome). (changed w o.change).seats) feeding
   ending him event move before e (ByItsLeaving he mount feeding) = cc
   ending him event move before e (BySilence ms during session way found) = cc
+  ending him event move before e (ByKilling _ mount c) = let other = c.is_event in cc
+  ending him event move before e (ByMoving _ mount destination c) = let other = c.is_event in cc
   ending him event move before e (ByComingUp asked peer stood allowed calls) = cc
 
   leaves_so : (he : ℕ) (mount : List ℕ) (now : Standing) → now ≡ Feeds mount → leaves_from he now ≡ says Noted (EndAndLeave he mount)
@@ -159,10 +167,16 @@ module _ (w : World) where
       ∙ by_number he id (λ one. absurd (apart (sym same ∙ one))) (λ other. beside_left (carried_along (session_over w mount) (Ended mount)).seats he id other)
   leaving him event move before e (ByItsEnd he mount feeding) id apart = cc
   leaving him event move before e (BySilence ms during session way found) id apart = cc
+  leaving him event move before e (ByKilling _ mount c) id apart = let other = c.is_event in cc
+  leaving him event move before e (ByMoving _ mount destination c) id apart = let other = c.is_event in cc
   leaving him event move before e (ByComingUp asked peer stood allowed calls) id apart = cc
 
-  pub moves_are_whole : (event : Event) → MovesAreWhole w event
-  moves_are_whole event = record {
+  pub moves_are_whole : IsSound w → (event : Event) → MovesAreWhole w event
+  moves_are_whole s event = record {
+    at_a_move = λ mount destination c. ap (λ (x : World). x.seats) (later_so w s event c);
+    at_a_kill = λ mount c.
+        ap (λ (x : World). x.seats) (later_so w s event c ∙ is_cut w s event mount c)
+        ∙ ap (λ (m : List ℕ). (carried_along (session_over w m) (Ended m)).seats) (named w s event mount c);
     at_its_coming = λ asked move before e brings. coming asked event move before e brings;
     at_its_end = λ him move before e brings. ending him event move before e brings;
     at_its_leaving = λ him move before e brings. leaving him event move before e brings;

@@ -30,6 +30,7 @@ pub record IsOnlyAnswered (w later : World) (client : Option ℕ) : Type 0 where
   pub settings : later.house.settings ≡ w.house.settings
   pub lists : later.house.lists ≡ w.house.lists
   pub live : later.house.live ≡ w.house.live
+  pub fallbacks : later.house.fallbacks ≡ w.house.fallbacks
   pub last : later.house.last_id ≡ w.house.last_id
   pub seats : later.seats ≡ w.seats
   pub answered : (id : ℕ) (him : Client) → client ≡ Some id → client_of w.house.clients id ≡ Some him → him.state ≡ Undecided

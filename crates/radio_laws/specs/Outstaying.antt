@@ -1,9 +1,9 @@
 -- After the clock was heard, nobody is there whose time is over.
-use Rattle.std.specs.Prelude.{◌≡◌, ℕ, nat_lt, true, false, List, Some, None}
+use Rattle.std.specs.Prelude.{◌≡◌, ℕ, nat_lt, true, false, List, Some}
 use Rattle.radio_events.specs.declared.event.Event.TheVariants.{Clock}
 use Rattle.radio_seats.specs.declared.seat.Seat.{Seat}
 use Rattle.radio_seats.specs.Seats.{seat_of}
-use Rattle.radio_settings.specs.Options.{options_for}
+use Rattle.radio_laws.specs.Walks.{FallsBack}
 use Rattle.radio_core.specs.Clients.{Client, client_of}
 use Rattle.radio_core.specs.Sessions.{Session, session_of}
 use Rattle.radio_core.specs.Step.{world_after}
@@ -32,7 +32,7 @@ pub record IsEndedInOrder (w later : World) (ms : ℕ) : Type 0 where
       → is_silent w.house.settings.limits.source_timeout ms session ≡ true → standing_of later session.number ≡ Finished SourceSilent
   pub listeners : (id : ℕ) (seat : Seat) (session : Session) → seat_of w.seats id ≡ Some seat → has_sat_out w.house.settings ms seat ≡ false
       → session_of w.house.live seat.mount ≡ Some session → is_silent w.house.settings.limits.source_timeout ms session ≡ true
-      → (options_for w.house.settings seat.mount).listeners.fallback_mount ≡ None → standing_of later id ≡ Finished NotLive
+      → ((next : List ℕ) → FallsBack w seat.mount next → ⊥) → standing_of later id ≡ Finished NotLive
 
 -- a moment that has passed changes nothing, and any other is in time for all who are there then
 pub record NobodyOutstays (w : World) (ms : ℕ) : Type 0 where

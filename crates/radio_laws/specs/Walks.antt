@@ -1,15 +1,21 @@
--- By which mounts a walk comes, in the words of the settings.
+-- By which mounts a walk comes, in the words of the settings and of what commands have set.
 use Rattle.std.specs.Prelude.{◌≡◌, ℕ, suc, true, List, Some, None}
 use Rattle.radio_settings.specs.Options.{options_for}
+use Rattle.radio_core.specs.Fallbacks.{Fallback, set_for}
 use Rattle.radio_core.specs.Sessions.{session_of}
 use Rattle.radio_core.specs.World.{World}
 use Rattle.radio_laws.specs.Limits.{IsFullAt}
 
--- a walk goes on from the mount to the next one, which is its `fallback-mount`: the mount has no source, or as many sit there as may and `fallback-when-full`
--- is set
+-- the listeners of the mount fall back to the next one: `fallback-mount` names it and no command has said otherwise, or a command has said so
+pub data FallsBack (w : World) (mount next : List ℕ) : Type 0 where
+  ByTheSettings : (options_for w.house.settings mount).listeners.fallback_mount ≡ Some next → set_for w.house.fallbacks mount ≡ None → FallsBack w mount next
+  ByACommand : (set : Fallback) → set_for w.house.fallbacks mount ≡ Some set → set.fallback ≡ Some next → FallsBack w mount next
+
+-- a walk goes on from the mount to the next one, to which its listeners fall back: the mount has no source, or as many sit there as may and
+-- `fallback-when-full` is set
 pub data GoesOn (w : World) (mount next : List ℕ) : Type 0 where
-  HasNoSource : (options_for w.house.settings mount).listeners.fallback_mount ≡ Some next → session_of w.house.live mount ≡ None → GoesOn w mount next
-  IsFull : (options_for w.house.settings mount).listeners.fallback_mount ≡ Some next
+  HasNoSource : FallsBack w mount next → session_of w.house.live mount ≡ None → GoesOn w mount next
+  IsFull : FallsBack w mount next
       → (options_for w.house.settings mount).listeners.fallback_when_full ≡ true → IsFullAt w mount → GoesOn w mount next
 
 -- a walk from the mount comes by another one, as the first, the second and so on after it

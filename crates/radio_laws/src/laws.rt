@@ -18,6 +18,7 @@ ghost use Rattle.radio_laws.specs.Admission.{BeginsAtABlock};
 ghost use Rattle.radio_laws.specs.Service.{Serves, ChangesNothing};
 ghost use Rattle.radio_laws.specs.Stretches.{StretchesAreWhole, SeatsKeepTheirMounts};
 ghost use Rattle.radio_laws.specs.WalkingOn.{ListenersWalkOn, MovesAreWhole};
+ghost use Rattle.radio_laws.specs.Commanded.{OnlyWhoMayCommands, CommandsAreKept, KilledHearNothing};
 ghost use Rattle.radio_laws.specs.TitlesTold.{TitlesAreTold};
 ghost use Rattle.radio_core.specs.Timeouts.{TestsAreInNumbers};
 ghost use Rattle.radio_laws.specs.Outstaying.{NobodyOutstays};
@@ -104,14 +105,28 @@ pub fn listeners_walk_on()
     // leaves him where he is; and nobody stays whose mount's session has ended
     ensures turns { (settings : Settings) (lists : Lists) (events : List Event) (event : Event)
         → ListenersWalkOn (run_after settings lists events) event }
-    // and where a source comes up, ends or leaves that is all that becomes of the seats
+    // and where a source comes up, ends or leaves, or a command moves listeners or ends a session, that is all that becomes of the seats
     ensures whole { (settings : Settings) (lists : Lists) (events : List Event) (event : Event) → MovesAreWhole (run_after settings lists events) event }
+{}
+
+/// The law of commands.
+pub fn commands_are_done()
+    // whatever has happened, that a command was done is told only to one who sent the user and the
+    // password of the admin, or, for a title and a fallback, those of the mount's source
+    ensures may { (settings : Settings) (lists : Lists) (events : List Event) (event : Event) → OnlyWhoMayCommands (run_after settings lists events) event }
+    // and one that the policy allows is done, as many are moved as its text tells, the client has had
+    // his answer, and nothing changes beyond the mount that it names
+    ensures kept { (settings : Settings) (lists : Lists) (events : List Event) (event : Event) → CommandsAreKept (run_after settings lists events) event }
+    // and whom a command has finished is handed nothing from then on, whatever happens
+    ensures silent { (settings : Settings) (lists : Lists) (events : List Event) (event : Event)
+        → KilledHearNothing (run_after settings lists events) event }
 {}
 
 /// The law of titles.
 pub fn listeners_are_told_titles()
-    // over every run, whoever is handed data is told the last title that the source has set in
-    // whose session he sits, by a title that was noted, or none where it has set none
+    // over every run, whoever is handed data is told the last title that was set for the source in
+    // whose session he sits, by the source or by a command that names its mount, or none where none
+    // was set
     ensures told { (settings : Settings) (lists : Lists) (events : List Event) (event : Event) → TitlesAreTold settings lists events event }
 {}
 

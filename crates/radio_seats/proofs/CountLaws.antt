@@ -7,7 +7,6 @@ use Rattle.std.specs.Ordering.{match_ordering}
 use Rattle.std.specs.declared.cmp.Ordering.{Ordering}
 use Rattle.std.specs.declared.cmp.Ordering.TheVariants.{Less, Equal, Greater}
 use Rattle.std.proofs.lemmas.Slice.Eq.{bytes_eq-Decides}
-use Rattle.radio_policy.specs.declared.rule.Rule.{Rule}
 use Rattle.radio_tables.specs.Lists.{update_first, placed}
 use Rattle.radio_tables.proofs.FindLaws.{find_here, find_later}
 use Rattle.radio_tables.proofs.KeyLaws.{by_number}
@@ -16,8 +15,8 @@ use Rattle.radio_seats.specs.declared.seat.Seat.{Seat}
 use Rattle.radio_seats.specs.declared.seat.Seating.{Seating}
 use Rattle.radio_seats.specs.declared.seat.Seating.TheVariants.{Sits, Finished}
 use Rattle.radio_seats.specs.Seats.{is_listener, seat_held, seat_in, seat_of, by_listener, seated, with_seat, heard_to, advanced, with_place, SitsAs}
-use Rattle.radio_seats.specs.Seats.{is_seat_at, finished_from, finished_at, without_listener, seats_at, has_user, is_user_at, sits_there}
-use Rattle.radio_seats.proofs.SeatLaws.{beside_moved, beside_left, is_no_listener, has_heard, listener_seated, sits_still}
+use Rattle.radio_seats.specs.Seats.{is_seat_at, without_listener, seats_at, has_user, is_user_at, sits_there}
+use Rattle.radio_seats.proofs.SeatLaws.{beside_moved, beside_left, is_no_listener, has_heard, listener_seated}
 
 -- how many of a list pass a test, after a change of the list
 module _ {X : Type 0} (p : X → Bool) where
@@ -95,12 +94,6 @@ pub record NobodyCame (seats later : List Listener) : Type 0 where
   pub no_more : (mount : List ℕ) → length (seats_at later mount) ≤ length (seats_at seats mount)
   pub sat : (id : ℕ) (mount user : List ℕ) → SitsAs later id mount user → SitsAs seats id mount user
 
-pub nobody_came_twice : (seats later last : List Listener) → NobodyCame seats later → NobodyCame later last → NobodyCame seats last
-nobody_came_twice seats later last first second = record {
-  no_more = λ mount. omega (arith, first.no_more mount, second.no_more mount);
-  sat = λ id mount user sits. first.sat id mount user (second.sat id mount user sits);
-}
-
 pub nobody_came : (seats : List Listener) → NobodyCame seats seats
 nobody_came seats = record { no_more = λ mount. omega arith; sat = λ id mount user sits. sits }
 
@@ -121,19 +114,6 @@ nobody_came_hearing seats him place old has = record {
       let one : record old { place = place } ≡ sits.0 = cc in
       (old, ap (seat_of seats) (sym same) ∙ has, ap (λ (x : Seat). x.mount) one ∙ sits.2, ap (λ (x : Seat). has_user user x.pair) one ∙ sits.3))
       (λ other. (sits.0, sym (ap seat_in (beside_moved seats him id other place)) ∙ sits.1, sits.2, sits.3));
-}
-
--- all at a mount lost their seats
-not_ended : (mount ended : List ℕ) (rule : Rule) (seating : Seating) (b : Bool) → is_seat_at ended seating ≡ b
-    → is_seat_at mount (if b then Finished rule else seating) ≡ true → is_seat_at mount seating ≡ true
-not_ended mount ended rule seating true e h = cc
-not_ended mount ended rule seating false e h = h
-
-pub nobody_came_finishing : (seats : List Listener) (ended : List ℕ) (rule : Rule) → NobodyCame seats (finished_at seats ended rule)
-nobody_came_finishing seats ended rule = record {
-  no_more = λ mount. no_more_mapped (λ listener. is_seat_at mount listener.seating) (finished_from ended rule)
-      (λ listener e. not_ended mount ended rule listener.seating (is_seat_at ended listener.seating) refl e) seats;
-  sat = λ id mount user sits. (sits.0, (sits_still ended rule seats id sits.0 sits.1).had_a_seat, sits.2, sits.3);
 }
 
 -- he left

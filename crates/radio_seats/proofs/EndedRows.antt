@@ -18,13 +18,11 @@ use Rattle.radio_seats.specs.declared.row.RowState.TheVariants.{Seated, Ended}
 use Rattle.radio_seats.specs.declared.seat.Guest.{Guest}
 use Rattle.radio_seats.specs.declared.seat.Listener.{Listener}
 use Rattle.radio_seats.specs.declared.seat.Seat.{Seat}
-use Rattle.radio_seats.specs.declared.seat.Seating.{Seating}
-use Rattle.radio_seats.specs.declared.seat.Seating.TheVariants.{Sits, Finished}
 use Rattle.radio_seats.specs.Guests.{passes_in, passes_at, moment_in}
 use Rattle.radio_seats.specs.Mounts.{sitting_in, one_at}
 use Rattle.radio_seats.specs.Rests.{how_many}
 use Rattle.radio_seats.specs.Rows.{is_row, named, named_state, state_at, sits_by, number_of, number_in, holds_in, holds_at, ended_where, state_moment, seated_row, shifted, with_state, AreCounted}
-use Rattle.radio_seats.specs.Seats.{holds_of, ended_at, ended_if, finished_at, with_ended}
+use Rattle.radio_seats.specs.Seats.{holds_of}
 use Rattle.radio_seats.proofs.Lists.{passing, one, found_counts, passing_mapped, passing_same, passing_placed}
 use Rattle.radio_seats.proofs.Lists.{none_passes, map_counted}
 use Rattle.radio_seats.proofs.RowLemmas.{same_number, held_number, counted_there, follows_him}
@@ -106,21 +104,6 @@ module _ (p : ℕ → Guest → Bool) (name : ℕ → List ℕ) (rows : List Lis
         let some = found_counts (λ (r : ListenerRow). holds_of (passes_at mount p) (named_state name r.state)) (λ (r : ListenerRow). holds_in p r.state) rows row found
         (passes_there mount called row.state his (found_passes (λ (r : ListenerRow). holds_in p r.state) rows row found)) in
         omega (arith, shown, some)
-
--- all who sit at the mount end where the test holds of everybody
-ends_alike : (mount : List ℕ) (rule : Rule) (seating : Seating) → ended_if (passes_at mount (λ place guest. true)) rule seating ≡ ended_at mount rule seating
-ends_alike mount rule (Sits seat) = ap (λ b. if b then Finished rule else Sits seat) (and_true (bytes_eq seat.mount mount)) where
-  and_true : (b : Bool) → (b && true) ≡ b
-  and_true true = refl
-  and_true false = refl
-ends_alike mount rule (Finished other) = refl
-
-pub all_finish : (seats : List Listener) (mount : List ℕ) (rule : Rule) → with_ended seats (passes_at mount (λ place guest. true)) rule ≡ finished_at seats mount rule
-all_finish [] mount rule = refl
-all_finish (listener ∷ seats) mount rule =
-    let here = ap (λ (seating : Seating). record listener { seating = seating }) (ends_alike mount rule listener.seating) in
-    let rest = all_finish seats mount rule in
-    cc
 
 -- who passes sits somewhere
 pub passes_seated : (p : ℕ → Guest → Bool) (rows : List ListenerRow) (row : ListenerRow) → find (λ (r : ListenerRow). holds_in p r.state) rows ≡ Some row

@@ -7,3 +7,4 @@ pub mod EndLaws
 pub mod CountLaws
 pub mod MountCounts
 pub mod OtherLemmas
+pub mod UserLemmas

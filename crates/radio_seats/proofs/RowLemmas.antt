@@ -172,11 +172,11 @@ module _ (name : ℕ → List ℕ) (mount : List ℕ) (number : ℕ) (only : (k 
       (λ row. user_at user row.state) rows
 
   module _ (p : ℕ → Guest → Bool) (rule : Rule) where
-    ends_by : (id : ℕ) (state : RowState) (b : Bool)
-        → named name (record { id = id; state = (if b then Ended rule else state) })
-        ≡ record { id = id; seating = (if b then Finished rule else named_state name state) }
-    ends_by id state true = refl
-    ends_by id state false = refl
+    ends_by : (row : ListenerRow) (b : Bool)
+        → named name (record row { state = (if b then Ended rule else row.state) })
+        ≡ record { id = row.id; seating = (if b then Finished rule else named_state name row.state) }
+    ends_by row true = refl
+    ends_by row false = refl
 
     holds_there : (state : RowState) → holds_of (passes_at mount p) (named_state name state) ≡ holds_at p number state
     holds_there (Seated seat) = ap (λ b. b && p seat.place seat.guest) (only seat.mount)
@@ -184,7 +184,7 @@ module _ (name : ℕ → List ℕ) (mount : List ℕ) (number : ℕ) (only : (k 
 
     ends_there : (row : ListenerRow) → named name (ended_where p number rule row) ≡ finished_if (passes_at mount p) rule (named name row)
     ends_there row =
-        ends_by row.id row.state (holds_at p number row.state)
+        ends_by row (holds_at p number row.state)
         ∙ ap (λ b. record { id = row.id; seating = (if b then Finished rule else named_state name row.state) }) (sym (holds_there row.state))
 
     pub all_end_there : (rows : List ListenerRow)

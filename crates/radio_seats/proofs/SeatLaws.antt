@@ -1,20 +1,16 @@
 -- which listener is found, and who has a seat, after each change of the table
 use Rattle.std.proofs.Common.{◌≡◌, true, false, ℕ, ◌==◌, Option, Some, None, List, refl, ap, sym, ◌∙◌}
-use Rattle.std.specs.Prelude.{if◌then◌else◌}
-use Rattle.std.specs.Option.{option_map}
 use Rattle.std.specs.Ordering.{nat_cmp}
-use Rattle.std.specs.Str.{bytes_eq}
 use Rattle.std.proofs.lemmas.Bool.{eqb-true}
 use Rattle.std.proofs.lemmas.Cmp.{nat_cmp_total}
-use Rattle.radio_policy.specs.declared.rule.Rule.{Rule}
-use Rattle.radio_tables.proofs.FindLaws.{find_same, find_apart, find_removed, find_others, find_mapped}
+use Rattle.radio_tables.proofs.FindLaws.{find_same, find_apart, find_removed, find_others}
 use Rattle.radio_tables.proofs.KeyLaws.{number_is, find_placed}
 use Rattle.radio_seats.specs.declared.seat.Listener.{Listener}
 use Rattle.radio_seats.specs.declared.seat.Seat.{Seat}
 use Rattle.radio_seats.specs.declared.seat.Seating.{Seating}
 use Rattle.radio_seats.specs.declared.seat.Seating.TheVariants.{Sits, Finished}
 use Rattle.radio_seats.specs.Seats.{is_listener, listener_of, seat_held, seat_in, seat_of, seated, with_seat, heard_to, advanced, with_place}
-use Rattle.radio_seats.specs.Seats.{ended_at, finished_from, finished_at, without_listener}
+use Rattle.radio_seats.specs.Seats.{without_listener}
 
 -- any other listener is found as before
 module _ (seats : List Listener) (him id : ℕ) (other : (him == id) ≡ false) where
@@ -45,10 +41,6 @@ has_sat_down seats id seat e =
     find_placed nat_cmp nat_cmp_total (λ (listener : Listener). listener.id) is_listener (λ k listener. number_is k listener.id) id (seated id seat) seats
     ∙ rw e refl
 
-pub have_finished : (seats : List Listener) (mount : List ℕ) (rule : Rule) (id : ℕ)
-    → listener_of (finished_at seats mount rule) id ≡ option_map (finished_from mount rule) (listener_of seats id)
-have_finished seats mount rule id = find_mapped (is_listener id) (finished_from mount rule) (λ x. refl) seats
-
 -- who has a seat is one of the listeners
 pub listener_seated : (seats : List Listener) (id : ℕ) (seat : Seat) → seat_of seats id ≡ Some seat
     → (listener : Listener) × (listener_of seats id ≡ Some listener) × (seat_held listener.seating ≡ Some seat)
@@ -67,75 +59,3 @@ has_heard seats id place seat has =
       held : (seating : Seating) → seat_held seating ≡ Some seat → seat_held (heard_to place seating) ≡ Some (record seat { place = place })
       held (Sits old) e = let same : old ≡ seat = cc in ap (λ (x : Seat). Some (record x { place = place })) same
       held (Finished rule) e = cc
-
--- who has a seat after all seats at a mount have ended had it before, and elsewhere
-pub record StillSits (seats : List Listener) (mount : List ℕ) (id : ℕ) (seat : Seat) : Type 0 where
-  pub had_a_seat : seat_of seats id ≡ Some seat
-  pub elsewhere : bytes_eq seat.mount mount ≡ false
-
-module _ (mount : List ℕ) (rule : Rule) where
-  held_still : (old seat : Seat) (b : _) → bytes_eq old.mount mount ≡ b
-      → seat_held (if b then Finished rule else Sits old) ≡ Some seat → (old ≡ seat) × (b ≡ false)
-  held_still old seat true e h = cc
-  held_still old seat false e h = let same : old ≡ seat = cc in (same, refl)
-
-  held_seating : (seating : Seating) (seat : Seat) → seat_held (ended_at mount rule seating) ≡ Some seat
-      → (seat_held seating ≡ Some seat) × (bytes_eq seat.mount mount ≡ false)
-  held_seating (Sits old) seat h =
-      let kept = held_still old seat (bytes_eq old.mount mount) refl h in
-      (ap (λ (x : Seat). Some x) kept.0, ap (λ (x : Seat). bytes_eq x.mount mount) (sym kept.0) ∙ kept.1)
-  held_seating (Finished other) seat h = cc
-
-  held_listener : (listener : Option Listener) (seat : Seat) → seat_in (option_map (finished_from mount rule) listener) ≡ Some seat
-      → (seat_in listener ≡ Some seat) × (bytes_eq seat.mount mount ≡ false)
-  held_listener None seat h = cc
-  held_listener (Some listener) seat h = held_seating listener.seating seat h
-
-  pub sits_still : (seats : List Listener) (id : ℕ) (seat : Seat) → seat_of (finished_at seats mount rule) id ≡ Some seat → StillSits seats mount id seat
-  sits_still seats id seat e =
-      let kept = held_listener (listener_of seats id) seat (sym (ap seat_in (have_finished seats mount rule id)) ∙ e) in
-      record { had_a_seat = kept.0; elsewhere = kept.1 }
-
-  -- and who sits at another mount keeps his seat
-  held_elsewhere : (seat : Seat) (b : _) → bytes_eq seat.mount mount ≡ b → b ≡ false → seat_held (if b then Finished rule else Sits seat) ≡ Some seat
-  held_elsewhere seat true e h = cc
-  held_elsewhere seat false e h = refl
-
-  sits_elsewhere : (seating : Seating) (seat : Seat) → seat_held seating ≡ Some seat → bytes_eq seat.mount mount ≡ false
-      → seat_held (ended_at mount rule seating) ≡ Some seat
-  sits_elsewhere (Sits old) seat h apart =
-      let same : old ≡ seat = cc in
-      let away : bytes_eq old.mount mount ≡ false = ap (λ (x : Seat). bytes_eq x.mount mount) same ∙ apart in
-      held_elsewhere old (bytes_eq old.mount mount) refl away ∙ h
-  sits_elsewhere (Finished other) seat h apart = cc
-
-  keeps_seat : (listener : Option Listener) (seat : Seat) → seat_in listener ≡ Some seat → bytes_eq seat.mount mount ≡ false
-      → seat_in (option_map (finished_from mount rule) listener) ≡ Some seat
-  keeps_seat None seat h apart = cc
-  keeps_seat (Some listener) seat h apart = sits_elsewhere listener.seating seat h apart
-
-  pub sits_on_elsewhere : (seats : List Listener) (id : ℕ) (seat : Seat) → seat_of seats id ≡ Some seat → bytes_eq seat.mount mount ≡ false
-      → seat_of (finished_at seats mount rule) id ≡ Some seat
-  sits_on_elsewhere seats id seat has apart = ap seat_in (have_finished seats mount rule id) ∙ keeps_seat (listener_of seats id) seat has apart
-
-  -- who sat at the mount has no seat
-  held_no_more : (seat : Seat) (b : _) → bytes_eq seat.mount mount ≡ b → b ≡ true → seat_held (if b then Finished rule else Sits seat) ≡ None
-  held_no_more seat true e h = refl
-  held_no_more seat false e h = cc
-
-  seating_lost : (seating : Seating) (seat : Seat) → seat_held seating ≡ Some seat → bytes_eq seat.mount mount ≡ true
-      → seat_held (ended_at mount rule seating) ≡ None
-  seating_lost (Sits old) seat h there =
-      let same : old ≡ seat = cc in
-      let here : bytes_eq old.mount mount ≡ true = ap (λ (x : Seat). bytes_eq x.mount mount) same ∙ there in
-      held_no_more old (bytes_eq old.mount mount) refl here
-  seating_lost (Finished other) seat h there = cc
-
-  listener_lost : (listener : Option Listener) (seat : Seat) → seat_in listener ≡ Some seat → bytes_eq seat.mount mount ≡ true
-      → seat_in (option_map (finished_from mount rule) listener) ≡ None
-  listener_lost None seat h there = cc
-  listener_lost (Some listener) seat h there = seating_lost listener.seating seat h there
-
-  pub has_lost_it : (seats : List Listener) (id : ℕ) (seat : Seat) → seat_of seats id ≡ Some seat → bytes_eq seat.mount mount ≡ true
-      → seat_of (finished_at seats mount rule) id ≡ None
-  has_lost_it seats id seat has there = ap seat_in (have_finished seats mount rule id) ∙ listener_lost (listener_of seats id) seat has there

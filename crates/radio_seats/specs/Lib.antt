@@ -5,3 +5,6 @@ pub mod Mounts
 pub mod Rows
 pub mod Lent
 pub mod Rests
+pub mod Marks
+pub mod Users
+pub mod SameUsers

@@ -11,6 +11,7 @@ use Rattle.radio_seats.specs.declared.row.RowState.TheVariants.{Seated, Ended}
 use Rattle.radio_seats.specs.declared.row.ListenerRow.{ListenerRow}
 use Rattle.radio_seats.specs.declared.mounts.Mount.{Mount}
 use Rattle.radio_seats.specs.Guests.{seat_of_guest, guest_in}
+use Rattle.radio_seats.specs.Marks.{mark_sent}
 use Rattle.radio_seats.specs.Seats.{has_user}
 use Rattle.radio_seats.specs.Mounts.{sitting_in}
 
@@ -74,7 +75,11 @@ ended_where p number rule row = record row { state = (if holds_at p number row.s
 -- the row of a listener who sits down at the mount of this number
 abbrev pub seated_row : ℕ → ℕ → Seat → ListenerRow
 seated_row id number seat =
-    record { id = id; state = Seated (record { place = seat.place; mount = number; session = seat.session; guest = guest_in seat }) }
+    record {
+      id = id;
+      mark = mark_sent seat.pair;
+      state = Seated (record { place = seat.place; mount = number; session = seat.session; guest = guest_in seat });
+    }
 
 abbrev pub with_state : RowState → ListenerRow → ListenerRow
 with_state state row = record row { state = state }

@@ -107,17 +107,6 @@ abbrev pub is_seat_at : List ℕ → Seating → Bool
 is_seat_at mount (Sits seat) = bytes_eq seat.mount mount
 is_seat_at mount (Finished rule) = false
 
--- a seat at the mount ends by the rule; any other stays
-abbrev pub ended_at : List ℕ → Rule → Seating → Seating
-ended_at mount rule seating = (if is_seat_at mount seating then Finished rule else seating)
-
-abbrev pub finished_from : List ℕ → Rule → Listener → Listener
-finished_from mount rule listener = record listener { seating = ended_at mount rule listener.seating }
-
--- all seats at the mount have ended by the rule
-abbrev pub finished_at : List Listener → List ℕ → Rule → List Listener
-finished_at seats mount rule = map (finished_from mount rule) seats
-
 -- nothing is left of the listener
 abbrev pub without_listener : List Listener → ℕ → List Listener
 without_listener seats id = filter (λ listener. not (is_listener id listener)) seats

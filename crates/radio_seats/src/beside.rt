@@ -1,15 +1,12 @@
 //! What the table tells one of its listeners: who comes after him, and who sits beside him.
 
-ghost use Rattle.std.specs.Prelude.{◌≡◌, ◌&&◌, not, length};
-ghost use Rattle.std.specs.List.{list_any};
+ghost use Rattle.std.specs.Prelude.{◌≡◌, length};
 ghost use Rattle.radio_seats.specs.Board.{is_prepared};
 ghost use Rattle.radio_seats.specs.Seats.{others_of, without_listener, count_at, sits_there, sits_at, next_number, AreByNumber};
-ghost use Rattle.radio_seats.specs.Rows.{is_row, user_state};
 
 use crate::Seats;
-use crate::row::ListenerRow;
+use crate::users::UserAt;
 use radio_settings::MountName;
-use radio_tables::Table;
 
 impl Seats {
     /// How many listeners there are, with those who have finished.
@@ -50,7 +47,7 @@ impl Seats {
     }
 
     /// Whether somebody sits at the mount who sent this user, but for one who is left out. The time
-    /// grows as the number of listeners.
+    /// grows as the number of those who sent it, and as the logarithm of the number of listeners.
     pub fn user_beside(&self, mount: &MountName, user: &[u8], own: Option<u64>) -> bool
         ensures { result ≡ sits_there (others_of self.now.seats own) mount.now user.now }
     {
@@ -89,14 +86,10 @@ impl Seats {
         let Some(number) = self.mounts.number(mount) else {
             return false;
         };
-        has_other_user(&self.rows, number, user, id)
+        self.rows.has_user(&UserAt {
+            number,
+            user,
+            own: Some(id),
+        })
     }
-}
-
-/// Whether another sits at the mount of this number who sent this user.
-fn has_other_user(rows: &Table<ListenerRow>, number: u64, user: &[u8], id: u64) -> bool
-    ensures { result ≡ list_any (λ row. not (is_row id row) && user_state number user.now row.state) rows.now }
-{
-    rows.iter()
-        .any(|row| row.id != id && row.state.is_of_user(number, user))
 }

@@ -8,6 +8,15 @@ use radio_blocks::Place;
 use radio_policy::Rule;
 use radio_tables::Change;
 
+/// A change of a row after which its listener is of the same user, or has lost his seat.
+pub(crate) trait KeepsUser: Change<ListenerRow> {
+    ghost use Rattle.radio_seats.specs.declared.row.ListenerRow.{ListenerRow};
+    ghost use Rattle.radio_seats.specs.Users.{IsSameUser};
+
+    // He is.
+    ghost same_user: { (change : Self) (row : ListenerRow) → IsSameUser row (Self.gives change row) };
+}
+
 /// The listener has heard his stream up to this place.
 #[derive(Drop)]
 pub(crate) struct Advances {
@@ -27,6 +36,12 @@ impl Change<ListenerRow> for Advances {
             seat.place = self.place;
         }
     }
+}
+
+impl KeepsUser for Advances {
+    ghost use Rattle.radio_seats.specs.SameUsers.{heard_same};
+
+    ghost same_user = { λ change row. heard_same change.place row };
 }
 
 /// The listener sits at the mount of this number from now on.
@@ -54,6 +69,12 @@ impl Change<ListenerRow> for Moves {
     }
 }
 
+impl KeepsUser for Moves {
+    ghost use Rattle.radio_seats.specs.SameUsers.{shifted_same};
+
+    ghost same_user = { λ change row. shifted_same change.mount change.session change.place row };
+}
+
 /// The listener loses his seat by the rule.
 #[derive(Drop)]
 pub(crate) struct Ends {
@@ -73,6 +94,12 @@ impl Change<ListenerRow> for Ends {
             row.state = RowState::Ended(self.rule);
         }
     }
+}
+
+impl KeepsUser for Ends {
+    ghost use Rattle.radio_seats.specs.SameUsers.{ended_same};
+
+    ghost same_user = { λ change row. ended_same change.rule row };
 }
 
 /// A test of a place in a stream, and of the guest who has heard it up to there.
@@ -101,20 +128,6 @@ pub trait GuestMoment {
         ensures { result ≡ gives self.now guest.now };
 }
 
-/// A test that holds of everybody.
-#[derive(Drop)]
-pub(crate) struct Anybody;
-
-impl SeatTest for Anybody {
-    ghost use Rattle.std.specs.Prelude.{true};
-
-    ghost passes = { λ test place guest. true };
-
-    fn passes(&self, _place: Place, _guest: &Guest) -> bool {
-        true
-    }
-}
-
 /// A listener who sits at the mount of this number, and of whom the test holds, loses his seat by
 /// the rule.
 #[derive(Drop)]
@@ -137,4 +150,10 @@ impl<T: SeatTest> Change<ListenerRow> for FinishesAt<'_, T> {
             row.state = RowState::Ended(self.rule);
         }
     }
+}
+
+impl<T: SeatTest> KeepsUser for FinishesAt<'_, T> {
+    ghost use Rattle.radio_seats.specs.SameUsers.{ended_where_same};
+
+    ghost same_user = { λ change row. ended_where_same (T.passes change.test.now) change.number change.rule row };
 }

@@ -4,7 +4,7 @@
 //!   and the list of its listeners, in the order of their numbers.
 //! - [`Listener`], [`Seating`], [`Seat`]: the listeners as contracts see them. A row of the table
 //!   knows its mount by a number, so that it is small and moves without memory; of a mount the name
-//!   and the count of those who sit there are kept once.
+//!   and the count of those who sit there are kept once. An index knows which rows are of one user.
 //! - [`LentSeat`], [`ListenerStanding`]: what the table answers of a listener; a [`SeatTest`] asks
 //!   something of a place and a [`Guest`], and a [`GuestMoment`] is a moment of his.
 //! - [`Seats::next`], [`Seats::count_beside`], [`Seats::user_beside`]: what a move asks, which takes listeners
@@ -18,8 +18,10 @@ mod changes;
 mod kept_name;
 mod mounts;
 mod row;
+mod rows;
 mod seat;
 mod seats;
+mod users;
 
 pub use changes::{GuestMoment, SeatTest};
 pub use kept_name::KeptName;

@@ -85,6 +85,8 @@ impl RowState {
 #[derive(Drop)]
 pub(crate) struct ListenerRow {
     pub(crate) id: u64,
+    /// The mark of the user that he sent when he sat down, if he did.
+    pub(crate) mark: Option<u64>,
     pub(crate) state: RowState,
 }
 

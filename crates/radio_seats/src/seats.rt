@@ -2,26 +2,26 @@
 
 ghost use Rattle.std.specs.Prelude.{◌≡◌, [], true, ◌||◌, ◌&&◌, ◌==◌, ◌<◌, not, min, fold, find, filter, map, length, OnOk, OnErr, MatchOption};
 ghost use Rattle.std.specs.Option.{option_copied, option_map};
-ghost use Rattle.std.specs.List.{list_any};
 ghost use Rattle.std.specs.List.Sorted.{IsStrictlySortedBy};
 ghost use Rattle.std.specs.Ordering.{nat_cmp};
 ghost use Rattle.radio_seats.specs.declared.row.ListenerRow.{ListenerRow as RowOf};
 ghost use Rattle.std.specs.Str.{bytes_eq};
-ghost use Rattle.radio_seats.specs.Seats.{listener_of, seat_of, with_seat, with_place, with_move, with_end, finished_at, with_ended, without_listener};
+ghost use Rattle.radio_seats.specs.Seats.{listener_of, seat_of, with_seat, with_place, with_move, with_end, with_ended, without_listener};
 ghost use Rattle.radio_seats.specs.Seats.{count_at, sits_there, AreByNumber};
 ghost use Rattle.radio_seats.specs.Board.{is_prepared};
 ghost use Rattle.radio_seats.specs.Guests.{passes_in, passes_at, first_moment};
 ghost use Rattle.radio_seats.specs.Lent.{lent_seat, standing_in};
-ghost use Rattle.radio_seats.specs.Rows.{is_row, number_in, holds_in, holds_at, user_state, state_moment, seated_row};
+ghost use Rattle.radio_seats.specs.Rows.{is_row, number_in, holds_in, holds_at, state_moment};
 
-use crate::changes::{Advances, Anybody, Ends, FinishesAt, Moves};
+use crate::changes::{Advances, Ends, FinishesAt, Moves};
 use crate::mounts::Mounts;
-use crate::row::{ListenerRow, NumberedSeat, RowState};
-use crate::{Guest, GuestMoment, LentSeat, ListenerStanding, OutOfMemory, Seat, SeatTest};
+use crate::row::{ListenerRow, RowState};
+use crate::rows::Rows;
+use crate::users::UserAt;
+use crate::{GuestMoment, LentSeat, ListenerStanding, OutOfMemory, Seat, SeatTest};
 use radio_blocks::Place;
 use radio_policy::Rule;
 use radio_settings::MountName;
-use radio_tables::Table;
 use std::alloc::Global;
 use std::marker::Model;
 
@@ -30,7 +30,7 @@ use std::marker::Model;
 #[derive(Drop)]
 pub struct Seats {
     pub(crate) mounts: Mounts,
-    pub(crate) rows: Table<ListenerRow>,
+    pub(crate) rows: Rows,
 }
 
 impl Model for Seats {
@@ -53,7 +53,7 @@ impl Seats {
     {
         Seats {
             mounts: Mounts::new(alloc),
-            rows: Table::new(alloc),
+            rows: Rows::new(alloc),
         }
     }
 
@@ -82,7 +82,7 @@ impl Seats {
     pub fn seat(&self, id: u64) -> Option<LentSeat<'_>>
         ensures { option_map lent_seat result ≡ seat_of self.now.seats id }
     {
-        let Some(row) = self.rows.get(&id) else {
+        let Some(row) = self.rows.get(id) else {
             return None;
         };
         match &row.state {
@@ -103,7 +103,7 @@ impl Seats {
     pub fn standing(&self, id: u64) -> Option<ListenerStanding>
         ensures { result ≡ standing_in (listener_of self.now.seats id) }
     {
-        let Some(row) = self.rows.get(&id) else {
+        let Some(row) = self.rows.get(id) else {
             return None;
         };
         Some(match &row.state {
@@ -123,7 +123,7 @@ impl Seats {
             unreachable!();
         };
         let from = number_of(&self.rows, id);
-        self.rows.insert(numbered(id, number, seat))?;
+        self.rows.insert(id, number, seat)?;
         // so many fit
         let _ = self.rows.len();
         self.mounts.leave(from);
@@ -136,7 +136,7 @@ impl Seats {
     pub fn advance(&mut self, id: u64, place: Place)
         ensures { self.new ≡ record self.old { seats = with_place self.old.seats id place } }
     {
-        self.rows.change(&id, &Advances { place });
+        self.rows.change(id, &Advances { place });
     }
 
     /// The listener sits at the mount from now on, in this session and from this place on. Nothing
@@ -154,7 +154,7 @@ impl Seats {
             session,
             place,
         };
-        self.rows.change(&id, &moves);
+        self.rows.change(id, &moves);
         let Some(_) = from else {
             return;
         };
@@ -170,7 +170,7 @@ impl Seats {
         ensures { self.new ≡ record self.old { seats = with_end self.old.seats id rule } }
     {
         let from = number_of(&self.rows, id);
-        self.rows.change(&id, &Ends { rule });
+        self.rows.change(id, &Ends { rule });
         self.mounts.leave(from);
     }
 
@@ -179,15 +179,8 @@ impl Seats {
         ensures { self.new ≡ record self.old { seats = without_listener self.old.seats id } }
     {
         let from = number_of(&self.rows, id);
-        drop(self.rows.remove(&id));
+        self.rows.remove(id);
         self.mounts.leave(from);
-    }
-
-    /// All who sit at the mount lose their seats by the rule. It takes no memory.
-    pub fn finish_at(&mut self, mount: &MountName, rule: Rule)
-        ensures { self.new ≡ record self.old { seats = finished_at self.old.seats mount.now rule } }
-    {
-        self.finish_at_if(mount, &Anybody, rule);
     }
 
     /// All who sit at the mount, and of whom the test holds, lose their seats by the rule. It takes
@@ -232,15 +225,19 @@ impl Seats {
         }
     }
 
-    /// Whether somebody sits at the mount who sent this user. The time grows as the number of
-    /// listeners.
+    /// Whether somebody sits at the mount who sent this user. The time grows as the number of those
+    /// who sent it, and as the logarithm of the number of listeners.
     pub fn user_at(&self, mount: &MountName, user: &[u8]) -> bool
         ensures { result ≡ sits_there self.now.seats mount.now user.now }
     {
         let Some(number) = self.mounts.number(mount) else {
             return false;
         };
-        has_user(&self.rows, number, user)
+        self.rows.has_user(&UserAt {
+            number,
+            user,
+            own: None,
+        })
     }
 
     /// The first of these moments of those who have seats; the last one where nobody has. The time
@@ -276,27 +273,27 @@ impl Seats {
 }
 
 /// The number of the mount where the listener sits.
-fn number_of(rows: &Table<ListenerRow>, id: u64) -> Option<u64>
+fn number_of(rows: &Rows, id: u64) -> Option<u64>
     ensures number { result ≡ number_in (find (is_row id) rows.now) }
     // no listener has two rows
     ensures rising { IsStrictlySortedBy nat_cmp (map (λ (row : RowOf). row.id) rows.now) }
 {
     let _ = rows.len();
-    match rows.get(&id) {
+    match rows.get(id) {
         Some(row) => row.state.mount(),
         None => None,
     }
 }
 
 /// The first row of one who has a seat of which the test holds.
-fn first_where<'a, T: SeatTest>(rows: &'a Table<ListenerRow>, test: &T) -> Option<&'a ListenerRow>
+fn first_where<'a, T: SeatTest>(rows: &'a Rows, test: &T) -> Option<&'a ListenerRow>
     ensures { option_copied result ≡ find (λ row. holds_in (T.passes test.now) row.state) rows.now }
 {
     rows.iter().find(|row| row.state.passes(test))
 }
 
 /// The first of these moments of those who have seats; the last one where nobody has.
-fn first_in<M: GuestMoment>(rows: &Table<ListenerRow>, moment: &M, last: u64) -> u64
+fn first_in<M: GuestMoment>(rows: &Rows, moment: &M, last: u64) -> u64
     ensures { result ≡ fold (λ first row. min first (state_moment (M.gives moment.now) last row.state)) last rows.now }
 {
     rows.iter().fold(last, |first, row| {
@@ -304,41 +301,11 @@ fn first_in<M: GuestMoment>(rows: &Table<ListenerRow>, moment: &M, last: u64) ->
     })
 }
 
-/// Whether somebody sits at the mount of this number who sent this user.
-fn has_user(rows: &Table<ListenerRow>, number: u64, user: &[u8]) -> bool
-    ensures { result ≡ list_any (λ row. user_state number user.now row.state) rows.now }
-{
-    rows.iter().any(|row| row.state.is_of_user(number, user))
-}
-
 /// How many sit at the mount of this number, of whom the test holds.
-fn count_where<T: SeatTest>(rows: &Table<ListenerRow>, number: u64, test: &T) -> usize
+fn count_where<T: SeatTest>(rows: &Rows, number: u64, test: &T) -> usize
     ensures { result ≡ length (filter (λ row. holds_at (T.passes test.now) number row.state) rows.now) }
 {
     rows.iter()
         .filter(|row| row.state.passes_at(number, test))
         .count()
-}
-
-/// The listener's row, where the mount of his seat has this number.
-fn numbered(id: u64, number: u64, seat: Seat) -> ListenerRow
-    ensures { result ≡ seated_row id number seat }
-{
-    let guest = Guest {
-        home: seat.home,
-        peer: seat.peer,
-        pair: seat.pair,
-        interval: seat.interval,
-        since: seat.since,
-    };
-    let seat = NumberedSeat {
-        place: seat.place,
-        mount: number,
-        session: seat.session,
-        guest,
-    };
-    ListenerRow {
-        id,
-        state: RowState::Seated(seat),
-    }
 }

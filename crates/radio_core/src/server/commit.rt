@@ -14,6 +14,7 @@ use crate::outcome::Change;
 use crate::timeouts::LagsBehind;
 use radio_blocks::{Block, Place};
 use radio_fallback::{Carried, Move, carry};
+use radio_icy::Title;
 use radio_policy::Rule;
 use radio_seats::Seat;
 use radio_settings::{MountName, Shown};
@@ -44,6 +45,7 @@ impl State {
                 self.seat_listener(id, seat)?;
                 Ok(NOBODY)
             }
+            Change::Obey { id, command } => self.obey(id, command),
             change => Ok(self.commit_in_place(change)),
         }
     }
@@ -70,7 +72,7 @@ impl State {
                 NOBODY
             }
             Change::SetTitle { mount, title } => {
-                self.house.set_title(&mount, title);
+                self.set_title(&mount, title);
                 NOBODY
             }
             Change::Advance { id, place } => {
@@ -90,6 +92,13 @@ impl State {
                 NOBODY
             }
         }
+    }
+
+    /// What the mount's source feeds has this title from now on. It takes no memory.
+    pub(super) fn set_title(&mut self, mount: &MountName, title: Title)
+        ensures { self.new ≡ changed self.old (Change.SetTitle mount.now title) }
+    {
+        self.house.set_title(mount, title);
     }
 
     /// The mount's session has delivered a block, and the listeners of the mount lose their seats

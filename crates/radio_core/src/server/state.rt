@@ -3,7 +3,8 @@
 ghost use Rattle.std.specs.Prelude.{◌≡◌, IsOk, IfOk};
 ghost use Rattle.radio_seats.specs.Seats.{listener_of};
 ghost use Rattle.radio_core.specs.World.{opening, standing_of, standing_of_listener};
-ghost use Rattle.radio_core.specs.Step.{outcome, StandsForSome};
+ghost use Rattle.radio_core.specs.Planned.{planned};
+ghost use Rattle.radio_core.specs.Step.{StandsForSome};
 ghost use Rattle.radio_events.specs.Events.{TakesNoMemory};
 
 use crate::OutOfMemory;
@@ -24,8 +25,8 @@ use std::marker::Model;
 #[derive(Drop)]
 pub(crate) struct State {
     pub(super) alloc: Global,
-    pub(super) house: House,
-    pub(super) seats: Seats,
+    pub(crate) house: House,
+    pub(crate) seats: Seats,
 }
 
 impl Model for State {
@@ -53,6 +54,7 @@ impl State {
             settings,
             lists,
             live: Table::new(alloc),
+            fallbacks: Table::new(alloc),
             clients: Table::new(alloc),
             last_id: 0,
         };
@@ -63,11 +65,11 @@ impl State {
         }
     }
 
-    /// What comes of an event. `OutOfMemory` where memory was refused.
-    #[tactic(auto, unfolding(crate::specs::Step::outcome))]
+    /// What comes of an event, before its change is made. `OutOfMemory` where memory was refused.
+    #[tactic(auto, unfolding(crate::specs::Step::outcome, crate::specs::Planned::planned))]
     pub(super) fn outcome(&self, event: Event) -> Result<Outcome, OutOfMemory>
         requires { StandsForSome self.now }
-        ensures value { IfOk result (λ o. o ≡ outcome self.now event) }
+        ensures value { IfOk result (λ o. o ≡ planned self.now event) }
         ensures frees { TakesNoMemory event → IsOk result }
     {
         match event {
@@ -78,6 +80,7 @@ impl State {
             Event::Title { id, text } => Ok(self.title(id, text)),
             Event::Listen(asked) => self.listen(asked),
             Event::Draw { id, room } => self.draw(id, room),
+            Event::Command(asked) => Ok(self.command(asked)),
             Event::Leave { id } => Ok(self.leave(id)),
             Event::Clock { ms } => Ok(self.clock(ms)),
         }

@@ -1,22 +1,25 @@
 //! The state, with a moment before which a clock ends nobody.
 
-ghost use Rattle.std.specs.Prelude.{◌≡◌, IsOk, IfOk, OnOk, OnErr};
+ghost use Rattle.std.specs.Prelude.{◌≡◌, map, IsOk, IfOk, OnOk, OnErr};
 ghost use Rattle.radio_core.specs.Changes.{ticked};
 ghost use Rattle.radio_core.specs.Counts.{counted};
 ghost use Rattle.radio_core.specs.Due.{at_moment, due_by, earliest, client_due, guest_due, last_moment, session_due, first_due};
 ghost use Rattle.radio_core.specs.KeptChanges.{kept_changed};
 ghost use Rattle.radio_seats.specs.Guests.{first_moment};
-ghost use Rattle.radio_core.specs.Step.{outcome, StandsForSome, NeedsNoMemory};
+ghost use Rattle.radio_core.specs.Planned.{planned, with_count};
+ghost use Rattle.radio_events.specs.declared.reply.Reply.{Reply as ReplyOf};
+ghost use Rattle.radio_core.specs.Step.{StandsForSome, NeedsNoMemory};
 ghost use Rattle.radio_core.specs.World.{opening};
 ghost use Rattle.radio_events.specs.Events.{TakesNoMemory};
 
 use super::commit::NOBODY;
 use super::state::State;
+use super::telling::{all_with_count, with_count};
 use crate::OutOfMemory;
 use crate::due::{GuestDue, LAST_MOMENT, client_due, due_at, seat_due};
 use crate::outcome::{Change, Outcome};
 use radio_access::Lists;
-use radio_events::Event;
+use radio_events::{Event, Reply};
 use radio_fallback::Carried;
 use radio_settings::Settings;
 use std::alloc::Global;
@@ -57,26 +60,50 @@ impl TimedState {
         }
     }
 
-    /// What comes of an event. `OutOfMemory` where memory was refused.
+    /// What comes of an event, before its change is made. `OutOfMemory` where memory was refused.
     pub(super) fn outcome(&self, event: Event) -> Result<Outcome, OutOfMemory>
         requires { StandsForSome self.now }
-        ensures value { IfOk result (λ o. o ≡ outcome self.now event) }
+        ensures value { IfOk result (λ o. o ≡ planned self.now event) }
         ensures frees { TakesNoMemory event → IsOk result }
     {
         self.state.outcome(event)
     }
 
-    /// Makes a change, and gives back what was worked out for it. `OutOfMemory` where memory was
-    /// refused; nothing has changed then.
-    pub(super) fn commit_for<T: Drop>(&mut self, change: Change, told: T) -> Result<T, OutOfMemory>
+    /// Makes a change, and gives back the reply that was worked out for it, which tells how many were
+    /// moved, if it is such a one. `OutOfMemory` where memory was refused; nothing has changed then.
+    pub(super) fn commit_for(&mut self, change: Change, reply: Reply) -> Result<Reply, OutOfMemory>
         ensures ok { OnOk result (self.new ≡ kept_changed self.old change) }
-        ensures told { IfOk result (λ same. same ≡ told) }
+        ensures told { IfOk result (λ told. told ≡ with_count reply (counted self.old change).moved) }
         ensures err { OnErr result (self.new ≡ self.old) }
         ensures frees { NeedsNoMemory change → IsOk result }
     {
         match self.commit(change) {
-            Ok(_counts) => Ok(told),
-            Err(refused) => Err(refused),
+            Ok(counts) => Ok(with_count(reply, counts.moved)),
+            Err(refused) => {
+                drop(reply);
+                Err(refused)
+            }
+        }
+    }
+
+    /// Makes a change, and gives back so the three replies that were worked out for it. `OutOfMemory`
+    /// where memory was refused; nothing has changed then.
+    pub(super) fn commit_for_each(
+        &mut self,
+        change: Change,
+        replies: [Reply; 3],
+    ) -> Result<[Reply; 3], OutOfMemory>
+        ensures ok { OnOk result (self.new ≡ kept_changed self.old change) }
+        ensures told { IfOk result (λ told. told ≡ map (λ (reply : ReplyOf). with_count reply (counted self.old change).moved) replies) }
+        ensures err { OnErr result (self.new ≡ self.old) }
+        ensures frees { NeedsNoMemory change → IsOk result }
+    {
+        match self.commit(change) {
+            Ok(counts) => Ok(all_with_count(replies, counts.moved)),
+            Err(refused) => {
+                drop(replies);
+                Err(refused)
+            }
         }
     }
 

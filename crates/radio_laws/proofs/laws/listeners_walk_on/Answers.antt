@@ -7,4 +7,4 @@ pub returns-clause-turns : goal.returns-clause-turns
 returns-clause-turns c settings lists events event = walk_on (run_after settings lists events) (sound_run settings lists events) event
 
 pub returns-clause-whole : goal.returns-clause-whole
-returns-clause-whole c settings lists events event = moves_are_whole (run_after settings lists events) event
+returns-clause-whole c settings lists events event = moves_are_whole (run_after settings lists events) (sound_run settings lists events) event

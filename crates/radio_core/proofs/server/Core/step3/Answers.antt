@@ -1,4 +1,8 @@
-use Rattle.std.proofs.Common.{◌≡◌, [], ◌∷◌, ◌∙◌, sym, subst}
+use Rattle.std.proofs.Common.{◌≡◌, [], ◌∷◌, ◌∙◌, ap, sym, subst}
+use Rattle.std.specs.Prelude.{map}
+use Rattle.radio_events.specs.declared.reply.Reply.{Reply}
+use Rattle.radio_core.specs.Counts.{counted}
+use Rattle.radio_core.specs.Planned.{with_count}
 use Rattle.std.proofs.lemmas.Result.{IfOk-weaker}
 use Rattle.radio_core.specs.Step.{Represents}
 use Rattle.radio_core.specs.World.{World}
@@ -8,13 +12,14 @@ use Rattle.radio_core.proofs.server.Core.step3.Goals as goal
 pub returns-in-Ok-clause-step : goal.returns-in-Ok-clause-step
 returns-in-Ok-clause-step c w stands =
     let o = c.in_ok-reply.field-0 in
-    steps_done c.self.inside.state c.commit_for.new.self c.args.event o c.in_ok-reply.ensures.value c.commit_for.result c.commit_for.ensures.ok
-    (IfOk-weaker c.commit_for.result (λ replies. replies ≡ c.in-Ok.replies) (λ replies. replies ≡ o.reply ∷ o.reply ∷ o.reply ∷ [])
-    (λ replies e. e ∙ c.in-Ok.ensures.value) c.commit_for.ensures.told) w (subst (λ (core : World). Represents core w) (sym c.self.view_is) stands)
+    let told : Reply → Reply = λ reply. with_count reply (counted c.self.inside.state o.change).moved in
+    steps_done c.self.inside.state c.commit_for_each.new.self c.args.event o c.in_ok-reply.ensures.value c.commit_for_each.result c.commit_for_each.ensures.ok
+    (IfOk-weaker c.commit_for_each.result (λ replies. replies ≡ map told c.in-Ok.replies) (λ replies. replies ≡ told o.reply ∷ told o.reply ∷ told o.reply ∷ [])
+    (λ replies e. e ∙ ap (map told) c.in-Ok.ensures.value) c.commit_for_each.ensures.told) w (subst (λ (core : World). Represents core w) (sym c.self.view_is) stands)
 
 pub returns-in-Ok-clause-frees : goal.returns-in-Ok-clause-frees
 returns-in-Ok-clause-frees c small =
-    c.commit_for.ensures.frees (small_change c.self.inside.state c.commit_for.new.self c.args.event c.in_ok-reply.field-0 c.in_ok-reply.ensures.value small)
+    c.commit_for_each.ensures.frees (small_change c.self.inside.state c.commit_for_each.new.self c.args.event c.in_ok-reply.field-0 c.in_ok-reply.ensures.value small)
 
 pub returns-in-Err-clause-frees : goal.returns-in-Err-clause-frees
 returns-in-Err-clause-frees c small =
@@ -22,5 +27,5 @@ returns-in-Err-clause-frees c small =
 
 pub invariant_of-self : goal.invariant_of-self
 invariant_of-self c =
-    still_stands c.self.inside.state c.commit_for.new.self c.args.event c.in_ok-reply.field-0 c.in_ok-reply.ensures.value c.commit_for.result
-    c.commit_for.ensures.ok c.commit_for.ensures.err c.self.invariant
+    still_stands c.self.inside.state c.commit_for_each.new.self c.args.event c.in_ok-reply.field-0 c.in_ok-reply.ensures.value c.commit_for_each.result
+    c.commit_for_each.ensures.ok c.commit_for_each.ensures.err c.self.invariant

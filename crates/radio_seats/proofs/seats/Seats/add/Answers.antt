@@ -1,8 +1,5 @@
 use Rattle.std.proofs.Common.{◌<◌, ap, ◌∙◌, arith}
 use Rattle.std.specs.Prelude.{length, map}
-use Rattle.std.specs.Ordering.{nat_cmp}
-use Rattle.radio_tables.specs.Lists.{placed}
-use Rattle.radio_seats.specs.declared.row.ListenerRow.{ListenerRow}
 use Rattle.radio_seats.specs.Board.{Board}
 use Rattle.radio_seats.specs.Mounts.{is_number, name_in}
 use Rattle.radio_seats.specs.Rows.{named}
@@ -17,7 +14,7 @@ gain-requires-clause-room c =
     let rows = c.self.inside.rows in
     let some = he_counts rows c.insert.new.self c.args.id c.in-Some.number c.number_of-from.result c.number_of-from.ensures.number in
     let law = one_comes rows c.insert.new.self c.args.id c.in-Some.number c.number_of-from.result c.number_of-from.ensures.number c.args.seat
-    c.number_of-from.ensures.rising (c.in_ok-insert.ensures.ok ∙ ap (λ row. placed (λ (a b : ListenerRow). nat_cmp a.id b.id) row rows) c.numbered.ensures) in
+    c.number_of-from.ensures.rising c.in_ok-insert.ensures.ok in
     let few : length c.insert.new.self < 18446744073709551616 = omega (arith, c.len.ensures.count, c.len.type_inv) in
     room_for_one mounts c.leave.new.self.mounts rows c.insert.new.self c.number_of-from.result c.in-Some.number 18446744073709551616 c.self.invariant some law
     c.leave.ensures.sitting few
@@ -28,7 +25,7 @@ invariant_of-self-2 c =
     let rows = c.self.inside.rows in
     let some = he_counts rows c.insert.new.self c.args.id c.in-Some.number c.number_of-from.result c.number_of-from.ensures.number in
     let law = one_comes rows c.insert.new.self c.args.id c.in-Some.number c.number_of-from.result c.number_of-from.ensures.number c.args.seat
-    c.number_of-from.ensures.rising (c.in_ok-insert.ensures.ok ∙ ap (λ row. placed (λ (a b : ListenerRow). nat_cmp a.id b.id) row rows) c.numbered.ensures) in
+    c.number_of-from.ensures.rising c.in_ok-insert.ensures.ok in
     counted_with mounts c.leave.new.self.mounts c.gain.new.self.mounts rows c.insert.new.self c.number_of-from.result c.in-Some.number c.self.invariant some law
     c.leave.ensures.sitting c.gain.ensures.sitting
 
@@ -40,7 +37,6 @@ returns-clause-ok c =
     let called = is_called name mount c.in-Some.number (λ k. c.number.ensures.only k ∙ ap (λ n. is_number n k) c.in-Some.is) in
     let later = c.gain.new.self in
     same_board later.names c.args.self.now.prepared _ _ (c.gain.ensures.prepared ∙ c.leave.ensures.prepared ∙ ap (λ (b : Board). b.prepared) c.self.view_is)
-    (ap (map (named (name_in later.mounts)))
-    (c.in_ok-insert.ensures.ok ∙ ap (λ row. placed (λ (a b : ListenerRow). nat_cmp a.id b.id) row c.self.inside.rows) c.numbered.ensures)
+    (ap (map (named (name_in later.mounts))) c.in_ok-insert.ensures.ok
     ∙ seats_with name (name_in later.mounts) c.self.inside.rows (λ k. c.gain.ensures.names k ∙ c.leave.ensures.names k) c.args.id c.in-Some.number c.args.seat called
     ∙ ap (λ (b : Board). with_seat b.seats c.args.id c.args.seat) c.self.view_is)

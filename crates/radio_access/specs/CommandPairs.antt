@@ -1,0 +1,20 @@
+-- The pairs that open commands.
+use Rattle.std.specs.Prelude.{ℕ, Bool, false, List, Option, None, Some}
+use Rattle.radio_creds.specs.Credentials.{Credentials}
+use Rattle.radio_settings.specs.declared.settings.Login.{Login}
+use Rattle.radio_settings.specs.declared.settings.Settings.{Settings}
+use Rattle.radio_access.specs.SourcePair.{is_login, is_source_pair}
+
+-- a pair was sent, and it is the login
+abbrev pub is_login_sent : Login → Option Credentials → Bool
+is_login_sent login None = false
+is_login_sent login (Some pair) = is_login login pair
+
+-- a pair was sent, and it is the user and the password of the admin
+abbrev pub is_admin_pair : Settings → Option Credentials → Bool
+is_admin_pair settings pair = is_login_sent settings.access.admin pair
+
+-- a pair was sent, and it is that of the source of the mount that was named; where none was, that of a mount without settings
+abbrev pub is_named_source_pair : Settings → Option (List ℕ) → Option Credentials → Bool
+is_named_source_pair settings (Some mount) pair = is_source_pair settings mount pair
+is_named_source_pair settings None pair = is_login_sent settings.other_mounts.source pair

@@ -1,0 +1,45 @@
+//! The pairs that open commands.
+
+ghost use Rattle.std.specs.Prelude.{◌≡◌, None};
+ghost use Rattle.std.specs.Option.{option_copied};
+ghost use Rattle.radio_access.specs.CommandPairs.{is_admin_pair, is_named_source_pair};
+
+use crate::source_pair::{is_login, is_source_pair};
+use radio_creds::Pair;
+use radio_settings::{MountName, Settings};
+
+/// Whether a pair, or none, is the one of the station's admin: `admin-user` and `admin-password`.
+///
+/// All bytes of the password are compared, wherever two of one length differ.
+pub fn is_admin_pair(settings: &Settings, pair: Option<&Pair>) -> bool
+    ensures { result ≡ is_admin_pair settings.now (option_copied pair.entry) }
+{
+    match pair {
+        Some(pair) => is_login(&settings.access.admin, pair),
+        None => false,
+    }
+}
+
+/// Whether a pair, or none, is the one that the source of the mount sends that was named; where none
+/// was, the one of a mount without settings: `source` and the station's source password.
+pub fn is_named_source_pair(
+    settings: &Settings,
+    mount: Option<&MountName>,
+    pair: Option<&Pair>,
+) -> bool
+    ensures { result ≡ is_named_source_pair settings.now (option_copied mount.entry) (option_copied pair.entry) }
+{
+    match mount {
+        Some(mount) => is_source_pair(settings, mount, pair),
+        None => is_other_source_pair(settings, pair),
+    }
+}
+
+fn is_other_source_pair(settings: &Settings, pair: Option<&Pair>) -> bool
+    ensures { result ≡ is_named_source_pair settings.now None (option_copied pair.entry) }
+{
+    match pair {
+        Some(pair) => is_login(&settings.other_mounts.source, pair),
+        None => false,
+    }
+}

@@ -1,0 +1,429 @@
+-- how each client fares where a command is done
+use Rattle.std.proofs.Common.{◌≡◌, Bool, true, false, ℕ, ◌==◌, Option, Some, None, is_some, List, [], ◌∷◌, refl, ap, sym, subst, ◌∙◌, arith}
+use Rattle.std.specs.Prelude.{not}
+use Rattle.std.specs.Option.{option_map_or}
+use Rattle.std.specs.Str.{bytes_eq}
+use Rattle.std.proofs.lemmas.Bool.Decides.{nat_tests}
+use Rattle.std.proofs.lemmas.Slice.Eq.{bytes_eq-Decides}
+use Rattle.radio_policy.specs.declared.rule.Rule.{Rule}
+use Rattle.radio_policy.specs.declared.rule.Rule.TheVariants.{NoMount, NoDestination, SameMount, NoClient, Killed, SourceKilled}
+use Rattle.radio_policy.specs.declared.judgement.Verdict.TheVariants.{Allow}
+use Rattle.radio_policy.specs.Table.{Row, row, needs_rows, password_rule, command_rows}
+use Rattle.radio_policy.specs.Verdicts.{verdict_in}
+use Rattle.radio_tables.proofs.FindLaws.{find_same, find_apart}
+use Rattle.radio_tables.proofs.KeyLaws.{by_number, by_name}
+use Rattle.radio_seats.specs.declared.seat.Listener.{Listener}
+use Rattle.radio_seats.specs.declared.seat.Seat.{Seat}
+use Rattle.radio_seats.specs.declared.seat.Seating.{Seating}
+use Rattle.radio_seats.specs.declared.seat.Seating.TheVariants.{Sits as HasSeat, Finished as HasLostIt}
+use Rattle.radio_seats.specs.Seats.{is_listener, listener_of, seat_of, seat_in, seat_held, loses, lost_by}
+use Rattle.radio_fallback.specs.declared.moves.Move.TheVariants.{Ended as SessionEnds, To}
+use Rattle.radio_fallback.specs.Carry.{at_his_turn}
+use Rattle.radio_fallback.proofs.Faring.{goes_there, never_out_there}
+use Rattle.radio_events.specs.declared.command.Asked.{Asked}
+use Rattle.radio_events.specs.declared.command.Command.{Command}
+use Rattle.radio_events.specs.declared.command.Command.TheVariants.{MoveClients, KillClient, KillSource, SetTitle, SetFallback}
+use Rattle.radio_events.specs.declared.event.Event.{Event}
+use Rattle.radio_core.specs.declared.clients.ClientState.TheVariants.{Ended}
+use Rattle.radio_core.specs.declared.outcome.Change.TheVariants.{Obey}
+use Rattle.radio_core.specs.declared.standing.Standing.{Standing}
+use Rattle.radio_core.specs.declared.standing.Standing.TheVariants.{Unknown, Undecided, Feeds, Sits, Answered, Finished}
+use Rattle.radio_core.specs.Changes.{answered, changed, session_over, session_ended, session_ended_by, session_killed}
+use Rattle.radio_core.specs.Clients.{client_of}
+use Rattle.radio_core.specs.CommandFacts.{IsCommanded, is_live, sits_at, facts_asked, needs_of, opened_by, opener_in, opens}
+use Rattle.radio_core.specs.Facts.{sight_of}
+use Rattle.radio_core.specs.Finishes.{Cause, SessionIsOver, IsKilled, HisSessionIsKilled}
+use Rattle.radio_core.specs.Moves.{TakesTo, ByKilling, ByMoving}
+use Rattle.radio_core.specs.SeatSteps.{IsSent, HisSessionIsOver, IsCommandedThere}
+use Rattle.radio_core.specs.Sessions.{Session, session_of}
+use Rattle.radio_core.specs.Sound.{IsSound}
+use Rattle.radio_core.specs.World.{World, standing_of, standing_in}
+use Rattle.radio_core.proofs.CarriedFates.{order_carried, carried_fate}
+use Rattle.radio_core.proofs.Fates.{IsActive, Fate, GoesOn, IsEnded, HasStopped, IsMoved, Fates, HasEnded, Nobody, sound_fates, fates_none, lost_in, active_sitter}
+use Rattle.radio_core.proofs.Lookups.{found_named, is_over}
+use Rattle.radio_core.proofs.NumberOrder.{order_lost}
+use Rattle.radio_core.proofs.SoundEnds.{over_fates, late_beside, there, still_feeds, has_none_then, order_then}
+use Rattle.radio_core.proofs.SoundTitles.{sound_titled}
+use Rattle.radio_core.proofs.Soundness.{sound_answered}
+use Rattle.radio_core.proofs.Standings.{Turns, turns_answered, turns_ended_by}
+
+-- rows that deny nothing hold nothing, from the first on
+past_row : (rule : Rule) (holds : Bool) (rows : List Row) → verdict_in (row rule holds ∷ rows) ≡ Allow → (holds ≡ false) × (verdict_in rows ≡ Allow)
+past_row rule true rows e = cc
+past_row rule false rows e = (refl, e)
+
+is_so : (b : Bool) → not b ≡ false → b ≡ true
+is_so true e = refl
+is_so false e = cc
+
+-- what a command needs is there
+pub may_act : (live : Bool) → verdict_in (row NoMount (not live) ∷ []) ≡ Allow → live ≡ true
+may_act true e = refl
+may_act false e = cc
+
+may_kill : (live sits : Bool) → verdict_in (row NoMount (not live) ∷ row NoClient (not sits) ∷ []) ≡ Allow → sits ≡ true
+may_kill true true e = refl
+may_kill true false e = cc
+may_kill false sits e = cc
+
+may_move : (live there same : Bool) → verdict_in (row NoMount (not live) ∷ row NoDestination (not there) ∷ row SameMount same ∷ []) ≡ Allow → same ≡ false
+may_move true true false e = refl
+may_move true true true e = cc
+may_move true false same e = cc
+may_move false there same e = cc
+
+-- whoever is moved by a command, or from a mount whose session is over, leaves it for another
+abbrev pub LeavesFor : World → Event → World → Seat → Session → Type 0
+LeavesFor w event later old session = IsSent w later event old session.mount × (bytes_eq old.mount session.mount ≡ false)
+
+abbrev pub Takes : World → Event → ℕ → Session → Type 0
+Takes w event id session = TakesTo w event id session.mount
+
+-- what a command does: first the client who gave it has had his answer, and what it sets is set; then each fares so
+pub record IsObeyed (w : World) (event : Event) (him : ℕ) (later : World) : Type 0 where
+  pub base : World
+  pub stands : (id : ℕ) → standing_of base id ≡ standing_of (answered w him) id
+  pub seats : (id : ℕ) → seat_of base.seats id ≡ seat_of w.seats id
+  pub lists : base.house.lists ≡ w.house.lists
+  pub sound : IsSound base
+  pub fates : Fates (Cause w later event) (Takes w event) Nobody (LeavesFor w event) base later
+
+module _ (w : World) (s : IsSound w) (event : Event) where
+  -- what holds of the world where the client has had his answer
+  module _ {command : Command} (c : IsCommanded w event command) where
+    abbrev heard : World
+    heard = answered w c.asked.id
+
+    sound_heard : IsSound heard
+    sound_heard = sound_answered w s c.asked.id c.peer c.undecided
+
+    -- the pair that was sent opens the command
+    pub is_opened : opens w.house.settings (opened_by command) c.asked.pair ≡ true
+    is_opened =
+        is_so (opens w.house.settings (opened_by command) c.asked.pair)
+        (past_row (password_rule (opener_in (opened_by command))) (not (opens w.house.settings (opened_by command) c.asked.pair)) (needs_rows (needs_of w command))
+        (ap (λ (a : Asked). verdict_in (command_rows (facts_asked w a c.asked.pair))) (sym c.is_asked) ∙ c.allowed)).0
+
+    -- what it needs is there
+    pub needs_hold : verdict_in (needs_rows (needs_of w command)) ≡ Allow
+    needs_hold =
+        (past_row (password_rule (opener_in (opened_by command))) (not (opens w.house.settings (opened_by command) c.asked.pair)) (needs_rows (needs_of w command))
+        (ap (λ (a : Asked). verdict_in (command_rows (facts_asked w a c.asked.pair))) (sym c.is_asked) ∙ c.allowed)).1
+
+  -- listeners are moved
+  module _ (mount destination : List ℕ) (c : IsCommanded w event (MoveClients mount destination)) where
+    abbrev moved_world : World
+    moved_world = changed w (Obey c.asked.id (MoveClients mount destination))
+
+    pub is_another : bytes_eq mount destination ≡ false
+    is_another = may_move (is_live w.house mount) (is_live w.house destination) (bytes_eq mount destination) (needs_hold c)
+
+    sent : (seat : Seat) (to : List ℕ) → seat.mount ≡ mount → destination ≡ to → IsCommanded w event (MoveClients seat.mount to)
+    sent seat to at goes =
+        subst (λ (m : List ℕ). IsCommanded w event (MoveClients m to)) (sym at) (subst (λ (m : List ℕ). IsCommanded w event (MoveClients mount m)) goes c)
+
+    away : (seat : Seat) (to : List ℕ) → seat.mount ≡ mount → destination ≡ to → bytes_eq seat.mount to ≡ false
+    away seat to at goes = ap (λ (m : List ℕ). bytes_eq m to) at ∙ ap (bytes_eq mount) (sym goes) ∙ is_another
+
+    moved_fate : (id : ℕ) → Fate (Cause w moved_world event) (Takes w event) Nobody (LeavesFor w event) (heard c) moved_world id
+    moved_fate id =
+        carried_fate (Cause w moved_world event) (Takes w event) Nobody (LeavesFor w event) (heard c) (sound_heard c) (heard c).house refl refl (To mount destination)
+        moved_world (λ m. refl) id refl refl
+        (λ turn same seats. GoesOn same seats (λ m feeds. refl) (λ seat has. refl))
+        (λ seat session concerned turn live.
+        let at : seat.mount ≡ mount = (bytes_eq-Decides seat.mount mount).0 concerned in
+        let goes : destination ≡ session.mount =
+        goes_there (sight_of w.house) mount destination (at_his_turn (sight_of w.house) (To mount destination) w.seats id) id session.mount turn in
+        (IsCommandedThere (sent seat session.mount at goes), away seat session.mount at goes))
+        (λ seat rule had turn.
+        absurd (never_out_there (sight_of w.house) mount destination (at_his_turn (sight_of w.house) (To mount destination) w.seats id) id rule turn))
+        (λ session turn. (To mount destination, w, ByMoving event mount destination c, turn))
+
+    obeyed_move : IsObeyed w event c.asked.id moved_world
+    obeyed_move = record {
+      base = heard c;
+      stands = λ id. refl;
+      seats = λ id. refl;
+      lists = refl;
+      sound = sound_heard c;
+      fates = record {
+        last = refl;
+        lists = refl;
+        settings = refl;
+        live = λ m session e. e;
+        apart = s.apart;
+        by_number = order_carried (heard c) (To mount destination) s.by_number;
+        late = λ id client seconds ms e late. e;
+        fate = moved_fate;
+      };
+    }
+
+  -- a listener is finished
+  module _ (mount : List ℕ) (listener : ℕ) (c : IsCommanded w event (KillClient mount listener)) where
+    abbrev killed_world : World
+    killed_world = changed w (Obey c.asked.id (KillClient mount listener))
+
+    sits_by : (found : Option Seat) → option_map_or (λ (seat : Seat). bytes_eq seat.mount mount) found false ≡ true
+        → (seat : Seat) × (found ≡ Some seat) × (seat.mount ≡ mount)
+    sits_by None e = cc
+    sits_by (Some seat) e = (seat, refl, (bytes_eq-Decides seat.mount mount).0 e)
+
+    pub his_seat : (seat : Seat) × (seat_of w.seats listener ≡ Some seat) × (seat.mount ≡ mount)
+    his_seat = sits_by (seat_of w.seats listener) (may_kill (is_live w.house mount) (sits_at w.seats mount listener) (needs_hold c))
+
+    abbrev KilledFate : ℕ → Type 0
+    KilledFate id = Fate (Cause w killed_world event) (Takes w event) Nobody (LeavesFor w event) (heard c) killed_world id
+
+    loses_it : (seating : Seating) (seat : Seat) → seat_held seating ≡ Some seat → lost_by Killed seating ≡ HasLostIt Killed
+    loses_it (HasSeat own) seat e = refl
+    loses_it (HasLostIt rule) seat e = cc
+
+    his_row : (found : Option Listener) → seat_in found ≡ Some his_seat.0 → (row : Listener) × (found ≡ Some row) × (lost_by Killed row.seating ≡ HasLostIt Killed)
+    his_row None e = cc
+    his_row (Some row) e = (row, refl, loses_it row.seating his_seat.0 e)
+
+    held : (row : Listener) × (listener_of w.seats listener ≡ Some row) × (lost_by Killed row.seating ≡ HasLostIt Killed)
+    held = his_row (listener_of w.seats listener) his_seat.1
+
+    then_so : listener_of killed_world.seats listener ≡ Some (record { id = held.0.id; seating = HasLostIt Killed })
+    then_so =
+        find_same (is_listener listener) (loses Killed) (λ x. refl) w.seats held.0 held.1
+        ∙ ap (λ (seating : Seating). Some (record { id = held.0.id; seating = seating })) held.2
+
+    sat : standing_of (heard c) listener ≡ Sits
+    sat = (sound_heard c).sitting listener his_seat.0 his_seat.1
+
+    pub has_been_killed : standing_of killed_world listener ≡ Finished Killed
+    has_been_killed =
+        ap (λ l. standing_in l (client_of (heard c).house.clients listener)) then_so
+        ∙ lost_in (listener_of w.seats listener) held.0.id Killed (client_of (heard c).house.clients listener) sat
+
+    pub sits_no_more : seat_of killed_world.seats listener ≡ None
+    sits_no_more = ap seat_in then_so
+
+    his_end : KilledFate listener
+    his_end =
+        IsEnded Killed (IsKilled his_seat.0 his_seat.1 (subst (λ (m : List ℕ). IsCommanded w event (KillClient m listener)) (sym his_seat.2) c))
+        (active_sitter (standing_of (heard c) listener) sat) has_been_killed sits_no_more
+        (λ m e. let sits : standing_of (heard c) listener ≡ Sits = sat in cc)
+
+    pub beside_him : (id : ℕ) → (listener == id) ≡ false → listener_of killed_world.seats id ≡ listener_of w.seats id
+    beside_him id apart =
+        find_apart (is_listener id) (is_listener listener) (loses Killed)
+        (λ x e. (grind (arith, nat_tests), grind (arith, nat_tests))) w.seats
+
+    killed_fate : (id : ℕ) → KilledFate id
+    killed_fate id =
+        by_number listener id (λ same. subst KilledFate same his_end)
+        (λ apart. GoesOn (ap (λ l. standing_in l (client_of (heard c).house.clients id)) (beside_him id apart)) (ap seat_in (beside_him id apart)) (λ m e. refl) (λ seat e. refl))
+
+    obeyed_kill : IsObeyed w event c.asked.id killed_world
+    obeyed_kill = record {
+      base = heard c;
+      stands = λ id. refl;
+      seats = λ id. refl;
+      lists = refl;
+      sound = sound_heard c;
+      fates = record {
+        last = refl;
+        lists = refl;
+        settings = refl;
+        live = λ m session e. e;
+        apart = s.apart;
+        by_number = order_lost w.seats s.by_number listener Killed;
+        late = λ id client seconds ms e late. e;
+        fate = killed_fate;
+      };
+    }
+
+  -- a session is ended, and its source is finished
+  module _ (mount : List ℕ) (c : IsCommanded w event (KillSource mount)) where
+    abbrev cut_world : World
+    cut_world = changed w (Obey c.asked.id (KillSource mount))
+
+    found_by : (found : Option Session) → is_some found ≡ true → (session : Session) × (found ≡ Some session)
+    found_by None e = cc
+    found_by (Some session) e = (session, refl)
+
+    pub live : (session : Session) × (session_of w.house.live mount ≡ Some session)
+    live = found_by (session_of w.house.live mount) (may_act (is_live w.house mount) (needs_hold c))
+
+    abbrev cut : Session
+    cut = live.0
+
+    pub named : cut.mount ≡ mount
+    named = found_named w.house.live mount cut live.1
+
+    there_live : session_of w.house.live cut.mount ≡ Some cut
+    there_live = ap (session_of w.house.live) named ∙ live.1
+
+    own : IsCommanded w event (KillSource cut.mount)
+    own = subst (λ (m : List ℕ). IsCommanded w event (KillSource m)) (sym named) c
+
+    pub is_cut : cut_world ≡ session_ended_by SourceKilled (heard c) cut
+    is_cut = ap (session_killed (heard c)) live.1
+
+    feeding : standing_of (heard c) cut.number ≡ Feeds cut.mount
+    feeding = (sound_heard c).fed cut.mount cut there_live
+
+    fed_before : standing_of w cut.number ≡ Feeds cut.mount
+    fed_before = s.fed cut.mount cut there_live
+
+    abbrev after : World
+    after = session_ended_by SourceKilled (heard c) cut
+
+    pub turned : Turns (session_ended (heard c) cut.mount) after cut.number (Finished SourceKilled)
+    turned =
+        turns_ended_by (session_ended (heard c) cut.mount) cut.number SourceKilled
+        (λ u. let still = still_feeds (heard c) (sound_heard c) cut.number cut.mount feeding in cc)
+
+    over : Fates (Cause w cut_world event) (Takes w event) Nobody HasEnded (heard c) after
+    over =
+        over_fates (Cause w cut_world event) (Takes w event) Nobody (heard c) (sound_heard c) cut.number cut.mount feeding after (Finished SourceKilled) turned refl
+        (λ id other. refl)
+        (IsEnded SourceKilled (HisSessionIsKilled cut fed_before there_live own) (subst (λ (x : Standing). IsActive x) (sym feeding) tt) turned.his
+        (has_none_then (heard c) (sound_heard c) cut.number cut.mount feeding)
+        (λ m e.
+        let both : Feeds cut.mount ≡ Feeds m = sym feeding ∙ e in
+        let one : cut.mount ≡ m = cc in
+        ap (session_of after.house.live) (sym one) ∙ is_over w.house.live cut.mount))
+        (λ id seat rule had turn. SessionIsOver rule seat had (SessionEnds cut.mount, session_over w cut.mount, ByKilling event cut.mount own, turn))
+        (λ id session turn. (SessionEnds cut.mount, session_over w cut.mount, ByKilling event cut.mount own, turn))
+        refl refl refl (order_then (heard c) (sound_heard c) cut.number cut.mount feeding)
+        (late_beside (heard c).house.clients cut.number (Ended SourceKilled) (there (heard c) (sound_heard c) cut.number cut.mount feeding).0
+        (there (heard c) (sound_heard c) cut.number cut.mount feeding).1 (λ client seconds moment late. cc))
+
+    -- whoever goes on elsewhere left a mount whose session is over
+    leaves_so : (id : ℕ) → Fate (Cause w cut_world event) (Takes w event) Nobody HasEnded (heard c) after id
+        → Fate (Cause w cut_world event) (Takes w event) Nobody (LeavesFor w event) (heard c) after id
+    leaves_so id (GoesOn same seat feeds sits) = GoesOn same seat feeds sits
+    leaves_so id (IsEnded rule cause active ended none gone) = IsEnded rule cause active ended none gone
+    leaves_so id (HasStopped m why feeds done none gone) = absurd why
+    leaves_so id (IsMoved old session carries left had has same live opens) =
+        IsMoved old session carries (
+          HisSessionIsOver left,
+          by_name old.mount session.mount
+              (λ here. let none : session_of after.house.live session.mount ≡ None = ap (session_of after.house.live) (sym here) ∙ left in cc)
+              (λ apart. apart),
+        ) had has same live opens
+
+    obeyed_cut : IsObeyed w event c.asked.id cut_world
+    obeyed_cut = record {
+      base = heard c;
+      stands = λ id. refl;
+      seats = λ id. refl;
+      lists = refl;
+      sound = sound_heard c;
+      fates = subst (λ (v : World). Fates (Cause w cut_world event) (Takes w event) Nobody (LeavesFor w event) (heard c) v) (sym is_cut) (record {
+        last = over.last;
+        lists = over.lists;
+        settings = over.settings;
+        live = over.live;
+        apart = over.apart;
+        by_number = over.by_number;
+        late = over.late;
+        fate = λ id. leaves_so id (over.fate id);
+      });
+    }
+
+  -- a title is set
+  module _ (mount text : List ℕ) (c : IsCommanded w event (SetTitle mount text)) where
+    abbrev titled_world : World
+    titled_world = changed w (Obey c.asked.id (SetTitle mount text))
+
+    title_found : (found : Option Session) → is_some found ≡ true → (session : Session) × (found ≡ Some session)
+    title_found None e = cc
+    title_found (Some session) e = (session, refl)
+
+    pub title_live : (session : Session) × (session_of w.house.live mount ≡ Some session)
+    title_live =
+        title_found (session_of w.house.live mount) (may_act (is_live w.house mount) (needs_hold c))
+
+    sound_text : IsSound titled_world
+    sound_text =
+        sound_titled (heard c) (sound_heard c) mount text title_live.0.number
+        ((sound_heard c).fed mount title_live.0 title_live.1)
+
+    obeyed_title : IsObeyed w event c.asked.id titled_world
+    obeyed_title = record {
+      base = titled_world;
+      stands = λ id. refl;
+      seats = λ id. refl;
+      lists = refl;
+      sound = sound_text;
+      fates = fates_none (Cause w titled_world event) (Takes w event) Nobody (LeavesFor w event) titled_world sound_text;
+    }
+
+  -- a fallback is set
+  module _ (mount : List ℕ) (fallback : Option (List ℕ)) (c : IsCommanded w event (SetFallback mount fallback)) where
+    abbrev set_world : World
+    set_world = changed w (Obey c.asked.id (SetFallback mount fallback))
+
+    sound_set : IsSound set_world
+    sound_set =
+        let before = sound_heard c in
+        record {
+          numbered = before.numbered;
+          feeds = before.feeds;
+          fed = before.fed;
+          apart = before.apart;
+          starts = before.starts;
+          by_number = before.by_number;
+          sitting = before.sitting;
+          seated = λ id seat e.
+              let old = before.seated id seat e in
+              record { session = old.session; is_live = old.is_live; his_session = old.his_session; within = old.within };
+        }
+
+    obeyed_fallback : IsObeyed w event c.asked.id set_world
+    obeyed_fallback = record {
+      base = set_world;
+      stands = λ id. refl;
+      seats = λ id. refl;
+      lists = refl;
+      sound = sound_set;
+      fates = fates_none (Cause w set_world event) (Takes w event) Nobody (LeavesFor w event) set_world sound_set;
+    }
+
+  pub obeyed : (command : Command) (c : IsCommanded w event command) → IsObeyed w event c.asked.id (changed w (Obey c.asked.id command))
+  obeyed (MoveClients mount destination) c = obeyed_move mount destination c
+  obeyed (KillClient mount listener) c = obeyed_kill mount listener c
+  obeyed (KillSource mount) c = obeyed_cut mount c
+  obeyed (SetTitle mount text) c = obeyed_title mount text c
+  obeyed (SetFallback mount fallback) c = obeyed_fallback mount fallback c
+
+  -- the client who gave it has had his answer, and is no listener
+  module _ (command : Command) (c : IsCommanded w event command) where
+    abbrev obeyed_world : World
+    obeyed_world = changed w (Obey c.asked.id command)
+
+    turns_heard : Turns w (answered w c.asked.id) c.asked.id Answered
+    turns_heard = turns_answered w c.asked.id (λ u. let at = c.undecided in cc)
+
+    not_active : (now : Standing) → now ≡ Answered → IsActive now → ⊥
+    not_active Answered e active = active
+    not_active Unknown e active = active
+    not_active (Undecided peer) e active = cc
+    not_active (Feeds mount) e active = cc
+    not_active Sits e active = cc
+    not_active (Finished rule) e active = active
+
+    pub is_answered : standing_of obeyed_world c.asked.id ≡ Answered
+    is_answered = by_fate ((obeyed command c).fates.fate c.asked.id) where
+      before : standing_of (obeyed command c).base c.asked.id ≡ Answered
+      before = (obeyed command c).stands c.asked.id ∙ turns_heard.his
+
+      by_fate : Fate (Cause w (changed w (Obey c.asked.id command)) event) (Takes w event) Nobody (LeavesFor w event) (obeyed command c).base
+          (changed w (Obey c.asked.id command)) c.asked.id → standing_of (changed w (Obey c.asked.id command)) c.asked.id ≡ Answered
+      by_fate (GoesOn same seat feeds sits) = same ∙ before
+      by_fate (IsEnded rule cause active ended none over) = absurd (not_active (standing_of (obeyed command c).base c.asked.id) before active)
+      by_fate (HasStopped m why feeds done none over) = absurd why
+      by_fate (IsMoved old session carries left had has same live opens) = same ∙ before
+
+    pub others_stood : (id : ℕ) → (c.asked.id == id) ≡ false → standing_of (obeyed command c).base id ≡ standing_of w id
+    others_stood id apart = (obeyed command c).stands id ∙ turns_heard.others id apart
+
+    pub sound_obeyed : IsSound obeyed_world
+    sound_obeyed =
+        sound_fates (Cause w obeyed_world event) (Takes w event) Nobody (LeavesFor w event) (obeyed command c).base obeyed_world (obeyed command c).sound
+        (obeyed command c).fates

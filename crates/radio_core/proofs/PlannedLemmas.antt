@@ -1,0 +1,85 @@
+-- what was worked out of an event and told how many were moved is what comes of it
+use Rattle.std.proofs.Common.{◌≡◌, ℕ, refl, ap, sym}
+use Rattle.radio_events.specs.declared.command.Command.{Command as TheCommand}
+use Rattle.radio_events.specs.declared.command.Command.TheVariants.{MoveClients, KillClient, KillSource, SetTitle, SetFallback}
+use Rattle.radio_events.specs.declared.command.CommandRequest.{CommandRequest}
+use Rattle.radio_events.specs.declared.event.Event.{Event}
+use Rattle.radio_events.specs.declared.event.Event.TheVariants.{Arrive, Source, Push, SourceEnd, Title, Listen, Draw, Command, Leave, Clock}
+use Rattle.radio_events.specs.declared.reply.Reply.{Reply}
+use Rattle.radio_core.specs.declared.outcome.Outcome.{Outcome}
+use Rattle.radio_core.specs.Command.{obeys}
+use Rattle.radio_core.specs.Counts.{counted}
+use Rattle.radio_core.specs.Planned.{with_count, uncounted, planned}
+use Rattle.radio_core.specs.Step.{outcome}
+use Rattle.radio_core.specs.Ways.{Way, Misplaced, IsFinished, IsDenied, IsRefused, IsAdmitted, Begins, Receives, SetsTitle, TakesSeat, HandsOut, Ends}
+use Rattle.radio_core.specs.Ways.{EndsAndLeaves, Leaves, Obeys, HasPassed, Ticks}
+use Rattle.radio_core.specs.World.{World}
+use Rattle.radio_core.proofs.Ways.{way_of}
+
+module _ (w : World) where
+  -- what no command brings tells no number
+  plain_by : (event : Event) (o : Outcome) → Way w event o → ((asked : CommandRequest) → event ≡ Command asked → ⊥) → (count : ℕ)
+      → with_count o.reply count ≡ o.reply
+  plain_by event o (Misplaced _) other_than count = refl
+  plain_by event o (IsFinished _ id rule his told) other_than count = refl
+  plain_by event o (IsDenied _ rule v other) other_than count = refl
+  plain_by event o (IsRefused _ id rule v his undecided) other_than count = refl
+  plain_by event o (IsAdmitted peer allowed) other_than count = refl
+  plain_by event o (Begins asked undecided none allowed) other_than count = refl
+  plain_by event o (Receives id mount block feeding) other_than count = refl
+  plain_by event o (SetsTitle id mount text feeding) other_than count = refl
+  plain_by event o (TakesSeat asked peer session undecided lands live allowed) other_than count = refl
+  plain_by event o (HandsOut id room seat session sits has live) other_than count = refl
+  plain_by event o (Ends id mount feeding) other_than count = refl
+  plain_by event o (EndsAndLeaves id mount feeding) other_than count = refl
+  plain_by event o (Leaves id other) other_than count = refl
+  plain_by event o (Obeys _ command c) other_than count = absurd (other_than c.asked c.is_event)
+  plain_by event o (HasPassed ms e) other_than count = refl
+  plain_by event o (Ticks ms e) other_than count = refl
+
+  plain : (event : Event) → ((asked : CommandRequest) → event ≡ Command asked → ⊥) → outcome w event ≡ uncounted (outcome w event)
+  plain event other_than = ap (λ (reply : Reply). record (outcome w event) { reply = reply }) (sym (plain_by event (outcome w event) (way_of w event) other_than 0))
+
+  pub planned_so : (event : Event) → planned w event ≡ uncounted (outcome w event)
+  unfolding planned outcome
+  planned_so (Arrive peer) = plain (Arrive peer) (λ asked e. cc)
+  planned_so (Source request) = plain (Source request) (λ asked e. cc)
+  planned_so (Push id block) = plain (Push id block) (λ asked e. cc)
+  planned_so (SourceEnd id) = plain (SourceEnd id) (λ asked e. cc)
+  planned_so (Title id text) = plain (Title id text) (λ asked e. cc)
+  planned_so (Listen request) = plain (Listen request) (λ asked e. cc)
+  planned_so (Draw id room) = plain (Draw id room) (λ asked e. cc)
+  planned_so (Command request) = refl
+  planned_so (Leave id) = plain (Leave id) (λ asked e. cc)
+  planned_so (Clock ms) = plain (Clock ms) (λ asked e. cc)
+
+  abbrev IsCompleted : Outcome → Type 0
+  IsCompleted o = with_count (uncounted o).reply (counted w o.change).moved ≡ o.reply
+
+  obeys_completed : (id : ℕ) (command : TheCommand) → IsCompleted (obeys w id command)
+  obeys_completed id (MoveClients mount destination) = refl
+  obeys_completed id (KillClient mount listener) = refl
+  obeys_completed id (KillSource mount) = refl
+  obeys_completed id (SetTitle mount text) = refl
+  obeys_completed id (SetFallback mount fallback) = refl
+
+  completed_by : (event : Event) (o : Outcome) → Way w event o → IsCompleted o
+  completed_by event o (Misplaced _) = refl
+  completed_by event o (IsFinished _ id rule his told) = refl
+  completed_by event o (IsDenied _ rule v other) = refl
+  completed_by event o (IsRefused _ id rule v his undecided) = refl
+  completed_by event o (IsAdmitted peer allowed) = refl
+  completed_by event o (Begins asked undecided none allowed) = refl
+  completed_by event o (Receives id mount block feeding) = refl
+  completed_by event o (SetsTitle id mount text feeding) = refl
+  completed_by event o (TakesSeat asked peer session undecided lands live allowed) = refl
+  completed_by event o (HandsOut id room seat session sits has live) = refl
+  completed_by event o (Ends id mount feeding) = refl
+  completed_by event o (EndsAndLeaves id mount feeding) = refl
+  completed_by event o (Leaves id other) = refl
+  completed_by event o (Obeys _ command c) = obeys_completed c.asked.id command
+  completed_by event o (HasPassed ms e) = refl
+  completed_by event o (Ticks ms e) = refl
+
+  pub completed_so : (event : Event) → IsCompleted (outcome w event)
+  completed_so event = completed_by event (outcome w event) (way_of w event)

@@ -1,0 +1,10 @@
+use Rattle.std.proofs.Common.{Some, refl, ap}
+use Rattle.radio_core.specs.declared.house.House.{House}
+use Rattle.radio_core.specs.Sessions.{with_title}
+use Rattle.radio_core.proofs.PreparedLemmas.{changed_prepared}
+use Rattle.radio_core.proofs.server.state.State.set_title.Goals as goal
+
+pub invariant_of-self : goal.invariant_of-self
+invariant_of-self c =
+    changed_prepared c.self.inside.house.live c.set_title.new.self.live c.self.inside.seats.prepared c.args.mount.now (with_title (Some c.args.title))
+    (λ session. refl) (ap (λ (h : House). h.live) c.set_title.ensures) c.self.invariant

@@ -1,0 +1,36 @@
+use Rattle.std.specs.Prelude.{ℕ}
+use Rattle.radio_policy.specs.Verdicts.{verdict_in}
+use Rattle.radio_fallback.specs.declared.moves.Carried.{Carried}
+use Rattle.radio_events.specs.declared.command.Asked.{Asked}
+use Rattle.radio_events.specs.declared.command.Asked.TheVariants.{Command as Asks}
+use Rattle.radio_events.specs.declared.command.Command.{Command as TheCommand}
+use Rattle.radio_events.specs.declared.command.Command.TheVariants.{MoveClients}
+use Rattle.radio_events.specs.declared.command.CommandRequest.{CommandRequest}
+use Rattle.radio_events.specs.declared.reply.Reply.TheVariants.{Text as SaysText, Stray}
+use Rattle.radio_events.specs.declared.text.Text.{Text}
+use Rattle.radio_events.specs.declared.text.Text.TheVariants.{Done, Moved}
+use Rattle.radio_core.specs.declared.outcome.Change.TheVariants.{Nothing, Answer, Obey}
+use Rattle.radio_core.specs.declared.outcome.Outcome.{Outcome}
+use Rattle.radio_core.specs.CommandFacts.{rows_to_command}
+use Rattle.radio_core.specs.Counts.{counts_by}
+use Rattle.radio_core.specs.World.{World, standing_of}
+use Rattle.radio_core.specs.Outcomes.{says, on_verdict, if_undecided}
+
+-- what is said of a command that was done: how many it has moved, or that it was done
+abbrev pub said_of : TheCommand → Carried → Text
+said_of (MoveClients mount destination) counts = Moved counts.moved
+said_of command counts = Done
+
+-- the command is done, and the client who gave it has had his answer
+abbrev pub obeys : World → ℕ → TheCommand → Outcome
+obeys w id command = says (SaysText (said_of command (counts_by w command))) (Obey id command)
+
+-- what was asked is done; where it is no command, which the policy denies, nothing happens
+abbrev pub does_asked : World → ℕ → Asked → Outcome
+does_asked w id (Asks command) = obeys w id command
+does_asked w id asked = says Stray Nothing
+
+-- a client gives a command
+abbrev pub gives_command : World → CommandRequest → Outcome
+gives_command w asked = if_undecided (standing_of w asked.id) (λ _.
+    on_verdict (verdict_in (rows_to_command w asked)) (Answer asked.id) (does_asked w asked.id asked.asked))

@@ -1,0 +1,135 @@
+//! What is looked up in the server for one who gives a command.
+
+ghost use Rattle.std.specs.Prelude.{◌≡◌};
+ghost use Rattle.std.specs.Option.{option_copied};
+ghost use Rattle.std.specs.Str.{bytes_eq};
+ghost use Rattle.radio_core.specs.CommandFacts.{opened_by, opener_in, opens, opens_as_source, is_live, sits_at, needs_of, facts_for, facts_asked};
+
+use crate::house::House;
+use crate::server::State;
+use radio_access::{is_admin_pair, is_named_source_pair};
+use radio_creds::Pair;
+use radio_events::{Asked, Command, OpenedBy};
+use radio_policy::{CommandFacts, CommandNeeds, DestinationFacts, Opener};
+use radio_seats::Seats;
+use radio_settings::{MountName, Settings};
+
+impl State {
+    /// What is looked up for one who sends this pair, or none, and whose path and arguments ask for
+    /// this; `None` where the path names no command.
+    pub(crate) fn command_facts(&self, asked: &Asked, pair: Option<&Pair>) -> Option<CommandFacts>
+        ensures { result ≡ facts_asked self.now asked.now (option_copied pair.entry) }
+    {
+        match asked {
+            Asked::NoCommand => None,
+            Asked::MissingArgument(by) => { Some(self.facts_for(by, CommandNeeds::Argument, pair)) }
+            Asked::Command(command) => {
+                Some(self.facts_for(&opened_by(command), self.needs_of(command), pair))
+            }
+        }
+    }
+
+    fn facts_for(&self, by: &OpenedBy, needs: CommandNeeds, pair: Option<&Pair>) -> CommandFacts
+        ensures { result ≡ facts_for self.now by.now needs (option_copied pair.entry) }
+    {
+        CommandFacts {
+            opener: opener_in(by),
+            is_opened: opens(&self.house.settings, by, pair),
+            needs,
+        }
+    }
+
+    /// What the command needs, and whether it is there.
+    fn needs_of(&self, command: &Command) -> CommandNeeds
+        ensures { result ≡ needs_of self.now command.now }
+    {
+        match command {
+            Command::MoveClients { mount, destination } => {
+                CommandNeeds::Destination(self.house.destination_facts(mount, destination))
+            }
+            Command::KillClient { mount, listener } => CommandNeeds::Client {
+                mount_is_live: self.house.has_session(mount),
+                sits_there: sits_at(&self.seats, mount, *listener),
+            },
+            Command::KillSource { mount }
+            | Command::SetTitle { mount, .. }
+            | Command::SetFallback { mount, .. } => CommandNeeds::Mount {
+                is_live: self.house.has_session(mount),
+            },
+        }
+    }
+}
+
+impl House {
+    /// Whether the mount is live.
+    fn has_session(&self, mount: &MountName) -> bool
+        ensures { result ≡ is_live self.now mount.now }
+    {
+        self.session(mount).is_some()
+    }
+
+    fn destination_facts(&self, mount: &MountName, destination: &MountName) -> DestinationFacts
+        ensures { CommandNeeds.Destination result ≡ CommandNeeds.Destination (record {
+          mount_is_live = is_live self.now mount.now;
+          destination_is_live = is_live self.now destination.now;
+          is_same_mount = bytes_eq mount.now destination.now;
+        }) }
+    {
+        DestinationFacts {
+            mount_is_live: self.has_session(mount),
+            destination_is_live: self.has_session(destination),
+            is_same_mount: *mount == *destination,
+        }
+    }
+}
+
+/// Whose pair opens the command, beside that of the admin: a title and a fallback may be set by the
+/// mount's source too.
+fn opened_by(command: &Command) -> OpenedBy
+    ensures { result ≡ opened_by command.now }
+{
+    match command {
+        Command::MoveClients { .. } | Command::KillClient { .. } | Command::KillSource { .. } => {
+            OpenedBy::Admin
+        }
+        Command::SetTitle { mount, .. } | Command::SetFallback { mount, .. } => {
+            OpenedBy::Source(Some(*mount))
+        }
+    }
+}
+
+fn opener_in(by: &OpenedBy) -> Opener
+    ensures { result ≡ opener_in by.now }
+{
+    match by {
+        OpenedBy::Admin => Opener::Admin,
+        OpenedBy::Source(_) => Opener::Source,
+    }
+}
+
+/// Whether the pair opens it; that of the admin opens all.
+fn opens(settings: &Settings, by: &OpenedBy, pair: Option<&Pair>) -> bool
+    ensures { result ≡ opens settings.now by.now (option_copied pair.entry) }
+{
+    is_admin_pair(settings, pair) || opens_as_source(settings, by, pair)
+}
+
+/// Whether the pair of the mount's source opens it, and is the one that was sent.
+fn opens_as_source(settings: &Settings, by: &OpenedBy, pair: Option<&Pair>) -> bool
+    ensures { result ≡ opens_as_source settings.now by.now (option_copied pair.entry) }
+{
+    match by {
+        OpenedBy::Admin => false,
+        OpenedBy::Source(mount) => is_named_source_pair(settings, mount.as_ref(), pair),
+    }
+}
+
+/// Whether the listener of this number sits at the mount.
+fn sits_at(seats: &Seats, mount: &MountName, id: u64) -> bool
+    ensures { result ≡ sits_at seats.now.seats mount.now id }
+{
+    match seats.seat(id) {
+        Some(seat) => *seat.mount == *mount,
+        None => false,
+    }
+}

@@ -1,0 +1,81 @@
+//! What commands do.
+
+ghost use Rattle.std.specs.Prelude.{◌≡◌, IfOk, OnOk, OnErr};
+ghost use Rattle.radio_core.specs.Changes.{changed, done, session_killed, TakesNoRoom};
+ghost use Rattle.radio_core.specs.Counts.{counted, counts_by};
+ghost use Rattle.radio_core.specs.Sessions.{session_of};
+ghost use Rattle.radio_core.specs.declared.outcome.Change.{Change};
+
+use super::commit::NOBODY;
+use super::state::State;
+use crate::OutOfMemory;
+use crate::clients::ClientState;
+use radio_events::Command;
+use radio_fallback::{Carried, Move, carry};
+use radio_policy::Rule;
+use radio_settings::MountName;
+
+impl State {
+    /// The command is done, and the client who gave it has had his answer; how many it has moved.
+    /// `OutOfMemory` where memory was refused; nothing has changed then.
+    pub(super) fn obey(&mut self, id: u64, command: Command) -> Result<Carried, OutOfMemory>
+        ensures ok { OnOk result (self.new ≡ changed self.old (Change.Obey id command)) }
+        ensures counts { IfOk result (λ counts. counts ≡ counted self.old (Change.Obey id command)) }
+        ensures err { OnErr result (self.new ≡ self.old) }
+    {
+        match command {
+            Command::SetFallback { mount, fallback } => {
+                self.house.set_fallback(mount, fallback)?;
+                self.house.set_state(id, ClientState::Answered);
+                Ok(NOBODY)
+            }
+            command => {
+                self.house.set_state(id, ClientState::Answered);
+                Ok(self.do_in_place(command))
+            }
+        }
+    }
+
+    /// A command is done that takes no memory; how many it has moved.
+    fn do_in_place(&mut self, command: Command) -> Carried
+        ensures state { TakesNoRoom command → self.new ≡ done self.old command }
+        ensures counts { TakesNoRoom command → result ≡ counts_by self.old command }
+    {
+        match command {
+            Command::MoveClients { mount, destination } => {
+                carry(
+                    &self.house,
+                    &mut self.seats,
+                    &Move::To { mount, destination },
+                )
+            }
+            Command::KillClient { listener, .. } => {
+                self.seats.end(listener, Rule::Killed);
+                NOBODY
+            }
+            Command::KillSource { mount } => {
+                self.kill_source(mount);
+                NOBODY
+            }
+            Command::SetTitle { mount, title } => {
+                self.set_title(&mount, title);
+                NOBODY
+            }
+            Command::SetFallback { .. } => NOBODY,
+        }
+    }
+
+    /// The session of the mount ends, if there is one, and its source is finished. It takes no
+    /// memory.
+    fn kill_source(&mut self, mount: MountName)
+        ensures { self.new ≡ session_killed self.old (session_of self.old.house.live mount) }
+    {
+        let Some(session) = self.house.session(&mount) else {
+            return;
+        };
+        let number = session.number;
+        let _counts = self.end_session(mount);
+        self.house
+            .set_state(number, ClientState::Ended(Rule::SourceKilled));
+    }
+}

@@ -1,0 +1,78 @@
+//! What holds of an intake between any two steps of the threads that use it, and what each step
+//! tells its thread.
+
+use crossbeam_queue::protocol::{Join, Lesson, Outcome, Protocol, Split};
+use std::collections::LinkedList;
+
+/// What a thread has put and taken, and its parts of the right to know the whole. No value of it is
+/// made.
+pub(crate) struct Hand<L> {
+    parts: u64,
+    put: LinkedList<L>,
+    taken: LinkedList<L>,
+}
+
+/// What was put by all is what was taken by all, and what is left.
+pub(crate) struct Balance;
+
+impl<L> Protocol<L, Hand<L>> for Balance {
+    ghost use Rattle.radio_intake.specs.Passes.{all_parts};
+    ghost use Rattle.radio_intake.specs.Balance.{IsBalanced, idle};
+
+    ghost holds = { IsBalanced };
+
+    ghost first = { idle all_parts };
+}
+
+/// One part is cut off, for another thread, which has put and taken nothing yet.
+pub(crate) struct OnePart;
+
+impl<L> Split<Hand<L>> for OnePart {
+    ghost use Rattle.radio_intake.specs.Balance.{idle, less_one};
+
+    ghost left = { less_one };
+
+    ghost right = { λ _. idle 1 };
+}
+
+/// What two threads have put and taken, as of one.
+pub(crate) struct Together;
+
+impl<L> Join<Hand<L>> for Together {
+    ghost use Rattle.radio_intake.specs.Balance.{idle, both};
+
+    ghost both = { both };
+
+    ghost spent = { idle 0 };
+}
+
+/// A connection is put; who has all parts knows that there was room.
+pub(crate) struct Puts;
+
+impl<L> Outcome<L, Hand<L>> for Puts {
+    ghost use Rattle.radio_intake.specs.Balance.{IsPut};
+
+    ghost then = { IsPut };
+}
+
+/// A connection is taken.
+pub(crate) struct Takes;
+
+impl<L> Outcome<L, Hand<L>> for Takes {
+    ghost use Rattle.radio_intake.specs.Balance.{IsTaken};
+
+    ghost then = { IsTaken };
+}
+
+/// Who has all parts knows what is left.
+impl<L> Lesson<L, Hand<L>> for Puts {
+    ghost use Rattle.radio_intake.specs.Balance.{IsKnown};
+
+    ghost fact = { IsKnown };
+}
+
+impl<L> Lesson<L, Hand<L>> for Takes {
+    ghost use Rattle.radio_intake.specs.Balance.{IsKnown};
+
+    ghost fact = { IsKnown };
+}

@@ -1,0 +1,330 @@
+-- the law of commands
+use Rattle.std.proofs.Common.{◌≡◌, ◌↔◌, ◌⊎◌, inl, inr, Bool, true, false, ℕ, ◌≤◌, ◌<◌, Option, Some, None, List, refl, ap, sym, subst, ◌∙◌, arith}
+use Rattle.std.specs.Prelude.{nat_lt, ◌||◌}
+use Rattle.std.specs.Str.{bytes_eq}
+use Rattle.std.proofs.lemmas.Bool.{and_parts}
+use Rattle.std.proofs.lemmas.Bool.Decides.{nat_tests}
+use Rattle.std.proofs.lemmas.Slice.Eq.{bytes_eq-Decides}
+use Rattle.radio_policy.specs.declared.judgement.Verdict.{Verdict}
+use Rattle.radio_policy.specs.declared.judgement.Verdict.TheVariants.{Allow}
+use Rattle.radio_policy.specs.Verdicts.{verdict_in}
+use Rattle.radio_addr.specs.declared.peer.Peer.{Peer}
+use Rattle.radio_creds.specs.Credentials.{Credentials}
+use Rattle.radio_settings.specs.declared.settings.Login.{Login}
+use Rattle.radio_settings.specs.declared.settings.Settings.{Settings}
+use Rattle.radio_settings.specs.Options.{options_for}
+use Rattle.radio_events.specs.declared.command.OpenedBy.TheVariants.{Source}
+use Rattle.radio_access.specs.CommandPairs.{is_login_sent, is_admin_pair}
+use Rattle.radio_fallback.proofs.MovedCounts.{moved_as_counted}
+use Rattle.radio_events.specs.declared.command.Asked.{Asked}
+use Rattle.radio_events.specs.declared.command.Asked.TheVariants.{Command as Asks}
+use Rattle.radio_events.specs.declared.command.Command.{Command as TheCommand}
+use Rattle.radio_events.specs.declared.command.Command.TheVariants.{MoveClients, KillClient, KillSource, SetTitle, SetFallback}
+use Rattle.radio_events.specs.declared.event.Event.{Event}
+use Rattle.radio_events.specs.declared.reply.Reply.TheVariants.{Text as SaysText}
+use Rattle.radio_events.specs.declared.text.Text.{Text}
+use Rattle.radio_core.specs.declared.outcome.Change.TheVariants.{Answer, Obey}
+use Rattle.radio_core.specs.declared.outcome.Outcome.{Outcome}
+use Rattle.radio_core.specs.declared.standing.Standing.{Standing}
+use Rattle.radio_core.specs.declared.standing.Standing.TheVariants.{Unknown, Undecided, Sits, Answered, Finished}
+use Rattle.radio_core.specs.Changes.{answered, carried_along, changed, session_over}
+use Rattle.radio_core.specs.Command.{obeys, does_asked}
+use Rattle.radio_core.specs.CommandFacts.{IsCommanded, opened_by, opens_as_source, rows_to_command}
+use Rattle.radio_policy.specs.declared.rule.Rule.TheVariants.{Killed}
+use Rattle.radio_seats.specs.declared.seat.Seat.{Seat}
+use Rattle.radio_seats.specs.Seats.{seat_in, seat_of, count_at, AreByNumber}
+use Rattle.radio_tables.proofs.KeyLaws.{by_number}
+use Rattle.radio_fallback.specs.declared.moves.Move.{Move}
+use Rattle.radio_fallback.specs.declared.moves.Move.TheVariants.{Ended, To}
+use Rattle.radio_fallback.specs.Carry.{concerns}
+use Rattle.radio_fallback.proofs.Faring.{Faring, HasStayed, HasGone, HasLost, fares}
+use Rattle.radio_core.specs.Command.{said_of}
+use Rattle.radio_core.specs.Counts.{counts_by}
+use Rattle.radio_core.specs.Facts.{sight_of}
+use Rattle.radio_core.specs.Fallbacks.{Fallback, set_for}
+use Rattle.radio_core.specs.Sessions.{Session, session_of, without_session}
+use Rattle.radio_core.proofs.ApartLemmas.{bytes_apart}
+use Rattle.radio_core.proofs.Lookups.{is_over, is_titled, is_set, beside_set, beside_titled, beside_ended}
+use Rattle.radio_laws.specs.Walks.{FallsBack, ByTheSettings, ByACommand}
+use Rattle.radio_core.specs.Outcomes.{on_verdict, if_undecided}
+use Rattle.radio_core.specs.Sound.{IsSound}
+use Rattle.radio_core.specs.Step.{outcome, reply_to, world_after}
+use Rattle.radio_core.specs.Ways.{Way, Misplaced, IsFinished, IsDenied, IsRefused, IsAdmitted, Begins, Receives, SetsTitle, TakesSeat, HandsOut, Ends}
+use Rattle.radio_core.specs.Ways.{EndsAndLeaves, Leaves, Obeys, HasPassed, Ticks}
+use Rattle.radio_core.specs.World.{World, standing_of}
+use Rattle.radio_core.proofs.Obeyed.{is_opened, is_another, his_seat, has_been_killed, sits_no_more, beside_him, live, is_cut, named, turned, title_live, is_answered}
+use Rattle.radio_core.proofs.SoundRuns.{sound_after}
+use Rattle.radio_core.proofs.Ways.{way_of}
+use Rattle.radio_laws.proofs.GoneLemmas.{last_rises}
+use Rattle.radio_laws.proofs.KilledLemmas.{IsOver, hears_no_more}
+use Rattle.radio_laws.specs.Commanded.{AsTheAdmin, ItsTitle, ItsFallback, IsGivenByRight, OnlyWhoMayCommands, IsSourceKilled, HasDone, mount_of, StaysBeside, CommandsAreKept, KilledHearNothing}
+
+-- a login that was sent has its user and its password
+record HasLogin (login : Login) (sent : Option Credentials) : Type 0 where
+  pub pair : Credentials
+  pub is_sent : sent ≡ Some pair
+  pub user : pair.user ≡ login.username
+  pub password : pair.password ≡ login.password
+
+login_sent : (login : Login) (sent : Option Credentials) → is_login_sent login sent ≡ true → HasLogin login sent
+login_sent login None e = cc
+login_sent login (Some pair) e =
+    let both = and_parts (bytes_eq login.username pair.user) (bytes_eq login.password pair.password) e in
+    record {
+      pair = pair;
+      is_sent = refl;
+      user = sym ((bytes_eq-Decides login.username pair.user).0 both.0);
+      password = sym ((bytes_eq-Decides login.password pair.password).0 both.1);
+    }
+
+-- the source's pair, as the one that was sent
+source_sent : (settings : Settings) (mount : List ℕ) (sent : Option Credentials) → opens_as_source settings (Source (Some mount)) sent ≡ true
+    → is_login_sent (options_for settings mount).source sent ≡ true
+source_sent settings mount None e = cc
+source_sent settings mount (Some pair) e = e
+
+one_of : (a b : Bool) → (a || b) ≡ true → (a ≡ true) ⊎ (b ≡ true)
+one_of true b e = inl refl
+one_of false b e = inr e
+
+module _ (w : World) (s : IsSound w) (event : Event) where
+  by_source : (command : TheCommand) (c : IsCommanded w event command) → opens_as_source w.house.settings (opened_by command) c.asked.pair ≡ true
+      → IsGivenByRight w event
+  by_source (MoveClients mount destination) c e = cc
+  by_source (KillClient mount listener) c e = cc
+  by_source (KillSource mount) c e = cc
+  by_source (SetTitle mount text) c e =
+      let has = login_sent _ c.asked.pair (source_sent w.house.settings mount c.asked.pair e) in
+      record {
+        asked = c.asked;
+        is_event = c.is_event;
+        command = SetTitle mount text;
+        is_asked = c.is_asked;
+        pair = has.pair;
+        sent = has.is_sent;
+        may = ItsTitle mount text (record { user = has.user; password = has.password });
+      }
+  by_source (SetFallback mount fallback) c e =
+      let has = login_sent _ c.asked.pair (source_sent w.house.settings mount c.asked.pair e) in
+      record {
+        asked = c.asked;
+        is_event = c.is_event;
+        command = SetFallback mount fallback;
+        is_asked = c.is_asked;
+        pair = has.pair;
+        sent = has.is_sent;
+        may = ItsFallback mount fallback (record { user = has.user; password = has.password });
+      }
+
+  by_right : (command : TheCommand) (c : IsCommanded w event command) → (is_admin_pair w.house.settings c.asked.pair ≡ true)
+      ⊎ (opens_as_source w.house.settings (opened_by command) c.asked.pair ≡ true) → IsGivenByRight w event
+  by_right command c (inl admin) =
+      let has = login_sent w.house.settings.access.admin c.asked.pair admin in
+      record {
+        asked = c.asked;
+        is_event = c.is_event;
+        command = command;
+        is_asked = c.is_asked;
+        pair = has.pair;
+        sent = has.is_sent;
+        may = AsTheAdmin command (record { user = has.user; password = has.password });
+      }
+  by_right command c (inr source) = by_source command c source
+
+given_by : (w : World) → IsSound w → (event : Event) (o : Outcome) → Way w event o → (text : Text) → o.reply ≡ SaysText text → IsGivenByRight w event
+given_by w s event o (Obeys _ command c) text d =
+    by_right w s event command c (one_of (is_admin_pair w.house.settings c.asked.pair) (opens_as_source w.house.settings (opened_by command) c.asked.pair)
+    (is_opened w s event c))
+given_by w s event o (Misplaced _) text d = cc
+given_by w s event o (IsFinished _ him by its known) text d = cc
+given_by w s event o (IsDenied _ by v nobody) text d = cc
+given_by w s event o (IsRefused _ him by v its undecided) text d = cc
+given_by w s event o (IsAdmitted peer allowed) text d = cc
+given_by w s event o (Begins asked undecided none allowed) text d = cc
+given_by w s event o (Receives him mount block feeding) text d = cc
+given_by w s event o (SetsTitle him mount title feeding) text d = cc
+given_by w s event o (HasPassed ms e) text d = cc
+given_by w s event o (Ticks ms e) text d = cc
+given_by w s event o (TakesSeat asked peer session undecided lands live allowed) text d = cc
+given_by w s event o (HandsOut him room seat session sits has live) text d = cc
+given_by w s event o (Ends him mount feeding) text d = cc
+given_by w s event o (EndsAndLeaves him mount feeding) text d = cc
+given_by w s event o (Leaves him other) text d = cc
+
+pub only_who_may : (w : World) → IsSound w → (event : Event) → OnlyWhoMayCommands w event
+unfolding reply_to
+only_who_may w s event text d = given_by w s event (outcome w event) (way_of w event) text d
+
+-- what comes of a command that the policy allows
+does_so : (w : World) (id : ℕ) (command : TheCommand) (now : Standing) (peer : Peer) (verdict : Verdict) (asked : Asked) → now ≡ Undecided peer → verdict ≡ Allow
+    → asked ≡ Asks command → if_undecided now (λ _. on_verdict verdict (Answer id) (does_asked w id asked)) ≡ obeys w id command
+does_so w id command now peer verdict asked e v is = rw (e, v, is) refl
+
+module _ (w : World) (s : IsSound w) (event : Event) where
+  module _ {command : TheCommand} (c : IsCommanded w event command) where
+    comes_of : outcome w event ≡ obeys w c.asked.id command
+    unfolding outcome
+    comes_of =
+        ap (outcome w) c.is_event
+        ∙ does_so w c.asked.id command (standing_of w c.asked.id) c.peer (verdict_in (rows_to_command w c.asked)) c.asked.asked c.undecided c.allowed c.is_asked
+
+    pub later_so : world_after w event ≡ changed w (Obey c.asked.id command)
+    unfolding world_after
+    later_so = ap (λ (o : Outcome). changed w o.change) comes_of
+
+    told_so : reply_to w event ≡ SaysText (said_of command (counts_by w command))
+    unfolding reply_to
+    told_so = ap (λ (o : Outcome). o.reply) comes_of
+
+    -- what holds of the world that the command makes holds after the event
+    pub after : (P : World → Type 0) → P (changed w (Obey c.asked.id command)) → P (world_after w event)
+    after P holds = subst P (sym later_so) holds
+
+  is_live_still : (mount : List ℕ) (fallback : Option (List ℕ)) (later : World) → set_for later.house.fallbacks mount ≡ Some (record { mount = mount; fallback = fallback })
+      → (next : List ℕ) → FallsBack later mount next ↔ (fallback ≡ Some next)
+  is_live_still mount fallback later set next = (by_fall, λ e. ByACommand (record { mount = mount; fallback = fallback }) set e) where
+    by_fall : FallsBack later mount next → fallback ≡ Some next
+    by_fall (ByTheSettings goes none) = cc
+    by_fall (ByACommand other found goes) =
+        let both : Some (record { mount = mount; fallback = fallback }) ≡ Some other = sym set ∙ found in
+        let one : record { mount = mount; fallback = fallback } ≡ other = cc in
+        ap (λ (x : Fallback). x.fallback) one ∙ goes
+
+  has_done : (command : TheCommand) (c : IsCommanded w event command) → HasDone w event command
+  has_done (MoveClients mount destination) c = (
+    (counts_by w (MoveClients mount destination)).moved,
+    told_so c,
+    moved_as_counted (sight_of w.house) mount destination (is_another w s event mount destination c) w.seats
+        ∙ sym (ap (λ (x : World). count_at x.seats destination) (later_so c)),
+  )
+  has_done (KillClient mount listener) c = (
+    told_so c,
+    after c (λ later. standing_of later listener ≡ Finished Killed) (has_been_killed w s event mount listener c),
+    after c (λ later. seat_of later.seats listener ≡ None) (sits_no_more w s event mount listener c),
+  )
+  has_done (KillSource mount) c = (told_so c, after c (λ later. IsSourceKilled w later mount) killed) where
+    cut : Session
+    cut = (live w s event mount c).0
+
+    killed : IsSourceKilled w (changed w (Obey c.asked.id (KillSource mount))) mount
+    killed = record {
+      session = cut;
+      was_live = (live w s event mount c).1;
+      is_over = ap (λ (x : World). session_of x.house.live mount) (is_cut w s event mount c)
+          ∙ ap (session_of (without_session w.house.live cut.mount)) (sym (named w s event mount c)) ∙ is_over w.house.live cut.mount;
+      has_finished = ap (λ (x : World). standing_of x cut.number) (is_cut w s event mount c) ∙ (turned w s event mount c).his;
+    }
+  has_done (SetTitle mount text) c =
+      let there = title_live w s event mount text c in (
+        told_so c,
+        there.0,
+        there.1,
+        after c (λ later. session_of later.house.live mount ≡ Some (record there.0 { title = Some text })) (is_titled w.house.live mount text there.0 there.1),
+      )
+  has_done (SetFallback mount fallback) c = (
+    told_so c,
+    after c (λ later. (next : List ℕ) → FallsBack later mount next ↔ (fallback ≡ Some next))
+        (is_live_still mount fallback (changed w (Obey c.asked.id (SetFallback mount fallback)))
+        (is_set w.house.fallbacks mount mount fallback ((bytes_eq-Decides mount mount).1 refl))),
+  )
+
+  -- whoever sits elsewhere keeps his seat
+  keeps_away : (v : World) (move : Move) (mount : List ℕ) → AreByNumber v.seats
+      → ((seat : Seat) → concerns move seat.mount seat.home ≡ true → bytes_eq seat.mount mount ≡ true) → (id : ℕ) (seat : Seat)
+      → seat_of v.seats id ≡ Some seat → bytes_eq mount seat.mount ≡ false → seat_of (carried_along v move).seats id ≡ Some seat
+  keeps_away v move mount order theirs id seat has away = by_fare (fares (sight_of v.house) move v.seats order id) where
+    not_concerned : (old : Seat) → seat_of v.seats id ≡ Some old → concerns move old.mount old.home ≡ true → ⊥
+    not_concerned old had concerned =
+        let both : Some seat ≡ Some old = sym has ∙ had in
+        let one : seat ≡ old = cc in
+        let there : bytes_eq seat.mount mount ≡ true = ap (λ (x : Seat). bytes_eq x.mount mount) one ∙ theirs old concerned in
+        let back : bytes_eq seat.mount mount ≡ false = bytes_apart mount seat.mount away in
+        cc
+
+    by_fare : Faring (sight_of v.house) move v.seats id → seat_of (carried_along v move).seats id ≡ Some seat
+    by_fare (HasStayed same turn) = ap seat_in same ∙ has
+    by_fare (HasGone old to turn had concerned fits now) = absurd (not_concerned old had concerned)
+    by_fare (HasLost old rule turn had concerned now) = absurd (not_concerned old had concerned)
+
+  stays_beside : (command : TheCommand) (c : IsCommanded w event command) → StaysBeside w (changed w (Obey c.asked.id command)) (mount_of command)
+  stays_beside (MoveClients mount destination) c = record {
+    sessions = λ other apart. refl;
+    seats = λ id seat has away. keeps_away w (To mount destination) mount s.by_number (λ x there. there) id seat has away;
+    fallbacks = λ other apart. refl;
+    settings = refl;
+    lists = refl;
+    time = refl;
+  }
+  stays_beside (KillClient mount listener) c = record {
+    sessions = λ other apart. refl;
+    seats = λ id seat has away.
+        by_number listener id
+        (λ same.
+        let his = his_seat w s event mount listener c in
+        let both : Some his.0 ≡ Some seat = sym his.1 ∙ ap (seat_of w.seats) same ∙ has in
+        let one : his.0 ≡ seat = cc in
+        let here : bytes_eq mount seat.mount ≡ true = (bytes_eq-Decides mount seat.mount).1 (sym his.2 ∙ ap (λ (x : Seat). x.mount) one) in
+        cc)
+        (λ apart. ap seat_in (beside_him w s event mount listener c id apart) ∙ has);
+    fallbacks = λ other apart. refl;
+    settings = refl;
+    lists = refl;
+    time = refl;
+  }
+  stays_beside (KillSource mount) c = subst (λ (x : World). StaysBeside w x mount) (sym (is_cut w s event mount c)) (record {
+    sessions = λ other apart. beside_ended w.house.live cut.mount other (ap (λ (m : List ℕ). bytes_eq m other) is_named ∙ apart);
+    seats = λ id seat has away.
+        keeps_away (session_over (answered w c.asked.id) cut.mount) (Ended cut.mount) mount s.by_number
+        (λ x there. ap (bytes_eq x.mount) (sym is_named) ∙ there) id seat has away;
+    fallbacks = λ other apart. refl;
+    settings = refl;
+    lists = refl;
+    time = refl;
+  }) where
+    cut : Session
+    cut = (live w s event mount c).0
+
+    is_named : cut.mount ≡ mount
+    is_named = named w s event mount c
+  stays_beside (SetTitle mount text) c = record {
+    sessions = λ other apart. beside_titled w.house.live mount other apart text;
+    seats = λ id seat has away. has;
+    fallbacks = λ other apart. refl;
+    settings = refl;
+    lists = refl;
+    time = refl;
+  }
+  stays_beside (SetFallback mount fallback) c = record {
+    sessions = λ other apart. refl;
+    seats = λ id seat has away. has;
+    fallbacks = λ other apart. beside_set w.house.fallbacks mount other fallback apart;
+    settings = refl;
+    lists = refl;
+    time = refl;
+  }
+
+pub commands_are_kept : (w : World) → IsSound w → (event : Event) → CommandsAreKept w event
+commands_are_kept w s event command c = record {
+  done = has_done w s event command c;
+  answered = after w s event c (λ later. standing_of later c.asked.id ≡ Answered) (is_answered w s event command c);
+  beside = after w s event c (λ later. StaysBeside w later (mount_of command)) (stays_beside w s event command c);
+}
+
+-- who has a seat has a number that was given
+given_number : (w : World) → IsSound w → (id : ℕ) (seat : Seat) → seat_of w.seats id ≡ Some seat → id ≤ w.house.last_id
+given_number w s id seat has = by_order (nat_lt w.house.last_id id) refl where
+  by_order : (above : Bool) → nat_lt w.house.last_id id ≡ above → id ≤ w.house.last_id
+  by_order true above =
+      let high : w.house.last_id < id = grind (arith, nat_tests) in
+      let unknown : standing_of w id ≡ Unknown = s.numbered id high in
+      let sat : standing_of w id ≡ Sits = s.sitting id seat has in
+      cc
+  by_order false above = grind (arith, nat_tests)
+
+pub killed_hear_nothing : (w : World) → IsSound w → (event : Event) → KilledHearNothing w event
+killed_hear_nothing w s event mount id c more =
+    let his = his_seat w s event mount id c in
+    let given = given_number w s id his.0 his.1 in
+    let rises = last_rises w s event in
+    hears_no_more (world_after w event) (sound_after w s event) id (omega (arith, given, rises))
+    (after w s event c (λ later. IsOver (standing_of later id)) (subst IsOver (sym (has_been_killed w s event mount id c)) tt)) more

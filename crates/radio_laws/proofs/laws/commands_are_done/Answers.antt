@@ -1,0 +1,13 @@
+use Rattle.radio_core.specs.Run.{run_after}
+use Rattle.radio_core.proofs.SoundRuns.{sound_run}
+use Rattle.radio_laws.proofs.CommandLaws.{only_who_may, commands_are_kept, killed_hear_nothing}
+use Rattle.radio_laws.proofs.laws.commands_are_done.Goals as goal
+
+pub returns-clause-may : goal.returns-clause-may
+returns-clause-may c settings lists events event = only_who_may (run_after settings lists events) (sound_run settings lists events) event
+
+pub returns-clause-kept : goal.returns-clause-kept
+returns-clause-kept c settings lists events event = commands_are_kept (run_after settings lists events) (sound_run settings lists events) event
+
+pub returns-clause-silent : goal.returns-clause-silent
+returns-clause-silent c settings lists events event = killed_hear_nothing (run_after settings lists events) (sound_run settings lists events) event

@@ -1,0 +1,104 @@
+-- Who may give a command, what it does, and what it leaves as it is.
+use Rattle.std.specs.Prelude.{◌≡◌, ◌↔◌, ℕ, ◌+◌, false, List, [], Option, Some, None}
+use Rattle.std.specs.Str.{bytes_eq}
+use Rattle.radio_policy.specs.declared.rule.Rule.TheVariants.{Killed, SourceKilled}
+use Rattle.radio_creds.specs.Credentials.{Credentials}
+use Rattle.radio_settings.specs.Options.{options_for}
+use Rattle.radio_seats.specs.declared.seat.Seat.{Seat}
+use Rattle.radio_seats.specs.Seats.{seat_of, count_at}
+use Rattle.radio_events.specs.declared.command.Asked.TheVariants.{Command as Asks}
+use Rattle.radio_events.specs.declared.command.Command.{Command as TheCommand}
+use Rattle.radio_events.specs.declared.command.Command.TheVariants.{MoveClients, KillClient, KillSource, SetTitle, SetFallback}
+use Rattle.radio_events.specs.declared.command.CommandRequest.{CommandRequest}
+use Rattle.radio_events.specs.declared.event.Event.{Event}
+use Rattle.radio_events.specs.declared.event.Event.TheVariants.{Command}
+use Rattle.radio_events.specs.declared.reply.Reply.TheVariants.{Text as SaysText}
+use Rattle.radio_events.specs.declared.text.Text.{Text}
+use Rattle.radio_events.specs.declared.text.Text.TheVariants.{Done, Moved}
+use Rattle.radio_core.specs.declared.standing.Standing.TheVariants.{Answered, Finished}
+use Rattle.radio_core.specs.CommandFacts.{IsCommanded}
+use Rattle.radio_core.specs.Fallbacks.{set_for}
+use Rattle.radio_core.specs.Handing.{handed}
+use Rattle.radio_core.specs.Sessions.{Session, session_of}
+use Rattle.radio_core.specs.Step.{reply_to, world_after}
+use Rattle.radio_core.specs.World.{World, standing_of}
+use Rattle.radio_laws.specs.Walks.{FallsBack}
+
+-- the user and the password of the admin, byte for byte
+pub record IsTheAdmins (w : World) (pair : Credentials) : Type 0 where
+  pub user : pair.user ≡ w.house.settings.access.admin.username
+  pub password : pair.password ≡ w.house.settings.access.admin.password
+
+-- or those of the mount's source
+pub record IsTheSources (w : World) (mount : List ℕ) (pair : Credentials) : Type 0 where
+  pub user : pair.user ≡ (options_for w.house.settings mount).source.username
+  pub password : pair.password ≡ (options_for w.house.settings mount).source.password
+
+-- the admin may give every command, and the source of a mount those that set a title or a fallback there
+pub data MayGive (w : World) (pair : Credentials) : TheCommand → Type 0 where
+  AsTheAdmin : (command : TheCommand) → IsTheAdmins w pair → MayGive w pair command
+  ItsTitle : (mount text : List ℕ) → IsTheSources w mount pair → MayGive w pair (SetTitle mount text)
+  ItsFallback : (mount : List ℕ) (fallback : Option (List ℕ)) → IsTheSources w mount pair → MayGive w pair (SetFallback mount fallback)
+
+-- a command was given by one who may
+pub record IsGivenByRight (w : World) (event : Event) : Type 0 where
+  pub asked : CommandRequest
+  pub is_event : event ≡ Command asked
+  pub command : TheCommand
+  pub is_asked : asked.asked ≡ Asks command
+  pub pair : Credentials
+  pub sent : asked.pair ≡ Some pair
+  pub may : MayGive w pair command
+
+-- that a command was done is told only to one who may give it
+abbrev pub OnlyWhoMayCommands : World → Event → Type 0
+OnlyWhoMayCommands w event = (text : Text) → reply_to w event ≡ SaysText text → IsGivenByRight w event
+
+-- a source is finished by a command that ends its session
+pub record IsSourceKilled (w later : World) (mount : List ℕ) : Type 0 where
+  pub session : Session
+  pub was_live : session_of w.house.live mount ≡ Some session
+  pub is_over : session_of later.house.live mount ≡ None
+  pub has_finished : standing_of later session.number ≡ Finished SourceKilled
+
+-- what a command is to do is so afterwards, and what is said of it is true: as many have gone to the destination as the text tells
+abbrev pub HasDone : World → Event → TheCommand → Type 0
+HasDone w event (MoveClients mount destination) = (count : ℕ) × (reply_to w event ≡ SaysText (Moved count))
+    × (count_at w.seats destination + count ≡ count_at (world_after w event).seats destination)
+HasDone w event (KillClient mount listener) = (reply_to w event ≡ SaysText Done) × (standing_of (world_after w event) listener ≡ Finished Killed)
+    × (seat_of (world_after w event).seats listener ≡ None)
+HasDone w event (KillSource mount) = (reply_to w event ≡ SaysText Done) × IsSourceKilled w (world_after w event) mount
+HasDone w event (SetTitle mount text) = (reply_to w event ≡ SaysText Done) × (session : Session) × (session_of w.house.live mount ≡ Some session)
+    × (session_of (world_after w event).house.live mount ≡ Some (record session { title = Some text }))
+HasDone w event (SetFallback mount fallback) = (reply_to w event ≡ SaysText Done)
+    × ((next : List ℕ) → FallsBack (world_after w event) mount next ↔ (fallback ≡ Some next))
+
+-- the mount that a command names, from which it moves and at which it kills or sets something
+abbrev pub mount_of : TheCommand → List ℕ
+mount_of (MoveClients mount destination) = mount
+mount_of (KillClient mount listener) = mount
+mount_of (KillSource mount) = mount
+mount_of (SetTitle mount text) = mount
+mount_of (SetFallback mount fallback) = mount
+
+-- all else is as it was: other mounts' sessions, with their titles, their listeners, and where these fall back; and the settings
+pub record StaysBeside (w later : World) (mount : List ℕ) : Type 0 where
+  pub sessions : (other : List ℕ) → bytes_eq mount other ≡ false → session_of later.house.live other ≡ session_of w.house.live other
+  pub seats : (id : ℕ) (seat : Seat) → seat_of w.seats id ≡ Some seat → bytes_eq mount seat.mount ≡ false → seat_of later.seats id ≡ Some seat
+  pub fallbacks : (other : List ℕ) → bytes_eq mount other ≡ false → set_for later.house.fallbacks other ≡ set_for w.house.fallbacks other
+  pub settings : later.house.settings ≡ w.house.settings
+  pub lists : later.house.lists ≡ w.house.lists
+  pub time : later.house.time ≡ w.house.time
+
+-- a command that the policy allows is done, the client who gave it has had his answer, and nothing changes beyond the mount that it names
+pub record IsCommandKept (w : World) (event : Event) (command : TheCommand) (id : ℕ) : Type 0 where
+  pub done : HasDone w event command
+  pub answered : standing_of (world_after w event) id ≡ Answered
+  pub beside : StaysBeside w (world_after w event) (mount_of command)
+
+abbrev pub CommandsAreKept : World → Event → Type 0
+CommandsAreKept w event = (command : TheCommand) (c : IsCommanded w event command) → IsCommandKept w event command c.asked.id
+
+-- whom a command has finished is handed nothing from then on, whatever happens
+abbrev pub KilledHearNothing : World → Event → Type 0
+KilledHearNothing w event = (mount : List ℕ) (id : ℕ) → IsCommanded w event (KillClient mount id) → (more : List Event) → handed (world_after w event) more id ≡ []
