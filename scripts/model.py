@@ -1,25 +1,37 @@
 """A plain model of the server, written from docs/RULES.md and not from the code: what a script's lines come to.
 
-It knows what `scripts/try_random` makes: whole heads of SOURCE and GET, plain bodies, titles of ASCII; no address lists.
+It knows what `scripts/try_random` makes: whole heads of SOURCE and GET, plain bodies, commands that change something, titles of ASCII; no address lists.
 """
 import base64
 import collections
 import hashlib
 
 STATUSES = {
-    400: ("Bad Request", ["bad-mount"]),
-    401: ("Unauthorized", ["source-password", "listener-password"]),
+    400: ("Bad Request", ["bad-mount", "missing-argument", "same-mount"]),
+    401: ("Unauthorized", ["source-password", "listener-password", "admin-password"]),
     403: ("Forbidden", ["too-many-clients", "too-many-sources", "mount-in-use", "user-twice", "mount-full"]),
-    404: ("Not Found", ["no-mount", "not-live", "fallback-depth"]),
+    404: ("Not Found", ["no-mount", "not-live", "fallback-depth", "no-command", "no-destination", "no-client"]),
 }
 STATUS_OF = {rule: status for status, (_, rules) in STATUSES.items() for rule in rules}
 WELCOME = b"HTTP/1.0 200 OK\r\n\r\n"
+ADMIN = ("admin", "letmein")
+# the arguments of each command; those that a mount's source may give too
+COMMANDS = {
+    "moveclients": ["mount", "destination"],
+    "killclient": ["mount", "id"],
+    "killsource": ["mount"],
+    "metadata": ["mount", "song"],
+    "fallbacks": ["mount", "fallback"],
+}
+OF_SOURCES = ["metadata", "fallbacks"]
 
 
 def denial(rule):
-    status = STATUS_OF[rule]
-    body = f"denied: {rule}\n"
-    lines = [f"HTTP/1.0 {status} {STATUSES[status][0]}", "Content-Type: text/plain; charset=utf-8", f"Content-Length: {len(body)}"]
+    return answer(STATUS_OF[rule], STATUSES[STATUS_OF[rule]][0], f"denied: {rule}\n")
+
+
+def answer(status, phrase, body):
+    lines = [f"HTTP/1.0 {status} {phrase}", "Content-Type: text/plain; charset=utf-8", f"Content-Length: {len(body)}"]
     lines += ['WWW-Authenticate: Basic realm="radio"'] * (status == 401) + ["Connection: close", "", body]
     return "\r\n".join(lines).encode()
 
@@ -65,11 +77,15 @@ class Model:
         self.limits |= settings.get("limits", {})
         self.tables = {table["mount-name"]: table for table in settings.get("mounts", [])}
         self.now, self.last, self.clients, self.live, self.labels = 0, 0, {}, {}, {}
+        # the fallbacks that commands have set
+        self.fallbacks = {}
         # how often what was met, so that it can be seen what scripts try
         self.met = collections.Counter()
 
     def mount(self, name):
-        return Mount(name, self.tables.get(name, {}), self.limits)
+        mount = Mount(name, self.tables.get(name, {}), self.limits)
+        mount.fallback = self.fallbacks.get(name, mount.fallback)
+        return mount
 
     # who sits where
 
@@ -133,9 +149,53 @@ class Model:
 
     # what is asked
 
-    def feeds(self, client, name, pair):
+    def source_pair(self, name):
         table = self.tables.get(name, {})
-        if pair != (table.get("username", "source"), table.get("password", "hackme")):
+        return table.get("username", "source"), table.get("password", "hackme")
+
+    def gives(self, command, arguments, pair):
+        """The rule that denies the command, or what is said of it."""
+        if command not in COMMANDS:
+            return "no-command", None
+        of_source = command in OF_SOURCES
+        if pair != ADMIN and not (of_source and pair == self.source_pair(arguments.get("mount"))):
+            return "source-password" if of_source else "admin-password", None
+        if any(name not in arguments for name in COMMANDS[command]):
+            return "missing-argument", None
+        mount, other = [arguments[name] for name in COMMANDS[command]][0], [arguments[name] for name in COMMANDS[command]][-1]
+        if mount not in self.live:
+            return "no-mount", None
+        if command == "moveclients" and other not in self.live:
+            return "no-destination", None
+        if command == "moveclients" and other == mount:
+            return "same-mount", None
+        if command == "killclient" and all(one.number != other for one in self.at(mount)):
+            return "no-client", None
+        return None, self.does(command, mount, other)
+
+    def does(self, command, mount, other):
+        if command == "moveclients":
+            goes = 0
+            for one in self.at(mount):
+                if self.stop(other, one.pair, one) is None:
+                    self.goes_to(one, other)
+                    goes += 1
+                self.met["sent on" if one.mount == other else "not let in"] += 1
+            return f"moved: {goes}\n"
+        if command == "killclient":
+            self.clients[other].rule = "killed"
+        elif command == "killsource":
+            source = self.live[mount].source
+            self.ends(mount)
+            source.rule, source.state = "source-killed", "ended"
+        elif command == "metadata":
+            self.live[mount].title = other
+        else:
+            self.fallbacks[mount] = other
+        return "done\n"
+
+    def feeds(self, client, name, pair):
+        if pair != self.source_pair(name):
             return "source-password"
         if len(self.live) >= self.limits["sources"]:
             return "too-many-sources"
@@ -252,6 +312,17 @@ class Model:
             client.state = "answered"
             return self.says(label, denial(rule), rule)
         return self.says(label, WELCOME if method == "SOURCE" else self.head(client))
+
+    def commands(self, label, command, arguments, pair):
+        client = self.labels[label]
+        if client is None or client.state != "new":
+            return []
+        if client.rule:
+            return self.says(label, word=client.rule)
+        rule, text = self.gives(command, arguments, pair)
+        self.met[f"{command}: {rule or text.strip()}"] += 1
+        client.state = "answered"
+        return self.says(label, denial(rule), rule) if rule else self.says(label, answer(200, "OK", text), "done")
 
     def head(self, client):
         shown = self.mount(client.mount).shown

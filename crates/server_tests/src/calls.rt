@@ -6,7 +6,7 @@ use radio_blocks::Block;
 use radio_book::OutOfMemory;
 use radio_core::Core;
 use radio_creds::basic;
-use radio_events::{Event, ListenRequest, Reply, SourceRequest};
+use radio_events::{Asked, CommandRequest, Event, ListenRequest, Reply, SourceRequest};
 use radio_icy::Title;
 use radio_settings::Shown;
 use std::alloc::Global;
@@ -23,6 +23,9 @@ pub const DATA: &[u8] = b"abcd";
 
 /// What its sources send: the user `source` and that password.
 const SOURCE_PAIR: &[u8] = b"Basic c291cmNlOmhhY2ttZQ==";
+
+/// What the admin sends: the user `admin` and that password.
+const ADMIN_PAIR: &[u8] = b"Basic YWRtaW46bGV0bWVpbg==";
 
 /// What he does once his source and his listener have arrived.
 #[derive(Clone, Copy)]
@@ -192,6 +195,12 @@ pub fn listen_event(alloc: Global, id: u64, path: &str) -> Result<Event, OutOfMe
         pair: None,
         wants_metadata: false,
     }))
+}
+
+/// This client gives a command, as the admin.
+pub fn command_event(alloc: Global, id: u64, asked: Asked) -> Result<Event, OutOfMemory> {
+    let pair = basic(alloc, ADMIN_PAIR)?;
+    Ok(Event::Command(CommandRequest { id, asked, pair }))
 }
 
 /// This client delivers these data. Of no data there is no block: a stray event stands in its place.

@@ -69,6 +69,11 @@ const EACH_REPLY: &[(Call, &str)] = &[
     (Call::SourceEnd(1), "noted"),
     (Call::Draw(2, 3), "finished not-live"),
     (Call::Leave(4), "stray"),
+    (Call::Arrive, "arrived 4"),
+    (Call::Source(4, "/a"), "feeding"),
+    (Call::Arrive, "arrived 5"),
+    (Call::KillSource(5, "/a"), "done\n"),
+    (Call::SourceEnd(4), "finished source-killed"),
 ];
 
 /// A record of an event, its client and its caller each have its reply.
@@ -135,6 +140,34 @@ const DENIALS: &[(Call, &str)] = &[
 #[test]
 fn denials(rt: HostRuntime) -> Result<(), SettingsFault> {
     assert!(rt; three_clients(rt.alloc(), DENIALS)?);
+    Ok(())
+}
+
+/// A command is given once, by a client who has asked for nothing; who is finished by it is told so.
+const COMMANDS: &[(Call, &str)] = &[
+    (Call::KillClient(1, "/a", 2), "stray"),
+    (Call::KillClient(2, "/a", 2), "stray"),
+    (Call::KillClient(4, "/a", 2), "stray"),
+    (Call::Draw(2, 2), "drawn ab"),
+    (Call::KillClient(3, "/a", 1), "deny no-client"),
+    (Call::KillClient(3, "/a", 2), "stray"),
+    (Call::Arrive, "arrived 4"),
+    (Call::KillClient(4, "/a", 2), "done\n"),
+    (Call::KillClient(4, "/a", 2), "stray"),
+    (Call::Draw(2, 2), "finished killed"),
+    (Call::KillClient(2, "/a", 2), "finished killed"),
+    (Call::Arrive, "arrived 5"),
+    (Call::KillSource(5, "a"), "deny missing-argument"),
+    (Call::Arrive, "arrived 6"),
+    (Call::KillSource(6, "/a"), "done\n"),
+    (Call::Push(1, "xy"), "finished source-killed"),
+    (Call::Leave(1), "noted"),
+    (Call::Leave(6), "noted"),
+];
+
+#[test]
+fn commands_of_clients(rt: HostRuntime) -> Result<(), SettingsFault> {
+    assert!(rt; three_clients(rt.alloc(), COMMANDS)?);
     Ok(())
 }
 

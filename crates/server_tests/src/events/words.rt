@@ -1,11 +1,11 @@
 //! Events in tables, and replies in words.
 
-use crate::calls::{arrival, listen_event, push_event, source_event};
+use crate::calls::{arrival, command_event, listen_event, push_event, source_event};
 use radio_access::Lists;
 use radio_blocks::Pieces;
 use radio_core::{Core, OutOfMemory};
-use radio_events::{Event, Reply};
-use radio_settings::{Settings, SettingsFault, Shown};
+use radio_events::{Asked, Command, Event, OpenedBy, Reply};
+use radio_settings::{MountName, Settings, SettingsFault, Shown};
 use std::alloc::Global;
 
 /// The settings of a station.
@@ -22,6 +22,10 @@ pub enum Call {
     SourceEnd(u64),
     Listen(u64, &'static str),
     Draw(u64, u32),
+    /// The admin's command that finishes the listener of that number at the mount.
+    KillClient(u64, &'static str, u64),
+    /// The admin's command that ends the mount's session.
+    KillSource(u64, &'static str),
     Leave(u64),
 }
 
@@ -37,8 +41,26 @@ impl Call {
                 id: *id,
                 room: *room,
             }),
+            Call::KillClient(id, path, listener) => {
+                command_event(alloc, *id, kill_client(path, *listener))
+            }
+            Call::KillSource(id, path) => command_event(alloc, *id, kill_source(path)),
             Call::Leave(id) => Ok(Event::Leave { id: *id }),
         }
+    }
+}
+
+fn kill_client(path: &str, listener: u64) -> Asked {
+    match MountName::read(path.as_bytes()) {
+        Some(mount) => Asked::Command(Command::KillClient { mount, listener }),
+        None => Asked::MissingArgument(OpenedBy::Admin),
+    }
+}
+
+fn kill_source(path: &str) -> Asked {
+    match MountName::read(path.as_bytes()) {
+        Some(mount) => Asked::Command(Command::KillSource { mount }),
+        None => Asked::MissingArgument(OpenedBy::Admin),
     }
 }
 
@@ -152,6 +174,7 @@ fn told(alloc: Global, reply: &Reply) -> Result<String, OutOfMemory> {
         Reply::Seated { shown, .. } => told_shown(alloc, shown),
         Reply::Drawn { pieces, .. } => told_drawn(alloc, pieces),
         Reply::Noted => "noted".to_string(alloc),
+        Reply::Text(text) => text.to_string(alloc),
         Reply::Deny(rule) => format!(in alloc; "deny {rule}"),
         Reply::Finished(rule) => format!(in alloc; "finished {rule}"),
         Reply::Stray => "stray".to_string(alloc),
