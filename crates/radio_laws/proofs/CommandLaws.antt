@@ -172,7 +172,7 @@ module _ (w : World) (s : IsSound w) (event : Event) where
     unfolding world_after
     later_so = ap (λ (o : Outcome). changed w o.change) comes_of
 
-    told_so : reply_to w event ≡ SaysText (said_of command (counts_by w command))
+    pub told_so : reply_to w event ≡ SaysText (said_of command (counts_by w command))
     unfolding reply_to
     told_so = ap (λ (o : Outcome). o.reply) comes_of
 

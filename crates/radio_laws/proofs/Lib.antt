@@ -1,6 +1,7 @@
 mod AccessLemmas
 mod CommandLaws
 mod CommandRows
+mod CommandService
 mod DenialLemmas
 mod GoneLemmas
 mod InTime

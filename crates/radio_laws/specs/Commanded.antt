@@ -2,6 +2,7 @@
 use Rattle.std.specs.Prelude.{◌≡◌, ◌↔◌, ℕ, ◌+◌, false, List, [], Option, Some, None}
 use Rattle.std.specs.Str.{bytes_eq}
 use Rattle.radio_policy.specs.declared.rule.Rule.TheVariants.{Killed, SourceKilled}
+use Rattle.radio_addr.specs.declared.peer.Peer.{Peer}
 use Rattle.radio_creds.specs.Credentials.{Credentials}
 use Rattle.radio_settings.specs.Options.{options_for}
 use Rattle.radio_seats.specs.declared.seat.Seat.{Seat}
@@ -15,7 +16,7 @@ use Rattle.radio_events.specs.declared.event.Event.TheVariants.{Command}
 use Rattle.radio_events.specs.declared.reply.Reply.TheVariants.{Text as SaysText}
 use Rattle.radio_events.specs.declared.text.Text.{Text}
 use Rattle.radio_events.specs.declared.text.Text.TheVariants.{Done, Moved}
-use Rattle.radio_core.specs.declared.standing.Standing.TheVariants.{Answered, Finished}
+use Rattle.radio_core.specs.declared.standing.Standing.TheVariants.{Undecided, Answered, Finished}
 use Rattle.radio_core.specs.CommandFacts.{IsCommanded}
 use Rattle.radio_core.specs.Fallbacks.{set_for}
 use Rattle.radio_core.specs.Handing.{handed}
@@ -39,6 +40,24 @@ pub data MayGive (w : World) (pair : Credentials) : TheCommand → Type 0 where
   AsTheAdmin : (command : TheCommand) → IsTheAdmins w pair → MayGive w pair command
   ItsTitle : (mount text : List ℕ) → IsTheSources w mount pair → MayGive w pair (SetTitle mount text)
   ItsFallback : (mount : List ℕ) (fallback : Option (List ℕ)) → IsTheSources w mount pair → MayGive w pair (SetFallback mount fallback)
+
+-- the mount has a live source
+abbrev pub IsLive : World → List ℕ → Type 0
+IsLive w mount = (session : Session) × (session_of w.house.live mount ≡ Some session)
+
+-- what a command needs is there: a live mount; to move its listeners, another one; to finish a listener, that he sits there
+abbrev pub IsThere : World → TheCommand → Type 0
+IsThere w (MoveClients mount destination) = IsLive w mount × IsLive w destination × (mount ≡ destination → ⊥)
+IsThere w (KillClient mount listener) = IsLive w mount × (seat : Seat) × (seat_of w.seats listener ≡ Some seat) × (seat.mount ≡ mount)
+IsThere w (KillSource mount) = IsLive w mount
+IsThere w (SetTitle mount text) = IsLive w mount
+IsThere w (SetFallback mount fallback) = IsLive w mount
+
+-- one who has asked for nothing yet, and may give the command, is told that it was done where what it needs is there
+abbrev pub WhoMayIsServed : World → Type 0
+WhoMayIsServed w = (asked : CommandRequest) (peer : Peer) (command : TheCommand) (pair : Credentials) → standing_of w asked.id ≡ Undecided peer
+    → asked.asked ≡ Asks command → asked.pair ≡ Some pair → MayGive w pair command → IsThere w command
+    → (text : Text) × (reply_to w (Command asked) ≡ SaysText text)
 
 -- a command was given by one who may
 pub record IsGivenByRight (w : World) (event : Event) : Type 0 where

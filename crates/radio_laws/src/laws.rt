@@ -18,7 +18,7 @@ ghost use Rattle.radio_laws.specs.Admission.{BeginsAtABlock};
 ghost use Rattle.radio_laws.specs.Service.{Serves, ChangesNothing};
 ghost use Rattle.radio_laws.specs.Stretches.{StretchesAreWhole, SeatsKeepTheirMounts};
 ghost use Rattle.radio_laws.specs.WalkingOn.{ListenersWalkOn, MovesAreWhole};
-ghost use Rattle.radio_laws.specs.Commanded.{OnlyWhoMayCommands, CommandsAreKept, KilledHearNothing};
+ghost use Rattle.radio_laws.specs.Commanded.{OnlyWhoMayCommands, WhoMayIsServed, CommandsAreKept, KilledHearNothing};
 ghost use Rattle.radio_laws.specs.TitlesTold.{TitlesAreTold};
 ghost use Rattle.radio_core.specs.Timeouts.{TestsAreInNumbers};
 ghost use Rattle.radio_laws.specs.Outstaying.{NobodyOutstays};
@@ -114,6 +114,8 @@ pub fn commands_are_done()
     // whatever has happened, that a command was done is told only to one who sent the user and the
     // password of the admin, or, for a title and a fallback, those of the mount's source
     ensures may { (settings : Settings) (lists : Lists) (events : List Event) (event : Event) → OnlyWhoMayCommands (run_after settings lists events) event }
+    // and whoever may give one is told that it was done, where what it needs is there
+    ensures served { (settings : Settings) (lists : Lists) (events : List Event) → WhoMayIsServed (run_after settings lists events) }
     // and one that the policy allows is done, as many are moved as its text tells, the client has had
     // his answer, and nothing changes beyond the mount that it names
     ensures kept { (settings : Settings) (lists : Lists) (events : List Event) (event : Event) → CommandsAreKept (run_after settings lists events) event }
