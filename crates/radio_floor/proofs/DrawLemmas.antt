@@ -5,7 +5,7 @@ use Rattle.radio_settings.specs.declared.settings.Settings.{Settings}
 use Rattle.radio_access.specs.Lists.{Lists}
 use Rattle.radio_events.specs.declared.event.Event.{Event}
 use Rattle.radio_events.specs.declared.reply.Reply.{Reply}
-use Rattle.radio_events.specs.declared.reply.Reply.TheVariants.{Arrived, Feeding, Seated, Drawn, Noted, Deny, Finished, Stray}
+use Rattle.radio_events.specs.declared.reply.Reply.TheVariants.{Arrived, Feeding, Seated, Drawn, Noted, Text, Deny, Finished, Stray}
 use Rattle.radio_core.specs.Handing.{data_in, is_number, of_client, handed, delivered}
 use Rattle.radio_core.specs.Step.{reply_to, world_after}
 use Rattle.radio_laws.specs.Stretches.{sittings, AreStretches, StretchesAreWhole}
@@ -23,6 +23,7 @@ data_drawn (Arrived id) = refl
 data_drawn Feeding = refl
 data_drawn (Seated interval shown) = refl
 data_drawn Noted = refl
+data_drawn (Text text) = refl
 data_drawn (Deny rule) = refl
 data_drawn (Finished rule) = refl
 data_drawn Stray = refl

@@ -25,7 +25,7 @@ use Rattle.radio_session.specs.declared.state.State.TheVariants.{Running, Shut}
 use Rattle.radio_session.specs.Conversation.{Conversation}
 use Rattle.radio_session.specs.Exchanges.{WorldExchange, is_leave, exchanged, then_exchanged}
 use Rattle.radio_session.specs.Framing.{is_source, framing_of}
-use Rattle.radio_session.specs.Hearing.{Heard, HearsAs, delivered, greeted, head_heard, listener_heard, nothing_held}
+use Rattle.radio_session.specs.Hearing.{Heard, HearsAs, delivered, greeted, head_heard, get_heard, nothing_held}
 use Rattle.radio_session.specs.Hearing.{refuses, source_heard}
 use Rattle.radio_session.specs.Saying.{Said, said}
 use Rattle.radio_script.specs.declared.delivery.Delivery.{Delivery}
@@ -52,7 +52,7 @@ module _ (conversation : Conversation) where
 
   of_request : (request : RequestParts) (behind : List ℕ) (feeds hears : Bool)
       → (cond feeds (source_heard conversation request behind (framing_of request))
-      (cond hears (listener_heard conversation request) (refuses conversation BadMethod))).conversation.id ≡ conversation.id
+      (cond hears (get_heard conversation request) (refuses conversation BadMethod))).conversation.id ≡ conversation.id
   of_request request behind true hears = of_source request behind
   of_request request behind false true = refl
   of_request request behind false false = refl

@@ -8,9 +8,9 @@ use Rattle.radio_session.specs.declared.state.State.{State}
 use Rattle.radio_session.specs.Conversation.{Conversation, ending_word}
 use Rattle.radio_session.specs.Saying.{said}
 use Rattle.radio_session.specs.Exchanges.{WorldExchange, then_exchanged, exchanged}
-use Rattle.radio_session.specs.LastWords.{EndsWith, DenialsNameTheirRule, FinishesAreSilent}
+use Rattle.radio_session.specs.LastWords.{EndsWith, DenialsNameTheirRule, CommandsAreAnswered, FinishesAreSilent}
 use Rattle.radio_floor.specs.ScriptState.{ScriptState, told_lines}
-use Rattle.radio_floor.specs.LastWords.{ShutsWith, DenialsAreTold, FinishesAreTold}
+use Rattle.radio_floor.specs.LastWords.{ShutsWith, DenialsAreTold, CommandsAreTold, FinishesAreTold}
 
 abbrev lines_of : ℕ → WorldExchange → List ℕ
 lines_of label x = told_lines label x.exchange.bytes x.exchange.state
@@ -30,6 +30,10 @@ shuts_with state label conversation event reply bytes word replied ends events =
 pub denials_are_told : DenialsNameTheirRule → DenialsAreTold
 denials_are_told law state label conversation event rule status asks replied known =
     shuts_with state label conversation event _ _ _ replied (law conversation.says rule status asks known)
+
+pub commands_are_told : CommandsAreAnswered → CommandsAreTold
+commands_are_told law state label conversation event text asks replied =
+    shuts_with state label conversation event _ _ _ replied (law conversation.says text asks)
 
 pub finishes_are_told : FinishesAreSilent → FinishesAreTold
 finishes_are_told law state label conversation event rule replied =

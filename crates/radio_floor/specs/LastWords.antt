@@ -5,10 +5,12 @@ use Rattle.radio_policy.specs.declared.rule.Status.{Status}
 use Rattle.radio_policy.specs.Words.{word_of, status_of}
 use Rattle.radio_heads.specs.Answer.{denial_text}
 use Rattle.radio_events.specs.declared.event.Event.{Event}
-use Rattle.radio_events.specs.declared.reply.Reply.TheVariants.{Deny, Finished}
+use Rattle.radio_events.specs.declared.reply.Reply.TheVariants.{Text, Deny, Finished}
+use Rattle.radio_events.specs.declared.text.Text.{Text as CommandText}
 use Rattle.radio_core.specs.Step.{reply_to}
 use Rattle.radio_script.specs.TranscriptLines.{answer_lines}
 use Rattle.radio_session.specs.Conversation.{Conversation}
+use Rattle.radio_session.specs.Saying.{text_answer}
 use Rattle.radio_session.specs.LastWords.{IsAsking}
 use Rattle.radio_floor.specs.ScriptState.{ScriptState, exchanges, closes}
 
@@ -22,6 +24,11 @@ abbrev pub DenialsAreTold : Type 0
 DenialsAreTold = (state : ScriptState) (label : ℕ) (conversation : Conversation) (event : Event) (rule : Rule) (status : Status)
     → IsAsking conversation.says → reply_to state.world event ≡ Deny rule → status_of rule ≡ Some status
     → ShutsWith state label conversation event (denial_text status (word_of rule)) (word_of rule)
+
+-- a command was done: the lines show the answer that says so, and that the connection is done
+abbrev pub CommandsAreTold : Type 0
+CommandsAreTold = (state : ScriptState) (label : ℕ) (conversation : Conversation) (event : Event) (text : CommandText)
+    → IsAsking conversation.says → reply_to state.world event ≡ Text text → ShutsWith state label conversation event (text_answer text) (codes "done")
 
 -- the client was finished by a rule: the line shows its word
 abbrev pub FinishesAreTold : Type 0

@@ -6,7 +6,7 @@ ghost use Rattle.radio_access.specs.Lists.{Lists};
 ghost use Rattle.radio_events.specs.declared.event.Event.{Event};
 ghost use Rattle.radio_script.specs.Laws.{GoesOnAsItBegan, HasOneTranscript, IsDetermined};
 ghost use Rattle.radio_floor.specs.Transcript.{conduct};
-ghost use Rattle.radio_floor.specs.LastWords.{DenialsAreTold, FinishesAreTold, ClosedOnesAreDone};
+ghost use Rattle.radio_floor.specs.LastWords.{DenialsAreTold, CommandsAreTold, FinishesAreTold, ClosedOnesAreDone};
 ghost use Rattle.radio_floor.specs.ScriptEvents.{ScriptsComeToEvents};
 ghost use Rattle.radio_floor.specs.HearsSlices.{DrawsAreStretches};
 
@@ -24,9 +24,11 @@ pub fn the_transcript_is_one()
 }
 
 /// A connection that is shut shows the word of the rule by which it is, or `done` where its peer has
-/// closed it; and a denial of what it asked shows the answer that names the rule.
+/// closed it or its command was done; a denial of what it asked shows the answer that names the rule,
+/// and a command that was done the answer that says so.
 pub fn last_words_are_told()
     ensures denied { DenialsAreTold }
+    ensures command { CommandsAreTold }
     ensures finished { FinishesAreTold }
     ensures done { ClosedOnesAreDone }
 {

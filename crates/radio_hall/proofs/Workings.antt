@@ -1,5 +1,5 @@
 -- What a connection does to which nothing is owed.
-use Rattle.std.proofs.Common.{◌≡◌, inl, inr, ◌≤◌, ◌-◌, arith, ℕ, Bool, true, false, List, ap}
+use Rattle.std.proofs.Common.{◌≡◌, inl, inr, ◌≤◌, ◌-◌, arith, ℕ, Bool, List, ap}
 use Rattle.std.proofs.Common.{[], ◌++◌, refl, sym, subst, ◌∙◌}
 use Rattle.radio_book.specs.declared.entry.Entry.{Entry}
 use Rattle.radio_session.specs.Exchanges.{Steps}

@@ -1,4 +1,4 @@
-use Rattle.std.proofs.Common.{◌-◌, nat_le, true, false, refl, sym, ◌∙◌, ap}
+use Rattle.std.proofs.Common.{◌-◌, nat_le, refl, sym, ◌∙◌, ap}
 use Rattle.std.proofs.lemmas.Bool.{false≢true}
 use Rattle.radio_hall.specs.Connections.{Connection}
 use Rattle.radio_hall.specs.Duties.{room_for}
