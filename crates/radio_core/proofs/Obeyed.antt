@@ -16,7 +16,7 @@ use Rattle.radio_seats.specs.declared.seat.Listener.{Listener}
 use Rattle.radio_seats.specs.declared.seat.Seat.{Seat}
 use Rattle.radio_seats.specs.declared.seat.Seating.{Seating}
 use Rattle.radio_seats.specs.declared.seat.Seating.TheVariants.{Sits as HasSeat, Finished as HasLostIt}
-use Rattle.radio_seats.specs.Seats.{is_listener, listener_of, seat_of, seat_in, seat_held, loses, lost_by}
+use Rattle.radio_seats.specs.Seats.{is_listener, listener_of, seat_of, seat_in, seat_held, loses, lost_by, AreByNumber}
 use Rattle.radio_fallback.specs.declared.moves.Move.TheVariants.{Ended as SessionEnds, To}
 use Rattle.radio_fallback.specs.Carry.{at_his_turn}
 use Rattle.radio_fallback.proofs.Faring.{goes_there, never_out_there}
@@ -97,6 +97,31 @@ module _ (w : World) (s : IsSound w) (event : Event) where
     sound_heard : IsSound heard
     sound_heard = sound_answered w s c.asked.id c.peer c.undecided
 
+    -- where only the listeners' seats change
+    module _ (seats : List Listener) where
+      abbrev other_seats : World
+      other_seats = record heard { seats = seats }
+
+      with_seats : AreByNumber seats → ((id : ℕ) → Fate (Cause w other_seats event) (Takes w event) Nobody (LeavesFor w event) heard other_seats id)
+          → IsObeyed w event c.asked.id other_seats
+      with_seats order fate = record {
+        base = heard;
+        stands = λ id. refl;
+        seats = λ id. refl;
+        lists = refl;
+        sound = sound_heard;
+        fates = record {
+          last = refl;
+          lists = refl;
+          settings = refl;
+          live = λ m session e. e;
+          apart = s.apart;
+          by_number = order;
+          late = λ id client seconds ms e late. e;
+          fate = fate;
+        };
+      }
+
     -- the pair that was sent opens the command
     pub is_opened : opens w.house.settings (opened_by command) c.asked.pair ≡ true
     is_opened =
@@ -140,23 +165,7 @@ module _ (w : World) (s : IsSound w) (event : Event) where
         (λ session turn. (To mount destination, w, ByMoving event mount destination c, turn))
 
     obeyed_move : IsObeyed w event c.asked.id moved_world
-    obeyed_move = record {
-      base = heard c;
-      stands = λ id. refl;
-      seats = λ id. refl;
-      lists = refl;
-      sound = sound_heard c;
-      fates = record {
-        last = refl;
-        lists = refl;
-        settings = refl;
-        live = λ m session e. e;
-        apart = s.apart;
-        by_number = order_carried (heard c) (To mount destination) s.by_number;
-        late = λ id client seconds ms e late. e;
-        fate = moved_fate;
-      };
-    }
+    obeyed_move = with_seats c moved_world.seats (order_carried (heard c) (To mount destination) s.by_number) moved_fate
 
   -- a listener is finished
   module _ (mount : List ℕ) (listener : ℕ) (c : IsCommanded w event (KillClient mount listener)) where
@@ -218,23 +227,7 @@ module _ (w : World) (s : IsSound w) (event : Event) where
         (λ apart. GoesOn (ap (λ l. standing_in l (client_of (heard c).house.clients id)) (beside_him id apart)) (ap seat_in (beside_him id apart)) (λ m e. refl) (λ seat e. refl))
 
     obeyed_kill : IsObeyed w event c.asked.id killed_world
-    obeyed_kill = record {
-      base = heard c;
-      stands = λ id. refl;
-      seats = λ id. refl;
-      lists = refl;
-      sound = sound_heard c;
-      fates = record {
-        last = refl;
-        lists = refl;
-        settings = refl;
-        live = λ m session e. e;
-        apart = s.apart;
-        by_number = order_lost w.seats s.by_number listener Killed;
-        late = λ id client seconds ms e late. e;
-        fate = killed_fate;
-      };
-    }
+    obeyed_kill = with_seats c killed_world.seats (order_lost w.seats s.by_number listener Killed) killed_fate
 
   -- a session is ended, and its source is finished
   module _ (mount : List ℕ) (c : IsCommanded w event (KillSource mount)) where

@@ -24,7 +24,10 @@ pub record World : Type 0 where
 
 -- nothing has happened yet
 abbrev pub opening : Settings → Lists → World
-opening settings lists = record { house = record { time = 0; settings = settings; lists = lists; live = []; fallbacks = []; clients = []; last_id = 0 }; seats = [] }
+opening settings lists = record {
+  house = record { time = 0; settings = settings; lists = lists; live = []; fallbacks = []; clients = []; last_id = 0 };
+  seats = [];
+}
 
 -- one who was admitted as a listener sits, or has finished by a rule
 abbrev pub standing_seated : Seating → Standing

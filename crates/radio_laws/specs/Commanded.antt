@@ -120,4 +120,5 @@ CommandsAreKept w event = (command : TheCommand) (c : IsCommanded w event comman
 
 -- whom a command has finished is handed nothing from then on, whatever happens
 abbrev pub KilledHearNothing : World → Event → Type 0
-KilledHearNothing w event = (mount : List ℕ) (id : ℕ) → IsCommanded w event (KillClient mount id) → (more : List Event) → handed (world_after w event) more id ≡ []
+KilledHearNothing w event = (mount : List ℕ) (id : ℕ) → IsCommanded w event (KillClient mount id) → (more : List Event)
+    → handed (world_after w event) more id ≡ []
