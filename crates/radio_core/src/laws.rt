@@ -17,8 +17,9 @@ ghost use Rattle.radio_core.specs.CoreReplies.{CoresGoByTheirStates};
 /// The law of sessions.
 pub fn sessions_are_their_sources()
     // whatever has happened, the session of a mount stays as it is but where its source delivers a
-    // block, sets a title or ends it; it begins for a source that asked for the mount, shows what
-    // the settings and that source say, and ends only with its source, or when that was silent
+    // block, sets a title or ends it, or a command sets its title or ends it; it begins for a source
+    // that asked for the mount, shows what the settings and that source say, and ends only with its
+    // source, when that was silent, or by a command
     ensures steps { (settings : Settings) (lists : Lists) (events : List Event) (event : Event) → SessionsStep (run_after settings lists events) event }
     // and no event changes the settings, or the lists of who is let in
     ensures settings { (settings : Settings) (lists : Lists) (events : List Event) (event : Event) → KeepsSettings (run_after settings lists events) event }
@@ -27,14 +28,15 @@ pub fn sessions_are_their_sources()
 /// The law of seats.
 pub fn seats_are_their_listeners()
     // whatever has happened, a seat stays as it is, is handed what stands at its place where its listener draws, is given to
-    // one who asks for a live mount and whom the policy allows it, or is lost by leaving or by a rule that holds then
+    // one who asks for a live mount and whom the policy allows it, goes where a move takes it, or is lost by leaving or by a
+    // rule that holds then
     ensures steps { (settings : Settings) (lists : Lists) (events : List Event) (event : Event) → SeatsStep (run_after settings lists events) event }
 {}
 
 /// The law of clients.
 pub fn clients_stand_by_their_events()
     // whatever has happened, a client stands as before but where he arrives, is denied what he asks for, begins to feed or to
-    // hear as the policy allows, comes to the end of his data, leaves, or is finished by a rule that holds then
+    // hear or gives a command as the policy allows, comes to the end of his data, leaves, or is finished by a rule that holds then
     ensures steps { (settings : Settings) (lists : Lists) (events : List Event) (event : Event) → ClientsStep (run_after settings lists events) event }
     // and he keeps the address from which he came, and the moment
     ensures arrivals { (settings : Settings) (lists : Lists) (events : List Event) (event : Event) → ArrivalsStay (run_after settings lists events) event }

@@ -3,6 +3,7 @@ mod CommandLaws
 mod CommandRows
 mod CommandService
 mod DenialLemmas
+mod FallbackLemmas
 mod GoneLemmas
 mod InTime
 mod KilledLemmas

@@ -51,7 +51,7 @@ use Rattle.radio_laws.proofs.InTime.{in_time}
 use Rattle.radio_laws.proofs.WalkLemmas.{falls_nowhere}
 
 -- the end of sessions leaves the fallbacks as they were set
-silence_sets : (sessions : List Session) (v : World) → (fold session_silenced v sessions).house.fallbacks ≡ v.house.fallbacks
+pub silence_sets : (sessions : List Session) (v : World) → (fold session_silenced v sessions).house.fallbacks ≡ v.house.fallbacks
 silence_sets [] v = refl
 silence_sets (session ∷ sessions) v = silence_sets sessions (session_silenced v session)
 

@@ -1,5 +1,5 @@
 -- Who may give a command, what it does, and what it leaves as it is.
-use Rattle.std.specs.Prelude.{◌≡◌, ◌↔◌, ℕ, ◌+◌, false, List, [], Option, Some, None}
+use Rattle.std.specs.Prelude.{◌≡◌, ◌⊎◌, ◌↔◌, ℕ, ◌+◌, false, List, [], Option, Some, None}
 use Rattle.std.specs.Str.{bytes_eq}
 use Rattle.radio_policy.specs.declared.rule.Rule.TheVariants.{Killed, SourceKilled}
 use Rattle.radio_addr.specs.declared.peer.Peer.{Peer}
@@ -122,3 +122,8 @@ CommandsAreKept w event = (command : TheCommand) (c : IsCommanded w event comman
 abbrev pub KilledHearNothing : World → Event → Type 0
 KilledHearNothing w event = (mount : List ℕ) (id : ℕ) → IsCommanded w event (KillClient mount id) → (more : List Event)
     → handed (world_after w event) more id ≡ []
+
+-- what was set for a mount stays set, whatever happens, until a command sets another fallback for it
+abbrev pub FallbacksStay : World → Event → Type 0
+FallbacksStay w event = (mount : List ℕ) → (set_for (world_after w event).house.fallbacks mount ≡ set_for w.house.fallbacks mount)
+    ⊎ ((fallback : Option (List ℕ)) × IsCommanded w event (SetFallback mount fallback))

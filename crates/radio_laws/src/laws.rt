@@ -18,7 +18,7 @@ ghost use Rattle.radio_laws.specs.Admission.{BeginsAtABlock};
 ghost use Rattle.radio_laws.specs.Service.{Serves, ChangesNothing};
 ghost use Rattle.radio_laws.specs.Stretches.{StretchesAreWhole, SeatsKeepTheirMounts};
 ghost use Rattle.radio_laws.specs.WalkingOn.{ListenersWalkOn, MovesAreWhole};
-ghost use Rattle.radio_laws.specs.Commanded.{OnlyWhoMayCommands, WhoMayIsServed, CommandsAreKept, KilledHearNothing};
+ghost use Rattle.radio_laws.specs.Commanded.{OnlyWhoMayCommands, WhoMayIsServed, CommandsAreKept, FallbacksStay, KilledHearNothing};
 ghost use Rattle.radio_laws.specs.TitlesTold.{TitlesAreTold};
 ghost use Rattle.radio_core.specs.Timeouts.{TestsAreInNumbers};
 ghost use Rattle.radio_laws.specs.Outstaying.{NobodyOutstays};
@@ -119,6 +119,8 @@ pub fn commands_are_done()
     // and one that the policy allows is done, as many are moved as its text tells, the client has had
     // his answer, and nothing changes beyond the mount that it names
     ensures kept { (settings : Settings) (lists : Lists) (events : List Event) (event : Event) → CommandsAreKept (run_after settings lists events) event }
+    // and a fallback that was set for a mount stays, whatever happens, until a command sets another for it
+    ensures fallbacks { (settings : Settings) (lists : Lists) (events : List Event) (event : Event) → FallbacksStay (run_after settings lists events) event }
     // and whom a command has finished is handed nothing from then on, whatever happens
     ensures silent { (settings : Settings) (lists : Lists) (events : List Event) (event : Event)
         → KilledHearNothing (run_after settings lists events) event }

@@ -2,6 +2,7 @@ use Rattle.radio_core.specs.Run.{run_after}
 use Rattle.radio_core.proofs.SoundRuns.{sound_run}
 use Rattle.radio_laws.proofs.CommandLaws.{only_who_may, commands_are_kept, killed_hear_nothing}
 use Rattle.radio_laws.proofs.CommandService.{who_may_is_served}
+use Rattle.radio_laws.proofs.FallbackLemmas.{fallbacks_stay}
 use Rattle.radio_laws.proofs.laws.commands_are_done.Goals as goal
 
 pub returns-clause-may : goal.returns-clause-may
@@ -15,3 +16,6 @@ returns-clause-silent c settings lists events event = killed_hear_nothing (run_a
 
 pub returns-clause-served : goal.returns-clause-served
 returns-clause-served c settings lists events = who_may_is_served (run_after settings lists events) (sound_run settings lists events)
+
+pub returns-clause-fallbacks : goal.returns-clause-fallbacks
+returns-clause-fallbacks c settings lists events event = fallbacks_stay (run_after settings lists events) event
