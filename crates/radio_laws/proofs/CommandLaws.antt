@@ -1,12 +1,13 @@
 -- the law of commands
-use Rattle.std.proofs.Common.{◌≡◌, ◌↔◌, ◌⊎◌, inl, inr, Bool, true, false, ℕ, ◌≤◌, ◌<◌, Option, Some, None, List, refl, ap, sym, subst, ◌∙◌, arith}
-use Rattle.std.specs.Prelude.{nat_lt, ◌||◌}
+use Rattle.std.proofs.Common.{◌≡◌, ◌↔◌, ◌⊎◌, inl, inr, Bool, true, false, ℕ, ◌≤◌, ◌<◌, Option, Some, None, List, refl, ap, sym, subst, ◌∙◌, arith, is_some, [], ◌∷◌}
+use Rattle.std.specs.Prelude.{nat_lt, ◌||◌, not}
 use Rattle.std.specs.Str.{bytes_eq}
 use Rattle.std.proofs.lemmas.Bool.{and_parts}
 use Rattle.std.proofs.lemmas.Bool.Decides.{nat_tests}
 use Rattle.std.proofs.lemmas.Slice.Eq.{bytes_eq-Decides}
 use Rattle.radio_policy.specs.declared.judgement.Verdict.{Verdict}
 use Rattle.radio_policy.specs.declared.judgement.Verdict.TheVariants.{Allow}
+use Rattle.radio_policy.specs.Table.{row}
 use Rattle.radio_policy.specs.Verdicts.{verdict_in}
 use Rattle.radio_addr.specs.declared.peer.Peer.{Peer}
 use Rattle.radio_creds.specs.Credentials.{Credentials}
@@ -29,8 +30,8 @@ use Rattle.radio_core.specs.declared.standing.Standing.{Standing}
 use Rattle.radio_core.specs.declared.standing.Standing.TheVariants.{Unknown, Undecided, Sits, Answered, Finished}
 use Rattle.radio_core.specs.Changes.{answered, carried_along, changed, session_over}
 use Rattle.radio_core.specs.Command.{obeys, does_asked}
-use Rattle.radio_core.specs.CommandFacts.{IsCommanded, opened_by, opens_as_source, rows_to_command}
-use Rattle.radio_policy.specs.declared.rule.Rule.TheVariants.{Killed}
+use Rattle.radio_core.specs.CommandFacts.{IsCommanded, opened_by, opens_as_source, rows_to_command, is_live, sits_at}
+use Rattle.radio_policy.specs.declared.rule.Rule.TheVariants.{NoMount, NoDestination, SameMount, NoClient, Killed}
 use Rattle.radio_seats.specs.declared.seat.Seat.{Seat}
 use Rattle.radio_seats.specs.Seats.{seat_in, seat_of, count_at, AreByNumber}
 use Rattle.radio_tables.proofs.KeyLaws.{by_number}
@@ -52,12 +53,12 @@ use Rattle.radio_core.specs.Step.{outcome, reply_to, world_after}
 use Rattle.radio_core.specs.Ways.{Way, Misplaced, IsFinished, IsDenied, IsRefused, IsAdmitted, Begins, Receives, SetsTitle, TakesSeat, HandsOut, Ends}
 use Rattle.radio_core.specs.Ways.{EndsAndLeaves, Leaves, Obeys, HasPassed, Ticks}
 use Rattle.radio_core.specs.World.{World, standing_of}
-use Rattle.radio_core.proofs.Obeyed.{is_opened, is_another, his_seat, has_been_killed, sits_no_more, beside_him, live, is_cut, named, turned, title_live, is_answered}
+use Rattle.radio_core.proofs.Obeyed.{needs_hold, may_act, is_opened, is_another, his_seat, has_been_killed, sits_no_more, beside_him, live, is_cut, named, turned, title_live, is_answered}
 use Rattle.radio_core.proofs.SoundRuns.{sound_after}
 use Rattle.radio_core.proofs.Ways.{way_of}
 use Rattle.radio_laws.proofs.GoneLemmas.{last_rises}
 use Rattle.radio_laws.proofs.KilledLemmas.{IsOver, hears_no_more}
-use Rattle.radio_laws.specs.Commanded.{AsTheAdmin, ItsTitle, ItsFallback, IsGivenByRight, OnlyWhoMayCommands, IsSourceKilled, HasDone, mount_of, StaysBeside, CommandsAreKept, KilledHearNothing}
+use Rattle.radio_laws.specs.Commanded.{MayGive, IsLive, IsThere, AsTheAdmin, ItsTitle, ItsFallback, IsGivenByRight, OnlyWhoMayCommands, IsSourceKilled, HasDone, mount_of, StaysBeside, CommandsAreKept, KilledHearNothing}
 
 -- a login that was sent has its user and its password
 record HasLogin (login : Login) (sent : Option Credentials) : Type 0 where
@@ -83,52 +84,84 @@ source_sent : (settings : Settings) (mount : List ℕ) (sent : Option Credential
 source_sent settings mount None e = cc
 source_sent settings mount (Some pair) e = e
 
+-- where no row denies, the mount is live
+may_end : (live sits : Bool) → verdict_in (row NoMount (not live) ∷ row NoClient (not sits) ∷ []) ≡ Allow → live ≡ true
+may_end true sits e = refl
+may_end false sits e = cc
+
+may_go : (live there same : Bool) → verdict_in (row NoMount (not live) ∷ row NoDestination (not there) ∷ row SameMount same ∷ []) ≡ Allow
+    → (live ≡ true) × (there ≡ true)
+may_go true true same e = (refl, refl)
+may_go true false same e = cc
+may_go false there same e = cc
+
 one_of : (a b : Bool) → (a || b) ≡ true → (a ≡ true) ⊎ (b ≡ true)
 one_of true b e = inl refl
 one_of false b e = inr e
 
 module _ (w : World) (s : IsSound w) (event : Event) where
+  -- what it needs was there
+  is_found : (found : Option Session) → is_some found ≡ true → (session : Session) × (found ≡ Some session)
+  is_found None e = cc
+  is_found (Some session) e = (session, refl)
+
+  lives_by : (mount : List ℕ) → is_live w.house mount ≡ true → IsLive w mount
+  lives_by mount e = is_found (session_of w.house.live mount) e
+
+  was_there : (command : TheCommand) (c : IsCommanded w event command) → IsThere w command
+  was_there (MoveClients mount destination) c =
+      let both = may_go (is_live w.house mount) (is_live w.house destination) (bytes_eq mount destination) (needs_hold w s event c) in (
+        lives_by mount both.0,
+        lives_by destination both.1,
+        λ same.
+            let one : bytes_eq mount destination ≡ true = (bytes_eq-Decides mount destination).1 same in
+            let two : bytes_eq mount destination ≡ false = is_another w s event mount destination c in
+            cc,
+      )
+  was_there (KillClient mount listener) c =
+      let his = his_seat w s event mount listener c in
+      let live = lives_by mount (may_end (is_live w.house mount) (sits_at w.seats mount listener) (needs_hold w s event c)) in
+      (live, his.0, his.1, his.2)
+  was_there (KillSource mount) c = lives_by mount (may_act (is_live w.house mount) (needs_hold w s event c))
+  was_there (SetTitle mount text) c = lives_by mount (may_act (is_live w.house mount) (needs_hold w s event c))
+  was_there (SetFallback mount fallback) c = lives_by mount (may_act (is_live w.house mount) (needs_hold w s event c))
+
+  -- so who sent a login that may give it gave it by right
+  given : (command : TheCommand) (c : IsCommanded w event command) (login : Login) (has : HasLogin login c.asked.pair) → MayGive w has.pair command
+      → IsGivenByRight w event
+  given command c login has may = record {
+    asked = c.asked;
+    is_event = c.is_event;
+    command = command;
+    is_asked = c.is_asked;
+    pair = has.pair;
+    sent = has.is_sent;
+    may = may;
+    there = was_there command c;
+  }
+
+  its_sources : (mount : List ℕ) (sent : Option Credentials) → opens_as_source w.house.settings (Source (Some mount)) sent ≡ true
+      → HasLogin (options_for w.house.settings mount).source sent
+  its_sources mount sent e = login_sent (options_for w.house.settings mount).source sent (source_sent w.house.settings mount sent e)
+
   by_source : (command : TheCommand) (c : IsCommanded w event command) → opens_as_source w.house.settings (opened_by command) c.asked.pair ≡ true
       → IsGivenByRight w event
   by_source (MoveClients mount destination) c e = cc
   by_source (KillClient mount listener) c e = cc
   by_source (KillSource mount) c e = cc
   by_source (SetTitle mount text) c e =
-      let has = login_sent _ c.asked.pair (source_sent w.house.settings mount c.asked.pair e) in
-      record {
-        asked = c.asked;
-        is_event = c.is_event;
-        command = SetTitle mount text;
-        is_asked = c.is_asked;
-        pair = has.pair;
-        sent = has.is_sent;
-        may = ItsTitle mount text (record { user = has.user; password = has.password });
-      }
+      let has = its_sources mount c.asked.pair e in
+      given (SetTitle mount text) c (options_for w.house.settings mount).source has (ItsTitle mount text (record { user = has.user; password = has.password }))
   by_source (SetFallback mount fallback) c e =
-      let has = login_sent _ c.asked.pair (source_sent w.house.settings mount c.asked.pair e) in
-      record {
-        asked = c.asked;
-        is_event = c.is_event;
-        command = SetFallback mount fallback;
-        is_asked = c.is_asked;
-        pair = has.pair;
-        sent = has.is_sent;
-        may = ItsFallback mount fallback (record { user = has.user; password = has.password });
-      }
+      let has = its_sources mount c.asked.pair e in
+      given (SetFallback mount fallback) c (options_for w.house.settings mount).source has
+      (ItsFallback mount fallback (record { user = has.user; password = has.password }))
 
   by_right : (command : TheCommand) (c : IsCommanded w event command) → (is_admin_pair w.house.settings c.asked.pair ≡ true)
       ⊎ (opens_as_source w.house.settings (opened_by command) c.asked.pair ≡ true) → IsGivenByRight w event
   by_right command c (inl admin) =
       let has = login_sent w.house.settings.access.admin c.asked.pair admin in
-      record {
-        asked = c.asked;
-        is_event = c.is_event;
-        command = command;
-        is_asked = c.is_asked;
-        pair = has.pair;
-        sent = has.is_sent;
-        may = AsTheAdmin command (record { user = has.user; password = has.password });
-      }
+      given command c w.house.settings.access.admin has (AsTheAdmin command (record { user = has.user; password = has.password }))
   by_right command c (inr source) = by_source command c source
 
 given_by : (w : World) → IsSound w → (event : Event) (o : Outcome) → Way w event o → (text : Text) → o.reply ≡ SaysText text → IsGivenByRight w event

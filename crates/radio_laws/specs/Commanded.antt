@@ -59,7 +59,7 @@ WhoMayIsServed w = (asked : CommandRequest) (peer : Peer) (command : TheCommand)
     → asked.asked ≡ Asks command → asked.pair ≡ Some pair → MayGive w pair command → IsThere w command
     → (text : Text) × (reply_to w (Command asked) ≡ SaysText text)
 
--- a command was given by one who may
+-- a command was given by one who may, and what it needs was there
 pub record IsGivenByRight (w : World) (event : Event) : Type 0 where
   pub asked : CommandRequest
   pub is_event : event ≡ Command asked
@@ -68,8 +68,9 @@ pub record IsGivenByRight (w : World) (event : Event) : Type 0 where
   pub pair : Credentials
   pub sent : asked.pair ≡ Some pair
   pub may : MayGive w pair command
+  pub there : IsThere w command
 
--- that a command was done is told only to one who may give it
+-- that a command was done is told only to one who may give it, where what it needs was there
 abbrev pub OnlyWhoMayCommands : World → Event → Type 0
 OnlyWhoMayCommands w event = (text : Text) → reply_to w event ≡ SaysText text → IsGivenByRight w event
 

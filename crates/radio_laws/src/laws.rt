@@ -112,7 +112,8 @@ pub fn listeners_walk_on()
 /// The law of commands.
 pub fn commands_are_done()
     // whatever has happened, that a command was done is told only to one who sent the user and the
-    // password of the admin, or, for a title and a fallback, those of the mount's source
+    // password of the admin, or, for a title and a fallback, those of the mount's source, and only
+    // where what it needs was there
     ensures may { (settings : Settings) (lists : Lists) (events : List Event) (event : Event) → OnlyWhoMayCommands (run_after settings lists events) event }
     // and whoever may give one is told that it was done, where what it needs is there
     ensures served { (settings : Settings) (lists : Lists) (events : List Event) → WhoMayIsServed (run_after settings lists events) }
