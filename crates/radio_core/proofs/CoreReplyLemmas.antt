@@ -15,7 +15,7 @@ use Rattle.radio_core.specs.StandsFor.{HasRisingStarts}
 use Rattle.radio_core.specs.Step.{Represents}
 use Rattle.radio_core.specs.World.{World, standing_of}
 use Rattle.radio_core.proofs.KeptLists.{kept_found}
-use Rattle.radio_core.proofs.KeptStreams.{kept_end}
+use Rattle.radio_parts.proofs.KeptStreams.{kept_end}
 
 module _ (w : World) (rise : Each HasRisingStarts w.house.live) (bytes : List ℕ) where
   abbrev queue : ℕ

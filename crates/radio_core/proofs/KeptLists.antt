@@ -12,9 +12,9 @@ use Rattle.radio_core.specs.Kept.{kept_session, kept_live}
 use Rattle.radio_core.specs.KeptChanges.{longer_kept, kept_fed}
 use Rattle.radio_core.specs.Sessions.{Session, is_of, session_of, by_mount, with_session, longer, fed, with_title, titled, without_session}
 use Rattle.radio_core.specs.StandsFor.{HasRisingStarts}
-use Rattle.radio_core.specs.Stream.{end_of}
+use Rattle.radio_parts.specs.Stream.{end_of}
 use Rattle.radio_core.specs.Timeouts.{is_silent}
-use Rattle.radio_core.proofs.KeptStreams.{kept_end, kept_more}
+use Rattle.radio_parts.proofs.KeptStreams.{kept_end, kept_more}
 
 module _ (limit : ℕ) where
   -- sessions are found as before

@@ -54,7 +54,7 @@ use Rattle.radio_core.specs.Source.{begins}
 use Rattle.radio_core.specs.StandsFor.{HasRisingStarts, SeatsAreKept}
 use Rattle.radio_core.specs.Step.{outcome}
 use Rattle.radio_core.specs.World.{World, standing_of}
-use Rattle.radio_core.proofs.KeptStreams.{kept_data, kept_burst}
+use Rattle.radio_parts.proofs.KeptStreams.{kept_data, kept_burst}
 use Rattle.radio_core.proofs.KeptLists.{kept_found, kept_ends}
 use Rattle.radio_core.proofs.KeptSights.{has_session, same_sight}
 

@@ -41,7 +41,7 @@ use Rattle.radio_core.specs.Listen.{burst_of, first_seat}
 use Rattle.radio_core.specs.Sessions.{Session, is_of, session_of, opened, longer, with_title}
 use Rattle.radio_core.specs.Source.{shown_for}
 use Rattle.radio_core.specs.Step.{outcome}
-use Rattle.radio_core.specs.Stream.{WholeStream, no_data, end_of, with_block, burst_start, data_at}
+use Rattle.radio_parts.specs.Stream.{WholeStream, no_data, end_of, with_block, burst_start, data_at}
 use Rattle.radio_core.specs.Timeouts.{lags_behind, has_sat_out}
 use Rattle.radio_core.specs.Ways.{Way, Misplaced, IsFinished, IsDenied, IsRefused, IsAdmitted, Begins, Receives, SetsTitle, TakesSeat, HandsOut, Ends}
 use Rattle.radio_core.specs.Ways.{EndsAndLeaves, Leaves, Obeys, HasPassed, Ticks}

@@ -21,14 +21,14 @@ use Rattle.radio_core.specs.Kept.{kept_session, kept_live, kept_of}
 use Rattle.radio_core.specs.KeptChanges.{kept_changed}
 use Rattle.radio_core.specs.Sessions.{Session, session_of, is_of, by_mount, opened, longer, fed, with_title}
 use Rattle.radio_core.specs.StandsFor.{HasRisingStarts}
-use Rattle.radio_core.specs.Stream.{end_of, with_block}
+use Rattle.radio_parts.specs.Stream.{end_of, with_block}
 use Rattle.radio_core.specs.Timeouts.{lags_behind}
 use Rattle.radio_core.specs.World.{World}
 use Rattle.radio_settings.specs.declared.field.Shown.{Shown}
 use Rattle.radio_fallback.specs.declared.moves.Move.TheVariants.{Ended as HasEnded, To}
 use Rattle.radio_core.proofs.CalledHome.{house_called}
 use Rattle.radio_core.proofs.KeptSights.{carried_alike, called_alike}
-use Rattle.radio_core.proofs.Soundness.{rising_more}
+use Rattle.radio_parts.proofs.RisingLemmas.{rising_more}
 use Rattle.radio_core.proofs.KeptLists.{kept_found, kept_silent, kept_ends, fed_kept, titled_kept, ended_kept, begun_kept}
 
 -- the world with other sessions

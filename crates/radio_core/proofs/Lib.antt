@@ -3,12 +3,10 @@ mod CoreReplyLemmas
 mod DueLemmas
 mod KeptLists
 mod KeptOutcomes
-mod KeptQueues
 mod KeptRuns
 pub mod KeptSeats
 mod KeptSights
 mod KeptSteps
-mod KeptStreams
 pub mod Obeyed
 mod PlannedLemmas
 mod SourceReplyLemmas

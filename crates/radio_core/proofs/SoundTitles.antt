@@ -7,8 +7,8 @@ use Rattle.radio_core.specs.declared.standing.Standing.TheVariants.{Feeds}
 use Rattle.radio_core.specs.World.{World, standing_of}
 use Rattle.radio_core.specs.Changes.{changed}
 use Rattle.radio_core.specs.Sessions.{Session, is_of, session_of, with_title}
-use Rattle.radio_core.specs.Sound.{AreRising, IsSound}
-use Rattle.radio_core.specs.Stream.{WholeStream, end_of}
+use Rattle.radio_parts.specs.Stream.{AreRising, WholeStream, end_of}
+use Rattle.radio_core.specs.Sound.{IsSound}
 use Rattle.radio_core.proofs.ApartLemmas.{updated_apart}
 use Rattle.radio_core.proofs.Lookups.{beside_titled, is_titled}
 

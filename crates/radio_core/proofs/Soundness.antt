@@ -16,40 +16,12 @@ use Rattle.radio_core.specs.Changes.{changed}
 use Rattle.radio_core.specs.Listen.{first_seat, burst_of}
 use Rattle.radio_seats.specs.Seats.{seat_of, seat_in, without_listener, AreByNumber}
 use Rattle.radio_core.specs.Sessions.{Session, session_of}
-use Rattle.radio_core.specs.Sound.{AreApart, AreRising, IsSeatedIn, IsSound}
-use Rattle.radio_core.specs.Stream.{end_of, burst_start}
+use Rattle.radio_parts.specs.Stream.{AreRising, end_of, burst_start}
+use Rattle.radio_core.specs.Sound.{AreApart, IsSeatedIn, IsSound}
 use Rattle.radio_seats.proofs.SeatLaws.{beside_left, beside_seated, is_no_listener, has_sat_down}
+use Rattle.radio_parts.proofs.RisingLemmas.{burst_within}
 use Rattle.radio_core.proofs.NumberOrder.{order_left, order_seated}
 use Rattle.radio_core.proofs.Standings.{Turns, turns_answered, turns_sitting, turns_forgotten, turns_admitted}
-
--- block starts rise still, one more at the end or a longer end
-rising_to : (starts : List ℕ) (last more : ℕ) → last ≤ more → AreRising starts last → AreRising starts more
-rising_to [] last more h r = tt
-rising_to (place ∷ places) last more h r = (omega arith, r.1, rising_to places last more h r.2)
-
-each_below : (starts : List ℕ) (place last : ℕ) → place ≤ last → Each (λ next. place ≤ next) starts → Each (λ next. place ≤ next) (starts ++ last ∷ [])
-each_below [] place last h all = (h, tt)
-each_below (next ∷ others) place last h all = (all.0, each_below others place last h all.1)
-
-pub rising_more : (starts : List ℕ) (last more : ℕ) → last ≤ more → AreRising starts last → AreRising (starts ++ last ∷ []) more
-rising_more [] last more h r = (h, tt, tt)
-rising_more (place ∷ places) last more h r = (omega arith, each_below places place last r.0 r.1, rising_more places last more h r.2)
-
--- and none is past the end
-all_within : (starts : List ℕ) (last : ℕ) → AreRising starts last → Each (λ place. place ≤ last) starts
-all_within [] last r = tt
-all_within (place ∷ places) last r = (r.0, all_within places last r.2)
-
-pub burst_within : (session : Session) (burst : ℕ) → AreRising session.stream.starts (end_of session.stream)
-    → burst_start session.stream burst ≤ end_of session.stream
-burst_within session burst r = by_found (find first session.stream.starts) refl where
-  first : ℕ → Bool
-  first start = nat_le (end_of session.stream - start) burst
-
-  by_found : (found : Option ℕ) → find first session.stream.starts ≡ found → unwrap_or found (end_of session.stream) ≤ end_of session.stream
-  by_found None e = omega arith
-  by_found (Some start) e = found_has first (λ place. place ≤ end_of session.stream) session.stream.starts start
-      (all_within session.stream.starts (end_of session.stream) r) e
 
 module _ (w : World) (s : IsSound w) where
   -- who is seated is seated still, where sessions are as they were
@@ -171,7 +143,7 @@ module _ (w : World) (s : IsSound w) where
       session = session;
       is_live = live;
       his_session = refl;
-      within = burst_within session (burst_of w.house session.mount) (s.starts session.mount session live);
+      within = burst_within session.stream (burst_of w.house session.mount) (s.starts session.mount session live);
     }
 
     all_seated : (id : ℕ) (seat : Seat) → seat_of after_seat.seats id ≡ Some seat → IsSeatedIn after_seat seat

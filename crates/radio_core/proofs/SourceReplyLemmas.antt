@@ -33,7 +33,7 @@ use Rattle.radio_core.specs.Sessions.{Session, is_of, session_of, longer}
 use Rattle.radio_core.specs.SourceReplies.{unless_spent, to_session, to_data_from, to_end_from, to_data, to_end, IsQuiet, EndsByRule, IsToldByData}
 use Rattle.radio_core.specs.SourceReplies.{SourcesAreToldByTheirData, EndsAreTold}
 use Rattle.radio_core.specs.Step.{outcome, reply_to, world_after}
-use Rattle.radio_core.specs.Stream.{end_of}
+use Rattle.radio_parts.specs.Stream.{end_of}
 use Rattle.radio_core.specs.World.{World, standing_of, standing_in, standing_by, standing_seated, standing_of_listener}
 
 -- the first that is sought, after a change of it

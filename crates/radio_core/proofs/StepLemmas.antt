@@ -13,14 +13,14 @@ use Rattle.radio_core.specs.Leave.{leaves_from}
 use Rattle.radio_core.specs.Outcomes.{says, if_feeding}
 use Rattle.radio_events.specs.Replies.{HoldsNoText}
 use Rattle.radio_core.specs.Changes.{changed}
-use Rattle.radio_core.specs.Kept.{first_start}
+use Rattle.radio_parts.specs.Kept.{first_start}
 use Rattle.radio_core.specs.KeptChanges.{kept_changed}
 use Rattle.radio_core.specs.Counts.{counted}
 use Rattle.radio_core.specs.Planned.{with_count, uncounted, planned}
 use Rattle.radio_core.specs.Sessions.{Session, session_of}
 use Rattle.radio_core.specs.Step.{outcome, reply_to, world_after, Step, Represents, StandsForSome, NeedsNoMemory}
 use Rattle.radio_events.specs.Events.{TakesNoMemory}
-use Rattle.radio_core.specs.Stream.{end_of}
+use Rattle.radio_parts.specs.Stream.{end_of}
 use Rattle.radio_core.specs.World.{World, opening, standing_of}
 use Rattle.radio_settings.specs.declared.settings.Settings.{Settings}
 use Rattle.radio_access.specs.Lists.{Lists}

@@ -5,7 +5,7 @@ use Rattle.radio_core.specs.declared.outcome.Change.TheVariants.{Nothing, Advanc
 use Rattle.radio_core.specs.declared.outcome.Outcome.{Outcome}
 use Rattle.radio_seats.specs.declared.seat.Seat.{Seat}
 use Rattle.radio_core.specs.Sessions.{Session, session_of}
-use Rattle.radio_core.specs.Stream.{data_at}
+use Rattle.radio_parts.specs.Stream.{data_at}
 use Rattle.radio_seats.specs.Seats.{seat_of}
 use Rattle.radio_core.specs.World.{World, standing_of}
 use Rattle.radio_core.specs.Outcomes.{says, if_sitting}

@@ -3,7 +3,7 @@ use Rattle.std.specs.Prelude.{◌≡◌, ℕ, ◌-◌, ◌≤◌, Some}
 use Rattle.radio_seats.specs.declared.seat.Seat.{Seat}
 use Rattle.radio_seats.specs.Seats.{seat_of}
 use Rattle.radio_core.specs.Sessions.{Session, session_of}
-use Rattle.radio_core.specs.Stream.{WholeStream, end_of}
+use Rattle.radio_parts.specs.Stream.{WholeStream, end_of}
 use Rattle.radio_core.specs.World.{World}
 
 -- it holds of each seat's place in the stream of its mount's session

@@ -1,4 +1,3 @@
-pub mod Stream
 pub mod Sessions
 pub mod Clients
 pub mod World

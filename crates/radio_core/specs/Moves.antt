@@ -21,7 +21,7 @@ use Rattle.radio_core.specs.CommandFacts.{IsCommanded}
 use Rattle.radio_core.specs.Facts.{sight_of, rows_to_feed}
 use Rattle.radio_core.specs.Sessions.{Session}
 use Rattle.radio_core.specs.Source.{shown_for}
-use Rattle.radio_core.specs.Stream.{end_of}
+use Rattle.radio_parts.specs.Stream.{end_of}
 use Rattle.radio_core.specs.World.{World, standing_of}
 
 -- what the move has in store for the listener at his turn, where the state before the first turn is w: those of lower numbers have had theirs

@@ -23,7 +23,7 @@ use Rattle.radio_core.specs.Handing.{handed_at}
 use Rattle.radio_core.specs.Listen.{first_seat}
 use Rattle.radio_core.specs.Sessions.{Session, session_of}
 use Rattle.radio_core.specs.Step.{world_after}
-use Rattle.radio_core.specs.Stream.{data_at, end_of}
+use Rattle.radio_parts.specs.Stream.{data_at, end_of}
 use Rattle.radio_core.specs.World.{World, standing_of}
 
 -- why a listener goes from his seat to the mount: the session in which he sat is over; or a source has come up at the mount, which is the one that he asked

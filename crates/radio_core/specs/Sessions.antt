@@ -6,7 +6,7 @@ use Rattle.std.specs.Ordering.{nat_cmp}
 use Rattle.std.specs.Str.{bytes_eq}
 use Rattle.radio_settings.specs.declared.field.Shown.{Shown}
 use Rattle.radio_tables.specs.Lists.{update_first, placed}
-use Rattle.radio_core.specs.Stream.{WholeStream, no_data, with_block}
+use Rattle.radio_parts.specs.Stream.{WholeStream, no_data, with_block}
 
 -- what a source feeds to a mount, from its admission on
 pub record Session : Type 0 where

@@ -6,13 +6,8 @@ use Rattle.radio_seats.specs.declared.seat.Seat.{Seat}
 use Rattle.radio_core.specs.declared.standing.Standing.TheVariants.{Unknown, Feeds, Sits}
 use Rattle.radio_seats.specs.Seats.{seat_of, AreByNumber}
 use Rattle.radio_core.specs.Sessions.{Session, session_of}
-use Rattle.radio_core.specs.Stream.{end_of}
+use Rattle.radio_parts.specs.Stream.{AreRising, end_of}
 use Rattle.radio_core.specs.World.{World, standing_of}
-
--- the places do not fall, and none is past the last
-abbrev pub AreRising : List ℕ → ℕ → Type 0
-AreRising [] last = Unit {0}
-AreRising (place ∷ places) last = (place ≤ last) × Each (λ next. place ≤ next) places × AreRising places last
 
 -- the listener sits in the session that his mount has, and his place is within its stream
 pub record IsSeatedIn (w : World) (seat : Seat) : Type 0 where

@@ -12,7 +12,7 @@ use Rattle.radio_core.specs.Facts.{largest_number}
 use Rattle.radio_core.specs.Outcomes.{out_of_place}
 use Rattle.radio_core.specs.Sessions.{Session, session_of}
 use Rattle.radio_core.specs.Step.{reply_to, world_after}
-use Rattle.radio_core.specs.Stream.{end_of}
+use Rattle.radio_parts.specs.Stream.{end_of}
 use Rattle.radio_core.specs.World.{World, standing_of}
 
 -- whether there are too many for the numbers of a stream

@@ -1,11 +1,12 @@
 -- A core and the states that it stands for.
 use Rattle.std.specs.Prelude.{◌≡◌, ◌≤◌}
 use Rattle.radio_tables.specs.Lists.{Each}
-use Rattle.radio_core.specs.Kept.{kept_from, kept_of}
+use Rattle.radio_parts.specs.Kept.{kept_from}
+use Rattle.radio_core.specs.Kept.{kept_of}
 use Rattle.radio_core.specs.Lagging.{EachSeat}
 use Rattle.radio_core.specs.Sessions.{Session}
-use Rattle.radio_core.specs.Sound.{AreRising, IsSound}
-use Rattle.radio_core.specs.Stream.{end_of}
+use Rattle.radio_parts.specs.Stream.{AreRising, end_of}
+use Rattle.radio_core.specs.Sound.{IsSound}
 use Rattle.radio_core.specs.World.{World}
 
 -- blocks start one after another, within the stream

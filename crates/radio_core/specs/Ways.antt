@@ -26,7 +26,7 @@ use Rattle.radio_core.specs.Outcomes.{says}
 use Rattle.radio_seats.specs.Seats.{seat_of}
 use Rattle.radio_core.specs.Sessions.{Session, session_of}
 use Rattle.radio_core.specs.Source.{begins}
-use Rattle.radio_core.specs.Stream.{data_at}
+use Rattle.radio_parts.specs.Stream.{data_at}
 use Rattle.radio_core.specs.World.{World, standing_of}
 use Rattle.radio_events.specs.Events.{client_in}
 

@@ -23,7 +23,6 @@ mod outcome;
 mod server;
 mod sessions;
 mod standing;
-mod stream;
 mod timeouts;
 mod totals;
 

@@ -1,9 +1,9 @@
 //! The live mounts' sessions.
 
 use crate::OutOfMemory;
-use crate::stream::Stream;
 use radio_blocks::Block;
 use radio_icy::Title;
+use radio_parts::Stream;
 use radio_seats::KeptName;
 use radio_settings::{MountName, Shown};
 use radio_tables::{Row, Swap, TryChange};

@@ -17,9 +17,9 @@ use Rattle.radio_settings.specs.Options.{options_for}
 use Rattle.radio_core.specs.Listen.{first_seat, burst_of, interval_for}
 use Rattle.radio_seats.specs.Seats.{seat_of, seat_in}
 use Rattle.radio_core.specs.Sessions.{Session}
-use Rattle.radio_core.specs.Sound.{AreRising, IsSound}
+use Rattle.radio_parts.specs.Stream.{AreRising, WholeStream, end_of, burst_start}
+use Rattle.radio_core.specs.Sound.{IsSound}
 use Rattle.radio_core.specs.Step.{outcome, reply_to, world_after}
-use Rattle.radio_core.specs.Stream.{WholeStream, end_of, burst_start}
 use Rattle.radio_core.specs.Ways.{Way, Misplaced, IsFinished, IsDenied, IsRefused, IsAdmitted, Begins, Receives, SetsTitle, TakesSeat, HandsOut, Ends}
 use Rattle.radio_core.specs.Ways.{EndsAndLeaves, Leaves, Obeys, HasPassed, Ticks}
 use Rattle.radio_seats.proofs.SeatLaws.{has_sat_down}
@@ -28,7 +28,7 @@ use Rattle.radio_access.specs.Lists.{lets_in}
 use Rattle.radio_fallback.proofs.TurnLemmas.{lands_where_he_fits}
 use Rattle.radio_core.specs.Facts.{sight_of}
 use Rattle.radio_laws.proofs.WalkLemmas.{lands_on_his_way}
-use Rattle.radio_core.proofs.Soundness.{burst_within}
+use Rattle.radio_parts.proofs.RisingLemmas.{burst_within}
 use Rattle.radio_laws.proofs.LimitLemmas.{Within, sits_as, sent_as}
 use Rattle.radio_laws.proofs.ListsLemmas.{KeepsLists}
 use Rattle.radio_core.proofs.Ways.{way_of}
@@ -162,7 +162,7 @@ earliest_start session burst rising = by_found (find (first last burst) session.
       let found = first_found (end_of session.stream) burst session.stream.starts start rising e in
       record { at_a_block = inl found.there; in_the_burst = found.near; earliest = λ other at near. either other at near } where
         low : start ≤ end_of session.stream
-        low = subst (λ (x : ℕ). x ≤ end_of session.stream) (ap (λ (o : Option ℕ). unwrap_or o (end_of session.stream)) e) (burst_within session burst rising)
+        low = subst (λ (x : ℕ). x ≤ end_of session.stream) (ap (λ (o : Option ℕ). unwrap_or o (end_of session.stream)) e) (burst_within session.stream burst rising)
 
         either : (other : ℕ) → IsBlockStart session.stream other → end_of session.stream - other ≤ burst → start ≤ other
         either other (inl has) near = (first_found (end_of session.stream) burst session.stream.starts start rising e).least other has near

@@ -41,7 +41,7 @@ use Rattle.radio_core.specs.Step.{outcome, reply_to, world_after}
 use Rattle.radio_core.specs.Ways.{Way, Misplaced, IsFinished, IsDenied, IsRefused, IsAdmitted, Begins, Receives, SetsTitle, TakesSeat, HandsOut, Ends}
 use Rattle.radio_core.specs.Ways.{EndsAndLeaves, Leaves, Obeys, HasPassed, Ticks}
 use Rattle.radio_core.specs.Clients.{Client, client_of}
-use Rattle.radio_core.specs.Stream.{WholeStream, end_of, data_at}
+use Rattle.radio_parts.specs.Stream.{WholeStream, end_of, data_at}
 use Rattle.radio_core.proofs.CalledHome.{turns_up}
 use Rattle.radio_core.proofs.Lookups.{found_named, is_new_client, is_longer, is_titled, is_over}
 use Rattle.radio_core.proofs.SoundEnds.{turns_ended}

@@ -27,7 +27,7 @@ use Rattle.radio_core.specs.Sessions.{Session, session_of, without_session}
 use Rattle.radio_core.specs.Sound.{IsSound}
 use Rattle.radio_core.specs.Source.{shown_for}
 use Rattle.radio_core.specs.Step.{outcome, world_after}
-use Rattle.radio_core.specs.Stream.{WholeStream, data_at, end_of}
+use Rattle.radio_parts.specs.Stream.{WholeStream, data_at, end_of}
 use Rattle.radio_laws.specs.Stretches.{between, Sitting, sitting_in, begun_sittings, sittings, AreStretches, StretchesAreWhole}
 use Rattle.radio_core.specs.Ways.{Way, Misplaced, IsFinished, IsDenied, IsRefused, IsAdmitted, Begins, Receives, SetsTitle, TakesSeat, HandsOut, Ends}
 use Rattle.radio_core.specs.Ways.{EndsAndLeaves, Leaves, Obeys, HasPassed, Ticks}
@@ -38,7 +38,7 @@ use Rattle.radio_core.proofs.CalledHome.{house_called}
 use Rattle.radio_core.proofs.Lookups.{beside_ended, is_over}
 use Rattle.radio_core.specs.Moves.{moved_into}
 use Rattle.radio_core.proofs.SeatSteps.{seats_step}
-use Rattle.radio_core.proofs.Soundness.{burst_within}
+use Rattle.radio_parts.proofs.RisingLemmas.{burst_within}
 use Rattle.radio_core.specs.Finishes.{Finishes}
 use Rattle.radio_core.specs.Listen.{first_seat, burst_of}
 use Rattle.radio_core.specs.SeatSteps.{SeatStep, Stays, IsHanded, SitsDown, IsMoved, Leaves as HeLeaves, IsEnded as HeIsEnded}
@@ -213,7 +213,7 @@ module _ (w : World) (s : IsSound w) (sent : ℕ → List ℕ) (whole : (mount :
         let seat = first_seat w.house asked peer session in
         hears_grown sent more (Some seat) (past ++ sitting_in seat ∷ []) (heard ++ [])
         (sits_in seat session live refl
-        (burst_within session (burst_of w.house session.mount) (s.starts session.mount session live)) past heard h)
+        (burst_within session.stream (burst_of w.house session.mount) (s.starts session.mount session live)) past heard h)
     hears_step C id before later bytes (IsMoved seat session takes why live opens apart) past heard h =
         let new = moved_into session seat in
         let started : begun_sittings (Some seat) (Some new) ≡ sitting_in new ∷ [] = ap (λ (b : Bool). if b then [] else sitting_in new ∷ []) apart in

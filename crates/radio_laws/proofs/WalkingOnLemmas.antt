@@ -36,7 +36,7 @@ use Rattle.radio_core.specs.Sessions.{Session, session_of}
 use Rattle.radio_core.specs.Sound.{IsSound}
 use Rattle.radio_core.specs.Source.{begins}
 use Rattle.radio_core.specs.Step.{outcome, world_after}
-use Rattle.radio_core.specs.Stream.{end_of}
+use Rattle.radio_parts.specs.Stream.{end_of}
 use Rattle.radio_core.specs.World.{World, standing_of}
 use Rattle.radio_laws.specs.WalkingOn.{FaresByHisTurn, ListenersWalkOn, MovesAreWhole}
 use Rattle.radio_laws.proofs.CommandLaws.{later_so}

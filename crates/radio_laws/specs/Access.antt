@@ -8,7 +8,7 @@ use Rattle.radio_laws.specs.Open.{IsOpenTo}
 use Rattle.radio_seats.specs.Seats.{seat_of}
 use Rattle.radio_core.specs.Sessions.{Session, session_of}
 use Rattle.radio_core.specs.Step.{reply_to}
-use Rattle.radio_core.specs.Stream.{data_at}
+use Rattle.radio_parts.specs.Stream.{data_at}
 use Rattle.radio_core.specs.World.{World, standing_of}
 
 -- these bytes are the listener's to hear, who draws: they stand at his place in the stream of the mount where he sits, that mount is open to him, and the

@@ -11,7 +11,7 @@ use Rattle.radio_settings.specs.Options.{options_for}
 use Rattle.radio_seats.specs.Seats.{seat_of}
 use Rattle.radio_core.specs.Sessions.{Session, session_of}
 use Rattle.radio_core.specs.Step.{reply_to, world_after}
-use Rattle.radio_core.specs.Stream.{WholeStream, end_of}
+use Rattle.radio_parts.specs.Stream.{WholeStream, end_of}
 use Rattle.radio_core.specs.World.{World, standing_of}
 use Rattle.radio_access.specs.Lists.{lets_in}
 use Rattle.radio_laws.specs.Walks.{ComesBy}

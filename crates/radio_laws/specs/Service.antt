@@ -15,7 +15,7 @@ use Rattle.radio_core.specs.Listen.{interval_for}
 use Rattle.radio_seats.specs.Seats.{seat_of}
 use Rattle.radio_core.specs.Sessions.{Session, session_of}
 use Rattle.radio_core.specs.Step.{reply_to, world_after}
-use Rattle.radio_core.specs.Stream.{end_of, data_at}
+use Rattle.radio_parts.specs.Stream.{end_of, data_at}
 use Rattle.radio_core.specs.Clients.{client_of}
 use Rattle.radio_core.specs.declared.clients.ClientState.TheVariants.{Undecided as IsNew}
 use Rattle.radio_core.specs.World.{World, standing_of}

@@ -16,7 +16,7 @@ use Rattle.radio_core.specs.CommandFacts.{IsCommanded}
 use Rattle.radio_core.specs.Moves.{Brings, his_turn}
 use Rattle.radio_core.specs.Sessions.{Session, session_of}
 use Rattle.radio_core.specs.Step.{world_after}
-use Rattle.radio_core.specs.Stream.{end_of}
+use Rattle.radio_parts.specs.Stream.{end_of}
 use Rattle.radio_core.specs.World.{World}
 
 -- one who had this seat before the move: he goes on at the end of the stream of the mount to which his turn takes him, or has finished by the rule that leaves

@@ -7,8 +7,8 @@ use Rattle.std.proofs.lemmas.List.{length-replicate}
 use Rattle.std.proofs.lemmas.List.Folds.{concat-append}
 use Rattle.std.proofs.Math.Seq.{drop-append-add, drop-append_seam}
 use Rattle.radio_blocks.specs.Queue.{KeptTail, kept_end, kept_start, kept_data, shortest_tail, trimmed, with_pushed, starts_from}
-use Rattle.radio_core.specs.Kept.{first_start, shortest_starts, kept_from, forgotten, kept_stream, stream_of}
-use Rattle.radio_core.specs.Stream.{WholeStream, end_of, with_block, burst_start, data_at}
+use Rattle.radio_parts.specs.Kept.{first_start, shortest_starts, kept_from, forgotten, kept_stream, stream_of}
+use Rattle.radio_parts.specs.Stream.{WholeStream, end_of, with_block, burst_start, data_at}
 
 pub stream_end : (tail : KeptTail) → end_of (stream_of tail) ≡ kept_end tail
 stream_end tail =

@@ -1,8 +1,8 @@
 use Rattle.std.proofs.Common.{Err, ◌≤◌, ap, sym, subst, ◌∙◌, arith}
-use Rattle.radio_core.specs.Kept.{first_start}
-use Rattle.radio_core.specs.Stream.{WholeStream, end_of}
-use Rattle.radio_core.proofs.KeptQueues.{stream_first}
-use Rattle.radio_core.proofs.stream.Stream.draw.Goals as goal
+use Rattle.radio_parts.specs.Kept.{first_start}
+use Rattle.radio_parts.specs.Stream.{WholeStream, end_of}
+use Rattle.radio_parts.proofs.KeptQueues.{stream_first}
+use Rattle.radio_parts.proofs.stream.Stream.draw.Goals as goal
 
 pub unreachable-requires : goal.unreachable-requires
 unreachable-requires c =

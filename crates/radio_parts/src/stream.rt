@@ -1,8 +1,8 @@
 //! The data of a session, of which the last blocks are kept.
 
 ghost use Rattle.std.specs.Prelude.{◌≡◌, ◌+◌, ◌++◌, ◌≤◌, length, IfOk, OnOk, OnErr};
-ghost use Rattle.radio_core.specs.Stream.{no_data, end_of, with_block, burst_start, data_at};
-ghost use Rattle.radio_core.specs.Kept.{first_start, kept_stream};
+ghost use Rattle.radio_parts.specs.Stream.{no_data, end_of, with_block, burst_start, data_at};
+ghost use Rattle.radio_parts.specs.Kept.{first_start, kept_stream};
 
 use crate::OutOfMemory;
 use radio_blocks::{Block, BlockQueue, DrawFault, Pieces, Place};
@@ -12,13 +12,13 @@ use std::marker::Model;
 /// The data of one session. The last blocks are kept; contracts read a byte before them as zero, so
 /// that places count the bytes of the whole stream.
 #[derive(Drop)]
-pub(crate) struct Stream {
+pub struct Stream {
     queue: BlockQueue,
 }
 
 impl Model for Stream {
-    ghost use Rattle.radio_core.specs.Stream.{WholeStream};
-    ghost use Rattle.radio_core.specs.Kept.{stream_of};
+    ghost use Rattle.radio_parts.specs.Stream.{WholeStream};
+    ghost use Rattle.radio_parts.specs.Kept.{stream_of};
 
     ghost Value = { WholeStream };
 
@@ -27,7 +27,7 @@ impl Model for Stream {
 
 impl Stream {
     /// The stream of a session that has delivered nothing. It takes no memory.
-    pub(crate) fn new(alloc: Global) -> Stream
+    pub fn new(alloc: Global) -> Stream
         ensures { result ≡ no_data }
     {
         Stream {
@@ -36,7 +36,7 @@ impl Stream {
     }
 
     /// The place behind its last byte.
-    pub(crate) fn end(&self) -> u64
+    pub fn end(&self) -> u64
         ensures { result ≡ end_of self.now }
     {
         self.queue.end().bytes_before()
@@ -45,7 +45,7 @@ impl Stream {
     /// Appends a block, and forgets the first blocks where those behind them have `limit` bytes.
     /// `OutOfMemory` where memory was refused, and where the stream would have 2^64 bytes; the
     /// stream is unchanged then.
-    pub(crate) fn push(&mut self, block: Block, limit: u64) -> Result<(), OutOfMemory>
+    pub fn push(&mut self, block: Block, limit: u64) -> Result<(), OutOfMemory>
         ensures ok { OnOk result (self.new ≡ kept_stream limit (with_block self.old block)) }
         ensures err { OnErr result (self.new ≡ self.old) }
     {
@@ -55,7 +55,7 @@ impl Stream {
     }
 
     /// Where a listener begins who is to be sent at most `burst` bytes at once.
-    pub(crate) fn burst_start(&self, burst: u64) -> Place
+    pub fn burst_start(&self, burst: u64) -> Place
         ensures { result ≡ burst_start self.now burst }
     {
         self.queue.start_for(burst)
@@ -64,12 +64,7 @@ impl Stream {
     /// Appends to the pieces what stands at the place, at most `room` bytes, as slices that are
     /// shared with the stream, and answers the place behind it. `OutOfMemory` where memory was
     /// refused; the pieces are unchanged then.
-    pub(crate) fn draw(
-        &self,
-        place: Place,
-        room: u32,
-        pieces: &mut Pieces,
-    ) -> Result<Place, OutOfMemory>
+    pub fn draw(&self, place: Place, room: u32, pieces: &mut Pieces) -> Result<Place, OutOfMemory>
         // the place is not forgotten
         requires { first_start (end_of self.now) self.now.starts ≤ place }
         ensures pieces { OnOk result (pieces.new ≡ pieces.old ++ data_at self.now place room) }

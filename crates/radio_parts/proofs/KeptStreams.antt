@@ -6,10 +6,9 @@ use Rattle.std.proofs.lemmas.Bool.{le-leb, leb-true}
 use Rattle.std.proofs.lemmas.List.{length-replicate, length-drop, drop-drop, drop-append-le}
 use Rattle.std.proofs.Math.Seq.{drop-append-add}
 use Rattle.radio_tables.specs.Lists.{Each}
-use Rattle.radio_core.specs.Kept.{first_start, shortest_starts, kept_from, forgotten, kept_stream}
-use Rattle.radio_core.specs.Sound.{AreRising}
-use Rattle.radio_core.specs.Stream.{WholeStream, end_of, with_block, burst_start, data_at}
-use Rattle.radio_core.proofs.Soundness.{rising_more}
+use Rattle.radio_parts.specs.Kept.{first_start, shortest_starts, kept_from, forgotten, kept_stream}
+use Rattle.radio_parts.specs.Stream.{AreRising, WholeStream, end_of, with_block, burst_start, data_at}
+use Rattle.radio_parts.proofs.RisingLemmas.{rising_more}
 
 -- the first start of more blocks
 first_of_more : (starts : List ℕ) (end later : ℕ) → first_start later (starts ++ end ∷ []) ≡ first_start end starts

@@ -1,4 +1,5 @@
-use Rattle.std.specs.Prelude.{ℕ, ◌-◌, nat_le, List, [], ◌∷◌, ◌++◌, length, take, drop, find, unwrap_or}
+use Rattle.std.specs.Prelude.{ℕ, ◌-◌, ◌≤◌, nat_le, List, [], ◌∷◌, ◌++◌, length, take, drop, find, unwrap_or}
+use Rattle.radio_tables.specs.Lists.{Each}
 
 -- the data of a session: all its bytes from its first block on, and the places where blocks start
 pub record WholeStream : Type 0 where
@@ -24,3 +25,8 @@ burst_start stream burst = unwrap_or (find (λ start. nat_le (end_of stream - st
 -- what a listener at the place is handed who has room for so many bytes
 abbrev pub data_at : WholeStream → ℕ → ℕ → List ℕ
 data_at stream place room = take room (drop place stream.bytes)
+
+-- the places do not fall, and none is past the last
+abbrev pub AreRising : List ℕ → ℕ → Type 0
+AreRising [] last = Unit {0}
+AreRising (place ∷ places) last = (place ≤ last) × Each (λ next. place ≤ next) places × AreRising places last

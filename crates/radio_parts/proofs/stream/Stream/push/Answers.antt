@@ -1,5 +1,5 @@
-use Rattle.radio_core.proofs.KeptQueues.{pushed_to}
-use Rattle.radio_core.proofs.stream.Stream.push.Goals as goal
+use Rattle.radio_parts.proofs.KeptQueues.{pushed_to}
+use Rattle.radio_parts.proofs.stream.Stream.push.Goals as goal
 
 pub returns-clause-ok : goal.returns-clause-ok
 returns-clause-ok c =

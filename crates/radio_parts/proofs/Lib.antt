@@ -1,0 +1,3 @@
+mod KeptQueues
+pub mod KeptStreams
+pub mod RisingLemmas
