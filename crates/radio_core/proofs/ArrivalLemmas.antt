@@ -20,7 +20,7 @@ use Rattle.radio_core.specs.Source.{shown_for}
 use Rattle.radio_core.specs.Changes.{answered, session_killed, changed, begun, before_silence, session_silenced, silent_in, ticked}
 use Rattle.radio_core.specs.ClientSteps.{ArrivalsStay}
 use Rattle.radio_core.specs.Clients.{Client, is_client, client_of, with_state, in_state, without_client}
-use Rattle.radio_core.specs.Sessions.{Session, session_of}
+use Rattle.radio_parts.specs.Sessions.{Session, session_of}
 use Rattle.radio_core.specs.Sound.{IsSound}
 use Rattle.radio_core.specs.Step.{outcome, world_after}
 use Rattle.radio_core.specs.Timeouts.{timed_out}

@@ -21,7 +21,7 @@ use Rattle.radio_settings.specs.declared.field.Shown.{Shown}
 use Rattle.radio_core.specs.Changes.{changed, begun, carried_along, called_home}
 use Rattle.radio_core.specs.Facts.{sight_of}
 use Rattle.radio_core.specs.Moves.{his_turn, moved_into}
-use Rattle.radio_core.specs.Sessions.{Session, session_of}
+use Rattle.radio_parts.specs.Sessions.{Session, session_of}
 use Rattle.radio_core.specs.Sound.{IsSound}
 use Rattle.radio_core.specs.World.{World, standing_of}
 use Rattle.radio_core.proofs.CarriedFates.{order_carried, carried_fate}

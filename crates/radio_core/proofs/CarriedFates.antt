@@ -21,13 +21,13 @@ use Rattle.radio_core.specs.Changes.{carried_along}
 use Rattle.radio_core.specs.Clients.{Client, client_of}
 use Rattle.radio_core.specs.Facts.{sight_of, live_end}
 use Rattle.radio_core.specs.Moves.{his_turn, moved_into}
-use Rattle.radio_core.specs.Sessions.{Session, session_of}
+use Rattle.radio_parts.specs.Sessions.{Session, session_of}
 use Rattle.radio_core.specs.Sound.{IsSound}
 use Rattle.radio_parts.specs.Stream.{end_of}
 use Rattle.radio_core.specs.World.{World, standing_of, standing_in}
 use Rattle.radio_core.proofs.Fates.{Fate, IsEnded, IsMoved, lost_in, active_sitter}
-use Rattle.radio_core.proofs.Lookups.{found_named}
-use Rattle.radio_core.proofs.NumberOrder.{same_order}
+use Rattle.radio_parts.proofs.SessionLookups.{found_named}
+use Rattle.radio_parts.proofs.NumberOrder.{same_order}
 use Rattle.radio_core.proofs.Standings.{sits_in}
 
 -- a carry leaves the listeners in their order

@@ -7,9 +7,9 @@ use Rattle.radio_core.specs.declared.clients.ClientState.TheVariants.{Ended}
 use Rattle.radio_core.specs.declared.house.House.{House}
 use Rattle.radio_core.specs.declared.outcome.Change.TheVariants.{Obey}
 use Rattle.radio_core.specs.Changes.{answered, changed, now_in_state, session_ended, session_killed}
-use Rattle.radio_core.specs.Sessions.{Session, session_of}
+use Rattle.radio_parts.specs.Sessions.{Session, session_of}
 use Rattle.radio_core.specs.World.{World}
-use Rattle.radio_core.proofs.Lookups.{found_named}
+use Rattle.radio_parts.proofs.SessionLookups.{found_named}
 
 -- its source has the number that it has, and its mount the name
 pub killed_so : (w after : World) (mount : List ℕ) (session : Session) (number : ℕ) (house : House) → session_of w.house.live mount ≡ Some session

@@ -8,13 +8,13 @@ use Rattle.radio_core.specs.declared.standing.Standing.{Standing}
 use Rattle.radio_core.specs.declared.standing.Standing.TheVariants.{Unknown, Undecided, Feeds, Sits, Answered, Finished}
 use Rattle.radio_core.specs.CoreReplies.{CoresGoByTheirStates}
 use Rattle.radio_core.specs.Facts.{largest_number}
-use Rattle.radio_core.specs.Kept.{kept_session, kept_of}
-use Rattle.radio_core.specs.Sessions.{Session, is_of, session_of}
+use Rattle.radio_parts.specs.Kept.{kept_session}
+use Rattle.radio_core.specs.Kept.{kept_of}
+use Rattle.radio_parts.specs.Sessions.{Session, is_of, session_of, HasRisingStarts}
 use Rattle.radio_core.specs.SourceReplies.{to_data, to_data_from, to_session, to_end, unless_spent}
-use Rattle.radio_core.specs.StandsFor.{HasRisingStarts}
 use Rattle.radio_core.specs.Step.{Represents}
 use Rattle.radio_core.specs.World.{World, standing_of}
-use Rattle.radio_core.proofs.KeptLists.{kept_found}
+use Rattle.radio_parts.proofs.KeptLists.{kept_found}
 use Rattle.radio_parts.proofs.KeptStreams.{kept_end}
 
 module _ (w : World) (rise : Each HasRisingStarts w.house.live) (bytes : List ℕ) where

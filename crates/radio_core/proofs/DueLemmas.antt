@@ -1,20 +1,15 @@
 -- before anything is due a clock changes the time alone, and a moment from which on all is due stays one, where it is not past what a change brings
-use Rattle.std.proofs.Common.{◌≡◌, ℕ, ◌+◌, ◌*◌, ◌<◌, ◌≤◌, ◌==◌, Bool, true, false, Option, Some, None, List, [], ◌∷◌, min, Result, Ok, Err, OnOk, OnErr, refl, ap, sym, subst, ◌∙◌, arith}
+use Rattle.std.proofs.Common.{◌≡◌, ℕ, ◌<◌, ◌≤◌, Bool, true, false, Option, Some, None, List, [], ◌∷◌, min, Result, Ok, Err, OnOk, OnErr, refl, ap, sym, subst, ◌∙◌, arith}
 use Rattle.std.specs.Prelude.{if◌then◌else◌, fold, filter, map, not}
-use Rattle.std.specs.Option.{option_map_or}
-use Rattle.std.proofs.lemmas.Bool.Decides.{nat_tests}
 use Rattle.radio_policy.specs.declared.rule.Rule.{Rule}
 use Rattle.radio_policy.specs.declared.rule.Rule.TheVariants.{HeaderTimeout, TimeOver, SourceSilent, Lagged, Killed, SourceKilled}
-use Rattle.radio_settings.specs.declared.settings.Settings.{Settings}
 use Rattle.radio_settings.specs.Options.{options_for}
-use Rattle.radio_access.specs.Lists.{Lists}
 use Rattle.radio_tables.specs.Lists.{Each}
 use Rattle.radio_tables.proofs.EachLaws.{Each_each, Each_kept, Each_updated, Each_mapped, Each_placed}
 use Rattle.radio_seats.specs.declared.seat.Seat.{Seat}
-use Rattle.radio_seats.specs.declared.seat.Seating.{Seating}
-use Rattle.radio_seats.specs.declared.seat.Seating.TheVariants.{Sits, Finished}
+use Rattle.radio_seats.specs.declared.seat.Seating.TheVariants.{Finished}
 use Rattle.radio_seats.specs.declared.seat.Listener.{Listener}
-use Rattle.radio_seats.specs.Seats.{is_listener, by_listener, seated, advanced, moved, loses, holds_of, finished_if, with_ended}
+use Rattle.radio_seats.specs.Seats.{is_listener, by_listener, seated, advanced, loses, holds_of, finished_if, with_ended}
 use Rattle.radio_events.specs.declared.command.Command.{Command}
 use Rattle.radio_events.specs.declared.command.Command.TheVariants.{MoveClients, KillClient, KillSource, SetTitle as NewTitle, SetFallback}
 use Rattle.radio_core.specs.declared.clients.ClientState.{ClientState}
@@ -28,23 +23,19 @@ use Rattle.radio_fallback.proofs.Faring.{each_carried}
 use Rattle.radio_core.specs.Changes.{answered, done, session_ended_by, session_killed, begun, carried_along, session_over, session_ended, called_home, client_gone, before_silence}
 use Rattle.radio_core.specs.Changes.{session_silenced, silent_in, ticked}
 use Rattle.radio_core.specs.Clients.{Client, newcomer, is_client, by_number, with_state, in_state}
-use Rattle.radio_core.specs.Due.{last_moment, due_at, due_in_state, client_due, listener_due, session_due, IsDueFrom, earliest, first_due, due_by, at_moment}
+use Rattle.radio_parts.specs.Due.{last_moment, due_at, listener_due, session_due, earliest}
+use Rattle.radio_core.specs.Due.{due_in_state, client_due, IsDueFrom, first_due, due_by, at_moment}
 use Rattle.radio_core.specs.Facts.{live_end, sight_of}
-use Rattle.radio_core.specs.KeptChanges.{kept_changed, longer_kept, kept_received}
-use Rattle.radio_core.specs.Sessions.{Session, session_of, is_of, by_mount, opened, with_title}
-use Rattle.radio_core.specs.Timeouts.{lies_back, lags_behind, asks_nothing, asks_too_late, timed_out, has_sat_out, is_silent}
-use Rattle.radio_core.proofs.SilentLemmas.{none_pass}
-use Rattle.radio_core.specs.World.{World, opening}
+use Rattle.radio_parts.specs.Kept.{longer_kept}
+use Rattle.radio_core.specs.KeptChanges.{kept_changed, kept_received}
+use Rattle.radio_parts.specs.Sessions.{Session, session_of, is_of, by_mount, opened, with_title}
+use Rattle.radio_parts.specs.Timeouts.{lags_behind, has_sat_out, is_silent}
+use Rattle.radio_core.specs.Timeouts.{asks_nothing, asks_too_late, timed_out}
+use Rattle.radio_parts.proofs.DueLemmas.{not_yet, has_not_sat_out, from_earliest, due_by_last, duration_by_last, ended_due, heard_due, moved_due, lost_due}
+use Rattle.radio_parts.proofs.SilentSessions.{none_pass}
+use Rattle.radio_core.specs.World.{World}
 
 -- before it is due, nothing has had its time
-
-not_back : (seconds moment ms : ℕ) (none : Bool) → (seconds == 0) ≡ none → ms < (if none then 0 else min (moment + 1000 * seconds) last_moment)
-    → lies_back seconds moment ms ≡ false
-not_back seconds moment ms true e before = absurd (omega (arith, before))
-not_back seconds moment ms false e before = grind (arith, nat_tests, before, e)
-
-not_yet : (seconds moment ms : ℕ) → ms < due_at seconds moment → lies_back seconds moment ms ≡ false
-not_yet seconds moment ms before = not_back seconds moment ms (seconds == 0) refl before
 
 may_ask_yet : (seconds ms arrived : ℕ) (state : ClientState) → ms < due_in_state seconds arrived state → asks_nothing seconds ms arrived state ≡ false
 may_ask_yet seconds ms arrived Undecided before = not_yet seconds arrived ms before
@@ -52,17 +43,6 @@ may_ask_yet seconds ms arrived (Feeds mount) before = refl
 may_ask_yet seconds ms arrived Listens before = refl
 may_ask_yet seconds ms arrived Answered before = refl
 may_ask_yet seconds ms arrived (Ended rule) before = refl
-
-sits_yet : (duration : Option ℕ) (since ms : ℕ) → ms < option_map_or (λ seconds. due_at seconds since) duration last_moment
-    → option_map_or (λ seconds. lies_back seconds since ms) duration false ≡ false
-sits_yet None since ms before = refl
-sits_yet (Some seconds) since ms before = not_yet seconds since ms before
-
-has_not_sat_out : (settings : Settings) (ms : ℕ) (seating : Seating) (id : ℕ) → ms < listener_due settings (record { id = id; seating = seating })
-    → holds_of (has_sat_out settings ms) seating ≡ false
-has_not_sat_out settings ms (Sits seat) id before =
-    sits_yet (options_for settings seat.home).listeners.max_listener_duration seat.since ms before
-has_not_sat_out settings ms (Finished rule) id before = refl
 
 -- so a clock changes the time alone
 
@@ -105,16 +85,6 @@ module _ (w : World) (moment ms : ℕ) (due : IsDueFrom moment w) (before : ms <
 
 -- all is due at the earliest moment or later
 
-module _ {X : Type 0} (due : X → ℕ) where
-  from_fold : (moment first : ℕ) (xs : List X) → moment ≤ fold (λ least x. min least (due x)) first xs → (moment ≤ first) × Each (λ x. moment ≤ due x) xs
-  from_fold moment first [] h = (h, tt)
-  from_fold moment first (x ∷ xs) h =
-      let later = from_fold moment (min first (due x)) xs h in
-      (omega (arith, later.0), (omega (arith, later.0), later.1))
-
-  from_earliest : (moment : ℕ) (xs : List X) → moment ≤ earliest due xs → Each (λ x. moment ≤ due x) xs
-  from_earliest moment xs h = (from_fold moment last_moment xs h).1
-
 pub due_from_first : (w : World) → IsDueFrom (first_due w) w
 due_from_first w =
     let clients = earliest (client_due w.house.settings.limits.header_timeout) w.house.clients in
@@ -127,9 +97,6 @@ due_from_first w =
       sessions = from_earliest (session_due w.house.settings.limits.source_timeout) (first_due w) w.house.live (omega (arith, first));
     }
 
-pub due_from_opening : (settings : Settings) (lists : Lists) (moment : ℕ) → IsDueFrom moment (opening settings lists)
-due_from_opening settings lists moment = record { clients = tt; listeners = tt; sessions = tt }
-
 -- and so it is from any moment before
 
 pub due_earlier : (w : World) (moment earlier : ℕ) → earlier ≤ moment → IsDueFrom moment w → IsDueFrom earlier w
@@ -140,16 +107,6 @@ due_earlier w moment earlier h due = record {
 }
 
 -- what is due is due by the last moment
-
-due_by_last : (seconds moment : ℕ) → due_at seconds moment ≤ last_moment
-due_by_last seconds moment = by_test (seconds == 0) where
-  by_test : (none : Bool) → (if none then 0 else min (moment + 1000 * seconds) last_moment) ≤ last_moment
-  by_test true = omega arith
-  by_test false = omega arith
-
-duration_by_last : (duration : Option ℕ) (since : ℕ) → option_map_or (λ seconds. due_at seconds since) duration last_moment ≤ last_moment
-duration_by_last None since = omega arith
-duration_by_last (Some seconds) since = due_by_last seconds since
 
 brings_by_last : (w : World) (change : Change) → due_by w change ≤ last_moment
 brings_by_last w Nothing = omega arith
@@ -175,38 +132,15 @@ module _ (moment : ℕ) (last : moment ≤ last_moment) where
   abbrev ListenersAreDue : World → List Listener → Type 0
   ListenersAreDue w seats = Each (λ listener. moment ≤ listener_due w.house.settings listener) seats
 
-  -- who loses his seat is due no more, and anybody else as before
-  ended_due : (settings : Settings) (rule : Rule) (id : ℕ) (seating : Seating) (ends : Bool) → moment ≤ listener_due settings (record { id = id; seating = seating })
-      → moment ≤ listener_due settings (record { id = id; seating = (if ends then Finished rule else seating) })
-  ended_due settings rule id seating true h = last
-  ended_due settings rule id seating false h = h
-
   ended_are_due : (w : World) (p : Seat → Bool) (rule : Rule) → ListenersAreDue w w.seats → ListenersAreDue w (with_ended w.seats p rule)
   ended_are_due w p rule all =
-      Each_mapped _ _ (finished_if p rule) (λ listener h. ended_due w.house.settings rule listener.id listener.seating (holds_of p listener.seating) h) w.seats all
-
-  heard_due : (settings : Settings) (place id : ℕ) (seating : Seating) → moment ≤ listener_due settings (record { id = id; seating = seating })
-      → moment ≤ listener_due settings (advanced place (record { id = id; seating = seating }))
-  heard_due settings place id (Sits seat) h = h
-  heard_due settings place id (Finished rule) h = h
-
-  -- who is carried along is due as before, since his home and the moment of his seat stay
-  moved_due : (settings : Settings) (to : List ℕ) (session place id : ℕ) (seating : Seating)
-      → moment ≤ listener_due settings (record { id = id; seating = seating })
-      → moment ≤ listener_due settings (moved to session place (record { id = id; seating = seating }))
-  moved_due settings to session place id (Sits seat) h = h
-  moved_due settings to session place id (Finished rule) h = h
-
-  lost_due : (settings : Settings) (rule : Rule) (id : ℕ) (seating : Seating) → moment ≤ listener_due settings (record { id = id; seating = seating })
-      → moment ≤ listener_due settings (loses rule (record { id = id; seating = seating }))
-  lost_due settings rule id (Sits seat) h = last
-  lost_due settings rule id (Finished other) h = h
+      Each_mapped _ _ (finished_if p rule) (λ listener h. ended_due moment last w.house.settings rule listener.id listener.seating (holds_of p listener.seating) h) w.seats all
 
   carried_due : (w : World) (move : Move) → ListenersAreDue w w.seats → ListenersAreDue w (carried_along w move).seats
   carried_due w move all =
       each_carried (λ listener. moment ≤ listener_due w.house.settings listener)
-      (λ to session place listener h. moved_due w.house.settings to session place listener.id listener.seating h)
-      (λ rule listener h. lost_due w.house.settings rule listener.id listener.seating h) (sight_of w.house) move w.seats all
+      (λ to session place listener h. moved_due moment last w.house.settings to session place listener.id listener.seating h)
+      (λ rule listener h. lost_due moment last w.house.settings rule listener.id listener.seating h) (sight_of w.house) move w.seats all
 
   over_due : (w : World) (mount : List ℕ) → IsDueFrom moment w → IsDueFrom moment (session_ended w mount)
   over_due w mount due = record {
@@ -253,7 +187,7 @@ module _ (moment : ℕ) (last : moment ≤ last_moment) where
       record { clients = due.clients; listeners = carried_due w (To mount destination) due.listeners; sessions = due.sessions }
   done_due w (KillClient mount listener) due = record {
     clients = due.clients;
-    listeners = Each_updated _ (is_listener listener) (loses Killed) (λ x h. lost_due w.house.settings Killed x.id x.seating h) w.seats due.listeners;
+    listeners = Each_updated _ (is_listener listener) (loses Killed) (λ x h. lost_due moment last w.house.settings Killed x.id x.seating h) w.seats due.listeners;
     sessions = due.sessions;
   }
   done_due w (KillSource mount) due = killed_due w (session_of w.house.live mount) due
@@ -317,7 +251,7 @@ module _ (moment : ℕ) (last : moment ≤ last_moment) where
   }
   stays_due w (Advance id place) due h = record {
     clients = due.clients;
-    listeners = Each_updated _ (is_listener id) (advanced place) (λ listener k. heard_due w.house.settings place listener.id listener.seating k) w.seats due.listeners;
+    listeners = Each_updated _ (is_listener id) (advanced place) (λ listener k. heard_due moment last w.house.settings place listener.id listener.seating k) w.seats due.listeners;
     sessions = due.sessions;
   }
   stays_due w (End id mount) due h =

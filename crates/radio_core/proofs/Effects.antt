@@ -21,7 +21,7 @@ use Rattle.radio_core.specs.Moves.{TakesTo}
 use Rattle.radio_core.specs.Listen.{first_seat}
 use Rattle.radio_seats.specs.declared.seat.Seat.{Seat}
 use Rattle.radio_seats.specs.Seats.{seat_of}
-use Rattle.radio_core.specs.Sessions.{Session}
+use Rattle.radio_parts.specs.Sessions.{Session}
 use Rattle.radio_core.specs.Sound.{IsSound}
 use Rattle.radio_core.specs.Source.{shown_for}
 use Rattle.radio_core.specs.Step.{outcome, reply_to, world_after}

@@ -13,11 +13,11 @@ use Rattle.radio_core.specs.declared.standing.Standing.{Standing}
 use Rattle.radio_core.specs.declared.standing.Standing.TheVariants.{Unknown, Undecided, Feeds, Sits, Answered, Finished}
 use Rattle.radio_core.specs.Clients.{Client, client_of}
 use Rattle.radio_core.specs.Moves.{moved_into}
-use Rattle.radio_core.specs.Sessions.{Session, session_of}
-use Rattle.radio_core.specs.Sound.{AreApart, IsSeatedIn, IsSound}
+use Rattle.radio_parts.specs.Sessions.{Session, session_of, AreApart}
+use Rattle.radio_core.specs.Sound.{IsSeatedIn, IsSound}
 use Rattle.radio_core.specs.Timeouts.{asks_too_late}
 use Rattle.radio_core.specs.World.{World, standing_of, standing_in, standing_by}
-use Rattle.radio_core.proofs.NumberOrder.{order_ended}
+use Rattle.radio_parts.proofs.NumberOrder.{order_ended}
 
 -- there is something that can end for him
 abbrev pub IsActive : Standing → Type 0

@@ -45,17 +45,18 @@ use Rattle.radio_core.specs.Draw.{hands_out, hands_out_at}
 use Rattle.radio_fallback.specs.declared.walking.Landing.{Landing}
 use Rattle.radio_fallback.specs.declared.walking.Landing.TheVariants.{Lands, Stops}
 use Rattle.radio_core.specs.Facts.{largest_number, is_full, is_in_settings, sight_of, walks_to, source_facts, listen_facts}
-use Rattle.radio_core.specs.Kept.{kept_session, kept_of}
+use Rattle.radio_parts.specs.Kept.{kept_session}
+use Rattle.radio_core.specs.Kept.{kept_of}
 use Rattle.radio_core.specs.Listen.{burst_of, interval_for, first_seat, takes_seat, sits_where}
 use Rattle.radio_core.specs.Outcomes.{says, on_verdict, if_undecided, if_feeding, if_sitting}
 use Rattle.radio_core.specs.Push.{takes_in}
-use Rattle.radio_core.specs.Sessions.{Session, is_of, session_of}
+use Rattle.radio_parts.specs.Sessions.{Session, is_of, session_of, HasRisingStarts}
 use Rattle.radio_core.specs.Source.{begins}
-use Rattle.radio_core.specs.StandsFor.{HasRisingStarts, SeatsAreKept}
+use Rattle.radio_core.specs.StandsFor.{SeatsAreKept}
 use Rattle.radio_core.specs.Step.{outcome}
 use Rattle.radio_core.specs.World.{World, standing_of}
 use Rattle.radio_parts.proofs.KeptStreams.{kept_data, kept_burst}
-use Rattle.radio_core.proofs.KeptLists.{kept_found, kept_ends}
+use Rattle.radio_parts.proofs.KeptLists.{kept_found, kept_ends}
 use Rattle.radio_core.proofs.KeptSights.{has_session, same_sight}
 
 module _ (w : World) (rise : Each HasRisingStarts w.house.live) (kept : SeatsAreKept w) where

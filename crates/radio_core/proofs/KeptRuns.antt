@@ -9,17 +9,16 @@ use Rattle.radio_seats.specs.declared.seat.Seat.{Seat}
 use Rattle.radio_seats.specs.Seats.{seat_of, AreByNumber}
 use Rattle.radio_events.specs.declared.event.Event.{Event}
 use Rattle.radio_core.specs.Changes.{changed}
-use Rattle.radio_parts.specs.Kept.{first_start, kept_from}
-use Rattle.radio_core.specs.Kept.{kept_session, kept_live}
+use Rattle.radio_parts.specs.Kept.{first_start, kept_from, kept_session, kept_live}
 use Rattle.radio_core.specs.Lagging.{EachSeat, NobodyLags}
 use Rattle.radio_core.specs.Run.{world_after_all, run_after}
-use Rattle.radio_core.specs.Sessions.{Session, is_of, session_of}
+use Rattle.radio_parts.specs.Sessions.{Session, is_of, session_of, HasRisingStarts}
 use Rattle.radio_core.specs.Sound.{IsSound}
-use Rattle.radio_core.specs.StandsFor.{HasRisingStarts, SeatsAreKept}
+use Rattle.radio_core.specs.StandsFor.{SeatsAreKept}
 use Rattle.radio_core.specs.Step.{outcome, world_after}
 use Rattle.radio_parts.specs.Stream.{end_of}
 use Rattle.radio_core.specs.World.{World, opening}
-use Rattle.radio_core.proofs.KeptLists.{kept_found}
+use Rattle.radio_parts.proofs.KeptLists.{kept_found}
 use Rattle.radio_core.proofs.KeptSeats.{HoldsOn, each_after, settings_stay}
 use Rattle.radio_parts.proofs.KeptStreams.{kept_end, kept_within, kept_still, burst_is_kept, burst_is_near}
 use Rattle.radio_core.proofs.SoundRuns.{sound_after, sound_opening}

@@ -38,19 +38,19 @@ use Rattle.radio_core.specs.Changes.{before_silence, session_silenced, silent_in
 use Rattle.radio_core.specs.Facts.{live_end, sight_of}
 use Rattle.radio_core.specs.Lagging.{EachSeat}
 use Rattle.radio_core.specs.Listen.{burst_of, first_seat}
-use Rattle.radio_core.specs.Sessions.{Session, is_of, session_of, opened, longer, with_title}
+use Rattle.radio_parts.specs.Sessions.{Session, is_of, session_of, opened, longer, with_title}
 use Rattle.radio_core.specs.Source.{shown_for}
 use Rattle.radio_core.specs.Step.{outcome}
 use Rattle.radio_parts.specs.Stream.{WholeStream, no_data, end_of, with_block, burst_start, data_at}
-use Rattle.radio_core.specs.Timeouts.{lags_behind, has_sat_out}
+use Rattle.radio_parts.specs.Timeouts.{lags_behind, has_sat_out}
 use Rattle.radio_core.specs.Ways.{Way, Misplaced, IsFinished, IsDenied, IsRefused, IsAdmitted, Begins, Receives, SetsTitle, TakesSeat, HandsOut, Ends}
 use Rattle.radio_core.specs.Ways.{EndsAndLeaves, Leaves, Obeys, HasPassed, Ticks}
 use Rattle.radio_core.specs.World.{World}
 use Rattle.radio_core.proofs.CalledHome.{house_called}
 use Rattle.radio_core.proofs.CommandLemmas.{obeyed_keeps}
 use Rattle.radio_core.proofs.CarriedFates.{order_carried}
-use Rattle.radio_core.proofs.Lookups.{beside_fed, beside_titled, beside_begun, is_new_session}
-use Rattle.radio_core.proofs.NumberOrder.{order_ended}
+use Rattle.radio_parts.proofs.SessionLookups.{beside_fed, beside_titled, beside_begun, is_new_session}
+use Rattle.radio_parts.proofs.NumberOrder.{order_ended}
 use Rattle.radio_core.proofs.SoundEnds.{was_live}
 use Rattle.radio_core.proofs.Ways.{way_of}
 

@@ -13,11 +13,11 @@ use Rattle.radio_fallback.specs.Carry.{carried}
 use Rattle.radio_core.specs.declared.house.House.{House}
 use Rattle.radio_core.specs.Changes.{carried_along, called_home}
 use Rattle.radio_core.specs.Facts.{sight_of, live_number, live_end, fallback_of}
-use Rattle.radio_core.specs.Kept.{kept_session, kept_of}
-use Rattle.radio_core.specs.Sessions.{Session, session_of}
-use Rattle.radio_core.specs.StandsFor.{HasRisingStarts}
+use Rattle.radio_parts.specs.Kept.{kept_session}
+use Rattle.radio_core.specs.Kept.{kept_of}
+use Rattle.radio_parts.specs.Sessions.{Session, session_of, HasRisingStarts}
 use Rattle.radio_core.specs.World.{World}
-use Rattle.radio_core.proofs.KeptLists.{kept_found, kept_ends}
+use Rattle.radio_parts.proofs.KeptLists.{kept_found, kept_ends}
 
 is_some_mapped : {A B : Type 0} (f : A → B) (found : Option A) → is_some (option_map f found) ≡ is_some found
 is_some_mapped f None = refl

@@ -17,19 +17,19 @@ use Rattle.radio_core.specs.declared.house.House.{House}
 use Rattle.radio_core.specs.Changes.{answered, done, session_ended_by, session_killed, changed, now_in_state, begun, carried_along, session_over, session_ended, called_home, client_gone, laggards_ended}
 use Rattle.radio_core.specs.Changes.{before_silence, session_silenced, silent_in, ticked}
 use Rattle.radio_core.specs.Clients.{in_state}
-use Rattle.radio_core.specs.Kept.{kept_session, kept_live, kept_of}
+use Rattle.radio_parts.specs.Kept.{kept_session, kept_live}
+use Rattle.radio_core.specs.Kept.{kept_of}
 use Rattle.radio_core.specs.KeptChanges.{kept_changed}
-use Rattle.radio_core.specs.Sessions.{Session, session_of, is_of, by_mount, opened, longer, fed, with_title}
-use Rattle.radio_core.specs.StandsFor.{HasRisingStarts}
+use Rattle.radio_parts.specs.Sessions.{Session, session_of, is_of, by_mount, opened, longer, fed, with_title, HasRisingStarts}
 use Rattle.radio_parts.specs.Stream.{end_of, with_block}
-use Rattle.radio_core.specs.Timeouts.{lags_behind}
+use Rattle.radio_parts.specs.Timeouts.{lags_behind}
 use Rattle.radio_core.specs.World.{World}
 use Rattle.radio_settings.specs.declared.field.Shown.{Shown}
 use Rattle.radio_fallback.specs.declared.moves.Move.TheVariants.{Ended as HasEnded, To}
 use Rattle.radio_core.proofs.CalledHome.{house_called}
 use Rattle.radio_core.proofs.KeptSights.{carried_alike, called_alike}
 use Rattle.radio_parts.proofs.RisingLemmas.{rising_more}
-use Rattle.radio_core.proofs.KeptLists.{kept_found, kept_silent, kept_ends, fed_kept, titled_kept, ended_kept, begun_kept}
+use Rattle.radio_parts.proofs.KeptLists.{kept_found, kept_silent, kept_ends, fed_kept, titled_kept, ended_kept, begun_kept}
 
 -- the world with other sessions
 abbrev with_live : World → List Session → World

@@ -1,7 +1,6 @@
 pub mod CommandLemmas
 mod CoreReplyLemmas
 mod DueLemmas
-mod KeptLists
 mod KeptOutcomes
 mod KeptRuns
 pub mod KeptSeats
@@ -10,7 +9,6 @@ mod KeptSteps
 pub mod Obeyed
 mod PlannedLemmas
 mod SourceReplyLemmas
-pub mod ApartLemmas
 pub mod ArrivalLemmas
 pub mod CalledHome
 pub mod CarriedFates
@@ -20,10 +18,7 @@ pub mod Fates
 pub mod FinishLemmas
 pub mod Lookups
 pub mod LostSeats
-pub mod NumberLists
-pub mod NumberOrder
 pub mod OwnLemmas
-pub mod PreparedLemmas
 pub mod ReplyLemmas
 pub mod SeatSteps
 pub mod SeatedLemmas

@@ -18,7 +18,7 @@ use Rattle.radio_core.specs.declared.house.House.{House}
 use Rattle.radio_core.specs.Changes.{answered, changed, begun, session_ended, session_killed, ticked}
 use Rattle.radio_core.specs.Moves.{TakesTo}
 use Rattle.radio_core.specs.Finishes.{Cause, SessionIsOver, IsFarBehind, HasSatOut, HasAskedNothing, HasSentNothing, IsKilled, HisSessionIsKilled}
-use Rattle.radio_core.specs.Sessions.{Session, session_of, opened, titled, without_session}
+use Rattle.radio_parts.specs.Sessions.{Session, session_of, opened, titled, without_session}
 use Rattle.radio_core.specs.SessionSteps.{IsShownAs, OfTheSettings, OfTheSource, SessionStep, Stays, Begins as ItBegins, Grows, IsTitled}
 use Rattle.radio_core.specs.SessionSteps.{Ends as ItEnds, IsRetitled, IsKilled as ItIsKilled, SessionsStep, KeepsSettings}
 use Rattle.radio_events.specs.declared.command.Command.{Command}
@@ -34,7 +34,7 @@ use Rattle.radio_core.proofs.CalledHome.{house_called}
 use Rattle.radio_core.proofs.Fates.{Fate, GoesOn, IsEnded, HasStopped, IsMoved, HasEnded, Nobody}
 use Rattle.radio_core.proofs.CommandLemmas.{obeyed_keeps}
 use Rattle.radio_core.proofs.Obeyed.{title_live as command_finds}
-use Rattle.radio_core.proofs.Lookups.{found_named, is_new_session, beside_begun, is_longer, beside_fed, is_titled, beside_titled, is_over, beside_ended}
+use Rattle.radio_parts.proofs.SessionLookups.{found_named, is_new_session, beside_begun, is_longer, beside_fed, is_titled, beside_titled, is_over, beside_ended}
 use Rattle.radio_core.proofs.TickLemmas.{asking_at, ticked_fates}
 use Rattle.radio_core.proofs.TimeoutLemmas.{tests_are_in_numbers}
 use Rattle.radio_core.proofs.Ways.{way_of}

@@ -25,15 +25,16 @@ use Rattle.radio_core.specs.Facts.{sight_of}
 use Rattle.radio_core.specs.Finishes.{Cause, SessionIsOver}
 use Rattle.radio_core.specs.Moves.{his_turn, ByItsEnd, ByItsLeaving, TakesTo}
 use Rattle.radio_seats.specs.Seats.{seat_of, seat_in, AreByNumber}
-use Rattle.radio_core.specs.Sessions.{Session, is_of, session_of, without_session}
-use Rattle.radio_core.specs.Sound.{AreApart, IsSound}
+use Rattle.radio_parts.specs.Sessions.{Session, is_of, session_of, without_session, AreApart}
+use Rattle.radio_core.specs.Sound.{IsSound}
 use Rattle.radio_core.specs.Timeouts.{asks_too_late}
 use Rattle.radio_seats.proofs.SeatLaws.{beside_left, is_no_listener}
-use Rattle.radio_core.proofs.ApartLemmas.{kept_apart, bytes_apart}
+use Rattle.radio_parts.proofs.ApartLemmas.{kept_apart, bytes_apart}
 use Rattle.radio_core.proofs.CarriedFates.{order_carried, carried_fate}
 use Rattle.radio_core.proofs.Fates.{IsDone, Fate, GoesOn, HasStopped, Fates, HasEnded, sound_fates}
-use Rattle.radio_core.proofs.Lookups.{beside_ended, beside_state, beside_forgotten, does, is_over, is_no_client}
-use Rattle.radio_core.proofs.NumberOrder.{order_left}
+use Rattle.radio_parts.proofs.SessionLookups.{beside_ended, is_over}
+use Rattle.radio_core.proofs.Lookups.{beside_state, beside_forgotten, does, is_no_client}
+use Rattle.radio_parts.proofs.NumberOrder.{order_left}
 use Rattle.radio_core.proofs.Standings.{Turns, kept_of, turns_answered, turns_forgotten, feeds_whoever_sits}
 
 -- who has no seat has none when a move has carried the others along

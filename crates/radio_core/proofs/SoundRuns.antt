@@ -14,8 +14,8 @@ use Rattle.radio_core.specs.World.{World, opening, standing_of}
 use Rattle.radio_core.specs.Changes.{changed, received, taken_in, ticked}
 use Rattle.radio_core.specs.Facts.{live_end}
 use Rattle.radio_core.specs.Finishes.{Cause, IsFarBehind}
-use Rattle.radio_core.specs.Sessions.{Session}
-use Rattle.radio_core.specs.Timeouts.{lags_behind}
+use Rattle.radio_parts.specs.Sessions.{Session}
+use Rattle.radio_parts.specs.Timeouts.{lags_behind}
 use Rattle.radio_core.specs.Run.{world_after_all, run_after}
 use Rattle.radio_core.specs.Sound.{IsSound}
 use Rattle.radio_core.specs.Source.{shown_for}
@@ -25,7 +25,7 @@ use Rattle.radio_core.specs.Ways.{EndsAndLeaves, Leaves, Obeys, HasPassed, Ticks
 use Rattle.radio_core.proofs.Soundness.{sound_answered, sound_forgotten, sound_admitted, sound_sits}
 use Rattle.radio_core.proofs.CalledHome.{sound_up}
 use Rattle.radio_core.proofs.SoundSessions.{sound_grown, sound_heard}
-use Rattle.radio_core.proofs.NumberOrder.{in_order}
+use Rattle.radio_parts.proofs.NumberOrder.{in_order}
 use Rattle.radio_core.proofs.SoundTitles.{sound_titled}
 use Rattle.radio_core.proofs.Fates.{Fates, HasEnded, Nobody, sound_fates, seats_fates}
 use Rattle.radio_core.proofs.TickLemmas.{ClockCause, ClockCarries, ticked_fates}

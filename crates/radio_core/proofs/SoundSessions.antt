@@ -14,13 +14,13 @@ use Rattle.radio_core.specs.declared.standing.Standing.TheVariants.{Unknown, Und
 use Rattle.radio_core.specs.World.{World, standing_of}
 use Rattle.radio_core.specs.Changes.{changed, begun, received}
 use Rattle.radio_seats.specs.Seats.{seat_of, seat_in, seat_held, heard_to}
-use Rattle.radio_core.specs.Sessions.{Session, is_of, session_of, opened, longer}
+use Rattle.radio_parts.specs.Sessions.{Session, is_of, session_of, opened, longer}
 use Rattle.radio_parts.specs.Stream.{AreRising, end_of, data_at}
 use Rattle.radio_core.specs.Sound.{IsSeatedIn, IsSound}
 use Rattle.radio_seats.proofs.SeatLaws.{beside_moved, has_moved}
-use Rattle.radio_core.proofs.ApartLemmas.{begun_apart, updated_apart}
-use Rattle.radio_core.proofs.NumberOrder.{order_heard}
-use Rattle.radio_core.proofs.Lookups.{beside_fed, is_longer, is_new_session, beside_begun}
+use Rattle.radio_parts.proofs.ApartLemmas.{begun_apart, updated_apart}
+use Rattle.radio_parts.proofs.NumberOrder.{order_heard}
+use Rattle.radio_parts.proofs.SessionLookups.{beside_fed, is_longer, is_new_session, beside_begun}
 use Rattle.radio_seats.proofs.SeatLaws.{listener_seated}
 use Rattle.radio_core.proofs.Standings.{Turns, turns_feeding, stays_hearing}
 use Rattle.radio_parts.proofs.RisingLemmas.{rising_more}

@@ -6,11 +6,11 @@ use Rattle.radio_core.specs.declared.outcome.Change.TheVariants.{SetTitle}
 use Rattle.radio_core.specs.declared.standing.Standing.TheVariants.{Feeds}
 use Rattle.radio_core.specs.World.{World, standing_of}
 use Rattle.radio_core.specs.Changes.{changed}
-use Rattle.radio_core.specs.Sessions.{Session, is_of, session_of, with_title}
+use Rattle.radio_parts.specs.Sessions.{Session, is_of, session_of, with_title}
 use Rattle.radio_parts.specs.Stream.{AreRising, WholeStream, end_of}
 use Rattle.radio_core.specs.Sound.{IsSound}
-use Rattle.radio_core.proofs.ApartLemmas.{updated_apart}
-use Rattle.radio_core.proofs.Lookups.{beside_titled, is_titled}
+use Rattle.radio_parts.proofs.ApartLemmas.{updated_apart}
+use Rattle.radio_parts.proofs.SessionLookups.{beside_titled, is_titled}
 
 -- a session is as it was, but that it may have another title
 pub record IsBut (session now : Session) : Type 0 where

@@ -29,7 +29,7 @@ use Rattle.radio_core.specs.declared.outcome.Change.TheVariants.{Nothing, End}
 use Rattle.radio_core.specs.declared.outcome.Outcome.{Outcome}
 use Rattle.radio_policy.specs.declared.judgement.Verdict.TheVariants.{Allow, Deny as Denied}
 use Rattle.radio_policy.specs.Verdicts.{verdict_in}
-use Rattle.radio_core.specs.Sessions.{Session, is_of, session_of, longer}
+use Rattle.radio_parts.specs.Sessions.{Session, is_of, session_of, longer}
 use Rattle.radio_core.specs.SourceReplies.{unless_spent, to_session, to_data_from, to_end_from, to_data, to_end, IsQuiet, EndsByRule, IsToldByData}
 use Rattle.radio_core.specs.SourceReplies.{SourcesAreToldByTheirData, EndsAreTold}
 use Rattle.radio_core.specs.Step.{outcome, reply_to, world_after}

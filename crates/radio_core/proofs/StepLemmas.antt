@@ -17,7 +17,7 @@ use Rattle.radio_parts.specs.Kept.{first_start}
 use Rattle.radio_core.specs.KeptChanges.{kept_changed}
 use Rattle.radio_core.specs.Counts.{counted}
 use Rattle.radio_core.specs.Planned.{with_count, uncounted, planned}
-use Rattle.radio_core.specs.Sessions.{Session, session_of}
+use Rattle.radio_parts.specs.Sessions.{Session, session_of}
 use Rattle.radio_core.specs.Step.{outcome, reply_to, world_after, Step, Represents, StandsForSome, NeedsNoMemory}
 use Rattle.radio_events.specs.Events.{TakesNoMemory}
 use Rattle.radio_parts.specs.Stream.{end_of}

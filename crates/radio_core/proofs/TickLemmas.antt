@@ -22,14 +22,16 @@ use Rattle.radio_core.specs.Moves.{Brings, BySilence, TakesTo}
 use Rattle.radio_fallback.specs.declared.moves.Move.TheVariants.{Ended as SessionEnds}
 use Rattle.radio_policy.specs.declared.rule.Rule.{Rule}
 use Rattle.radio_settings.specs.declared.settings.Settings.{Settings}
-use Rattle.radio_core.specs.Sessions.{Session, session_of}
+use Rattle.radio_parts.specs.Sessions.{Session, session_of}
 use Rattle.radio_core.specs.Sound.{IsSound}
-use Rattle.radio_core.specs.Timeouts.{has_sat_out, asks_nothing, asks_too_late, timed_out, is_silent}
+use Rattle.radio_parts.specs.Timeouts.{has_sat_out, is_silent}
+use Rattle.radio_core.specs.Timeouts.{asks_nothing, asks_too_late, timed_out}
 use Rattle.radio_core.specs.World.{World, standing_of, standing_in}
-use Rattle.radio_core.proofs.ApartLemmas.{found_own}
+use Rattle.radio_parts.proofs.ApartLemmas.{found_own}
 use Rattle.radio_core.proofs.Fates.{IsActive, Fate, GoesOn, IsEnded, HasStopped, IsMoved, Fates, HasEnded, Nobody, feeds_on, sound_fates, fates_none, fates_then, seats_fates}
-use Rattle.radio_core.proofs.Lookups.{is_over}
-use Rattle.radio_core.proofs.SilentLemmas.{found_first, silent_then}
+use Rattle.radio_parts.proofs.SessionLookups.{is_over}
+use Rattle.radio_parts.proofs.SilentSessions.{found_first}
+use Rattle.radio_core.proofs.SilentLemmas.{silent_then}
 use Rattle.radio_core.proofs.SoundEnds.{over_fates, late_beside, there, still_feeds, has_none_then, order_then}
 use Rattle.radio_core.proofs.Standings.{Turns, turns_ended_by}
 

@@ -42,11 +42,12 @@ use Rattle.radio_core.specs.Facts.{live_end, sight_of}
 use Rattle.radio_core.specs.Leave.{leaves_from}
 use Rattle.radio_core.specs.Listen.{first_seat}
 use Rattle.radio_core.specs.Run.{world_after_all, run_after}
-use Rattle.radio_core.specs.Sessions.{Session, session_of}
+use Rattle.radio_parts.specs.Sessions.{Session, session_of}
 use Rattle.radio_core.specs.Sound.{IsSound}
 use Rattle.radio_core.specs.Source.{shown_for}
 use Rattle.radio_core.specs.Step.{outcome, reply_to, world_after}
-use Rattle.radio_core.specs.Timeouts.{lags_behind, has_sat_out, timed_out}
+use Rattle.radio_parts.specs.Timeouts.{lags_behind, has_sat_out}
+use Rattle.radio_core.specs.Timeouts.{timed_out}
 use Rattle.radio_core.specs.Totals.{arrivals, departures, seatings, listeners_leaving, has_seat, clients_there, seats_there, seats_lost, AddsUp}
 use Rattle.radio_core.specs.Ways.{Way, Misplaced, IsFinished, IsDenied, IsRefused, IsAdmitted, Begins, Receives, SetsTitle, TakesSeat, HandsOut, Ends}
 use Rattle.radio_core.specs.Ways.{EndsAndLeaves, Leaves, Obeys, HasPassed, Ticks}
@@ -54,8 +55,8 @@ use Rattle.radio_core.specs.World.{World, opening, standing_of, standing_in, sta
 use Rattle.radio_core.proofs.CalledHome.{turns_up}
 use Rattle.radio_core.proofs.Effects.{IsSwept, GoesOnAs, IsOut, HasDone, tick_swept, obeyed_swept, his_event}
 use Rattle.radio_core.proofs.Fates.{Fate, GoesOn, IsEnded, HasStopped, IsMoved, HasEnded, Nobody}
-use Rattle.radio_core.proofs.NumberLists.{IsRising, IsFree, has, without, placed_rising, placed_length, placed_free, kept_rising, one_less, kept_free}
-use Rattle.radio_core.proofs.NumberLists.{taken_free, numbers_updated, numbers_mapped, numbers_placed, numbers_without, number_found, number_free}
+use Rattle.radio_parts.proofs.NumberLists.{IsRising, IsFree, has, without, placed_rising, placed_length, placed_free, kept_rising, one_less, kept_free}
+use Rattle.radio_parts.proofs.NumberLists.{taken_free, numbers_updated, numbers_mapped, numbers_placed, numbers_without, number_found, number_free}
 use Rattle.radio_core.proofs.Obeyed.{is_answered}
 use Rattle.radio_core.proofs.SoundEnds.{turns_ended}
 use Rattle.radio_core.proofs.SoundRuns.{grown_world, NoMove, lag_fates, sound_after, sound_opening}

@@ -43,12 +43,12 @@ use Rattle.radio_events.specs.declared.command.CommandRequest.{CommandRequest}
 use Rattle.radio_core.specs.Command.{does_asked}
 use Rattle.radio_core.specs.CommandFacts.{rows_to_command}
 use Rattle.radio_seats.specs.Seats.{seat_of}
-use Rattle.radio_core.specs.Sessions.{Session, session_of}
+use Rattle.radio_parts.specs.Sessions.{Session, session_of}
 use Rattle.radio_core.specs.Step.{outcome}
 use Rattle.radio_core.specs.Ways.{Way, Misplaced, IsFinished, IsDenied, IsRefused, IsAdmitted, Begins, Receives, SetsTitle, TakesSeat, HandsOut, Ends}
 use Rattle.radio_core.specs.Ways.{EndsAndLeaves, Leaves, Obeys, HasPassed, Ticks, rows_for, IsUndecided}
 use Rattle.radio_events.specs.Events.{client_in}
-use Rattle.radio_core.proofs.Lookups.{found_named}
+use Rattle.radio_parts.proofs.SessionLookups.{found_named}
 
 module _ (w : World) (event : Event) where
   by_verdict : (denied : Change) (allowed : Outcome) (v : Verdict) → ((rule : Rule) → v ≡ Denied rule → Way w event (says (Deny rule) denied))

@@ -18,10 +18,11 @@ use Rattle.radio_core.specs.declared.outcome.Change.TheVariants.{Nothing, Answer
 use Rattle.radio_core.specs.declared.outcome.Change.TheVariants.{EndAndLeave, Forget, Tick, Obey}
 use Rattle.radio_core.specs.Clients.{newcomer, with_client, in_state, without_client}
 use Rattle.radio_core.specs.Fallbacks.{with_fallback}
-use Rattle.radio_core.specs.Sessions.{Session, session_of, opened, with_session, fed, titled, without_session}
+use Rattle.radio_parts.specs.Sessions.{Session, session_of, opened, with_session, fed, titled, without_session}
 use Rattle.radio_seats.specs.Seats.{with_seat, with_place, with_end, with_ended, without_listener}
 use Rattle.radio_core.specs.Facts.{live_end, sight_of}
-use Rattle.radio_core.specs.Timeouts.{lags_behind, timed_out, has_sat_out, is_silent}
+use Rattle.radio_parts.specs.Timeouts.{lags_behind, has_sat_out, is_silent}
+use Rattle.radio_core.specs.Timeouts.{timed_out}
 use Rattle.radio_core.specs.World.{World}
 
 -- the client of this number does something else from now on

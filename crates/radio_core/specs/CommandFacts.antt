@@ -27,7 +27,7 @@ use Rattle.radio_events.specs.declared.event.Event.{Event}
 use Rattle.radio_events.specs.declared.event.Event.TheVariants.{Command}
 use Rattle.radio_core.specs.declared.house.House.{House}
 use Rattle.radio_core.specs.declared.standing.Standing.TheVariants.{Undecided}
-use Rattle.radio_core.specs.Sessions.{session_of}
+use Rattle.radio_parts.specs.Sessions.{session_of}
 use Rattle.radio_core.specs.World.{World, standing_of}
 
 -- a title and a fallback may be set by the mount's source too, all else by the admin alone

@@ -4,7 +4,7 @@ use Rattle.radio_events.specs.declared.reply.Reply.TheVariants.{Drawn, Stray}
 use Rattle.radio_core.specs.declared.outcome.Change.TheVariants.{Nothing, Advance}
 use Rattle.radio_core.specs.declared.outcome.Outcome.{Outcome}
 use Rattle.radio_seats.specs.declared.seat.Seat.{Seat}
-use Rattle.radio_core.specs.Sessions.{Session, session_of}
+use Rattle.radio_parts.specs.Sessions.{Session, session_of}
 use Rattle.radio_parts.specs.Stream.{data_at}
 use Rattle.radio_seats.specs.Seats.{seat_of}
 use Rattle.radio_core.specs.World.{World, standing_of}

@@ -24,7 +24,7 @@ use Rattle.radio_events.specs.declared.event.ListenRequest.{ListenRequest}
 use Rattle.radio_core.specs.declared.house.House.{House}
 use Rattle.radio_core.specs.Fallbacks.{set_for}
 use Rattle.radio_parts.specs.Stream.{end_of}
-use Rattle.radio_core.specs.Sessions.{session_of}
+use Rattle.radio_parts.specs.Sessions.{session_of}
 use Rattle.radio_core.specs.World.{World}
 
 -- the largest number that a client's number or a place in a stream can be

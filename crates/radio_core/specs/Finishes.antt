@@ -10,9 +10,10 @@ use Rattle.radio_core.specs.CommandFacts.{IsCommanded}
 use Rattle.radio_core.specs.Clients.{Client, client_of}
 use Rattle.radio_core.specs.Facts.{live_end}
 use Rattle.radio_core.specs.Moves.{LeavesOut}
-use Rattle.radio_core.specs.Timeouts.{lags_behind, has_sat_out, asks_too_late, is_silent}
+use Rattle.radio_parts.specs.Timeouts.{lags_behind, has_sat_out, is_silent}
+use Rattle.radio_core.specs.Timeouts.{asks_too_late}
 use Rattle.radio_seats.specs.Seats.{seat_of}
-use Rattle.radio_core.specs.Sessions.{Session, session_of}
+use Rattle.radio_parts.specs.Sessions.{Session, session_of}
 use Rattle.radio_core.specs.Step.{world_after}
 use Rattle.radio_core.specs.World.{World, standing_of}
 

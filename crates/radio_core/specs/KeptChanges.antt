@@ -1,22 +1,13 @@
 -- What each change makes of a state in which streams are kept as far as a queue is long.
 use Rattle.std.specs.Prelude.{ℕ, List}
-use Rattle.radio_tables.specs.Lists.{update_first}
 use Rattle.radio_core.specs.declared.house.House.{House}
 use Rattle.radio_core.specs.declared.outcome.Change.{Change}
 use Rattle.radio_core.specs.declared.outcome.Change.TheVariants.{Receive}
 use Rattle.radio_core.specs.Changes.{changed, laggards_ended}
-use Rattle.radio_core.specs.Kept.{kept_session}
-use Rattle.radio_core.specs.Sessions.{Session, is_of, longer}
+use Rattle.radio_parts.specs.Kept.{kept_fed}
 use Rattle.radio_core.specs.World.{World}
 
--- a session that has delivered a block at this moment, with what is kept of its stream then
-abbrev pub longer_kept : ℕ → List ℕ → ℕ → Session → Session
-longer_kept limit block moment session = kept_session limit (longer block moment session)
-
 -- the mount's session has delivered the block
-abbrev pub kept_fed : ℕ → List Session → List ℕ → List ℕ → ℕ → List Session
-kept_fed limit live mount block moment = update_first (is_of mount) (longer_kept limit block moment) live
-
 abbrev pub kept_received : House → List ℕ → List ℕ → House
 kept_received house mount block = record house { live = kept_fed house.settings.limits.queue_size house.live mount block house.time }
 

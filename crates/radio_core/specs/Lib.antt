@@ -1,4 +1,3 @@
-pub mod Sessions
 pub mod Clients
 pub mod World
 pub mod Facts
@@ -38,4 +37,3 @@ pub mod Others
 pub mod SourceReplies
 pub mod CoreReplies
 pub mod Totals
-pub mod Prepared

@@ -8,7 +8,7 @@ use Rattle.radio_events.specs.declared.reply.Reply.TheVariants.{Seated, Stray}
 use Rattle.radio_core.specs.declared.outcome.Change.TheVariants.{Nothing, Answer, TakeSeat}
 use Rattle.radio_core.specs.declared.outcome.Outcome.{Outcome}
 use Rattle.radio_seats.specs.declared.seat.Seat.{Seat}
-use Rattle.radio_core.specs.Sessions.{Session, session_of}
+use Rattle.radio_parts.specs.Sessions.{Session, session_of}
 use Rattle.radio_parts.specs.Stream.{burst_start}
 use Rattle.radio_core.specs.World.{World, standing_of}
 use Rattle.radio_fallback.specs.declared.walking.Landing.{Landing}

@@ -19,7 +19,7 @@ use Rattle.radio_core.specs.Changes.{begun, session_over, before_silence, silent
 use Rattle.radio_events.specs.declared.command.Command.TheVariants.{MoveClients, KillSource}
 use Rattle.radio_core.specs.CommandFacts.{IsCommanded}
 use Rattle.radio_core.specs.Facts.{sight_of, rows_to_feed}
-use Rattle.radio_core.specs.Sessions.{Session}
+use Rattle.radio_parts.specs.Sessions.{Session}
 use Rattle.radio_core.specs.Source.{shown_for}
 use Rattle.radio_parts.specs.Stream.{end_of}
 use Rattle.radio_core.specs.World.{World, standing_of}

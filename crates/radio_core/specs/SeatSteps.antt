@@ -21,7 +21,7 @@ use Rattle.radio_core.specs.Moves.{TakesTo, moved_into}
 use Rattle.radio_core.specs.Finishes.{Finishes}
 use Rattle.radio_core.specs.Handing.{handed_at}
 use Rattle.radio_core.specs.Listen.{first_seat}
-use Rattle.radio_core.specs.Sessions.{Session, session_of}
+use Rattle.radio_parts.specs.Sessions.{Session, session_of}
 use Rattle.radio_core.specs.Step.{world_after}
 use Rattle.radio_parts.specs.Stream.{data_at, end_of}
 use Rattle.radio_core.specs.World.{World, standing_of}

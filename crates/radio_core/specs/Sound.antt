@@ -1,11 +1,9 @@
 -- What holds of every state of a run.
-use Rattle.std.specs.Prelude.{◌≡◌, ℕ, ◌<◌, ◌≤◌, false, List, [], ◌∷◌, Some}
-use Rattle.std.specs.Str.{bytes_eq}
-use Rattle.radio_tables.specs.Lists.{Each}
+use Rattle.std.specs.Prelude.{◌≡◌, ℕ, ◌<◌, ◌≤◌, List, Some}
 use Rattle.radio_seats.specs.declared.seat.Seat.{Seat}
 use Rattle.radio_core.specs.declared.standing.Standing.TheVariants.{Unknown, Feeds, Sits}
 use Rattle.radio_seats.specs.Seats.{seat_of, AreByNumber}
-use Rattle.radio_core.specs.Sessions.{Session, session_of}
+use Rattle.radio_parts.specs.Sessions.{Session, AreApart, session_of}
 use Rattle.radio_parts.specs.Stream.{AreRising, end_of}
 use Rattle.radio_core.specs.World.{World, standing_of}
 
@@ -15,11 +13,6 @@ pub record IsSeatedIn (w : World) (seat : Seat) : Type 0 where
   pub is_live : session_of w.house.live seat.mount ≡ Some session
   pub his_session : session.number ≡ seat.session
   pub within : seat.place ≤ end_of session.stream
-
--- no two of the sessions are of one mount
-abbrev pub AreApart : List Session → Type 0
-AreApart [] = Unit {0}
-AreApart (session ∷ live) = Each (λ (other : Session). bytes_eq session.mount other.mount ≡ false) live × AreApart live
 
 pub record IsSound (w : World) : Type 0 where
   -- nobody has a number that was not given yet

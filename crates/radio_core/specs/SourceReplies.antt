@@ -10,7 +10,7 @@ use Rattle.radio_core.specs.declared.standing.Standing.{Standing}
 use Rattle.radio_core.specs.declared.standing.Standing.TheVariants.{Feeds}
 use Rattle.radio_core.specs.Facts.{largest_number}
 use Rattle.radio_core.specs.Outcomes.{out_of_place}
-use Rattle.radio_core.specs.Sessions.{Session, session_of}
+use Rattle.radio_parts.specs.Sessions.{Session, session_of}
 use Rattle.radio_core.specs.Step.{reply_to, world_after}
 use Rattle.radio_parts.specs.Stream.{end_of}
 use Rattle.radio_core.specs.World.{World, standing_of}

@@ -4,14 +4,9 @@ use Rattle.radio_tables.specs.Lists.{Each}
 use Rattle.radio_parts.specs.Kept.{kept_from}
 use Rattle.radio_core.specs.Kept.{kept_of}
 use Rattle.radio_core.specs.Lagging.{EachSeat}
-use Rattle.radio_core.specs.Sessions.{Session}
-use Rattle.radio_parts.specs.Stream.{AreRising, end_of}
+use Rattle.radio_parts.specs.Sessions.{HasRisingStarts}
 use Rattle.radio_core.specs.Sound.{IsSound}
 use Rattle.radio_core.specs.World.{World}
-
--- blocks start one after another, within the stream
-abbrev pub HasRisingStarts : Session → Type 0
-HasRisingStarts session = AreRising session.stream.starts (end_of session.stream)
 
 -- no seat's place is forgotten
 abbrev pub SeatsAreKept : World → Type 0

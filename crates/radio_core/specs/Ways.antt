@@ -24,7 +24,7 @@ use Rattle.radio_core.specs.Facts.{rows_to_arrive, rows_to_feed, rows_to_push, r
 use Rattle.radio_core.specs.Listen.{first_seat, interval_for}
 use Rattle.radio_core.specs.Outcomes.{says}
 use Rattle.radio_seats.specs.Seats.{seat_of}
-use Rattle.radio_core.specs.Sessions.{Session, session_of}
+use Rattle.radio_parts.specs.Sessions.{Session, session_of}
 use Rattle.radio_core.specs.Source.{begins}
 use Rattle.radio_parts.specs.Stream.{data_at}
 use Rattle.radio_core.specs.World.{World, standing_of}

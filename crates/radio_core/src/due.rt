@@ -1,25 +1,10 @@
-//! From which moment on the time of something is over.
+//! From which moment on the time of a client is over.
 
 ghost use Rattle.std.specs.Prelude.{◌≡◌};
-ghost use Rattle.radio_core.specs.Due.{due_at, client_due, home_due, seat_due};
+ghost use Rattle.radio_core.specs.Due.{client_due};
 
 use crate::clients::{Client, ClientState};
-use radio_seats::{Guest, GuestMoment, Seat};
-use radio_settings::{MountName, Settings};
-
-/// The last moment that there is, for what is due at none.
-pub(crate) const LAST_MOMENT: u64 = u64::MAX;
-
-/// The first moment at which the other lies so many seconds back; none at all have always passed.
-pub(crate) fn due_at(seconds: u32, moment: u64) -> u64
-    ensures { result ≡ due_at seconds moment }
-{
-    if seconds == 0 {
-        0
-    } else {
-        moment.saturating_add(1000 * u64::from(seconds))
-    }
-}
+use radio_parts::{LAST_MOMENT, due_at};
 
 /// When a client is due who may ask for nothing for so many seconds.
 pub(crate) fn client_due(seconds: u32, client: &Client) -> u64
@@ -28,38 +13,5 @@ pub(crate) fn client_due(seconds: u32, client: &Client) -> u64
     match client.state {
         ClientState::Undecided => due_at(seconds, client.arrived),
         _ => LAST_MOMENT,
-    }
-}
-
-/// When one is due who has a seat, by the mount that he asked for.
-#[derive(Clone, Copy)]
-pub(crate) struct GuestDue<'a> {
-    pub(crate) settings: &'a Settings,
-}
-
-impl GuestMoment for GuestDue<'_> {
-    ghost use Rattle.radio_core.specs.Due.{guest_due};
-
-    ghost gives = { λ due guest. guest_due due.settings.now guest };
-
-    fn moment(&self, guest: &Guest) -> u64 {
-        due_of(self.settings, guest.home.get(), guest.since)
-    }
-}
-
-/// When a seat is due, by the mount that its listener asked for.
-pub(crate) fn seat_due(settings: &Settings, seat: &Seat) -> u64
-    ensures { result ≡ seat_due settings.now seat.now }
-{
-    due_of(settings, seat.home.get(), seat.since)
-}
-
-/// When one is due who asked for the mount and was seated at that moment.
-fn due_of(settings: &Settings, home: &MountName, since: u64) -> u64
-    ensures { result ≡ home_due settings.now home.now since }
-{
-    match settings.options(home).listeners.max_listener_duration {
-        Some(seconds) => due_at(seconds.get(), since),
-        None => LAST_MOMENT,
     }
 }

@@ -21,7 +21,6 @@ mod house;
 mod laws;
 mod outcome;
 mod server;
-mod sessions;
 mod standing;
 mod timeouts;
 mod totals;

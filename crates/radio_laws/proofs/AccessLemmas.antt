@@ -16,7 +16,7 @@ use Rattle.radio_core.specs.declared.house.House.{House}
 use Rattle.radio_settings.specs.Options.{options_for}
 use Rattle.radio_core.specs.Listen.{first_seat, burst_of, interval_for}
 use Rattle.radio_seats.specs.Seats.{seat_of, seat_in}
-use Rattle.radio_core.specs.Sessions.{Session}
+use Rattle.radio_parts.specs.Sessions.{Session}
 use Rattle.radio_parts.specs.Stream.{AreRising, WholeStream, end_of, burst_start}
 use Rattle.radio_core.specs.Sound.{IsSound}
 use Rattle.radio_core.specs.Step.{outcome, reply_to, world_after}

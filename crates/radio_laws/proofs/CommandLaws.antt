@@ -43,9 +43,10 @@ use Rattle.radio_core.specs.Command.{said_of}
 use Rattle.radio_core.specs.Counts.{counts_by}
 use Rattle.radio_core.specs.Facts.{sight_of}
 use Rattle.radio_core.specs.Fallbacks.{Fallback, set_for}
-use Rattle.radio_core.specs.Sessions.{Session, session_of, without_session}
-use Rattle.radio_core.proofs.ApartLemmas.{bytes_apart}
-use Rattle.radio_core.proofs.Lookups.{is_over, is_titled, is_set, beside_set, beside_titled, beside_ended}
+use Rattle.radio_parts.specs.Sessions.{Session, session_of, without_session}
+use Rattle.radio_parts.proofs.ApartLemmas.{bytes_apart}
+use Rattle.radio_parts.proofs.SessionLookups.{is_over, is_titled, beside_titled, beside_ended}
+use Rattle.radio_core.proofs.Lookups.{is_set, beside_set}
 use Rattle.radio_laws.specs.Walks.{FallsBack, ByTheSettings, ByACommand}
 use Rattle.radio_core.specs.Outcomes.{on_verdict, if_undecided}
 use Rattle.radio_core.specs.Sound.{IsSound}

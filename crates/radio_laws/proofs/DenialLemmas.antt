@@ -36,7 +36,7 @@ use Rattle.radio_laws.specs.Denials.{KnownMountsAreKnown}
 use Rattle.radio_core.specs.Facts.{is_known, arrive_facts, rows_to_arrive}
 use Rattle.radio_core.specs.Arrive.{admits_client}
 use Rattle.radio_core.specs.Outcomes.{on_verdict}
-use Rattle.radio_core.specs.Sessions.{session_of}
+use Rattle.radio_parts.specs.Sessions.{session_of}
 use Rattle.radio_core.specs.Step.{outcome, reply_to, world_after}
 use Rattle.radio_core.specs.Ways.{Way, Misplaced, IsFinished, IsDenied, IsRefused, IsAdmitted, Begins, Receives, SetsTitle, TakesSeat, HandsOut, Ends}
 use Rattle.radio_core.specs.Ways.{EndsAndLeaves, Leaves, Obeys, HasPassed, Ticks, rows_for, IsUndecided}

@@ -10,7 +10,7 @@ use Rattle.radio_core.specs.declared.outcome.Outcome.{Outcome}
 use Rattle.radio_core.specs.Changes.{answered, begun, changed, before_silence, silent_in, session_killed}
 use Rattle.radio_core.specs.CommandFacts.{IsCommanded}
 use Rattle.radio_core.specs.Fallbacks.{Fallback, set_for}
-use Rattle.radio_core.specs.Sessions.{Session, session_of}
+use Rattle.radio_parts.specs.Sessions.{Session, session_of}
 use Rattle.radio_core.specs.Source.{shown_for}
 use Rattle.radio_core.specs.Step.{outcome, world_after}
 use Rattle.radio_core.specs.Ways.{Way, Misplaced, IsFinished, IsDenied, IsRefused, IsAdmitted, Begins, Receives, SetsTitle, TakesSeat, HandsOut, Ends}

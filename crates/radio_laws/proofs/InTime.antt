@@ -10,12 +10,14 @@ use Rattle.radio_core.specs.declared.clients.ClientState.TheVariants.{Ended}
 use Rattle.radio_core.specs.Changes.{before_silence, session_silenced, silent_in, ticked}
 use Rattle.radio_core.specs.Clients.{Client, client_of, with_state}
 use Rattle.radio_laws.specs.Outstaying.{IsInTime}
-use Rattle.radio_core.specs.Sessions.{Session, is_of, session_of}
-use Rattle.radio_core.specs.Sound.{AreApart, IsSound}
-use Rattle.radio_core.specs.Timeouts.{has_sat_out, asks_too_late, timed_out, is_silent}
+use Rattle.radio_parts.specs.Sessions.{Session, is_of, session_of, AreApart}
+use Rattle.radio_core.specs.Sound.{IsSound}
+use Rattle.radio_parts.specs.Timeouts.{has_sat_out, is_silent}
+use Rattle.radio_core.specs.Timeouts.{asks_too_late, timed_out}
 use Rattle.radio_core.specs.World.{World}
-use Rattle.radio_core.proofs.ApartLemmas.{kept_apart}
-use Rattle.radio_core.proofs.SilentLemmas.{no_pass, silent_then}
+use Rattle.radio_parts.proofs.ApartLemmas.{kept_apart}
+use Rattle.radio_parts.proofs.SilentSessions.{no_pass}
+use Rattle.radio_core.proofs.SilentLemmas.{silent_then}
 use Rattle.radio_seats.specs.declared.seat.Seat.{Seat}
 use Rattle.radio_seats.specs.Seats.{seat_of}
 use Rattle.radio_core.specs.Moves.{moved_into}

@@ -34,7 +34,7 @@ use Rattle.radio_core.specs.Changes.{answered, session_killed, changed, begun, c
 use Rattle.radio_laws.specs.Limits.{IsWithinLimits, SentUser, SitsThereAs, most_at, allows_duplicates_at}
 use Rattle.radio_core.specs.Listen.{first_seat}
 use Rattle.radio_core.specs.Run.{world_after_all, run_after}
-use Rattle.radio_core.specs.Sessions.{Session, session_of}
+use Rattle.radio_parts.specs.Sessions.{Session, session_of}
 use Rattle.radio_core.specs.Sound.{IsSound}
 use Rattle.radio_core.specs.Step.{outcome, world_after}
 use Rattle.radio_core.specs.Ways.{Way, Misplaced, IsFinished, IsDenied, IsRefused, IsAdmitted, Begins, Receives, SetsTitle, TakesSeat, HandsOut, Ends}
@@ -47,7 +47,7 @@ use Rattle.radio_policy.specs.declared.rule.Rule.TheVariants.{Lagged, TimeOver, 
 use Rattle.radio_laws.proofs.ObeyLemmas.{nobody_came_losing}
 use Rattle.radio_seats.proofs.EndLaws.{nobody_came_ending}
 use Rattle.radio_core.specs.Facts.{live_end, sight_of}
-use Rattle.radio_core.specs.Timeouts.{lags_behind, has_sat_out}
+use Rattle.radio_parts.specs.Timeouts.{lags_behind, has_sat_out}
 use Rattle.radio_core.proofs.Soundness.{has_new_seat, beside_new_seat}
 use Rattle.radio_core.proofs.Ways.{way_of}
 

@@ -11,7 +11,7 @@ use Rattle.radio_seats.specs.Seats.{seat_of}
 use Rattle.radio_core.specs.Sound.{IsSound}
 use Rattle.radio_core.specs.Step.{world_after}
 use Rattle.radio_core.specs.Moves.{TakesTo, moved_into}
-use Rattle.radio_core.specs.Sessions.{Session, session_of}
+use Rattle.radio_parts.specs.Sessions.{Session, session_of}
 use Rattle.radio_parts.specs.Stream.{data_at, end_of}
 use Rattle.radio_laws.specs.Stretches.{SeatsKeepTheirMounts}
 use Rattle.radio_core.proofs.SoundRuns.{sound_after}

@@ -12,7 +12,7 @@ use Rattle.radio_events.specs.declared.event.Event.{Event}
 use Rattle.radio_core.specs.declared.outcome.Change.TheVariants.{Obey}
 use Rattle.radio_core.specs.Changes.{changed}
 use Rattle.radio_core.specs.CommandFacts.{IsCommanded}
-use Rattle.radio_core.specs.Sessions.{Session, session_of}
+use Rattle.radio_parts.specs.Sessions.{Session, session_of}
 use Rattle.radio_core.specs.SessionSteps.{SessionStep, Stays, Begins, Grows, IsTitled, IsRetitled, Ends, IsKilled}
 use Rattle.radio_core.specs.Sound.{IsSound}
 use Rattle.radio_core.specs.World.{World}

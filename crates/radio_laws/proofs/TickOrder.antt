@@ -38,13 +38,14 @@ use Rattle.radio_core.specs.Facts.{sight_of, fallback_of}
 use Rattle.radio_core.specs.Finishes.{Cause, SessionIsOver, IsFarBehind, HasSatOut, HasAskedNothing, HasSentNothing, IsKilled, HisSessionIsKilled}
 use Rattle.radio_core.specs.Moves.{TakesTo, his_turn}
 use Rattle.radio_laws.specs.Outstaying.{IsInTime, IsEndedInOrder, NobodyOutstays}
-use Rattle.radio_core.specs.Sessions.{Session, session_of}
+use Rattle.radio_parts.specs.Sessions.{Session, session_of}
 use Rattle.radio_core.specs.Sound.{IsSound}
 use Rattle.radio_core.specs.Step.{outcome, world_after}
-use Rattle.radio_core.specs.Timeouts.{asks_too_late, timed_out, has_sat_out, is_silent}
+use Rattle.radio_parts.specs.Timeouts.{has_sat_out, is_silent}
+use Rattle.radio_core.specs.Timeouts.{asks_too_late, timed_out}
 use Rattle.radio_core.specs.World.{World, standing_of, standing_in}
 use Rattle.radio_core.proofs.Fates.{Fate, GoesOn, IsEnded, HasStopped, IsMoved, HasEnded, Nobody, IsActive, sound_fates, lost_in}
-use Rattle.radio_core.proofs.Lookups.{is_over}
+use Rattle.radio_parts.proofs.SessionLookups.{is_over}
 use Rattle.radio_core.proofs.TickLemmas.{ClockCause, ClockCarries, ClockFates, asking_at, clients_after, timed, sound_timed}
 use Rattle.radio_core.proofs.TickLemmas.{fates_sat_out, IsOnTheWay, at_first, goes_on, live_there, silenced_fates, turned, fates_silence, ticked_fates}
 use Rattle.radio_laws.proofs.InTime.{in_time}

@@ -26,7 +26,7 @@ use Rattle.radio_core.specs.Command.{obeys as obeys_it}
 use Rattle.radio_core.specs.CommandFacts.{IsCommanded}
 use Rattle.radio_core.specs.Handing.{is_number, of_client}
 use Rattle.radio_core.specs.Run.{world_after_all, run_after}
-use Rattle.radio_core.specs.Sessions.{Session, session_of, without_session}
+use Rattle.radio_parts.specs.Sessions.{Session, session_of, without_session}
 use Rattle.radio_core.specs.Sound.{IsSound}
 use Rattle.radio_core.specs.Source.{shown_for}
 use Rattle.radio_core.specs.Step.{outcome, reply_to, world_after}
@@ -41,7 +41,7 @@ use Rattle.radio_laws.proofs.StretchLemmas.{was_begun}
 use Rattle.radio_laws.proofs.GoneLemmas.{his_own, with_nothing, last_rises}
 use Rattle.radio_laws.proofs.ListsLemmas.{lists_run}
 use Rattle.radio_laws.proofs.LimitLemmas.{within_run}
-use Rattle.radio_core.proofs.Lookups.{beside_ended, is_over}
+use Rattle.radio_parts.proofs.SessionLookups.{beside_ended, is_over}
 use Rattle.radio_core.proofs.SoundRuns.{sound_after, sound_opening, sound_run}
 use Rattle.radio_core.proofs.SoundSessions.{begun_cases, grown_cases}
 use Rattle.radio_core.proofs.SoundTitles.{titled_cases}

@@ -16,7 +16,7 @@ use Rattle.radio_fallback.proofs.WalkLaws.{walks_ten}
 use Rattle.radio_events.specs.declared.event.ListenRequest.{ListenRequest}
 use Rattle.radio_core.specs.Facts.{sight_of, walks_to, fallback_of}
 use Rattle.radio_core.specs.Fallbacks.{Fallback, set_for}
-use Rattle.radio_core.specs.Sessions.{Session, session_of}
+use Rattle.radio_parts.specs.Sessions.{Session, session_of}
 use Rattle.radio_core.specs.World.{World}
 use Rattle.radio_laws.specs.Limits.{IsFullAt, most_at}
 use Rattle.radio_laws.specs.Walks.{FallsBack, ByTheSettings, ByACommand, GoesOn, HasNoSource, IsFull, ComesBy, AtFirst, Next}

@@ -32,7 +32,7 @@ use Rattle.radio_core.specs.Facts.{sight_of, rows_to_feed, live_end}
 use Rattle.radio_core.specs.Moves.{Brings, ByItsEnd, ByItsLeaving, BySilence, ByComingUp, ByKilling, ByMoving, his_turn}
 use Rattle.radio_core.specs.Outcomes.{says, if_feeding, if_undecided, on_verdict}
 use Rattle.radio_core.specs.Leave.{leaves_from}
-use Rattle.radio_core.specs.Sessions.{Session, session_of}
+use Rattle.radio_parts.specs.Sessions.{Session, session_of}
 use Rattle.radio_core.specs.Sound.{IsSound}
 use Rattle.radio_core.specs.Source.{begins}
 use Rattle.radio_core.specs.Step.{outcome, world_after}

@@ -9,7 +9,7 @@ use Rattle.radio_seats.specs.declared.seat.Seat.{Seat}
 use Rattle.radio_core.specs.declared.standing.Standing.TheVariants.{Undecided}
 use Rattle.radio_settings.specs.Options.{options_for}
 use Rattle.radio_seats.specs.Seats.{seat_of}
-use Rattle.radio_core.specs.Sessions.{Session, session_of}
+use Rattle.radio_parts.specs.Sessions.{Session, session_of}
 use Rattle.radio_core.specs.Step.{reply_to, world_after}
 use Rattle.radio_parts.specs.Stream.{WholeStream, end_of}
 use Rattle.radio_core.specs.World.{World, standing_of}

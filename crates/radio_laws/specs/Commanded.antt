@@ -20,7 +20,7 @@ use Rattle.radio_core.specs.declared.standing.Standing.TheVariants.{Undecided, A
 use Rattle.radio_core.specs.CommandFacts.{IsCommanded}
 use Rattle.radio_core.specs.Fallbacks.{set_for}
 use Rattle.radio_core.specs.Handing.{handed}
-use Rattle.radio_core.specs.Sessions.{Session, session_of}
+use Rattle.radio_parts.specs.Sessions.{Session, session_of}
 use Rattle.radio_core.specs.Step.{reply_to, world_after}
 use Rattle.radio_core.specs.World.{World, standing_of}
 use Rattle.radio_laws.specs.Walks.{FallsBack}

@@ -19,7 +19,7 @@ use Rattle.radio_events.specs.declared.reply.Reply.TheVariants.{Feeding, Deny}
 use Rattle.radio_events.specs.Events.{client_in}
 use Rattle.radio_core.specs.declared.clients.ClientState.TheVariants.{Undecided, Answered}
 use Rattle.radio_core.specs.Clients.{Client, client_of}
-use Rattle.radio_core.specs.Sessions.{Session, session_of}
+use Rattle.radio_parts.specs.Sessions.{Session, session_of}
 use Rattle.radio_core.specs.Step.{reply_to, world_after}
 use Rattle.radio_core.specs.Ways.{rows_for, IsUndecided}
 use Rattle.radio_core.specs.World.{World}

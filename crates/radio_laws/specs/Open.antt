@@ -2,7 +2,7 @@ use Rattle.std.specs.Prelude.{◌≡◌, ℕ, true, false, Some, List}
 use Rattle.radio_access.specs.Lists.{passes, lets_in}
 use Rattle.radio_seats.specs.declared.seat.Seat.{Seat}
 use Rattle.radio_laws.specs.Limits.{SentUser, SitsThereAs, allows_duplicates_at}
-use Rattle.radio_core.specs.Sessions.{Session, session_of}
+use Rattle.radio_parts.specs.Sessions.{Session, session_of}
 use Rattle.radio_core.specs.World.{World}
 
 -- the mount where the listener of this number sits is open to him: it is live, in the session in which he was seated; his address

@@ -13,7 +13,7 @@ use Rattle.radio_core.specs.declared.standing.Standing.TheVariants.{Undecided, F
 use Rattle.radio_core.specs.Facts.{rows_to_arrive, rows_to_feed, rows_to_push, rows_to_listen}
 use Rattle.radio_core.specs.Listen.{interval_for}
 use Rattle.radio_seats.specs.Seats.{seat_of}
-use Rattle.radio_core.specs.Sessions.{Session, session_of}
+use Rattle.radio_parts.specs.Sessions.{Session, session_of}
 use Rattle.radio_core.specs.Step.{reply_to, world_after}
 use Rattle.radio_parts.specs.Stream.{end_of, data_at}
 use Rattle.radio_core.specs.Clients.{client_of}

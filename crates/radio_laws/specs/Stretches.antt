@@ -6,7 +6,7 @@ use Rattle.radio_events.specs.declared.event.Event.{Event}
 use Rattle.radio_seats.specs.declared.seat.Seat.{Seat}
 use Rattle.radio_core.specs.Handing.{handed, delivered}
 use Rattle.radio_seats.specs.Seats.{seat_of}
-use Rattle.radio_core.specs.Sessions.{Session, session_of}
+use Rattle.radio_parts.specs.Sessions.{Session, session_of}
 use Rattle.radio_core.specs.Step.{world_after}
 use Rattle.radio_core.specs.Moves.{TakesTo}
 use Rattle.radio_core.specs.SeatSteps.{IsSent}

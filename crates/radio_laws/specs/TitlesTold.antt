@@ -14,7 +14,7 @@ use Rattle.radio_events.specs.declared.reply.Reply.TheVariants.{Drawn, Noted, Te
 use Rattle.radio_events.specs.declared.text.Text.TheVariants.{Done}
 use Rattle.radio_seats.specs.declared.seat.Seat.{Seat}
 use Rattle.radio_core.specs.Handing.{is_number, of_client}
-use Rattle.radio_core.specs.Sessions.{session_of}
+use Rattle.radio_parts.specs.Sessions.{session_of}
 use Rattle.radio_core.specs.Run.{run_after}
 use Rattle.radio_seats.specs.Seats.{seat_of}
 use Rattle.radio_core.specs.Step.{reply_to, world_after}

@@ -2,7 +2,7 @@
 use Rattle.std.specs.Prelude.{◌≡◌, ℕ, suc, true, List, Some, None}
 use Rattle.radio_settings.specs.Options.{options_for}
 use Rattle.radio_core.specs.Fallbacks.{Fallback, set_for}
-use Rattle.radio_core.specs.Sessions.{session_of}
+use Rattle.radio_parts.specs.Sessions.{session_of}
 use Rattle.radio_core.specs.World.{World}
 use Rattle.radio_laws.specs.Limits.{IsFullAt}
 

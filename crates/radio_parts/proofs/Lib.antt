@@ -1,3 +1,12 @@
 mod KeptQueues
+pub mod ApartLemmas
+pub mod DueLemmas
+pub mod KeptLists
 pub mod KeptStreams
+pub mod NumberLists
+pub mod NumberOrder
+pub mod PreparedLemmas
 pub mod RisingLemmas
+pub mod SessionLookups
+pub mod SilentSessions
+pub mod TimeoutLemmas

@@ -1,11 +1,23 @@
-//! What one mount does by itself: the stream of its session.
+//! What one mount does by itself: its session, the stream of that, and what has had its time there.
 //!
+//! - [`Session`]: what a source feeds to a mount; a row of a table by mount, whose changes are
+//!   [`Delivers`] and [`NewTitle`].
 //! - [`Stream`]: the data of a session, of which the last blocks are kept.
+//! - [`lies_back`]: whether a moment lies so many seconds back; [`LagsBehind`] and [`HasSatOut`]
+//!   say of a listener that he has had his time.
+//! - [`due_at`]: from which moment on another lies so many seconds back; [`seat_due`] and
+//!   [`GuestDue`] say it of a listener, by the mount that he asked for.
 #![tactic(auto)]
 
+mod due;
+mod sessions;
 mod stream;
+mod timeouts;
 
+pub use due::{GuestDue, LAST_MOMENT, due_at, seat_due};
+pub use sessions::{Delivers, NewTitle, Session};
 pub use stream::Stream;
+pub use timeouts::{HasSatOut, LagsBehind, lies_back};
 
 /// What a call answers where memory was refused. Nothing has changed then, unless it is said.
 pub type OutOfMemory = std::alloc::AllocError;

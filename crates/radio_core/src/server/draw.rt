@@ -3,7 +3,7 @@ ghost use Rattle.radio_core.specs.Draw.{draws, hands_out};
 ghost use Rattle.radio_core.specs.Outcomes.{out_of_place};
 ghost use Rattle.radio_seats.specs.Seats.{seat_of};
 ghost use Rattle.radio_seats.specs.Lent.{lent_seat};
-ghost use Rattle.radio_core.specs.Sessions.{session_of};
+ghost use Rattle.radio_parts.specs.Sessions.{session_of};
 ghost use Rattle.radio_core.specs.Step.{StandsForSome};
 ghost use Rattle.radio_core.specs.World.{standing_of};
 

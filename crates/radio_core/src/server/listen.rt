@@ -1,16 +1,16 @@
 ghost use Rattle.std.specs.Prelude.{◌≡◌, Some, IfOk, MatchResult};
-ghost use Rattle.radio_core.specs.Sessions.{session_of};
+ghost use Rattle.radio_parts.specs.Sessions.{session_of};
 ghost use Rattle.radio_core.specs.Listen.{asks_to_hear, sits_where, takes_seat, burst_of, interval_for, first_seat};
 
 use super::state::State;
 use crate::OutOfMemory;
 use crate::house::House;
 use crate::outcome::{Change, Outcome};
-use crate::sessions::Session;
 use crate::standing::Standing;
 use radio_addr::Peer;
 use radio_events::{ListenRequest, Reply};
 use radio_fallback::Landing;
+use radio_parts::Session;
 use radio_policy::{Action, Rule, Verdict, judge};
 use radio_seats::{KeptName, Seat};
 use radio_settings::MountName;

@@ -3,7 +3,7 @@
 ghost use Rattle.std.specs.Prelude.{◌≡◌, IfOk, OnOk, OnErr};
 ghost use Rattle.radio_core.specs.Changes.{changed, done, session_killed, TakesNoRoom};
 ghost use Rattle.radio_core.specs.Counts.{counted, counts_by};
-ghost use Rattle.radio_core.specs.Sessions.{session_of};
+ghost use Rattle.radio_parts.specs.Sessions.{session_of};
 ghost use Rattle.radio_core.specs.declared.outcome.Change.{Change};
 
 use super::commit::NOBODY;

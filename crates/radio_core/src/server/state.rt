@@ -31,7 +31,7 @@ pub(crate) struct State {
 
 impl Model for State {
     ghost use Rattle.radio_core.specs.World.{World};
-    ghost use Rattle.radio_core.specs.Prepared.{LiveArePrepared};
+    ghost use Rattle.radio_parts.specs.Prepared.{LiveArePrepared};
     ghost use Rattle.std.specs.Coded.{codes};
     ghost use Rattle.radio_creds.specs.contracts.user_list.Users as creds_users;
 

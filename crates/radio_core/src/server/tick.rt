@@ -5,7 +5,7 @@ ghost use Rattle.radio_core.specs.Changes.{ticked, durations_over, session_silen
 
 use super::state::State;
 use crate::clients::ClientState;
-use crate::timeouts::HasSatOut;
+use radio_parts::HasSatOut;
 use radio_policy::Rule;
 
 impl State {

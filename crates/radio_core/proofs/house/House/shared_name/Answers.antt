@@ -1,7 +1,7 @@
 use Rattle.std.proofs.Common.{◌≡◌, ℕ, Some, List, Result, Ok, Err, IfOk, MatchResult, ap, sym, ◌∙◌}
 use Rattle.std.specs.Option.{option_copied}
-use Rattle.radio_core.specs.Sessions.{Session, session_of}
-use Rattle.radio_core.proofs.Lookups.{found_named}
+use Rattle.radio_parts.specs.Sessions.{Session, session_of}
+use Rattle.radio_parts.proofs.SessionLookups.{found_named}
 use Rattle.radio_core.proofs.house.House.shared_name.Goals as goal
 
 -- an equal name is named alike

@@ -1,7 +1,7 @@
 use Rattle.std.proofs.Common.{ap}
 use Rattle.radio_core.specs.declared.house.House.{House}
-use Rattle.radio_core.specs.Sessions.{opened}
-use Rattle.radio_core.proofs.PreparedLemmas.{begun_prepared}
+use Rattle.radio_parts.specs.Sessions.{opened}
+use Rattle.radio_parts.proofs.PreparedLemmas.{begun_prepared}
 use Rattle.radio_core.proofs.server.state.State.begin.Goals as goal
 
 pub invariant_of-self-in-Ok : goal.invariant_of-self-in-Ok

@@ -6,7 +6,7 @@ use Rattle.radio_core.specs.declared.standing.Standing.{Standing}
 use Rattle.radio_core.specs.declared.standing.Standing.TheVariants.{Unknown, Undecided, Feeds, Sits, Answered, Finished}
 use Rattle.radio_core.specs.Draw.{hands_out, hands_out_at}
 use Rattle.radio_core.specs.Outcomes.{if_sitting, out_of_place}
-use Rattle.radio_core.specs.Sessions.{session_of}
+use Rattle.radio_parts.specs.Sessions.{session_of}
 use Rattle.radio_core.specs.World.{World, standing_of}
 use Rattle.radio_core.proofs.StepLemmas.{seat_sits}
 use Rattle.radio_core.proofs.server.state.State.draw.Goals as goal

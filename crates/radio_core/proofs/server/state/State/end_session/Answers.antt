@@ -1,9 +1,9 @@
 use Rattle.std.proofs.Common.{◌==◌, List, refl, ap, ◌∙◌}
 use Rattle.radio_seats.specs.Board.{Board}
 use Rattle.radio_seats.specs.Seats.{count_at}
-use Rattle.radio_core.specs.Sessions.{Session, session_of}
-use Rattle.radio_core.proofs.Lookups.{is_over}
-use Rattle.radio_core.proofs.PreparedLemmas.{ended_prepared, idle_released, still_prepared}
+use Rattle.radio_parts.specs.Sessions.{Session, session_of}
+use Rattle.radio_parts.proofs.SessionLookups.{is_over}
+use Rattle.radio_parts.proofs.PreparedLemmas.{ended_prepared, idle_released, still_prepared}
 use Rattle.radio_core.proofs.server.state.State.end_session.Goals as goal
 
 pub invariant_of-self : goal.invariant_of-self

@@ -1,7 +1,7 @@
 use Rattle.std.proofs.Common.{Some, refl, ap}
 use Rattle.radio_core.specs.declared.house.House.{House}
-use Rattle.radio_core.specs.Sessions.{with_title}
-use Rattle.radio_core.proofs.PreparedLemmas.{changed_prepared}
+use Rattle.radio_parts.specs.Sessions.{with_title}
+use Rattle.radio_parts.proofs.PreparedLemmas.{changed_prepared}
 use Rattle.radio_core.proofs.server.state.State.set_title.Goals as goal
 
 pub invariant_of-self : goal.invariant_of-self

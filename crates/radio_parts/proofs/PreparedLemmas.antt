@@ -6,9 +6,9 @@ use Rattle.std.proofs.lemmas.Slice.Eq.{bytes_eq-Decides}
 use Rattle.radio_tables.specs.Lists.{update_first}
 use Rattle.radio_tables.proofs.KeyLaws.{by_name}
 use Rattle.radio_seats.specs.Board.{is_prepared}
-use Rattle.radio_core.specs.Prepared.{LiveArePrepared}
-use Rattle.radio_core.specs.Sessions.{Session, is_of, session_of, with_session, without_session}
-use Rattle.radio_core.proofs.Lookups.{is_over, beside_ended, beside_begun}
+use Rattle.radio_parts.specs.Prepared.{LiveArePrepared}
+use Rattle.radio_parts.specs.Sessions.{Session, is_of, session_of, with_session, without_session}
+use Rattle.radio_parts.proofs.SessionLookups.{is_over, beside_ended, beside_begun}
 
 -- no mount is live that was not, and no other is prepared
 pub still_prepared : (live later : List Session) (prepared more : List (List ℕ)) → later ≡ live → more ≡ prepared → LiveArePrepared live prepared

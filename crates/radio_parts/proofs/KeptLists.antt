@@ -8,12 +8,10 @@ use Rattle.std.specs.Ordering.{match_ordering}
 use Rattle.std.specs.Str.{bytes_eq}
 use Rattle.radio_tables.specs.Lists.{Each}
 use Rattle.radio_tables.proofs.FindLaws.{find_mapped, found_has}
-use Rattle.radio_core.specs.Kept.{kept_session, kept_live}
-use Rattle.radio_core.specs.KeptChanges.{longer_kept, kept_fed}
-use Rattle.radio_core.specs.Sessions.{Session, is_of, session_of, by_mount, with_session, longer, fed, with_title, titled, without_session}
-use Rattle.radio_core.specs.StandsFor.{HasRisingStarts}
+use Rattle.radio_parts.specs.Kept.{kept_session, kept_live, longer_kept, kept_fed}
+use Rattle.radio_parts.specs.Sessions.{Session, is_of, session_of, by_mount, with_session, longer, fed, with_title, titled, without_session, HasRisingStarts}
 use Rattle.radio_parts.specs.Stream.{end_of}
-use Rattle.radio_core.specs.Timeouts.{is_silent}
+use Rattle.radio_parts.specs.Timeouts.{is_silent}
 use Rattle.radio_parts.proofs.KeptStreams.{kept_end, kept_more}
 
 module _ (limit : ℕ) where

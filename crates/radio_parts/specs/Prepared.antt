@@ -1,7 +1,7 @@
 -- Listeners can be seated at live mounts.
 use Rattle.std.specs.Prelude.{◌≡◌, ℕ, true, is_some, List}
 use Rattle.radio_seats.specs.Board.{is_prepared}
-use Rattle.radio_core.specs.Sessions.{Session, session_of}
+use Rattle.radio_parts.specs.Sessions.{Session, session_of}
 
 -- each live mount is prepared
 pub record LiveArePrepared (live : List Session) (prepared : List (List ℕ)) : Type 0 where

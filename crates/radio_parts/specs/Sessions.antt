@@ -1,12 +1,12 @@
 -- The live mounts' sessions.
-use Rattle.std.specs.Prelude.{ℕ, Bool, List, Option, Some, None, find, filter, not}
+use Rattle.std.specs.Prelude.{◌≡◌, ℕ, Bool, false, List, [], ◌∷◌, Option, Some, None, find, filter, not}
 use Rattle.std.specs.declared.cmp.Ordering.{Ordering}
 use Rattle.std.specs.Cmp.Lexicographic.{slice_cmp}
 use Rattle.std.specs.Ordering.{nat_cmp}
 use Rattle.std.specs.Str.{bytes_eq}
 use Rattle.radio_settings.specs.declared.field.Shown.{Shown}
-use Rattle.radio_tables.specs.Lists.{update_first, placed}
-use Rattle.radio_parts.specs.Stream.{WholeStream, no_data, with_block}
+use Rattle.radio_tables.specs.Lists.{update_first, placed, Each}
+use Rattle.radio_parts.specs.Stream.{WholeStream, AreRising, no_data, end_of, with_block}
 
 -- what a source feeds to a mount, from its admission on
 pub record Session : Type 0 where
@@ -59,3 +59,12 @@ titled live mount title = update_first (is_of mount) (with_title (Some title)) l
 -- the mount's session has ended
 abbrev pub without_session : List Session → List ℕ → List Session
 without_session live mount = filter (λ session. not (is_of mount session)) live
+
+-- no two of the sessions are of one mount
+abbrev pub AreApart : List Session → Type 0
+AreApart [] = Unit {0}
+AreApart (session ∷ live) = Each (λ (other : Session). bytes_eq session.mount other.mount ≡ false) live × AreApart live
+
+-- blocks start one after another, within the stream
+abbrev pub HasRisingStarts : Session → Type 0
+HasRisingStarts session = AreRising session.stream.starts (end_of session.stream)

@@ -1,9 +1,9 @@
 //! The live mounts' sessions.
 
 use crate::OutOfMemory;
+use crate::stream::Stream;
 use radio_blocks::Block;
 use radio_icy::Title;
-use radio_parts::Stream;
 use radio_seats::KeptName;
 use radio_settings::{MountName, Shown};
 use radio_tables::{Row, Swap, TryChange};
@@ -12,21 +12,23 @@ use std::mem;
 
 /// What a source feeds to a mount, from its admission on.
 #[derive(Drop)]
-pub(crate) struct Session {
-    pub(crate) mount: KeptName,
+pub struct Session {
+    /// The mount that is fed.
+    pub mount: KeptName,
     /// The number of the client that feeds it.
-    pub(crate) number: u64,
-    pub(crate) stream: Stream,
+    pub number: u64,
+    /// Its data.
+    pub stream: Stream,
     /// The title of what is on the air, if one was set.
-    pub(crate) title: Option<Title>,
+    pub title: Option<Title>,
     /// What the heads of its listeners show.
-    pub(crate) shown: Shown,
+    pub shown: Shown,
     /// The moment of its last block, or of its admission before there is one, in milliseconds.
-    pub(crate) last_block: u64,
+    pub last_block: u64,
 }
 
 impl Model for Session {
-    ghost use Rattle.radio_core.specs.Sessions.{Session};
+    ghost use Rattle.radio_parts.specs.Sessions.{Session};
 
     ghost Value = { Session };
 
@@ -37,7 +39,7 @@ impl Row for Session {
     type Key = MountName;
 
     ghost use Rattle.radio_tables.proofs.KeyLaws.{name_is};
-    ghost use Rattle.radio_core.specs.Sessions.{is_of};
+    ghost use Rattle.radio_parts.specs.Sessions.{is_of};
 
     ghost key = { λ session. session.mount };
 
@@ -53,15 +55,18 @@ impl Row for Session {
 /// The session has delivered a block at this moment; of its stream the last blocks are kept that
 /// have `limit` bytes.
 #[derive(Drop)]
-pub(crate) struct Delivers {
-    pub(crate) block: Block,
-    pub(crate) moment: u64,
-    pub(crate) limit: u64,
+pub struct Delivers {
+    /// The block.
+    pub block: Block,
+    /// The moment, in milliseconds.
+    pub moment: u64,
+    /// How many bytes the blocks have together that are kept, at least.
+    pub limit: u64,
 }
 
 impl TryChange<Session> for Delivers {
     ghost use Rattle.std.specs.Prelude.{refl};
-    ghost use Rattle.radio_core.specs.KeptChanges.{longer_kept};
+    ghost use Rattle.radio_parts.specs.Kept.{longer_kept};
 
     ghost gives = { λ change session. longer_kept change.limit change.block change.moment session };
 
@@ -77,13 +82,14 @@ impl TryChange<Session> for Delivers {
 
 /// The session has this title from now on; then it is the title that it had.
 #[derive(Drop)]
-pub(crate) struct NewTitle {
-    pub(crate) title: Option<Title>,
+pub struct NewTitle {
+    /// The title, or none.
+    pub title: Option<Title>,
 }
 
 impl Swap<Session> for NewTitle {
     ghost use Rattle.std.specs.Prelude.{refl};
-    ghost use Rattle.radio_core.specs.Sessions.{with_title};
+    ghost use Rattle.radio_parts.specs.Sessions.{with_title};
 
     ghost gives = { λ swap session. with_title swap.title session };
 

@@ -10,8 +10,7 @@ use Rattle.radio_tables.specs.Lists.{update_first, placed, Each}
 use Rattle.radio_tables.proofs.EachLaws.{Each_each, Each_kept, Each_updated, Each_placed}
 use Rattle.radio_tables.proofs.FindLaws.{find_here, find_later, found_has, passes_none}
 use Rattle.radio_tables.proofs.KeyLaws.{by_name}
-use Rattle.radio_core.specs.Sessions.{Session, is_of, session_of, by_mount, with_session}
-use Rattle.radio_core.specs.Sound.{AreApart}
+use Rattle.radio_parts.specs.Sessions.{Session, is_of, session_of, by_mount, with_session, AreApart}
 
 pub bytes_apart : (a b : List ℕ) → bytes_eq a b ≡ false → bytes_eq b a ≡ false
 bytes_apart a b e = by_name b a (λ same. let there : bytes_eq a b ≡ true = (bytes_eq-Decides a b).1 (sym same) in cc) (λ apart. apart)
