@@ -19,12 +19,10 @@ use Rattle.radio_core.specs.Others.{StandsOn, OthersStandOn}
 use Rattle.radio_seats.specs.Seats.{listener_of, seat_of}
 use Rattle.radio_core.specs.Sound.{IsSound}
 use Rattle.radio_core.specs.Step.{outcome, reply_to, world_after}
-use Rattle.radio_core.specs.Ways.{Way, Misplaced, IsFinished, IsDenied, IsRefused, IsAdmitted, Begins, Receives, SetsTitle, TakesSeat, HandsOut, Ends}
-use Rattle.radio_core.specs.Ways.{EndsAndLeaves, Leaves, Obeys, HasPassed, Ticks}
 use Rattle.radio_events.specs.Events.{client_in}
+use Rattle.radio_core.proofs.NamedRules.{RuleNamed, DeniesIt, RefusesHim, TellsHisRule, NamesNoRule, rule_in, rule_named}
 use Rattle.radio_core.proofs.Effects.{Effect, Same, Joins, Acts, Sweeps, IsSwept, GoesOnAs, IsOut, HasDone, HasActed, effect_of}
 use Rattle.radio_core.proofs.TickLemmas.{asking_at}
-use Rattle.radio_core.proofs.Ways.{way_of}
 
 -- whoever is finished by an event was there
 new_in : (listener : Option Listener) (client : Client) → client.state ≡ IsNew → standing_in listener (Some client) ≡ Unknown → ⊥
@@ -138,26 +136,14 @@ module _ (w : World) (s : IsSound w) (event : Event) where
   undecided_before id peer e = undecided_by id peer e (effect_of w s event)
 
 -- who is told that he was finished stands so
-told_by : (w : World) (event : Event) (o : Outcome) → Way w event o → (rule : Rule) → o.reply ≡ Finished rule
+told_by : (w : World) (event : Event) (o : Outcome) → RuleNamed w event o → (rule : Rule) → o.reply ≡ Finished rule
     → (id : ℕ) × (client_in event ≡ Some id) × (standing_of w id ≡ HasFinished rule)
-told_by w event o (IsFinished _ him by its known) rule d = let same : by ≡ rule = cc in (him, its, known ∙ ap (λ (r : Rule). HasFinished r) same)
-told_by w event o (Misplaced _) rule d = cc
-told_by w event o (IsDenied _ by v nobody) rule d = cc
-told_by w event o (IsRefused _ him by v its undecided) rule d = cc
-told_by w event o (IsAdmitted peer allowed) rule d = cc
-told_by w event o (Begins asked undecided none allowed) rule d = cc
-told_by w event o (Receives him mount block feeding) rule d = cc
-told_by w event o (SetsTitle him mount text feeding) rule d = cc
-told_by w event o (Obeys _ command c) rule d = cc
-told_by w event o (HasPassed ms e) rule d = cc
-told_by w event o (Ticks ms e) rule d = cc
-told_by w event o (TakesSeat asked peer session undecided lands live allowed) rule d = cc
-told_by w event o (HandsOut him room seat session sits has live) rule d = cc
-told_by w event o (Ends him mount feeding) rule d = cc
-told_by w event o (EndsAndLeaves him mount feeding) rule d = cc
-told_by w event o (Leaves him other) rule d = cc
+told_by w event o (TellsHisRule him by its known) rule d = let same : by ≡ rule = cc in (him, its, known ∙ ap (λ (r : Rule). HasFinished r) same)
+told_by w event o (DeniesIt by v nobody) rule d = cc
+told_by w event o (RefusesHim him by v its undecided) rule d = cc
+told_by w event o (NamesNoRule _ none) rule d = let named : rule_in o.reply ≡ Some rule = ap rule_in d in cc
 
 pub finished_told : (w : World) (event : Event) (rule : Rule) → reply_to w event ≡ Finished rule
     → (id : ℕ) × (client_in event ≡ Some id) × (standing_of w id ≡ HasFinished rule)
 unfolding reply_to
-finished_told w event rule d = told_by w event (outcome w event) (way_of w event) rule d
+finished_told w event rule d = told_by w event (outcome w event) (rule_named w event) rule d

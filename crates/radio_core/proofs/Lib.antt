@@ -18,6 +18,9 @@ pub mod Fates
 pub mod FinishLemmas
 pub mod Lookups
 pub mod LostSeats
+pub mod NamedRules
+mod NumbersRise
+mod NumbersStay
 pub mod OwnLemmas
 pub mod ReplyLemmas
 pub mod SeatSteps

@@ -30,7 +30,7 @@ use Rattle.radio_core.specs.declared.outcome.Change.TheVariants.{Nothing, Answer
 use Rattle.radio_core.specs.declared.outcome.Outcome.{Outcome}
 use Rattle.radio_core.specs.declared.standing.Standing.TheVariants.{Undecided}
 use Rattle.radio_core.specs.Changes.{changed}
-use Rattle.radio_core.specs.Clients.{Client, client_of}
+use Rattle.radio_core.specs.Clients.{Client, client_of, in_state}
 use Rattle.radio_laws.specs.Denials.{IsOnlyAnswered, DenialsAreThePolicys, AddressesAreDenied, FeedsAsItsSource, OnlySourcesFeed}
 use Rattle.radio_laws.specs.Denials.{KnownMountsAreKnown}
 use Rattle.radio_core.specs.Facts.{is_known, arrive_facts, rows_to_arrive}
@@ -41,9 +41,11 @@ use Rattle.radio_core.specs.Step.{outcome, reply_to, world_after}
 use Rattle.radio_core.specs.Ways.{Way, Misplaced, IsFinished, IsDenied, IsRefused, IsAdmitted, Begins, Receives, SetsTitle, TakesSeat, HandsOut, Ends}
 use Rattle.radio_core.specs.Ways.{EndsAndLeaves, Leaves, Obeys, HasPassed, Ticks, rows_for, IsUndecided}
 use Rattle.radio_core.specs.World.{World, standing_of, standing_in}
-use Rattle.radio_laws.proofs.LimitDenials.{denied_by, why_denied, unknown_where}
+use Rattle.radio_laws.proofs.LimitDenials.{denied_by}
+use Rattle.radio_laws.proofs.ListenerDenials.{why_denied, unknown_where}
 use Rattle.radio_core.proofs.Lookups.{does, beside_state}
 use Rattle.radio_core.proofs.Ways.{way_of, may_feed}
+use Rattle.radio_core.proofs.NamedRules.{RuleNamed, DeniesIt, RefusesHim, TellsHisRule, NamesNoRule, rule_in, rule_named}
 
 module _ (denies : (rows : List Row) (rule : Rule) → (verdict_in rows ≡ Denied rule) ↔ Denies rows rule) (w : World) where
   abbrev Denial : Event → Outcome → Type 0
@@ -56,8 +58,13 @@ module _ (denies : (rows : List Row) (rule : Rule) → (verdict_in rows ≡ Deni
     by_state : (x : Client) → x.state ≡ IsNew → standing_in listener (Some x) ≡ Undecided x.peer
     by_state x e = rw e refl
 
-  nobody_answered : (client : Option ℕ) → ((id : ℕ) → client ≡ Some id → IsUndecided w id → ⊥) → IsOnlyAnswered w w client
-  nobody_answered client not = record {
+  -- the list of clients alone is another
+  among_clients : (client : Option ℕ) (clients : List Client)
+      → ((id : ℕ) (him : Client) → client ≡ Some id → client_of w.house.clients id ≡ Some him → him.state ≡ IsNew
+      → client_of clients id ≡ Some (record him { state = HasHisAnswer }))
+      → ((id : ℕ) → (client ≡ Some id → IsUndecided w id → ⊥) → client_of clients id ≡ client_of w.house.clients id)
+      → IsOnlyAnswered w (record w { house = record w.house { clients = clients } }) client
+  among_clients client clients answered others = record {
     time = refl;
     settings = refl;
     lists = refl;
@@ -65,54 +72,41 @@ module _ (denies : (rows : List Row) (rule : Rule) → (verdict_in rows ≡ Deni
     fallbacks = refl;
     last = refl;
     seats = refl;
-    answered = λ id him his there new. absurd (not id his (him.peer, is_undecided (listener_of w.seats id) (client_of w.house.clients id) him there new));
-    others = λ id other. refl;
+    answered = answered;
+    others = others;
   }
+
+  nobody_answered : (client : Option ℕ) → ((id : ℕ) → client ≡ Some id → IsUndecided w id → ⊥) → IsOnlyAnswered w w client
+  nobody_answered client not =
+      among_clients client w.house.clients
+      (λ id him his there new. absurd (not id his (him.peer, is_undecided (listener_of w.seats id) (client_of w.house.clients id) him there new)))
+      (λ id other. refl)
 
   named : (event : Event) (by rule : Rule) → verdict_in (rows_for w event) ≡ Denied by → Deny by ≡ Deny rule → Denies (rows_for w event) rule
   named event by rule v d = let same : by ≡ rule = cc in (denies (rows_for w event) rule).0 (v ∙ ap (λ (r : Rule). Denied r) same)
 
   is_answered : (id : ℕ) (client : Option ℕ) → client ≡ Some id → IsUndecided w id → IsOnlyAnswered w (changed w (Answer id)) client
-  is_answered id client e undecided = record {
-    time = refl;
-    settings = refl;
-    lists = refl;
-    live = refl;
-    fallbacks = refl;
-    last = refl;
-    seats = refl;
-    answered = λ other him his there new.
-        let both : Some id ≡ Some other = sym e ∙ his in
-        let same : id ≡ other = cc in
-        ap (client_of (changed w (Answer id)).house.clients) (sym same)
-        ∙ does w.house.clients id HasHisAnswer him (ap (client_of w.house.clients) same ∙ there);
-    others = λ other not.
-        by_number id other
-        (λ same. absurd (not (e ∙ ap (λ (n : ℕ). Some n) same) (undecided.0, ap (standing_of w) (sym same) ∙ undecided.1)))
-        (λ apart. beside_state w.house.clients id other apart HasHisAnswer);
-  }
+  is_answered id client e undecided =
+      among_clients client (in_state w.house.clients id HasHisAnswer)
+      (λ other him his there new.
+      let both : Some id ≡ Some other = sym e ∙ his in
+      let same : id ≡ other = cc in
+      ap (client_of (in_state w.house.clients id HasHisAnswer)) (sym same)
+      ∙ does w.house.clients id HasHisAnswer him (ap (client_of w.house.clients) same ∙ there))
+      (λ other not.
+      by_number id other
+      (λ same. absurd (not (e ∙ ap (λ (n : ℕ). Some n) same) (undecided.0, ap (standing_of w) (sym same) ∙ undecided.1)))
+      (λ apart. beside_state w.house.clients id other apart HasHisAnswer))
 
-  denial_by : (event : Event) (o : Outcome) → Way w event o → Denial event o
-  denial_by event o (IsDenied _ by v not) = λ rule d. (named event by rule v d, nobody_answered (client_in event) not)
-  denial_by event o (IsRefused _ id by v his undecided) = λ rule d. (named event by rule v d, is_answered id (client_in event) his undecided)
-  denial_by event o (Misplaced _) = λ rule d. cc
-  denial_by event o (IsFinished _ id by his told) = λ rule d. cc
-  denial_by event o (IsAdmitted peer allowed) = λ rule d. cc
-  denial_by event o (Begins asked undecided none allowed) = λ rule d. cc
-  denial_by event o (Receives id mount block feeding) = λ rule d. cc
-  denial_by event o (SetsTitle id mount text feeding) = λ rule d. cc
-  denial_by event o (Obeys _ command c) = λ rule d. cc
-  denial_by event o (HasPassed ms e) = λ rule d. cc
-  denial_by event o (Ticks ms e) = λ rule d. cc
-  denial_by event o (TakesSeat asked peer session undecided lands live allowed) = λ rule d. cc
-  denial_by event o (HandsOut id room seat session sits has live) = λ rule d. cc
-  denial_by event o (Ends id mount feeding) = λ rule d. cc
-  denial_by event o (EndsAndLeaves id mount feeding) = λ rule d. cc
-  denial_by event o (Leaves id other) = λ rule d. cc
+  denial_by : (event : Event) (o : Outcome) → RuleNamed w event o → Denial event o
+  denial_by event o (DeniesIt by v not) = λ rule d. (named event by rule v d, nobody_answered (client_in event) not)
+  denial_by event o (RefusesHim id by v his undecided) = λ rule d. (named event by rule v d, is_answered id (client_in event) his undecided)
+  denial_by event o (TellsHisRule id by his told) = λ rule d. cc
+  denial_by event o (NamesNoRule _ none) = λ rule d. let names : rule_in o.reply ≡ Some rule = ap rule_in d in cc
 
   pub denials_hold : (event : Event) → DenialsAreThePolicys w event
   unfolding reply_to world_after
-  denials_hold event = denial_by event (outcome w event) (way_of w event)
+  denials_hold event = denial_by event (outcome w event) (rule_named w event)
 
 -- addresses are asked first
 address_denied : (denied allowed full spent : Bool) → denied ≡ true
@@ -198,7 +192,7 @@ module _ (w : World) (asked : ListenRequest) where
   is_unknown : reply_to w (Listen asked) ≡ Deny NoMount → is_known w.house asked.mount ≡ false
   unfolding reply_to
   is_unknown d =
-      denied_by w NoMount (Listen asked) (outcome w (Listen asked)) (way_of w (Listen asked)) d
+      denied_by w NoMount (Listen asked) (outcome w (Listen asked)) (rule_named w (Listen asked)) d
       (λ v. unknown_where w asked (why_denied w asked NoMount v))
 
   -- each of three reasons for which it is known

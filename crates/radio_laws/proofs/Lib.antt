@@ -8,6 +8,7 @@ mod GoneLemmas
 mod InTime
 mod KilledLemmas
 mod LimitDenials
+mod ListenerDenials
 mod LimitLemmas
 mod ListsLemmas
 mod MountLemmas

@@ -1,0 +1,223 @@
+-- numbers rise among clients and among listeners, after each event too
+use Rattle.std.proofs.Common.{◌≡◌, true, ℕ, ◌+◌, ◌==◌, Option, Some, None, List, refl, ap}
+use Rattle.std.proofs.Common.{sym, subst, ◌∙◌, arith}
+use Rattle.std.proofs.lemmas.Bool.Decides.{nat_tests}
+use Rattle.radio_tables.proofs.KeyLaws.{by_number}
+use Rattle.radio_addr.specs.declared.peer.Peer.{Peer}
+use Rattle.radio_settings.specs.declared.settings.Settings.{Settings}
+use Rattle.radio_access.specs.Lists.{Lists}
+use Rattle.radio_seats.specs.declared.seat.Listener.{Listener}
+use Rattle.radio_seats.specs.declared.seat.Seat.{Seat}
+use Rattle.radio_seats.specs.declared.seat.Seating.{Seating}
+use Rattle.radio_seats.specs.declared.seat.Seating.TheVariants.{Sits as HasSeat, Finished as HasFinished}
+use Rattle.radio_seats.specs.Seats.{is_listener, listener_of, advanced, seated}
+use Rattle.radio_core.specs.declared.clients.ClientState.{ClientState}
+use Rattle.radio_core.specs.declared.clients.ClientState.TheVariants.{Undecided as IsNew, Feeds as IsSource, Listens, Answered as HasHisAnswer, Ended}
+use Rattle.radio_events.specs.declared.event.Event.{Event}
+use Rattle.radio_events.specs.declared.event.Event.TheVariants.{Push}
+use Rattle.radio_core.specs.declared.outcome.Change.TheVariants.{TakeSeat, Forget}
+use Rattle.radio_core.specs.declared.outcome.Outcome.{Outcome}
+use Rattle.radio_events.specs.Events.{client_in}
+use Rattle.radio_core.specs.declared.standing.Standing.{Standing}
+use Rattle.radio_core.specs.declared.standing.Standing.TheVariants.{Unknown, Undecided, Feeds, Answered}
+use Rattle.radio_core.specs.Clients.{Client, client_of, newcomer}
+use Rattle.radio_core.specs.Finishes.{Cause}
+use Rattle.radio_core.specs.Changes.{changed, session_ended, taken_in}
+use Rattle.radio_core.specs.Changes.{ticked}
+use Rattle.radio_core.specs.Listen.{first_seat}
+use Rattle.radio_core.specs.Sound.{IsSound}
+use Rattle.radio_core.specs.Source.{shown_for}
+use Rattle.radio_core.specs.Step.{outcome, world_after}
+use Rattle.radio_core.specs.Ways.{Way, Misplaced, IsFinished, IsDenied, IsRefused, IsAdmitted, Begins, Receives, SetsTitle, TakesSeat, HandsOut, Ends}
+use Rattle.radio_core.specs.Ways.{EndsAndLeaves, Leaves, Obeys, HasPassed, Ticks}
+use Rattle.radio_core.specs.World.{World, opening, standing_of, standing_in, standing_by, standing_seated, standing_of_listener}
+use Rattle.radio_core.proofs.CalledHome.{turns_up}
+use Rattle.radio_core.proofs.Effects.{IsSwept, GoesOnAs, IsOut, HasDone, tick_swept, obeyed_swept, his_event}
+use Rattle.radio_core.proofs.Fates.{Fate, GoesOn, IsEnded, HasStopped, IsMoved, HasEnded, Nobody}
+use Rattle.radio_parts.proofs.NumberLists.{IsRising, IsFree, placed_rising, placed_free, kept_rising, kept_free}
+use Rattle.radio_parts.proofs.NumberLists.{taken_free, numbers_updated, numbers_placed, numbers_without}
+use Rattle.radio_core.proofs.Obeyed.{is_answered}
+use Rattle.radio_core.proofs.SoundEnds.{turns_ended}
+use Rattle.radio_core.proofs.SoundRuns.{grown_world, NoMove, lag_fates}
+use Rattle.radio_core.proofs.Standings.{Turns, turns_answered, turns_sitting, turns_forgotten, turns_admitted, stays_hearing}
+use Rattle.radio_core.proofs.Ways.{way_of}
+use Rattle.radio_seats.proofs.SeatLaws.{listener_seated}
+use Rattle.radio_core.proofs.NumbersStay.{number_of, row_of, ids, rows, AreTheSame, same_state, same_obeyed, same_over_rows, same_ticked, same_begun, same_received}
+
+-- he has not asked for anything yet, if he is there at all
+abbrev pub IsYetToAsk : Standing → Type 0
+IsYetToAsk Unknown = Unit {0}
+IsYetToAsk (Undecided peer) = Unit {0}
+IsYetToAsk standing = ⊥
+
+-- numbers rise in both tables, and who has not asked for anything is no listener
+pub record AreInOrder (w : World) : Type 0 where
+  pub clients : IsRising (ids w)
+  pub seats : IsRising (rows w)
+  pub fresh : (id : ℕ) → IsYetToAsk (standing_of w id) → IsFree id (rows w)
+
+-- one client stands otherwise from now on, and not as one who has yet to ask
+turned : (w later : World) (him : ℕ) (now : Standing) → Turns w later him now → (IsYetToAsk now → ⊥)
+    → ((id : ℕ) → IsYetToAsk (standing_of w id) → IsFree id (rows later)) → (id : ℕ) → IsYetToAsk (standing_of later id) → IsFree id (rows later)
+turned w later him now t never before id yet =
+    by_number him id
+    (λ same. absurd (never (subst IsYetToAsk (ap (standing_of later) (sym same) ∙ t.his) yet)))
+    (λ other. before id (subst IsYetToAsk (t.others id other) yet))
+
+-- or he is none of the listeners then
+turned_free : (w later : World) (him : ℕ) (now : Standing) → Turns w later him now → IsFree him (rows later)
+    → ((id : ℕ) → IsYetToAsk (standing_of w id) → IsFree id (rows later)) → (id : ℕ) → IsYetToAsk (standing_of later id) → IsFree id (rows later)
+turned_free w later him now t none before id yet =
+    by_number him id
+    (λ same. subst (λ n. IsFree n (rows later)) same none)
+    (λ other. before id (subst IsYetToAsk (t.others id other) yet))
+
+-- whoever has yet to ask does so whoever listens
+no_yet_seating : (seating : Seating) → IsYetToAsk (standing_seated seating) → ⊥
+no_yet_seating (HasSeat seat) asks = asks
+no_yet_seating (HasFinished rule) asks = asks
+
+no_yet_listener : (listener : Option Listener) → IsYetToAsk (standing_of_listener listener) → ⊥
+no_yet_listener None asks = asks
+no_yet_listener (Some listener) asks = no_yet_seating listener.seating asks
+
+yet_by_state : (listener other : Option Listener) (peer : Peer) (state : ClientState) → IsYetToAsk (standing_by listener peer state)
+    → IsYetToAsk (standing_by other peer state)
+yet_by_state listener other peer IsNew asks = tt
+yet_by_state listener other peer (IsSource mount) asks = absurd asks
+yet_by_state listener other peer Listens asks = absurd (no_yet_listener listener asks)
+yet_by_state listener other peer HasHisAnswer asks = absurd asks
+yet_by_state listener other peer (Ended rule) asks = absurd asks
+
+yet_whoever_sits : (listener other : Option Listener) (client : Option Client) → IsYetToAsk (standing_in listener client) → IsYetToAsk (standing_in other client)
+yet_whoever_sits listener other None asks = tt
+yet_whoever_sits listener other (Some client) asks = yet_by_state listener other client.peer client.state asks
+
+module _ (w : World) (inv : AreInOrder w) where
+  -- the same are there, and who has yet to ask then had yet to ask before
+  order_still : (later : World) → AreTheSame w later → ((id : ℕ) → IsYetToAsk (standing_of later id) → IsYetToAsk (standing_of w id)) → AreInOrder later
+  order_still later same yet = record {
+    clients = subst IsRising (sym same.same_ids) inv.clients;
+    seats = subst IsRising (sym same.same_rows) inv.seats;
+    fresh = λ id asks. subst (IsFree id) (sym same.same_rows) (inv.fresh id (yet id asks));
+  }
+
+  order_turned : (later : World) (him : ℕ) (now : Standing) → AreTheSame w later → Turns w later him now → (IsYetToAsk now → ⊥) → AreInOrder later
+  order_turned later him now same t never = record {
+    clients = subst IsRising (sym same.same_ids) inv.clients;
+    seats = subst IsRising (sym same.same_rows) inv.seats;
+    fresh = turned w later him now t never (λ id asks. subst (IsFree id) (sym same.same_rows) (inv.fresh id asks));
+  }
+
+  swept_yet : (later : World) (event : Event) (id : ℕ) → (client_in event ≡ Some id → ⊥) → IsSwept w later event id → IsYetToAsk (standing_of later id) → IsYetToAsk (standing_of w id)
+  swept_yet later event id not_own (GoesOnAs same) asks = subst IsYetToAsk same asks
+  swept_yet later event id not_own (IsOut rule cause out none) asks = absurd (subst IsYetToAsk out asks)
+  swept_yet later event id not_own (HasDone own acted) asks = absurd (not_own own)
+
+  -- a session has ended
+  ended_yet : (mount : List ℕ) (id : ℕ) → IsYetToAsk (standing_of (session_ended w mount) id) → IsYetToAsk (standing_of w id)
+  ended_yet mount id asks = yet_whoever_sits (listener_of (session_ended w mount).seats id) (listener_of w.seats id) (client_of w.house.clients id) asks
+
+  same_over : (mount : List ℕ) → AreTheSame w (session_ended w mount)
+  same_over mount = record { same_ids = refl; same_rows = same_over_rows w mount; same_last = refl }
+
+  order_over : (mount : List ℕ) → AreInOrder (session_ended w mount)
+  order_over mount = order_still (session_ended w mount) (same_over mount) (ended_yet mount)
+
+-- a client leaves
+order_left : (w : World) (inv : AreInOrder w) (him : ℕ) → AreInOrder (changed w (Forget him))
+order_left w inv him =
+    let later = changed w (Forget him) in
+    let now_ids = numbers_without number_of him w.house.clients in
+    let now_rows = numbers_without row_of him w.seats in
+    record {
+      clients = subst IsRising (sym now_ids) (kept_rising him (ids w) inv.clients);
+      seats = subst IsRising (sym now_rows) (kept_rising him (rows w) inv.seats);
+      fresh = turned_free w later him Unknown (turns_forgotten w him) (subst (IsFree him) (sym now_rows) (taken_free him (rows w)))
+          (λ id asks. subst (IsFree id) (sym now_rows) (kept_free him id (rows w) (inv.fresh id asks)));
+    }
+
+-- a listener sits down
+order_seated : (w : World) (inv : AreInOrder w) (id : ℕ) (seat : Seat) → (standing_of w id ≡ Unknown → ⊥) → AreInOrder (changed w (TakeSeat id seat))
+order_seated w inv id seat known =
+    let later = changed w (TakeSeat id seat) in
+    let now_rows = numbers_placed row_of (seated id seat) w.seats in
+    let t = turns_sitting w id seat known in
+    record {
+      clients = subst IsRising (sym (same_state id Listens w.house.clients)) inv.clients;
+      seats = subst IsRising (sym now_rows) (placed_rising id (rows w) inv.seats);
+      fresh = λ him asks.
+          by_number id him
+          (λ same. absurd (subst IsYetToAsk (ap (standing_of later) (sym same) ∙ t.his) asks))
+          (λ other. subst (IsFree him) (sym now_rows) (placed_free id him (rows w) other (inv.fresh him (subst IsYetToAsk (t.others him other) asks))));
+    }
+
+module _ (w : World) (s : IsSound w) (inv : AreInOrder w) where
+  order_by : (event : Event) (o : Outcome) → Way w event o → AreInOrder (changed w o.change)
+  order_by event o (Misplaced _) = inv
+  order_by event o (IsFinished _ him by its told) = inv
+  order_by event o (IsDenied _ by v nobody) = inv
+  order_by event o (IsRefused _ him by v its undecided) =
+      let at = undecided.1 in
+      order_turned w inv (changed w o.change) him Answered
+      (record { same_ids = same_state him HasHisAnswer w.house.clients; same_rows = refl; same_last = refl })
+      (turns_answered w him (λ u. cc)) (λ h. h)
+  order_by event o (IsAdmitted peer allowed) =
+      let id = w.house.last_id + 1 in
+      let new = newcomer id peer w.house.time in
+      let none = inv.fresh id (subst IsYetToAsk (sym (s.numbered id (omega arith))) tt) in
+      record {
+        clients = subst IsRising (sym (numbers_placed number_of new w.house.clients)) (placed_rising id (ids w) inv.clients);
+        seats = inv.seats;
+        fresh = turned_free w (changed w o.change) id (Undecided peer) (turns_admitted w id peer) none (λ him asks. inv.fresh him asks);
+      }
+  order_by event o (Begins asked undecided none allowed) =
+      let at = undecided.1 in
+      order_turned w inv (changed w o.change) asked.id (Feeds asked.mount)
+      (same_begun w asked.id asked.mount (shown_for w.house asked.mount asked.shown))
+      (turns_up w s asked.id asked.mount (shown_for w.house asked.mount asked.shown) undecided.0 undecided.1 none) (λ h. h)
+  order_by event o (Receives him mount block feeding) =
+      order_still w inv (changed w o.change) (same_received w mount block)
+      (λ id. lags_yet id ((lag_fates w s mount block him feeding).fate id)) where
+        lags_yet : (id : ℕ) → Fate (Cause w (taken_in w mount block) (Push him block)) NoMove Nobody HasEnded (grown_world w mount block) (taken_in w mount block) id
+            → IsYetToAsk (standing_of (taken_in w mount block) id) → IsYetToAsk (standing_of w id)
+        lags_yet id (GoesOn same seat feeds sits) asks = subst IsYetToAsk same asks
+        lags_yet id (IsEnded rule cause active ended none over) asks = absurd (subst IsYetToAsk ended asks)
+        lags_yet id (HasStopped other why feeds done none over) asks = absurd why
+        lags_yet id (IsMoved old session carries left had has_it same live opens) asks = absurd carries
+  order_by event o (Obeys _ command c) =
+      order_still w inv (changed w o.change) (same_obeyed w c.asked.id command)
+      (λ id asks.
+      by_number c.asked.id id
+      (λ same. absurd (subst IsYetToAsk (ap (standing_of (changed w o.change)) (sym same) ∙ is_answered w s event command c) asks))
+      (λ apart. swept_yet w inv (changed w o.change) event id
+      (λ his.
+      let both : Some c.asked.id ≡ Some id = sym (his_event w s event command c) ∙ his in
+      let one : c.asked.id ≡ id = cc in
+      let itself : (c.asked.id == id) ≡ true = grind (arith, nat_tests) in
+      cc)
+      (obeyed_swept w s event command c id) asks))
+  order_by event o (HasPassed ms e) = inv
+  order_by event o (Ticks ms e) =
+      order_still w inv (changed w o.change) (same_ticked w ms)
+      (λ id. swept_yet w inv (ticked w ms) event id (λ own. cc) (tick_swept w s ms id))
+  order_by event o (SetsTitle him mount text feeding) = record { clients = inv.clients; seats = inv.seats; fresh = inv.fresh }
+  order_by event o (TakesSeat asked peer session undecided lands live allowed) =
+      order_seated w inv asked.id (first_seat w.house asked peer session) (λ u. cc)
+  order_by event o (HandsOut him room seat session sits has_one live) =
+      let listener = listener_seated w.seats him seat has_one in
+      order_still w inv (changed w o.change)
+      (record { same_ids = refl; same_rows = numbers_updated row_of (is_listener him) (advanced _) (λ x. refl) w.seats; same_last = refl })
+      (λ id asks. subst IsYetToAsk (stays_hearing w him _ listener.0 listener.1 id) asks)
+  order_by event o (Ends him mount feeding) =
+      order_turned (session_ended w mount) (order_over w inv mount) (changed w o.change) him Answered
+      (record { same_ids = same_state him HasHisAnswer w.house.clients; same_rows = refl; same_last = refl }) (turns_ended w s him mount feeding) (λ h. h)
+  order_by event o (EndsAndLeaves him mount feeding) = order_left (session_ended w mount) (order_over w inv mount) him
+  order_by event o (Leaves him other) = order_left w inv him
+
+  pub order_after : (event : Event) → AreInOrder (world_after w event)
+  unfolding world_after
+  order_after event = order_by event (outcome w event) (way_of w event)
+
+pub order_opening : (settings : Settings) (lists : Lists) → AreInOrder (opening settings lists)
+order_opening settings lists = record { clients = tt; seats = tt; fresh = λ id asks. tt }
