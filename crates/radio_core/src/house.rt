@@ -20,8 +20,7 @@ use radio_access::Lists;
 use radio_addr::Peer;
 use radio_blocks::Block;
 use radio_icy::Title;
-use radio_parts::{Delivers, NewTitle, Session, Stream, lies_back};
-use radio_seats::KeptName;
+use radio_parts::{Delivers, NewTitle, Session, first_silent};
 use radio_settings::{Field, MountName, Settings, Shown};
 use radio_tables::Table;
 use std::alloc::Global;
@@ -120,14 +119,8 @@ impl House {
         ensures ok { OnOk result (self.new ≡ begun self.old id mount shown) }
         ensures err { OnErr result (self.new ≡ self.old) }
     {
-        self.live.insert(Session {
-            mount: KeptName::new(alloc, mount)?,
-            number: id,
-            stream: Stream::new(alloc),
-            title: None,
-            shown,
-            last_block: self.time,
-        })?;
+        let session = Session::new(alloc, mount, id, shown, self.time)?;
+        self.live.insert(session)?;
         self.set_state(id, ClientState::Feeds(mount));
         Ok(())
     }
@@ -184,7 +177,7 @@ impl House {
         ensures rising { IsStrictlySortedBy (slice_cmp nat_cmp) (map (λ (session : SessionOf). session.mount) self.now.live) }
     {
         let seconds = self.settings.limits.source_timeout.get();
-        self.live.iter().find(|session| lies_back(seconds, session.last_block, self.time))
+        first_silent(&self.live, seconds, self.time)
     }
 }
 

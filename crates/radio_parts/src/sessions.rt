@@ -1,12 +1,24 @@
 //! The live mounts' sessions.
 
+ghost use Rattle.std.specs.Prelude.{◌≡◌, find, map, IfOk};
+ghost use Rattle.std.specs.Cmp.Lexicographic.{slice_cmp};
+ghost use Rattle.std.specs.List.Sorted.{IsStrictlySortedBy};
+ghost use Rattle.std.specs.Option.{option_copied};
+ghost use Rattle.std.specs.Ordering.{nat_cmp};
+ghost use Rattle.radio_parts.specs.Due.{earliest, session_due};
+ghost use Rattle.radio_parts.specs.Sessions.{Session as SessionOf, opened};
+ghost use Rattle.radio_parts.specs.Timeouts.{is_silent};
+
 use crate::OutOfMemory;
+use crate::due::{LAST_MOMENT, due_at};
 use crate::stream::Stream;
+use crate::timeouts::lies_back;
 use radio_blocks::Block;
 use radio_icy::Title;
 use radio_seats::KeptName;
 use radio_settings::{MountName, Shown};
-use radio_tables::{Row, Swap, TryChange};
+use radio_tables::{Row, Swap, Table, TryChange};
+use std::alloc::Global;
 use std::marker::Model;
 use std::mem;
 
@@ -33,6 +45,49 @@ impl Model for Session {
     ghost Value = { Session };
 
     ghost view = { λ s. record { mount = s.mount; number = s.number; stream = s.stream; title = s.title; shown = s.shown; last_block = s.last_block } };
+}
+
+impl Session {
+    /// The session that begins on the mount at this moment, of the source of that number.
+    /// `OutOfMemory` where memory was refused.
+    pub fn new(
+        alloc: Global,
+        mount: MountName,
+        number: u64,
+        shown: Shown,
+        moment: u64,
+    ) -> Result<Session, OutOfMemory>
+        ensures { IfOk result (λ session. session ≡ opened mount number shown moment) }
+    {
+        Ok(Session {
+            mount: KeptName::new(alloc, mount)?,
+            number,
+            stream: Stream::new(alloc),
+            title: None,
+            shown,
+            last_block: moment,
+        })
+    }
+}
+
+/// The first session whose source has sent nothing in so many seconds.
+pub fn first_silent(live: &Table<Session>, seconds: u32, now: u64) -> Option<&Session>
+    ensures first { option_copied result ≡ find (is_silent seconds now) live.now }
+    // so that each ends once
+    ensures rising { IsStrictlySortedBy (slice_cmp nat_cmp) (map (λ (session : SessionOf). session.mount) live.now) }
+{
+    live.iter()
+        .find(|session| lies_back(seconds, session.last_block, now))
+}
+
+/// The earliest moment at which a session is due whose source may send nothing for so many seconds.
+/// The time grows as their number.
+pub fn first_session_due(live: &Table<Session>, seconds: u32) -> u64
+    ensures { result ≡ earliest (session_due seconds) live.now }
+{
+    live.iter().fold(LAST_MOMENT, |first, session| {
+        first.min(due_at(seconds, session.last_block))
+    })
 }
 
 impl Row for Session {

@@ -3,7 +3,7 @@
 ghost use Rattle.std.specs.Prelude.{◌≡◌, map, IsOk, IfOk, OnOk, OnErr};
 ghost use Rattle.radio_core.specs.Changes.{ticked};
 ghost use Rattle.radio_core.specs.Counts.{counted};
-ghost use Rattle.radio_parts.specs.Due.{earliest, guest_due, last_moment, session_due};
+ghost use Rattle.radio_parts.specs.Due.{earliest, guest_due, last_moment};
 ghost use Rattle.radio_core.specs.Due.{at_moment, due_by, client_due, first_due};
 ghost use Rattle.radio_core.specs.KeptChanges.{kept_changed};
 ghost use Rattle.radio_seats.specs.Guests.{first_moment};
@@ -22,7 +22,7 @@ use crate::outcome::{Change, Outcome};
 use radio_access::Lists;
 use radio_events::{Event, Reply};
 use radio_fallback::Carried;
-use radio_parts::{GuestDue, LAST_MOMENT, due_at, seat_due};
+use radio_parts::{GuestDue, LAST_MOMENT, due_at, first_session_due, seat_due};
 use radio_settings::Settings;
 use std::alloc::Global;
 use std::marker::Model;
@@ -179,7 +179,9 @@ impl State {
     fn first_due(&self) -> u64
         ensures { result ≡ first_due self.now }
     {
-        let others = self.first_listener_due().min(self.first_session_due());
+        let seconds = self.house.settings.limits.source_timeout.get();
+        let sessions = first_session_due(&self.house.live, seconds);
+        let others = self.first_listener_due().min(sessions);
         self.first_client_due().min(others)
     }
 
@@ -198,15 +200,5 @@ impl State {
     {
         let settings = &self.house.settings;
         self.seats.first_moment(&GuestDue { settings }, LAST_MOMENT)
-    }
-
-    fn first_session_due(&self) -> u64
-        ensures { result ≡ earliest (session_due self.now.house.settings.limits.source_timeout) self.now.house.live }
-    {
-        let seconds = self.house.settings.limits.source_timeout.get();
-        self.house.live.iter().fold(
-            LAST_MOMENT,
-            |first, session| first.min(due_at(seconds, session.last_block)),
-        )
     }
 }
