@@ -6,8 +6,12 @@ use Rattle.radio_settings.specs.declared.settings.Login.{Login}
 use Rattle.radio_settings.specs.declared.settings.Settings.{Settings}
 use Rattle.radio_settings.specs.Options.{options_for}
 
+-- the pair is this user with this password
+abbrev pub is_user_with : List ℕ → List ℕ → Credentials → Bool
+is_user_with username password pair = bytes_eq username pair.user && bytes_eq password pair.password
+
 abbrev pub is_login : Login → Credentials → Bool
-is_login login pair = bytes_eq login.username pair.user && bytes_eq login.password pair.password
+is_login login pair = is_user_with login.username login.password pair
 
 -- a pair was sent, and it is the user and the password of the mount's source
 abbrev pub is_source_pair : Settings → List ℕ → Option Credentials → Bool

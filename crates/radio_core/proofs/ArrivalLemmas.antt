@@ -25,7 +25,7 @@ use Rattle.radio_core.specs.Sound.{IsSound}
 use Rattle.radio_core.specs.Step.{outcome, world_after}
 use Rattle.radio_core.specs.Timeouts.{timed_out}
 use Rattle.radio_core.specs.Ways.{Way, Misplaced, IsFinished, IsDenied, IsRefused, IsAdmitted, Begins, Receives, SetsTitle, TakesSeat, HandsOut, Ends}
-use Rattle.radio_core.specs.Ways.{EndsAndLeaves, Leaves, Obeys, HasPassed, Ticks}
+use Rattle.radio_core.specs.Ways.{EndsAndLeaves, Leaves, Obeys, Shows, HasPassed, Ticks}
 use Rattle.radio_core.specs.World.{World, standing_of, standing_in}
 use Rattle.radio_core.proofs.CalledHome.{house_called}
 use Rattle.radio_core.proofs.Lookups.{does, beside_state, is_no_client, beside_forgotten, beside_new}
@@ -181,6 +181,7 @@ module _ (w : World) (s : IsSound w) where
   stay_by event o (Ends him mount feeding) = stays_so (changed w o.change) (keeps_state w.house.clients him HasHisAnswer)
   stay_by event o (EndsAndLeaves him mount feeding) = stays_so (changed w o.change) (keeps_forgotten w.house.clients him)
   stay_by event o (Leaves him other) = stays_so (changed w o.change) (keeps_forgotten w.house.clients him)
+  stay_by event o (Shows _ listing c) = stays_so (changed w o.change) (keeps_state w.house.clients c.asked.id HasHisAnswer)
   stay_by event o (Obeys _ command c) = stays_so (changed w o.change) (keeps_obeyed w c.asked.id command)
   stay_by event o (HasPassed ms e) = stays_so w (same_clients w.house.clients)
   stay_by event o (Ticks ms e) = stays_so (ticked w ms) (keeps_ticked w ms)

@@ -11,7 +11,7 @@ use Rattle.radio_core.specs.declared.outcome.Outcome.{Outcome}
 use Rattle.radio_core.specs.declared.standing.Standing.{Standing}
 use Rattle.radio_core.specs.declared.standing.Standing.TheVariants.{Unknown, Undecided, Feeds, Finished as HasFinished}
 use Rattle.radio_core.specs.Changes.{changed, taken_in}
-use Rattle.radio_core.specs.ClientSteps.{ClientStep, Stays, Arrives, IsAnswered, IsObeyed, BeginsToFeed, SitsDown, StopsFeeding, ClientsStep}
+use Rattle.radio_core.specs.ClientSteps.{ClientStep, Stays, Arrives, IsAnswered, IsObeyed, IsShown, BeginsToFeed, SitsDown, StopsFeeding, ClientsStep}
 use Rattle.radio_core.specs.ClientSteps.{Leaves as HeLeaves, IsFinished as HeIsFinished}
 use Rattle.radio_core.specs.Finishes.{Cause, Finishes}
 use Rattle.radio_core.specs.Listen.{first_seat}
@@ -20,7 +20,7 @@ use Rattle.radio_core.specs.Sound.{IsSound}
 use Rattle.radio_core.specs.Source.{shown_for}
 use Rattle.radio_core.specs.Step.{outcome, reply_to, world_after}
 use Rattle.radio_core.specs.Ways.{Way, Misplaced, IsFinished, IsDenied, IsRefused, IsAdmitted, Begins, Receives, SetsTitle, TakesSeat, HandsOut, Ends}
-use Rattle.radio_core.specs.Ways.{EndsAndLeaves, Leaves, Obeys, HasPassed, Ticks}
+use Rattle.radio_core.specs.Ways.{EndsAndLeaves, Leaves, Obeys, Shows, HasPassed, Ticks}
 use Rattle.radio_core.specs.World.{World, standing_of}
 use Rattle.radio_seats.proofs.SeatLaws.{listener_seated}
 use Rattle.radio_core.proofs.CalledHome.{turns_up}
@@ -100,6 +100,12 @@ module _ (w : World) (s : IsSound w) (id : ℕ) (C : Rule → Type 0) where
       let same : him ≡ id = cc in
       turned w C event id refl (sym (turns_forgotten w him).his ∙ ap (standing_of (changed w o.change)) same)
       (HeLeaves (standing_of w id) (ap (λ (n : ℕ). Leave n) same))
+  own_by event o (Shows _ listing c) his fin denies =
+      let both : Some c.asked.id ≡ Some id = sym (ap client_in c.is_event) ∙ his in
+      let same : c.asked.id ≡ id = cc in
+      turned w C event id (sym c.undecided ∙ ap (standing_of w) same)
+      (sym (turns_answered w c.asked.id (λ u. let at = c.undecided in cc)).his ∙ ap (standing_of (changed w o.change)) same)
+      (IsShown c.peer listing his c)
   own_by event o (Obeys _ command c) his fin denies =
       let both : Some c.asked.id ≡ Some id = sym (his_event w s event command c) ∙ his in
       let same : c.asked.id ≡ id = cc in

@@ -31,15 +31,18 @@ use Rattle.radio_core.specs.declared.outcome.Outcome.{Outcome}
 use Rattle.radio_events.specs.declared.reply.Reply.TheVariants.{Seated, Drawn, Text as SaysText}
 use Rattle.radio_creds.specs.Credentials.{Credentials}
 use Rattle.radio_events.specs.declared.command.Asked.{Asked}
-use Rattle.radio_events.specs.declared.command.Asked.TheVariants.{NoCommand, MissingArgument, Command as Asks}
+use Rattle.radio_events.specs.declared.command.Asked.TheVariants.{NoCommand, MissingArgument, Listing as AsksFor, Command as Asks}
 use Rattle.radio_events.specs.declared.command.Command.{Command as TheCommand}
 use Rattle.radio_events.specs.declared.command.Command.TheVariants.{MoveClients, KillClient, KillSource, SetTitle, SetFallback}
 use Rattle.radio_events.specs.declared.command.CommandRequest.{CommandRequest}
+use Rattle.radio_events.specs.declared.command.Listing.{Listing}
+use Rattle.radio_events.specs.declared.command.Listing.TheVariants.{Status, Stats, Mounts, Clients, Streams}
+use Rattle.radio_events.specs.declared.text.Text.{Text}
 use Rattle.radio_fallback.specs.declared.moves.Carried.{Carried}
 use Rattle.radio_fallback.specs.declared.moves.Move.TheVariants.{To}
 use Rattle.radio_fallback.specs.Carry.{carried}
 use Rattle.radio_core.specs.Command.{said_of, does_asked, gives_command}
-use Rattle.radio_core.specs.CommandFacts.{sits_at, needs_of, facts_for, facts_asked, opened_by, rows_to_command}
+use Rattle.radio_core.specs.CommandFacts.{sits_at, needs_of, facts_for, facts_asked, access_to, needs_to_list, opened_by, rows_to_command}
 use Rattle.radio_core.specs.Counts.{counts_by}
 use Rattle.radio_core.specs.Draw.{hands_out, hands_out_at}
 use Rattle.radio_fallback.specs.declared.walking.Landing.{Landing}
@@ -58,6 +61,7 @@ use Rattle.radio_core.specs.World.{World, standing_of}
 use Rattle.radio_parts.proofs.KeptStreams.{kept_data, kept_burst}
 use Rattle.radio_parts.proofs.KeptLists.{kept_found, kept_ends}
 use Rattle.radio_core.proofs.KeptSights.{has_session, same_sight}
+use Rattle.radio_core.proofs.ListingLemmas.{shown_kept}
 
 module _ (w : World) (rise : Each HasRisingStarts w.house.live) (kept : SeatsAreKept w) where
   abbrev queue : ℕ
@@ -141,9 +145,17 @@ module _ (w : World) (rise : Each HasRisingStarts w.house.live) (kept : SeatsAre
   needs_alike (SetTitle mount text) = ap (λ (here : Bool). MountNeeds here) (has_session w rise mount)
   needs_alike (SetFallback mount fallback) = ap (λ (here : Bool). MountNeeds here) (has_session w rise mount)
 
+  list_needs_alike : (listing : Listing) → needs_to_list (kept_of w) listing ≡ needs_to_list w listing
+  list_needs_alike Status = refl
+  list_needs_alike Stats = refl
+  list_needs_alike Mounts = refl
+  list_needs_alike (Clients mount) = ap (λ (here : Bool). MountNeeds here) (has_session w rise mount)
+  list_needs_alike Streams = refl
+
   facts_alike : (asked : Asked) (pair : Option Credentials) → facts_asked (kept_of w) asked pair ≡ facts_asked w asked pair
   facts_alike NoCommand pair = refl
   facts_alike (MissingArgument by) pair = refl
+  facts_alike (AsksFor listing) pair = ap (λ (needs : CommandNeeds). Some (record { access = access_to w.house.settings listing pair; needs = needs })) (list_needs_alike listing)
   facts_alike (Asks command) pair = ap (λ (needs : CommandNeeds). Some (facts_for w (opened_by command) needs pair)) (needs_alike command)
 
   counts_alike : (command : TheCommand) → counts_by (kept_of w) command ≡ counts_by w command
@@ -157,6 +169,7 @@ module _ (w : World) (rise : Each HasRisingStarts w.house.live) (kept : SeatsAre
   does_alike : (id : ℕ) (asked : Asked) → does_asked (kept_of w) id asked ≡ does_asked w id asked
   does_alike id NoCommand = refl
   does_alike id (MissingArgument by) = refl
+  does_alike id (AsksFor listing) = ap (λ (text : Text). says (SaysText text) (Answer id)) (shown_kept w listing)
   does_alike id (Asks command) = ap (λ (counts : Carried). says (SaysText (said_of command counts)) (Obey id command)) (counts_alike command)
 
   commands_alike : (asked : CommandRequest) → gives_command (kept_of w) asked ≡ gives_command w asked

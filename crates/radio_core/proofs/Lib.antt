@@ -1,6 +1,7 @@
 pub mod CommandLemmas
 mod CoreReplyLemmas
 mod DueLemmas
+mod ListingLemmas
 mod KeptOutcomes
 mod KeptRuns
 pub mod KeptSeats

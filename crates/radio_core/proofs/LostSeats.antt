@@ -13,7 +13,7 @@ use Rattle.radio_core.specs.Others.{StandsOn, LosesNoSeatElse}
 use Rattle.radio_core.specs.Sound.{IsSound}
 use Rattle.radio_core.specs.Step.{outcome, world_after}
 use Rattle.radio_core.specs.Ways.{Way, Misplaced, IsFinished, IsDenied, IsRefused, IsAdmitted, Begins, Receives, SetsTitle, TakesSeat, HandsOut, Ends}
-use Rattle.radio_core.specs.Ways.{EndsAndLeaves, Leaves, Obeys, HasPassed, Ticks}
+use Rattle.radio_core.specs.Ways.{EndsAndLeaves, Leaves, Obeys, Shows, HasPassed, Ticks}
 use Rattle.radio_events.specs.Events.{client_in}
 use Rattle.radio_core.specs.World.{World, standing_of}
 use Rattle.radio_core.proofs.Effects.{his_event}
@@ -51,6 +51,10 @@ module _ (w : World) (s : IsSound w) (id : ℕ) (seat : Seat) (has : seat_of w.s
   own_by event o (Begins asked undecided free allowed) his none =
       let at = undecided.1 in let same : asked.id ≡ id = cc in let sat : standing_of w asked.id ≡ Sits = ap (standing_of w) same ∙ sits in cc
   own_by event o (SetsTitle him mount text feeding) his none = cc
+  own_by event o (Shows _ listing c) his none =
+      let both : Some c.asked.id ≡ Some id = sym (ap client_in c.is_event) ∙ his in
+      let same : c.asked.id ≡ id = cc in
+      let at = c.undecided in let sat : standing_of w c.asked.id ≡ Sits = ap (standing_of w) same ∙ sits in cc
   own_by event o (Obeys _ command c) his none =
       let both : Some c.asked.id ≡ Some id = sym (his_event w s event command c) ∙ his in
       let same : c.asked.id ≡ id = cc in

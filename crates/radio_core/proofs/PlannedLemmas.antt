@@ -1,19 +1,23 @@
 -- what was worked out of an event and told how many were moved is what comes of it
-use Rattle.std.proofs.Common.{◌≡◌, ℕ, refl, ap, sym}
+use Rattle.std.proofs.Common.{◌≡◌, ◌∙◌, ℕ, refl, ap, sym}
 use Rattle.radio_events.specs.declared.command.Command.{Command as TheCommand}
 use Rattle.radio_events.specs.declared.command.Command.TheVariants.{MoveClients, KillClient, KillSource, SetTitle, SetFallback}
 use Rattle.radio_events.specs.declared.command.CommandRequest.{CommandRequest}
+use Rattle.radio_events.specs.declared.command.Listing.{Listing}
 use Rattle.radio_events.specs.declared.event.Event.{Event}
 use Rattle.radio_events.specs.declared.event.Event.TheVariants.{Arrive, Source, Push, SourceEnd, Title, Listen, Draw, Command, Leave, Clock}
 use Rattle.radio_events.specs.declared.reply.Reply.{Reply}
+use Rattle.radio_events.specs.declared.reply.Reply.TheVariants.{Text as SaysText}
+use Rattle.radio_events.specs.declared.text.Text.{Text}
 use Rattle.radio_core.specs.declared.outcome.Outcome.{Outcome}
-use Rattle.radio_core.specs.Command.{obeys}
+use Rattle.radio_core.specs.Command.{obeys, shows}
 use Rattle.radio_core.specs.Counts.{counted}
-use Rattle.radio_core.specs.Planned.{with_count, uncounted, planned}
+use Rattle.radio_core.specs.Planned.{told_moved, with_count, uncounted, planned}
 use Rattle.radio_core.specs.Step.{outcome}
 use Rattle.radio_core.specs.Ways.{Way, Misplaced, IsFinished, IsDenied, IsRefused, IsAdmitted, Begins, Receives, SetsTitle, TakesSeat, HandsOut, Ends}
-use Rattle.radio_core.specs.Ways.{EndsAndLeaves, Leaves, Obeys, HasPassed, Ticks}
+use Rattle.radio_core.specs.Ways.{EndsAndLeaves, Leaves, Obeys, Shows, HasPassed, Ticks}
 use Rattle.radio_core.specs.World.{World}
+use Rattle.radio_core.proofs.ListingLemmas.{shown_untold}
 use Rattle.radio_core.proofs.Ways.{way_of}
 
 module _ (w : World) where
@@ -33,6 +37,7 @@ module _ (w : World) where
   plain_by event o (Ends id mount feeding) other_than count = refl
   plain_by event o (EndsAndLeaves id mount feeding) other_than count = refl
   plain_by event o (Leaves id other) other_than count = refl
+  plain_by event o (Shows _ listing c) other_than count = absurd (other_than c.asked c.is_event)
   plain_by event o (Obeys _ command c) other_than count = absurd (other_than c.asked c.is_event)
   plain_by event o (HasPassed ms e) other_than count = refl
   plain_by event o (Ticks ms e) other_than count = refl
@@ -63,6 +68,10 @@ module _ (w : World) where
   obeys_completed id (SetTitle mount text) = refl
   obeys_completed id (SetFallback mount fallback) = refl
 
+  shows_completed : (id : ℕ) (listing : Listing) → IsCompleted (shows w id listing)
+  shows_completed id listing =
+      ap (λ (text : Text). SaysText (told_moved text 0)) (shown_untold w listing 0) ∙ ap (λ (text : Text). SaysText text) (shown_untold w listing 0)
+
   completed_by : (event : Event) (o : Outcome) → Way w event o → IsCompleted o
   completed_by event o (Misplaced _) = refl
   completed_by event o (IsFinished _ id rule his told) = refl
@@ -77,6 +86,7 @@ module _ (w : World) where
   completed_by event o (Ends id mount feeding) = refl
   completed_by event o (EndsAndLeaves id mount feeding) = refl
   completed_by event o (Leaves id other) = refl
+  completed_by event o (Shows _ listing c) = shows_completed c.asked.id listing
   completed_by event o (Obeys _ command c) = obeys_completed c.asked.id command
   completed_by event o (HasPassed ms e) = refl
   completed_by event o (Ticks ms e) = refl

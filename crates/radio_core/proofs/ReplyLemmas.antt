@@ -18,7 +18,7 @@ use Rattle.radio_core.specs.Others.{RepliesFit}
 use Rattle.radio_core.specs.Sound.{IsSound}
 use Rattle.radio_core.specs.Step.{outcome, reply_to, world_after}
 use Rattle.radio_core.specs.Ways.{Way, Misplaced, IsFinished, IsDenied, IsRefused, IsAdmitted, Begins, Receives, SetsTitle, TakesSeat, HandsOut, Ends}
-use Rattle.radio_core.specs.Ways.{EndsAndLeaves, Leaves, Obeys, HasPassed, Ticks, IsUndecided}
+use Rattle.radio_core.specs.Ways.{EndsAndLeaves, Leaves, Obeys, Shows, HasPassed, Ticks, IsUndecided}
 use Rattle.radio_core.proofs.FinishLemmas.{finished_told}
 use Rattle.radio_core.proofs.CalledHome.{turns_up}
 use Rattle.radio_core.proofs.Standings.{turns_sitting, turns_admitted}
@@ -69,6 +69,7 @@ module _ (w : World) (s : IsSound w) where
   fits_by event o (IsRefused _ him by v its undecided) = record { arrived = λ id d. cc; feeding = λ d. cc; seated = λ interval shown d. cc }
   fits_by event o (Receives him mount block feeding) = record { arrived = λ id d. cc; feeding = λ d. cc; seated = λ interval shown d. cc }
   fits_by event o (SetsTitle him mount text feeding) = record { arrived = λ id d. cc; feeding = λ d. cc; seated = λ interval shown d. cc }
+  fits_by event o (Shows _ listing c) = record { arrived = λ id d. cc; feeding = λ d. cc; seated = λ interval shown d. cc }
   fits_by event o (Obeys _ command c) = record { arrived = λ id d. cc; feeding = λ d. cc; seated = λ interval shown d. cc }
   fits_by event o (HasPassed ms e) = record { arrived = λ id d. cc; feeding = λ d. cc; seated = λ interval shown d. cc }
   fits_by event o (Ticks ms e) = record { arrived = λ id d. cc; feeding = λ d. cc; seated = λ interval shown d. cc }

@@ -42,7 +42,7 @@ use Rattle.radio_core.specs.Sound.{IsSound}
 use Rattle.radio_core.specs.Step.{outcome, reply_to, world_after}
 use Rattle.radio_parts.specs.Stream.{data_at, end_of}
 use Rattle.radio_core.specs.Ways.{Way, Misplaced, IsFinished, IsDenied, IsRefused, IsAdmitted, Begins, Receives, SetsTitle, TakesSeat, HandsOut, Ends}
-use Rattle.radio_core.specs.Ways.{EndsAndLeaves, Leaves, Obeys, HasPassed, Ticks}
+use Rattle.radio_core.specs.Ways.{EndsAndLeaves, Leaves, Obeys, Shows, HasPassed, Ticks}
 use Rattle.radio_core.proofs.Obeyed.{IsObeyed, LeavesFor, Takes as TakesByIt, obeyed}
 use Rattle.radio_core.proofs.OwnLemmas.{not_of, nothing_of}
 use Rattle.radio_seats.proofs.SeatLaws.{is_no_listener, beside_left}
@@ -248,6 +248,8 @@ module _ (w : World) (s : IsSound w) (id : ℕ) where
   step_by event o (Begins asked undecided none allowed) =
       comes_up asked undecided.0 undecided.1 none allowed (of_client event id []) (nothing_of event id [] refl)
   step_by event o (Receives him mount block feeding) = lags him mount block feeding (of_client event id []) (nothing_of event id [] refl)
+  step_by event o (Shows _ listing c) =
+      stays (changed w o.change) event (of_client event id []) mine (nothing_of event id [] refl) refl
   step_by event o (Obeys _ command c) = obeys event command c (of_client event id []) (nothing_of event id [] refl)
   step_by event o (HasPassed ms e) = stays w event [] mine refl refl
   step_by event o (Ticks ms e) = fares (ticked w ms) (Clock ms) Nobody (ticked_fates w s ms) [] refl

@@ -28,7 +28,7 @@ use Rattle.radio_core.specs.Sound.{IsSound}
 use Rattle.radio_core.specs.Source.{shown_for}
 use Rattle.radio_core.specs.Step.{outcome, world_after}
 use Rattle.radio_core.specs.Ways.{Way, Misplaced, IsFinished, IsDenied, IsRefused, IsAdmitted, Begins, Receives, SetsTitle, TakesSeat, HandsOut, Ends}
-use Rattle.radio_core.specs.Ways.{EndsAndLeaves, Leaves, Obeys, HasPassed, Ticks}
+use Rattle.radio_core.specs.Ways.{EndsAndLeaves, Leaves, Obeys, Shows, HasPassed, Ticks}
 use Rattle.radio_core.specs.World.{World, standing_of, standing_in}
 use Rattle.radio_core.proofs.CalledHome.{house_called}
 use Rattle.radio_core.proofs.Fates.{Fate, GoesOn, IsEnded, HasStopped, IsMoved, HasEnded, Nobody}
@@ -230,6 +230,7 @@ module _ (w : World) (s : IsSound w) (mount : List ℕ) where
   step_by event o (Ends him fed feeding) = is_ended event him fed feeding (inl refl)
   step_by event o (EndsAndLeaves him fed feeding) = is_ended event him fed feeding (inr refl)
   step_by event o (Leaves him other) = Stays mine
+  step_by event o (Shows _ listing c) = Stays mine
   step_by event o (Obeys _ command c) = obeys event command c
   step_by event o (HasPassed ms e) = Stays mine
   step_by event o (Ticks ms e) = at_the_moment ms
@@ -257,6 +258,7 @@ module _ (w : World) (s : IsSound w) where
   keeps_by event o (Ends him fed feeding) = (refl, refl)
   keeps_by event o (EndsAndLeaves him fed feeding) = (refl, refl)
   keeps_by event o (Leaves him other) = (refl, refl)
+  keeps_by event o (Shows _ listing c) = (refl, refl)
   keeps_by event o (Obeys _ command c) = obeyed_keeps w c.asked.id command
   keeps_by event o (HasPassed ms e) = (refl, refl)
 

@@ -21,7 +21,7 @@ use Rattle.radio_core.specs.Sound.{IsSound}
 use Rattle.radio_core.specs.Source.{shown_for}
 use Rattle.radio_core.specs.Step.{outcome, world_after}
 use Rattle.radio_core.specs.Ways.{Way, Misplaced, IsFinished, IsDenied, IsRefused, IsAdmitted, Begins, Receives, SetsTitle, TakesSeat, HandsOut, Ends}
-use Rattle.radio_core.specs.Ways.{EndsAndLeaves, Leaves, Obeys, HasPassed, Ticks}
+use Rattle.radio_core.specs.Ways.{EndsAndLeaves, Leaves, Obeys, Shows, HasPassed, Ticks}
 use Rattle.radio_core.proofs.Soundness.{sound_answered, sound_forgotten, sound_admitted, sound_sits}
 use Rattle.radio_core.proofs.CalledHome.{sound_up}
 use Rattle.radio_core.proofs.SoundSessions.{sound_grown, sound_heard}
@@ -63,6 +63,7 @@ sound_by w s event o (Begins asked undecided none allowed) =
     sound_up w s asked.id asked.mount (shown_for w.house asked.mount asked.shown) undecided.0 undecided.1 none
 sound_by w s event o (Receives id mount block feeding) = sound_fates (Cause w (taken_in w mount block) (Push id block)) NoMove Nobody HasEnded
     (grown_world w mount block) (taken_in w mount block) (sound_grown w s mount block id feeding) (lag_fates w s mount block id feeding)
+sound_by w s event o (Shows _ listing c) = sound_answered w s c.asked.id c.peer c.undecided
 sound_by w s event o (Obeys _ command c) = sound_obeyed w s event command c
 sound_by w s event o (HasPassed ms e) = s
 sound_by w s event o (Ticks ms e) =

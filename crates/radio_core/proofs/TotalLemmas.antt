@@ -29,7 +29,7 @@ use Rattle.radio_core.specs.Source.{shown_for}
 use Rattle.radio_core.specs.Step.{outcome, reply_to, world_after}
 use Rattle.radio_core.specs.Totals.{arrivals, departures, seatings, listeners_leaving, has_seat, clients_there, seats_there, seats_lost, AddsUp}
 use Rattle.radio_core.specs.Ways.{Way, Misplaced, IsFinished, IsDenied, IsRefused, IsAdmitted, Begins, Receives, SetsTitle, TakesSeat, HandsOut, Ends}
-use Rattle.radio_core.specs.Ways.{EndsAndLeaves, Leaves, Obeys, HasPassed, Ticks}
+use Rattle.radio_core.specs.Ways.{EndsAndLeaves, Leaves, Obeys, Shows, HasPassed, Ticks}
 use Rattle.radio_core.specs.World.{World, opening, standing_of, standing_in, standing_by, standing_seated, standing_of_listener}
 use Rattle.radio_parts.proofs.NumberLists.{IsFree, has, without, placed_length, one_less}
 use Rattle.radio_parts.proofs.NumberLists.{numbers_updated, numbers_placed, numbers_without, number_found, number_free}
@@ -123,6 +123,9 @@ module _ (w : World) (s : IsSound w) (inv : AreInOrder w) where
       (same_begun w asked.id asked.mount (shown_for w.house asked.mount asked.shown)) refl refl refl refl
   adds_by event o (Receives him mount block feeding) known =
       nobody_moves (changed w o.change) event o.reply (same_received w mount block) refl refl refl refl
+  adds_by event o (Shows _ listing c) known =
+      nobody_moves (changed w o.change) event o.reply (record { same_ids = same_state c.asked.id HasHisAnswer w.house.clients; same_rows = refl; same_last = refl })
+      refl refl refl refl
   adds_by event o (Obeys _ command c) known = nobody_moves (changed w o.change) event o.reply (same_obeyed w c.asked.id command) refl refl refl refl
   adds_by event o (HasPassed ms e) known = nobody_moves w event o.reply (nobody_else w) refl refl refl refl
   adds_by event o (Ticks ms e) known = nobody_moves (changed w o.change) event o.reply (same_ticked w ms) refl refl refl refl

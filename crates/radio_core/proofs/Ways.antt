@@ -38,7 +38,7 @@ use Rattle.radio_core.specs.Listen.{takes_seat, sits_where}
 use Rattle.radio_core.specs.Draw.{hands_out, hands_out_at}
 use Rattle.radio_core.specs.Leave.{leaves_from}
 use Rattle.radio_events.specs.declared.command.Asked.{Asked}
-use Rattle.radio_events.specs.declared.command.Asked.TheVariants.{NoCommand, MissingArgument, Command as Asks}
+use Rattle.radio_events.specs.declared.command.Asked.TheVariants.{NoCommand, MissingArgument, Listing as AsksFor, Command as Asks}
 use Rattle.radio_events.specs.declared.command.CommandRequest.{CommandRequest}
 use Rattle.radio_core.specs.Command.{does_asked}
 use Rattle.radio_core.specs.CommandFacts.{rows_to_command}
@@ -46,7 +46,7 @@ use Rattle.radio_seats.specs.Seats.{seat_of}
 use Rattle.radio_parts.specs.Sessions.{Session, session_of}
 use Rattle.radio_core.specs.Step.{outcome}
 use Rattle.radio_core.specs.Ways.{Way, Misplaced, IsFinished, IsDenied, IsRefused, IsAdmitted, Begins, Receives, SetsTitle, TakesSeat, HandsOut, Ends}
-use Rattle.radio_core.specs.Ways.{EndsAndLeaves, Leaves, Obeys, HasPassed, Ticks, rows_for, IsUndecided}
+use Rattle.radio_core.specs.Ways.{EndsAndLeaves, Leaves, Obeys, Shows, HasPassed, Ticks, rows_for, IsUndecided}
 use Rattle.radio_events.specs.Events.{client_in}
 use Rattle.radio_parts.proofs.SessionLookups.{found_named}
 
@@ -232,6 +232,8 @@ module _ (w : World) (asked : CommandRequest) (peer : Peer) (e : standing_of w a
   does : (what : Asked) → asked.asked ≡ what → Way w (Command asked) (does_asked w asked.id what)
   does NoCommand is = Misplaced (Command asked)
   does (MissingArgument by) is = Misplaced (Command asked)
+  does (AsksFor listing) is =
+      Shows (Command asked) listing (record { asked = asked; is_event = refl; is_asked = is; peer = peer; undecided = e; allowed = v })
   does (Asks command) is =
       Obeys (Command asked) command (record { asked = asked; is_event = refl; is_asked = is; peer = peer; undecided = e; allowed = v })
 

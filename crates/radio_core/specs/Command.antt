@@ -2,10 +2,11 @@ use Rattle.std.specs.Prelude.{ℕ}
 use Rattle.radio_policy.specs.Verdicts.{verdict_in}
 use Rattle.radio_fallback.specs.declared.moves.Carried.{Carried}
 use Rattle.radio_events.specs.declared.command.Asked.{Asked}
-use Rattle.radio_events.specs.declared.command.Asked.TheVariants.{Command as Asks}
+use Rattle.radio_events.specs.declared.command.Asked.TheVariants.{Listing as AsksFor, Command as Asks}
 use Rattle.radio_events.specs.declared.command.Command.{Command as TheCommand}
 use Rattle.radio_events.specs.declared.command.Command.TheVariants.{MoveClients}
 use Rattle.radio_events.specs.declared.command.CommandRequest.{CommandRequest}
+use Rattle.radio_events.specs.declared.command.Listing.{Listing}
 use Rattle.radio_events.specs.declared.reply.Reply.TheVariants.{Text as SaysText, Stray}
 use Rattle.radio_events.specs.declared.text.Text.{Text}
 use Rattle.radio_events.specs.declared.text.Text.TheVariants.{Done, Moved}
@@ -13,6 +14,7 @@ use Rattle.radio_core.specs.declared.outcome.Change.TheVariants.{Nothing, Answer
 use Rattle.radio_core.specs.declared.outcome.Outcome.{Outcome}
 use Rattle.radio_core.specs.CommandFacts.{rows_to_command}
 use Rattle.radio_core.specs.Counts.{counts_by}
+use Rattle.radio_core.specs.Listings.{shown}
 use Rattle.radio_core.specs.World.{World, standing_of}
 use Rattle.radio_core.specs.Outcomes.{says, on_verdict, if_undecided}
 
@@ -25,8 +27,13 @@ said_of command counts = Done
 abbrev pub obeys : World → ℕ → TheCommand → Outcome
 obeys w id command = says (SaysText (said_of command (counts_by w command))) (Obey id command)
 
+-- the client is shown it, and has had his answer
+abbrev pub shows : World → ℕ → Listing → Outcome
+shows w id listing = says (SaysText (shown w listing)) (Answer id)
+
 -- what was asked is done; where it is no command, which the policy denies, nothing happens
 abbrev pub does_asked : World → ℕ → Asked → Outcome
+does_asked w id (AsksFor listing) = shows w id listing
 does_asked w id (Asks command) = obeys w id command
 does_asked w id asked = says Stray Nothing
 

@@ -4,23 +4,27 @@ use Rattle.std.specs.Option.{option_map_or}
 use Rattle.std.specs.Str.{bytes_eq}
 use Rattle.radio_policy.specs.declared.facts.CommandFacts.{CommandFacts}
 use Rattle.radio_policy.specs.declared.facts.CommandNeeds.{CommandNeeds}
-use Rattle.radio_policy.specs.declared.facts.CommandNeeds.TheVariants.{Argument, Mount, Destination, Client}
+use Rattle.radio_policy.specs.declared.facts.CommandNeeds.TheVariants.{Argument, Nothing, Mount, Destination, Client}
+use Rattle.radio_policy.specs.declared.facts.CommandAccess.{CommandAccess}
+use Rattle.radio_policy.specs.declared.facts.CommandAccess.TheVariants.{Everybody, Pair}
 use Rattle.radio_policy.specs.declared.facts.Opener.{Opener}
-use Rattle.radio_policy.specs.declared.facts.Opener.TheVariants.{Admin as AdminAlone, Source as ItsSource}
+use Rattle.radio_policy.specs.declared.facts.Opener.TheVariants.{Admin as AdminAlone, Source as ItsSource, Relay as Relays}
 use Rattle.radio_policy.specs.declared.judgement.Verdict.TheVariants.{Allow}
 use Rattle.radio_policy.specs.Table.{Row, command_rows}
 use Rattle.radio_policy.specs.Verdicts.{verdict_in}
 use Rattle.radio_addr.specs.declared.peer.Peer.{Peer}
 use Rattle.radio_creds.specs.Credentials.{Credentials}
 use Rattle.radio_settings.specs.declared.settings.Settings.{Settings}
-use Rattle.radio_access.specs.CommandPairs.{is_admin_pair, is_named_source_pair}
+use Rattle.radio_access.specs.CommandPairs.{is_admin_pair, is_named_source_pair, is_relay_pair}
 use Rattle.radio_seats.specs.declared.seat.Listener.{Listener}
 use Rattle.radio_seats.specs.Seats.{seat_of}
 use Rattle.radio_events.specs.declared.command.Asked.{Asked}
-use Rattle.radio_events.specs.declared.command.Asked.TheVariants.{NoCommand, MissingArgument, Command as Asks}
+use Rattle.radio_events.specs.declared.command.Asked.TheVariants.{NoCommand, MissingArgument, Listing as AsksFor, Command as Asks}
 use Rattle.radio_events.specs.declared.command.Command.{Command as TheCommand}
 use Rattle.radio_events.specs.declared.command.Command.TheVariants.{MoveClients, KillClient, KillSource, SetTitle, SetFallback}
 use Rattle.radio_events.specs.declared.command.CommandRequest.{CommandRequest}
+use Rattle.radio_events.specs.declared.command.Listing.{Listing}
+use Rattle.radio_events.specs.declared.command.Listing.TheVariants.{Status, Stats, Mounts, Clients, Streams}
 use Rattle.radio_events.specs.declared.command.OpenedBy.{OpenedBy}
 use Rattle.radio_events.specs.declared.command.OpenedBy.TheVariants.{Admin, Source}
 use Rattle.radio_events.specs.declared.event.Event.{Event}
@@ -71,12 +75,27 @@ needs_of w (SetTitle mount title) = Mount (is_live w.house mount)
 needs_of w (SetFallback mount fallback) = Mount (is_live w.house mount)
 
 abbrev pub facts_for : World → OpenedBy → CommandNeeds → Option Credentials → CommandFacts
-facts_for w by needs pair = record { opener = opener_in by; is_opened = opens w.house.settings by pair; needs = needs }
+facts_for w by needs pair = record { access = Pair (opener_in by) (opens w.house.settings by pair); needs = needs }
+
+-- everybody may see the status; the pair of relays opens the list of streams too, and all else is the admin's alone
+abbrev pub access_to : Settings → Listing → Option Credentials → CommandAccess
+access_to settings Status pair = Everybody
+access_to settings Streams pair = Pair Relays (is_admin_pair settings pair || is_relay_pair settings pair)
+access_to settings listing pair = Pair AdminAlone (is_admin_pair settings pair)
+
+-- to list the listeners of a mount, it must be live
+abbrev pub needs_to_list : World → Listing → CommandNeeds
+needs_to_list w (Clients mount) = Mount (is_live w.house mount)
+needs_to_list w listing = Nothing
+
+abbrev pub facts_to_list : World → Listing → Option Credentials → CommandFacts
+facts_to_list w listing pair = record { access = access_to w.house.settings listing pair; needs = needs_to_list w listing }
 
 -- what is looked up for what his path and its arguments ask; nothing is where the path names no command
 abbrev pub facts_asked : World → Asked → Option Credentials → Option CommandFacts
 facts_asked w NoCommand pair = None
 facts_asked w (MissingArgument by) pair = Some (facts_for w by Argument pair)
+facts_asked w (AsksFor listing) pair = Some (facts_to_list w listing pair)
 facts_asked w (Asks command) pair = Some (facts_for w (opened_by command) (needs_of w command) pair)
 
 -- the policy's rows for it, as things stand
@@ -88,6 +107,15 @@ pub record IsCommanded (w : World) (event : Event) (command : TheCommand) : Type
   pub asked : CommandRequest
   pub is_event : event ≡ Command asked
   pub is_asked : asked.asked ≡ Asks command
+  pub peer : Peer
+  pub undecided : standing_of w asked.id ≡ Undecided peer
+  pub allowed : verdict_in (rows_to_command w asked) ≡ Allow
+
+-- by this event one who has asked for nothing yet asks for this listing, and the policy allows it
+pub record IsListed (w : World) (event : Event) (listing : Listing) : Type 0 where
+  pub asked : CommandRequest
+  pub is_event : event ≡ Command asked
+  pub is_asked : asked.asked ≡ AsksFor listing
   pub peer : Peer
   pub undecided : standing_of w asked.id ≡ Undecided peer
   pub allowed : verdict_in (rows_to_command w asked) ≡ Allow

@@ -37,3 +37,4 @@ pub mod Others
 pub mod SourceReplies
 pub mod CoreReplies
 pub mod Totals
+pub mod Listings

@@ -5,15 +5,15 @@ use Rattle.radio_events.specs.declared.event.Event.TheVariants.{Command}
 use Rattle.radio_events.specs.declared.reply.Reply.{Reply}
 use Rattle.radio_events.specs.declared.reply.Reply.TheVariants.{Text as SaysText}
 use Rattle.radio_events.specs.declared.text.Text.{Text}
-use Rattle.radio_events.specs.declared.text.Text.TheVariants.{Done, Moved}
+use Rattle.radio_events.specs.declared.text.Text.TheVariants.{Moved}
 use Rattle.radio_core.specs.declared.outcome.Outcome.{Outcome}
 use Rattle.radio_core.specs.Command.{gives_command}
 use Rattle.radio_core.specs.Step.{outcome}
 use Rattle.radio_core.specs.World.{World}
 
 abbrev pub told_moved : Text → ℕ → Text
-told_moved Done count = Done
 told_moved (Moved other) count = Moved count
+told_moved text count = text
 
 -- the reply, with this for the number of those who were moved, if it tells it
 abbrev pub with_count : Reply → ℕ → Reply

@@ -18,8 +18,9 @@ use Rattle.radio_core.specs.declared.standing.Standing.{Standing}
 use Rattle.radio_core.specs.declared.standing.Standing.TheVariants.{Undecided, Feeds, Sits, Finished as HasFinished}
 use Rattle.radio_fallback.specs.declared.walking.Landing.TheVariants.{Lands}
 use Rattle.radio_events.specs.declared.command.Command.{Command as TheCommand}
-use Rattle.radio_core.specs.Command.{obeys}
-use Rattle.radio_core.specs.CommandFacts.{IsCommanded, rows_to_command}
+use Rattle.radio_events.specs.declared.command.Listing.{Listing}
+use Rattle.radio_core.specs.Command.{obeys, shows}
+use Rattle.radio_core.specs.CommandFacts.{IsCommanded, IsListed, rows_to_command}
 use Rattle.radio_core.specs.Facts.{rows_to_arrive, rows_to_feed, rows_to_push, rows_to_listen, walks_to}
 use Rattle.radio_core.specs.Listen.{first_seat, interval_for}
 use Rattle.radio_core.specs.Outcomes.{says}
@@ -77,5 +78,6 @@ pub data Way (w : World) : Event → Outcome → Type 0 where
   EndsAndLeaves : (id : ℕ) (mount : List ℕ) → standing_of w id ≡ Feeds mount → Way w (Leave id) (says Noted (EndAndLeave id mount))
   Leaves : (id : ℕ) → ((mount : List ℕ) → standing_of w id ≡ Feeds mount → ⊥) → Way w (Leave id) (says Noted (Forget id))
   Obeys : (event : Event) (command : TheCommand) (c : IsCommanded w event command) → Way w event (obeys w c.asked.id command)
+  Shows : (event : Event) (listing : Listing) (c : IsListed w event listing) → Way w event (shows w c.asked.id listing)
   HasPassed : (ms : ℕ) → nat_lt ms w.house.time ≡ true → Way w (Clock ms) (says Noted Nothing)
   Ticks : (ms : ℕ) → nat_lt ms w.house.time ≡ false → Way w (Clock ms) (says Noted (Tick ms))

@@ -3,14 +3,14 @@
 ghost use Rattle.std.specs.Prelude.{◌≡◌};
 ghost use Rattle.std.specs.Option.{option_copied};
 ghost use Rattle.std.specs.Str.{bytes_eq};
-ghost use Rattle.radio_core.specs.CommandFacts.{opened_by, opener_in, opens, opens_as_source, is_live, sits_at, needs_of, facts_for, facts_asked};
+ghost use Rattle.radio_core.specs.CommandFacts.{opened_by, opener_in, opens, opens_as_source, is_live, sits_at, needs_of, facts_for, access_to, facts_to_list, facts_asked};
 
 use crate::house::House;
 use crate::server::State;
-use radio_access::{is_admin_pair, is_named_source_pair};
+use radio_access::{is_admin_pair, is_named_source_pair, is_relay_pair};
 use radio_creds::Pair;
-use radio_events::{Asked, Command, OpenedBy};
-use radio_policy::{CommandFacts, CommandNeeds, DestinationFacts, Opener};
+use radio_events::{Asked, Command, Listing, OpenedBy};
+use radio_policy::{CommandAccess, CommandFacts, CommandNeeds, DestinationFacts, Opener};
 use radio_seats::Seats;
 use radio_settings::{MountName, Settings};
 
@@ -23,6 +23,7 @@ impl State {
         match asked {
             Asked::NoCommand => None,
             Asked::MissingArgument(by) => { Some(self.facts_for(by, CommandNeeds::Argument, pair)) }
+            Asked::Listing(listing) => Some(self.facts_to_list(listing, pair)),
             Asked::Command(command) => {
                 Some(self.facts_for(&opened_by(command), self.needs_of(command), pair))
             }
@@ -33,9 +34,25 @@ impl State {
         ensures { result ≡ facts_for self.now by.now needs (option_copied pair.entry) }
     {
         CommandFacts {
-            opener: opener_in(by),
-            is_opened: opens(&self.house.settings, by, pair),
+            access: CommandAccess::Pair {
+                opener: opener_in(by),
+                is_sent: opens(&self.house.settings, by, pair),
+            },
             needs,
+        }
+    }
+
+    fn facts_to_list(&self, listing: &Listing, pair: Option<&Pair>) -> CommandFacts
+        ensures { result ≡ facts_to_list self.now listing.now (option_copied pair.entry) }
+    {
+        CommandFacts {
+            access: access_to(&self.house.settings, listing, pair),
+            needs: match listing {
+                Listing::Clients(mount) => CommandNeeds::Mount {
+                    is_live: self.house.has_session(mount),
+                },
+                _ => CommandNeeds::Nothing,
+            },
         }
     }
 
@@ -80,6 +97,24 @@ impl House {
             destination_is_live: self.has_session(destination),
             is_same_mount: *mount == *destination,
         }
+    }
+}
+
+/// Who may see the listing: everybody the status, and relays the list of streams; all else is the
+/// admin's alone.
+fn access_to(settings: &Settings, listing: &Listing, pair: Option<&Pair>) -> CommandAccess
+    ensures { result ≡ access_to settings.now listing.now (option_copied pair.entry) }
+{
+    match listing {
+        Listing::Status => CommandAccess::Everybody,
+        Listing::Streams => CommandAccess::Pair {
+            opener: Opener::Relay,
+            is_sent: is_admin_pair(settings, pair) || is_relay_pair(settings, pair),
+        },
+        _ => CommandAccess::Pair {
+            opener: Opener::Admin,
+            is_sent: is_admin_pair(settings, pair),
+        },
     }
 }
 

@@ -3,7 +3,7 @@
 ghost use Rattle.std.specs.Prelude.{◌≡◌};
 ghost use Rattle.std.specs.Option.{option_copied};
 ghost use Rattle.radio_settings.specs.Options.{options_for};
-ghost use Rattle.radio_core.specs.Facts.{arrive_facts, source_facts_at, listen_facts_at, walks_to, is_full, is_in_settings, is_known};
+ghost use Rattle.radio_core.specs.Facts.{arrive_facts, source_facts_at, listen_facts_at, walks_to, is_full, is_in_settings, is_known, fallback_of};
 
 use crate::house::House;
 use radio_access::{is_refused_type, is_source_pair};
@@ -63,6 +63,16 @@ impl House {
         (facts, landing)
     }
 
+    /// The mount to which the listeners of this one fall back, if they do.
+    pub(crate) fn fallback_name(&self, mount: &MountName) -> Option<&MountName>
+        ensures { option_copied result ≡ fallback_of self.now mount.now }
+    {
+        match self.fallbacks.get(mount) {
+            Some(set) => set.fallback.as_ref(),
+            None => self.settings.options(mount).listeners.fallback_mount.as_ref(),
+        }
+    }
+
     /// Whether the settings know the mount, or it is live.
     fn is_known(&self, mount: &MountName) -> bool
         ensures { result ≡ is_known self.now mount.now }
@@ -93,10 +103,7 @@ impl View for House {
     }
 
     fn fallback(&self, mount: &MountName) -> Option<MountName> {
-        match self.fallbacks.get(mount) {
-            Some(set) => set.fallback,
-            None => self.settings.options(mount).listeners.fallback_mount,
-        }
+        self.fallback_name(mount).copied()
     }
 
     fn hands_on_when_full(&self, mount: &MountName) -> bool {

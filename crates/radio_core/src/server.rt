@@ -25,6 +25,7 @@ mod commit;
 mod draw;
 mod leave;
 mod listen;
+mod listings;
 mod obey;
 mod push;
 mod source;

@@ -4,7 +4,9 @@ ghost use Rattle.std.specs.Prelude.{◌≡◌, IsOk, IfOk};
 ghost use Rattle.radio_events.specs.Events.{TakesNoMemory};
 
 use crate::{Asked, Command, CommandRequest, Event, ListenRequest, OutOfMemory, SourceRequest};
+use radio_blocks::Block;
 use radio_creds::Pair;
+use radio_icy::Title;
 
 impl Event {
     /// An equal event. `OutOfMemory` where memory was refused.
@@ -16,15 +18,9 @@ impl Event {
         match self {
             Event::Arrive { peer } => Ok(Event::Arrive { peer: *peer }),
             Event::Source(asked) => Ok(Event::Source(source_again(asked)?)),
-            Event::Push { id, block } => Ok(Event::Push {
-                id: *id,
-                block: block.share()?,
-            }),
+            Event::Push { id, block } => push_again(*id, block),
             Event::SourceEnd { id } => Ok(Event::SourceEnd { id: *id }),
-            Event::Title { id, text } => Ok(Event::Title {
-                id: *id,
-                text: text.clone()?,
-            }),
+            Event::Title { id, text } => title_again(*id, text),
             Event::Listen(asked) => Ok(Event::Listen(listen_again(asked)?)),
             Event::Draw { id, room } => Ok(Event::Draw {
                 id: *id,
@@ -35,6 +31,26 @@ impl Event {
             Event::Clock { ms } => Ok(Event::Clock { ms: *ms }),
         }
     }
+}
+
+/// An equal block of this source. `OutOfMemory` where memory was refused.
+fn push_again(id: u64, block: &Block) -> Result<Event, OutOfMemory>
+    ensures { IfOk result (λ event. event ≡ Event.Push id block.now) }
+{
+    Ok(Event::Push {
+        id,
+        block: block.share()?,
+    })
+}
+
+/// An equal title of this source. `OutOfMemory` where memory was refused.
+fn title_again(id: u64, text: &Title) -> Result<Event, OutOfMemory>
+    ensures { IfOk result (λ event. event ≡ Event.Title id text.now) }
+{
+    Ok(Event::Title {
+        id,
+        text: text.clone()?,
+    })
 }
 
 /// An equal request. `OutOfMemory` where memory was refused.
@@ -79,6 +95,7 @@ fn asked_again(asked: &Asked) -> Result<Asked, OutOfMemory>
     match asked {
         Asked::NoCommand => Ok(Asked::NoCommand),
         Asked::MissingArgument(opened_by) => Ok(Asked::MissingArgument(*opened_by)),
+        Asked::Listing(listing) => Ok(Asked::Listing(*listing)),
         Asked::Command(command) => Ok(Asked::Command(command_again(command)?)),
     }
 }

@@ -1,4 +1,4 @@
-//! What a client who gives a command asks for.
+//! What a client asks for who gives a command, or wants to be shown something of the station.
 
 use radio_creds::Pair;
 use radio_icy::Title;
@@ -22,8 +22,25 @@ pub enum Asked {
     NoCommand,
     /// An argument of the command is missing, or is not of its form; the command would be opened so.
     MissingArgument(OpenedBy),
+    /// To be shown something of the station.
+    Listing(Listing),
     /// A command, with its arguments.
     Command(Command),
+}
+
+/// What of the station a client asks to be shown.
+#[derive(Clone, Copy)]
+pub enum Listing {
+    /// What everybody may see: the live mounts that are not hidden.
+    Status,
+    /// What the server does as a whole, and all live mounts.
+    Stats,
+    /// All live mounts, and where their listeners fall back to.
+    Mounts,
+    /// The listeners of this mount.
+    Clients(MountName),
+    /// The names of the mounts that a relay may pull: the live ones that are not hidden.
+    Streams,
 }
 
 /// Whose pair opens a command, beside that of the admin.

@@ -2,7 +2,8 @@
 //!
 //! - [`Event`]: what happens; [`SourceRequest`], [`ListenRequest`] and [`CommandRequest`] are what a
 //!   client asks for.
-//! - [`Reply`]: what the server replies; a [`Text`] is what it says of a command.
+//! - [`Reply`]: what the server replies; a [`Text`] is its answer to a command, or to one who
+//!   is shown something of the station.
 //! - `again` of either is an equal copy, `same` tells whether two are equal.
 #![tactic(auto)]
 
@@ -14,7 +15,7 @@ mod reply;
 mod same;
 mod text;
 
-pub use command::{Asked, Command, CommandRequest, OpenedBy};
+pub use command::{Asked, Command, CommandRequest, Listing, OpenedBy};
 pub use event::{Event, ListenRequest, SourceRequest};
 pub use reply::Reply;
 pub use text::Text;

@@ -29,7 +29,7 @@ pub enum Reply {
     },
     /// It was done, and there is nothing to say.
     Noted,
-    /// The command was done, and this is said of it.
+    /// The command was done, or something of the station is shown; this is the answer.
     Text(Text),
     /// The policy denies it, by this rule.
     Deny(Rule),
@@ -46,7 +46,7 @@ impl Reply {
     /// An equal reply. `OutOfMemory` where memory was refused.
     pub fn again(&self) -> Result<Reply, OutOfMemory>
         ensures value { IfOk result (λ reply. reply ≡ self.now) }
-        // of a reply with neither data nor texts it is never refused
+        // of a reply with neither data nor names, titles or listings it is never refused
         ensures frees { HoldsNoText self.now → IsOk result }
     {
         match self {
@@ -61,7 +61,7 @@ impl Reply {
                 title: title.clone()?,
             }),
             Reply::Noted => Ok(Reply::Noted),
-            Reply::Text(text) => Ok(Reply::Text(*text)),
+            Reply::Text(text) => Ok(Reply::Text(text.again()?)),
             Reply::Deny(rule) => Ok(Reply::Deny(*rule)),
             Reply::Finished(rule) => Ok(Reply::Finished(*rule)),
             Reply::Stray => Ok(Reply::Stray),

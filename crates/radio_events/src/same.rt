@@ -5,7 +5,7 @@ ghost use Rattle.radio_events.specs.Events.{TakesNoMemory};
 
 use crate::data::is_same_data;
 use crate::{
-    Asked, Command, CommandRequest, Event, ListenRequest, OpenedBy, Reply, SourceRequest, Text,
+    Asked, Command, CommandRequest, Event, ListenRequest, Listing, OpenedBy, Reply, SourceRequest, Text,
 };
 use radio_addr::Peer;
 use radio_creds::Pair;
@@ -78,7 +78,7 @@ impl Reply {
                 },
             ) => is_same_data(a.slices(), b.slices()) && is_same_title(x, y),
             (Reply::Noted, Reply::Noted) => true,
-            (Reply::Text(a), Reply::Text(b)) => is_same_text(*a, *b),
+            (Reply::Text(a), Reply::Text(b)) => is_same_text(a, b),
             (Reply::Deny(a), Reply::Deny(b)) => is_same_rule(*a, *b),
             (Reply::Finished(a), Reply::Finished(b)) => is_same_rule(*a, *b),
             (Reply::Stray, Reply::Stray) => true,
@@ -117,6 +117,7 @@ fn is_same_asked(a: &Asked, b: &Asked) -> bool
     match (a, b) {
         (Asked::NoCommand, Asked::NoCommand) => true,
         (Asked::MissingArgument(a), Asked::MissingArgument(b)) => is_same_opener(a, b),
+        (Asked::Listing(a), Asked::Listing(b)) => is_same_listing(a, b),
         (Asked::Command(a), Asked::Command(b)) => is_same_command(a, b),
         _ => false,
     }
@@ -128,6 +129,19 @@ fn is_same_opener(a: &OpenedBy, b: &OpenedBy) -> bool
     match (a, b) {
         (OpenedBy::Admin, OpenedBy::Admin) => true,
         (OpenedBy::Source(a), OpenedBy::Source(b)) => is_same_mount(a, b),
+        _ => false,
+    }
+}
+
+fn is_same_listing(a: &Listing, b: &Listing) -> bool
+    ensures { IsTrue result ↔ a.now ≡ b.now }
+{
+    match (a, b) {
+        (Listing::Status, Listing::Status) => true,
+        (Listing::Stats, Listing::Stats) => true,
+        (Listing::Mounts, Listing::Mounts) => true,
+        (Listing::Clients(a), Listing::Clients(b)) => is_same_name(a, b),
+        (Listing::Streams, Listing::Streams) => true,
         _ => false,
     }
 }
@@ -214,10 +228,16 @@ fn is_same_rule(a: Rule, b: Rule) -> bool
     a == b
 }
 
-fn is_same_text(a: Text, b: Text) -> bool
-    ensures { IsTrue result ↔ a ≡ b }
+fn is_same_text(a: &Text, b: &Text) -> bool
+    ensures { IsTrue result ↔ a.now ≡ b.now }
 {
-    a == b
+    match (a, b) {
+        (Text::Done, Text::Done) => true,
+        (Text::Moved(a), Text::Moved(b)) => *a == *b,
+        (Text::Json(a), Text::Json(b)) => is_same_bytes(a.as_slice(), b.as_slice()),
+        (Text::Streams(a), Text::Streams(b)) => is_same_bytes(a.as_slice(), b.as_slice()),
+        _ => false,
+    }
 }
 
 fn is_same_pair(a: &Option<Pair>, b: &Option<Pair>) -> bool

@@ -1,4 +1,4 @@
-use Rattle.std.specs.Prelude.{Bool, true, not, List, [], ◌∷◌, Option, Some, None}
+use Rattle.std.specs.Prelude.{Bool, true, not, List, [], ◌∷◌, ◌++◌, Option, Some, None}
 use Rattle.radio_policy.specs.declared.rule.Rule.{Rule}
 use Rattle.radio_policy.specs.declared.rule.Rule.TheVariants.{AddressDenied, AddressNotAllowed, TooManyClients, BadMount, SourcePassword}
 use Rattle.radio_policy.specs.declared.rule.Rule.TheVariants.{TooManySources, MountInUse}
@@ -11,6 +11,8 @@ use Rattle.radio_policy.specs.declared.rule.Rule.TheVariants.{NoCommand, AdminPa
 use Rattle.radio_policy.specs.declared.facts.CommandFacts.{CommandFacts}
 use Rattle.radio_policy.specs.declared.facts.CommandNeeds.{CommandNeeds}
 use Rattle.radio_policy.specs.declared.facts.CommandNeeds.TheVariants.{Argument, Nothing, Mount, Destination, Client}
+use Rattle.radio_policy.specs.declared.facts.CommandAccess.{CommandAccess}
+use Rattle.radio_policy.specs.declared.facts.CommandAccess.TheVariants.{Everybody, Pair}
 use Rattle.radio_policy.specs.declared.facts.Opener.{Opener}
 use Rattle.radio_policy.specs.declared.facts.Opener.TheVariants.{Admin as AdminAlone, Source as ItsSource, Relay as Relays}
 use Rattle.radio_policy.specs.declared.facts.Action.{Action}
@@ -73,6 +75,11 @@ password_rule AdminAlone = AdminPassword
 password_rule ItsSource = SourcePassword
 password_rule Relays = RelayPassword
 
+-- a command that everybody may give is denied to nobody
+abbrev pub access_rows : CommandAccess → List Row
+access_rows Everybody = []
+access_rows (Pair opener is_sent) = row (password_rule opener) (not is_sent) ∷ []
+
 -- what a command needs is not there
 abbrev pub needs_rows : CommandNeeds → List Row
 needs_rows Argument = row MissingArgument true ∷ []
@@ -91,7 +98,7 @@ needs_rows (Client mount_is_live sits_there) =
 -- a client gives the command of a path
 abbrev pub command_rows : Option CommandFacts → List Row
 command_rows None = row NoCommand true ∷ []
-command_rows (Some facts) = row (password_rule facts.opener) (not facts.is_opened) ∷ needs_rows facts.needs
+command_rows (Some facts) = access_rows facts.access ++ needs_rows facts.needs
 
 -- the rows of an action, in the order in which they are asked
 abbrev pub table : Action → List Row

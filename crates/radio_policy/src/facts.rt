@@ -65,12 +65,24 @@ pub struct ListenFacts {
 /// What is looked up for a client who gives a command.
 #[derive(Clone, Copy)]
 pub struct CommandFacts {
-    /// Whose pair opens the command, beside that of the admin.
-    pub opener: Opener,
-    /// The pair that was sent is one that opens it.
-    pub is_opened: bool,
+    /// Who may give the command, and whether this client may.
+    pub access: CommandAccess,
     /// What the command needs, and whether it is there.
     pub needs: CommandNeeds,
+}
+
+/// Who may give a command.
+#[derive(Clone, Copy)]
+pub enum CommandAccess {
+    /// Everybody.
+    Everybody,
+    /// Who sends a pair that opens it.
+    Pair {
+        /// Whose pair opens the command, beside that of the admin.
+        opener: Opener,
+        /// The pair that was sent is one that opens it.
+        is_sent: bool,
+    },
 }
 
 /// Whose pair opens a command, beside that of the admin.

@@ -4,7 +4,7 @@ ghost use Rattle.radio_policy.specs.Table.{password_rule, needs_rows, command_ro
 ghost use Rattle.radio_policy.specs.Verdicts.{verdict_in};
 
 use crate::{
-    Action, ArriveFacts, CommandFacts, CommandNeeds, DestinationFacts, ListenFacts, Opener,
+    Action, ArriveFacts, CommandAccess, CommandFacts, CommandNeeds, DestinationFacts, ListenFacts, Opener,
     PushFacts, Rule, SourceFacts,
 };
 
@@ -102,10 +102,13 @@ fn judge_command(facts: &Option<CommandFacts>) -> Verdict
     let Some(facts) = facts else {
         return Verdict::Deny(Rule::NoCommand);
     };
-    if !facts.is_opened {
-        return Verdict::Deny(password_rule(facts.opener));
+    match facts.access {
+        CommandAccess::Pair {
+            opener,
+            is_sent: false,
+        } => Verdict::Deny(password_rule(opener)),
+        _ => judge_needs(&facts.needs),
     }
-    judge_needs(&facts.needs)
 }
 
 /// The rule that denies a command to whoever sends none of the pairs that open it.

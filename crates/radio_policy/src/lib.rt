@@ -8,7 +8,7 @@ mod laws;
 mod rule;
 
 pub use facts::{
-    Action, ArriveFacts, CommandFacts, CommandNeeds, DestinationFacts, ListenFacts, Opener,
+    Action, ArriveFacts, CommandAccess, CommandFacts, CommandNeeds, DestinationFacts, ListenFacts, Opener,
     PushFacts, SourceFacts,
 };
 pub use judgement::{Verdict, judge};

@@ -8,3 +8,4 @@ pub mod CountLaws
 pub mod MountCounts
 pub mod OtherLemmas
 pub mod UserLemmas
+pub mod ListedLemmas

@@ -8,3 +8,4 @@ pub mod Rests
 pub mod Marks
 pub mod Users
 pub mod SameUsers
+pub mod Listed

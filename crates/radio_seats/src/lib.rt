@@ -7,6 +7,7 @@
 //!   and the count of those who sit there are kept once. An index knows which rows are of one user.
 //! - [`LentSeat`], [`ListenerStanding`]: what the table answers of a listener; a [`SeatTest`] asks
 //!   something of a place and a [`Guest`], and a [`GuestMoment`] is a moment of his.
+//! - [`Seats::guests_at`]: who sits at a mount, each as a [`LentListener`].
 //! - [`Seats::next`], [`Seats::count_beside`], [`Seats::user_beside`]: what a move asks, which takes listeners
 //!   in the order of their numbers, and leaves his own seat out of account.
 //! - [`KeptName`]: a name apart from what holds it.
@@ -16,6 +17,7 @@
 mod beside;
 mod changes;
 mod kept_name;
+mod listed;
 mod mounts;
 mod row;
 mod rows;
@@ -25,6 +27,7 @@ mod users;
 
 pub use changes::{GuestMoment, SeatTest};
 pub use kept_name::KeptName;
+pub use listed::LentListener;
 pub use seat::{Guest, LentSeat, Listener, ListenerStanding, Seat, Seating};
 pub use seats::Seats;
 

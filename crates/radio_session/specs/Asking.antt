@@ -1,5 +1,5 @@
 -- What a request asks of the server.
-use Rattle.std.specs.Prelude.{ℕ, nat_eq, Bool, if◌then◌else◌, List, [], codes, Option, unwrap_or}
+use Rattle.std.specs.Prelude.{ℕ, nat_eq, Bool, ◌||◌, if◌then◌else◌, List, [], codes, Option, unwrap_or}
 use Rattle.std.specs.List.{starts_with}
 use Rattle.std.specs.Option.{option_and_then}
 use Rattle.percent_encoding.specs.Percent.{percent_decode}
@@ -10,7 +10,7 @@ use Rattle.radio_settings.specs.Shown.{shown_of}
 use Rattle.radio_heads.specs.Head.{RequestParts}
 use Rattle.radio_heads.specs.Headers.{value_of}
 use Rattle.radio_session.specs.Framing.{is_word}
-use Rattle.radio_session.specs.Commands.{asked_in}
+use Rattle.radio_session.specs.Commands.{asked_in, is_status}
 use Rattle.radio_events.specs.declared.event.Event.{Event}
 use Rattle.radio_events.specs.declared.event.Event.TheVariants.{Source, Listen, Command}
 
@@ -41,9 +41,9 @@ path_in request = percent_decode request.path
 abbrev pub query_in : RequestParts → List ℕ
 query_in request = unwrap_or request.query []
 
--- a path of commands
+-- a path of commands, or of what everybody may see of the station
 abbrev pub is_for_commands : List ℕ → Bool
-is_for_commands path = starts_with nat_eq path (codes "/admin/")
+is_for_commands path = starts_with nat_eq path (codes "/admin/") || is_status path
 
 -- a client asks to feed the mount of his path
 abbrev pub asks_to_feed : ℕ → RequestParts → Event

@@ -1,37 +1,39 @@
 -- What the path of a command and its arguments ask of the server.
-use Rattle.std.specs.Prelude.{ℕ, List, Option, Result, Ok, Err}
+use Rattle.std.specs.Prelude.{ℕ, Bool, if◌then◌else◌, List, codes, Option, Result, Ok, Err}
+use Rattle.std.specs.Str.{bytes_eq}
 use Rattle.radio_admin.specs.declared.command.Command.{Command as Read}
 use Rattle.radio_admin.specs.declared.command.Command.TheVariants as read
 use Rattle.radio_admin.specs.declared.kind.CommandKind.{CommandKind}
-use Rattle.radio_admin.specs.declared.kind.CommandKind.TheVariants.{MoveClients, KillClient, KillSource, Metadata, Fallbacks}
+use Rattle.radio_admin.specs.declared.kind.CommandKind.TheVariants.{Metadata, Fallbacks}
 use Rattle.radio_admin.specs.declared.fault.AdminFault.{AdminFault}
 use Rattle.radio_admin.specs.declared.fault.AdminFault.TheVariants as fault
 use Rattle.radio_admin.specs.Commands.{command_in}
 use Rattle.radio_events.specs.declared.command.Asked.{Asked}
-use Rattle.radio_events.specs.declared.command.Asked.TheVariants.{NoCommand, MissingArgument, Command}
+use Rattle.radio_events.specs.declared.command.Asked.TheVariants.{NoCommand, MissingArgument, Listing, Command}
 use Rattle.radio_events.specs.declared.command.OpenedBy.TheVariants.{Admin, Source}
 use Rattle.radio_events.specs.declared.command.Command.TheVariants as asks
+use Rattle.radio_events.specs.declared.command.Listing.TheVariants as shows
 use Rattle.radio_icy.specs.Cleaning.{cleaned}
 use Rattle.radio_icy.specs.Limits.{max_title}
 
--- a command that was read, whose title is cleaned; those that list are none yet
+-- a command that was read, whose title is cleaned; some ask for a listing
 abbrev pub asked_with : Read → Asked
 asked_with (read.MoveClients sent) = Command (asks.MoveClients sent.mount sent.destination)
 asked_with (read.KillClient sent) = Command (asks.KillClient sent.mount sent.id)
 asked_with (read.KillSource mount) = Command (asks.KillSource mount)
 asked_with (read.Metadata sent) = Command (asks.SetTitle sent.mount (cleaned max_title sent.title))
 asked_with (read.Fallbacks sent) = Command (asks.SetFallback sent.mount sent.fallback)
-asked_with command = NoCommand
+asked_with read.Stats = Listing shows.Stats
+asked_with read.ListMounts = Listing shows.Mounts
+asked_with (read.ListClients mount) = Listing (shows.Clients mount)
+asked_with read.StreamList = Listing shows.Streams
 
 -- a command of this kind lacks an argument, and this mount was named, if one was: a title or a fallback may be set by the mount's source,
 -- the others are the admin's alone
 abbrev pub lacking : CommandKind → Option (List ℕ) → Asked
 lacking Metadata mount = MissingArgument (Source mount)
 lacking Fallbacks mount = MissingArgument (Source mount)
-lacking MoveClients mount = MissingArgument Admin
-lacking KillClient mount = MissingArgument Admin
-lacking KillSource mount = MissingArgument Admin
-lacking kind mount = NoCommand
+lacking kind mount = MissingArgument Admin
 
 -- by what was read
 abbrev pub asked_by : Result Read AdminFault → Asked
@@ -39,6 +41,10 @@ asked_by (Ok command) = asked_with command
 asked_by (Err (fault.MissingArgument kind mount)) = lacking kind mount
 asked_by (Err other) = NoCommand
 
+-- the path of what everybody may see of the station
+abbrev pub is_status : List ℕ → Bool
+is_status path = bytes_eq path (codes "/status.json")
+
 -- a path, and the query behind it
 abbrev pub asked_in : List ℕ → List ℕ → Asked
-asked_in path query = asked_by (command_in path query)
+asked_in path query = if is_status path then Listing shows.Status else asked_by (command_in path query)

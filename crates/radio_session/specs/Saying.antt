@@ -6,9 +6,11 @@ use Rattle.radio_policy.specs.Words.{word_of, status_of}
 use Rattle.radio_events.specs.declared.reply.Reply.{Reply}
 use Rattle.radio_events.specs.declared.reply.Reply.TheVariants.{Arrived, Feeding, Seated, Drawn, Noted, Text, Deny, Finished, Stray}
 use Rattle.radio_events.specs.declared.text.Text.{Text as CommandText}
-use Rattle.radio_events.specs.Texts.{line_of}
+use Rattle.radio_events.specs.declared.text.Text.TheVariants.{Json}
+use Rattle.radio_events.specs.Texts.{bytes_of}
 use Rattle.radio_heads.specs.Answer.{listener_head, source_text, continue_text, denial_text, sized_text, content_type}
-use Rattle.radio_heads.specs.declared.answer.TextKind.TheVariants.{Plain}
+use Rattle.radio_heads.specs.declared.answer.TextKind.{TextKind}
+use Rattle.radio_heads.specs.declared.answer.TextKind.TheVariants.{Plain, Json as InJson}
 use Rattle.radio_icy.specs.Weaving.{Call}
 use Rattle.radio_session.specs.Draws.{draw, interval_told, weaver_at, drawn, after_draw}
 use Rattle.radio_session.specs.declared.session.Says.{Says}
@@ -77,9 +79,13 @@ body_text Continue = source_text
 abbrev pub denied : Says → Rule → Said
 denied says rule = ends (if says.is_admitted then [] else denial rule) says (By rule)
 
--- a command was done: it is said in an answer where nothing was admitted, else by closing alone
+abbrev pub kind_of : CommandText → TextKind
+kind_of (Json bytes) = InJson
+kind_of text = Plain
+
+-- a command was done, or something is shown: it is said in an answer where nothing was admitted, else by closing alone
 abbrev pub text_answer : CommandText → List ℕ
-text_answer text = sized_text 200 (content_type Plain) (line_of text)
+text_answer text = sized_text 200 (content_type (kind_of text)) (bytes_of text)
 
 abbrev pub texted : Says → CommandText → Said
 texted says text = ends (if says.is_admitted then [] else text_answer text) says Done

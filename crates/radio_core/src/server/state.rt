@@ -80,7 +80,7 @@ impl State {
             Event::Title { id, text } => Ok(self.title(id, text)),
             Event::Listen(asked) => self.listen(asked),
             Event::Draw { id, room } => self.draw(id, room),
-            Event::Command(asked) => Ok(self.command(asked)),
+            Event::Command(asked) => self.command(asked),
             Event::Leave { id } => Ok(self.leave(id)),
             Event::Clock { ms } => Ok(self.clock(ms)),
         }

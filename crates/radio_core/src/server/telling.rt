@@ -20,8 +20,8 @@ fn told_moved(text: Text, count: u64) -> Text
     ensures { result ≡ told_moved text count }
 {
     match text {
-        Text::Done => Text::Done,
         Text::Moved(_) => Text::Moved(count),
+        text => text,
     }
 }
 

@@ -2,10 +2,10 @@
 
 ghost use Rattle.std.specs.Prelude.{◌≡◌, IfOk};
 ghost use Rattle.radio_session.specs.Asking.{pair_of, value_or, shown_by, wants_metadata, path_in, query_in};
-ghost use Rattle.radio_session.specs.Asking.{asks_to_feed, asks_by_get, asks_to_hear, gives_command};
+ghost use Rattle.radio_session.specs.Asking.{asks_to_feed, asks_by_get, asks_to_hear, gives_command, is_for_commands};
 
 use crate::OutOfMemory;
-use crate::session::commands::asked_in;
+use crate::session::commands::{STATUS, asked_in};
 use crate::session::framing::is_word;
 use bytes::Bytes;
 use radio_admin::read_path;
@@ -38,16 +38,23 @@ pub(crate) fn asks_to_feed(alloc: Global, id: u64, head: &Head) -> Result<Event,
 }
 
 /// The event of a client who asks by GET: for a command where his head's path begins with `/admin/`,
-/// and else to hear the mount of it. `OutOfMemory` where memory was refused.
+/// or is that of the status, and else to hear the mount of it. `OutOfMemory` where memory was refused.
 pub(crate) fn asks_by_get(alloc: Global, id: u64, head: &Head) -> Result<Event, OutOfMemory>
     ensures { IfOk result (λ event. event ≡ asks_by_get id head.now) }
 {
     let path = path_in(alloc, head)?;
-    if path.as_slice().starts_with(COMMANDS) {
+    if is_for_commands(path.as_slice()) {
         gives_command(alloc, id, head, &path)
     } else {
         asks_to_hear(alloc, id, head, path)
     }
+}
+
+/// Whether a path is one of commands, or that of what everybody may see of the station.
+fn is_for_commands(path: &[u8]) -> bool
+    ensures { result ≡ is_for_commands path.now }
+{
+    path.starts_with(COMMANDS) || path == STATUS
 }
 
 /// The event of a client who asks to hear the mount of this path. `OutOfMemory` where memory was

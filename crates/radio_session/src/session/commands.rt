@@ -5,16 +5,22 @@ ghost use Rattle.radio_session.specs.Commands.{asked_in, asked_with, lacking};
 
 use crate::OutOfMemory;
 use radio_admin::{AdminFault, Command as Read, CommandKind, read_command};
-use radio_events::{Asked, Command, OpenedBy};
+use radio_events::{Asked, Command, Listing, OpenedBy};
 use radio_icy::Title;
 use radio_settings::MountName;
 use std::alloc::{AllocError, Global};
 
-/// What a decoded path of commands, and the query behind it, ask for. `OutOfMemory` where memory was
+/// The path of what everybody may see of the station.
+pub(super) const STATUS: &[u8] = b"/status.json";
+
+/// What a decoded path of commands, or of the status, and the query behind it, ask for. `OutOfMemory` where memory was
 /// refused.
 pub(super) fn asked_in(alloc: Global, path: &[u8], query: &[u8]) -> Result<Asked, OutOfMemory>
     ensures { IfOk result (λ asked. asked ≡ asked_in path.now query.now) }
 {
+    if path == STATUS {
+        return Ok(Asked::Listing(Listing::Status));
+    }
     match read_command(alloc, path, query) {
         Ok(command) => asked_with(alloc, &command),
         Err(AdminFault::NoCommand) => Ok(Asked::NoCommand),
@@ -23,8 +29,7 @@ pub(super) fn asked_in(alloc: Global, path: &[u8], query: &[u8]) -> Result<Asked
     }
 }
 
-/// What a command that was read asks for; those that list are none yet. `OutOfMemory` where memory
-/// was refused.
+/// What a command that was read asks for. `OutOfMemory` where memory was refused.
 fn asked_with(alloc: Global, command: &Read) -> Result<Asked, OutOfMemory>
     ensures { IfOk result (λ asked. asked ≡ asked_with command.now) }
 {
@@ -46,9 +51,10 @@ fn asked_with(alloc: Global, command: &Read) -> Result<Asked, OutOfMemory>
             mount: sent.mount,
             fallback: sent.fallback,
         })),
-        Read::Stats | Read::ListMounts | Read::ListClients(_) | Read::StreamList => {
-            Ok(Asked::NoCommand)
-        }
+        Read::Stats => Ok(Asked::Listing(Listing::Stats)),
+        Read::ListMounts => Ok(Asked::Listing(Listing::Mounts)),
+        Read::ListClients(mount) => Ok(Asked::Listing(Listing::Clients(*mount))),
+        Read::StreamList => Ok(Asked::Listing(Listing::Streams)),
     }
 }
 
@@ -60,12 +66,6 @@ fn lacking(kind: CommandKind, mount: Option<MountName>) -> Asked
         CommandKind::Metadata | CommandKind::Fallbacks => {
             Asked::MissingArgument(OpenedBy::Source(mount))
         }
-        CommandKind::MoveClients | CommandKind::KillClient | CommandKind::KillSource => {
-            Asked::MissingArgument(OpenedBy::Admin)
-        }
-        CommandKind::Stats
-        | CommandKind::ListMounts
-        | CommandKind::ListClients
-        | CommandKind::StreamList => Asked::NoCommand,
+        _ => Asked::MissingArgument(OpenedBy::Admin),
     }
 }

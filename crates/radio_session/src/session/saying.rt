@@ -1,5 +1,6 @@
 ghost use Rattle.std.specs.Prelude.{◌≡◌, ◌≤◌, ◌++◌, length, true, Some, option_copied, option_map, IfOk, IfSome, IsErr, OnOk, OnErr};
-ghost use Rattle.radio_heads.specs.Answer.{answer_text, listener_head};
+ghost use Rattle.radio_heads.specs.Answer.{answer_text, listener_head, sized_text, content_type};
+ghost use Rattle.radio_events.specs.declared.text.Text.{Text as TextOf};
 ghost use Rattle.radio_session.specs.Conversation.{saying_now};
 ghost use Rattle.radio_session.specs.Saying.{said, texted, denied, noted, counted, one_less, admitted, seated, drew, last_text, last_ending, greeting_text, text_answer, denial};
 ghost use Rattle.radio_session.specs.Draws.{draw, drawn, interval_told, weaver_at};
@@ -67,7 +68,7 @@ impl Session {
             Reply::Seated { interval, shown } => self.admit_listener(*interval, shown, out),
             Reply::Drawn { pieces, title } => self.tell_pieces(pieces, text_of(title), out),
             Reply::Noted => self.note(out),
-            Reply::Text(text) => self.tell_text(*text, out),
+            Reply::Text(text) => self.tell_text(text, out),
             Reply::Deny(rule) => self.deny(*rule, out),
             Reply::Finished(rule) => Ok(State::Shut(Ending::By(*rule))),
             Reply::Arrived(_) | Reply::Stray => {
@@ -127,13 +128,13 @@ impl Session {
     }
 
     /// A command was done, and this is said of it.
-    fn tell_text(&self, text: Text, out: &mut Vec<u8>) -> Result<State, OutOfMemory>
-        ensures bytes { IfOk result (λ _. out.new.items ≡ out.old.items ++ (texted self.now.says text).bytes) }
-        ensures state { IfOk result (λ state. state ≡ (texted self.now.says text).state) }
+    fn tell_text(&self, text: &Text, out: &mut Vec<u8>) -> Result<State, OutOfMemory>
+        ensures bytes { IfOk result (λ _. out.new.items ≡ out.old.items ++ (texted self.now.says text.now).bytes) }
+        ensures state { IfOk result (λ state. state ≡ (texted self.now.says text.now).state) }
         ensures silent { OnErr result (out.new.items ≡ out.old.items) }
     {
         if !self.says.is_admitted {
-            tell_line(self.alloc, text, out)?;
+            tell_answer(self.alloc, text, out)?;
         }
         Ok(State::Shut(Ending::Done))
     }
@@ -270,17 +271,34 @@ fn welcome(
     tell(alloc, &answer, out)
 }
 
-/// Appends the answer whose body is the line of the text.
-fn tell_line(alloc: Global, text: Text, out: &mut Vec<u8>) -> Result<(), OutOfMemory>
-    ensures ok { OnOk result (out.new.items ≡ out.old.items ++ text_answer text) }
+/// Appends the answer to a command, or to one who is shown something of the station.
+fn tell_answer(alloc: Global, text: &Text, out: &mut Vec<u8>) -> Result<(), OutOfMemory>
+    ensures ok { OnOk result (out.new.items ≡ out.old.items ++ text_answer text.now) }
     ensures err { OnErr result (out.new.items ≡ out.old.items) }
 {
-    let line = text.to_string(alloc)?;
-    let answer = Answer::Text {
-        kind: TextKind::Plain,
-        body: line.as_bytes(),
-    };
-    tell(alloc, &answer, out)
+    match text {
+        Text::Done => tell_body(alloc, TextKind::Plain, b"done\n", out),
+        Text::Moved(count) => tell_moved(alloc, *count, out),
+        Text::Json(bytes) => tell_body(alloc, TextKind::Json, bytes.as_slice(), out),
+        Text::Streams(bytes) => tell_body(alloc, TextKind::Plain, bytes.as_slice(), out),
+    }
+}
+
+/// Appends how many listeners went to another mount.
+fn tell_moved(alloc: Global, count: u64, out: &mut Vec<u8>) -> Result<(), OutOfMemory>
+    ensures ok { OnOk result (out.new.items ≡ out.old.items ++ text_answer (TextOf.Moved count)) }
+    ensures err { OnErr result (out.new.items ≡ out.old.items) }
+{
+    let line = format!(in alloc; "moved: {count}\n")?;
+    tell_body(alloc, TextKind::Plain, line.as_bytes(), out)
+}
+
+/// Appends an answer with this body.
+fn tell_body(alloc: Global, kind: TextKind, body: &[u8], out: &mut Vec<u8>) -> Result<(), OutOfMemory>
+    ensures ok { OnOk result (out.new.items ≡ out.old.items ++ sized_text 200 (content_type kind) body.now) }
+    ensures err { OnErr result (out.new.items ≡ out.old.items) }
+{
+    tell(alloc, &Answer::Text { kind, body }, out)
 }
 
 /// Appends the answer that names the rule, if the rule has one.
