@@ -21,7 +21,7 @@ use Rattle.radio_parts.specs.Stream.{AreRising, WholeStream, end_of, burst_start
 use Rattle.radio_core.specs.Sound.{IsSound}
 use Rattle.radio_core.specs.Step.{outcome, reply_to, world_after}
 use Rattle.radio_core.specs.Ways.{Way, Misplaced, IsFinished, IsDenied, IsRefused, IsAdmitted, Begins, Receives, SetsTitle, TakesSeat, HandsOut, Ends}
-use Rattle.radio_core.specs.Ways.{EndsAndLeaves, Leaves, Obeys, HasPassed, Ticks}
+use Rattle.radio_core.specs.Ways.{EndsAndLeaves, Leaves, Obeys, Shows, HasPassed, Ticks}
 use Rattle.radio_seats.proofs.SeatLaws.{has_sat_down}
 use Rattle.std.proofs.lemmas.Bool.{and_parts}
 use Rattle.radio_access.specs.Lists.{lets_in}
@@ -73,6 +73,7 @@ module _ (w : World) (s : IsSound w) (k : KeepsLists w) (l : Within w) where
   his_by event o (Begins asked undecided none allowed) bytes title d = cc
   his_by event o (Receives id mount block feeding) bytes title d = cc
   his_by event o (SetsTitle id mount text feeding) bytes title d = cc
+  his_by event o (Shows _ listing c) bytes title d = cc
   his_by event o (Obeys _ command c) bytes title d = cc
   his_by event o (HasPassed ms e) bytes title d = cc
   his_by event o (Ticks ms e) bytes title d = cc
@@ -231,6 +232,7 @@ module _ (w : World) (s : IsSound w) where
   seated_by event o (Begins asked undecided none allowed) interval shown d after = cc
   seated_by event o (Receives id mount block feeding) interval shown d after = cc
   seated_by event o (SetsTitle id mount text feeding) interval shown d after = cc
+  seated_by event o (Shows _ listing c) interval shown d after = cc
   seated_by event o (Obeys _ command c) interval shown d after = cc
   seated_by event o (HasPassed ms e) interval shown d after = cc
   seated_by event o (Ticks ms e) interval shown d after = cc

@@ -52,7 +52,7 @@ use Rattle.radio_core.specs.Outcomes.{on_verdict, if_undecided}
 use Rattle.radio_core.specs.Sound.{IsSound}
 use Rattle.radio_core.specs.Step.{outcome, reply_to, world_after}
 use Rattle.radio_core.specs.Ways.{Way, Misplaced, IsFinished, IsDenied, IsRefused, IsAdmitted, Begins, Receives, SetsTitle, TakesSeat, HandsOut, Ends}
-use Rattle.radio_core.specs.Ways.{EndsAndLeaves, Leaves, Obeys, HasPassed, Ticks}
+use Rattle.radio_core.specs.Ways.{EndsAndLeaves, Leaves, Obeys, Shows, HasPassed, Ticks}
 use Rattle.radio_core.specs.World.{World, standing_of}
 use Rattle.radio_core.proofs.Obeyed.{needs_hold, may_act, is_opened, is_another, his_seat, has_been_killed, sits_no_more, beside_him, live, is_cut, named, turned, title_live, is_answered}
 use Rattle.radio_core.proofs.SoundRuns.{sound_after}
@@ -165,29 +165,39 @@ module _ (w : World) (s : IsSound w) (event : Event) where
       given command c w.house.settings.access.admin has (AsTheAdmin command (record { user = has.user; password = has.password }))
   by_right command c (inr source) = by_source command c source
 
-given_by : (w : World) → IsSound w → (event : Event) (o : Outcome) → Way w event o → (text : Text) → o.reply ≡ SaysText text → IsGivenByRight w event
-given_by w s event o (Obeys _ command c) text d =
+-- a listing is no short text
+no_short : (w : World) (listing : Listing) → IsShort (shown w listing) → ⊥
+no_short w Status short = short
+no_short w Stats short = short
+no_short w Mounts short = short
+no_short w (Clients mount) short = short
+no_short w Streams short = short
+
+given_by : (w : World) → IsSound w → (event : Event) (o : Outcome) → Way w event o → (text : Text) → o.reply ≡ SaysText text → IsShort text
+    → IsGivenByRight w event
+given_by w s event o (Shows _ listing c) text d short = let same : shown w listing ≡ text = cc in absurd (no_short w listing (subst IsShort (sym same) short))
+given_by w s event o (Obeys _ command c) text d short =
     by_right w s event command c (one_of (is_admin_pair w.house.settings c.asked.pair) (opens_as_source w.house.settings (opened_by command) c.asked.pair)
     (is_opened w s event c))
-given_by w s event o (Misplaced _) text d = cc
-given_by w s event o (IsFinished _ him by its known) text d = cc
-given_by w s event o (IsDenied _ by v nobody) text d = cc
-given_by w s event o (IsRefused _ him by v its undecided) text d = cc
-given_by w s event o (IsAdmitted peer allowed) text d = cc
-given_by w s event o (Begins asked undecided none allowed) text d = cc
-given_by w s event o (Receives him mount block feeding) text d = cc
-given_by w s event o (SetsTitle him mount title feeding) text d = cc
-given_by w s event o (HasPassed ms e) text d = cc
-given_by w s event o (Ticks ms e) text d = cc
-given_by w s event o (TakesSeat asked peer session undecided lands live allowed) text d = cc
-given_by w s event o (HandsOut him room seat session sits has live) text d = cc
-given_by w s event o (Ends him mount feeding) text d = cc
-given_by w s event o (EndsAndLeaves him mount feeding) text d = cc
-given_by w s event o (Leaves him other) text d = cc
+given_by w s event o (Misplaced _) text d short = cc
+given_by w s event o (IsFinished _ him by its known) text d short = cc
+given_by w s event o (IsDenied _ by v nobody) text d short = cc
+given_by w s event o (IsRefused _ him by v its undecided) text d short = cc
+given_by w s event o (IsAdmitted peer allowed) text d short = cc
+given_by w s event o (Begins asked undecided none allowed) text d short = cc
+given_by w s event o (Receives him mount block feeding) text d short = cc
+given_by w s event o (SetsTitle him mount title feeding) text d short = cc
+given_by w s event o (HasPassed ms e) text d short = cc
+given_by w s event o (Ticks ms e) text d short = cc
+given_by w s event o (TakesSeat asked peer session undecided lands live allowed) text d short = cc
+given_by w s event o (HandsOut him room seat session sits has live) text d short = cc
+given_by w s event o (Ends him mount feeding) text d short = cc
+given_by w s event o (EndsAndLeaves him mount feeding) text d short = cc
+given_by w s event o (Leaves him other) text d short = cc
 
 pub only_who_may : (w : World) → IsSound w → (event : Event) → OnlyWhoMayCommands w event
 unfolding reply_to
-only_who_may w s event text d = given_by w s event (outcome w event) (way_of w event) text d
+only_who_may w s event text d short = given_by w s event (outcome w event) (way_of w event) text d short
 
 -- what comes of a command that the policy allows
 does_so : (w : World) (id : ℕ) (command : TheCommand) (now : Standing) (peer : Peer) (verdict : Verdict) (asked : Asked) → now ≡ Undecided peer → verdict ≡ Allow

@@ -1,14 +1,16 @@
 -- which rules the rows of a command have
-use Rattle.std.proofs.Common.{◌≡◌, false, Bool, Option, Some, None}
+use Rattle.std.proofs.Common.{◌≡◌, ◌++◌, false, Bool, Option, Some, None}
 use Rattle.radio_policy.specs.declared.rule.Rule.{Rule}
 use Rattle.radio_policy.specs.declared.rule.Rule.TheVariants.{NoCommand, AdminPassword, SourcePassword, RelayPassword, MissingArgument, NoMount, NoDestination}
 use Rattle.radio_policy.specs.declared.rule.Rule.TheVariants.{SameMount, NoClient}
 use Rattle.radio_policy.specs.declared.facts.CommandFacts.{CommandFacts}
+use Rattle.radio_policy.specs.declared.facts.CommandAccess.{CommandAccess}
+use Rattle.radio_policy.specs.declared.facts.CommandAccess.TheVariants.{Everybody, Pair}
 use Rattle.radio_policy.specs.declared.facts.CommandNeeds.{CommandNeeds}
 use Rattle.radio_policy.specs.declared.facts.CommandNeeds.TheVariants.{Argument, Nothing, Mount, Destination, Client}
 use Rattle.radio_policy.specs.declared.facts.Opener.{Opener}
 use Rattle.radio_policy.specs.declared.facts.Opener.TheVariants.{Admin, Source, Relay}
-use Rattle.radio_policy.specs.Table.{needs_rows, password_rule, command_rows}
+use Rattle.radio_policy.specs.Table.{access_rows, needs_rows, password_rule, command_rows}
 use Rattle.radio_tables.specs.Lists.{Each}
 
 -- none of them is meant
@@ -27,6 +29,10 @@ module _ (meant : Rule → Bool) (no_command : meant NoCommand ≡ false) (admin
   to_open Source = source
   to_open Relay = relay
 
+  to_give : (access : CommandAccess) (needs : CommandNeeds) → Each (λ row. meant row.rule ≡ false) (access_rows access ++ needs_rows needs)
+  to_give Everybody needs = needed needs
+  to_give (Pair opener sent) needs = (to_open opener, needed needs)
+
   pub of_no_command : (facts : Option CommandFacts) → Each (λ row. meant row.rule ≡ false) (command_rows facts)
   of_no_command None = (no_command, tt)
-  of_no_command (Some facts) = (to_open facts.opener, needed facts.needs)
+  of_no_command (Some facts) = to_give facts.access facts.needs

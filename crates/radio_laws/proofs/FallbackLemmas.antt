@@ -14,7 +14,7 @@ use Rattle.radio_parts.specs.Sessions.{Session, session_of}
 use Rattle.radio_core.specs.Source.{shown_for}
 use Rattle.radio_core.specs.Step.{outcome, world_after}
 use Rattle.radio_core.specs.Ways.{Way, Misplaced, IsFinished, IsDenied, IsRefused, IsAdmitted, Begins, Receives, SetsTitle, TakesSeat, HandsOut, Ends}
-use Rattle.radio_core.specs.Ways.{EndsAndLeaves, Leaves, Obeys, HasPassed, Ticks}
+use Rattle.radio_core.specs.Ways.{EndsAndLeaves, Leaves, Obeys, Shows, HasPassed, Ticks}
 use Rattle.radio_core.specs.World.{World}
 use Rattle.radio_core.proofs.CalledHome.{house_called}
 use Rattle.radio_core.proofs.Lookups.{beside_set}
@@ -49,6 +49,7 @@ module _ (w : World) (mount : List ℕ) where
   stays_by event o (HasPassed ms e) = inl refl
   stays_by event o (Ticks ms e) =
       inl (ap (λ (fallbacks : List Fallback). set_for fallbacks mount) (silence_sets (silent_in (before_silence w ms)) (before_silence w ms)))
+  stays_by event o (Shows _ listing c) = inl refl
   stays_by event o (Obeys _ command c) = by_command command c where
     by_command : (command : TheCommand) (c : IsCommanded w event command) → StaysSet (changed w (Obey c.asked.id command))
         ⊎ ((fallback : Option (List ℕ)) × IsCommanded w event (SetFallback mount fallback))

@@ -23,7 +23,7 @@ use Rattle.radio_core.specs.Run.{world_after_all, run_after}
 use Rattle.radio_core.specs.Sound.{IsSound}
 use Rattle.radio_core.specs.Step.{outcome, reply_to, world_after}
 use Rattle.radio_core.specs.Ways.{Way, Misplaced, IsFinished, IsDenied, IsRefused, IsAdmitted, Begins, Receives, SetsTitle, TakesSeat, HandsOut, Ends}
-use Rattle.radio_core.specs.Ways.{EndsAndLeaves, Leaves, Obeys, HasPassed, Ticks}
+use Rattle.radio_core.specs.Ways.{EndsAndLeaves, Leaves, Obeys, Shows, HasPassed, Ticks}
 use Rattle.radio_events.specs.Events.{client_in}
 use Rattle.radio_core.proofs.FinishLemmas.{others_hold, known_before}
 use Rattle.radio_core.proofs.ReplyLemmas.{replies_fit}
@@ -86,6 +86,7 @@ low_by w s event o (Begins asked undecided none allowed) =
     let last = ap (λ (h : House). h.last_id) (house_called up asked.mount) in omega (arith, last)
 low_by w s event o (Receives him mount block feeding) = omega arith
 low_by w s event o (SetsTitle him mount text feeding) = omega arith
+low_by w s event o (Shows _ listing c) = omega arith
 low_by w s event o (Obeys _ command c) = let last = obeyed_last w c.asked.id command in omega (arith, last)
 low_by w s event o (HasPassed ms e) = omega arith
 low_by w s event o (Ticks ms e) = let last = (ticked_fates w s ms).last in omega (arith, last)

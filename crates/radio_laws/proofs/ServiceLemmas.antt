@@ -39,7 +39,7 @@ use Rattle.radio_parts.specs.Sessions.{Session, session_of}
 use Rattle.radio_core.specs.Sound.{IsSound}
 use Rattle.radio_core.specs.Step.{outcome, reply_to, world_after}
 use Rattle.radio_core.specs.Ways.{Way, Misplaced, IsFinished, IsDenied, IsRefused, IsAdmitted, Begins, Receives, SetsTitle, TakesSeat, HandsOut, Ends}
-use Rattle.radio_core.specs.Ways.{EndsAndLeaves, Leaves, Obeys, HasPassed, Ticks}
+use Rattle.radio_core.specs.Ways.{EndsAndLeaves, Leaves, Obeys, Shows, HasPassed, Ticks}
 use Rattle.radio_core.specs.Clients.{Client, client_of}
 use Rattle.radio_parts.specs.Stream.{WholeStream, end_of, data_at}
 use Rattle.radio_core.proofs.CalledHome.{turns_up}
@@ -226,6 +226,7 @@ nothing_by w event o (HandsOut him room seat session sits has live) = (λ d. cc,
 nothing_by w event o (Ends him mount feeding) = (λ d. cc, λ rule d. cc)
 nothing_by w event o (EndsAndLeaves him mount feeding) = (λ d. cc, λ rule d. cc)
 nothing_by w event o (Leaves him other) = (λ d. cc, λ rule d. cc)
+nothing_by w event o (Shows _ listing c) = (λ d. cc, λ rule d. cc)
 nothing_by w event o (Obeys _ command c) = (λ d. cc, λ rule d. cc)
 nothing_by w event o (HasPassed ms e) = (λ d. refl, λ rule d. refl)
 nothing_by w event o (Ticks ms e) = (λ d. cc, λ rule d. cc)

@@ -30,7 +30,7 @@ use Rattle.radio_core.specs.Step.{outcome, world_after}
 use Rattle.radio_parts.specs.Stream.{WholeStream, data_at, end_of}
 use Rattle.radio_laws.specs.Stretches.{between, Sitting, sitting_in, begun_sittings, sittings, AreStretches, StretchesAreWhole}
 use Rattle.radio_core.specs.Ways.{Way, Misplaced, IsFinished, IsDenied, IsRefused, IsAdmitted, Begins, Receives, SetsTitle, TakesSeat, HandsOut, Ends}
-use Rattle.radio_core.specs.Ways.{EndsAndLeaves, Leaves, Obeys, HasPassed, Ticks}
+use Rattle.radio_core.specs.Ways.{EndsAndLeaves, Leaves, Obeys, Shows, HasPassed, Ticks}
 use Rattle.radio_core.proofs.FinishLemmas.{undecided_before}
 use Rattle.radio_core.proofs.OwnLemmas.{not_of, nothing_of}
 use Rattle.radio_laws.proofs.GoneLemmas.{his_own, with_nothing, last_rises}
@@ -255,6 +255,7 @@ module _ (w : World) (s : IsSound w) (sent : ℕ → List ℕ) (h : Sent w sent)
   brings_nothing event o (IsRefused _ him by v its undecided) id not = nothing_of event id [] refl
   brings_nothing event o (IsAdmitted peer allowed) id not = refl
   brings_nothing event o (SetsTitle him mount text feeding) id not = nothing_of event id [] refl
+  brings_nothing event o (Shows _ listing c) id not = nothing_of event id [] refl
   brings_nothing event o (Obeys _ command c) id not = nothing_of event id [] refl
   brings_nothing event o (HasPassed ms e) id not = refl
   brings_nothing event o (Ticks ms e) id not = refl
@@ -320,6 +321,7 @@ module _ (w : World) (s : IsSound w) (sent : ℕ → List ℕ) (h : Sent w sent)
   unfolding whole_now
   whole_by event o (Receives him mount block feeding) = grown_whole him mount block feeding
   whole_by event o (SetsTitle him mount text feeding) = titled_whole him mount text feeding
+  whole_by event o (Shows _ listing c) = as_it_was event
   whole_by event o (Obeys _ command c) = λ mount session e.
       let was = was_live_then w event command c mount s session e in
       subst (λ (x : WholeStream). x.bytes ≡ sent session.number ++ of_client event session.number []) was.stream

@@ -32,7 +32,7 @@ use Rattle.radio_core.specs.Source.{shown_for}
 use Rattle.radio_core.specs.Step.{outcome, reply_to, world_after}
 use Rattle.radio_laws.specs.TitlesTold.{commanded_at, commanded_in, set_by, set_at, titles_set, last_title, TitlesAreTold}
 use Rattle.radio_core.specs.Ways.{Way, Misplaced, IsFinished, IsDenied, IsRefused, IsAdmitted, Begins, Receives, SetsTitle, TakesSeat, HandsOut, Ends}
-use Rattle.radio_core.specs.Ways.{EndsAndLeaves, Leaves, Obeys, HasPassed, Ticks}
+use Rattle.radio_core.specs.Ways.{EndsAndLeaves, Leaves, Obeys, Shows, HasPassed, Ticks}
 use Rattle.radio_laws.proofs.AccessLemmas.{access_holds}
 use Rattle.radio_core.proofs.FinishLemmas.{undecided_before}
 use Rattle.radio_core.proofs.Obeyed.{title_live}
@@ -119,6 +119,7 @@ module _ (w : World) (s : IsSound w) (told : ℕ → List (List ℕ)) (h : Told 
   sets_nothing event o (IsDenied _ by v nobody) id not = nothing_of event id [] refl
   sets_nothing event o (IsRefused _ him by v its undecided) id not = nothing_of event id [] refl
   sets_nothing event o (IsAdmitted peer allowed) id not = refl
+  sets_nothing event o (Shows _ listing c) id not = nothing_of event id [] refl
   sets_nothing event o (Obeys _ command c) id not = commands_nothing event command c id not
   sets_nothing event o (HasPassed ms e) id not = refl
   sets_nothing event o (Ticks ms e) id not = refl
@@ -238,6 +239,7 @@ module _ (w : World) (s : IsSound w) (told : ℕ → List (List ℕ)) (h : Told 
   last_by : (event : Event) (o : Outcome) → Way w event o → last_now event o
   unfolding last_now
   last_by event o (SetsTitle him mount text feeding) = new_title him mount text feeding
+  last_by event o (Shows _ listing c) = as_it_was event
   last_by event o (Obeys _ command c) = command_title event command c
   last_by event o (HasPassed ms e) = as_it_was event
   last_by event o (Ticks ms e) = λ mount session h. as_it_was event mount session ((ticked_fates w s ms).live mount session h)

@@ -16,6 +16,7 @@ use Rattle.radio_events.specs.declared.event.Event.TheVariants.{Command}
 use Rattle.radio_events.specs.declared.reply.Reply.TheVariants.{Text as SaysText}
 use Rattle.radio_events.specs.declared.text.Text.{Text}
 use Rattle.radio_events.specs.declared.text.Text.TheVariants.{Done, Moved}
+use Rattle.radio_events.specs.Texts.{IsShort}
 use Rattle.radio_core.specs.declared.standing.Standing.TheVariants.{Undecided, Answered, Finished}
 use Rattle.radio_core.specs.CommandFacts.{IsCommanded}
 use Rattle.radio_core.specs.Fallbacks.{set_for}
@@ -57,7 +58,7 @@ IsThere w (SetFallback mount fallback) = IsLive w mount
 abbrev pub WhoMayIsServed : World → Type 0
 WhoMayIsServed w = (asked : CommandRequest) (peer : Peer) (command : TheCommand) (pair : Credentials) → standing_of w asked.id ≡ Undecided peer
     → asked.asked ≡ Asks command → asked.pair ≡ Some pair → MayGive w pair command → IsThere w command
-    → (text : Text) × (reply_to w (Command asked) ≡ SaysText text)
+    → (text : Text) × (reply_to w (Command asked) ≡ SaysText text) × IsShort text
 
 -- a command was given by one who may, and what it needs was there
 pub record IsGivenByRight (w : World) (event : Event) : Type 0 where
@@ -72,7 +73,7 @@ pub record IsGivenByRight (w : World) (event : Event) : Type 0 where
 
 -- that a command was done is told only to one who may give it, where what it needs was there
 abbrev pub OnlyWhoMayCommands : World → Event → Type 0
-OnlyWhoMayCommands w event = (text : Text) → reply_to w event ≡ SaysText text → IsGivenByRight w event
+OnlyWhoMayCommands w event = (text : Text) → reply_to w event ≡ SaysText text → IsShort text → IsGivenByRight w event
 
 -- a source is finished by a command that ends its session
 pub record IsSourceKilled (w later : World) (mount : List ℕ) : Type 0 where

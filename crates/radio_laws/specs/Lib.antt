@@ -13,3 +13,4 @@ pub mod TitlesTold
 pub mod Gone
 pub mod Service
 pub mod Outstaying
+pub mod Shown

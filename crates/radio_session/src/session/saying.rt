@@ -1,6 +1,8 @@
 ghost use Rattle.std.specs.Prelude.{◌≡◌, ◌≤◌, ◌++◌, length, true, Some, option_copied, option_map, IfOk, IfSome, IsErr, OnOk, OnErr};
 ghost use Rattle.radio_heads.specs.Answer.{answer_text, listener_head, sized_text, content_type};
 ghost use Rattle.radio_events.specs.declared.text.Text.{Text as TextOf};
+ghost use Rattle.radio_events.specs.Texts.{bytes_of};
+ghost use Rattle.std.specs.String.{string_bytes};
 ghost use Rattle.radio_session.specs.Conversation.{saying_now};
 ghost use Rattle.radio_session.specs.Saying.{said, texted, denied, noted, counted, one_less, admitted, seated, drew, last_text, last_ending, greeting_text, text_answer, denial};
 ghost use Rattle.radio_session.specs.Draws.{draw, drawn, interval_told, weaver_at};
@@ -289,8 +291,14 @@ fn tell_moved(alloc: Global, count: u64, out: &mut Vec<u8>) -> Result<(), OutOfM
     ensures ok { OnOk result (out.new.items ≡ out.old.items ++ text_answer (TextOf.Moved count)) }
     ensures err { OnErr result (out.new.items ≡ out.old.items) }
 {
-    let line = format!(in alloc; "moved: {count}\n")?;
+    let line = moved_line(alloc, count)?;
     tell_body(alloc, TextKind::Plain, line.as_bytes(), out)
+}
+
+fn moved_line(alloc: Global, count: u64) -> Result<String, OutOfMemory>
+    ensures { IfOk result (λ line. string_bytes line ≡ bytes_of (TextOf.Moved count)) }
+{
+    format!(in alloc; "moved: {count}\n")
 }
 
 /// Appends an answer with this body.

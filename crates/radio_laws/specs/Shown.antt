@@ -1,0 +1,160 @@
+-- What of the station a client is shown, and to whom it is shown.
+use Rattle.std.specs.Prelude.{◌≡◌, ◌↔◌, ◌≤◌, ◌<◌, ℕ, ◌+◌, ◌-◌, ◌*◌, Bool, not, List, [], ◌∷◌, ◌++◌, length, map, filter, flat_map, Option, Some, None, unwrap_or}
+use Rattle.std.specs.Str.Lossy.{utf8_lossy}
+use Rattle.radio_addr.specs.declared.peer.Peer.{Peer}
+use Rattle.radio_creds.specs.Credentials.{Credentials}
+use Rattle.radio_settings.specs.declared.field.Shown.{Shown}
+use Rattle.radio_settings.specs.Options.{options_for}
+use Rattle.radio_tables.specs.Lists.{Each}
+use Rattle.radio_seats.specs.declared.seat.Seat.{Seat}
+use Rattle.radio_seats.specs.Seats.{seat_of, seats_at, count_at}
+use Rattle.radio_listing.specs.declared.rows.MountRow.{MountRow}
+use Rattle.radio_listing.specs.declared.rows.ListenerRow.{ListenerRow}
+use Rattle.radio_listing.specs.Admin.{stats_text, mounts_text}
+use Rattle.radio_listing.specs.Laws.{mounts_named}
+use Rattle.radio_listing.specs.Listeners.{listeners_text}
+use Rattle.radio_listing.specs.Public.{status_data, status_text, stream_text}
+use Rattle.radio_events.specs.declared.command.Asked.TheVariants.{Listing as AsksFor}
+use Rattle.radio_events.specs.declared.command.CommandRequest.{CommandRequest}
+use Rattle.radio_events.specs.declared.command.Listing.{Listing}
+use Rattle.radio_events.specs.declared.command.Listing.TheVariants.{Status, Stats, Mounts, Clients, Streams}
+use Rattle.radio_events.specs.declared.event.Event.{Event}
+use Rattle.radio_events.specs.declared.event.Event.TheVariants.{Command}
+use Rattle.radio_events.specs.declared.reply.Reply.TheVariants.{Text as SaysText}
+use Rattle.radio_events.specs.declared.text.Text.{Text}
+use Rattle.radio_events.specs.declared.text.Text.TheVariants.{Json, Streams as StreamList}
+use Rattle.radio_events.specs.Texts.{IsShort}
+use Rattle.radio_core.specs.declared.standing.Standing.TheVariants.{Undecided, Answered}
+use Rattle.radio_core.specs.Listings.{mount_rows, listener_rows}
+use Rattle.radio_core.specs.Sessions.{Session}
+use Rattle.radio_core.specs.Step.{reply_to, world_after}
+use Rattle.radio_core.specs.World.{World, standing_of}
+use Rattle.radio_laws.specs.Commanded.{IsTheAdmins, IsLive}
+use Rattle.radio_laws.specs.Walks.{FallsBack}
+
+-- the user and the password of relays, byte for byte, where they have a password
+pub record IsTheRelays (w : World) (pair : Credentials) : Type 0 where
+  pub user : pair.user ≡ w.house.settings.access.relays.username
+  pub password : w.house.settings.access.relays.password ≡ Some pair.password
+
+-- everybody may see the status, a relay the list of streams, and the admin all
+pub data MaySee (w : World) : Listing → Option Credentials → Type 0 where
+  AsAnybody : (pair : Option Credentials) → MaySee w Status pair
+  AsARelay : (pair : Credentials) → IsTheRelays w pair → MaySee w Streams (Some pair)
+  AsTheAdmin : (listing : Listing) (pair : Credentials) → IsTheAdmins w pair → MaySee w listing (Some pair)
+
+-- to list the listeners of a mount, it must be live
+abbrev pub IsThereToSee : World → Listing → Type 0
+IsThereToSee w (Clients mount) = IsLive w mount
+IsThereToSee w listing = Unit {0}
+
+-- what a row tells of the mount of a session
+pub record TellsOf (w : World) (fed : Session) (row : MountRow) : Type 0 where
+  pub mount : row.public.mount ≡ fed.mount
+  pub name : row.public.name ≡ fed.shown.name
+  pub genre : row.public.genre ≡ fed.shown.genre
+  pub content_type : row.public.content_type ≡ fed.shown.content_type
+  pub title : row.public.title ≡ unwrap_or fed.title []
+  pub listeners : row.public.listeners ≡ count_at w.seats fed.mount
+  pub hidden : row.hidden ≡ (options_for w.house.settings fed.mount).stream.hidden
+  pub session : row.session ≡ fed.number
+  pub fallback : (next : List ℕ) → FallsBack w fed.mount next ↔ (row.fallback ≡ Some next)
+
+-- rows tell of the mounts of these sessions, one of each, in their order
+abbrev pub TellOf : World → List Session → List MountRow → Type 0
+TellOf w [] [] = Unit {0}
+TellOf w (fed ∷ live) (row ∷ rows) = TellsOf w fed row × TellOf w live rows
+TellOf w [] (row ∷ rows) = ⊥
+TellOf w (fed ∷ live) [] = ⊥
+
+-- what a row tells of one who listens at the mount: the user that he sent, and never his password
+pub record TellsOfListener (w : World) (mount : List ℕ) (row : ListenerRow) : Type 0 where
+  pub seat : Seat
+  pub sits : seat_of w.seats row.id ≡ Some seat
+  pub there : seat.mount ≡ mount
+  pub home : row.home ≡ seat.home
+  pub peer : row.peer ≡ seat.peer
+  -- whole seconds since he was seated
+  pub seconds_past : row.seconds * 1000 ≤ w.house.time - seat.since
+  pub no_more : w.house.time - seat.since < (row.seconds + 1) * 1000
+  pub user : (pair : Credentials) → seat.pair ≡ Some pair → row.user ≡ Some pair.user
+  pub nobody : seat.pair ≡ None → row.user ≡ None
+
+-- rows tell of all who listen at the mount, in the order of their numbers
+pub record AreListenersAt (w : World) (mount : List ℕ) (rows : List ListenerRow) : Type 0 where
+  pub each : Each (TellsOfListener w mount) rows
+  pub all : map (λ row. row.id) rows ≡ map (λ listener. listener.id) (seats_at w.seats mount)
+
+-- the text tells what is there; who asks is counted among the clients
+abbrev pub Tells : World → Listing → Text → Type 0
+Tells w Status text = (rows : List MountRow) × TellOf w w.house.live rows × (text ≡ Json (status_text rows))
+Tells w Stats text = (rows : List MountRow) × TellOf w w.house.live rows × (text ≡ Json (stats_text (length w.house.clients) rows))
+Tells w Mounts text = (rows : List MountRow) × TellOf w w.house.live rows × (text ≡ Json (mounts_text rows))
+Tells w (Clients mount) text = (rows : List ListenerRow) × AreListenersAt w mount rows × (text ≡ Json (listeners_text mount rows))
+Tells w Streams text = (rows : List MountRow) × TellOf w w.house.live rows × (text ≡ StreamList (stream_text rows))
+
+-- a listing is shown: to one who may see it, who has had his answer then, where what it needs is there; it tells what is there, and nothing changes but that
+pub record IsShownByRight (w : World) (event : Event) (text : Text) : Type 0 where
+  pub asked : CommandRequest
+  pub is_event : event ≡ Command asked
+  pub listing : Listing
+  pub is_asked : asked.asked ≡ AsksFor listing
+  pub may : MaySee w listing asked.pair
+  pub there : IsThereToSee w listing
+  pub tells : Tells w listing text
+  pub answered : standing_of (world_after w event) asked.id ≡ Answered
+  pub sessions : (world_after w event).house.live ≡ w.house.live
+  pub seats : (world_after w event).seats ≡ w.seats
+
+-- what is no short text is a listing
+abbrev pub OnlyWhoMayIsShown : World → Event → Type 0
+OnlyWhoMayIsShown w event = (text : Text) → reply_to w event ≡ SaysText text → (IsShort text → ⊥) → IsShownByRight w event text
+
+-- one who has asked for nothing yet, and may see the listing, is shown it where what it needs is there
+abbrev pub WhoMayIsShown : World → Type 0
+WhoMayIsShown w = (asked : CommandRequest) (peer : Peer) (listing : Listing) → standing_of w asked.id ≡ Undecided peer → asked.asked ≡ AsksFor listing
+    → MaySee w listing asked.pair → IsThereToSee w listing → (text : Text) × (reply_to w (Command asked) ≡ SaysText text) × Tells w listing text
+
+-- what everybody may see of a live mount
+pub record Seen : Type 0 where
+  pub mount : List ℕ
+  pub shown : Shown
+  pub title : Option (List ℕ)
+  pub listeners : ℕ
+
+abbrev pub seen : World → Session → Seen
+seen w session = record { mount = session.mount; shown = session.shown; title = session.title; listeners = count_at w.seats session.mount }
+
+abbrev pub is_public : World → Session → Bool
+is_public w session = not (options_for w.house.settings session.mount).stream.hidden
+
+-- the sessions of the live mounts that are not hidden
+abbrev pub public_live : World → List Session
+public_live w = filter (is_public w) w.house.live
+
+-- what everybody may see
+abbrev pub seen_by_all : World → List Seen
+seen_by_all w = map (seen w) (public_live w)
+
+-- in two states the two requests are answered by one text
+abbrev pub AreAnsweredAlike : World → World → Listing → Type 0
+AreAnsweredAlike w v listing = (asked other : CommandRequest) (text said : Text) → asked.asked ≡ AsksFor listing → other.asked ≡ AsksFor listing
+    → reply_to w (Command asked) ≡ SaysText text → reply_to v (Command other) ≡ SaysText said → text ≡ said
+
+-- two states that agree on what everybody may see show everybody and every relay the same, whatever else they hold; and those with equal rows
+-- for a viewer show him the same
+pub record SightIsKept (w v : World) : Type 0 where
+  pub status : seen_by_all w ≡ seen_by_all v → AreAnsweredAlike w v Status
+  pub streams : seen_by_all w ≡ seen_by_all v → AreAnsweredAlike w v Streams
+  pub stats : mount_rows w ≡ mount_rows v → length w.house.clients ≡ length v.house.clients → AreAnsweredAlike w v Stats
+  pub mounts : mount_rows w ≡ mount_rows v → AreAnsweredAlike w v Mounts
+  pub listeners : (mount : List ℕ) → listener_rows w mount ≡ listener_rows v mount → AreAnsweredAlike w v (Clients mount)
+
+-- no hidden mount is in the status or in the list of streams: they name the live mounts that are not hidden, in their order
+pub record NoHiddenIsNamed (w : World) (asked : CommandRequest) (text : Text) : Type 0 where
+  pub status : asked.asked ≡ AsksFor Status → (rows : List MountRow) × (text ≡ Json (status_text rows))
+      × (mounts_named (status_data rows) ≡ Some (map (λ (session : Session). Some (utf8_lossy session.mount)) (public_live w)))
+  pub streams : asked.asked ≡ AsksFor Streams → text ≡ StreamList (flat_map (λ session. session.mount ++ 13 ∷ 10 ∷ []) (public_live w))
+
+abbrev pub HiddenAreLeftOut : World → Type 0
+HiddenAreLeftOut w = (asked : CommandRequest) (text : Text) → reply_to w (Command asked) ≡ SaysText text → NoHiddenIsNamed w asked text
