@@ -23,7 +23,11 @@ use Rattle.radio_events.specs.declared.command.Command.{Command as TheCommand}
 use Rattle.radio_events.specs.declared.command.Command.TheVariants.{MoveClients, KillClient, KillSource, SetTitle, SetFallback}
 use Rattle.radio_events.specs.declared.event.Event.{Event}
 use Rattle.radio_events.specs.declared.reply.Reply.TheVariants.{Text as SaysText}
+use Rattle.radio_events.specs.declared.command.Listing.{Listing}
+use Rattle.radio_events.specs.declared.command.Listing.TheVariants.{Status, Stats, Mounts, Clients, Streams}
 use Rattle.radio_events.specs.declared.text.Text.{Text}
+use Rattle.radio_events.specs.Texts.{IsShort}
+use Rattle.radio_core.specs.Listings.{shown}
 use Rattle.radio_core.specs.declared.outcome.Change.TheVariants.{Answer, Obey}
 use Rattle.radio_core.specs.declared.outcome.Outcome.{Outcome}
 use Rattle.radio_core.specs.declared.standing.Standing.{Standing}
@@ -62,13 +66,13 @@ use Rattle.radio_laws.proofs.KilledLemmas.{IsOver, hears_no_more}
 use Rattle.radio_laws.specs.Commanded.{MayGive, IsLive, IsThere, AsTheAdmin, ItsTitle, ItsFallback, IsGivenByRight, OnlyWhoMayCommands, IsSourceKilled, HasDone, mount_of, StaysBeside, CommandsAreKept, KilledHearNothing}
 
 -- a login that was sent has its user and its password
-record HasLogin (login : Login) (sent : Option Credentials) : Type 0 where
+pub record HasLogin (login : Login) (sent : Option Credentials) : Type 0 where
   pub pair : Credentials
   pub is_sent : sent ≡ Some pair
   pub user : pair.user ≡ login.username
   pub password : pair.password ≡ login.password
 
-login_sent : (login : Login) (sent : Option Credentials) → is_login_sent login sent ≡ true → HasLogin login sent
+pub login_sent : (login : Login) (sent : Option Credentials) → is_login_sent login sent ≡ true → HasLogin login sent
 login_sent login None e = cc
 login_sent login (Some pair) e =
     let both = and_parts (bytes_eq login.username pair.user) (bytes_eq login.password pair.password) e in
@@ -96,7 +100,7 @@ may_go true true same e = (refl, refl)
 may_go true false same e = cc
 may_go false there same e = cc
 
-one_of : (a b : Bool) → (a || b) ≡ true → (a ≡ true) ⊎ (b ≡ true)
+pub one_of : (a b : Bool) → (a || b) ≡ true → (a ≡ true) ⊎ (b ≡ true)
 one_of true b e = inl refl
 one_of false b e = inr e
 
@@ -166,7 +170,7 @@ module _ (w : World) (s : IsSound w) (event : Event) where
   by_right command c (inr source) = by_source command c source
 
 -- a listing is no short text
-no_short : (w : World) (listing : Listing) → IsShort (shown w listing) → ⊥
+pub no_short : (w : World) (listing : Listing) → IsShort (shown w listing) → ⊥
 no_short w Status short = short
 no_short w Stats short = short
 no_short w Mounts short = short

@@ -22,18 +22,28 @@ use Rattle.radio_events.specs.declared.event.Event.TheVariants.{Command}
 use Rattle.radio_core.specs.Command.{said_of}
 use Rattle.radio_core.specs.CommandFacts.{opened_by, opener_in, opens, opens_as_source, is_live, sits_at, needs_of, facts_asked}
 use Rattle.radio_core.specs.Counts.{counts_by}
+use Rattle.radio_fallback.specs.declared.moves.Carried.{Carried}
+use Rattle.radio_events.specs.Texts.{IsShort}
 use Rattle.radio_core.specs.Sound.{IsSound}
 use Rattle.radio_core.specs.World.{World}
 use Rattle.radio_laws.specs.Commanded.{IsLive, IsThere, MayGive, AsTheAdmin, ItsTitle, ItsFallback, WhoMayIsServed}
 use Rattle.radio_laws.proofs.CommandLaws.{told_so}
 
 -- a login is the user and the password that it has
-is_its : (login : Login) (pair : Credentials) → pair.user ≡ login.username → pair.password ≡ login.password → is_login login pair ≡ true
+pub is_its : (login : Login) (pair : Credentials) → pair.user ≡ login.username → pair.password ≡ login.password → is_login login pair ≡ true
 is_its login pair user password =
     ap (λ (b : Bool). b && bytes_eq login.password pair.password) ((bytes_eq-Decides login.username pair.user).1 (sym user))
     ∙ (bytes_eq-Decides login.password pair.password).1 (sym password)
 
-or_true : (a : Bool) → (a || true) ≡ true
+-- what is said of a command is no listing
+pub said_short : (command : TheCommand) (counts : Carried) → IsShort (said_of command counts)
+said_short (MoveClients mount destination) counts = tt
+said_short (KillClient mount listener) counts = tt
+said_short (KillSource mount) counts = tt
+said_short (SetTitle mount text) counts = tt
+said_short (SetFallback mount fallback) counts = tt
+
+pub or_true : (a : Bool) → (a || true) ≡ true
 or_true true = refl
 or_true false = refl
 
@@ -49,10 +59,10 @@ module _ (w : World) where
       ap (λ (b : Bool). is_admin_pair w.house.settings (Some pair) || b) (is_its _ pair source.user source.password)
       ∙ or_true (is_admin_pair w.house.settings (Some pair))
 
-  lives : (mount : List ℕ) → IsLive w mount → is_live w.house mount ≡ true
+  pub lives : (mount : List ℕ) → IsLive w mount → is_live w.house mount ≡ true
   lives mount live = ap is_some live.1
 
-  with_mount : (live : Bool) → live ≡ true → verdict_in (row NoMount (not live) ∷ []) ≡ Allow
+  pub with_mount : (live : Bool) → live ≡ true → verdict_in (row NoMount (not live) ∷ []) ≡ Allow
   with_mount true e = refl
   with_mount false e = cc
 
@@ -81,7 +91,7 @@ module _ (w : World) where
   needs_are_there (SetFallback mount fallback) there = with_mount (is_live w.house mount) (lives mount there)
 
   -- an open command is judged by what it needs
-  judged : (rule : Rule) (opened : Bool) (rows : List Row) → opened ≡ true → verdict_in rows ≡ Allow → verdict_in (row rule (not opened) ∷ rows) ≡ Allow
+  pub judged : (rule : Rule) (opened : Bool) (rows : List Row) → opened ≡ true → verdict_in rows ≡ Allow → verdict_in (row rule (not opened) ∷ rows) ≡ Allow
   judged rule true rows e v = v
   judged rule false rows e v = cc
 
@@ -89,6 +99,7 @@ module _ (w : World) where
   who_may_is_served s asked peer command pair undecided is_asked sent may there = (
     said_of command (counts_by w command),
     told_so w s (Command asked) (record { asked = asked; is_event = refl; is_asked = is_asked; peer = peer; undecided = undecided; allowed = allowed }),
+    said_short command (counts_by w command),
   ) where
     opened : opens w.house.settings (opened_by command) asked.pair ≡ true
     opened = ap (opens w.house.settings (opened_by command)) sent ∙ opens_by command pair may

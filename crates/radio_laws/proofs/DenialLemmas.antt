@@ -39,7 +39,7 @@ use Rattle.radio_core.specs.Outcomes.{on_verdict}
 use Rattle.radio_parts.specs.Sessions.{session_of}
 use Rattle.radio_core.specs.Step.{outcome, reply_to, world_after}
 use Rattle.radio_core.specs.Ways.{Way, Misplaced, IsFinished, IsDenied, IsRefused, IsAdmitted, Begins, Receives, SetsTitle, TakesSeat, HandsOut, Ends}
-use Rattle.radio_core.specs.Ways.{EndsAndLeaves, Leaves, Obeys, HasPassed, Ticks, rows_for, IsUndecided}
+use Rattle.radio_core.specs.Ways.{EndsAndLeaves, Leaves, Obeys, Shows, HasPassed, Ticks, rows_for, IsUndecided}
 use Rattle.radio_core.specs.World.{World, standing_of, standing_in}
 use Rattle.radio_laws.proofs.LimitDenials.{denied_by}
 use Rattle.radio_laws.proofs.ListenerDenials.{why_denied, unknown_where}
@@ -166,6 +166,7 @@ module _ (w : World) where
   source_by event o (IsAdmitted peer allowed) d = cc
   source_by event o (Receives him mount block feeding) d = cc
   source_by event o (SetsTitle him mount text feeding) d = cc
+  source_by event o (Shows _ listing c) d = cc
   source_by event o (Obeys _ command c) d = cc
   source_by event o (HasPassed ms e) d = cc
   source_by event o (Ticks ms e) d = cc

@@ -9,6 +9,9 @@ mod InTime
 mod KilledLemmas
 mod LimitDenials
 mod ListenerDenials
+mod ListingLaws
+mod ListingRows
+mod SightLemmas
 mod LimitLemmas
 mod ListsLemmas
 mod MountLemmas

@@ -24,7 +24,7 @@ use Rattle.radio_laws.specs.LimitDenials.{HasUserAt, ByAMount, DeniesByLimits}
 use Rattle.radio_laws.specs.Walks.{ComesBy}
 use Rattle.radio_core.specs.Step.{outcome, reply_to}
 use Rattle.radio_core.specs.Ways.{Way, Misplaced, IsFinished, IsDenied, IsRefused, IsAdmitted, Begins, Receives, SetsTitle, TakesSeat, HandsOut, Ends}
-use Rattle.radio_core.specs.Ways.{EndsAndLeaves, Leaves, Obeys, HasPassed, Ticks, rows_for, rows_from}
+use Rattle.radio_core.specs.Ways.{EndsAndLeaves, Leaves, Obeys, Shows, HasPassed, Ticks, rows_for, rows_from}
 use Rattle.radio_core.specs.World.{World, standing_of}
 use Rattle.radio_core.proofs.Ways.{way_of, may_feed, has_room_left}
 use Rattle.radio_laws.proofs.CommandRows.{of_no_command}
@@ -212,6 +212,7 @@ module _ (w : World) where
   admits_by event o (IsRefused _ him by v his undecided) = (λ id d. cc, λ d. cc)
   admits_by event o (Receives him mount block feeding) = (λ id d. cc, λ d. cc)
   admits_by event o (SetsTitle him mount text feeding) = (λ id d. cc, λ d. cc)
+  admits_by event o (Shows _ listing c) = (λ id d. cc, λ d. cc)
   admits_by event o (Obeys _ command c) = (λ id d. cc, λ d. cc)
   admits_by event o (HasPassed ms e) = (λ id d. cc, λ d. cc)
   admits_by event o (Ticks ms e) = (λ id d. cc, λ d. cc)

@@ -23,7 +23,10 @@ use Rattle.radio_core.specs.declared.standing.Standing.TheVariants.{Unknown, Und
 use Rattle.radio_core.specs.World.{World, opening, standing_of}
 use Rattle.radio_core.specs.Changes.{answered, changed, session_killed}
 use Rattle.radio_core.specs.Command.{obeys as obeys_it}
-use Rattle.radio_core.specs.CommandFacts.{IsCommanded}
+use Rattle.radio_events.specs.declared.command.Listing.{Listing}
+use Rattle.radio_events.specs.declared.command.Listing.TheVariants.{Status, Stats, Mounts, Clients, Streams}
+use Rattle.radio_core.specs.Command.{shows}
+use Rattle.radio_core.specs.CommandFacts.{IsListed, IsCommanded}
 use Rattle.radio_core.specs.Handing.{is_number, of_client}
 use Rattle.radio_core.specs.Run.{world_after_all, run_after}
 use Rattle.radio_parts.specs.Sessions.{Session, session_of, without_session}
@@ -109,6 +112,14 @@ module _ (w : World) (s : IsSound w) (told : ℕ → List (List ℕ)) (h : Told 
       (λ same. absurd (not mount (ap (standing_of w) (sym same) ∙ s.fed mount there.0 there.1)))
       (λ apart. apart))
 
+  -- who is shown a listing sets none
+  listing_sets_none : (event : Event) (listing : Listing) (c : IsListed w event listing) (id : ℕ) → sets w event (shows w c.asked.id listing) id ≡ []
+  listing_sets_none event Status c id = nothing_of event id [] refl
+  listing_sets_none event Stats c id = nothing_of event id [] refl
+  listing_sets_none event Mounts c id = nothing_of event id [] refl
+  listing_sets_none event (Clients mount) c id = nothing_of event id [] refl
+  listing_sets_none event Streams c id = nothing_of event id [] refl
+
   -- only a source and a command set a title
   sets_nothing : (event : Event) (o : Outcome) → Way w event o → (id : ℕ) → ((mount : List ℕ) → standing_of w id ≡ Feeds mount → ⊥)
       → sets w event o id ≡ []
@@ -119,7 +130,7 @@ module _ (w : World) (s : IsSound w) (told : ℕ → List (List ℕ)) (h : Told 
   sets_nothing event o (IsDenied _ by v nobody) id not = nothing_of event id [] refl
   sets_nothing event o (IsRefused _ him by v its undecided) id not = nothing_of event id [] refl
   sets_nothing event o (IsAdmitted peer allowed) id not = refl
-  sets_nothing event o (Shows _ listing c) id not = nothing_of event id [] refl
+  sets_nothing event o (Shows _ listing c) id not = listing_sets_none event listing c id
   sets_nothing event o (Obeys _ command c) id not = commands_nothing event command c id not
   sets_nothing event o (HasPassed ms e) id not = refl
   sets_nothing event o (Ticks ms e) id not = refl
@@ -239,7 +250,9 @@ module _ (w : World) (s : IsSound w) (told : ℕ → List (List ℕ)) (h : Told 
   last_by : (event : Event) (o : Outcome) → Way w event o → last_now event o
   unfolding last_now
   last_by event o (SetsTitle him mount text feeding) = new_title him mount text feeding
-  last_by event o (Shows _ listing c) = as_it_was event
+  last_by event o (Shows _ listing c) = λ mount session live.
+      h.last mount session live
+      ∙ ap (λ xs. last_or None xs) (with_nothing (told session.number) (sets w event o session.number) (listing_sets_none event listing c session.number))
   last_by event o (Obeys _ command c) = command_title event command c
   last_by event o (HasPassed ms e) = as_it_was event
   last_by event o (Ticks ms e) = λ mount session h. as_it_was event mount session ((ticked_fates w s ms).live mount session h)

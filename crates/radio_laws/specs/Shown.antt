@@ -5,9 +5,10 @@ use Rattle.radio_addr.specs.declared.peer.Peer.{Peer}
 use Rattle.radio_creds.specs.Credentials.{Credentials}
 use Rattle.radio_settings.specs.declared.field.Shown.{Shown}
 use Rattle.radio_settings.specs.Options.{options_for}
-use Rattle.radio_tables.specs.Lists.{Each}
 use Rattle.radio_seats.specs.declared.seat.Seat.{Seat}
-use Rattle.radio_seats.specs.Seats.{seat_of, seats_at, count_at}
+use Rattle.radio_seats.specs.declared.seat.Listener.{Listener}
+use Rattle.radio_seats.specs.declared.seat.Seating.TheVariants.{Sits}
+use Rattle.radio_seats.specs.Seats.{seats_at, count_at}
 use Rattle.radio_listing.specs.declared.rows.MountRow.{MountRow}
 use Rattle.radio_listing.specs.declared.rows.ListenerRow.{ListenerRow}
 use Rattle.radio_listing.specs.Admin.{stats_text, mounts_text}
@@ -26,7 +27,7 @@ use Rattle.radio_events.specs.declared.text.Text.TheVariants.{Json, Streams as S
 use Rattle.radio_events.specs.Texts.{IsShort}
 use Rattle.radio_core.specs.declared.standing.Standing.TheVariants.{Undecided, Answered}
 use Rattle.radio_core.specs.Listings.{mount_rows, listener_rows}
-use Rattle.radio_core.specs.Sessions.{Session}
+use Rattle.radio_parts.specs.Sessions.{Session}
 use Rattle.radio_core.specs.Step.{reply_to, world_after}
 use Rattle.radio_core.specs.World.{World, standing_of}
 use Rattle.radio_laws.specs.Commanded.{IsTheAdmins, IsLive}
@@ -67,11 +68,11 @@ TellOf w (fed ∷ live) (row ∷ rows) = TellsOf w fed row × TellOf w live rows
 TellOf w [] (row ∷ rows) = ⊥
 TellOf w (fed ∷ live) [] = ⊥
 
--- what a row tells of one who listens at the mount: the user that he sent, and never his password
-pub record TellsOfListener (w : World) (mount : List ℕ) (row : ListenerRow) : Type 0 where
+-- what a row tells of a listener who sits: the user that he sent, and never his password
+pub record TellsOfListener (w : World) (listener : Listener) (row : ListenerRow) : Type 0 where
+  pub id : row.id ≡ listener.id
   pub seat : Seat
-  pub sits : seat_of w.seats row.id ≡ Some seat
-  pub there : seat.mount ≡ mount
+  pub sits : listener.seating ≡ Sits seat
   pub home : row.home ≡ seat.home
   pub peer : row.peer ≡ seat.peer
   -- whole seconds since he was seated
@@ -80,17 +81,19 @@ pub record TellsOfListener (w : World) (mount : List ℕ) (row : ListenerRow) : 
   pub user : (pair : Credentials) → seat.pair ≡ Some pair → row.user ≡ Some pair.user
   pub nobody : seat.pair ≡ None → row.user ≡ None
 
--- rows tell of all who listen at the mount, in the order of their numbers
-pub record AreListenersAt (w : World) (mount : List ℕ) (rows : List ListenerRow) : Type 0 where
-  pub each : Each (TellsOfListener w mount) rows
-  pub all : map (λ row. row.id) rows ≡ map (λ listener. listener.id) (seats_at w.seats mount)
+-- rows tell of these listeners, one of each, in their order
+abbrev pub TellOfListeners : World → List Listener → List ListenerRow → Type 0
+TellOfListeners w [] [] = Unit {0}
+TellOfListeners w (listener ∷ them) (row ∷ rows) = TellsOfListener w listener row × TellOfListeners w them rows
+TellOfListeners w [] (row ∷ rows) = ⊥
+TellOfListeners w (listener ∷ them) [] = ⊥
 
 -- the text tells what is there; who asks is counted among the clients
 abbrev pub Tells : World → Listing → Text → Type 0
 Tells w Status text = (rows : List MountRow) × TellOf w w.house.live rows × (text ≡ Json (status_text rows))
 Tells w Stats text = (rows : List MountRow) × TellOf w w.house.live rows × (text ≡ Json (stats_text (length w.house.clients) rows))
 Tells w Mounts text = (rows : List MountRow) × TellOf w w.house.live rows × (text ≡ Json (mounts_text rows))
-Tells w (Clients mount) text = (rows : List ListenerRow) × AreListenersAt w mount rows × (text ≡ Json (listeners_text mount rows))
+Tells w (Clients mount) text = (rows : List ListenerRow) × TellOfListeners w (seats_at w.seats mount) rows × (text ≡ Json (listeners_text mount rows))
 Tells w Streams text = (rows : List MountRow) × TellOf w w.house.live rows × (text ≡ StreamList (stream_text rows))
 
 -- a listing is shown: to one who may see it, who has had his answer then, where what it needs is there; it tells what is there, and nothing changes but that

@@ -3,6 +3,7 @@
 
 ghost use Rattle.std.specs.Prelude.{◌≡◌, ◌≤◌, ℕ, List, [], ◌∷◌, ◌++◌, Some};
 ghost use Rattle.radio_settings.specs.declared.settings.Settings.{Settings};
+ghost use Rattle.radio_laws.specs.Shown.{OnlyWhoMayIsShown, WhoMayIsShown, HiddenAreLeftOut, SightIsKept};
 ghost use Rattle.radio_access.specs.Lists.{Lists};
 ghost use Rattle.radio_events.specs.declared.event.Event.{Event};
 ghost use Rattle.radio_events.specs.declared.event.Event.TheVariants.{Leave};
@@ -126,6 +127,25 @@ pub fn commands_are_done()
     ensures silent { (settings : Settings) (lists : Lists) (events : List Event) (event : Event)
         → KilledHearNothing (run_after settings lists events) event }
 {}
+
+/// The law of sight.
+pub fn sight_is_kept()
+    // whatever has happened, what is shown of the station tells what is there, and nothing of it changes; it is shown
+    // only to one who may see it: the status to everybody, the list of streams to who sent the user and the password
+    // that are set for relays, all of it to who sent those of the admin
+    ensures may { (settings : Settings) (lists : Lists) (events : List Event) (event : Event) → OnlyWhoMayIsShown (run_after settings lists events) event }
+    // and whoever may see it is shown it, where the mount is live whose listeners he asks for
+    ensures served { (settings : Settings) (lists : Lists) (events : List Event) → WhoMayIsShown (run_after settings lists events) }
+    // and no hidden mount is in the status, or in the list of streams
+    ensures hidden { (settings : Settings) (lists : Lists) (events : List Event) → HiddenAreLeftOut (run_after settings lists events) }
+    // of any two stations, after whatever has happened to each: where they agree on what everybody may see of the live
+    // mounts that are not hidden, they show everybody and every relay the same bytes, whatever else they hold
+    ensures alike { (settings others : Settings) (lists files : Lists) (events more : List Event)
+        → SightIsKept (run_after settings lists events) (run_after others files more) }
+{
+    radio_listing::laws::sight_is_kept();
+    radio_listing::laws::hidden_mounts_are_left_out();
+}
 
 /// The law of titles.
 pub fn listeners_are_told_titles()

@@ -1,0 +1,220 @@
+-- who is shown a listing, and what
+use Rattle.std.proofs.Common.{◌≡◌, ◌⊎◌, inl, inr, ◌||◌, ◌&&◌, Bool, true, false, ℕ, Option, Some, None, List, refl, ap, sym, subst, ◌∙◌, is_some, [], ◌∷◌}
+use Rattle.std.specs.Prelude.{not}
+use Rattle.std.specs.Option.{option_map_or}
+use Rattle.std.specs.Str.{bytes_eq}
+use Rattle.std.proofs.lemmas.Slice.Eq.{bytes_eq-Decides}
+use Rattle.radio_policy.specs.declared.judgement.Verdict.{Verdict}
+use Rattle.radio_policy.specs.declared.judgement.Verdict.TheVariants.{Allow}
+use Rattle.radio_policy.specs.declared.rule.Rule.{Rule}
+use Rattle.radio_policy.specs.declared.rule.Rule.TheVariants.{AdminPassword, RelayPassword, NoMount}
+use Rattle.radio_policy.specs.Table.{Row, row, needs_rows, command_rows}
+use Rattle.radio_policy.specs.Verdicts.{verdict_in}
+use Rattle.radio_addr.specs.declared.peer.Peer.{Peer}
+use Rattle.radio_creds.specs.Credentials.{Credentials}
+use Rattle.radio_settings.specs.declared.settings.RelayAccess.{RelayAccess}
+use Rattle.radio_access.specs.CommandPairs.{is_admin_pair, is_relay_pair, is_relays}
+use Rattle.radio_access.specs.SourcePair.{is_user_with}
+use Rattle.radio_events.specs.declared.command.Asked.{Asked}
+use Rattle.radio_events.specs.declared.command.Asked.TheVariants.{Listing as AsksFor}
+use Rattle.radio_events.specs.declared.command.CommandRequest.{CommandRequest}
+use Rattle.radio_events.specs.declared.command.Listing.{Listing}
+use Rattle.radio_events.specs.declared.command.Listing.TheVariants.{Status, Stats, Mounts, Clients, Streams}
+use Rattle.radio_events.specs.declared.event.Event.{Event}
+use Rattle.radio_events.specs.declared.event.Event.TheVariants.{Command}
+use Rattle.radio_events.specs.declared.reply.Reply.TheVariants.{Text as SaysText}
+use Rattle.radio_events.specs.declared.text.Text.{Text}
+use Rattle.radio_events.specs.Texts.{IsShort}
+use Rattle.radio_core.specs.declared.outcome.Change.TheVariants.{Answer}
+use Rattle.radio_core.specs.declared.outcome.Outcome.{Outcome}
+use Rattle.radio_core.specs.declared.standing.Standing.{Standing}
+use Rattle.radio_core.specs.declared.standing.Standing.TheVariants.{Undecided, Answered}
+use Rattle.radio_core.specs.Changes.{changed}
+use Rattle.radio_core.specs.Command.{does_asked, said_of, shows}
+use Rattle.radio_core.specs.CommandFacts.{IsListed, is_live, facts_asked, rows_to_command, access_to, needs_to_list}
+use Rattle.radio_core.specs.Counts.{counts_by}
+use Rattle.radio_core.specs.Listings.{shown}
+use Rattle.radio_core.specs.Outcomes.{if_undecided, on_verdict}
+use Rattle.radio_parts.specs.Sessions.{Session, session_of}
+use Rattle.radio_core.specs.Step.{outcome, reply_to, world_after}
+use Rattle.radio_core.specs.Ways.{Way, Misplaced, IsFinished, IsDenied, IsRefused, IsAdmitted, Begins, Receives, SetsTitle, TakesSeat, HandsOut, Ends}
+use Rattle.radio_core.specs.Ways.{EndsAndLeaves, Leaves, Obeys, Shows, HasPassed, Ticks}
+use Rattle.radio_core.specs.World.{World, standing_of}
+use Rattle.radio_core.proofs.Standings.{turns_answered}
+use Rattle.radio_core.proofs.Ways.{way_of}
+use Rattle.radio_laws.specs.Commanded.{IsLive}
+use Rattle.radio_laws.specs.Shown.{IsTheRelays, MaySee, AsAnybody, AsARelay, AsTheAdmin, IsThereToSee, IsShownByRight, OnlyWhoMayIsShown, WhoMayIsShown, Tells}
+use Rattle.radio_laws.proofs.CommandLaws.{HasLogin, login_sent, one_of}
+use Rattle.radio_laws.proofs.CommandService.{is_its, or_true, lives, with_mount, judged, said_short}
+use Rattle.radio_laws.proofs.ListingRows.{tells}
+
+-- a relay's pair that was sent
+record HasRelays (relays : RelayAccess) (sent : Option Credentials) : Type 0 where
+  pub pair : Credentials
+  pub is_sent : sent ≡ Some pair
+  pub user : pair.user ≡ relays.username
+  pub password : relays.password ≡ Some pair.password
+
+both : (a b : Bool) → (a && b) ≡ true → (a ≡ true) × (b ≡ true)
+both true true e = (refl, refl)
+both true false e = cc
+both false b e = cc
+
+relays_sent : (relays : RelayAccess) (sent : Option Credentials) → option_map_or (is_relays relays) sent false ≡ true → HasRelays relays sent
+relays_sent relays None e = cc
+relays_sent relays (Some pair) e = by_password relays.password refl e where
+  by_password : (set : Option (List ℕ)) → relays.password ≡ set → option_map_or (λ password. is_user_with relays.username password pair) set false ≡ true
+      → HasRelays relays (Some pair)
+  by_password None is e = cc
+  by_password (Some password) is e =
+      let parts = both (bytes_eq relays.username pair.user) (bytes_eq password pair.password) e in
+      record {
+        pair = pair;
+        is_sent = refl;
+        user = sym ((bytes_eq-Decides relays.username pair.user).0 parts.0);
+        password = is ∙ ap (λ (p : List ℕ). Some p) ((bytes_eq-Decides password pair.password).0 parts.1);
+      }
+
+-- what the rows of an allowed listing say
+past : (rule : Rule) (sent : Bool) (rows : List Row) → verdict_in (row rule (not sent) ∷ rows) ≡ Allow → (sent ≡ true) × (verdict_in rows ≡ Allow)
+past rule true rows e = (refl, e)
+past rule false rows e = cc
+
+lives_by : (found : Option Session) → verdict_in (row NoMount (not (is_some found)) ∷ []) ≡ Allow → (session : Session) × (found ≡ Some session)
+lives_by None e = cc
+lives_by (Some session) e = (session, refl)
+
+module _ (w : World) where
+  as_admin : (listing : Listing) (sent : Option Credentials) → is_admin_pair w.house.settings sent ≡ true → MaySee w listing sent
+  as_admin listing sent e =
+      let has = login_sent w.house.settings.access.admin sent e in
+      subst (MaySee w listing) (sym has.is_sent) (AsTheAdmin listing has.pair (record { user = has.user; password = has.password }))
+
+  as_relay : (sent : Option Credentials) → is_relay_pair w.house.settings sent ≡ true → MaySee w Streams sent
+  as_relay sent e =
+      let has = relays_sent w.house.settings.access.relays sent e in
+      subst (MaySee w Streams) (sym has.is_sent) (AsARelay has.pair (record { user = has.user; password = has.password }))
+
+  as_either : (sent : Option Credentials) → (is_admin_pair w.house.settings sent ≡ true) ⊎ (is_relay_pair w.house.settings sent ≡ true) → MaySee w Streams sent
+  as_either sent (inl admin) = as_admin Streams sent admin
+  as_either sent (inr relay) = as_relay sent relay
+
+  -- whom the policy allows it may see it
+  may_see : (listing : Listing) (sent : Option Credentials) → verdict_in (command_rows (facts_asked w (AsksFor listing) sent)) ≡ Allow
+      → MaySee w listing sent × IsThereToSee w listing
+  may_see Status sent e = (AsAnybody sent, tt)
+  may_see Stats sent e = (as_admin Stats sent (past AdminPassword (is_admin_pair w.house.settings sent) [] e).0, tt)
+  may_see Mounts sent e = (as_admin Mounts sent (past AdminPassword (is_admin_pair w.house.settings sent) [] e).0, tt)
+  may_see (Clients mount) sent e =
+      let parts = past AdminPassword (is_admin_pair w.house.settings sent) (row NoMount (not (is_live w.house mount)) ∷ []) e in
+      (as_admin (Clients mount) sent parts.0, lives_by (session_of w.house.live mount) parts.1)
+  may_see Streams sent e = (
+    as_either sent
+    (one_of (is_admin_pair w.house.settings sent) (is_relay_pair w.house.settings sent)
+    (past RelayPassword (is_admin_pair w.house.settings sent || is_relay_pair w.house.settings sent) [] e).0),
+    tt,
+  )
+
+  -- and whoever may is allowed it
+  is_admins : (pair : Credentials) (listing : Listing) → (user : pair.user ≡ w.house.settings.access.admin.username)
+      → pair.password ≡ w.house.settings.access.admin.password → is_admin_pair w.house.settings (Some pair) ≡ true
+  is_admins pair listing user password = is_its w.house.settings.access.admin pair user password
+
+  is_a_relays : (pair : Credentials) → IsTheRelays w pair → is_relay_pair w.house.settings (Some pair) ≡ true
+  is_a_relays pair relay =
+      ap (λ (set : Option (List ℕ)). option_map_or (λ password. is_user_with w.house.settings.access.relays.username password pair) set false) relay.password
+      ∙ ap (λ (b : Bool). b && bytes_eq pair.password pair.password) ((bytes_eq-Decides w.house.settings.access.relays.username pair.user).1 (sym relay.user))
+      ∙ (bytes_eq-Decides pair.password pair.password).1 refl
+
+  allowed_all : (listing : Listing) (sent : Option Credentials) → is_admin_pair w.house.settings sent ≡ true → IsThereToSee w listing
+      → verdict_in (command_rows (facts_asked w (AsksFor listing) sent)) ≡ Allow
+  allowed_all Status sent e there = refl
+  allowed_all Stats sent e there = judged w AdminPassword (is_admin_pair w.house.settings sent) [] e refl
+  allowed_all Mounts sent e there = judged w AdminPassword (is_admin_pair w.house.settings sent) [] e refl
+  allowed_all (Clients mount) sent e there =
+      judged w AdminPassword (is_admin_pair w.house.settings sent) (row NoMount (not (is_live w.house mount)) ∷ []) e
+      (with_mount w (is_live w.house mount) (lives w mount there))
+  allowed_all Streams sent e there =
+      judged w RelayPassword (is_admin_pair w.house.settings sent || is_relay_pair w.house.settings sent) []
+      (ap (λ (b : Bool). b || is_relay_pair w.house.settings sent) e) refl
+
+  is_allowed : (listing : Listing) (sent : Option Credentials) → MaySee w listing sent → IsThereToSee w listing
+      → verdict_in (command_rows (facts_asked w (AsksFor listing) sent)) ≡ Allow
+  is_allowed listing sent (AsAnybody _) there = refl
+  is_allowed listing sent (AsARelay pair relay) there =
+      judged w RelayPassword (is_admin_pair w.house.settings (Some pair) || is_relay_pair w.house.settings (Some pair)) []
+      (ap (λ (b : Bool). is_admin_pair w.house.settings (Some pair) || b) (is_a_relays pair relay) ∙ or_true (is_admin_pair w.house.settings (Some pair)))
+      refl
+  is_allowed listing sent (AsTheAdmin _ pair admin) there = allowed_all listing (Some pair) (is_admins pair listing admin.user admin.password) there
+
+-- what comes of a listing that the policy allows
+shows_so : (w : World) (id : ℕ) (listing : Listing) (now : Standing) (peer : Peer) (verdict : Verdict) (asked : Asked) → now ≡ Undecided peer → verdict ≡ Allow
+    → asked ≡ AsksFor listing → if_undecided now (λ _. on_verdict verdict (Answer id) (does_asked w id asked)) ≡ shows w id listing
+shows_so w id listing now peer verdict asked e v is = rw (e, v, is) refl
+
+module _ (w : World) (event : Event) (listing : Listing) (c : IsListed w event listing) where
+  pub comes_of : outcome w event ≡ shows w c.asked.id listing
+  unfolding outcome
+  comes_of =
+      ap (outcome w) c.is_event
+      ∙ shows_so w c.asked.id listing (standing_of w c.asked.id) c.peer (verdict_in (rows_to_command w c.asked)) c.asked.asked c.undecided c.allowed c.is_asked
+
+  later_so : world_after w event ≡ changed w (Answer c.asked.id)
+  unfolding world_after
+  later_so = ap (λ (o : Outcome). changed w o.change) comes_of
+
+  pub told_so : reply_to w event ≡ SaysText (shown w listing)
+  unfolding reply_to
+  told_so = ap (λ (o : Outcome). o.reply) comes_of
+
+  by_right : (text : Text) → shown w listing ≡ text → IsShownByRight w event text
+  by_right text is =
+      let sees = may_see w listing c.asked.pair
+      (ap (λ (a : Asked). verdict_in (command_rows (facts_asked w a c.asked.pair))) (sym c.is_asked) ∙ c.allowed) in
+      record {
+        asked = c.asked;
+        is_event = c.is_event;
+        listing = listing;
+        is_asked = c.is_asked;
+        may = sees.0;
+        there = sees.1;
+        tells = subst (Tells w listing) is (tells w listing);
+        answered =
+            subst (λ (later : World). standing_of later c.asked.id ≡ Answered) (sym later_so)
+            (turns_answered w c.asked.id (λ u. let at = c.undecided in cc)).his;
+        sessions = ap (λ (later : World). later.house.live) later_so;
+        seats = ap (λ (later : World). later.seats) later_so;
+      }
+
+shown_by : (w : World) (event : Event) (o : Outcome) → Way w event o → (text : Text) → o.reply ≡ SaysText text → (IsShort text → ⊥) → IsShownByRight w event text
+shown_by w event o (Shows _ listing c) text d long = by_right w event listing c text cc
+shown_by w event o (Obeys _ command c) text d long =
+    let same : said_of command (counts_by w command) ≡ text = cc in absurd (long (subst IsShort same (said_short command (counts_by w command))))
+shown_by w event o (Misplaced _) text d long = cc
+shown_by w event o (IsFinished _ him by its known) text d long = cc
+shown_by w event o (IsDenied _ by v nobody) text d long = cc
+shown_by w event o (IsRefused _ him by v its undecided) text d long = cc
+shown_by w event o (IsAdmitted peer allowed) text d long = cc
+shown_by w event o (Begins asked undecided none allowed) text d long = cc
+shown_by w event o (Receives him mount block feeding) text d long = cc
+shown_by w event o (SetsTitle him mount title feeding) text d long = cc
+shown_by w event o (HasPassed ms e) text d long = cc
+shown_by w event o (Ticks ms e) text d long = cc
+shown_by w event o (TakesSeat asked peer session undecided lands live allowed) text d long = cc
+shown_by w event o (HandsOut him room seat session sits has live) text d long = cc
+shown_by w event o (Ends him mount feeding) text d long = cc
+shown_by w event o (EndsAndLeaves him mount feeding) text d long = cc
+shown_by w event o (Leaves him other) text d long = cc
+
+pub only_who_may_is_shown : (w : World) (event : Event) → OnlyWhoMayIsShown w event
+unfolding reply_to
+only_who_may_is_shown w event text d long = shown_by w event (outcome w event) (way_of w event) text d long
+
+pub who_may_is_shown : (w : World) → WhoMayIsShown w
+who_may_is_shown w asked peer listing undecided is_asked may there = (
+  shown w listing,
+  told_so w (Command asked) listing (record { asked = asked; is_event = refl; is_asked = is_asked; peer = peer; undecided = undecided; allowed = allowed }),
+  tells w listing,
+) where
+  allowed : verdict_in (command_rows (facts_asked w asked.asked asked.pair)) ≡ Allow
+  allowed = ap (λ (a : Asked). verdict_in (command_rows (facts_asked w a asked.pair))) is_asked ∙ is_allowed w listing asked.pair may there

@@ -1,0 +1,133 @@
+-- what everybody sees is what the public mounts show
+use Rattle.std.proofs.Common.{◌≡◌, Bool, true, false, ℕ, ◌++◌, Option, Some, List, [], ◌∷◌, refl, ap, sym, ◌∙◌, if◌then◌else◌}
+use Rattle.std.specs.Prelude.{not, map, filter, length, flat_map, unwrap_or}
+use Rattle.std.specs.Str.Lossy.{utf8_lossy}
+use Rattle.radio_settings.specs.Options.{options_for}
+use Rattle.radio_listing.specs.declared.rows.MountRow.{MountRow}
+use Rattle.radio_listing.specs.declared.rows.ListenerRow.{ListenerRow}
+use Rattle.radio_listing.specs.declared.rows.PublicRow.{PublicRow}
+use Rattle.radio_listing.specs.Admin.{stats_text, mounts_text}
+use Rattle.radio_listing.specs.Laws.{LookAlike, mounts_named, shown_names}
+use Rattle.radio_listing.specs.Listeners.{listeners_text}
+use Rattle.radio_listing.specs.Public.{rows_shown, status_data, status_text, stream_line, stream_text}
+use Rattle.radio_events.specs.declared.command.Asked.TheVariants.{Listing as AsksFor}
+use Rattle.radio_events.specs.declared.command.CommandRequest.{CommandRequest}
+use Rattle.radio_events.specs.declared.command.Listing.{Listing}
+use Rattle.radio_events.specs.declared.command.Listing.TheVariants.{Status, Stats, Mounts, Clients, Streams}
+use Rattle.radio_events.specs.declared.event.Event.{Event}
+use Rattle.radio_events.specs.declared.event.Event.TheVariants.{Command}
+use Rattle.radio_events.specs.declared.reply.Reply.TheVariants.{Text as SaysText}
+use Rattle.radio_events.specs.declared.text.Text.{Text}
+use Rattle.radio_events.specs.declared.text.Text.TheVariants.{Json, Streams as StreamList}
+use Rattle.radio_core.specs.declared.outcome.Outcome.{Outcome}
+use Rattle.radio_core.specs.Listings.{shown, mount_row, mount_rows, public_row, listener_rows}
+use Rattle.radio_parts.specs.Sessions.{Session}
+use Rattle.radio_core.specs.Step.{outcome, reply_to}
+use Rattle.radio_core.specs.Ways.{Way, Misplaced, IsFinished, IsDenied, IsRefused, IsAdmitted, Begins, Receives, SetsTitle, TakesSeat, HandsOut, Ends}
+use Rattle.radio_core.specs.Ways.{EndsAndLeaves, Leaves, Obeys, Shows, HasPassed, Ticks}
+use Rattle.radio_core.specs.World.{World}
+use Rattle.radio_core.proofs.Ways.{way_of}
+use Rattle.radio_laws.specs.Shown.{Seen, seen, is_public, public_live, seen_by_all, AreAnsweredAlike, SightIsKept, NoHiddenIsNamed, HiddenAreLeftOut}
+
+-- a request for a listing that is answered by a text is answered by the listing
+module _ (w : World) (asked : CommandRequest) (listing : Listing) (text : Text) (is : asked.asked ≡ AsksFor listing) where
+  told_by : (event : Event) (o : Outcome) → Way w event o → event ≡ Command asked → o.reply ≡ SaysText text → shown w listing ≡ text
+  told_by event o (Shows _ other c) e d =
+      let one : Command c.asked ≡ Command asked = sym c.is_event ∙ e in
+      let same : c.asked ≡ asked = cc in
+      let both : AsksFor other ≡ AsksFor listing = sym c.is_asked ∙ ap (λ (a : CommandRequest). a.asked) same ∙ is in
+      let it : other ≡ listing = cc in
+      let told : shown w other ≡ text = cc in
+      ap (shown w) (sym it) ∙ told
+  told_by event o (Obeys _ command c) e d =
+      let one : Command c.asked ≡ Command asked = sym c.is_event ∙ e in
+      let same : c.asked ≡ asked = cc in
+      let other = sym c.is_asked ∙ ap (λ (a : CommandRequest). a.asked) same ∙ is in
+      cc
+  told_by event o (Misplaced _) e d = cc
+  told_by event o (IsFinished _ him by its known) e d = cc
+  told_by event o (IsDenied _ by v nobody) e d = cc
+  told_by event o (IsRefused _ him by v its undecided) e d = cc
+  told_by event o (IsAdmitted peer allowed) e d = cc
+  told_by event o (Begins request undecided none allowed) e d = cc
+  told_by event o (Receives him mount block feeding) e d = cc
+  told_by event o (SetsTitle him mount title feeding) e d = cc
+  told_by event o (HasPassed ms past) e d = cc
+  told_by event o (Ticks ms past) e d = cc
+  told_by event o (TakesSeat request peer session undecided lands live allowed) e d = cc
+  told_by event o (HandsOut him room seat session sits has live) e d = cc
+  told_by event o (Ends him mount feeding) e d = cc
+  told_by event o (EndsAndLeaves him mount feeding) e d = cc
+  told_by event o (Leaves him other) e d = cc
+
+  is_told : reply_to w (Command asked) ≡ SaysText text → shown w listing ≡ text
+  unfolding reply_to
+  is_told d = told_by (Command asked) (outcome w (Command asked)) (way_of w (Command asked)) refl d
+
+answered : (w v : World) (listing : Listing) → shown w listing ≡ shown v listing → AreAnsweredAlike w v listing
+answered w v listing same asked other text said is its d e = sym (is_told w asked listing text is d) ∙ same ∙ is_told v other listing said its e
+
+-- the row that everybody may see
+abbrev row_seen : Seen → PublicRow
+row_seen seen = record {
+  mount = seen.mount;
+  name = seen.shown.name;
+  genre = seen.shown.genre;
+  content_type = seen.shown.content_type;
+  title = unwrap_or seen.title [];
+  listeners = seen.listeners;
+}
+
+module _ (w : World) where
+  shown_at : (hidden : Bool) (session : Session) (live public : List Session) → rows_shown (map (mount_row w) live) ≡ map row_seen (map (seen w) public)
+      → (if hidden then rows_shown (map (mount_row w) live) else public_row w session ∷ rows_shown (map (mount_row w) live))
+      ≡ map row_seen (map (seen w) (if not hidden then session ∷ public else public))
+  shown_at true session live public e = e
+  shown_at false session live public e = ap (λ (rows : List PublicRow). public_row w session ∷ rows) e
+
+  shown_rows : (live : List Session) → rows_shown (map (mount_row w) live) ≡ map row_seen (map (seen w) (filter (is_public w) live))
+  shown_rows [] = refl
+  shown_rows (session ∷ live) =
+      shown_at (options_for w.house.settings session.mount).stream.hidden session live (filter (is_public w) live) (shown_rows live)
+
+  abbrev name_shown : Session → Option (List ℕ)
+  name_shown session = Some (utf8_lossy session.mount)
+
+  names : (live : List Session) → map (λ (row : PublicRow). Some (utf8_lossy row.mount)) (map row_seen (map (seen w) live)) ≡ map name_shown live
+  names [] = refl
+  names (session ∷ live) = ap (λ (all : List (Option (List ℕ))). name_shown session ∷ all) (names live)
+
+  lines : (live : List Session) → flat_map stream_line (map row_seen (map (seen w) live)) ≡ flat_map (λ (session : Session). session.mount ++ 13 ∷ 10 ∷ []) live
+  lines [] = refl
+  lines (session ∷ live) = ap (λ (rest : List ℕ). (session.mount ++ 13 ∷ 10 ∷ []) ++ rest) (lines live)
+
+  all_lines : stream_text (mount_rows w) ≡ flat_map (λ (session : Session). session.mount ++ 13 ∷ 10 ∷ []) (public_live w)
+  unfolding stream_text
+  all_lines = ap (flat_map stream_line) (shown_rows w.house.live) ∙ lines (public_live w)
+
+  module _ (named : (rows : List MountRow) → mounts_named (status_data rows) ≡ shown_names rows) where
+    pub hidden_are_left_out : HiddenAreLeftOut w
+    hidden_are_left_out asked text d = record {
+      status = λ is. (
+        mount_rows w,
+        sym (is_told w asked Status text is d),
+        named (mount_rows w)
+            ∙ ap (λ (rows : List PublicRow). Some (map (λ (row : PublicRow). Some (utf8_lossy row.mount)) rows)) (shown_rows w.house.live)
+            ∙ ap (λ (all : List (Option (List ℕ))). Some all) (names (public_live w)),
+      );
+      streams = λ is. sym (is_told w asked Streams text is d) ∙ ap (λ (bytes : List ℕ). StreamList bytes) all_lines;
+    }
+
+module _ (alike : (rows others : List MountRow) → rows_shown rows ≡ rows_shown others → LookAlike rows others) (w v : World) where
+  look_alike : seen_by_all w ≡ seen_by_all v → LookAlike (mount_rows w) (mount_rows v)
+  look_alike same = alike (mount_rows w) (mount_rows v) (shown_rows w w.house.live ∙ ap (map row_seen) same ∙ sym (shown_rows v v.house.live))
+
+  pub sight_is_kept : SightIsKept w v
+  sight_is_kept = record {
+    status = λ same. answered w v Status (ap (λ (bytes : List ℕ). Json bytes) (look_alike same).status);
+    streams = λ same. answered w v Streams (ap (λ (bytes : List ℕ). StreamList bytes) (look_alike same).streams);
+    stats = λ rows count. answered w v Stats
+        (ap (λ (n : ℕ). Json (stats_text n (mount_rows w))) count ∙ ap (λ (all : List MountRow). Json (stats_text (length v.house.clients) all)) rows);
+    mounts = λ rows. answered w v Mounts (ap (λ (all : List MountRow). Json (mounts_text all)) rows);
+    listeners = λ mount rows. answered w v (Clients mount) (ap (λ (all : List ListenerRow). Json (listeners_text mount all)) rows);
+  }

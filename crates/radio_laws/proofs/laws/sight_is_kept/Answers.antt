@@ -1,0 +1,17 @@
+use Rattle.radio_core.specs.Run.{run_after}
+use Rattle.radio_laws.proofs.ListingLaws.{only_who_may_is_shown, who_may_is_shown}
+use Rattle.radio_laws.proofs.SightLemmas.{hidden_are_left_out, sight_is_kept}
+use Rattle.radio_laws.proofs.laws.sight_is_kept.Goals as goal
+
+pub returns-clause-may : goal.returns-clause-may
+returns-clause-may c settings lists events event = only_who_may_is_shown (run_after settings lists events) event
+
+pub returns-clause-served : goal.returns-clause-served
+returns-clause-served c settings lists events = who_may_is_shown (run_after settings lists events)
+
+pub returns-clause-hidden : goal.returns-clause-hidden
+returns-clause-hidden c settings lists events = hidden_are_left_out (run_after settings lists events) c.hidden_mounts_are_left_out.ensures.status
+
+pub returns-clause-alike : goal.returns-clause-alike
+returns-clause-alike c settings others lists files events more =
+    sight_is_kept c.sight_is_kept.ensures (run_after settings lists events) (run_after others files more)
