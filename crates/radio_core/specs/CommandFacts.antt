@@ -24,7 +24,7 @@ use Rattle.radio_events.specs.declared.command.Command.{Command as TheCommand}
 use Rattle.radio_events.specs.declared.command.Command.TheVariants.{MoveClients, KillClient, KillSource, SetTitle, SetFallback}
 use Rattle.radio_events.specs.declared.command.CommandRequest.{CommandRequest}
 use Rattle.radio_events.specs.declared.command.Listing.{Listing}
-use Rattle.radio_events.specs.declared.command.Listing.TheVariants.{Status, Stats, Mounts, Clients, Streams}
+use Rattle.radio_events.specs.declared.command.Listing.TheVariants.{Status, Clients, Streams}
 use Rattle.radio_events.specs.declared.command.OpenedBy.{OpenedBy}
 use Rattle.radio_events.specs.declared.command.OpenedBy.TheVariants.{Admin, Source}
 use Rattle.radio_events.specs.declared.event.Event.{Event}

@@ -1,5 +1,5 @@
 -- What of the station a client is shown.
-use Rattle.std.specs.Prelude.{ℕ, ◌-◌, ◌/◌, List, [], Option, unwrap_or, length, map}
+use Rattle.std.specs.Prelude.{ℕ, ◌-◌, ◌/◌, List, [], unwrap_or, length, map}
 use Rattle.std.specs.Option.{option_map}
 use Rattle.radio_creds.specs.Credentials.{Credentials}
 use Rattle.radio_settings.specs.Options.{options_for}

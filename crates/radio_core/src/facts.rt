@@ -69,7 +69,12 @@ impl House {
     {
         match self.fallbacks.get(mount) {
             Some(set) => set.fallback.as_ref(),
-            None => self.settings.options(mount).listeners.fallback_mount.as_ref(),
+            None => self
+                .settings
+                .options(mount)
+                .listeners
+                .fallback_mount
+                .as_ref(),
         }
     }
 

@@ -5,7 +5,8 @@ ghost use Rattle.radio_events.specs.Events.{TakesNoMemory};
 
 use crate::data::is_same_data;
 use crate::{
-    Asked, Command, CommandRequest, Event, ListenRequest, Listing, OpenedBy, Reply, SourceRequest, Text,
+    Asked, Command, CommandRequest, Event, ListenRequest, Listing, OpenedBy, Reply, SourceRequest,
+    Text,
 };
 use radio_addr::Peer;
 use radio_creds::Pair;

@@ -8,7 +8,7 @@ use Rattle.radio_policy.specs.declared.judgement.Verdict.{Verdict}
 use Rattle.radio_policy.specs.declared.judgement.Verdict.TheVariants.{Allow}
 use Rattle.radio_policy.specs.declared.rule.Rule.{Rule}
 use Rattle.radio_policy.specs.declared.rule.Rule.TheVariants.{AdminPassword, RelayPassword, NoMount}
-use Rattle.radio_policy.specs.Table.{Row, row, needs_rows, command_rows}
+use Rattle.radio_policy.specs.Table.{Row, row, command_rows}
 use Rattle.radio_policy.specs.Verdicts.{verdict_in}
 use Rattle.radio_addr.specs.declared.peer.Peer.{Peer}
 use Rattle.radio_creds.specs.Credentials.{Credentials}
@@ -17,7 +17,6 @@ use Rattle.radio_access.specs.CommandPairs.{is_admin_pair, is_relay_pair, is_rel
 use Rattle.radio_access.specs.SourcePair.{is_user_with}
 use Rattle.radio_events.specs.declared.command.Asked.{Asked}
 use Rattle.radio_events.specs.declared.command.Asked.TheVariants.{Listing as AsksFor}
-use Rattle.radio_events.specs.declared.command.CommandRequest.{CommandRequest}
 use Rattle.radio_events.specs.declared.command.Listing.{Listing}
 use Rattle.radio_events.specs.declared.command.Listing.TheVariants.{Status, Stats, Mounts, Clients, Streams}
 use Rattle.radio_events.specs.declared.event.Event.{Event}
@@ -31,7 +30,7 @@ use Rattle.radio_core.specs.declared.standing.Standing.{Standing}
 use Rattle.radio_core.specs.declared.standing.Standing.TheVariants.{Undecided, Answered}
 use Rattle.radio_core.specs.Changes.{changed}
 use Rattle.radio_core.specs.Command.{does_asked, said_of, shows}
-use Rattle.radio_core.specs.CommandFacts.{IsListed, is_live, facts_asked, rows_to_command, access_to, needs_to_list}
+use Rattle.radio_core.specs.CommandFacts.{IsListed, is_live, facts_asked, rows_to_command}
 use Rattle.radio_core.specs.Counts.{counts_by}
 use Rattle.radio_core.specs.Listings.{shown}
 use Rattle.radio_core.specs.Outcomes.{if_undecided, on_verdict}
@@ -42,9 +41,8 @@ use Rattle.radio_core.specs.Ways.{EndsAndLeaves, Leaves, Obeys, Shows, HasPassed
 use Rattle.radio_core.specs.World.{World, standing_of}
 use Rattle.radio_core.proofs.Standings.{turns_answered}
 use Rattle.radio_core.proofs.Ways.{way_of}
-use Rattle.radio_laws.specs.Commanded.{IsLive}
 use Rattle.radio_laws.specs.Shown.{IsTheRelays, MaySee, AsAnybody, AsARelay, AsTheAdmin, IsThereToSee, IsShownByRight, OnlyWhoMayIsShown, WhoMayIsShown, Tells}
-use Rattle.radio_laws.proofs.CommandLaws.{HasLogin, login_sent, one_of}
+use Rattle.radio_laws.proofs.CommandLaws.{login_sent, one_of}
 use Rattle.radio_laws.proofs.CommandService.{is_its, or_true, lives, with_mount, judged, said_short}
 use Rattle.radio_laws.proofs.ListingRows.{tells}
 
@@ -110,8 +108,8 @@ module _ (w : World) where
       (as_admin (Clients mount) sent parts.0, lives_by (session_of w.house.live mount) parts.1)
   may_see Streams sent e = (
     as_either sent
-    (one_of (is_admin_pair w.house.settings sent) (is_relay_pair w.house.settings sent)
-    (past RelayPassword (is_admin_pair w.house.settings sent || is_relay_pair w.house.settings sent) [] e).0),
+        (one_of (is_admin_pair w.house.settings sent) (is_relay_pair w.house.settings sent)
+        (past RelayPassword (is_admin_pair w.house.settings sent || is_relay_pair w.house.settings sent) [] e).0),
     tt,
   )
 

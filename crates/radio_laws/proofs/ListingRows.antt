@@ -1,6 +1,6 @@
 -- what the rows of listings tell
-use Rattle.std.proofs.Common.{◌≡◌, ◌↔◌, ◌≤◌, ◌<◌, ℕ, ◌+◌, ◌-◌, ◌*◌, ◌/◌, Bool, true, false, Option, Some, None, List, [], ◌∷◌, refl, ap, sym, subst, ◌∙◌, arith}
-use Rattle.std.specs.Prelude.{map, filter, filter_map, length}
+use Rattle.std.proofs.Common.{◌≡◌, ℕ, Bool, true, false, Option, Some, List, [], ◌∷◌, refl, ap, ◌∙◌, arith}
+use Rattle.std.specs.Prelude.{map}
 use Rattle.std.specs.Option.{option_map, option_map_or}
 use Rattle.std.specs.Str.{bytes_eq}
 use Rattle.radio_creds.specs.Credentials.{Credentials}
@@ -9,13 +9,13 @@ use Rattle.radio_seats.specs.declared.seat.Listener.{Listener}
 use Rattle.radio_seats.specs.declared.seat.Seat.{Seat}
 use Rattle.radio_seats.specs.declared.seat.Seating.{Seating}
 use Rattle.radio_seats.specs.declared.seat.Seating.TheVariants.{Sits, Finished}
-use Rattle.radio_seats.specs.Listed.{ListedGuest, guest_at, guests_at}
-use Rattle.radio_seats.specs.Seats.{is_seat_at, seats_at}
+use Rattle.radio_seats.specs.Listed.{guests_at}
+use Rattle.radio_seats.specs.Seats.{seats_at}
 use Rattle.radio_listing.specs.declared.rows.ListenerRow.{ListenerRow}
 use Rattle.radio_events.specs.declared.command.Listing.{Listing}
 use Rattle.radio_events.specs.declared.command.Listing.TheVariants.{Status, Stats, Mounts, Clients, Streams}
 use Rattle.radio_core.specs.Facts.{fallback_of}
-use Rattle.radio_core.specs.Fallbacks.{Fallback, set_for}
+use Rattle.radio_core.specs.Fallbacks.{Fallback}
 use Rattle.radio_core.specs.Listings.{shown, mount_row, mount_rows, listener_row, listener_rows, seconds_since, user_of}
 use Rattle.radio_parts.specs.Sessions.{Session}
 use Rattle.radio_core.specs.World.{World}

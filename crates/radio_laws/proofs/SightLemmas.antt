@@ -9,7 +9,7 @@ use Rattle.radio_listing.specs.declared.rows.PublicRow.{PublicRow}
 use Rattle.radio_listing.specs.Admin.{stats_text, mounts_text}
 use Rattle.radio_listing.specs.Laws.{LookAlike, mounts_named, shown_names}
 use Rattle.radio_listing.specs.Listeners.{listeners_text}
-use Rattle.radio_listing.specs.Public.{rows_shown, status_data, status_text, stream_line, stream_text}
+use Rattle.radio_listing.specs.Public.{rows_shown, status_data, stream_line, stream_text}
 use Rattle.radio_events.specs.declared.command.Asked.TheVariants.{Listing as AsksFor}
 use Rattle.radio_events.specs.declared.command.CommandRequest.{CommandRequest}
 use Rattle.radio_events.specs.declared.command.Listing.{Listing}
@@ -27,7 +27,7 @@ use Rattle.radio_core.specs.Ways.{Way, Misplaced, IsFinished, IsDenied, IsRefuse
 use Rattle.radio_core.specs.Ways.{EndsAndLeaves, Leaves, Obeys, Shows, HasPassed, Ticks}
 use Rattle.radio_core.specs.World.{World}
 use Rattle.radio_core.proofs.Ways.{way_of}
-use Rattle.radio_laws.specs.Shown.{Seen, seen, is_public, public_live, seen_by_all, AreAnsweredAlike, SightIsKept, NoHiddenIsNamed, HiddenAreLeftOut}
+use Rattle.radio_laws.specs.Shown.{Seen, seen, is_public, public_live, seen_by_all, AreAnsweredAlike, SightIsKept, HiddenAreLeftOut}
 
 -- a request for a listing that is answered by a text is answered by the listing
 module _ (w : World) (asked : CommandRequest) (listing : Listing) (text : Text) (is : asked.asked ≡ AsksFor listing) where

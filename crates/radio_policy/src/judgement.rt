@@ -4,8 +4,8 @@ ghost use Rattle.radio_policy.specs.Table.{password_rule, needs_rows, command_ro
 ghost use Rattle.radio_policy.specs.Verdicts.{verdict_in};
 
 use crate::{
-    Action, ArriveFacts, CommandAccess, CommandFacts, CommandNeeds, DestinationFacts, ListenFacts, Opener,
-    PushFacts, Rule, SourceFacts,
+    Action, ArriveFacts, CommandAccess, CommandFacts, CommandNeeds, DestinationFacts, ListenFacts,
+    Opener, PushFacts, Rule, SourceFacts,
 };
 
 /// What the policy says to something that is asked for.

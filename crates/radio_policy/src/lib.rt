@@ -8,8 +8,8 @@ mod laws;
 mod rule;
 
 pub use facts::{
-    Action, ArriveFacts, CommandAccess, CommandFacts, CommandNeeds, DestinationFacts, ListenFacts, Opener,
-    PushFacts, SourceFacts,
+    Action, ArriveFacts, CommandAccess, CommandFacts, CommandNeeds, DestinationFacts, ListenFacts,
+    Opener, PushFacts, SourceFacts,
 };
 pub use judgement::{Verdict, judge};
 pub use laws::denials_name_the_first_rule;

@@ -7,7 +7,6 @@ ghost use Rattle.radio_seats.specs.Listed.{lent_guest};
 ghost use Rattle.radio_core.specs.Listings.{shown, public_row, mount_row, mount_rows, listener_row, listener_rows, seconds_since, user_of};
 ghost use Rattle.radio_events.specs.declared.text.Text.{Text as TextOf};
 
-use crate::OutOfMemory;
 use super::state::State;
 use bytes::Bytes;
 use radio_creds::Pair;
@@ -37,10 +36,7 @@ impl State {
             }
             Listing::Mounts => json(list_mounts(self.alloc, self.mount_rows()?.as_slice())?),
             Listing::Clients(mount) => json(self.listeners_shown(mount)?),
-            Listing::Streams => streams(stream_list(
-                self.alloc,
-                self.mount_rows()?.as_slice(),
-            )?),
+            Listing::Streams => streams(stream_list(self.alloc, self.mount_rows()?.as_slice())?),
         }
     }
 
@@ -92,11 +88,7 @@ impl State {
     {
         let listeners = self.seats.guests_at(self.alloc, mount)?;
         let rows = listener_rows(self.alloc, self.house.time, listeners.as_slice())?;
-        list_clients(
-            self.alloc,
-            &Shown::of(mount.as_bytes()),
-            rows.as_slice(),
-        )
+        list_clients(self.alloc, &Shown::of(mount.as_bytes()), rows.as_slice())
     }
 }
 

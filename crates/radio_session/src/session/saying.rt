@@ -302,7 +302,12 @@ fn moved_line(alloc: Global, count: u64) -> Result<String, OutOfMemory>
 }
 
 /// Appends an answer with this body.
-fn tell_body(alloc: Global, kind: TextKind, body: &[u8], out: &mut Vec<u8>) -> Result<(), OutOfMemory>
+fn tell_body(
+    alloc: Global,
+    kind: TextKind,
+    body: &[u8],
+    out: &mut Vec<u8>,
+) -> Result<(), OutOfMemory>
     ensures ok { OnOk result (out.new.items ≡ out.old.items ++ sized_text 200 (content_type kind) body.now) }
     ensures err { OnErr result (out.new.items ≡ out.old.items) }
 {
