@@ -1,14 +1,15 @@
 """A plain model of the server, written from docs/RULES.md and not from the code: what a script's lines come to.
 
-It knows what `scripts/try_random` makes: whole heads of SOURCE and GET, plain bodies, commands that change something, titles of ASCII; no address lists.
+It knows what `scripts/try_random` makes: whole heads of SOURCE and GET, plain bodies, commands, listings, titles of ASCII; no address lists.
 """
 import base64
 import collections
 import hashlib
+import json
 
 STATUSES = {
     400: ("Bad Request", ["bad-mount", "missing-argument", "same-mount"]),
-    401: ("Unauthorized", ["source-password", "listener-password", "admin-password"]),
+    401: ("Unauthorized", ["source-password", "listener-password", "admin-password", "relay-password"]),
     403: ("Forbidden", ["too-many-clients", "too-many-sources", "mount-in-use", "user-twice", "mount-full"]),
     404: ("Not Found", ["no-mount", "not-live", "fallback-depth", "no-command", "no-destination", "no-client"]),
 }
@@ -24,14 +25,21 @@ COMMANDS = {
     "fallbacks": ["mount", "fallback"],
 }
 OF_SOURCES = ["metadata", "fallbacks"]
+# what is shown of the station, and the arguments of each
+LISTINGS = {"status.json": [], "stats": [], "listmounts": [], "listclients": ["mount"], "streamlist.txt": []}
+PLAIN, JSON = "text/plain; charset=utf-8", "application/json"
 
 
 def denial(rule):
     return answer(STATUS_OF[rule], STATUSES[STATUS_OF[rule]][0], f"denied: {rule}\n")
 
 
-def answer(status, phrase, body):
-    lines = [f"HTTP/1.0 {status} {phrase}", "Content-Type: text/plain; charset=utf-8", f"Content-Length: {len(body)}"]
+def in_json(value):
+    return json.dumps(value, separators=(",", ":"), sort_keys=True)
+
+
+def answer(status, phrase, body, kind=PLAIN):
+    lines = [f"HTTP/1.0 {status} {phrase}", f"Content-Type: {kind}", f"Content-Length: {len(body)}"]
     lines += ['WWW-Authenticate: Basic realm="radio"'] * (status == 401) + ["Connection: close", "", body]
     return "\r\n".join(lines).encode()
 
@@ -52,6 +60,7 @@ class Mount:
         self.duplicates = table.get("allow_duplicate_users", True)
         self.burst = min(table.get("burst-size", limits["burst-size"]), limits["queue-size"])
         self.interval, self.shown = table.get("mp3-metadata-interval", 16000), table.get("stream-name", "")
+        self.hidden = table.get("hidden", False)
 
     def lets_in(self, pair):
         return self.users is None or (pair is not None and (pair in self.users))
@@ -65,8 +74,8 @@ class Session:
 class Client:
     """One who was let in. `rule` is the one by which he was finished; a listener who sits has a `mount` and a `session`."""
 
-    def __init__(self, number, now):
-        self.number, self.arrived, self.state, self.rule = number, now, "new", None
+    def __init__(self, number, peer, now):
+        self.number, self.peer, self.arrived, self.state, self.rule = number, peer, now, "new", None
         self.mount = self.session = self.home = self.pair = self.since = None
         self.place, self.sound, self.sent = 0, 0, None
 
@@ -75,6 +84,7 @@ class Model:
     def __init__(self, settings):
         self.limits = {"clients": 100, "sources": 2, "queue-size": 524288, "burst-size": 65536, "source-timeout": 10, "header-timeout": 15}
         self.limits |= settings.get("limits", {})
+        self.relay = settings.get("relay")
         self.tables = {table["mount-name"]: table for table in settings.get("mounts", [])}
         self.now, self.last, self.clients, self.live, self.labels = 0, 0, {}, {}, {}
         # the fallbacks that commands have set
@@ -172,6 +182,49 @@ class Model:
         if command == "killclient" and all(one.number != other for one in self.at(mount)):
             return "no-client", None
         return None, self.does(command, mount, other)
+
+    # what is shown
+
+    def rows(self):
+        """The live mounts by their names, each with its session and its settings."""
+        return [(name, self.live[name], self.mount(name)) for name in sorted(self.live)]
+
+    def seen(self, name, session, mount):
+        """What everybody may see of a mount."""
+        title = (session.title or b"").decode()
+        return {"genre": "", "listeners": len(self.at(name)), "mount": name, "name": mount.shown, "title": title, "type": "audio/mpeg"}
+
+    def shows(self, listing, arguments, pair):
+        """The rule that denies the listing, or its text."""
+        if listing == "streamlist.txt" and pair != ADMIN and (self.relay is None or pair != self.relay):
+            return "relay-password", None
+        if listing not in ["status.json", "streamlist.txt"] and pair != ADMIN:
+            return "admin-password", None
+        if any(name not in arguments for name in LISTINGS[listing]):
+            return "missing-argument", None
+        if listing == "listclients" and arguments["mount"] not in self.live:
+            return "no-mount", None
+        return None, self.shown(listing, arguments.get("mount"))
+
+    def shown(self, listing, at):
+        rows, number = self.rows(), {name: session.source.number for name, session in self.live.items()}
+        if listing == "status.json":
+            return in_json({"mounts": [self.seen(*row) for row in rows if not row[2].hidden]})
+        if listing == "streamlist.txt":
+            return "".join(f"{name}\r\n" for name, _, mount in rows if not mount.hidden)
+        if listing == "listclients":
+            return in_json({"listeners": [self.heard(one) for one in self.at(at)], "mount": at})
+        if listing == "listmounts":
+            shown = [{"fallback": mount.fallback or "", "hidden": mount.hidden, "listeners": len(self.at(name)), "mount": name} for name, _, mount in rows]
+            return in_json({"mounts": shown})
+        shown = [self.seen(*row) | {"hidden": row[2].hidden, "session": number[row[0]]} for row in rows]
+        count = sum(mount["listeners"] for mount in shown)
+        return in_json({"clients": len(self.clients), "listeners": count, "mounts": shown, "sources": len(rows)})
+
+    def heard(self, one):
+        user = one.pair[0] if one.pair else ""
+        seconds = (self.now - one.since) // 1000
+        return {"home": one.home, "id": one.number, "mount": one.mount, "peer": one.peer, "seconds": seconds, "user": user}
 
     def does(self, command, mount, other):
         if command == "moveclients":
@@ -292,12 +345,12 @@ class Model:
                 self.leaves(client)
         return lines
 
-    def opens(self, label):
+    def opens(self, label, peer):
         self.labels[label] = None
         if len(self.clients) >= self.limits["clients"]:
             return self.says(label, denial("too-many-clients"), "too-many-clients")
         self.last += 1
-        self.labels[label] = self.clients[self.last] = Client(self.last, self.now)
+        self.labels[label] = self.clients[self.last] = Client(self.last, peer, self.now)
         return []
 
     def asks(self, label, method, name, pair, wants):
@@ -323,6 +376,18 @@ class Model:
         self.met[f"{command}: {rule or text.strip()}"] += 1
         client.state = "answered"
         return self.says(label, denial(rule), rule) if rule else self.says(label, answer(200, "OK", text), "done")
+
+    def lists(self, label, listing, arguments, pair):
+        client = self.labels[label]
+        if client is None or client.state != "new":
+            return []
+        if client.rule:
+            return self.says(label, word=client.rule)
+        rule, text = self.shows(listing, arguments, pair)
+        self.met[f"{listing}: {rule or 'shown'}"] += 1
+        client.state = "answered"
+        kind = PLAIN if listing == "streamlist.txt" else JSON
+        return self.says(label, denial(rule), rule) if rule else self.says(label, answer(200, "OK", text, kind), "done")
 
     def head(self, client):
         shown = self.mount(client.mount).shown
