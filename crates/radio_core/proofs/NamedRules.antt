@@ -13,7 +13,7 @@ use Rattle.radio_core.specs.declared.standing.Standing.TheVariants.{Finished as 
 use Rattle.radio_core.specs.Outcomes.{says}
 use Rattle.radio_core.specs.Step.{outcome}
 use Rattle.radio_core.specs.Ways.{Way, Misplaced, IsFinished, IsDenied, IsRefused, IsAdmitted, Begins, Receives, SetsTitle, TakesSeat, HandsOut, Ends}
-use Rattle.radio_core.specs.Ways.{EndsAndLeaves, Leaves, Obeys, HasPassed, Ticks, rows_for, IsUndecided}
+use Rattle.radio_core.specs.Ways.{EndsAndLeaves, Leaves, Obeys, Shows, HasPassed, Ticks, rows_for, IsUndecided}
 use Rattle.radio_core.specs.World.{World, standing_of}
 use Rattle.radio_core.proofs.Ways.{way_of}
 
@@ -41,6 +41,7 @@ named_by w event o (IsAdmitted peer allowed) = NamesNoRule o refl
 named_by w event o (Begins asked undecided none allowed) = NamesNoRule o refl
 named_by w event o (Receives id mount block feeding) = NamesNoRule o refl
 named_by w event o (SetsTitle id mount text feeding) = NamesNoRule o refl
+named_by w event o (Shows _ listing c) = NamesNoRule o refl
 named_by w event o (Obeys _ command c) = NamesNoRule o refl
 named_by w event o (HasPassed ms e) = NamesNoRule o refl
 named_by w event o (Ticks ms e) = NamesNoRule o refl

@@ -6,17 +6,18 @@ use radio_blocks::Block;
 use radio_book::OutOfMemory;
 use radio_core::Core;
 use radio_creds::basic;
-use radio_events::{Asked, CommandRequest, Event, ListenRequest, Reply, SourceRequest};
+use radio_events::{Asked, Command, CommandRequest, Event, ListenRequest, Listing, OpenedBy, Reply, SourceRequest};
 use radio_icy::Title;
-use radio_settings::Shown;
+use radio_settings::{MountName, Shown};
 use std::alloc::Global;
 
-/// How many calls a caller makes: a source and a listener arrive and say what they want, then titles
-/// are set and blocks are delivered and drawn, and the two leave.
+/// How many calls a caller makes: a source and a listener arrive and say what they want, and two who
+/// wait; then titles are set and blocks are delivered and drawn, the admin finishes the listener, who
+/// is asked for the status shows it, and source and listener leave.
 pub const CALLS: usize = 100;
 
 /// How many of them are draws, each of which is handed data and told a title.
-pub const DRAWS: usize = 46;
+pub const DRAWS: usize = 44;
 
 /// What is delivered each time, and drawn.
 pub const DATA: &[u8] = b"abcd";
@@ -35,6 +36,8 @@ enum Call {
     Title(&'static [u8]),
     Push,
     Draw,
+    Kill,
+    Status,
     ListenerLeaves,
     SourceLeaves,
 }
@@ -60,12 +63,17 @@ const ALL_ROUNDS: &[Rounds] = &[
         calls: &[Call::Title(b"Night")],
     },
     Rounds {
-        count: 23,
+        count: 21,
         calls: &[Call::Push, Call::Draw],
     },
     Rounds {
         count: 1,
-        calls: &[Call::ListenerLeaves, Call::SourceLeaves],
+        calls: &[
+            Call::Kill,
+            Call::Status,
+            Call::ListenerLeaves,
+            Call::SourceLeaves,
+        ],
     },
 ];
 
@@ -76,28 +84,37 @@ pub trait Callee {
     fn call(&mut self, event: Event) -> Option<u64>;
 }
 
-/// The caller's mount, and the numbers of the two.
+/// The caller's mount, and the numbers of the four.
 #[derive(Clone, Copy)]
-struct Pair<'a> {
+struct Four<'a> {
     path: &'a str,
     source: u64,
     listener: u64,
+    admin: u64,
+    viewer: u64,
 }
 
 /// Makes the 100 calls. Whether each was replied to.
 pub fn serve<C: Callee>(alloc: Global, callee: &mut C, path: &str) -> bool {
-    let Some(source) = callee.call(arrival()) else {
-        return false;
-    };
-    let Some(listener) = callee.call(arrival()) else {
-        return false;
-    };
-    let pair = Pair {
+    match arriving(callee, path) {
+        Some(four) => serve_four(alloc, callee, four),
+        None => false,
+    }
+}
+
+/// Four arrive; `None` where memory was refused.
+fn arriving<'a, C: Callee>(callee: &mut C, path: &'a str) -> Option<Four<'a>> {
+    let source = callee.call(arrival())?;
+    let listener = callee.call(arrival())?;
+    let admin = callee.call(arrival())?;
+    let viewer = callee.call(arrival())?;
+    Some(Four {
         path,
         source,
         listener,
-    };
-    serve_pair(alloc, callee, pair)
+        admin,
+        viewer,
+    })
 }
 
 /// The number that a reply gives to who arrives, 0 where it gives none.
@@ -108,52 +125,62 @@ pub fn number_given(reply: &Reply) -> u64 {
     }
 }
 
-fn serve_pair<C: Callee>(alloc: Global, callee: &mut C, pair: Pair) -> bool {
+fn serve_four<C: Callee>(alloc: Global, callee: &mut C, four: Four) -> bool {
     for rounds in ALL_ROUNDS {
-        if !serve_rounds(alloc, callee, pair, rounds) {
+        if !serve_rounds(alloc, callee, four, rounds) {
             return false;
         }
     }
     true
 }
 
-fn serve_rounds<C: Callee>(alloc: Global, callee: &mut C, pair: Pair, rounds: &Rounds) -> bool {
+fn serve_rounds<C: Callee>(alloc: Global, callee: &mut C, four: Four, rounds: &Rounds) -> bool {
     for _ in 0..rounds.count {
-        if !serve_round(alloc, callee, pair, rounds.calls) {
+        if !serve_round(alloc, callee, four, rounds.calls) {
             return false;
         }
     }
     true
 }
 
-fn serve_round<C: Callee>(alloc: Global, callee: &mut C, pair: Pair, calls: &[Call]) -> bool {
+fn serve_round<C: Callee>(alloc: Global, callee: &mut C, four: Four, calls: &[Call]) -> bool {
     for call in calls {
-        if !serve_call(alloc, callee, pair, *call) {
+        if !serve_call(alloc, callee, four, *call) {
             return false;
         }
     }
     true
 }
 
-fn serve_call<C: Callee>(alloc: Global, callee: &mut C, pair: Pair, call: Call) -> bool {
-    match event_of(alloc, pair, call) {
+fn serve_call<C: Callee>(alloc: Global, callee: &mut C, four: Four, call: Call) -> bool {
+    match event_of(alloc, four, call) {
         Ok(event) => callee.call(event).is_some(),
         Err(_) => false,
     }
 }
 
-fn event_of(alloc: Global, pair: Pair, call: Call) -> Result<Event, OutOfMemory> {
+fn event_of(alloc: Global, four: Four, call: Call) -> Result<Event, OutOfMemory> {
     match call {
-        Call::Source => source_event(alloc, pair.source, pair.path),
-        Call::Listen => listen_event(alloc, pair.listener, pair.path),
-        Call::Title(title) => title_event(alloc, pair.source, title),
-        Call::Push => push_event(alloc, pair.source, DATA),
+        Call::Source => source_event(alloc, four.source, four.path),
+        Call::Listen => listen_event(alloc, four.listener, four.path),
+        Call::Title(title) => title_event(alloc, four.source, title),
+        Call::Push => push_event(alloc, four.source, DATA),
         Call::Draw => Ok(Event::Draw {
-            id: pair.listener,
+            id: four.listener,
             room: 4,
         }),
-        Call::ListenerLeaves => Ok(Event::Leave { id: pair.listener }),
-        Call::SourceLeaves => Ok(Event::Leave { id: pair.source }),
+        Call::Kill => command_event(alloc, four.admin, killing(four.path, four.listener)),
+        Call::Status => command_event(alloc, four.viewer, Asked::Listing(Listing::Status)),
+        Call::ListenerLeaves => Ok(Event::Leave { id: four.listener }),
+        Call::SourceLeaves => Ok(Event::Leave { id: four.source }),
+    }
+}
+
+/// The command that finishes the listener of that number at the mount of this path.
+pub fn killing(path: &str, listener: u64) -> Asked {
+    match MountName::read(path.as_bytes()) {
+        Some(mount) => Asked::Command(Command::KillClient { mount, listener }),
+        None => Asked::MissingArgument(OpenedBy::Admin),
     }
 }
 

@@ -5,12 +5,15 @@ use crate::halls::{PassCaller, Visit, takes_pass, visit_hall};
 use crate::stations::core;
 use radio_book::{Entry, House, Kept, Pass};
 use radio_core::Core;
-use radio_events::Reply;
+use radio_events::{Reply, Text};
 use radio_hall::Hall;
 use std::alloc::Global;
 use std::sync::Wait;
 use std::test::Fail;
 use std::thread::{Threads, join};
+
+/// What a listing has of a mount whose last title is `Night`.
+const NIGHT: &[u8] = b"\"title\":\"Night\"";
 
 /// The 100 calls of a caller with a mount of his own. Where memory is refused, the history lacks some
 /// of them.
@@ -54,9 +57,13 @@ pub fn are_served<H: House + Send + Sync, R: Threads + Wait + Sync>(
     are_two
 }
 
-/// Whether it is the history of two callers: a core replies all of it again, and it has their draws.
+/// Whether it is the history of two callers: it has their draws, and the status twice, and a core
+/// replies all of it again, byte for byte.
 pub fn is_of_two(alloc: Global, history: &[Entry]) -> bool {
-    history.len() == 2 * CALLS && count_drawn(history) == 2 * DRAWS && replays(alloc, history)
+    history.len() == 2 * CALLS
+        && count_where(history, is_drawn) == 2 * DRAWS
+        && count_where(history, is_status) == 2
+        && replays(alloc, history)
 }
 
 /// Whether a core replies all of it again, from the opening state.
@@ -92,17 +99,30 @@ fn replies_again(core: &mut Core, entry: &Entry) -> bool {
     }
 }
 
-/// In how many entries a listener is handed data and told a title.
-fn count_drawn(history: &[Entry]) -> usize {
-    let mut drawn = 0usize;
+/// How many entries have such a reply.
+fn count_where<P: Fn(&Reply) -> bool>(history: &[Entry], is_such: P) -> usize {
+    let mut count = 0usize;
     for entry in history {
-        if is_drawn(&entry.reply) {
-            drawn = drawn.saturating_add(1);
+        if is_such(&entry.reply) {
+            count = count.saturating_add(1);
         }
     }
-    drawn
+    count
 }
 
+/// Whether a client is shown a listing in which the last title stands.
+fn is_status(reply: &Reply) -> bool {
+    match reply {
+        Reply::Text(Text::Json(bytes)) => has_night(bytes.as_slice()),
+        _ => false,
+    }
+}
+
+fn has_night(text: &[u8]) -> bool {
+    text.windows(NIGHT.len()).any(|part| part == NIGHT)
+}
+
+/// Whether a listener is handed data and told a title.
 fn is_drawn(reply: &Reply) -> bool {
     match reply {
         Reply::Drawn { pieces, title } => title.is_some() && !pieces.slices().is_empty(),

@@ -8,6 +8,7 @@ ghost use Rattle.radio_core.specs.Listings.{shown, public_row, mount_row, mount_
 ghost use Rattle.radio_events.specs.declared.text.Text.{Text as TextOf};
 
 use super::state::State;
+use crate::OutOfMemory;
 use bytes::Bytes;
 use radio_creds::Pair;
 use radio_events::{Listing, Text};

@@ -1,10 +1,10 @@
 //! Events in tables, and replies in words.
 
-use crate::calls::{arrival, command_event, listen_event, push_event, source_event};
+use crate::calls::{arrival, command_event, killing, listen_event, push_event, source_event};
 use radio_access::Lists;
 use radio_blocks::Pieces;
 use radio_core::{Core, OutOfMemory};
-use radio_events::{Asked, Command, Event, OpenedBy, Reply};
+use radio_events::{Asked, Command, Event, OpenedBy, Reply, Text};
 use radio_settings::{MountName, Settings, SettingsFault, Shown};
 use std::alloc::Global;
 
@@ -42,18 +42,11 @@ impl Call {
                 room: *room,
             }),
             Call::KillClient(id, path, listener) => {
-                command_event(alloc, *id, kill_client(path, *listener))
+                command_event(alloc, *id, killing(path, *listener))
             }
             Call::KillSource(id, path) => command_event(alloc, *id, kill_source(path)),
             Call::Leave(id) => Ok(Event::Leave { id: *id }),
         }
-    }
-}
-
-fn kill_client(path: &str, listener: u64) -> Asked {
-    match MountName::read(path.as_bytes()) {
-        Some(mount) => Asked::Command(Command::KillClient { mount, listener }),
-        None => Asked::MissingArgument(OpenedBy::Admin),
     }
 }
 
@@ -174,10 +167,18 @@ fn told(alloc: Global, reply: &Reply) -> Result<String, OutOfMemory> {
         Reply::Seated { shown, .. } => told_shown(alloc, shown),
         Reply::Drawn { pieces, .. } => told_drawn(alloc, pieces),
         Reply::Noted => "noted".to_string(alloc),
-        Reply::Text(text) => text.to_string(alloc),
+        Reply::Text(text) => told_text(alloc, text),
         Reply::Deny(rule) => format!(in alloc; "deny {rule}"),
         Reply::Finished(rule) => format!(in alloc; "finished {rule}"),
         Reply::Stray => "stray".to_string(alloc),
+    }
+}
+
+fn told_text(alloc: Global, answer: &Text) -> Result<String, OutOfMemory> {
+    match answer {
+        Text::Done => "done".to_string(alloc),
+        Text::Moved(count) => format!(in alloc; "moved {count}"),
+        Text::Json(bytes) | Text::Streams(bytes) => text(bytes.as_slice()).to_string(alloc),
     }
 }
 
