@@ -5,7 +5,7 @@ use Rattle.std.specs.List.{concat}
 use Rattle.std.proofs.lemmas.Bool.{lt-ltb, le-ltb, lt-leb, le-leb, ne_eqb, cases_lt}
 use Rattle.std.proofs.lemmas.List.{nil_from_length, append-nil, take-append-drop, length-take-le, length-drop, drop_more, drop_all}
 use Rattle.radio_icy.specs.Unweaving.{Atom, SoundByte, WholeText, Unweaving, at_sound, new_unweaving, heard, after_feeding, heard_by_pieces, after_pieces}
-use Rattle.radio_icy.specs.Unweaving.{without_padding, brought_by, after_byte}
+use Rattle.radio_icy.specs.Unweaving.{without_padding, brought_by, after_fed_byte}
 use Rattle.radio_icy.specs.Bare.{bare, bare_within, block_texts, block_texts_within, after_block, text_of_block, sound_in, texts_in}
 use Rattle.radio_icy.proofs.UnweavingLemmas.{heard_all_sound, heard_to_part, heard_to_text, heard_to_none}
 
@@ -13,12 +13,12 @@ use Rattle.radio_icy.proofs.UnweavingLemmas.{heard_all_sound, heard_to_part, hea
 pub heard-append : (u : Unweaving) (first second : List ℕ) → heard u (first ++ second) ≡ heard u first ++ heard (after_feeding u first) second
 heard-append u [] second = refl
 heard-append u (b ∷ first) second =
-    ap (λ t. brought_by u b ++ t) (heard-append (after_byte u b) first second)
-    ∙ sym (append_assoc (brought_by u b) (heard (after_byte u b) first) (heard (after_feeding (after_byte u b) first) second))
+    ap (λ t. brought_by u b ++ t) (heard-append (after_fed_byte u b) first second)
+    ∙ sym (append_assoc (brought_by u b) (heard (after_fed_byte u b) first) (heard (after_feeding (after_fed_byte u b) first) second))
 
 pub after_feeding-append : (u : Unweaving) (first second : List ℕ) → after_feeding u (first ++ second) ≡ after_feeding (after_feeding u first) second
 after_feeding-append u [] second = refl
-after_feeding-append u (b ∷ first) second = after_feeding-append (after_byte u b) first second
+after_feeding-append u (b ∷ first) second = after_feeding-append (after_fed_byte u b) first second
 
 -- however a stream is cut
 pub heard_by_pieces-concat : (u : Unweaving) (pieces : List (List ℕ)) → heard_by_pieces u pieces ≡ heard u (concat pieces)

@@ -46,13 +46,13 @@ after_sound_byte n (suc left) b = at_sound n left
 abbrev pub after_block_byte : ℕ → ℕ → List ℕ → Unweaving
 after_block_byte n left held = if nat_lt 1 left then in_block n (left - 1) held else at_sound n n
 
--- the reader after one byte
-abbrev pub after_byte_at : ℕ → ℕ → Option (List ℕ) → ℕ → Unweaving
-after_byte_at n left None b = after_sound_byte n left b
-after_byte_at n left (Some held) b = after_block_byte n left (held ++ b ∷ [])
+-- the reader after one byte of the stream
+abbrev pub after_fed_byte_at : ℕ → ℕ → Option (List ℕ) → ℕ → Unweaving
+after_fed_byte_at n left None b = after_sound_byte n left b
+after_fed_byte_at n left (Some held) b = after_block_byte n left (held ++ b ∷ [])
 
-abbrev pub after_byte : Unweaving → ℕ → Unweaving
-after_byte u b = after_byte_at u.interval u.left u.block b
+abbrev pub after_fed_byte : Unweaving → ℕ → Unweaving
+after_fed_byte u b = after_fed_byte_at u.interval u.left u.block b
 
 -- what one byte brings
 abbrev pub brought_by_sound : ℕ → ℕ → List Atom
@@ -72,12 +72,12 @@ brought_by u b = brought_at u.left u.block b
 -- what a piece of the stream brings
 abbrev pub heard : Unweaving → List ℕ → List Atom
 heard u [] = []
-heard u (b ∷ bytes) = brought_by u b ++ heard (after_byte u b) bytes
+heard u (b ∷ bytes) = brought_by u b ++ heard (after_fed_byte u b) bytes
 
 -- the reader after a piece
 abbrev pub after_feeding : Unweaving → List ℕ → Unweaving
 after_feeding u [] = u
-after_feeding u (b ∷ bytes) = after_feeding (after_byte u b) bytes
+after_feeding u (b ∷ bytes) = after_feeding (after_fed_byte u b) bytes
 
 -- what the pieces of a stream bring, one after another
 abbrev pub heard_by_pieces : Unweaving → List (List ℕ) → List Atom

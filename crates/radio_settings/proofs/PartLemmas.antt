@@ -11,7 +11,7 @@ use Rattle.radio_settings.specs.Logins.{login_fault, login_rows}
 use Rattle.radio_settings.specs.Masters.{master_fault, master_rows}
 use Rattle.radio_settings.specs.Mounts.{listener_rows, listeners_fault, mount_fault, options_fault, source_fault, source_rows, stream_fault, stream_rows}
 use Rattle.radio_settings.specs.Mounts.{user_rows, users_fault}
-use Rattle.radio_settings.specs.Relays.{mounts_fault, pair_fault, pair_rows, relay_fault, relay_mount_rows}
+use Rattle.radio_settings.specs.Relays.{relay_mounts_fault, pair_fault, pair_rows, relay_fault, relay_mount_rows}
 use Rattle.radio_settings.specs.Slave.{slave_fault}
 use Rattle.radio_settings.proofs.FaultLemmas.{first_fault-append, in_groups}
 
@@ -40,8 +40,8 @@ unfolding mount_fault options_fault
 mount_parts t = refl
 
 pub relay_parts : (t : Members) → relay_fault t ≡ first_fault (
-    master_fault Server Port t ∷ mounts_fault t ∷ pair_fault t ∷ fault_at (row OnDemand no_flag optional) t ∷ [])
-unfolding relay_fault master_fault mounts_fault pair_fault
+    master_fault Server Port t ∷ relay_mounts_fault t ∷ pair_fault t ∷ fault_at (row OnDemand no_flag optional) t ∷ [])
+unfolding relay_fault master_fault relay_mounts_fault pair_fault
 relay_parts t =
     let mounts = faults_in relay_mount_rows t in
     let pair = faults_in pair_rows t in

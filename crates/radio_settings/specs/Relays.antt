@@ -25,15 +25,15 @@ login_from (Some username) (Some password) = Some (record { username = username;
 login_from _ _ = None
 
 -- the first fault of the two mounts
-unfoldable pub mounts_fault : Members → Option SettingsFault
-mounts_fault table = first_fault (faults_in relay_mount_rows table)
+unfoldable pub relay_mounts_fault : Members → Option SettingsFault
+relay_mounts_fault table = first_fault (faults_in relay_mount_rows table)
 
-abbrev pub mount_of : Members → List ℕ
-mount_of table = text_or Mount table []
+abbrev pub pulled_mount_of : Members → List ℕ
+pulled_mount_of table = text_or Mount table []
 
 -- by default the mount that it pulls
 abbrev pub local_mount_of : Members → List ℕ
-local_mount_of table = text_or LocalMount table (mount_of table)
+local_mount_of table = text_or LocalMount table (pulled_mount_of table)
 
 -- the first fault of the two keys
 unfoldable pub pair_fault : Members → Option SettingsFault
@@ -49,7 +49,7 @@ relay_fault table = first_fault (faults_in relay_rows table)
 unfoldable pub relay_of : Members → RelaySetting
 relay_of table = record {
   master = master_of Server Port table;
-  mount = mount_of table;
+  mount = pulled_mount_of table;
   local_mount = local_mount_of table;
   login = pair_of table;
   on_demand = flag_or OnDemand table false;

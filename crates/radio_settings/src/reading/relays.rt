@@ -3,7 +3,7 @@ ghost use Rattle.std.specs.Prelude.{◌≡◌, map};
 ghost use Rattle.std.specs.List.{flat_map};
 ghost use Rattle.toml.specs.View.{table_view};
 ghost use Rattle.radio_settings.specs.Parts.{relays_fault};
-ghost use Rattle.radio_settings.specs.Relays.{local_mount_of, login_from, mount_of, mounts_fault, pair_fault};
+ghost use Rattle.radio_settings.specs.Relays.{local_mount_of, login_from, pulled_mount_of, relay_mounts_fault, pair_fault};
 ghost use Rattle.radio_settings.specs.Relays.{pair_of, relay_fault, relay_rows, relay_of, relays_of};
 ghost use Rattle.radio_settings.specs.Rows.{faults_in, first_fault};
 ghost use Rattle.radio_settings.specs.Reading.{Reads, ReadsAs};
@@ -53,10 +53,10 @@ fn relay(alloc: Global, table: &Table) -> Result<RelaySetting, SettingsFault>
 }
 
 /// The mount to pull, and the mount that it feeds.
-#[tactic(auto, unfolding(crate::specs::Relays::mounts_fault))]
+#[tactic(auto, unfolding(crate::specs::Relays::relay_mounts_fault))]
 fn mounts(table: &Table) -> Result<(MountName, MountName), SettingsFault>
     ensures { let t = table_view table.now in
-        Reads (mounts_fault t) (mount_of t, local_mount_of t) result }
+        Reads (relay_mounts_fault t) (pulled_mount_of t, local_mount_of t) result }
 {
     let mount = required_name(table, Key::Mount)?;
     let local_mount = name_or(table, Key::LocalMount, mount)?;
