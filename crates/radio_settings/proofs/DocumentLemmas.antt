@@ -7,54 +7,60 @@ use Rattle.radio_settings.specs.declared.fault.SettingsFault.{SettingsFault}
 use Rattle.radio_settings.specs.declared.fault.SettingsFault.TheVariants.{NotToml}
 use Rattle.radio_settings.specs.Rows.{first_fault}
 use Rattle.radio_settings.specs.Access.{access_fault}
-use Rattle.radio_settings.specs.Document.{access_faults, listen_faults, limits_faults, mounts_faults, relays_faults, slave_faults, repeat_faults}
+use Rattle.radio_settings.specs.Document.{access_faults, listen_faults, limits_faults, web_faults, mounts_faults, relays_faults, slave_faults, repeat_faults, name_faults}
 use Rattle.radio_settings.specs.Document.{document_faults, document_reading, settings_or_fault, settings_of, reading_of}
 use Rattle.radio_settings.specs.Parts.{apart_fault, basics_fault, fault_by_parts, limits_table_fault, listen_and_limits_fault, listen_table_fault, lists_fault}
-use Rattle.radio_settings.specs.Parts.{mounts_fault, optional_slave_fault, relays_fault, streams_fault}
-use Rattle.radio_settings.proofs.FaultLemmas.{first_fault-append, in_groups, in_one}
+use Rattle.radio_settings.specs.Parts.{mounts_fault, named_fault, optional_slave_fault, relays_fault, streams_fault, web_table_fault}
+use Rattle.radio_settings.specs.WebNames.{web_names_fault}
+use Rattle.radio_settings.proofs.FaultLemmas.{first_fault-append, in_nested_groups}
 
 abbrev Faults : Type 0
 Faults = List (Option SettingsFault)
 
 -- the rows of a document from a part on
 abbrev from_relays : Members → Faults
-from_relays d = relays_faults d ++ (slave_faults d ++ repeat_faults d)
+from_relays d = relays_faults d ++ (slave_faults d ++ (repeat_faults d ++ name_faults d))
 
-abbrev from_limits : Members → Faults
-from_limits d = limits_faults d ++ (mounts_faults d ++ from_relays d)
+abbrev from_web : Members → Faults
+from_web d = web_faults d ++ (mounts_faults d ++ from_relays d)
 
 -- some rows, and more rows behind them whose first fault is known
 before_more : (xs ys : Faults) (y : Option SettingsFault) → first_fault ys ≡ y → first_fault (xs ++ ys) ≡ option_or (first_fault xs) y
 before_more xs ys y known = first_fault-append xs ys ∙ ap (option_or (first_fault xs)) known
 
 abbrev basics : Members → Faults
-basics d = access_fault d ∷ listen_table_fault d ∷ limits_table_fault d ∷ []
+basics d = access_fault d ∷ listen_table_fault d ∷ limits_table_fault d ∷ web_table_fault d ∷ []
 
 -- two tables in one
 basics_grouped : (d : Members) → first_fault (basics d) ≡ basics_fault d
 unfolding basics_fault listen_and_limits_fault
-basics_grouped d = ap (option_or (access_fault d)) (in_one (listen_table_fault d ∷ limits_table_fault d ∷ []))
+basics_grouped d = ap (option_or (access_fault d)) (first_fault-append (listen_table_fault d ∷ limits_table_fault d ∷ []) (web_table_fault d ∷ []))
 
 abbrev lists : Members → Faults
 lists d = mounts_fault d ∷ relays_fault d ∷ optional_slave_fault d ∷ []
 
 -- the rows of a whole document have the first fault that its parts have
-first_of_parts : (d : Members) → first_fault (document_faults d) ≡ first_fault (basics d ++ (lists d ++ repeat_faults d))
-unfolding document_faults access_fault listen_table_fault limits_table_fault mounts_fault relays_fault optional_slave_fault
+first_of_parts : (d : Members) → first_fault (document_faults d) ≡ first_fault (basics d ++ (lists d ++ (repeat_faults d ++ name_faults d)))
+unfolding document_faults access_fault listen_table_fault limits_table_fault web_table_fault mounts_fault relays_fault optional_slave_fault
 first_of_parts d =
-    before_more (access_faults d) (listen_faults d ++ from_limits d) _
-    (before_more (listen_faults d) (from_limits d) _
-    (before_more (limits_faults d) (mounts_faults d ++ from_relays d) _
+    before_more (access_faults d) (listen_faults d ++ (limits_faults d ++ from_web d)) _
+    (before_more (listen_faults d) (limits_faults d ++ from_web d) _
+    (before_more (limits_faults d) (from_web d) _
+    (before_more (web_faults d) (mounts_faults d ++ from_relays d) _
     (before_more (mounts_faults d) (from_relays d) _
-    (before_more (relays_faults d) (slave_faults d ++ repeat_faults d) _
-    (before_more (slave_faults d) (repeat_faults d) _ refl)))))
+    (before_more (relays_faults d) (slave_faults d ++ (repeat_faults d ++ name_faults d)) _
+    (before_more (slave_faults d) (repeat_faults d ++ name_faults d) _ refl))))))
+
+abbrev from_streams : Members → Option SettingsFault
+from_streams d =
+    first_fault (first_fault (first_fault (lists d) ∷ first_fault (repeat_faults d) ∷ []) ∷ first_fault (name_faults d) ∷ [])
 
 pub first_of_document : (d : Members) → first_fault (document_faults d) ≡ fault_by_parts d
-unfolding lists_fault apart_fault streams_fault
+unfolding lists_fault apart_fault named_fault web_names_fault streams_fault
 first_of_document d =
     first_of_parts d
-    ∙ in_groups (basics d) (lists d) (repeat_faults d)
-    ∙ ap (λ f. option_or f (first_fault (first_fault (first_fault (lists d) ∷ first_fault (repeat_faults d) ∷ []) ∷ []))) (basics_grouped d)
+    ∙ in_nested_groups (basics d) (lists d) (repeat_faults d) (name_faults d)
+    ∙ ap (λ f. option_or f (first_fault (from_streams d ∷ []))) (basics_grouped d)
 
 -- what a text comes to, by what its parts come to
 pub reads_no_toml : (text : List ℕ) → parse_document text ≡ None → reading_of text ≡ Err NotToml

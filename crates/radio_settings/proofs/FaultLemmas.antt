@@ -1,5 +1,5 @@
 -- The first fault of lists of tables.
-use Rattle.std.proofs.Common.{◌≡◌, ℕ, ◌+◌, ◌<◌, ◌≤◌, List, [], ◌∷◌, ◌++◌, length, take, drop, get_or, map, Option, None, Some, refl, ap, sym, ◌∙◌}
+use Rattle.std.proofs.Common.{◌≡◌, ℕ, ◌+◌, ◌<◌, ◌≤◌, List, [], ◌∷◌, ◌++◌, length, take, drop, get_or, map, Option, None, Some, refl, ap, sym, ◌∙◌, append_assoc}
 use Rattle.std.proofs.lemmas.List.{drop_all, drop_more, map_more, get_or-map}
 use Rattle.std.specs.List.{flat_map}
 use Rattle.std.specs.Option.{option_or}
@@ -39,6 +39,18 @@ in_four a b c d = first_fault-append a (b ++ (c ++ d)) ∙ ap (option_or (first_
 -- a group, and two groups in one
 pub in_groups : (a b c : Faults) → first_fault (a ++ (b ++ c)) ≡ first_fault (first_fault a ∷ first_fault (first_fault b ∷ first_fault c ∷ []) ∷ [])
 in_groups a b c = first_fault-append a (b ++ c) ∙ ap (option_or (first_fault a)) (in_two b c ∙ or_none _)
+
+-- a group, and two groups in one with a third
+pub in_nested_groups : (a b c d : Faults)
+    → first_fault (a ++ (b ++ (c ++ d)))
+    ≡ first_fault (first_fault a ∷ first_fault (first_fault (first_fault b ∷ first_fault c ∷ []) ∷ first_fault d ∷ []) ∷ [])
+in_nested_groups a b c d =
+    first_fault-append a (b ++ (c ++ d))
+    ∙ ap (option_or (first_fault a))
+    (ap first_fault (sym (append_assoc b c d))
+    ∙ in_two (b ++ c) d
+    ∙ ap (λ f. first_fault (f ∷ first_fault d ∷ [])) (in_two b c)
+    ∙ or_none _)
 
 -- the first fault of the same rows in some tables
 abbrev pub first_of : List Row → List Members → Option SettingsFault

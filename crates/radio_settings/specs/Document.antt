@@ -4,7 +4,7 @@ use Rattle.std.specs.List.{flat_map}
 use Rattle.std.specs.Option.{option_map, option_map_or}
 use Rattle.toml.specs.Data.{Members, no_members}
 use Rattle.toml.specs.Parse.{parse_document}
-use Rattle.radio_settings.specs.declared.key.Key.TheVariants.{Listen, Limits, Mount, Relay, Slave}
+use Rattle.radio_settings.specs.declared.key.Key.TheVariants.{Listen, Limits, Web, Mount, Relay, Slave}
 use Rattle.radio_settings.specs.declared.fault.SettingsFault.{SettingsFault}
 use Rattle.radio_settings.specs.declared.fault.SettingsFault.TheVariants.{NotToml, MountTwice}
 use Rattle.radio_settings.specs.declared.settings.MountSetting.{MountSetting}
@@ -16,6 +16,8 @@ use Rattle.radio_settings.specs.Repeats.{first_repeat}
 use Rattle.radio_settings.specs.Access.{access_rows, access_of}
 use Rattle.radio_settings.specs.Listen.{listen_rows, listen_of}
 use Rattle.radio_settings.specs.Limits.{limit_rows, limits_of}
+use Rattle.radio_settings.specs.Web.{web_rows, web_of}
+use Rattle.radio_settings.specs.WebNames.{web_name_faults}
 use Rattle.radio_settings.specs.Mounts.{mount_rows, options_of, mounts_of}
 use Rattle.radio_settings.specs.Relays.{relay_rows, relays_of}
 use Rattle.radio_settings.specs.Slave.{slave_rows, slave_of}
@@ -29,6 +31,9 @@ listen_faults document = table_fault Listen document ∷ faults_in listen_rows (
 
 abbrev pub limits_faults : Members → List (Option SettingsFault)
 limits_faults document = table_fault Limits document ∷ faults_in limit_rows (table_or_empty Limits document)
+
+abbrev pub web_faults : Members → List (Option SettingsFault)
+web_faults document = table_fault Web document ∷ faults_in web_rows (table_or_empty Web document)
 
 -- a list of tables: its name comes before the keys of all, and the tables follow one after the other
 abbrev pub mounts_faults : Members → List (Option SettingsFault)
@@ -60,6 +65,7 @@ settings_of document =
       access = access;
       listen = listen_of (table_or_empty Listen document);
       limits = limits;
+      web = web_of (table_or_empty Web document);
       mounts = mounts_of access limits document;
       other_mounts = options_of access limits no_members;
       relays = relays_of document;
@@ -72,16 +78,22 @@ repeat_faults document =
     ∷ repeat_fault (local_mounts (settings_of document).relays)
     ∷ []
 
+-- names that are paths of the web site
+abbrev pub name_faults : Members → List (Option SettingsFault)
+name_faults document = web_name_faults (settings_of document).web (settings_of document).mounts (settings_of document).relays
+
 -- every row of the table for a document, in its order, with the fault that it finds there
 unfoldable pub document_faults : Members → List (Option SettingsFault)
 document_faults document =
     access_faults document
     ++ (listen_faults document
     ++ (limits_faults document
+    ++ (web_faults document
     ++ (mounts_faults document
     ++ (relays_faults document
     ++ (slave_faults document
-    ++ repeat_faults document)))))
+    ++ (repeat_faults document
+    ++ name_faults document)))))))
 
 -- the settings, if there is no fault
 abbrev pub settings_or_fault : Members → Option SettingsFault → Result Settings SettingsFault

@@ -3,7 +3,7 @@ use Rattle.std.specs.Prelude.{ℕ, List, [], codes}
 use Rattle.radio_settings.specs.declared.key.Key.{Key}
 use Rattle.radio_settings.specs.declared.key.Key.TheVariants.{SourcePassword, AdminUser, AdminPassword, RelayUser, RelayPassword, DenyIp, AllowIp, Listen}
 use Rattle.radio_settings.specs.declared.key.Key.TheVariants.{Address, Port, Workers, Limits, Clients, Sources, QueueSize, BurstSize, SourceTimeout}
-use Rattle.radio_settings.specs.declared.key.Key.TheVariants.{HeaderTimeout, Mount, MountName, Username, Password, MaxListeners, MaxListenerDuration}
+use Rattle.radio_settings.specs.declared.key.Key.TheVariants.{HeaderTimeout, Web, AllowOrigin, IcecastStatus, Page, Mount, MountName, Username, Password, MaxListeners, MaxListenerDuration}
 use Rattle.radio_settings.specs.declared.key.Key.TheVariants.{FallbackMount, FallbackOverride, FallbackWhenFull, Hidden, Mp3MetadataInterval, StreamName, Genre}
 use Rattle.radio_settings.specs.declared.key.Key.TheVariants.{Htpasswd, AllowDuplicateUsers, Relay, Server, LocalMount, OnDemand, Slave, MasterServer}
 use Rattle.radio_settings.specs.declared.key.Key.TheVariants.{MasterPort, MasterUsername, MasterPassword, MasterUpdateInterval}
@@ -57,4 +57,8 @@ word QueueSize = codes "queue-size"
 word BurstSize = codes "burst-size"
 word SourceTimeout = codes "source-timeout"
 word HeaderTimeout = codes "header-timeout"
+word Web = codes "web"
+word AllowOrigin = codes "allow-origin"
+word IcecastStatus = codes "icecast-status"
+word Page = codes "page"
 word key = stream_word key

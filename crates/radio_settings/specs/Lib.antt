@@ -3,6 +3,7 @@ pub mod MountName
 pub mod MountNameInside
 pub mod Field
 pub mod Shown
+pub mod AllowedOrigin
 pub mod Lookup
 pub mod Rows
 pub mod Logins
@@ -10,10 +11,12 @@ pub mod Masters
 pub mod Access
 pub mod Listen
 pub mod Limits
+pub mod Web
 pub mod Mounts
 pub mod Relays
 pub mod Slave
 pub mod Repeats
+pub mod WebNames
 pub mod Places
 pub mod Document
 pub mod Parts

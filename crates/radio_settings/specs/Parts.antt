@@ -2,7 +2,7 @@
 use Rattle.std.specs.Prelude.{List, [], ◌∷◌, Option}
 use Rattle.std.specs.Option.{option_map}
 use Rattle.toml.specs.Data.{Members, no_members}
-use Rattle.radio_settings.specs.declared.key.Key.TheVariants.{Listen, Limits, Slave}
+use Rattle.radio_settings.specs.declared.key.Key.TheVariants.{Listen, Limits, Slave, Web}
 use Rattle.radio_settings.specs.declared.fault.SettingsFault.{SettingsFault}
 use Rattle.radio_settings.specs.declared.reading.document.Basics.{Basics}
 use Rattle.radio_settings.specs.declared.reading.document.NamedStreams.{NamedStreams}
@@ -15,7 +15,7 @@ use Rattle.radio_settings.specs.declared.settings.RelaySetting.{RelaySetting}
 use Rattle.radio_settings.specs.declared.settings.Settings.{Settings}
 use Rattle.radio_settings.specs.declared.settings.SlaveSetting.{SlaveSetting}
 use Rattle.radio_settings.specs.Access.{access_fault, access_of}
-use Rattle.radio_settings.specs.Document.{limits_faults, listen_faults, local_mounts, mount_names, mounts_faults, relays_faults, repeat_fault, slave_faults}
+use Rattle.radio_settings.specs.Document.{limits_faults, listen_faults, local_mounts, mount_names, mounts_faults, relays_faults, repeat_fault, slave_faults, web_faults}
 use Rattle.radio_settings.specs.Limits.{limits_of}
 use Rattle.radio_settings.specs.Listen.{listen_of}
 use Rattle.radio_settings.specs.Lookup.{table_at, table_or_empty}
@@ -23,6 +23,8 @@ use Rattle.radio_settings.specs.Mounts.{mounts_of, options_of}
 use Rattle.radio_settings.specs.Relays.{relays_of}
 use Rattle.radio_settings.specs.Rows.{first_fault}
 use Rattle.radio_settings.specs.Slave.{slave_of}
+use Rattle.radio_settings.specs.Web.{web_of}
+use Rattle.radio_settings.specs.WebNames.{web_names_fault}
 
 -- the first fault of a table, and of its name
 unfoldable pub listen_table_fault : Members → Option SettingsFault
@@ -31,7 +33,10 @@ listen_table_fault document = first_fault (listen_faults document)
 unfoldable pub limits_table_fault : Members → Option SettingsFault
 limits_table_fault document = first_fault (limits_faults document)
 
--- the two tables
+unfoldable pub web_table_fault : Members → Option SettingsFault
+web_table_fault document = first_fault (web_faults document)
+
+-- the first two tables
 unfoldable pub listen_and_limits_fault : Members → Option SettingsFault
 listen_and_limits_fault document = first_fault (listen_table_fault document ∷ limits_table_fault document ∷ [])
 
@@ -45,15 +50,16 @@ listen_with listen limits = record { listen = listen; limits = limits }
 abbrev pub listen_and_limits_of : Members → ListenAndLimits
 listen_and_limits_of document = listen_with (listen_of (table_or_empty Listen document)) (limits_of (table_or_empty Limits document))
 
--- the keys above all tables, `[listen]` and `[limits]`
+-- the keys above all tables, `[listen]`, `[limits]` and `[web]`
 unfoldable pub basics_fault : Members → Option SettingsFault
-basics_fault document = first_fault (access_fault document ∷ listen_and_limits_fault document ∷ [])
+basics_fault document = first_fault (access_fault document ∷ listen_and_limits_fault document ∷ web_table_fault document ∷ [])
 
 abbrev pub basics_of : Members → Basics
 basics_of document = record {
   access = access_of document;
   listen = listen_of (table_or_empty Listen document);
   limits = limits_of (table_or_empty Limits document);
+  web = web_of (table_or_empty Web document);
 }
 
 -- the first fault of a list of tables, and of a table some keys of which must be there
@@ -82,10 +88,17 @@ listed_in access limits document =
 unfoldable pub apart_fault : List MountSetting → List RelaySetting → Option SettingsFault
 apart_fault mounts relays = first_fault (repeat_fault (mount_names mounts) ∷ repeat_fault (local_mounts relays) ∷ [])
 
--- the tables of streams, and then their names
-unfoldable pub streams_fault : AccessSettings → LimitSettings → Members → Option SettingsFault
-streams_fault access limits document =
+-- the tables of streams, and then the names that stand twice
+unfoldable pub named_fault : AccessSettings → LimitSettings → Members → Option SettingsFault
+named_fault access limits document =
     first_fault (lists_fault document ∷ apart_fault (mounts_of access limits document) (relays_of document) ∷ [])
+
+-- and then the names that are paths of the web site
+unfoldable pub streams_fault : Basics → Members → Option SettingsFault
+streams_fault basics document =
+    first_fault (named_fault basics.access basics.limits document
+    ∷ web_names_fault basics.web (mounts_of basics.access basics.limits document) (relays_of document)
+    ∷ [])
 
 abbrev pub streams_of : Basics → Members → Streams
 streams_of basics document = record {
@@ -98,6 +111,7 @@ settings_with basics streams = record {
   access = basics.access;
   listen = basics.listen;
   limits = basics.limits;
+  web = basics.web;
   mounts = streams.named.mounts;
   other_mounts = streams.other_mounts;
   relays = streams.named.relays;
@@ -107,4 +121,4 @@ settings_with basics streams = record {
 -- the first fault of a document, by the first faults of its parts
 abbrev pub fault_by_parts : Members → Option SettingsFault
 fault_by_parts document =
-    first_fault (basics_fault document ∷ streams_fault (access_of document) (limits_of (table_or_empty Limits document)) document ∷ [])
+    first_fault (basics_fault document ∷ streams_fault (basics_of document) document ∷ [])

@@ -5,6 +5,7 @@ use Rattle.toml.specs.Data.{Data, Members, as_str, as_integer, as_bool, as_table
 use Rattle.radio_settings.specs.declared.key.Key.{Key}
 use Rattle.radio_settings.specs.declared.fault.SettingsFault.{SettingsFault}
 use Rattle.radio_settings.specs.declared.fault.SettingsFault.TheVariants.{Missing, WrongKind, OutOfRange, BadName}
+use Rattle.radio_settings.specs.AllowedOrigin.{is_allowed_origin}
 use Rattle.radio_settings.specs.MountName.{is_mount_name}
 use Rattle.radio_settings.specs.Lookup.{value_at, natural, list_at}
 
@@ -17,6 +18,8 @@ pub data Kind : Type 0 where
   -- a flag that may not be true yet
   no_flag : Kind
   mount_name : Kind
+  -- what may stand in `Access-Control-Allow-Origin`
+  origin : Kind
 
 -- whether a key must be there
 pub data Need : Type 0 where
@@ -55,6 +58,7 @@ value_fault (number low high) key d = fault_as key (as_integer d) (λ z. unless 
 value_fault flag key d = fault_as key (as_bool d) (λ _. None)
 value_fault no_flag key d = fault_as key (as_bool d) (λ is_on. unless (not is_on) (OutOfRange key))
 value_fault mount_name key d = fault_as key (as_str d) (λ name. unless (is_mount_name name) (BadName key))
+value_fault origin key d = fault_as key (as_str d) (λ text. unless (is_allowed_origin text) (OutOfRange key))
 
 -- the key must be there
 abbrev pub is_needed : Need → Members → Bool

@@ -25,6 +25,10 @@ pub enum Key {
     BurstSize,
     SourceTimeout,
     HeaderTimeout,
+    Web,
+    AllowOrigin,
+    IcecastStatus,
+    Page,
     /// The list of mounts, and what a relay pulls.
     Mount,
     MountName,
@@ -78,6 +82,10 @@ impl Key {
             Key::BurstSize => "burst-size",
             Key::SourceTimeout => "source-timeout",
             Key::HeaderTimeout => "header-timeout",
+            Key::Web => "web",
+            Key::AllowOrigin => "allow-origin",
+            Key::IcecastStatus => "icecast-status",
+            Key::Page => "page",
             _ => self.stream_word(),
         }
     }

@@ -5,7 +5,7 @@
 ghost use Rattle.std.specs.Prelude.{◌≡◌, ◌↔◌, ℕ, List, Ok, Err, Some, None, codes};
 ghost use Rattle.radio_settings.specs.declared.fault.SettingsFault.{SettingsFault};
 ghost use Rattle.radio_settings.specs.declared.fault.SettingsFault.TheVariants.{BadName, Missing, MountTwice, NotToml, OutOfRange, WrongKind};
-ghost use Rattle.radio_settings.specs.declared.key.Key.TheVariants.{SourcePassword, Listen, Port, Mount, MountName};
+ghost use Rattle.radio_settings.specs.declared.key.Key.TheVariants.{SourcePassword, Listen, Port, AllowOrigin, Mount, MountName};
 ghost use Rattle.radio_settings.specs.declared.settings.Settings.{Settings};
 ghost use Rattle.radio_settings.specs.Document.{reading_of};
 ghost use Rattle.radio_settings.specs.Repeats.{first_repeat};
@@ -37,4 +37,8 @@ pub fn worked_texts()
     ensures twice { reading_of
         (codes "source-password = \"a\"\nadmin-password = \"b\"\n[[mount]]\nmount-name = \"/a\"\n[[mount]]\nmount-name = \"/a\"")
         ≡ Err (MountTwice (codes "/a")) }
+    ensures two_words { reading_of (codes "source-password = \"a\"\nadmin-password = \"b\"\n[web]\nallow-origin = \"a b\"") ≡ Err (OutOfRange AllowOrigin) }
+    ensures at_the_page { reading_of
+        (codes "source-password = \"a\"\nadmin-password = \"b\"\n[web]\npage = true\n[[mount]]\nmount-name = \"/\"")
+        ≡ Err (BadName MountName) }
 {}

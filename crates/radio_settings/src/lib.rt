@@ -4,11 +4,13 @@
 //!   `docs/FORMATS.md`: a [`SettingsFault`] that names a [`Key`].
 //! - [`MountName`] is the name of a mount, and [`Within`] a number with its range.
 //! - [`Text`] is a text as it stands in the settings; [`Field`] and [`Shown`] are what heads show, cleaned.
+//! - [`WebSettings`] is the table `[web]`: which paths the web site has, and what [`AllowedOrigin`] its answers name.
 //! - [`laws`] says what holds of every text.
 //!
 //! Each table of the text has a file under `reading`, and one under `specs` with its keys, ranges and defaults.
 #![tactic(auto)]
 
+mod allowed_origin;
 mod fault;
 mod field;
 mod key;
@@ -20,8 +22,10 @@ mod places;
 mod reading;
 mod settings;
 mod text;
+mod web;
 mod within;
 
+pub use allowed_origin::{AllowedOrigin, MAX_ORIGIN};
 pub use fault::SettingsFault;
 pub use field::{Field, Shown};
 pub use key::Key;
@@ -33,6 +37,7 @@ pub use settings::{
     SlaveSetting, SomeBytes, StreamOptions, UserOptions,
 };
 pub use text::Text;
+pub use web::{WebPath, WebSettings};
 pub use within::Within;
 
 /// The error of each call that takes memory: there was none.

@@ -10,3 +10,4 @@ mod relays;
 mod slave;
 mod tables;
 mod values;
+mod web;

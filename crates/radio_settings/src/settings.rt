@@ -1,6 +1,6 @@
 //! The settings, table by table. Keys are named and meant as in the Icecast 2.4 documentation, where it has them.
 
-use crate::{Field, MountName, MountSettings, RelaySettings, Text, Within};
+use crate::{Field, MountName, MountSettings, RelaySettings, Text, WebSettings, Within};
 
 /// A number of bytes, from 1 to 2^30.
 pub type SomeBytes = Within<1, 1_073_741_824>;
@@ -23,6 +23,8 @@ pub struct Settings {
     pub listen: ListenSettings,
     /// The table `[limits]`.
     pub limits: LimitSettings,
+    /// The table `[web]`.
+    pub web: WebSettings,
     /// The tables `[[mount]]`.
     pub mounts: MountSettings,
     /// What holds for a mount that has no table.

@@ -1,7 +1,8 @@
 //! Every key given once and read back, and every default.
 
 use radio_settings::{
-    Field, Login, MountName, MountOptions, RelaySetting, Settings, SlaveSetting, Text, Within,
+    Field, Login, MountName, MountOptions, RelaySetting, Settings, SlaveSetting, Text, WebPath,
+    WebSettings, Within,
 };
 use std::alloc::Global;
 
@@ -24,6 +25,10 @@ queue-size = 5
 burst-size = 6
 source-timeout = 7
 header-timeout = 8
+[web]
+allow-origin = \"*\"
+icecast-status = true
+page = true
 [[mount]]
 mount-name = \"/a\"
 username = \"mu\"
@@ -70,13 +75,16 @@ master-server = \"m\"
 master-password = \"spw\"
 ";
 
-/// What a text sets, with `-` for what is absent and 0 for no limit: of the mount `/a`, of the mount `/b`, which has no
-/// table, and of the relay that feeds `/e`.
+/// What a text sets, with `-` for what is absent and 0 for no limit: for the whole station, of the mount `/a`, of the mount
+/// `/b`, which has no table, and of the relay that feeds `/e`.
 struct Station {
     /// The texts above all tables, and the address.
     texts: [&'static str; 8],
     /// The numbers of `[listen]` and of `[limits]`.
     numbers: [u32; 8],
+    /// Whose pages may read, and what `/status-json.xsl` and `/` name.
+    origin: &'static [u8],
+    paths: [Option<WebPath>; 2],
     mount: Mount,
     other_mount: Mount,
     relay: [&'static str; 5],
@@ -95,6 +103,8 @@ struct Mount {
 const EVERY_KEY_SET: Station = Station {
     texts: ["sp", "au", "ap", "ru", "rp", "d", "a", "::"],
     numbers: [1, 2, 3, 4, 5, 6, 7, 8],
+    origin: b"*",
+    paths: [Some(WebPath::IcecastStatus), Some(WebPath::Page)],
     mount: Mount {
         texts: ["mu", "mp", "/b", "Night", "Talk", "h"],
         numbers: [9, 10, 11, 12],
@@ -120,6 +130,8 @@ const DEFAULT_MOUNT: Mount = Mount {
 const DEFAULTS: Station = Station {
     texts: ["sp", "admin", "ap", "relay", "-", "-", "-", "127.0.0.1"],
     numbers: [8000, 4, 100, 2, 524_288, 65_536, 10, 15],
+    origin: b"-",
+    paths: [None, None],
     mount: DEFAULT_MOUNT,
     other_mount: DEFAULT_MOUNT,
     relay: ["s", "/e", "/e", "-", "-"],
@@ -241,9 +253,27 @@ fn is_shared(text: &Text) -> bool {
     }
 }
 
-/// Whether the keys above all tables, `[listen]` and `[limits]` are as wanted.
+fn origin_or_dash(web: &WebSettings) -> &[u8] {
+    match &web.allow_origin {
+        Some(origin) => origin.as_bytes(),
+        None => b"-",
+    }
+}
+
+/// Whether the web site is as wanted, and no other path is one of it.
+fn is_web(web: &WebSettings, want: &Station) -> bool {
+    origin_or_dash(web) == want.origin
+        && [web.path(b"/status-json.xsl"), web.path(b"/")] == want.paths
+        && web.has(b"/") == web.page
+        && !web.has(b"/status.json")
+        && !web.has(b"")
+}
+
+/// Whether the keys above all tables, `[listen]`, `[limits]` and `[web]` are as wanted.
 fn has_basics(settings: &Settings, want: &Station) -> bool {
-    basic_texts(settings) == want.texts && basic_numbers(settings) == want.numbers
+    basic_texts(settings) == want.texts
+        && basic_numbers(settings) == want.numbers
+        && is_web(&settings.web, want)
 }
 
 fn is_mount(options: &MountOptions, want: &Mount) -> bool {

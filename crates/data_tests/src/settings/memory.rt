@@ -7,6 +7,8 @@ use std::alloc::Global;
 const STATION: &str = "
 source-password = \"a\"
 admin-password = \"b\"
+[web]
+allow-origin = \"http://a\"
 [[mount]]
 mount-name = \"/a\"
 stream-name = \"Night\"

@@ -3,7 +3,7 @@ ghost use Rattle.std.specs.Prelude.{◌≡◌, ◌≢◌, Ok, Err, IfOk, IfErr, 
 ghost use Rattle.toml.specs.Parse.{parse_document};
 ghost use Rattle.toml.specs.View.{table_view};
 ghost use Rattle.radio_settings.specs.Document.{reading_of, settings_of};
-ghost use Rattle.radio_settings.specs.Parts.{apart_fault, basics_fault, basics_of, fault_by_parts, listed, listed_in, listen_and_limits_fault};
+ghost use Rattle.radio_settings.specs.Parts.{apart_fault, basics_fault, basics_of, fault_by_parts, listed, listed_in, listen_and_limits_fault, named_fault};
 ghost use Rattle.radio_settings.specs.Parts.{listen_and_limits_of, listen_with, lists_fault, optional_slave_fault, settings_with, streams_fault, streams_of};
 ghost use Rattle.radio_settings.specs.Lookup.{table_at};
 ghost use Rattle.radio_settings.specs.Slave.{slave_of};
@@ -18,9 +18,10 @@ use super::mounts::{default_options, mounts};
 use super::relays::relays;
 use super::slave::slave;
 use super::tables::table_at;
+use super::web::{names_fault, web};
 use crate::{
     AccessSettings, Key, LimitSettings, ListenSettings, MountOptions, MountSetting, MountSettings,
-    RelaySetting, RelaySettings, Settings, SettingsFault, SlaveSetting,
+    RelaySetting, RelaySettings, Settings, SettingsFault, SlaveSetting, WebSettings,
 };
 use std::alloc::Global;
 use toml::Table;
@@ -29,8 +30,9 @@ impl Settings {
     /// The settings of a text in TOML, or its first fault.
     ///
     /// Faults are looked for in this order: the text is not TOML; then the keys above all tables, `[listen]`,
-    /// `[limits]`, each `[[mount]]`, each `[[relay]]` and `[slave]`, each by the rows of its table in
-    /// `docs/FORMATS.md`, its name before its keys; then a name that two mounts have, and one that two relays feed.
+    /// `[limits]`, `[web]`, each `[[mount]]`, each `[[relay]]` and `[slave]`, each by the rows of its table in
+    /// `docs/FORMATS.md`, its name before its keys; then a name that two mounts have, one that two relays feed, and one
+    /// that is a path of the web site.
     /// Keys and tables that are not in the table are passed over.
     ///
     /// `Err(SettingsFault::OutOfMemory)` means that memory ran out, and says nothing of the text.
@@ -78,6 +80,7 @@ struct Basics {
     access: AccessSettings,
     listen: ListenSettings,
     limits: LimitSettings,
+    web: WebSettings,
 }
 
 impl Basics {
@@ -90,6 +93,7 @@ impl Basics {
             access: self.access,
             listen: self.listen,
             limits: self.limits,
+            web: self.web,
             mounts: named.mounts,
             other_mounts: streams.other_mounts,
             relays: named.relays,
@@ -98,7 +102,7 @@ impl Basics {
     }
 }
 
-/// The keys above all tables, `[listen]` and `[limits]`.
+/// The keys above all tables, `[listen]`, `[limits]` and `[web]`.
 #[tactic(auto, unfolding(crate::specs::Parts::basics_fault))]
 fn read_basics(alloc: Global, document: &Table) -> Result<Basics, SettingsFault>
     ensures { let d = table_view document.now in
@@ -106,10 +110,12 @@ fn read_basics(alloc: Global, document: &Table) -> Result<Basics, SettingsFault>
 {
     let access = access(alloc, document)?;
     let (listen, limits) = listen_and_limits(alloc, document)?;
+    let web = web(alloc, document)?;
     Ok(Basics {
         access,
         listen,
         limits,
+        web,
     })
 }
 
@@ -135,9 +141,9 @@ struct Streams {
 
 fn read_streams(alloc: Global, document: &Table, basics: &Basics) -> Result<Streams, SettingsFault>
     ensures { let d = table_view document.now in
-        Reads (streams_fault basics.now.access basics.now.limits d) (streams_of basics.now d) result }
+        Reads (streams_fault basics.now d) (streams_of basics.now d) result }
 {
-    let named = read_named(alloc, document, &basics.access, &basics.limits)?;
+    let named = read_named(alloc, document, basics)?;
     let other_mounts = default_options(alloc, &basics.access, &basics.limits)?;
     Ok(Streams {
         named,
@@ -153,16 +159,37 @@ struct NamedStreams {
     slave: Option<SlaveSetting>,
 }
 
-/// The mounts, the relays and `[slave]`; then the names that stand twice.
-#[tactic(auto, unfolding(crate::specs::Parts::streams_fault, crate::specs::Parts::apart_fault))]
+/// The mounts, the relays and `[slave]`; then the names that stand twice, and those that are paths of the web site.
+#[tactic(auto, unfolding(crate::specs::Parts::streams_fault))]
 fn read_named(
+    alloc: Global,
+    document: &Table,
+    basics: &Basics,
+) -> Result<NamedStreams, SettingsFault>
+    ensures { let d = table_view document.now in
+        Reads (streams_fault basics.now d) (listed_in basics.now.access basics.now.limits d) result }
+{
+    let named = read_apart(alloc, document, &basics.access, &basics.limits)?;
+    match names_fault(
+        &basics.web,
+        named.mounts.as_slice(),
+        named.relays.as_slice(),
+    ) {
+        Some(fault) => Err(fault),
+        None => Ok(named),
+    }
+}
+
+/// The mounts, the relays and `[slave]`; then the names that stand twice.
+#[tactic(auto, unfolding(crate::specs::Parts::named_fault, crate::specs::Parts::apart_fault))]
+fn read_apart(
     alloc: Global,
     document: &Table,
     access: &AccessSettings,
     limits: &LimitSettings,
 ) -> Result<NamedStreams, SettingsFault>
     ensures { let d = table_view document.now in
-        Reads (streams_fault access.now limits.now d) (listed_in access.now limits.now d) result }
+        Reads (named_fault access.now limits.now d) (listed_in access.now limits.now d) result }
 {
     let lists = read_lists(alloc, document, access, limits)?;
     let (mounts, relays) = apart(alloc, lists.mounts, lists.relays)?;

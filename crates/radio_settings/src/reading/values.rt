@@ -5,10 +5,10 @@ ghost use Rattle.std.specs.Prelude.{◌≡◌, ◌≤◌, IfOk, codes, [], false
 ghost use Rattle.std.specs.Option.{option_copied, option_map};
 ghost use Rattle.toml.specs.View.{view, table_view};
 ghost use Rattle.radio_settings.specs.Lookup.{value_at, text_at, text_or, field_at, field_or_empty, number_at, number_or, flag_or, natural};
-ghost use Rattle.radio_settings.specs.Rows.{text, number, flag, no_flag, mount_name, required, optional, required_with, row, fault_at, is_between};
+ghost use Rattle.radio_settings.specs.Rows.{text, number, flag, no_flag, mount_name, origin, required, optional, required_with, row, fault_at, is_between};
 ghost use Rattle.radio_settings.specs.Reading.{Reads, ReadsAs};
 
-use crate::{Field, Key, MountName, SettingsFault, Text, Within};
+use crate::{AllowedOrigin, Field, Key, MountName, SettingsFault, Text, Within};
 use std::alloc::Global;
 use toml::{Table, Value};
 
@@ -112,6 +112,24 @@ pub fn required_field(alloc: Global, table: &Table, key: Key) -> Result<Field, S
 {
     let text = read_required_text(table, key)?;
     Ok(Field::clean(alloc, text.as_bytes())?)
+}
+
+/// What may stand in `Access-Control-Allow-Origin`, at a key.
+pub fn origin(
+    alloc: Global,
+    table: &Table,
+    key: Key,
+) -> Result<Option<AllowedOrigin>, SettingsFault>
+    ensures { let t = table_view table.now in
+        Reads (fault_at (row key origin optional) t) (text_at key t) result }
+{
+    let Some(text) = read_text(table, key)? else {
+        return Ok(None);
+    };
+    match AllowedOrigin::read(alloc, text)? {
+        Some(origin) => Ok(Some(origin)),
+        None => Err(SettingsFault::OutOfRange { key }),
+    }
 }
 
 /// The number at a key.

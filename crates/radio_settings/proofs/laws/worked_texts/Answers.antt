@@ -33,3 +33,11 @@ returns-clause-bad_name c = refl
 pub returns-clause-twice : goal.returns-clause-twice
 unfolding on_literals
 returns-clause-twice c = refl
+
+pub returns-clause-two_words : goal.returns-clause-two_words
+unfolding on_literals
+returns-clause-two_words c = refl
+
+pub returns-clause-at_the_page : goal.returns-clause-at_the_page
+unfolding on_literals
+returns-clause-at_the_page c = refl
