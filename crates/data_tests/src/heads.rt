@@ -3,6 +3,7 @@
 mod answers;
 mod requests;
 mod responses;
+mod web_answers;
 
 use radio_heads::{HeadFault, Progress};
 

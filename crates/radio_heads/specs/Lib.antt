@@ -6,3 +6,4 @@ pub mod Laws
 pub mod Reading
 pub mod Response
 pub mod Search
+pub mod WebAnswer

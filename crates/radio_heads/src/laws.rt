@@ -2,6 +2,7 @@
 ghost use Rattle.radio_heads.specs.Head.{ShowsRequest};
 ghost use Rattle.radio_heads.specs.Response.{ShowsResponse};
 ghost use Rattle.radio_heads.specs.Laws.{ReadingsAgree, IsSettled, HeadsLieWithin, FrontsAreUnfinished, RequestsAreFound, ResponsesAreFound};
+ghost use Rattle.radio_heads.specs.WebAnswer.{IsUnchanged};
 ghost use Rattle.radio_heads.specs.Laws.{ListenerIsReadBack, ShortListenerIsReadBack, DenialIsReadBack, TextIsReadBack};
 
 /// Two readings of the same bytes are equal, or both are faults.
@@ -43,4 +44,9 @@ pub fn answers_read_back()
     ensures short { ShortListenerIsReadBack }
     ensures denial { DenialIsReadBack }
     ensures text { TextIsReadBack }
+{}
+
+/// Where nothing is said of origins, `write_web_answer` writes a stream and a text as `write_answer` does.
+pub fn unsaid_origins_change_nothing()
+    ensures { IsUnchanged }
 {}

@@ -9,6 +9,7 @@
 //!   first bytes hold no end of a head.
 //! - [`write_answer`]: the text of each answer that the server gives. Values from outside stand in its headers as
 //!   [`FieldValue`]s, which hold no line end.
+//! - [`write_web_answer`]: the text of each answer that the pages of web sites read.
 //!
 //! Laws for callers, which run no code:
 //!
@@ -17,6 +18,7 @@
 //! - [`fronts_are_unfinished`]: what gives `More` gave `More` before its last bytes came.
 //! - [`heads_are_found`]: no head of the grammar is lost.
 //! - [`answers_read_back`]: what is written is read back.
+//! - [`unsaid_origins_change_nothing`]: answers for web sites are the others', where nothing is said of origins.
 #![tactic(auto)]
 
 mod answer;
@@ -28,6 +30,7 @@ mod outcome;
 mod reading;
 mod response;
 mod search;
+mod web_answer;
 mod writing;
 
 pub use answer::{Answer, TextKind, Welcome};
@@ -36,12 +39,13 @@ pub use head::Head;
 pub use headers::MAX_HEADERS;
 pub use laws::{
     answers_read_back, fronts_are_unfinished, heads_are_found, heads_lie_within, readings_agree,
-    settled,
+    settled, unsaid_origins_change_nothing,
 };
 pub use outcome::{HeadFault, Progress};
 pub use reading::{read_request, read_request_from, read_response, read_response_from};
 pub use response::{ResponseHead, Version};
 pub use search::MAX_HEAD;
+pub use web_answer::{WebAnswer, write_web_answer};
 pub use writing::write_answer;
 
 /// No memory was left.

@@ -42,7 +42,7 @@ fn write_welcome(alloc: Global, welcome: &Welcome) -> Result<Vec<u8>, OutOfMemor
 }
 
 /// No value of it ends a line: it says what the types of the values hold, and does nothing.
-fn end_no_line(welcome: &Welcome)
+pub(crate) fn end_no_line(welcome: &Welcome)
     ensures { IsCleanWelcome welcome.now }
 {
     let _type = welcome.content_type.as_bytes();
@@ -51,7 +51,7 @@ fn end_no_line(welcome: &Welcome)
 }
 
 /// The headers that tell of the stream.
-fn push_stream(text: &mut Vec<u8>, welcome: &Welcome) -> Result<(), OutOfMemory>
+pub(crate) fn push_stream(text: &mut Vec<u8>, welcome: &Welcome) -> Result<(), OutOfMemory>
     ensures { OnOk result (text.new.items ≡ text.old.items
         ++ header_line (codes "Content-Type") welcome.now.content_type
         ++ shown_line (codes "icy-name") welcome.now.name
@@ -63,7 +63,7 @@ fn push_stream(text: &mut Vec<u8>, welcome: &Welcome) -> Result<(), OutOfMemory>
 }
 
 /// The last header, and the empty line.
-fn push_end(text: &mut Vec<u8>) -> Result<(), OutOfMemory>
+pub(crate) fn push_end(text: &mut Vec<u8>) -> Result<(), OutOfMemory>
     ensures { OnOk result (text.new.items
         ≡ text.old.items ++ header_line (codes "Connection") (codes "close") ++ line []) }
 {
@@ -130,7 +130,7 @@ fn write_sized_head(
 }
 
 #[tactic(auto, unfolding(crate::specs::Answer::status_line))]
-fn push_status(
+pub(crate) fn push_status(
     alloc: Global,
     text: &mut Vec<u8>,
     version: &str,
@@ -154,13 +154,17 @@ fn push_shown(text: &mut Vec<u8>, name: &str, value: &FieldValue) -> Result<(), 
 }
 
 /// A header whose value comes from outside.
-fn push_value(text: &mut Vec<u8>, name: &str, value: &FieldValue) -> Result<(), OutOfMemory>
+pub(crate) fn push_value(
+    text: &mut Vec<u8>,
+    name: &str,
+    value: &FieldValue,
+) -> Result<(), OutOfMemory>
     ensures { OnOk result (text.new.items ≡ text.old.items ++ header_line name.now value.now) }
 {
     push_header(text, name, value.as_bytes())
 }
 
-fn push_interval(
+pub(crate) fn push_interval(
     alloc: Global,
     text: &mut Vec<u8>,
     interval: Option<u32>,
@@ -182,7 +186,7 @@ fn push_challenge(text: &mut Vec<u8>, status: StatusCode) -> Result<(), OutOfMem
     Ok(())
 }
 
-fn push_number(
+pub(crate) fn push_number(
     alloc: Global,
     text: &mut Vec<u8>,
     name: &str,
@@ -193,7 +197,7 @@ fn push_number(
     push_header(text, name, value.to_string(alloc)?.as_bytes())
 }
 
-fn push_header(text: &mut Vec<u8>, name: &str, value: &[u8]) -> Result<(), OutOfMemory>
+pub(crate) fn push_header(text: &mut Vec<u8>, name: &str, value: &[u8]) -> Result<(), OutOfMemory>
     ensures { OnOk result (text.new.items ≡ text.old.items ++ header_line name.now value.now) }
 {
     text.extend_from_slice(name.as_bytes())?;

@@ -1,0 +1,118 @@
+//! Answers that the pages of web sites read, and whose pages may.
+use radio_heads::{FieldValue, TextKind, WebAnswer, Welcome, write_web_answer};
+use std::alloc::Global;
+
+const STREAM: &[u8] = b"HTTP/1.0 200 OK\r\n\
+Content-Type: audio/mpeg\r\n\
+icy-name: Radio X\r\n\
+icy-metaint: 16000\r\n\
+Connection: close\r\n\
+\r\n";
+
+const STREAM_FOR_ALL: &[u8] = b"HTTP/1.0 200 OK\r\n\
+Content-Type: audio/mpeg\r\n\
+icy-name: Radio X\r\n\
+icy-metaint: 16000\r\n\
+Access-Control-Allow-Origin: *\r\n\
+Connection: close\r\n\
+\r\n";
+
+const TEXT: &[u8] = b"HTTP/1.0 200 OK\r\n\
+Content-Type: application/json\r\n\
+Content-Length: 2\r\n\
+Connection: close\r\n\
+\r\n\
+{}";
+
+const TEXT_FOR_ONE: &[u8] = b"HTTP/1.0 200 OK\r\n\
+Content-Type: application/json\r\n\
+Content-Length: 2\r\n\
+Access-Control-Allow-Origin: https://radio.example\r\n\
+Connection: close\r\n\
+\r\n\
+{}";
+
+const PAGE: &[u8] = b"HTTP/1.0 200 OK\r\n\
+Content-Type: text/html; charset=utf-8\r\n\
+Content-Length: 3\r\n\
+Content-Security-Policy: default-src 'none'\r\n\
+Connection: close\r\n\
+\r\n\
+<p>";
+
+const PAGE_FOR_ALL: &[u8] = b"HTTP/1.0 200 OK\r\n\
+Content-Type: text/html; charset=utf-8\r\n\
+Content-Length: 3\r\n\
+Content-Security-Policy: default-src 'none'\r\n\
+Access-Control-Allow-Origin: *\r\n\
+Connection: close\r\n\
+\r\n\
+<p>";
+
+fn stream<'a>() -> Option<WebAnswer<'a>> {
+    Some(WebAnswer::Stream(Welcome {
+        content_type: FieldValue::read(b"audio/mpeg")?,
+        name: FieldValue::read(b"Radio X")?,
+        genre: FieldValue::read(b"")?,
+        interval: Some(16000),
+    }))
+}
+
+fn text<'a>() -> Option<WebAnswer<'a>> {
+    Some(WebAnswer::Text {
+        kind: TextKind::Json,
+        body: b"{}",
+    })
+}
+
+fn page<'a>() -> Option<WebAnswer<'a>> {
+    Some(WebAnswer::Page {
+        policy: FieldValue::read(b"default-src 'none'")?,
+        body: b"<p>",
+    })
+}
+
+/// Whether an answer's text is this, for pages of that origin, or where nothing is said of it. Where memory was refused
+/// there is none, and `or` is told.
+fn is_text(
+    alloc: Global,
+    answer: &Option<WebAnswer>,
+    allow_origin: Option<&[u8]>,
+    want: &[u8],
+    or: bool,
+) -> bool {
+    let Some(answer) = answer else {
+        return false;
+    };
+    let allow_origin = allow_origin.and_then(|origin| FieldValue::read(origin));
+    match write_web_answer(alloc, answer, &allow_origin) {
+        Ok(text) => text.as_slice() == want,
+        Err(_) => or,
+    }
+}
+
+fn are_texts(alloc: Global, or: bool) -> bool {
+    is_text(alloc, &stream(), None, STREAM, or)
+        && is_text(alloc, &stream(), Some(b"*"), STREAM_FOR_ALL, or)
+        && is_text(alloc, &text(), None, TEXT, or)
+        && is_text(
+            alloc,
+            &text(),
+            Some(b"https://radio.example"),
+            TEXT_FOR_ONE,
+            or,
+        )
+        && is_text(alloc, &page(), None, PAGE, or)
+        && is_text(alloc, &page(), Some(b"*"), PAGE_FOR_ALL, or)
+}
+
+#[test]
+fn answers_for_web_sites(rt: HostRuntime) {
+    assert!(rt; are_texts(rt.alloc(), false));
+}
+
+/// Where memory runs out there is an error, and else the whole text.
+#[test]
+fn refused_memory_for_web_sites(rt: HostRuntime) {
+    assert!(rt; are_texts(rt.alloc(), true));
+}
