@@ -4,4 +4,5 @@ pub mod Public
 pub mod Admin
 pub mod Listeners
 pub mod Icecast
+pub mod Reached
 pub mod Laws

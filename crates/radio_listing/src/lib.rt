@@ -15,6 +15,7 @@ pub mod laws;
 mod listener_listing;
 mod object;
 mod public_listings;
+mod reached;
 mod rows;
 #[cfg(test)]
 mod tests;
@@ -24,6 +25,7 @@ pub use admin_listings::{list_mounts, stats};
 pub use icecast_listing::icecast_status;
 pub use listener_listing::list_clients;
 pub use public_listings::{status, stream_list};
+pub use reached::{MAX_HOST, base_url};
 pub use rows::{ListenerRow, MountRow, PublicRow, Server};
 pub use text::Text;
 

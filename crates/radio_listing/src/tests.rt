@@ -1,10 +1,11 @@
 //! What no clause says: that calls with ample memory succeed, and what they write of worked rows.
 
 use crate::{
-    ListenerRow, MountRow, PublicRow, Server, Text, icecast_status, list_clients, list_mounts,
-    stats, status, stream_list,
+    ListenerRow, MountRow, PublicRow, Server, Text, base_url, icecast_status, list_clients,
+    list_mounts, stats, status, stream_list,
 };
 use radio_addr::Peer;
+use std::alloc::Global;
 use std::test::Fail;
 
 fn mount<'a>(name: &'a [u8], title: &'a [u8], hidden: bool) -> MountRow<'a> {
@@ -87,4 +88,56 @@ fn icecast_listings_are_written(rt: HostRuntime) -> Result<(), Fail> {
         br#"{"icestats":{"server_id":"radiod","source":{"genre":"","listeners":1,"listenurl":"http://r:8000/a","server_name":"","server_type":"audio/mpeg","title":"X"}}}"#;
     assert!(rt; icecast_status(rt.alloc(), &server, &rows)?.as_slice() == want.as_slice());
     Ok(())
+}
+
+#[test]
+fn icecast_lists_are_written(rt: HostRuntime) -> Result<(), Fail> {
+    let server = Server {
+        name: Text::of(b"radiod"),
+        base_url: Text::of(b"http://r"),
+    };
+    let rows = [mount(b"/a", b"\xff\"", false), mount(b"/b c", b"", false)];
+    let want =
+        "{\"icestats\":{\"server_id\":\"radiod\",\"source\":[{\"genre\":\"\",\"listeners\":1,\"listenurl\":\"http://r/a\",\"server_name\":\"\",\"server_type\":\"audio/mpeg\",\"title\":\"\u{fffd}\\\"\"},{\"genre\":\"\",\"listeners\":1,\"listenurl\":\"http://r/b c\",\"server_name\":\"\",\"server_type\":\"audio/mpeg\",\"title\":\"\"}]}}";
+    assert!(rt; icecast_status(rt.alloc(), &server, &rows)?.as_slice() == want.as_bytes());
+    Ok(())
+}
+
+/// A `Host`, the address where the server listens, and where it is reached; the port is 8000.
+const REACHED: &[(&[u8], &[u8], &[u8])] = &[
+    (b"radio.example", b"0.0.0.0", b"http://radio.example"),
+    (b"Radio.Example:80", b"0.0.0.0", b"http://Radio.Example:80"),
+    (b"[2001:db8::1]:8000", b"::", b"http://[2001:db8::1]:8000"),
+    (b"", b"127.0.0.1", b"http://127.0.0.1:8000"),
+    (b"", b"::1", b"http://[::1]:8000"),
+    (b"", b"", b"http://:8000"),
+    (b"a\"b/<script>\r\n\xc3\xa9", b"0.0.0.0", b"http://abscript"),
+    (b"\"\\ \t", b"10.0.0.1", b"http://10.0.0.1:8000"),
+];
+
+fn is_reached(alloc: Global, host: &[u8], address: &[u8], want: &[u8]) -> bool {
+    match base_url(alloc, host, address, 8000) {
+        Ok(url) => url.as_slice() == want,
+        Err(_) => false,
+    }
+}
+
+#[test]
+fn servers_are_reached(rt: HostRuntime) {
+    for (host, address, want) in REACHED {
+        assert!(rt; is_reached(rt.alloc(), host, address, want));
+    }
+}
+
+fn has_length(alloc: Global, host: &[u8], length: usize) -> bool {
+    match base_url(alloc, host, b"", 0) {
+        Ok(url) => url.len() == length,
+        Err(_) => false,
+    }
+}
+
+#[test]
+fn long_hosts_are_cut(rt: HostRuntime) {
+    assert!(rt; has_length(rt.alloc(), &[b'a'; 255], 262));
+    assert!(rt; has_length(rt.alloc(), &[b'a'; 300], 262));
 }
