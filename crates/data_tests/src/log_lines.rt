@@ -3,8 +3,8 @@
 
 use radio_addr::Peer;
 use radio_log::{
-    ClientEnded, Command, Fact, LAST_SECOND, Moment, Note, RelayFailed, RelayGone, RelayUp,
-    SourceGone, SourceUp, Text, Title, line,
+    ClientEnded, Command, Fact, Fault, LAST_SECOND, Moment, Note, RelayFailed, RelayGone, RelayUp,
+    SourceGone, SourceUp, Text, Title, Warning, line,
 };
 use std::alloc::Global;
 
@@ -181,4 +181,26 @@ fn the_program_and_commands_are_told(rt: HostRuntime) {
     });
     let told = "command command=moveclients mount=/a argument=/b user=admin peer=10.0.0.1\n";
     assert!(rt; is_told(rt.alloc(), command, told));
+}
+
+#[test]
+fn settings_are_told_of(rt: HostRuntime) {
+    let warning = Fact::Warning(Warning {
+        why: Text::of(b"few-descriptors"),
+        key: Text::of(b"clients"),
+        mount: Text::of(b""),
+        limit: 1024,
+    });
+    assert!(rt; is_told(rt.alloc(), warning, "warning why=few-descriptors key=clients mount= limit=1024\n"));
+    let fault = Fact::Fault(Fault {
+        why: Text::of(b"not toml"),
+        file: Text::of(b"my settings"),
+        line: 3,
+        column: 7,
+        address: Text::of(b""),
+        reason: Text::of(b"expected `=`"),
+    });
+    let told =
+        "fault why=not%20toml file=my%20settings line=3 column=7 address= reason=expected%20`=`\n";
+    assert!(rt; is_told(rt.alloc(), fault, told));
 }

@@ -10,7 +10,7 @@ use Rattle.radio_addr.specs.Writing.{written, four_groups, group_at, hexadecimal
 use Rattle.radio_addr.specs.declared.address.Address.{Address}
 use Rattle.radio_addr.specs.declared.address.Address.TheVariants.{V4, V6}
 use Rattle.radio_log.specs.declared.facts.Fact.{Fact}
-use Rattle.radio_log.specs.declared.facts.Fact.TheVariants.{Started, Ended, ClientEnded, SourceUp, SourceGone, RelayUp, RelayGone, RelayFailed, MountUp, MountGone, Title, Command, Lost}
+use Rattle.radio_log.specs.declared.facts.Fact.TheVariants.{Started, Ended, ClientEnded, SourceUp, SourceGone, RelayUp, RelayGone, RelayFailed, MountUp, MountGone, Title, Command, Warning, Fault, Lost}
 use Rattle.radio_log.specs.Lines.{Field, fields_of}
 use Rattle.radio_log.specs.Laws.{IsText, IsCount, IsFact}
 use Rattle.radio_log.proofs.ShownLemmas.{Each-append}
@@ -64,4 +64,6 @@ values_are_bytes (MountUp mount) h = (h, tt)
 values_are_bytes (MountGone mount why) h = (h.0, (h.1, tt))
 values_are_bytes (Title t) h = (h.0, (h.1, tt))
 values_are_bytes (Command c) h = (h.0, (h.1, (h.2, (h.3, (peer_bytes c.peer h.4, tt)))))
+values_are_bytes (Warning w) h = (h.0, (h.1, (h.2, (count_bytes w.limit h.3, tt))))
+values_are_bytes (Fault f) h = (h.0, (h.1, (count_bytes f.line h.2, (count_bytes f.column h.3, (h.4, (h.5, tt))))))
 values_are_bytes (Lost lines) h = (count_bytes lines h, tt)

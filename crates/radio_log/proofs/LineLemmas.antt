@@ -8,7 +8,7 @@ use Rattle.std.proofs.lemmas.List.Folds.{flat_map-map}
 use Rattle.httpdate.specs.Text.{two_digits, four_digits}
 use Rattle.radio_texts.specs.Cuts.{cut, fields_at}
 use Rattle.radio_log.specs.declared.facts.Fact.{Fact}
-use Rattle.radio_log.specs.declared.facts.Fact.TheVariants.{Started, Ended, ClientEnded, SourceUp, SourceGone, RelayUp, RelayGone, RelayFailed, MountUp, MountGone, Title, Command, Lost}
+use Rattle.radio_log.specs.declared.facts.Fact.TheVariants.{Started, Ended, ClientEnded, SourceUp, SourceGone, RelayUp, RelayGone, RelayFailed, MountUp, MountGone, Title, Command, Warning, Fault, Lost}
 use Rattle.radio_log.specs.declared.moment.Moment.{Moment}
 use Rattle.radio_log.specs.declared.notes.Note.{Note}
 use Rattle.radio_log.specs.Moments.{day_text, time_text, moment_text}
@@ -41,6 +41,8 @@ kinds_are_names (MountUp mount) = refl
 kinds_are_names (MountGone mount why) = refl
 kinds_are_names (Title t) = refl
 kinds_are_names (Command c) = refl
+kinds_are_names (Warning w) = refl
+kinds_are_names (Fault f) = refl
 kinds_are_names (Lost lines) = refl
 
 fields_have_names : (fact : Fact) → list_all has_name (fields_of fact) ≡ true
@@ -56,6 +58,8 @@ fields_have_names (MountUp mount) = refl
 fields_have_names (MountGone mount why) = refl
 fields_have_names (Title t) = refl
 fields_have_names (Command c) = refl
+fields_have_names (Warning w) = refl
+fields_have_names (Fault f) = refl
 fields_have_names (Lost lines) = refl
 
 both : (x y : Bool) → (x && y) ≡ true → (x ≡ true) × (y ≡ true)

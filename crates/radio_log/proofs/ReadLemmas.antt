@@ -13,7 +13,7 @@ use Rattle.radio_addr.specs.Writing.{written, IsPeer}
 use Rattle.radio_addr.specs.declared.address.Address.{Address}
 use Rattle.radio_addr.specs.declared.address.Address.TheVariants.{V4}
 use Rattle.radio_log.specs.declared.facts.Fact.{Fact}
-use Rattle.radio_log.specs.declared.facts.Fact.TheVariants.{Started, Ended, ClientEnded, SourceUp, SourceGone, RelayUp, RelayGone, RelayFailed, MountUp, MountGone, Title, Command, Lost}
+use Rattle.radio_log.specs.declared.facts.Fact.TheVariants.{Started, Ended, ClientEnded, SourceUp, SourceGone, RelayUp, RelayGone, RelayFailed, MountUp, MountGone, Title, Command, Warning, Fault, Lost}
 use Rattle.radio_log.specs.declared.moment.Moment.{Moment}
 use Rattle.radio_log.specs.declared.notes.Note.{Note}
 use Rattle.radio_log.specs.Moments.{day_text, time_text, moment_text}
@@ -90,7 +90,16 @@ fact_told kind fs =
       user = value 3 fs;
       peer = peer_in (value 4 fs);
     }))
-    (Lost (count_in (value 0 fs))))))))))))))
+    (is_kind kind (codes "warning") (Warning (record { why = value 0 fs; key = value 1 fs; mount = value 2 fs; limit = count_in (value 3 fs) }))
+    (is_kind kind (codes "fault") (Fault (record {
+      why = value 0 fs;
+      file = value 1 fs;
+      line = count_in (value 2 fs);
+      column = count_in (value 3 fs);
+      address = value 4 fs;
+      reason = value 5 fs;
+    }))
+    (Lost (count_in (value 0 fs))))))))))))))))
 
 fact_read : ReadsPeers → (fact : Fact) → IsFact fact → fact_told (kind_of fact) (fields_of fact) ≡ fact
 fact_read peers (Started version address) h = refl
@@ -106,6 +115,8 @@ fact_read peers (MountUp mount) h = refl
 fact_read peers (MountGone mount why) h = refl
 fact_read peers (Title t) h = refl
 fact_read peers (Command c) h = rw (peer_read peers c.peer h.4) refl
+fact_read peers (Warning w) h = rw (count_read w.limit h.3) refl
+fact_read peers (Fault f) h = rw (count_read f.line h.2, count_read f.column h.3) refl
 fact_read peers (Lost lines) h = rw (count_read lines h) refl
 
 -- the number in two digits

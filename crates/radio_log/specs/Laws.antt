@@ -7,7 +7,7 @@ use Rattle.percent_encoding.specs.Percent.{percent_decode}
 use Rattle.radio_texts.specs.Cuts.{cut, fields_at}
 use Rattle.radio_addr.specs.Writing.{IsPeer}
 use Rattle.radio_log.specs.declared.facts.Fact.{Fact}
-use Rattle.radio_log.specs.declared.facts.Fact.TheVariants.{Started, Ended, ClientEnded, SourceUp, SourceGone, RelayUp, RelayGone, RelayFailed, MountUp, MountGone, Title, Command, Lost}
+use Rattle.radio_log.specs.declared.facts.Fact.TheVariants.{Started, Ended, ClientEnded, SourceUp, SourceGone, RelayUp, RelayGone, RelayFailed, MountUp, MountGone, Title, Command, Warning, Fault, Lost}
 use Rattle.radio_log.specs.declared.moment.Moment.{Moment}
 use Rattle.radio_log.specs.declared.notes.Note.{Note}
 use Rattle.radio_log.specs.Moments.{moment_text}
@@ -40,6 +40,9 @@ IsFact (MountUp mount) = IsText mount
 IsFact (MountGone mount why) = IsText mount × IsText why
 IsFact (Title t) = IsText t.mount × IsText t.title
 IsFact (Command c) = IsText c.name × IsText c.mount × IsText c.argument × IsText c.user × IsPeer c.peer
+IsFact (Warning w) = IsText w.why × IsText w.key × IsText w.mount × IsCount w.limit
+IsFact (Fault f) =
+    IsText f.why × IsText f.file × IsCount f.line × IsCount f.column × IsText f.address × IsText f.reason
 IsFact (Lost lines) = IsCount lines
 
 abbrev pub IsNote : Note → Type 0

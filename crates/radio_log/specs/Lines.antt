@@ -4,7 +4,7 @@ use Rattle.std.specs.List.{flat_map}
 use Rattle.radio_addr.specs.Writing.{written}
 use Rattle.radio_log.specs.declared.facts.ClientEnded.{ClientEnded as Client}
 use Rattle.radio_log.specs.declared.facts.Fact.{Fact}
-use Rattle.radio_log.specs.declared.facts.Fact.TheVariants.{Started, Ended, ClientEnded, SourceUp, SourceGone, RelayUp, RelayGone, RelayFailed, MountUp, MountGone, Title, Command, Lost}
+use Rattle.radio_log.specs.declared.facts.Fact.TheVariants.{Started, Ended, ClientEnded, SourceUp, SourceGone, RelayUp, RelayGone, RelayFailed, MountUp, MountGone, Title, Command, Warning, Fault, Lost}
 use Rattle.radio_log.specs.declared.notes.Note.{Note}
 use Rattle.radio_log.specs.Moments.{moment_text}
 use Rattle.radio_log.specs.Shown.{shown}
@@ -31,6 +31,8 @@ kind_of (MountUp mount) = codes "mount-up"
 kind_of (MountGone mount why) = codes "mount-gone"
 kind_of (Title t) = codes "title"
 kind_of (Command c) = codes "command"
+kind_of (Warning w) = codes "warning"
+kind_of (Fault f) = codes "fault"
 kind_of (Lost lines) = codes "lost"
 
 -- what a client asked for, and what came of it
@@ -67,6 +69,11 @@ fields_of (Title t) = (codes "mount", t.mount) ∷ (codes "title", t.title) ∷ 
 fields_of (Command c) =
     (codes "command", c.name) ∷ (codes "mount", c.mount) ∷ (codes "argument", c.argument)
     ∷ (codes "user", c.user) ∷ (codes "peer", written c.peer) ∷ []
+fields_of (Warning w) =
+    (codes "why", w.why) ∷ (codes "key", w.key) ∷ (codes "mount", w.mount) ∷ (codes "limit", decimal w.limit) ∷ []
+fields_of (Fault f) =
+    (codes "why", f.why) ∷ (codes "file", f.file) ∷ (codes "line", decimal f.line) ∷ (codes "column", decimal f.column)
+    ∷ (codes "address", f.address) ∷ (codes "reason", f.reason) ∷ []
 fields_of (Lost lines) = (codes "lines", decimal lines) ∷ []
 
 -- a word behind a space

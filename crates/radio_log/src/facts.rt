@@ -40,6 +40,10 @@ pub enum Fact<'a> {
     Title(Title<'a>),
     /// A command has changed something.
     Command(Command<'a>),
+    /// The settings bid something that an operator should know of.
+    Warning(Warning<'a>),
+    /// The program ends by a fault.
+    Fault(Fault<'a>),
     /// So many lines before this one could not be written, and are lost.
     Lost {
         lines: u64,
@@ -158,4 +162,34 @@ pub struct Command<'a> {
     pub user: Text<'a>,
     /// The address that he came from.
     pub peer: Peer,
+}
+
+/// What an operator should know of his settings.
+#[derive(Drop)]
+pub struct Warning<'a> {
+    /// What it is, in a word.
+    pub why: Text<'a>,
+    /// The key of the settings.
+    pub key: Text<'a>,
+    /// The mount in whose table the key stands, empty where it stands in none.
+    pub mount: Text<'a>,
+    /// What the system allows, 0 where that is not in question.
+    pub limit: u64,
+}
+
+/// A fault by which the program ends, and what is known of it beside its words.
+#[derive(Drop)]
+pub struct Fault<'a> {
+    /// Its words.
+    pub why: Text<'a>,
+    /// The file that it is in, empty where it is in none.
+    pub file: Text<'a>,
+    /// The line of the file, counted from 1; 0 where none is known.
+    pub line: u64,
+    /// The character of that line, counted from 1; 0 where none is known.
+    pub column: u64,
+    /// The address that was to be bound, with its port; empty where none was.
+    pub address: Text<'a>,
+    /// The reason that the system or the reader gives, empty where none is known.
+    pub reason: Text<'a>,
 }

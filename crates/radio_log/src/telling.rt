@@ -4,7 +4,8 @@ ghost use Rattle.radio_log.specs.Lines.{fields_text, outcome_fields, request_fie
 ghost use Rattle.radio_log.specs.declared.facts.Fact.TheVariants as facts;
 
 use crate::facts::{
-    ClientEnded, Command, Fact, RelayFailed, RelayGone, RelayUp, SourceGone, SourceUp, Title,
+    ClientEnded, Command, Fact, Fault, RelayFailed, RelayGone, RelayUp, SourceGone, SourceUp,
+    Title, Warning,
 };
 use crate::fields::Fields;
 use crate::{OutOfMemory, Text};
@@ -27,6 +28,8 @@ impl Fact<'_> {
             Fact::MountGone { mount, why } => tell_mount_gone(to, mount, why),
             Fact::Title(title) => title.tell(to),
             Fact::Command(command) => command.tell(to),
+            Fact::Warning(warning) => warning.tell(to),
+            Fact::Fault(fault) => fault.tell(to),
             Fact::Lost { lines } => tell_lost(to, *lines),
         }
     }
@@ -181,5 +184,31 @@ impl Command<'_> {
         to.put_text("argument", &self.argument)?;
         to.put_text("user", &self.user)?;
         to.put_peer("peer", self.peer)
+    }
+}
+
+impl Warning<'_> {
+    fn tell(&self, to: &mut Fields) -> Result<(), OutOfMemory>
+        ensures { OnOk result (to.new ≡ to.old ++ told (facts.Warning self.now)) }
+    {
+        to.put_kind("warning")?;
+        to.put_text("why", &self.why)?;
+        to.put_text("key", &self.key)?;
+        to.put_text("mount", &self.mount)?;
+        to.put_count("limit", self.limit)
+    }
+}
+
+impl Fault<'_> {
+    fn tell(&self, to: &mut Fields) -> Result<(), OutOfMemory>
+        ensures { OnOk result (to.new ≡ to.old ++ told (facts.Fault self.now)) }
+    {
+        to.put_kind("fault")?;
+        to.put_text("why", &self.why)?;
+        to.put_text("file", &self.file)?;
+        to.put_count("line", self.line)?;
+        to.put_count("column", self.column)?;
+        to.put_text("address", &self.address)?;
+        to.put_text("reason", &self.reason)
     }
 }

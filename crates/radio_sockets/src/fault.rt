@@ -1,12 +1,22 @@
 //! Why a server ends.
 
 use std::fmt;
+use std::io;
+
+/// Why nothing was bound.
+#[derive(Debug, Drop)]
+pub enum BindFault {
+    /// The address is no IP address.
+    NoAddress,
+    /// The system refuses the address and the port, for this reason.
+    Refused(io::Error),
+    /// Memory was refused.
+    OutOfMemory,
+}
 
 /// Why a server does not begin, or ends. Its text is the line on standard error, after `radiod: `.
 #[derive(Clone, Copy, Debug, PartialEq, Eq)]
 pub enum ServeFault {
-    /// The address and the port cannot be bound.
-    CannotBind,
     /// A hundred connections in a row could not be accepted, or the system no longer tells what is ready.
     Accept,
     /// Memory was refused before the server began.
@@ -21,7 +31,6 @@ impl fmt::Display for ServeFault {
 
     fn fmt<W: fmt::Write>(&self, f: &mut fmt::Formatter<W>) -> fmt::Result {
         f.write_str(match self {
-            ServeFault::CannotBind => "cannot bind",
             ServeFault::Accept => "accept fault",
             ServeFault::OutOfMemory => "out of memory",
         })

@@ -23,7 +23,7 @@ mod sockets;
 mod stream;
 
 pub use accepts::{Accepts, Tried};
-pub use fault::ServeFault;
+pub use fault::{BindFault, ServeFault};
 pub use line::SocketLine;
 pub use listening::Listening;
 pub use served::ServedTime;

@@ -1,6 +1,6 @@
 //! A bound socket, and the loop that accepts and serves.
 
-use crate::ServeFault;
+use crate::{BindFault, ServeFault};
 use crate::accepts::Accepts;
 use crate::entrance::next_of;
 use crate::line::SocketLine;
@@ -41,14 +41,14 @@ pub struct Listening {
 impl Listening {
     /// Binds this address and port; 0 for any port that is free.
     ///
-    /// `CannotBind` where the address is no IP address, or cannot be bound with this port;
-    /// `OutOfMemory` where memory was refused.
+    /// `NoAddress` where the address is no IP address; `Refused` where the system does not bind it
+    /// with this port, or tells nothing of sockets; `OutOfMemory` where memory was refused.
     pub fn bind<R: Net>(
         rt: &R,
         alloc: Global,
         address: &str,
         port: u16,
-    ) -> Result<Listening, ServeFault> {
+    ) -> Result<Listening, BindFault> {
         let sockets = Sockets::bind(rt, alloc, address, port)?;
         Ok(Listening {
             alloc,

@@ -4,7 +4,7 @@ use crate::activity::Activity;
 use crate::address::{address_of, peer_at};
 use crate::entrance::{Accepted, Entrance};
 use crate::readiness::Readiness;
-use crate::{OutOfMemory, ServeFault, SocketLine};
+use crate::{BindFault, OutOfMemory, ServeFault, SocketLine};
 use mio::net::{TcpListener, TcpStream};
 use mio::{Events, Interest, Poll, Token};
 use radio_addr::Peer;
@@ -47,17 +47,22 @@ impl Sockets {
         alloc: Global,
         address: &str,
         port: u16,
-    ) -> Result<Sockets, ServeFault> {
+    ) -> Result<Sockets, BindFault> {
         let Some(address) = address_of(address, port) else {
-            return Err(ServeFault::CannotBind);
+            return Err(BindFault::NoAddress);
         };
-        let (Ok(poll), Ok(listener)) = (Poll::new(rt), TcpListener::bind(rt, address)) else {
-            return Err(ServeFault::CannotBind);
+        let listener = match TcpListener::bind(rt, address) {
+            Ok(listener) => listener,
+            Err(error) => return Err(BindFault::Refused(error)),
+        };
+        let poll = match Poll::new(rt) {
+            Ok(poll) => poll,
+            Err(error) => return Err(BindFault::Refused(error)),
         };
         match Sockets::new(alloc, poll, listener) {
             Ok(Ok(sockets)) => Ok(sockets),
-            Ok(Err(_)) => Err(ServeFault::CannotBind),
-            Err(_) => Err(ServeFault::OutOfMemory),
+            Ok(Err(error)) => Err(BindFault::Refused(error)),
+            Err(_) => Err(BindFault::OutOfMemory),
         }
     }
 

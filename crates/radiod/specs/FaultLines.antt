@@ -8,15 +8,16 @@ use Rattle.radio_settings.specs.Words.{fault_text}
 use Rattle.radio_script.specs.Words.{play_fault_text}
 use Rattle.radio_sockets.specs.Faults.{fault_line as serve_fault_text}
 use Rattle.radiod.specs.declared.fault.Fault.{Fault}
-use Rattle.radiod.specs.declared.fault.Fault.TheVariants.{Usage, CannotRead, Line, NotText, Settings, Play, Serve, OutOfMemory}
+use Rattle.radiod.specs.declared.fault.Fault.TheVariants.{Usage, CannotRead, Line, NotToml, Settings, Play, CannotBind, Serve, OutOfMemory}
 
 abbrev pub fault_line : Fault → List ℕ
 fault_line Usage = codes "usage: radiod play SETTINGS | radiod serve SETTINGS"
-fault_line (CannotRead path) = codes "cannot read " ++ string_bytes path
+fault_line (CannotRead path error) = codes "cannot read " ++ string_bytes path
 fault_line (Line path line) = string_bytes path ++ (codes " line " ++ decimal line)
-fault_line NotText = codes "not toml"
+fault_line (NotToml misreading) = codes "not toml"
 fault_line (Settings fault) = fault_text fault
 fault_line (Play fault) = play_fault_text fault
+fault_line (CannotBind address reason) = codes "cannot bind"
 fault_line (Serve fault) = serve_fault_text fault
 fault_line OutOfMemory = codes "out of memory"
 
@@ -28,10 +29,11 @@ settings_status fault = 3
 -- 2 for the words of the call, 3 for the settings and the files that they name, and else 1
 abbrev pub exit_status : Fault → ℕ
 exit_status Usage = 2
-exit_status (CannotRead path) = 3
+exit_status (CannotRead path error) = 3
 exit_status (Line path line) = 3
-exit_status NotText = 3
+exit_status (NotToml misreading) = 3
 exit_status (Settings fault) = settings_status fault
 exit_status (Play fault) = 1
+exit_status (CannotBind address reason) = 1
 exit_status (Serve fault) = 1
 exit_status OutOfMemory = 1

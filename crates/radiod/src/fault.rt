@@ -5,27 +5,46 @@ ghost use Rattle.radiod.specs.FaultLines.{exit_status, settings_status};
 use radio_floor::PlayFault;
 use radio_settings::SettingsFault;
 use radio_sockets::ServeFault;
-use std::fmt;
+use std::{fmt, io};
 
 /// Why `radiod` ends. Its text is the line on standard error, after `radiod: `.
 #[derive(Debug, Drop)]
 pub enum Fault {
     /// The words are none that the program knows.
     Usage,
-    /// The settings file, or one that it names, of this path cannot be read.
-    CannotRead(String),
+    /// The settings file, or one that it names, of this path cannot be read, for this reason.
+    CannotRead { path: String, error: io::Error },
     /// This line of a list of addresses, counted from 1, is no address.
     Line { path: String, line: usize },
-    /// The settings file is not UTF-8, which TOML is.
-    NotText,
+    /// The settings file is not TOML, or not UTF-8, which TOML is.
+    NotToml(Misreading),
     /// The settings have this fault.
     Settings(SettingsFault),
     /// The script was not played to its end.
     Play(PlayFault),
+    /// This address, with its port, cannot be bound.
+    CannotBind { address: String, reason: NotBound },
     /// The server did not begin, or has ended.
     Serve(ServeFault),
     /// Memory was refused.
     OutOfMemory,
+}
+
+/// Why a text is not TOML, and at which character of which line, both counted from 1.
+#[derive(Debug, Drop)]
+pub struct Misreading {
+    pub line: usize,
+    pub column: usize,
+    pub reason: String,
+}
+
+/// Why an address cannot be bound.
+#[derive(Debug, Drop)]
+pub enum NotBound {
+    /// It is no IP address.
+    NoAddress,
+    /// The system refuses it.
+    Refused(io::Error),
 }
 
 impl Fault {
@@ -36,9 +55,9 @@ impl Fault {
     {
         match self {
             Fault::Usage => 2,
-            Fault::CannotRead(_) | Fault::Line { .. } | Fault::NotText => 3,
+            Fault::CannotRead { .. } | Fault::Line { .. } | Fault::NotToml(_) => 3,
             Fault::Settings(fault) => settings_status(fault),
-            Fault::Play(_) | Fault::Serve(_) | Fault::OutOfMemory => 1,
+            Fault::Play(_) | Fault::CannotBind { .. } | Fault::Serve(_) | Fault::OutOfMemory => 1,
         }
     }
 }
@@ -70,11 +89,12 @@ impl fmt::Display for Fault {
     fn fmt<W: fmt::Write>(&self, f: &mut fmt::Formatter<W>) -> fmt::Result {
         match self {
             Fault::Usage => f.write_str("usage: radiod play SETTINGS | radiod serve SETTINGS"),
-            Fault::CannotRead(path) => write!(f, "cannot read {path}"),
+            Fault::CannotRead { path, .. } => write!(f, "cannot read {path}"),
             Fault::Line { path, line } => write_line(f, path.as_str(), *line),
-            Fault::NotText => f.write_str("not toml"),
+            Fault::NotToml(_) => f.write_str("not toml"),
             Fault::Settings(fault) => write!(f, "{fault}"),
             Fault::Play(fault) => write!(f, "{fault}"),
+            Fault::CannotBind { .. } => f.write_str("cannot bind"),
             Fault::Serve(fault) => write!(f, "{fault}"),
             Fault::OutOfMemory => f.write_str("out of memory"),
         }

@@ -1,22 +1,87 @@
 //! The settings file, and the files that it names.
 
-use crate::fault::Fault;
+use crate::fault::{Fault, Misreading};
 use radio_access::Lists;
 use radio_addr::{AddressList, ListFault};
 use radio_creds::Users;
-use radio_settings::{AddressLists, MountSetting, MountSettings, Settings, Text};
-use std::fs;
+use radio_settings::{AddressLists, MountSetting, MountSettings, Settings, SettingsFault, Text};
+use std::alloc::Global;
 use std::io::ErrorKind;
+use std::{fs, io};
 
 /// The settings of a file.
 pub fn read_settings(rt: &HostRuntime, path: &str) -> Result<Settings, Fault> {
     let bytes = read_file(rt, path)?;
-    let Ok(text) = str::from_utf8(bytes.as_slice()) else {
-        return Err(Fault::NotText);
-    };
-    match Settings::read(rt.alloc(), text) {
+    match str::from_utf8(bytes.as_slice()) {
+        Ok(text) => settings_in(rt.alloc(), text),
+        Err(error) => Err(misread(
+            rt.alloc(),
+            bytes.as_slice(),
+            error.valid_up_to(),
+            "not UTF-8",
+        )),
+    }
+}
+
+/// The settings of a text.
+fn settings_in(alloc: Global, text: &str) -> Result<Settings, Fault> {
+    match Settings::read(alloc, text) {
         Ok(settings) => Ok(settings),
+        Err(SettingsFault::NotToml) => Err(not_toml(alloc, text)),
         Err(fault) => Err(Fault::Settings(fault)),
+    }
+}
+
+/// Where and why a text that is not TOML is not.
+fn not_toml(alloc: Global, text: &str) -> Fault {
+    let Err(error) = toml::table_from_str(alloc, text) else {
+        return Fault::Settings(SettingsFault::NotToml);
+    };
+    match error.span() {
+        Some(span) => misread(alloc, text.as_bytes(), span.start, error.message()),
+        None => Fault::OutOfMemory,
+    }
+}
+
+/// A text is not TOML for this reason, from the byte at this place on.
+fn misread(alloc: Global, text: &[u8], place: usize, reason: &str) -> Fault {
+    let before = &text[..place.min(text.len())];
+    match String::from_str(alloc, reason) {
+        Ok(reason) => Fault::NotToml(Misreading {
+            line: line_behind(before),
+            column: column_behind(before),
+            reason,
+        }),
+        Err(_) => Fault::OutOfMemory,
+    }
+}
+
+/// The line of what stands behind these bytes, counted from 1.
+fn line_behind(before: &[u8]) -> usize {
+    let mut line: usize = 1;
+    for byte in before {
+        if *byte == b'\n' {
+            line = line.saturating_add(1);
+        }
+    }
+    line
+}
+
+/// The character of its line that stands behind these bytes, counted from 1.
+fn column_behind(before: &[u8]) -> usize {
+    let mut column: usize = 1;
+    for byte in before {
+        column = next_column(column, *byte);
+    }
+    column
+}
+
+/// The column behind a byte of UTF-8 that stands at this one.
+fn next_column(column: usize, byte: u8) -> usize {
+    match byte {
+        b'\n' => 1,
+        0x80..=0xbf => column,
+        _ => column.saturating_add(1),
     }
 }
 
@@ -87,13 +152,13 @@ fn read_file(rt: &HostRuntime, path: &str) -> Result<Vec<u8>, Fault> {
     match fs::read(rt, path) {
         Ok(bytes) => Ok(bytes),
         Err(error) if error.kind() == ErrorKind::OutOfMemory => Err(Fault::OutOfMemory),
-        Err(_) => Err(unreadable(rt, path)),
+        Err(error) => Err(unreadable(rt, path, error)),
     }
 }
 
-fn unreadable(rt: &HostRuntime, path: &str) -> Fault {
+fn unreadable(rt: &HostRuntime, path: &str, error: io::Error) -> Fault {
     match String::from_str(rt.alloc(), path) {
-        Ok(path) => Fault::CannotRead(path),
+        Ok(path) => Fault::CannotRead { path, error },
         Err(_) => Fault::OutOfMemory,
     }
 }

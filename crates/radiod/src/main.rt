@@ -7,11 +7,14 @@
 
 mod fault;
 mod files;
+mod log;
 mod serving;
+mod warnings;
 mod words;
 
 use crate::fault::Fault;
 use crate::files::{read_lists, read_settings};
+use crate::log::tell_fault;
 use crate::serving::serve_station;
 use crate::words::{Call, read_words};
 use radio_access::Lists;
@@ -42,8 +45,13 @@ fn run<W: Wait>(rt: &HostRuntime, waits: &W) -> Result<(), Fault> {
 
 /// Serves connections, with the settings of this file, until a fault.
 fn serve_file<W: Wait>(rt: &HostRuntime, waits: &W, path: &str) -> Result<(), Fault> {
-    let (settings, lists) = read_station(rt, path)?;
-    Err(serve_station(rt, waits, settings, lists))
+    match read_station(rt, path) {
+        Ok((settings, lists)) => Err(serve_station(rt, waits, path, settings, lists)),
+        Err(fault) => {
+            tell_fault(rt, path, &fault);
+            Err(fault)
+        }
+    }
 }
 
 /// Plays the script on standard input, with the settings of this file.

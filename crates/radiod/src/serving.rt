@@ -3,36 +3,45 @@
 ghost use Rattle.std.specs.Prelude.{◌≡◌, ◌^◌};
 ghost use Rattle.radio_core.specs.World.{opening};
 
-use crate::fault::Fault;
+use crate::fault::{Fault, NotBound};
+use crate::log::{tell_end, tell_fault, tell_start};
+use crate::warnings::warn;
 use radio_access::Lists;
 use radio_book::{House, PASSES, Unkept};
 use radio_hall::{Caller, Hall, Watched, Worker};
 use radio_settings::Settings;
-use radio_sockets::{Listening, ServeFault};
+use radio_sockets::{BindFault, Listening, ServeFault};
 use std::marker::Brand;
 use std::sync::Wait;
 use std::sync::ledger::Blank;
 
 /// Binds the address and the port of the settings, says so on standard output, and serves
-/// connections until a fault.
+/// connections until a fault. `path` is that of the settings.
 pub fn serve_station<W: Wait>(
     rt: &HostRuntime,
     waits: &W,
+    path: &str,
     settings: Settings,
     lists: Lists,
 ) -> Fault {
     match bind(rt, &settings) {
-        Ok(listening) => Fault::Serve(serve_in::<W, Brand>(
-            rt,
-            waits,
-            settings,
-            lists,
-            listening,
-            Blank::new(PASSES),
-        )),
+        Ok(listening) => {
+            warn(rt, &settings);
+            let fault = Fault::Serve(serve_in::<W, Brand>(
+                rt,
+                waits,
+                settings,
+                lists,
+                listening,
+                Blank::new(PASSES),
+            ));
+            tell_end(rt, &fault);
+            fault
+        }
         Err(fault) => {
             drop(settings);
             drop(lists);
+            tell_fault(rt, path, &fault);
             fault
         }
     }
@@ -47,10 +56,27 @@ fn bind(rt: &HostRuntime, settings: &Settings) -> Result<Listening, Fault> {
             if let Ok(address) = listening.address() {
                 // Where standard output takes nothing, the station is on the air all the same.
                 let _ = println!(rt; "listening on {address}");
+                if let Ok(address) = format!(in rt.alloc(); "{address}") {
+                    tell_start(rt, address.as_str());
+                }
             }
             Ok(listening)
         }
-        Err(fault) => Err(Fault::Serve(fault)),
+        Err(BindFault::NoAddress) => Err(cannot_bind(rt, settings, NotBound::NoAddress)),
+        Err(BindFault::Refused(error)) => {
+            Err(cannot_bind(rt, settings, NotBound::Refused(error)))
+        }
+        Err(BindFault::OutOfMemory) => Err(Fault::OutOfMemory),
+    }
+}
+
+/// The address and the port of the settings cannot be bound, for this reason.
+fn cannot_bind(rt: &HostRuntime, settings: &Settings, reason: NotBound) -> Fault {
+    let listen = &settings.listen;
+    let port = listen.port.get();
+    match format!(in rt.alloc(); "{}:{port}", listen.address.as_str()) {
+        Ok(address) => Fault::CannotBind { address, reason },
+        Err(_) => Fault::OutOfMemory,
     }
 }
 

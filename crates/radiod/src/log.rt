@@ -1,0 +1,118 @@
+//! Lines of the log that the program itself writes, before and behind the time in which it serves.
+
+use crate::fault::{Fault, NotBound};
+use radio_log::{Fact, Moment, Note, Text, line};
+use std::fmt::Display;
+use std::io::Write;
+use std::time::Clock;
+
+/// Which program this is, in the line of its start.
+const VERSION: &str = "radiod";
+
+/// Writes the line of a fact on standard output. Where that takes nothing, or memory is refused, there is none.
+pub fn tell(rt: &HostRuntime, fact: Fact<'_>) {
+    let note = Note {
+        moment: Moment::at(seconds_now(rt)),
+        fact,
+    };
+    if let Ok(bytes) = line(rt.alloc(), &note) {
+        let _ = rt.stdout().write_all(bytes.as_slice());
+    }
+}
+
+/// How many seconds have passed since 1970; none where the clock tells none.
+fn seconds_now(rt: &HostRuntime) -> u64 {
+    match rt.since_1970() {
+        Ok(since) => since.as_secs(),
+        Err(_) => 0,
+    }
+}
+
+/// The program listens at this address.
+pub fn tell_start(rt: &HostRuntime, address: &str) {
+    tell(
+        rt,
+        Fact::Started {
+            version: Text::of(VERSION.as_bytes()),
+            address: Text::of(address.as_bytes()),
+        },
+    );
+}
+
+/// The program that served ends by this fault.
+pub fn tell_end(rt: &HostRuntime, fault: &Fault) {
+    if let Some(why) = words_of(rt, fault) {
+        tell(
+            rt,
+            Fact::Ended {
+                why: Text::of(why.as_bytes()),
+            },
+        );
+    }
+}
+
+/// The program does not serve, by this fault; what is known of it beside its words. `path` is that of the settings.
+pub fn tell_fault(rt: &HostRuntime, path: &str, fault: &Fault) {
+    let (Some(why), Some(reason)) = (words_of(rt, fault), reason_of(rt, fault)) else {
+        return;
+    };
+    let (line, column) = place_of(fault);
+    let told = radio_log::Fault {
+        why: Text::of(why.as_bytes()),
+        file: Text::of(file_of(path, fault).as_bytes()),
+        line,
+        column,
+        address: Text::of(address_of(fault).as_bytes()),
+        reason: Text::of(reason.as_bytes()),
+    };
+    tell(rt, Fact::Fault(told));
+}
+
+/// What is said of this; `None` where memory is refused.
+fn words_of<T: Display>(rt: &HostRuntime, said: &T) -> Option<String> {
+    match format!(in rt.alloc(); "{said}") {
+        Ok(words) => Some(words),
+        Err(_) => None,
+    }
+}
+
+/// The file that a fault is in.
+fn file_of<'a>(settings: &'a str, fault: &'a Fault) -> &'a str {
+    match fault {
+        Fault::CannotRead { path, .. } | Fault::Line { path, .. } => path.as_str(),
+        Fault::NotToml(_) | Fault::Settings(_) => settings,
+        _ => "",
+    }
+}
+
+/// The line and the column of a fault, 0 where none is known.
+fn place_of(fault: &Fault) -> (u64, u64) {
+    match fault {
+        Fault::Line { line, .. } => (*line as u64, 0),
+        Fault::NotToml(misreading) => (misreading.line as u64, misreading.column as u64),
+        _ => (0, 0),
+    }
+}
+
+/// The address that was to be bound.
+fn address_of(fault: &Fault) -> &str {
+    match fault {
+        Fault::CannotBind { address, .. } => address.as_str(),
+        _ => "",
+    }
+}
+
+/// The reason that the system, or the reader of TOML, gives for a fault; empty where none is known. `None` where memory
+/// is refused.
+fn reason_of(rt: &HostRuntime, fault: &Fault) -> Option<String> {
+    match fault {
+        Fault::CannotRead { error, .. } => words_of(rt, error),
+        Fault::NotToml(misreading) => words_of(rt, &misreading.reason.as_str()),
+        Fault::CannotBind {
+            reason: NotBound::Refused(error),
+            ..
+        } => words_of(rt, error),
+        Fault::CannotBind { .. } => words_of(rt, &"not an IP address"),
+        _ => words_of(rt, &""),
+    }
+}
