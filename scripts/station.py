@@ -1,12 +1,14 @@
 """A running station, and what its clients do over loopback: for the scripts that serve."""
 import contextlib
 import os
+import re
 import socket
 import subprocess
 import sys
 import tempfile
 import threading
 import time
+import urllib.parse
 
 TOP = os.path.dirname(os.path.dirname(os.path.abspath(__file__)))
 PROGRAM = os.path.abspath(sys.argv[1]) if len(sys.argv) > 1 else os.path.join(TOP, "crates/radiod/out/radiod")
@@ -17,10 +19,56 @@ PATIENCE = 20
 RECORD = 64
 
 
-class Station:
-    """A running station. `port` is the one that it has told."""
+LINE = re.compile(rb"[0-9]{4}-[0-9]{2}-[0-9]{2}T[0-9]{2}:[0-9]{2}:[0-9]{2}Z [a-z-]+( [a-z]+=[!-~]*)+\n")
+FIELDS = {
+    "started": "version address",
+    "ended": "why",
+    "client": "peer method path mount status why user seconds bytes agent",
+    "source-up": "mount peer type agent",
+    "source-gone": "mount peer why seconds bytes",
+    "mount-up": "mount",
+    "mount-gone": "mount why",
+    "title": "mount title",
+    "command": "command mount argument user peer",
+    "warning": "why key mount limit",
+    "fault": "why file line column address reason",
+    "lost": "lines",
+}
 
-    def __init__(self, options="", address="127.0.0.1", port=0, passwords=PASSWORDS, files=(), settings=None):
+
+def read_line(line):
+    """The kind of a line of the log, and its fields as bytes by their names. It is a fault where it is no such line."""
+    assert LINE.fullmatch(line), line
+    _, kind, *words = line.decode("ascii")[:-1].split(" ")
+    fields = [word.split("=", 1) for word in words]
+    assert " ".join(name for name, _ in fields) == FIELDS[kind], line
+    return kind, {name: urllib.parse.unquote_to_bytes(value) for name, value in fields}
+
+
+class Log(threading.Thread):
+    """The log of a station, read as it comes: `told` has the kinds and the fields of its lines, `bad` what is no line."""
+
+    def __init__(self, stream):
+        super().__init__(daemon=True)
+        self.stream, self.told, self.bad = stream, [], []
+        self.start()
+
+    def run(self):
+        for line in self.stream:
+            try:
+                self.told.append(read_line(line))
+            except (AssertionError, KeyError, ValueError):
+                self.bad.append(line)
+
+    def of(self, kind):
+        """The fields of each line of this kind."""
+        return [fields for told, fields in list(self.told) if told == kind]
+
+
+class Station:
+    """A running station. `port` is the one that it has told. Its log is read as it comes, unless `is_read` is false."""
+
+    def __init__(self, options="", address="127.0.0.1", port=0, passwords=PASSWORDS, files=(), settings=None, is_read=True):
         self.address, self.folder = address, tempfile.TemporaryDirectory()
         own = f'{passwords}\n[listen]\naddress = "{address}"\nport = {port}\n{options}'
         for name, text in [("settings.toml", settings or own), *files]:
@@ -29,18 +77,28 @@ class Station:
         self.program = subprocess.Popen(
             [PROGRAM, "serve", "settings.toml"], cwd=self.folder.name, stdout=subprocess.PIPE, stderr=subprocess.PIPE
         )
-        line = self.program.stdout.readline().decode()
+        self.first = self.program.stdout.readline()
+        line = self.first.decode()
         self.port = int(line.rsplit(":", 1)[1]) if line.startswith("listening on ") else None
+        self.log = Log(self.program.stdout) if self.port is not None and is_read else None
 
     def __enter__(self):
         return self
 
-    def __exit__(self, *_):
+    def __exit__(self, fault, *_):
         self.program.kill()
         self.program.wait()
+        if self.log is not None:
+            self.log.join(PATIENCE)
         self.program.stdout.close()
         self.program.stderr.close()
         self.folder.cleanup()
+        assert fault or self.log is None or not self.log.bad, f"no line of the log: {self.log.bad[0]!r}"
+
+    def tells(self, kind, **fields):
+        """Whether there is a line of this kind with these fields, or is within some seconds."""
+        wanted = {name: value if isinstance(value, bytes) else str(value).encode() for name, value in fields.items()}
+        return comes(lambda: any(wanted.items() <= told.items() for told in self.log.of(kind)))
 
     def ended(self):
         """The status and the line of a station that has ended by itself."""

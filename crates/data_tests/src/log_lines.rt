@@ -191,7 +191,13 @@ fn settings_are_told_of(rt: HostRuntime) {
         mount: Text::of(b""),
         limit: 1024,
     });
-    assert!(rt; is_told(rt.alloc(), warning, "warning why=few-descriptors key=clients mount= limit=1024\n"));
+    assert!(rt;
+        is_told(
+            rt.alloc(),
+            warning,
+            "warning why=few-descriptors key=clients mount= limit=1024\n"
+        )
+    );
     let fault = Fact::Fault(Fault {
         why: Text::of(b"not toml"),
         file: Text::of(b"my settings"),

@@ -7,6 +7,7 @@ use crate::refusals::Refusals;
 use crate::{Line, OutOfMemory};
 use radio_addr::Peer;
 use radio_events::Reply;
+use radio_notes::Account;
 use radio_session::Session;
 use std::alloc::Global;
 use std::marker::Model;
@@ -92,6 +93,8 @@ pub struct Conn<L: Line> {
     pub(crate) owed: Owed,
     pub(crate) status: Status,
     pub(crate) refusals: Refusals,
+    /// What is noted for the log. It changes nothing of what is answered.
+    pub(crate) account: Account,
 }
 
 impl<L: Line> Model for Conn<L> {
@@ -127,6 +130,7 @@ impl<L: Line> Conn<L> {
             owed: Owed::new(alloc),
             status: Status::new(Fate::Open, false, ms),
             refusals: Refusals::new(),
+            account: Account::new(alloc, ms),
         }
     }
 
@@ -143,7 +147,10 @@ impl<L: Line> Conn<L> {
     {
         let mut session = Session::new(alloc, 0, peer);
         let mut owed = Owed::new(alloc);
-        let _state = owed.tell(&mut session, denial)?;
+        let account = Account::new(alloc, ms);
+        account.note_reply(&denial);
+        let state = owed.tell(&mut session, denial)?;
+        account.note_state(state);
         Ok(Conn {
             id: 0,
             line,
@@ -151,6 +158,7 @@ impl<L: Line> Conn<L> {
             owed,
             status: Status::new(Fate::Ended, true, ms),
             refusals: Refusals::new(),
+            account,
         })
     }
 

@@ -12,6 +12,7 @@ use crate::serving::round::serve_each;
 use crate::{Conn, Gate, Line, OutOfMemory, Server, Turn};
 use radio_addr::Peer;
 use radio_events::Event;
+use radio_notes::Log;
 use std::alloc::Global;
 use std::marker::Model;
 
@@ -26,6 +27,7 @@ pub struct Worker<S: Server + Drop> {
     server: S,
     told_ms: u64,
     patience_ms: u64,
+    log: Log,
 }
 
 impl<S: Server + Drop> Model for Worker<S> {
@@ -49,6 +51,7 @@ impl<S: Server + Drop> Worker<S> {
             server,
             told_ms: 0,
             patience_ms: patience_s as u64 * 1000,
+            log: Log::new(alloc),
         }
     }
 
@@ -57,6 +60,11 @@ impl<S: Server + Drop> Worker<S> {
         ensures { result.now ≡ self.now.server }
     {
         &self.server
+    }
+
+    /// The log of what he has served: whoever has him takes its lines, and tells it the time.
+    pub fn log(&self) -> &Log {
+        &self.log
     }
 
     /// Whom he asked, when he serves no more.
@@ -111,7 +119,7 @@ impl<S: Server + Drop> Worker<S> {
             patience_ms: self.patience_ms,
             news: turn.news,
         };
-        serve_each(&mut self.server, conns, gate, now);
+        serve_each(&mut self.server, conns, gate, now, &self.log);
         conns.retain(|conn| conn.stays());
     }
 

@@ -1,7 +1,6 @@
 //! Why a server ends.
 
-use std::fmt;
-use std::io;
+use std::{fmt, io};
 
 /// Why nothing was bound.
 #[derive(Debug, Drop)]

@@ -17,6 +17,7 @@ mod entrance;
 mod fault;
 mod line;
 mod listening;
+mod outlet;
 mod readiness;
 mod served;
 mod sockets;

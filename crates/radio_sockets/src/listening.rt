@@ -1,17 +1,19 @@
 //! A bound socket, and the loop that accepts and serves.
 
-use crate::{BindFault, ServeFault};
 use crate::accepts::Accepts;
 use crate::entrance::next_of;
 use crate::line::SocketLine;
+use crate::outlet::Outlet;
 use crate::served::ServedTime;
 use crate::sockets::{Sockets, moment};
+use crate::{BindFault, ServeFault};
 use mio::net::TcpStream;
 use radio_hall::{
     Conn, OpenGate, Server, Turn, Watched, Worker, close_first_lingering, count_lingering,
 };
 use std::alloc::Global;
 use std::io;
+use std::io::Write;
 use std::net::{Net, SocketAddr};
 use std::sync::Wait;
 use std::time::Clock;
@@ -19,6 +21,9 @@ use std::time::Clock;
 /// How long a turn waits until there is something to do, at most, in milliseconds. What comes after
 /// such a wait is noted at the moment before it.
 const WAIT_MS: u64 = 50;
+
+/// After how long the log is told the moment again, in milliseconds.
+const TELL_AFTER_MS: u64 = 100;
 
 /// How many connections are accepted in a turn at most.
 const MOST_AT_ONCE: usize = 1024;
@@ -30,6 +35,8 @@ pub struct Listening {
     sockets: Sockets,
     accepts: Accepts,
     time: ServedTime,
+    /// When the log was last told the moment, by the clock.
+    told_ms: u64,
     /// So many connections may linger; the oldest goes first.
     most_lingering: usize,
     /// Whether listeners may have news.
@@ -55,6 +62,7 @@ impl Listening {
             sockets,
             accepts: Accepts::new(),
             time: ServedTime::new(0),
+            told_ms: 0,
             most_lingering: usize::MAX,
             news: false,
             has_more: false,
@@ -68,33 +76,42 @@ impl Listening {
 
     /// Accepts and serves connections, turn after turn, until a fault. So many may linger, whose
     /// conversation has ended and whose peer has not closed: of more, the oldest are closed.
-    pub fn serve<C: Clock, W: Wait, S: Server + Drop>(
+    ///
+    /// The worker's log is written to standard output, by this stream of it, where that does not wait; what
+    /// can't be written so is lost.
+    pub fn serve<C: Clock, W: Wait, S: Server + Drop, O: Write + Drop>(
         mut self,
         clock: &C,
         waits: &W,
         worker: &mut Worker<Watched<S>>,
         most_lingering: usize,
+        output: O,
     ) -> ServeFault {
         self.most_lingering = most_lingering;
         let mut conns = Vec::new(self.alloc);
         self.time = ServedTime::new(moment(clock));
-        let fault = self.serve_turns(clock, waits, worker, &mut conns);
+        let mut outlet = Outlet::new(self.alloc, self.sockets.registry(), output);
+        tell_moment(clock, worker);
+        let fault = self.serve_turns(clock, waits, worker, &mut conns, &mut outlet);
+        drop(outlet);
         drop(conns);
         drop(self);
         fault
     }
 
-    fn serve_turns<C: Clock, W: Wait, S: Server + Drop>(
+    fn serve_turns<C: Clock, W: Wait, S: Server + Drop, O: Write + Drop>(
         &mut self,
         clock: &C,
         waits: &W,
         worker: &mut Worker<Watched<S>>,
         conns: &mut Vec<Conn<SocketLine<TcpStream>>>,
+        outlet: &mut Outlet<O>,
     ) -> ServeFault {
         for _ in waits.forever() {
             if let Err(fault) = self.turn(clock, worker, conns) {
                 return fault;
             }
+            self.write_log(worker, outlet);
         }
         ServeFault::Accept
     }
@@ -107,24 +124,61 @@ impl Listening {
         worker: &mut Worker<Watched<S>>,
         conns: &mut Vec<Conn<SocketLine<TcpStream>>>,
     ) -> Result<(), ServeFault> {
+        let read_ms = self.hear(clock, worker)?;
+        self.admit_all(worker, conns, read_ms)?;
+        self.serve_all(worker, conns, read_ms);
+        Ok(())
+    }
+
+    /// Hears what the system has to tell, and waits for it, if there is nothing to do. The moment up to
+    /// which all that had come was read in the turns before.
+    fn hear<C: Clock, S: Server + Drop>(
+        &mut self,
+        clock: &C,
+        worker: &Worker<Watched<S>>,
+    ) -> Result<u64, ServeFault> {
         let wait_ms = self.wait_ms();
         let clock_ms = self.sockets.hear(clock, wait_ms)?;
         let read_ms = self.time.advance(clock_ms);
         self.sockets.set_now(self.time.served_ms());
-        self.admit_all(worker, conns, read_ms)?;
+        if clock_ms.saturating_sub(self.told_ms) >= TELL_AFTER_MS {
+            self.told_ms = clock_ms;
+            tell_moment(clock, worker);
+        }
+        Ok(read_ms)
+    }
+
+    /// Serves each connection once, and closes those who linger too long.
+    fn serve_all<S: Server + Drop>(
+        &mut self,
+        worker: &mut Worker<Watched<S>>,
+        conns: &mut Vec<Conn<SocketLine<TcpStream>>>,
+        ms: u64,
+    ) {
         let before = conns.len();
-        let turn = Turn {
-            ms: read_ms,
-            news: self.news,
-        };
-        worker.serve_turn(conns, &OpenGate, turn);
+        let news = self.news;
+        worker.serve_turn(conns, &OpenGate, Turn { ms, news });
         self.close_oldest(conns);
         self.news = worker.server().take_news();
         self.has_more = worker.server().take_more();
         if conns.len() < before {
             self.accepts.note_closed();
         }
-        Ok(())
+    }
+
+    /// Writes of the log what can be written without waiting.
+    fn write_log<S: Server + Drop, O: Write + Drop>(
+        &mut self,
+        worker: &Worker<Watched<S>>,
+        outlet: &mut Outlet<O>,
+    ) {
+        if self.sockets.take_room() {
+            outlet.note_room();
+        }
+        if outlet.is_empty() {
+            outlet.set_lines(worker.log().take());
+        }
+        outlet.write(self.sockets.registry());
     }
 
     /// How long the next turn waits at most: not at all where there is something to do.
@@ -161,5 +215,12 @@ impl Listening {
             }
         }
         Ok(())
+    }
+}
+
+/// Tells the worker's log the moment, if the clock tells it.
+fn tell_moment<C: Clock, S: Server + Drop>(clock: &C, worker: &Worker<Watched<S>>) {
+    if let Ok(since) = clock.since_1970() {
+        worker.log().set_moment(since.as_secs());
     }
 }

@@ -3,10 +3,11 @@
 use crate::activity::Activity;
 use crate::address::{address_of, peer_at};
 use crate::entrance::{Accepted, Entrance};
+use crate::outlet::OUTLET;
 use crate::readiness::Readiness;
 use crate::{BindFault, OutOfMemory, ServeFault, SocketLine};
 use mio::net::{TcpListener, TcpStream};
-use mio::{Events, Interest, Poll, Token};
+use mio::{Events, Interest, Poll, Registry, Token};
 use radio_addr::Peer;
 use std::alloc::Global;
 use std::io;
@@ -15,7 +16,8 @@ use std::net::{Net, SocketAddr};
 use std::rc::Rc;
 use std::time::{Clock, Duration};
 
-/// The name of the bound socket among those that the system tells of; any other is the number of a line.
+/// The name of the bound socket among what the system tells of; but for that of standard output, any other is the
+/// number of a line.
 const LISTENER: Token = Token(usize::MAX);
 
 /// Of how many sockets the system tells at once.
@@ -38,6 +40,8 @@ pub(crate) struct Sockets {
     activity: Rc<Activity>,
     /// Whether a connection may wait to be accepted.
     is_asked: bool,
+    /// Whether standard output has room.
+    has_room: bool,
 }
 
 impl Sockets {
@@ -88,6 +92,7 @@ impl Sockets {
             next: 0,
             activity,
             is_asked: true,
+            has_room: false,
         }))
     }
 
@@ -99,6 +104,18 @@ impl Sockets {
     /// Whether a line had something to do in the next turn since this was asked the last time.
     pub(crate) fn take_more(&self) -> bool {
         self.activity.take_more()
+    }
+
+    /// Whether the system has told that standard output has room since this was asked the last time.
+    pub(crate) fn take_room(&mut self) -> bool {
+        let has_room = self.has_room;
+        self.has_room = false;
+        has_room
+    }
+
+    /// Whom the system tells of.
+    pub(crate) fn registry(&self) -> &Registry {
+        self.poll.registry()
     }
 
     /// It is this moment for the lines.
@@ -131,6 +148,9 @@ impl Sockets {
         for event in &self.events {
             if event.token() == LISTENER {
                 self.is_asked = true;
+                is_woken = true;
+            } else if event.token() == OUTLET {
+                self.has_room = true;
                 is_woken = true;
             } else if let Some(readiness) = self.readiness.get(event.token().0) {
                 if readiness.mark(event) {

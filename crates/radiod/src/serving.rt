@@ -111,7 +111,8 @@ fn serve_through<'a, W: Wait, H: House>(
         Some(pass) => {
             let server = Watched::new(rt.alloc(), Caller::new(waits, hall, pass));
             let mut worker = Worker::new(rt.alloc(), server, bounds.patience_s);
-            let fault = listening.serve(rt, waits, &mut worker, bounds.most_lingering);
+            let output = rt.stdout();
+            let fault = listening.serve(rt, waits, &mut worker, bounds.most_lingering, output);
             drop(worker);
             fault
         }

@@ -12,35 +12,51 @@ use crate::owed::Owed;
 use crate::serving::drawing::fills_room;
 use crate::{Conn, Fate, Line, Server, Status};
 use radio_events::{Event, Reply};
+use radio_notes::{Account, Log};
 use radio_session::{Session, State};
 
 /// Applies an event of the connection, and tells it the reply. The connection has ended where it is
 /// shut by that, and is cut off where memory is refused.
-pub(crate) fn answer<S: Server, L: Line>(server: &mut S, conn: &mut Conn<L>, event: Event)
+pub(crate) fn answer<S: Server, L: Line>(
+    server: &mut S,
+    conn: &mut Conn<L>,
+    event: Event,
+    log: &Log,
+)
     requires { conn.old.status.fate ≡ Fate.Open }
     ensures { (entries : List EntryOf) × Chain S.steps server.old entries server.new × IsAnswered event conn.old entries conn.new }
 {
     let leaves = is_leave(&event);
     let listens = is_listen(&event);
+    let notice = conn.account.notice(log, conn.session.peer(), &event);
     match conn.refusals.apply(server, event) {
         Ok(reply) => {
+            conn.account.hear_reply(log, notice, &reply);
             let sits = both(listens, is_seated(&reply));
             let has_more = fills_room(&reply);
             note(&mut conn.status, leaves, sits, has_more);
             pass_over_if(&mut conn.line, sits);
-            conn.status.fate = tell(&mut conn.owed, &mut conn.session, reply);
+            conn.status.fate = tell(&mut conn.owed, &mut conn.session, reply, &conn.account);
         }
-        Err(_) => conn.status.fate = Fate::Cut,
+        Err(_) => {
+            conn.account.hear_refusal(notice);
+            conn.status.fate = Fate::Cut;
+        }
     }
 }
 
 /// Applies the events that were heard on it, one after another, up to its end.
-pub(crate) fn answer_all<S: Server, L: Line>(server: &mut S, conn: &mut Conn<L>, events: Vec<Event>)
+pub(crate) fn answer_all<S: Server, L: Line>(
+    server: &mut S,
+    conn: &mut Conn<L>,
+    events: Vec<Event>,
+    log: &Log,
+)
     requires { conn.old.status.fate ≡ Fate.Open }
     ensures { (entries : List EntryOf) × Chain S.steps server.old entries server.new × AreAnswered events.items conn.old entries conn.new }
 {
     for event in events {
-        answer(server, conn, event);
+        answer(server, conn, event, log);
         if !conn.status.fate.is_open() {
             return;
         }
@@ -48,7 +64,7 @@ pub(crate) fn answer_all<S: Server, L: Line>(server: &mut S, conn: &mut Conn<L>,
 }
 
 /// Tells a reply behind what is owed; what becomes of the connection by that.
-fn tell(owed: &mut Owed, session: &mut Session, reply: Reply) -> Fate
+fn tell(owed: &mut Owed, session: &mut Session, reply: Reply, account: &Account) -> Fate
     ensures told { IsToldAs result reply session.old owed.old session.new owed.new }
     // it is not closed by that, and cut off only where the session fails
     ensures closed { result ≡ Closed → ⊥ }
@@ -56,8 +72,14 @@ fn tell(owed: &mut Owed, session: &mut Session, reply: Reply) -> Fate
 {
     match owed.tell(session, reply) {
         Ok(State::Running) => Fate::Open,
-        Ok(State::Shut(_)) => Fate::Ended,
-        Err(_) => Fate::Cut,
+        Ok(State::Shut(ending)) => {
+            account.note_ending(ending);
+            Fate::Ended
+        }
+        Err(_) => {
+            account.note_no_memory();
+            Fate::Cut
+        }
     }
 }
 

@@ -9,6 +9,7 @@ use crate::serving::{ASKED_AFTER_MS, Now};
 use crate::{Conn, Line, Server, Status};
 use radio_blocks::Pieces;
 use radio_events::{Event, Reply};
+use radio_notes::Log;
 
 /// For how many bytes of data a listener has room in a turn.
 pub const DRAW_ROOM: u32 = 16384;
@@ -17,7 +18,7 @@ pub const DRAW_ROOM: u32 = 16384;
 /// before. Where there is none, and nothing was asked for him for half a second, he draws too; who has
 /// no seat is asked for with a draw that has no room then: they hear by which rule they were finished,
 /// if they were.
-pub(crate) fn draw<S: Server, L: Line>(server: &mut S, conn: &mut Conn<L>, now: Now)
+pub(crate) fn draw<S: Server, L: Line>(server: &mut S, conn: &mut Conn<L>, now: Now, log: &Log)
     ensures { Draws S.steps now.ms now.news server.old conn.old server.new conn.new }
 {
     if !conn.status.fate.is_open() {
@@ -28,9 +29,9 @@ pub(crate) fn draw<S: Server, L: Line>(server: &mut S, conn: &mut Conn<L>, now: 
     }
     conn.status.asked_ms = now.ms;
     if conn.status.sits {
-        draw_for(server, conn, DRAW_ROOM);
+        draw_for(server, conn, DRAW_ROOM, log);
     } else {
-        draw_for(server, conn, 0);
+        draw_for(server, conn, 0, log);
     }
 }
 
@@ -63,10 +64,10 @@ fn is_full(pieces: &Pieces) -> bool {
     left == 0
 }
 
-fn draw_for<S: Server, L: Line>(server: &mut S, conn: &mut Conn<L>, room: u32)
+fn draw_for<S: Server, L: Line>(server: &mut S, conn: &mut Conn<L>, room: u32, log: &Log)
     requires { conn.old.status.fate ≡ Open }
     ensures { DrawsFor S.steps room server.old conn.old server.new conn.new }
 {
     let event = Event::Draw { id: conn.id, room };
-    answer(server, conn, event);
+    answer(server, conn, event, log);
 }

@@ -34,6 +34,7 @@ fn write<L: Line, G: Gate>(conn: &mut Conn<L>, gate: &G, now: Now)
     gate.let_go(conn.id);
     match sent {
         Sent::Took(count) => {
+            conn.account.note_handed(count);
             conn.owed.take_off(count);
             conn.status.moved_ms = now.ms;
             conn.status.has_taken = true;
@@ -50,6 +51,7 @@ pub(crate) fn give_up<L: Line>(conn: &mut Conn<L>, now: Now)
 {
     conn.status.is_behind = either(now.news, conn.status.is_behind);
     if now.is_past(conn.status.moved_ms, now.patience_ms) {
+        conn.account.note_stalled();
         conn.status.fate = Fate::Cut;
     }
 }

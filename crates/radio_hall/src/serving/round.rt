@@ -11,22 +11,37 @@ use crate::serving::leaving::leave;
 use crate::serving::lingering::linger;
 use crate::serving::listening::listen;
 use crate::{Conn, Fate, Gate, Line, Server};
+use radio_notes::Log;
 
 /// How many bytes are read from a line in a turn at most.
 pub const READ_ROOM: usize = 16384;
 
-/// Serves each connection, in order.
+/// Serves each connection, in order, and tells of each that is at its end.
 pub(crate) fn serve_each<S: Server, L: Line, G: Gate>(
     server: &mut S,
     conns: &mut Vec<Conn<L>>,
     gate: &G,
     now: Now,
+    log: &Log,
 )
     ensures { ServesEach S.steps now.ms now.patience_ms now.news server.old conns.old.items server.new conns.new.items }
 {
     let mut buffer = [0u8; READ_ROOM];
     for conn in conns.iter_mut() {
-        serve(server, conn, &mut buffer, gate, now);
+        serve(server, conn, &mut buffer, gate, now, log);
+        tell_end(conn, now, log);
+    }
+}
+
+/// Tells of a connection that is over: of its source, and of its client once nothing more is written.
+fn tell_end<L: Line>(conn: &Conn<L>, now: Now, log: &Log) {
+    if conn.status.fate.is_open() {
+        return;
+    }
+    let peer = conn.session.peer();
+    conn.account.tell_source(log, peer, now.ms);
+    if conn.lingers() || !conn.stays() {
+        conn.account.tell_client(log, peer, now.ms);
     }
 }
 
@@ -38,6 +53,7 @@ fn serve<S: Server, L: Line, G: Gate>(
     buffer: &mut [u8; READ_ROOM],
     gate: &G,
     now: Now,
+    log: &Log,
 )
     ensures { ServesInTurn S.steps now.ms now.patience_ms now.news server.old conn.old server.new conn.new }
 {
@@ -47,7 +63,7 @@ fn serve<S: Server, L: Line, G: Gate>(
         leave(server, conn);
         return;
     }
-    work(server, conn, buffer, now);
+    work(server, conn, buffer, now, log);
     leave(server, conn);
     flush(conn, gate, now);
     leave(server, conn);
@@ -59,6 +75,7 @@ fn work<S: Server, L: Line>(
     conn: &mut Conn<L>,
     buffer: &mut [u8; READ_ROOM],
     now: Now,
+    log: &Log,
 )
     requires { conn.old.owed ≡ [] }
     ensures { Works S.steps now.ms now.news server.old conn.old server.new conn.new }
@@ -67,8 +84,8 @@ fn work<S: Server, L: Line>(
     match fate {
         Fate::Open => {
             conn.status.moved_ms = now.ms;
-            listen(server, conn, buffer, now);
-            draw(server, conn, now);
+            listen(server, conn, buffer, now, log);
+            draw(server, conn, now, log);
         }
         Fate::Ended => linger(conn, buffer, now),
         Fate::Closed => (),
