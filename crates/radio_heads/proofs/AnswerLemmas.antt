@@ -270,17 +270,17 @@ listener_is_read w more clean small short =
 
 -- ---- values of at most 255 bytes
 
-shown_is_short : (name value : List ℕ) → length (shown_line name value) ≤ length name + length value + 4
+pub shown_is_short : (name value : List ℕ) → length (shown_line name value) ≤ length name + length value + 4
 shown_is_short name [] = omega arith
 shown_is_short name (b ∷ value) = omega (arith, length-header_line name (b ∷ value))
 
-interval_is_short : (interval : Option ℕ) → IfSome interval (λ n. n < 2 ^ 32) → length (interval_line interval) ≤ 40
+pub interval_is_short : (interval : Option ℕ) → IfSome interval (λ n. n < 2 ^ 32) → length (interval_line interval) ≤ 40
 interval_is_short None small = omega arith
 interval_is_short (Some n) small =
     let below : n < 2 ^ 64 = omega arith in
     omega (arith, length-header_line (codes "icy-metaint") (decimal n), length-decimal n below)
 
-length-seven : (a b c d e f g : List ℕ)
+pub length-seven : (a b c d e f g : List ℕ)
     → length (a ++ b ++ c ++ d ++ e ++ f ++ g) ≡ length a + length b + length c + length d + length e + length f + length g
 length-seven a b c d e f g = simp length-append
 

@@ -8,3 +8,4 @@ pub mod FoundLemmas
 pub mod ValueLemmas
 pub mod ReadBackLemmas
 pub mod AnswerLemmas
+mod WebLemmas

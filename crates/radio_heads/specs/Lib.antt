@@ -7,3 +7,4 @@ pub mod Reading
 pub mod Response
 pub mod Search
 pub mod WebAnswer
+pub mod WebLaws

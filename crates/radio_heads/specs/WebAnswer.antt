@@ -1,10 +1,9 @@
 -- The text of each answer that the pages of web sites read.
-use Rattle.std.specs.Prelude.{◌≡◌, ℕ, List, [], ◌++◌, length, codes, decimal, Option, None, Some, IfSome}
-use Rattle.radio_heads.specs.declared.answer.TextKind.{TextKind}
+use Rattle.std.specs.Prelude.{ℕ, List, [], ◌++◌, length, codes, decimal, Option, None, Some, IfSome}
 use Rattle.radio_heads.specs.declared.answer.Welcome.{Welcome}
 use Rattle.radio_heads.specs.declared.web_answer.WebAnswer.{WebAnswer as AnyWebAnswer}
 use Rattle.radio_heads.specs.declared.web_answer.WebAnswer.TheVariants.{Stream, Text, Page}
-use Rattle.radio_heads.specs.Answer.{content_type, line, header_line, shown_line, interval_line, status_line, listener_text, sized_text}
+use Rattle.radio_heads.specs.Answer.{content_type, line, header_line, shown_line, interval_line, status_line}
 use Rattle.radio_heads.specs.FieldValue.{IsFieldText}
 use Rattle.radio_heads.specs.Laws.{IsCleanWelcome}
 
@@ -36,13 +35,15 @@ text_start type size =
     ++ header_line (codes "Content-Type") type
     ++ header_line (codes "Content-Length") (decimal size)
 
-abbrev pub shared_text : Option (List ℕ) → List ℕ → List ℕ → List ℕ
-shared_text origin type body =
-    text_start type (length body)
+abbrev pub shared_head : Option (List ℕ) → List ℕ → ℕ → List ℕ
+shared_head origin type size =
+    text_start type size
     ++ origin_line origin
     ++ header_line (codes "Connection") (codes "close")
     ++ line []
-    ++ body
+
+abbrev pub shared_text : Option (List ℕ) → List ℕ → List ℕ → List ℕ
+shared_text origin type body = shared_head origin type (length body) ++ body
 
 -- the media type of a page
 abbrev pub html : List ℕ
@@ -52,13 +53,15 @@ html = codes "text/html; charset=utf-8"
 abbrev pub page_start : List ℕ → ℕ → List ℕ
 page_start policy size = text_start html size ++ header_line (codes "Content-Security-Policy") policy
 
-abbrev pub page_text : Option (List ℕ) → List ℕ → List ℕ → List ℕ
-page_text origin policy body =
-    page_start policy (length body)
+abbrev pub page_head : Option (List ℕ) → List ℕ → ℕ → List ℕ
+page_head origin policy size =
+    page_start policy size
     ++ origin_line origin
     ++ header_line (codes "Connection") (codes "close")
     ++ line []
-    ++ body
+
+abbrev pub page_text : Option (List ℕ) → List ℕ → List ℕ → List ℕ
+page_text origin policy body = page_head origin policy (length body) ++ body
 
 -- the text of an answer
 abbrev pub web_answer_text : Option (List ℕ) → AnyWebAnswer → List ℕ
@@ -75,8 +78,3 @@ abbrev pub HasWebFieldTexts : AnyWebAnswer → Type 0
 HasWebFieldTexts (Stream w) = IsCleanWelcome w
 HasWebFieldTexts (Text kind body) = Unit {0}
 HasWebFieldTexts (Page policy body) = IsFieldText policy
-
--- where nothing is said of origins, a stream and a text are those of other answers
-pub record IsUnchanged : Type 0 where
-  pub stream : (w : Welcome) → stream_text None w ≡ listener_text w
-  pub text : (kind : TextKind) (body : List ℕ) → shared_text None (content_type kind) body ≡ sized_text 200 (content_type kind) body

@@ -2,7 +2,7 @@
 ghost use Rattle.radio_heads.specs.Head.{ShowsRequest};
 ghost use Rattle.radio_heads.specs.Response.{ShowsResponse};
 ghost use Rattle.radio_heads.specs.Laws.{ReadingsAgree, IsSettled, HeadsLieWithin, FrontsAreUnfinished, RequestsAreFound, ResponsesAreFound};
-ghost use Rattle.radio_heads.specs.WebAnswer.{IsUnchanged};
+ghost use Rattle.radio_heads.specs.WebLaws.{IsUnchanged, WebAnswersAreReadBack};
 ghost use Rattle.radio_heads.specs.Laws.{ListenerIsReadBack, ShortListenerIsReadBack, DenialIsReadBack, TextIsReadBack};
 
 /// Two readings of the same bytes are equal, or both are faults.
@@ -49,4 +49,10 @@ pub fn answers_read_back()
 /// Where nothing is said of origins, `write_web_answer` writes a stream and a text as `write_answer` does.
 pub fn unsaid_origins_change_nothing()
     ensures { IsUnchanged }
+{}
+
+/// What `write_web_answer` writes is read back with its headers, whatever bytes follow it, where the policy has at most 4096
+/// bytes and no other value more than 255; values come back without the white space at their ends.
+pub fn web_answers_read_back()
+    ensures { WebAnswersAreReadBack }
 {}

@@ -17,7 +17,7 @@
 //! - [`settled`]: once a reading is not `More`, more bytes change nothing.
 //! - [`fronts_are_unfinished`]: what gives `More` gave `More` before its last bytes came.
 //! - [`heads_are_found`]: no head of the grammar is lost.
-//! - [`answers_read_back`]: what is written is read back.
+//! - [`answers_read_back`], [`web_answers_read_back`]: what is written is read back.
 //! - [`unsaid_origins_change_nothing`]: answers for web sites are the others', where nothing is said of origins.
 #![tactic(auto)]
 
@@ -39,7 +39,7 @@ pub use head::Head;
 pub use headers::MAX_HEADERS;
 pub use laws::{
     answers_read_back, fronts_are_unfinished, heads_are_found, heads_lie_within, readings_agree,
-    settled, unsaid_origins_change_nothing,
+    settled, unsaid_origins_change_nothing, web_answers_read_back,
 };
 pub use outcome::{HeadFault, Progress};
 pub use reading::{read_request, read_request_from, read_response, read_response_from};

@@ -75,7 +75,7 @@ fn ends_no_line(value: &FieldValue)
     let _value = value.as_bytes();
 }
 
-fn write_stream(
+pub(crate) fn write_stream(
     alloc: Global,
     welcome: &Welcome,
     allow_origin: &Option<FieldValue>,

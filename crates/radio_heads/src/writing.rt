@@ -7,6 +7,7 @@ ghost use Rattle.radio_heads.specs.Laws.{HasFieldTexts, IsCleanWelcome};
 use crate::OutOfMemory;
 use crate::answer::{Answer, TextKind, Welcome};
 use crate::field_value::FieldValue;
+use crate::web_answer::write_stream;
 use http::StatusCode;
 use radio_policy::Status;
 use std::alloc::Global;
@@ -14,31 +15,19 @@ use std::alloc::Global;
 /// The text of an answer, byte for byte, with its body where it has one.
 ///
 /// The only error is `OutOfMemory`.
+#[tactic(auto, using(crate::proofs::WebLemmas::stream_unsaid))]
 pub fn write_answer(alloc: Global, answer: &Answer) -> Result<Vec<u8>, OutOfMemory>
     ensures text { IfOk result (λ text. text.items ≡ answer_text answer.now) }
     // no value from outside, in any answer that can be made, ends a header's line
     ensures one_line { HasFieldTexts answer.now }
 {
     match answer {
-        Answer::Listener(welcome) => write_welcome(alloc, welcome),
+        Answer::Listener(welcome) => write_stream(alloc, welcome, &None),
         Answer::Source => write_bare(alloc, "HTTP/1.0", StatusCode::OK),
         Answer::Continue => write_bare(alloc, "HTTP/1.1", StatusCode::CONTINUE),
         Answer::Denial { status, rule } => write_denial(alloc, *status, rule),
         Answer::Text { kind, body } => write_sized(alloc, StatusCode::OK, *kind, body),
     }
-}
-
-fn write_welcome(alloc: Global, welcome: &Welcome) -> Result<Vec<u8>, OutOfMemory>
-    ensures text { IfOk result (λ text. text.items ≡ listener_text welcome.now) }
-    ensures one_line { IsCleanWelcome welcome.now }
-{
-    end_no_line(welcome);
-    let mut text = Vec::new(alloc);
-    push_status(alloc, &mut text, "HTTP/1.0", StatusCode::OK)?;
-    push_stream(&mut text, welcome)?;
-    push_interval(alloc, &mut text, welcome.interval)?;
-    push_end(&mut text)?;
-    Ok(text)
 }
 
 /// No value of it ends a line: it says what the types of the values hold, and does nothing.
