@@ -1,12 +1,13 @@
 -- What the laws rest on.
-use Rattle.std.proofs.Common.{◌≡◌, Bool, true, false, List, [], ◌∷◌, Some, refl, ap, ◌∙◌, if◌then◌else◌}
+use Rattle.std.proofs.Common.{◌≡◌, ℕ, Bool, true, false, List, [], ◌∷◌, ◌++◌, Some, refl, ap, ◌∙◌, if◌then◌else◌}
 use Rattle.std.specs.Prelude.{map, filter, not}
 use Rattle.std.specs.Str.Lossy.{utf8_lossy}
 use Rattle.serde_json.specs.View.{items_of}
 use Rattle.radio_listing.specs.declared.rows.MountRow.{MountRow}
 use Rattle.radio_listing.specs.declared.rows.PublicRow.{PublicRow}
-use Rattle.radio_listing.specs.Icecast.{icecast_text}
-use Rattle.radio_listing.specs.Laws.{LookAlike, mounts_named, names_of, not_hidden, shown_names}
+use Rattle.radio_listing.specs.declared.rows.Server.{Server}
+use Rattle.radio_listing.specs.Icecast.{icecast_data, icecast_text, one_or_list, source_data}
+use Rattle.radio_listing.specs.Laws.{LookAlike, mounts_named, names_of, not_hidden, shown_names, shown_urls, sources_in, urls_of, urls_told}
 use Rattle.radio_listing.specs.Public.{public_data, rows_shown, status_data, status_text, stream_text}
 
 pub alike : (rows others : List MountRow) → rows_shown rows ≡ rows_shown others → LookAlike rows others
@@ -23,6 +24,20 @@ named (row ∷ rows) = ap (λ names. Some (utf8_lossy row.mount) ∷ names) (nam
 
 pub status_names : (rows : List MountRow) → mounts_named (status_data rows) ≡ shown_names rows
 status_names rows = ap (λ names. Some names) (named (rows_shown rows))
+
+listed : (base : List ℕ) (rows : List PublicRow)
+    → urls_of (items_of (map (source_data base) rows)) ≡ map (λ (row : PublicRow). Some (utf8_lossy (base ++ row.mount))) rows
+listed base [] = refl
+listed base (row ∷ rows) = ap (λ urls. Some (utf8_lossy (base ++ row.mount)) ∷ urls) (listed base rows)
+
+told : (base : List ℕ) (rows : List PublicRow)
+    → urls_of (sources_in (one_or_list (map (source_data base) rows))) ≡ map (λ (row : PublicRow). Some (utf8_lossy (base ++ row.mount))) rows
+told base [] = refl
+told base (row ∷ []) = refl
+told base (row ∷ next ∷ rows) = listed base (row ∷ next ∷ rows)
+
+pub icecast_urls : (server : Server) (rows : List MountRow) → urls_told (icecast_data server rows) ≡ shown_urls server.base_url rows
+icecast_urls server rows = ap (λ urls. Some urls) (told server.base_url (rows_shown rows))
 
 shown_at : (row : MountRow) (b : Bool) (rows : List MountRow) (rest : List PublicRow) → rows_shown rows ≡ rest
     → (if b then rows_shown rows else row.public ∷ rows_shown rows) ≡ (if b then rest else row.public ∷ rest)

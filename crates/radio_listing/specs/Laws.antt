@@ -1,5 +1,5 @@
 -- What listings show, and to whom.
-use Rattle.std.specs.Prelude.{◌≡◌, ℕ, List, [], ◌∷◌, map, filter, not, codes, Option, Some}
+use Rattle.std.specs.Prelude.{◌≡◌, ℕ, List, [], ◌∷◌, ◌++◌, map, filter, not, codes, Option, Some, unwrap_or}
 use Rattle.std.specs.Option.{option_and_then, option_map}
 use Rattle.std.specs.Str.Lossy.{utf8_lossy}
 use Rattle.serde_json.specs.Data.{Data, Items, no_items, item}
@@ -32,3 +32,20 @@ mounts_named shown = option_map names_of (option_and_then as_array (get (codes "
 -- the names of the mounts that are not hidden, as text
 abbrev pub shown_names : List MountRow → Option (List (Option (List ℕ)))
 shown_names rows = Some (map (λ (row : PublicRow). Some (utf8_lossy row.mount)) (rows_shown rows))
+
+-- the sources that an answer of Icecast tells: the one, or those of the list
+abbrev pub sources_in : Data → Items
+sources_in source = unwrap_or (as_array source) (item source no_items)
+
+-- where sources are heard: the member `listenurl` of each
+abbrev pub urls_of : Items → List (Option (List ℕ))
+urls_of no_items = []
+urls_of (item value values) = option_and_then as_str (get (codes "listenurl") value) ∷ urls_of values
+
+abbrev pub urls_told : Data → Option (List (Option (List ℕ)))
+urls_told shown =
+    option_map (λ source. urls_of (sources_in source)) (option_and_then (get (codes "source")) (get (codes "icestats") shown))
+
+-- where the mounts that are not hidden are heard, as text
+abbrev pub shown_urls : List ℕ → List MountRow → Option (List (Option (List ℕ)))
+shown_urls base rows = Some (map (λ (row : PublicRow). Some (utf8_lossy (base ++ row.mount))) (rows_shown rows))
