@@ -71,11 +71,6 @@ fn seat_some(
     Ok(())
 }
 
-/// How many sit at the two mounts.
-fn counts(seats: &Seats, one: &MountName, other: &MountName) -> (u64, u64) {
-    (seats.count(one), seats.count(other))
-}
-
 fn sits_at(seats: &Seats, id: u64, mount: &MountName) -> bool {
     match seats.seat(id) {
         Some(seat) => *seat.mount == *mount,
@@ -90,31 +85,70 @@ fn has_lost(seats: &Seats, id: u64, rule: Rule) -> bool {
     }
 }
 
-/// Two mounts of 30 and 20 listeners: what moves, ends and goes is counted where it was.
-fn are_counted(alloc: Global, seats: &mut Seats) -> Result<bool, OutOfMemory> {
-    let (one, other) = (mount(b"/one")?, mount(b"/other")?);
-    seat_some(alloc, seats, one, 1, 30)?;
-    seat_some(alloc, seats, other, 31, 20)?;
-    let begun = counts(seats, &one, &other) == (30, 20);
-    seats.prepare(&other)?;
-    seats.shift(7, &other, 2, Place::new(9));
-    let moved = counts(seats, &one, &other) == (29, 21) && sits_at(seats, 7, &other);
+/// The two mounts.
+#[derive(Clone, Copy)]
+struct Mounts {
+    one: MountName,
+    other: MountName,
+}
+
+fn two_mounts() -> Result<Mounts, OutOfMemory> {
+    Ok(Mounts {
+        one: mount(b"/one")?,
+        other: mount(b"/other")?,
+    })
+}
+
+/// Whether so many sit at the one mount and at the other.
+fn are_there(seats: &Seats, mounts: &Mounts, counts: (u64, u64)) -> bool {
+    seats.count(&mounts.one) == counts.0 && seats.count(&mounts.other) == counts.1
+}
+
+/// 30 and 20 sit down.
+fn have_come(alloc: Global, seats: &mut Seats, mounts: &Mounts) -> Result<bool, OutOfMemory> {
+    seat_some(alloc, seats, mounts.one, 1, 30)?;
+    seat_some(alloc, seats, mounts.other, 31, 20)?;
+    Ok(are_there(seats, mounts, (30, 20)))
+}
+
+/// One goes to the other mount.
+fn has_moved(seats: &mut Seats, mounts: &Mounts) -> Result<bool, OutOfMemory> {
+    seats.prepare(&mounts.other)?;
+    seats.shift(7, &mounts.other, 2, Place::new(9));
+    Ok(are_there(seats, mounts, (29, 21)) && sits_at(seats, 7, &mounts.other))
+}
+
+/// One loses his seat, and one is gone.
+fn are_gone(seats: &mut Seats, mounts: &Mounts) -> bool {
     seats.end(8, Rule::Lagged);
     seats.remove(9);
-    let gone = counts(seats, &one, &other) == (27, 21) && has_lost(seats, 8, Rule::Lagged);
-    sit_down(alloc, seats, other, 8)?;
-    Ok(begun && moved && gone && counts(seats, &one, &other) == (27, 22))
+    are_there(seats, mounts, (27, 21)) && has_lost(seats, 8, Rule::Lagged)
+}
+
+/// Two mounts of 30 and 20 listeners: what moves, ends and goes is counted where it was.
+fn are_counted(alloc: Global, seats: &mut Seats) -> Result<bool, OutOfMemory> {
+    let mounts = two_mounts()?;
+    let begun = have_come(alloc, seats, &mounts)?;
+    let moved = has_moved(seats, &mounts)?;
+    let gone = are_gone(seats, &mounts);
+    sit_down(alloc, seats, mounts.other, 8)?;
+    Ok(begun && moved && gone && are_there(seats, &mounts, (27, 22)))
+}
+
+/// Those of the mount who came before this moment are finished.
+fn finishes_at(seats: &mut Seats, mount: &MountName, moment: u64, rule: Rule) {
+    seats.finish_at_if(mount, &CameBefore { moment }, rule);
 }
 
 /// Those of a mount who came before a moment, then those of all mounts, then the rest.
 fn are_finished(seats: &mut Seats) -> Result<bool, OutOfMemory> {
-    let (one, other) = (mount(b"/one")?, mount(b"/other")?);
-    seats.finish_at_if(&one, &CameBefore { moment: 11 }, Rule::Lagged);
-    let some = counts(seats, &one, &other) == (20, 22) && has_lost(seats, 10, Rule::Lagged);
+    let mounts = two_mounts()?;
+    finishes_at(seats, &mounts.one, 11, Rule::Lagged);
+    let some = are_there(seats, &mounts, (20, 22)) && has_lost(seats, 10, Rule::Lagged);
     seats.finish_if(&CameBefore { moment: 41 }, Rule::TimeOver);
-    let more = counts(seats, &one, &other) == (0, 10) && has_lost(seats, 40, Rule::TimeOver);
-    seats.finish_at_if(&other, &CameBefore { moment: 51 }, Rule::NotLive);
-    Ok(some && more && counts(seats, &one, &other) == (0, 0) && has_lost(seats, 50, Rule::NotLive))
+    let more = are_there(seats, &mounts, (0, 10)) && has_lost(seats, 40, Rule::TimeOver);
+    finishes_at(seats, &mounts.other, 51, Rule::NotLive);
+    Ok(some && more && are_there(seats, &mounts, (0, 0)) && has_lost(seats, 50, Rule::NotLive))
 }
 
 #[test]

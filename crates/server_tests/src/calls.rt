@@ -6,7 +6,9 @@ use radio_blocks::Block;
 use radio_book::OutOfMemory;
 use radio_core::Core;
 use radio_creds::basic;
-use radio_events::{Asked, Command, CommandRequest, Event, ListenRequest, Listing, OpenedBy, Reply, SourceRequest};
+use radio_events::{
+    Asked, Command, CommandRequest, Event, ListenRequest, Listing, OpenedBy, Reply, SourceRequest,
+};
 use radio_icy::Title;
 use radio_settings::{MountName, Shown};
 use std::alloc::Global;

@@ -13,8 +13,10 @@ use bytes::Bytes;
 use radio_creds::Pair;
 use radio_events::{Listing, Text};
 use radio_icy::Title;
-use radio_listing::{ListenerRow, MountRow, PublicRow, Text as Shown};
-use radio_listing::{list_clients, list_mounts, stats, status, stream_list};
+use radio_listing::{
+    ListenerRow, MountRow, PublicRow, Text as Shown, list_clients, list_mounts, stats, status,
+    stream_list,
+};
 use radio_parts::Session;
 use radio_seats::LentListener;
 use radio_settings::MountName;
