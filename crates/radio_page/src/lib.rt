@@ -17,7 +17,7 @@ use radio_heads::{FieldValue, WebAnswer};
 /// their texts, and what this server answers to its script and its players. So a text of a stream, whatever it holds, runs
 /// nothing and fetches nothing.
 pub const POLICY: &str =
-    r"default-src 'none'; script-src 'sha256-AIsoQwsEXgD2KIS7Adq0BNX+uofZrRAJ22MfavHAhOg='; style-src 'sha256-l2Kn7Nn0Q5JF/0VOKTC+fr55BaNfEwElp+eqWZF/dzM='; connect-src 'self'; media-src 'self'; base-uri 'none'; form-action 'none'; frame-ancestors 'none'";
+    r"default-src 'none'; script-src 'sha256-KH4PKUGXixwFPKIZWngppJlNQej6m9NBgP2Ebq5MsFA='; style-src 'sha256-l2Kn7Nn0Q5JF/0VOKTC+fr55BaNfEwElp+eqWZF/dzM='; connect-src 'self'; media-src 'self'; base-uri 'none'; form-action 'none'; frame-ancestors 'none'";
 
 /// The page, in HTML (the HTML Living Standard) and ASCII.
 pub const PAGE: &str = r##"<!DOCTYPE html>
@@ -56,6 +56,11 @@ const state = document.getElementById('state');
 const list = document.getElementById('mounts');
 const entries = new Map();
 
+// Beside this page, which a proxy may have put under a path of its own.
+function addressOf(path) {
+  return new URL('.' + path, location.href).href;
+}
+
 function append(parent, kind, name) {
   const part = document.createElement(kind);
   part.className = name;
@@ -78,7 +83,7 @@ function makeEntry(mount) {
   };
   entry.player.controls = true;
   entry.player.preload = 'none';
-  entry.player.src = location.origin + mount.split('/').map(encodeURIComponent).join('/');
+  entry.player.src = addressOf(mount.split('/').map(encodeURIComponent).join('/'));
   for (const end of ['ended', 'error']) {
     entry.player.addEventListener(end, () => entry.player.load());
   }
@@ -131,7 +136,7 @@ async function read() {
   const stop = new AbortController();
   const late = setTimeout(() => stop.abort(), patience);
   try {
-    const answer = await fetch('/status.json', { cache: 'no-store', signal: stop.signal });
+    const answer = await fetch(addressOf('/status.json'), { cache: 'no-store', signal: stop.signal });
     if (!answer.ok) throw new Error('status ' + answer.status);
     return (await answer.json()).mounts;
   } finally {

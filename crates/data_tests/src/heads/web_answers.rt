@@ -1,5 +1,8 @@
 //! Answers that the pages of web sites read, and whose pages may.
-use radio_heads::{FieldValue, TextKind, WebAnswer, Welcome, write_web_answer};
+use radio_heads::{
+    FieldValue, Progress, TextKind, WebAnswer, Welcome, read_response, write_web_answer,
+};
+use radio_page::{POLICY, page};
 use std::alloc::Global;
 
 const STREAM: &[u8] = b"HTTP/1.0 200 OK\r\n\
@@ -65,7 +68,7 @@ fn text<'a>() -> Option<WebAnswer<'a>> {
     })
 }
 
-fn page<'a>() -> Option<WebAnswer<'a>> {
+fn any_page<'a>() -> Option<WebAnswer<'a>> {
     Some(WebAnswer::Page {
         policy: FieldValue::read(b"default-src 'none'")?,
         body: b"<p>",
@@ -102,8 +105,8 @@ fn are_texts(alloc: Global, or: bool) -> bool {
             TEXT_FOR_ONE,
             or,
         )
-        && is_text(alloc, &page(), None, PAGE, or)
-        && is_text(alloc, &page(), Some(b"*"), PAGE_FOR_ALL, or)
+        && is_text(alloc, &any_page(), None, PAGE, or)
+        && is_text(alloc, &any_page(), Some(b"*"), PAGE_FOR_ALL, or)
 }
 
 #[test]
@@ -115,4 +118,34 @@ fn answers_for_web_sites(rt: HostRuntime) {
 #[test]
 fn refused_memory_for_web_sites(rt: HostRuntime) {
     assert!(rt; are_texts(rt.alloc(), true));
+}
+
+/// Whether the page of what is on air stands behind its head, to its end, under its policy.
+fn is_page(text: &[u8]) -> bool {
+    match read_response(text) {
+        Ok(Progress::Whole(head, length)) => {
+            head.value("Content-Security-Policy") == Some(POLICY.as_bytes())
+                && has_page(text.get(length..))
+        }
+        _ => false,
+    }
+}
+
+fn has_page(body: Option<&[u8]>) -> bool {
+    match body {
+        Some(body) => body.starts_with(b"<!DOCTYPE html>\n") && body.ends_with(b"</html>\n"),
+        None => false,
+    }
+}
+
+fn is_page_written(alloc: Global) -> bool {
+    match write_web_answer(alloc, &page(), &None) {
+        Ok(text) => is_page(text.as_slice()),
+        Err(_) => false,
+    }
+}
+
+#[test]
+fn the_page_of_what_is_on_air(rt: HostRuntime) {
+    assert!(rt; is_page_written(rt.alloc()));
 }
