@@ -1,10 +1,11 @@
 //! What is noted of one connection.
 
+use crate::agent::agent_in;
 use crate::request::Request;
 use crate::{Log, Notice, OutOfMemory};
 use radio_addr::Peer;
 use radio_events::{Event, Reply};
-use radio_heads::{Head, Progress, read_request};
+use radio_heads::{Progress, read_request};
 use radio_log::{ClientEnded, Fact, SourceGone, SourceUp, Text};
 use radio_policy::{Rule, Status};
 use radio_session::{Ending, State};
@@ -93,7 +94,7 @@ impl Account {
             self.hold(held, bytes);
         } else {
             self.is_asking.set(false);
-            self.read_all(held, bytes);
+            self.read_all(held, bytes, events.as_slice());
         }
     }
 
@@ -107,25 +108,38 @@ impl Account {
     }
 
     /// The last bytes of a head have come behind these.
-    fn read_all(&self, held: Vec<u8>, bytes: &[u8]) {
+    fn read_all(&self, held: Vec<u8>, bytes: &[u8], events: &[Event]) {
         if held.is_empty() {
-            self.read(bytes);
+            self.read(bytes, events);
             return;
         }
         let mut held = held;
         if held.extend_from_slice(bytes).is_ok() {
-            self.read(held.as_slice());
+            self.read(held.as_slice(), events);
         }
     }
 
-    fn read(&self, bytes: &[u8]) {
-        if let Ok(Progress::Whole(head, _)) = read_request(bytes) {
-            self.keep(&head);
+    /// A head, which means these events: of a listener's all but his user agent stands in the event.
+    fn read(&self, head: &[u8], events: &[Event]) {
+        match events.first() {
+            Some(Event::Listen(asked)) => {
+                self.keep(Request::of_listener(self.alloc, asked, agent_in(head)));
+            }
+            _ => self.keep(self.read_again(head)),
         }
     }
 
-    fn keep(&self, head: &Head) {
-        if let Ok(request) = Request::of(self.alloc, head) {
+    /// What a head asks for, read once more.
+    #[cold]
+    fn read_again(&self, head: &[u8]) -> Option<Request> {
+        match read_request(head) {
+            Ok(Progress::Whole(head, _)) => Request::of(self.alloc, &head),
+            _ => None,
+        }
+    }
+
+    fn keep(&self, request: Option<Request>) {
+        if let Some(request) = request {
             self.heard.set(Heard::Request(request));
         }
     }

@@ -9,6 +9,7 @@
 #![tactic(auto)]
 
 mod account;
+mod agent;
 mod log;
 mod notice;
 mod request;

@@ -4,7 +4,8 @@ ghost use Rattle.std.specs.Prelude.{◌≤◌, length};
 
 use crate::OutOfMemory;
 use radio_admin::read_path;
-use radio_creds::basic;
+use radio_creds::{Pair, basic};
+use radio_events::ListenRequest;
 use radio_heads::Head;
 use std::alloc::Global;
 
@@ -22,14 +23,38 @@ pub(crate) struct Request {
 }
 
 impl Request {
-    /// What is kept of the request of this head. `OutOfMemory` where memory was refused.
-    pub(crate) fn of(alloc: Global, head: &Head) -> Result<Request, OutOfMemory> {
+    /// What is kept of the request of this head; `None` where memory was refused.
+    pub(crate) fn of(alloc: Global, head: &Head) -> Option<Request> {
+        match Request::read(alloc, head) {
+            Ok(request) => Some(request),
+            Err(_) => None,
+        }
+    }
+
+    fn read(alloc: Global, head: &Head) -> Result<Request, OutOfMemory> {
         let path = read_path(alloc, head.path())?;
-        let path = front_of(path.as_slice());
-        let agent = front_of(value_of(head, "User-Agent"));
-        match basic(alloc, value_of(head, "Authorization"))? {
-            Some(pair) => Request::join(alloc, head.method(), path, front_of(pair.user()), agent),
-            None => Request::join(alloc, head.method(), path, b"", agent),
+        let agent = value_of(head, "User-Agent");
+        let pair = basic(alloc, value_of(head, "Authorization"))?;
+        Request::join(
+            alloc,
+            front_of(head.method()),
+            front_of(path.as_slice()),
+            front_of(user_of(&pair)),
+            front_of(agent),
+        )
+    }
+
+    /// What is kept of the request of a listener with this user agent; `None` where memory was refused.
+    pub(crate) fn of_listener(
+        alloc: Global,
+        asked: &ListenRequest,
+        agent: &[u8],
+    ) -> Option<Request> {
+        let path = front_of(asked.mount.as_slice());
+        let user = front_of(user_of(&asked.pair));
+        match Request::join(alloc, b"GET", path, user, front_of(agent)) {
+            Ok(request) => Some(request),
+            Err(_) => None,
         }
     }
 
@@ -40,11 +65,11 @@ impl Request {
         user: &[u8],
         agent: &[u8],
     ) -> Result<Request, OutOfMemory>
+        requires method { length method.now ≤ 255 }
         requires path { length path.now ≤ 255 }
         requires user { length user.now ≤ 255 }
         requires agent { length agent.now ≤ 255 }
     {
-        let method = front_of(method);
         let mut bytes = Vec::with_capacity(
             alloc,
             method.len() + path.len() + user.len() + agent.len(),
@@ -90,6 +115,14 @@ impl Request {
             self.agent_at as usize,
             self.bytes.len(),
         )
+    }
+}
+
+/// The user of a pair, empty where there is none.
+fn user_of(pair: &Option<Pair>) -> &[u8] {
+    match pair {
+        Some(pair) => pair.user(),
+        None => b"",
     }
 }
 
