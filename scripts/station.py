@@ -126,13 +126,18 @@ class Station:
         line = self.ask(b"GET " + mount + b" HTTP/1.0\r\n" + more + b"\r\n")
         return line, head(line)
 
-    def listener_with_little_room(self):
-        """A listener whose socket holds a few thousand bytes, and who was admitted."""
+    def ask_with_little_room(self, text):
+        """The line of one whose socket holds a few thousand bytes."""
         line = socket.socket()
         line.setsockopt(socket.SOL_SOCKET, socket.SO_RCVBUF, 4096)
         line.settimeout(PATIENCE)
         line.connect((self.address, self.port))
-        line.sendall(b"GET /a HTTP/1.0\r\n\r\n")
+        line.sendall(text)
+        return line
+
+    def listener_with_little_room(self):
+        """A listener whose socket holds a few thousand bytes, and who was admitted."""
+        line = self.ask_with_little_room(b"GET /a HTTP/1.0\r\n\r\n")
         head(line)
         return line
 
