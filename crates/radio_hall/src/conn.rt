@@ -7,7 +7,7 @@ use crate::refusals::Refusals;
 use crate::{Line, OutOfMemory};
 use radio_addr::Peer;
 use radio_events::Reply;
-use radio_notes::Account;
+use radio_notes::{Account, Told};
 use radio_session::Session;
 use std::alloc::Global;
 use std::marker::Model;
@@ -148,7 +148,7 @@ impl<L: Line> Conn<L> {
         let mut session = Session::new(alloc, 0, peer);
         let mut owed = Owed::new(alloc);
         let account = Account::new(alloc, ms);
-        account.note_reply(&denial);
+        account.note_reply(Told::of(&denial));
         let state = owed.tell(&mut session, denial)?;
         account.note_state(state);
         Ok(Conn {

@@ -2,9 +2,9 @@
 
 use crate::agent::agent_in;
 use crate::request::Request;
-use crate::{Log, Notice, OutOfMemory};
+use crate::{Log, Notice, OutOfMemory, Told};
 use radio_addr::Peer;
-use radio_events::{Event, Reply};
+use radio_events::Event;
 use radio_heads::{Progress, read_request};
 use radio_log::{ClientEnded, Fact, SourceGone, SourceUp, Text};
 use radio_policy::{Rule, Status};
@@ -145,13 +145,13 @@ impl Account {
     }
 
     /// The server has replied so.
-    pub fn note_reply(&self, reply: &Reply) {
-        match reply {
-            Reply::Seated { .. } => self.admit(Part::Listener),
-            Reply::Feeding => self.admit(Part::Source),
-            Reply::Text(_) => self.answer(200),
-            Reply::Deny(rule) => self.answer(code_of(*rule)),
-            _ => (),
+    pub fn note_reply(&self, told: Told) {
+        match told {
+            Told::Seated => self.admit(Part::Listener),
+            Told::Feeding => self.admit(Part::Source),
+            Told::Text => self.answer(200),
+            Told::Denied(rule) => self.answer(code_of(rule)),
+            Told::Nothing | Told::Noted => (),
         }
     }
 
@@ -184,9 +184,13 @@ impl Account {
     }
 
     /// The server has replied so to an event of which this is to be told, if it is done.
-    pub fn hear_reply(&self, log: &Log, notice: Notice, reply: &Reply) {
-        notice.tell(log, self, reply);
-        self.note_reply(reply);
+    pub fn hear_reply(&self, log: &Log, notice: Notice, told: Told) {
+        if matches!(told, Told::Nothing) {
+            drop(notice);
+            return;
+        }
+        notice.tell(log, self, told);
+        self.note_reply(told);
     }
 
     /// The connection goes on, or has ended.

@@ -1,8 +1,8 @@
 //! What is to be told of an event.
 
-use crate::{Account, Log, OutOfMemory};
+use crate::{Account, Log, OutOfMemory, Told};
 use radio_addr::Peer;
-use radio_events::{Asked, Command, CommandRequest, Event, Reply, SourceRequest};
+use radio_events::{Asked, Command, CommandRequest, Event, SourceRequest};
 use radio_log::{Command as CommandTold, Fact, Text, Title};
 use radio_settings::MountName;
 use std::alloc::Global;
@@ -32,10 +32,10 @@ impl Notice {
     }
 
     /// Tells of it, where the server has replied that it is done.
-    pub fn tell(self, log: &Log, account: &Account, reply: &Reply) {
-        match reply {
-            Reply::Feeding | Reply::Text(_) => self.write(log),
-            Reply::Noted => self.count(account),
+    pub fn tell(self, log: &Log, account: &Account, told: Told) {
+        match told {
+            Told::Feeding | Told::Text => self.write(log),
+            Told::Noted => self.count(account),
             _ => (),
         }
     }

@@ -12,15 +12,16 @@ use crate::owed::Owed;
 use crate::serving::drawing::fills_room;
 use crate::{Conn, Fate, Line, Server, Status};
 use radio_events::{Event, Reply};
-use radio_notes::{Account, Log};
+use radio_notes::{Account, Log, Notice, Told};
 use radio_session::{Session, State};
 
 /// Applies an event of the connection, and tells it the reply. The connection has ended where it is
-/// shut by that, and is cut off where memory is refused.
+/// shut by that, and is cut off where memory is refused. The notice is what is to be told of the event.
 pub(crate) fn answer<S: Server, L: Line>(
     server: &mut S,
     conn: &mut Conn<L>,
     event: Event,
+    notice: Notice,
     log: &Log,
 )
     requires { conn.old.status.fate ≡ Fate.Open }
@@ -28,10 +29,9 @@ pub(crate) fn answer<S: Server, L: Line>(
 {
     let leaves = is_leave(&event);
     let listens = is_listen(&event);
-    let notice = conn.account.notice(log, conn.session.peer(), &event);
     match conn.refusals.apply(server, event) {
         Ok(reply) => {
-            conn.account.hear_reply(log, notice, &reply);
+            conn.account.hear_reply(log, notice, Told::of(&reply));
             let sits = both(listens, is_seated(&reply));
             let has_more = fills_room(&reply);
             note(&mut conn.status, leaves, sits, has_more);
@@ -56,7 +56,8 @@ pub(crate) fn answer_all<S: Server, L: Line>(
     ensures { (entries : List EntryOf) × Chain S.steps server.old entries server.new × AreAnswered events.items conn.old entries conn.new }
 {
     for event in events {
-        answer(server, conn, event, log);
+        let notice = conn.account.notice(log, conn.session.peer(), &event);
+        answer(server, conn, event, notice, log);
         if !conn.status.fate.is_open() {
             return;
         }

@@ -9,7 +9,7 @@ use crate::serving::{ASKED_AFTER_MS, Now};
 use crate::{Conn, Line, Server, Status};
 use radio_blocks::Pieces;
 use radio_events::{Event, Reply};
-use radio_notes::Log;
+use radio_notes::{Log, Notice};
 
 /// For how many bytes of data a listener has room in a turn.
 pub const DRAW_ROOM: u32 = 16384;
@@ -69,5 +69,5 @@ fn draw_for<S: Server, L: Line>(server: &mut S, conn: &mut Conn<L>, room: u32, l
     ensures { DrawsFor S.steps room server.old conn.old server.new conn.new }
 {
     let event = Event::Draw { id: conn.id, room };
-    answer(server, conn, event, log);
+    answer(server, conn, event, Notice::Nothing, log);
 }

@@ -45,7 +45,7 @@ pub returns-then-not-is_open : goal.returns-then-not-is_open
 returns-then-not-is_open g c =
     let inv = c.loop-event.invariant in
     let a = c.answer.ensures in
-    let over : is_open c.answer.new.conn.status.fate ≡ _ = ap (λ (o : Connection). is_open o.status.fate) (sym c.conn.view_is) ∙ sym c.is_open.ensures
+    let over : is_open c.answer.new.conn.status.fate ≡ _ = ap (λ (o : Connection). is_open o.status.fate) (sym c.conn-in-loop-event.view_is) ∙ sym c.is_open.ensures
     ∙ c.if-not-is_open.true in (
       inv.entries ++ a.0,
       chain_then g.S.Server.steps _ _ _ inv.entries a.0 inv.chain a.1,
@@ -70,7 +70,7 @@ loop-event-preserved g c =
     let inv = c.loop-event.invariant in
     let a = c.answer.ensures in
     let goes : c.answer.new.conn.status.fate ≡ Open =
-    open_from c.answer.new.conn.status.fate (ap (λ (o : Connection). is_open o.status.fate) (sym c.conn.view_is) ∙ sym c.is_open.ensures
+    open_from c.answer.new.conn.status.fate (ap (λ (o : Connection). is_open o.status.fate) (sym c.conn-in-loop-event.view_is) ∙ sym c.is_open.ensures
     ∙ c.if-not-is_open.false) in record {
       entries = inv.entries ++ a.0;
       chain = chain_then g.S.Server.steps _ _ _ inv.entries a.0 inv.chain a.1;
