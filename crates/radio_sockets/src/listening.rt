@@ -25,6 +25,10 @@ const WAIT_MS: u64 = 50;
 /// After how long the log is told the moment again, in milliseconds.
 const TELL_AFTER_MS: u64 = 100;
 
+/// How often the log is written at the end: what is being written and what waits are 65,536 bytes each at most, of which
+/// 4096 are written at once.
+const MOST_LAST_WRITES: usize = 36;
+
 /// How many connections are accepted in a turn at most.
 const MOST_AT_ONCE: usize = 1024;
 
@@ -93,6 +97,7 @@ impl Listening {
         let mut outlet = Outlet::new(self.alloc, self.sockets.registry(), output);
         tell_moment(clock, worker);
         let fault = self.serve_turns(clock, waits, worker, &mut conns, &mut outlet);
+        self.write_rest(worker, &mut outlet);
         drop(outlet);
         drop(conns);
         drop(self);
@@ -179,6 +184,21 @@ impl Listening {
             outlet.set_lines(worker.log().take());
         }
         outlet.write(self.sockets.registry());
+    }
+
+    /// Writes of the log, at the end, what can be written without waiting, so that no line is left cut off but where there
+    /// is no room.
+    fn write_rest<S: Server + Drop, O: Write + Drop>(
+        &mut self,
+        worker: &Worker<Watched<S>>,
+        outlet: &mut Outlet<O>,
+    ) {
+        for _ in 0..MOST_LAST_WRITES {
+            if self.sockets.hear_now().is_err() {
+                return;
+            }
+            self.write_log(worker, outlet);
+        }
     }
 
     /// How long the next turn waits at most: not at all where there is something to do.

@@ -1,11 +1,13 @@
 //! Where the lines of the log go.
 
 use mio::unix::SourceFd;
-use mio::{Interest, Registry, Token};
+use mio::{Events, Interest, Poll, Registry, Token};
 use std::alloc::Global;
 use std::io;
 use std::io::{ErrorKind, Write};
+use std::net::Net;
 use std::os::fd::RawFd;
+use std::time::Duration;
 
 /// The name of standard output among what the system tells of.
 pub(crate) const OUTLET: Token = Token(usize::MAX - 1);
@@ -117,6 +119,26 @@ impl<W: Write + Drop> Outlet<W> {
             },
         }
     }
+}
+
+/// Writes these bytes on standard output, by this stream of it, where that does not wait: what can't be written so is
+/// dropped.
+pub fn write_at_once<R: Net, W: Write + Drop>(rt: &R, alloc: Global, stream: W, bytes: Vec<u8>) {
+    let Ok(mut poll) = Poll::new(rt) else {
+        drop(stream);
+        return;
+    };
+    let Ok(mut events) = Events::with_capacity(alloc, 1) else {
+        drop(stream);
+        return;
+    };
+    let mut outlet = Outlet::new(alloc, poll.registry(), stream);
+    outlet.set_lines(bytes);
+    if poll.poll(&mut events, Some(Duration::ZERO)).is_ok() && !events.is_empty() {
+        outlet.note_room();
+    }
+    outlet.write(poll.registry());
+    drop(outlet);
 }
 
 /// Asks the system to tell when standard output has room, the first time or again.

@@ -138,6 +138,12 @@ impl Sockets {
         Ok(now_ms)
     }
 
+    /// Hears from the system what is ready by now.
+    pub(crate) fn hear_now(&mut self) -> Result<(), ServeFault> {
+        self.poll(0)?;
+        Ok(())
+    }
+
     /// Notes what the system tells within so many milliseconds. Whether there is something to do.
     fn poll(&mut self, wait_ms: u64) -> Result<bool, ServeFault> {
         let wait = Duration::from_millis(wait_ms);

@@ -2,6 +2,7 @@
 
 use crate::fault::{Fault, NotBound};
 use radio_log::{Fact, Moment, Note, Text, line};
+use radio_sockets::write_at_once;
 use std::fmt::Display;
 use std::io::Write;
 use std::time::Clock;
@@ -9,14 +10,27 @@ use std::time::Clock;
 /// Which program this is, in the line of its start.
 const VERSION: &str = "radiod";
 
+/// Says a fault on standard error. Where that takes nothing, the status of the program alone tells.
+pub fn say(rt: &HostRuntime, fault: &Fault) {
+    let _ = eprintln!(rt; "radiod: {fault}");
+}
+
 /// Writes the line of a fact on standard output. Where that takes nothing, or memory is refused, there is none.
 pub fn tell(rt: &HostRuntime, fact: Fact<'_>) {
+    if let Some(bytes) = line_now(rt, fact) {
+        let _ = rt.stdout().write_all(bytes.as_slice());
+    }
+}
+
+/// The line of a fact, of this moment; `None` where memory is refused.
+fn line_now(rt: &HostRuntime, fact: Fact<'_>) -> Option<Vec<u8>> {
     let note = Note {
         moment: Moment::at(seconds_now(rt)),
         fact,
     };
-    if let Ok(bytes) = line(rt.alloc(), &note) {
-        let _ = rt.stdout().write_all(bytes.as_slice());
+    match line(rt.alloc(), &note) {
+        Ok(bytes) => Some(bytes),
+        Err(_) => None,
     }
 }
 
@@ -39,20 +53,25 @@ pub fn tell_start(rt: &HostRuntime, address: &str) {
     );
 }
 
-/// The program that served ends by this fault.
+/// The program that served ends by this fault: it is said, and then its line is written where that does not wait, so
+/// that nobody who reads neither keeps the program from its end.
 pub fn tell_end(rt: &HostRuntime, fault: &Fault) {
-    if let Some(why) = words_of(rt, fault) {
-        tell(
-            rt,
-            Fact::Ended {
-                why: Text::of(why.as_bytes()),
-            },
-        );
+    say(rt, fault);
+    let Some(why) = words_of(rt, fault) else {
+        return;
+    };
+    let ended = Fact::Ended {
+        why: Text::of(why.as_bytes()),
+    };
+    if let Some(bytes) = line_now(rt, ended) {
+        write_at_once(rt, rt.alloc(), rt.stdout(), bytes);
     }
 }
 
-/// The program does not serve, by this fault; what is known of it beside its words. `path` is that of the settings.
+/// The program does not serve, by this fault: it is said, and then a line has what is known of it beside its words. `path`
+/// is that of the settings.
 pub fn tell_fault(rt: &HostRuntime, path: &str, fault: &Fault) {
+    say(rt, fault);
     let (Some(why), Some(reason)) = (words_of(rt, fault), reason_of(rt, fault)) else {
         return;
     };

@@ -14,7 +14,7 @@ mod words;
 
 use crate::fault::Fault;
 use crate::files::{read_lists, read_settings};
-use crate::log::tell_fault;
+use crate::log::{say, tell_fault};
 use crate::serving::serve_station;
 use crate::words::{Call, read_words};
 use radio_access::Lists;
@@ -27,20 +27,25 @@ use std::sync::Wait;
 fn main(rt: HostRuntime) -> ExitCode {
     match run(&rt, &rt) {
         Ok(()) => ExitCode::SUCCESS,
-        Err(fault) => {
-            let status = fault.status();
-            // Where standard error takes nothing, the status alone tells.
-            let _ = eprintln!(rt; "radiod: {fault}");
-            ExitCode::from(status)
-        }
+        Err(fault) => ExitCode::from(fault.status()),
     }
 }
 
+/// Does what the words ask for. A fault was said on standard error.
 fn run<W: Wait>(rt: &HostRuntime, waits: &W) -> Result<(), Fault> {
-    match read_words(rt)? {
-        Call::Play(path) => play_script(rt, path.as_str()),
-        Call::Serve(path) => serve_file(rt, waits, path.as_str()),
+    match read_words(rt) {
+        Ok(Call::Play(path)) => said(rt, play_script(rt, path.as_str())),
+        Ok(Call::Serve(path)) => serve_file(rt, waits, path.as_str()),
+        Err(fault) => said(rt, Err(fault)),
     }
+}
+
+/// The same, and a fault is said on standard error.
+fn said(rt: &HostRuntime, done: Result<(), Fault>) -> Result<(), Fault> {
+    if let Err(fault) = &done {
+        say(rt, fault);
+    }
+    done
 }
 
 /// Serves connections, with the settings of this file, until a fault.
