@@ -185,10 +185,15 @@ impl Account {
 
     /// The server has replied so to an event of which this is to be told, if it is done.
     pub fn hear_reply(&self, log: &Log, notice: Notice, told: Told) {
-        if matches!(told, Told::Nothing) {
-            drop(notice);
-            return;
+        match told {
+            Told::Nothing => drop(notice),
+            _ => self.hear_told(log, notice, told),
         }
+    }
+
+    /// The same, where something of the reply is noted. It is no part of what is done for each draw.
+    #[cold]
+    fn hear_told(&self, log: &Log, notice: Notice, told: Told) {
         notice.tell(log, self, told);
         self.note_reply(told);
     }

@@ -35,9 +35,14 @@ pub(crate) fn serve_each<S: Server, L: Line, G: Gate>(
 
 /// Tells of a connection that is over: of its source, and of its client once nothing more is written.
 fn tell_end<L: Line>(conn: &Conn<L>, now: Now, log: &Log) {
-    if conn.status.fate.is_open() {
-        return;
+    if !conn.status.fate.is_open() {
+        tell_over(conn, now, log);
     }
+}
+
+/// Tells of a connection that does not go on. It is no part of what is done for each at each turn.
+#[cold]
+fn tell_over<L: Line>(conn: &Conn<L>, now: Now, log: &Log) {
     let peer = conn.session.peer();
     conn.account.tell_source(log, peer, now.ms);
     if conn.lingers() || !conn.stays() {
