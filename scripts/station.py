@@ -1,6 +1,7 @@
 """A running station, and what its clients do over loopback: for the scripts that serve."""
 import contextlib
 import os
+import pty
 import re
 import socket
 import subprocess
@@ -8,6 +9,7 @@ import sys
 import tempfile
 import threading
 import time
+import tty
 import urllib.parse
 
 TOP = os.path.dirname(os.path.dirname(os.path.abspath(__file__)))
@@ -54,29 +56,44 @@ class Log(threading.Thread):
         self.start()
 
     def run(self):
-        for line in self.stream:
-            try:
-                self.told.append(read_line(line))
-            except (AssertionError, KeyError, ValueError):
-                self.bad.append(line)
+        # A terminal ends with an error.
+        with contextlib.suppress(OSError):
+            for line in self.stream:
+                try:
+                    self.told.append(read_line(line))
+                except (AssertionError, KeyError, ValueError):
+                    self.bad.append(line)
 
     def of(self, kind):
         """The fields of each line of this kind."""
         return [fields for told, fields in list(self.told) if told == kind]
 
 
+def start(folder, on_terminal):
+    """The program on the settings of a folder, its standard output a pipe or a terminal."""
+    words = [PROGRAM, "serve", "settings.toml"]
+    if not on_terminal:
+        return subprocess.Popen(words, cwd=folder, stdout=subprocess.PIPE, stderr=subprocess.PIPE)
+    reader, terminal = pty.openpty()
+    tty.setraw(terminal)
+    program = subprocess.Popen(words, cwd=folder, stdout=terminal, stderr=subprocess.PIPE)
+    os.close(terminal)
+    program.stdout = os.fdopen(reader, "rb")
+    return program
+
+
 class Station:
     """A running station. `port` is the one that it has told. Its log is read as it comes, unless `is_read` is false."""
 
-    def __init__(self, options="", address="127.0.0.1", port=0, passwords=PASSWORDS, files=(), settings=None, is_read=True):
+    def __init__(
+        self, options="", address="127.0.0.1", port=0, passwords=PASSWORDS, files=(), settings=None, is_read=True, on_terminal=False
+    ):
         self.address, self.folder = address, tempfile.TemporaryDirectory()
         own = f'{passwords}\n[listen]\naddress = "{address}"\nport = {port}\n{options}'
         for name, text in [("settings.toml", settings or own), *files]:
             with open(os.path.join(self.folder.name, name), "w") as file:
                 file.write(text)
-        self.program = subprocess.Popen(
-            [PROGRAM, "serve", "settings.toml"], cwd=self.folder.name, stdout=subprocess.PIPE, stderr=subprocess.PIPE
-        )
+        self.program = start(self.folder.name, on_terminal)
         self.first = self.program.stdout.readline()
         line = self.first.decode()
         self.port = int(line.rsplit(":", 1)[1]) if line.startswith("listening on ") else None

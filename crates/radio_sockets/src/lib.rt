@@ -27,7 +27,7 @@ pub use accepts::{Accepts, Tried};
 pub use fault::{BindFault, ServeFault};
 pub use line::SocketLine;
 pub use listening::Listening;
-pub use outlet::write_at_once;
+pub use outlet::{LogOutput, write_at_once};
 pub use served::ServedTime;
 pub use stream::Shut;
 

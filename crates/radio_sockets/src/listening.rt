@@ -3,7 +3,7 @@
 use crate::accepts::Accepts;
 use crate::entrance::next_of;
 use crate::line::SocketLine;
-use crate::outlet::Outlet;
+use crate::outlet::{LogOutput, Outlet};
 use crate::served::ServedTime;
 use crate::sockets::{Sockets, moment};
 use crate::{BindFault, ServeFault};
@@ -89,7 +89,7 @@ impl Listening {
         waits: &W,
         worker: &mut Worker<Watched<S>>,
         most_lingering: usize,
-        output: O,
+        output: LogOutput<O>,
     ) -> ServeFault {
         self.most_lingering = most_lingering;
         let mut conns = Vec::new(self.alloc);

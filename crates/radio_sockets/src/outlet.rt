@@ -19,10 +19,19 @@ const STANDARD_OUTPUT: RawFd = 1;
 /// (POSIX.1, `PIPE_BUF`).
 const MOST_AT_ONCE: usize = 4096;
 
+/// Standard output for the log.
+#[derive(Drop)]
+pub struct LogOutput<W: Write + Drop> {
+    /// Where lines are written.
+    pub stream: W,
+    /// Whether a write may wait for whoever reads.
+    pub may_wait: bool,
+}
+
 /// How writes are made.
 #[derive(Clone, Copy, PartialEq, Eq)]
 enum Way {
-    /// A write never waits, as to a file.
+    /// A write never waits, as to a file: it takes what it can.
     AtOnce,
     /// A write may wait, unless the system has told that there is room.
     WithRoom,
@@ -45,14 +54,15 @@ pub(crate) struct Outlet<W: Write + Drop> {
 }
 
 impl<W: Write + Drop> Outlet<W> {
-    /// Standard output, by this stream. From now on the system tells when it has room, if a write may wait.
-    pub(crate) fn new(alloc: Global, registry: &Registry, stream: W) -> Outlet<W> {
-        let way = match ask(registry, true) {
-            Ok(()) => Way::WithRoom,
-            Err(_) => Way::AtOnce,
+    /// Standard output. From now on the system tells when it has room, if a write may wait.
+    pub(crate) fn new(alloc: Global, registry: &Registry, output: LogOutput<W>) -> Outlet<W> {
+        let way = if output.may_wait && ask(registry, true).is_ok() {
+            Way::WithRoom
+        } else {
+            Way::AtOnce
         };
         Outlet {
-            stream,
+            stream: output.stream,
             way,
             lines: Vec::new(alloc),
             start: 0,
@@ -121,18 +131,22 @@ impl<W: Write + Drop> Outlet<W> {
     }
 }
 
-/// Writes these bytes on standard output, by this stream of it, where that does not wait: what can't be written so is
-/// dropped.
-pub fn write_at_once<R: Net, W: Write + Drop>(rt: &R, alloc: Global, stream: W, bytes: Vec<u8>) {
+/// Writes these bytes on standard output where that does not wait: what can't be written so is dropped.
+pub fn write_at_once<R: Net, W: Write + Drop>(
+    rt: &R,
+    alloc: Global,
+    output: LogOutput<W>,
+    bytes: Vec<u8>,
+) {
     let Ok(mut poll) = Poll::new(rt) else {
-        drop(stream);
+        drop(output);
         return;
     };
     let Ok(mut events) = Events::with_capacity(alloc, 1) else {
-        drop(stream);
+        drop(output);
         return;
     };
-    let mut outlet = Outlet::new(alloc, poll.registry(), stream);
+    let mut outlet = Outlet::new(alloc, poll.registry(), output);
     outlet.set_lines(bytes);
     if poll.poll(&mut events, Some(Duration::ZERO)).is_ok() && !events.is_empty() {
         outlet.note_room();

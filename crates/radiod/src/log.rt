@@ -1,8 +1,9 @@
 //! Lines of the log that the program itself writes, before and behind the time in which it serves.
 
 use crate::fault::{Fault, NotBound};
+use crate::output::terminal;
 use radio_log::{Fact, Moment, Note, Text, line};
-use radio_sockets::write_at_once;
+use radio_sockets::{LogOutput, write_at_once};
 use std::fmt::Display;
 use std::io::Write;
 use std::time::Clock;
@@ -64,7 +65,27 @@ pub fn tell_end(rt: &HostRuntime, fault: &Fault) {
         why: Text::of(why.as_bytes()),
     };
     if let Some(bytes) = line_now(rt, ended) {
-        write_at_once(rt, rt.alloc(), rt.stdout(), bytes);
+        write_last(rt, bytes);
+    }
+}
+
+/// Writes these bytes where that does not wait.
+fn write_last(rt: &HostRuntime, bytes: Vec<u8>) {
+    match terminal(rt) {
+        Some(stream) => {
+            let output = LogOutput {
+                stream,
+                may_wait: false,
+            };
+            write_at_once(rt, rt.alloc(), output, bytes);
+        }
+        None => {
+            let output = LogOutput {
+                stream: rt.stdout(),
+                may_wait: true,
+            };
+            write_at_once(rt, rt.alloc(), output, bytes);
+        }
     }
 }
 

@@ -8,6 +8,7 @@
 mod fault;
 mod files;
 mod log;
+mod output;
 mod serving;
 mod warnings;
 mod words;

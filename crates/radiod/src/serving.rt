@@ -5,12 +5,13 @@ ghost use Rattle.radio_core.specs.World.{opening};
 
 use crate::fault::{Fault, NotBound};
 use crate::log::{tell_end, tell_fault, tell_start};
+use crate::output::terminal;
 use crate::warnings::warn;
 use radio_access::Lists;
 use radio_book::{House, PASSES, Unkept};
 use radio_hall::{Caller, Hall, Watched, Worker};
 use radio_settings::Settings;
-use radio_sockets::{BindFault, Listening, ServeFault};
+use radio_sockets::{BindFault, Listening, LogOutput, ServeFault};
 use std::marker::Brand;
 use std::sync::Wait;
 use std::sync::ledger::Blank;
@@ -111,8 +112,24 @@ fn serve_through<'a, W: Wait, H: House>(
         Some(pass) => {
             let server = Watched::new(rt.alloc(), Caller::new(waits, hall, pass));
             let mut worker = Worker::new(rt.alloc(), server, bounds.patience_s);
-            let output = rt.stdout();
-            let fault = listening.serve(rt, waits, &mut worker, bounds.most_lingering, output);
+            let most = bounds.most_lingering;
+            let fault = match terminal(rt) {
+                Some(stream) => {
+                    let output = LogOutput {
+                        stream,
+                        may_wait: false,
+                    };
+                    listening.serve(rt, waits, &mut worker, most, output)
+                }
+                None => {
+                    let stream = rt.stdout();
+                    let output = LogOutput {
+                        stream,
+                        may_wait: true,
+                    };
+                    listening.serve(rt, waits, &mut worker, most, output)
+                }
+            };
             drop(worker);
             fault
         }
