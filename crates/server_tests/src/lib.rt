@@ -23,6 +23,7 @@
 //! - `slow`: lines that take little or nothing.
 //! - `moments`: from when patience and lingering count, to the millisecond.
 //! - `faults`: lines that fail, at each call; and memory that is refused.
+//! - `told`: what the log tells of all that, line by line.
 #![tactic(auto)]
 
 #[cfg(test)]
@@ -51,6 +52,8 @@ mod slow;
 mod stations;
 #[cfg(test)]
 mod steps;
+#[cfg(test)]
+mod told;
 #[cfg(test)]
 mod two_callers;
 #[cfg(test)]

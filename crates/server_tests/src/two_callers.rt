@@ -61,8 +61,8 @@ pub fn are_served<H: House + Send + Sync, R: Threads + Wait + Sync>(
 /// replies all of it again, byte for byte.
 pub fn is_of_two(alloc: Global, history: &[Entry]) -> bool {
     history.len() == 2 * CALLS
-        && count_where(history, is_drawn) == 2 * DRAWS
-        && count_where(history, is_status) == 2
+        && count(history, Wanted::Drawn) == 2 * DRAWS
+        && count(history, Wanted::Status) == 2
         && replays(alloc, history)
 }
 
@@ -99,11 +99,29 @@ fn replies_again(core: &mut Core, entry: &Entry) -> bool {
     }
 }
 
-/// How many entries have such a reply.
-fn count_where<P: Fn(&Reply) -> bool>(history: &[Entry], is_such: P) -> usize {
+/// What is looked for in a history.
+#[derive(Clone, Copy)]
+enum Wanted {
+    /// Data and a title for a listener.
+    Drawn,
+    /// The status, with the last title.
+    Status,
+}
+
+impl Wanted {
+    fn is(self, reply: &Reply) -> bool {
+        match self {
+            Wanted::Drawn => is_drawn(reply),
+            Wanted::Status => is_status(reply),
+        }
+    }
+}
+
+/// In how many entries it is replied.
+fn count(history: &[Entry], wanted: Wanted) -> usize {
     let mut count = 0usize;
     for entry in history {
-        if is_such(&entry.reply) {
+        if wanted.is(&entry.reply) {
             count = count.saturating_add(1);
         }
     }

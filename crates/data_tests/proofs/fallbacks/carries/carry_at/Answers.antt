@@ -5,8 +5,8 @@ use Rattle.std.specs.Option.{option_map_or}
 use Rattle.std.specs.Str.{bytes_eq}
 use Rattle.std.proofs.lemmas.Slice.Eq.{bytes_eq-Decides}
 use Rattle.radio_seats.specs.Board.{is_prepared}
-use Rattle.data_tests.specs.declared.fallbacks.Mount.{Mount}
-use Rattle.data_tests.proofs.fallbacks.carry_at.Goals as goal
+use Rattle.data_tests.specs.declared.fallbacks.station.Mount.{Mount}
+use Rattle.data_tests.proofs.fallbacks.carries.carry_at.Goals as goal
 
 ready : (a b r : Bool) → a ≡ true → ((not a || b) && r) ≡ true → b ≡ true
 ready true true r live all = refl
