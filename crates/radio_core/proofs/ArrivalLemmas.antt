@@ -181,7 +181,7 @@ module _ (w : World) (s : IsSound w) where
   stay_by event o (Ends him mount feeding) = stays_so (changed w o.change) (keeps_state w.house.clients him HasHisAnswer)
   stay_by event o (EndsAndLeaves him mount feeding) = stays_so (changed w o.change) (keeps_forgotten w.house.clients him)
   stay_by event o (Leaves him other) = stays_so (changed w o.change) (keeps_forgotten w.house.clients him)
-  stay_by event o (Shows _ listing c) = stays_so (changed w o.change) (keeps_state w.house.clients c.asked.id HasHisAnswer)
+  stay_by event o (Shows _ asker peer text its undecided what) = stays_so (changed w o.change) (keeps_state w.house.clients asker HasHisAnswer)
   stay_by event o (Obeys _ command c) = stays_so (changed w o.change) (keeps_obeyed w c.asked.id command)
   stay_by event o (HasPassed ms e) = stays_so w (same_clients w.house.clients)
   stay_by event o (Ticks ms e) = stays_so (ticked w ms) (keeps_ticked w ms)

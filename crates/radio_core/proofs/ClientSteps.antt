@@ -100,12 +100,12 @@ module _ (w : World) (s : IsSound w) (id : ℕ) (C : Rule → Type 0) where
       let same : him ≡ id = cc in
       turned w C event id refl (sym (turns_forgotten w him).his ∙ ap (standing_of (changed w o.change)) same)
       (HeLeaves (standing_of w id) (ap (λ (n : ℕ). Leave n) same))
-  own_by event o (Shows _ listing c) his fin denies =
-      let both : Some c.asked.id ≡ Some id = sym (ap client_in c.is_event) ∙ his in
-      let same : c.asked.id ≡ id = cc in
-      turned w C event id (sym c.undecided ∙ ap (standing_of w) same)
-      (sym (turns_answered w c.asked.id (λ u. let at = c.undecided in cc)).his ∙ ap (standing_of (changed w o.change)) same)
-      (IsShown c.peer listing his c)
+  own_by event o (Shows _ asker peer text its undecided what) his fin denies =
+      let both : Some asker ≡ Some id = sym its ∙ his in
+      let same : asker ≡ id = cc in
+      turned w C event id (sym undecided ∙ ap (standing_of w) same)
+      (sym (turns_answered w asker (λ u. let at = undecided in cc)).his ∙ ap (standing_of (changed w o.change)) same)
+      (IsShown peer text his what)
   own_by event o (Obeys _ command c) his fin denies =
       let both : Some c.asked.id ≡ Some id = sym (his_event w s event command c) ∙ his in
       let same : c.asked.id ≡ id = cc in

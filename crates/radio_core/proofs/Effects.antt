@@ -131,7 +131,7 @@ module _ (w : World) (s : IsSound w) where
   effect_by event o (Begins asked undecided none allowed) = let at = undecided.1 in Acts asked.id (Feeds asked.mount) refl tt
       (turns_up w s asked.id asked.mount (shown_for w.house asked.mount asked.shown) undecided.0 undecided.1 none)
   effect_by event o (Receives him mount block feeding) = Sweeps (λ id. lag_swept w s mount block him feeding id)
-  effect_by event o (Shows _ listing c) = let at = c.undecided in Acts c.asked.id Answered (ap client_in c.is_event) tt (turns_answered w c.asked.id (λ u. cc))
+  effect_by event o (Shows _ asker peer text its undecided what) = let at = undecided in Acts asker Answered its tt (turns_answered w asker (λ u. cc))
   effect_by event o (Obeys _ command c) = Sweeps (λ id. obeyed_swept w s event command c id)
   effect_by event o (HasPassed ms e) = Same (λ id. refl)
   effect_by event o (Ticks ms e) = Sweeps (λ id. tick_swept ms id)

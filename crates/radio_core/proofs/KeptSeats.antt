@@ -187,7 +187,7 @@ settings_by w order event o (IsAdmitted peer allowed) = refl
 settings_by w order event o (Begins asked undecided none allowed) =
     ap (λ (h : House). h.settings) (house_called (record w { house = begun w.house asked.id asked.mount (shown_for w.house asked.mount asked.shown) }) asked.mount)
 settings_by w order event o (Receives id mount block feeding) = refl
-settings_by w order event o (Shows _ listing c) = refl
+settings_by w order event o (Shows _ asker peer text its undecided what) = refl
 settings_by w order event o (Obeys _ command c) = (obeyed_keeps w c.asked.id command).0
 settings_by w order event o (HasPassed ms e) = refl
 settings_by w order event o (Ticks ms e) = (fewer_ticked w ms order).settings
@@ -379,7 +379,7 @@ module _ (P : WholeStream → ℕ → Type 0) (w : World) (order : AreByNumber w
   each_by event o (IsAdmitted peer allowed) = all
   each_by event o (Begins asked undecided none allowed) = each_up asked.id asked.mount (shown_for w.house asked.mount asked.shown)
   each_by event o (Receives id mount block feeding) = each_received mount block
-  each_by event o (Shows _ listing c) = all
+  each_by event o (Shows _ asker peer text its undecided what) = all
   each_by event o (Obeys _ command c) = each_obeyed command c.asked.id
   each_by event o (HasPassed ms e) = all
   each_by event o (Ticks ms e) = each_fewer (ticked w ms) (fewer_ticked w ms order)

@@ -1,7 +1,7 @@
 pub mod CommandLemmas
 mod CoreReplyLemmas
 mod DueLemmas
-mod ListingLemmas
+pub mod ListingLemmas
 mod KeptOutcomes
 mod KeptRuns
 pub mod KeptSeats

@@ -51,10 +51,10 @@ module _ (w : World) (s : IsSound w) (id : ℕ) (seat : Seat) (has : seat_of w.s
   own_by event o (Begins asked undecided free allowed) his none =
       let at = undecided.1 in let same : asked.id ≡ id = cc in let sat : standing_of w asked.id ≡ Sits = ap (standing_of w) same ∙ sits in cc
   own_by event o (SetsTitle him mount text feeding) his none = cc
-  own_by event o (Shows _ listing c) his none =
-      let both : Some c.asked.id ≡ Some id = sym (ap client_in c.is_event) ∙ his in
-      let same : c.asked.id ≡ id = cc in
-      let at = c.undecided in let sat : standing_of w c.asked.id ≡ Sits = ap (standing_of w) same ∙ sits in cc
+  own_by event o (Shows _ asker peer text its undecided what) his none =
+      let both : Some asker ≡ Some id = sym its ∙ his in
+      let same : asker ≡ id = cc in
+      let at = undecided in let sat : standing_of w asker ≡ Sits = ap (standing_of w) same ∙ sits in cc
   own_by event o (Obeys _ command c) his none =
       let both : Some c.asked.id ≡ Some id = sym (his_event w s event command c) ∙ his in
       let same : c.asked.id ≡ id = cc in

@@ -185,11 +185,11 @@ module _ (w : World) (s : IsSound w) (inv : AreInOrder w) where
         lags_yet id (IsEnded rule cause active ended none over) asks = absurd (subst IsYetToAsk ended asks)
         lags_yet id (HasStopped other why feeds done none over) asks = absurd why
         lags_yet id (IsMoved old session carries left had has_it same live opens) asks = absurd carries
-  order_by event o (Shows _ listing c) =
-      let at = c.undecided in
-      order_turned w inv (changed w o.change) c.asked.id Answered
-      (record { same_ids = same_state c.asked.id HasHisAnswer w.house.clients; same_rows = refl; same_last = refl })
-      (turns_answered w c.asked.id (λ u. cc)) (λ h. h)
+  order_by event o (Shows _ asker peer text its undecided what) =
+      let at = undecided in
+      order_turned w inv (changed w o.change) asker Answered
+      (record { same_ids = same_state asker HasHisAnswer w.house.clients; same_rows = refl; same_last = refl })
+      (turns_answered w asker (λ u. cc)) (λ h. h)
   order_by event o (Obeys _ command c) =
       order_still w inv (changed w o.change) (same_obeyed w c.asked.id command)
       (λ id asks.

@@ -3,14 +3,14 @@ use Rattle.std.proofs.Common.{◌≡◌, ◌∙◌, ℕ, refl, ap, sym}
 use Rattle.radio_events.specs.declared.command.Command.{Command as TheCommand}
 use Rattle.radio_events.specs.declared.command.Command.TheVariants.{MoveClients, KillClient, KillSource, SetTitle, SetFallback}
 use Rattle.radio_events.specs.declared.command.CommandRequest.{CommandRequest}
-use Rattle.radio_events.specs.declared.command.Listing.{Listing}
 use Rattle.radio_events.specs.declared.event.Event.{Event}
 use Rattle.radio_events.specs.declared.event.Event.TheVariants.{Arrive, Source, Push, SourceEnd, Title, Listen, Draw, Command, Leave, Clock}
 use Rattle.radio_events.specs.declared.reply.Reply.{Reply}
 use Rattle.radio_events.specs.declared.reply.Reply.TheVariants.{Text as SaysText}
 use Rattle.radio_events.specs.declared.text.Text.{Text}
 use Rattle.radio_core.specs.declared.outcome.Outcome.{Outcome}
-use Rattle.radio_core.specs.Command.{obeys, shows}
+use Rattle.radio_core.specs.Command.{obeys}
+use Rattle.radio_core.specs.Pages.{IsShownBy}
 use Rattle.radio_core.specs.Counts.{counted}
 use Rattle.radio_core.specs.Planned.{told_moved, with_count, uncounted, planned}
 use Rattle.radio_core.specs.Step.{outcome}
@@ -37,7 +37,7 @@ module _ (w : World) where
   plain_by event o (Ends id mount feeding) other_than count = refl
   plain_by event o (EndsAndLeaves id mount feeding) other_than count = refl
   plain_by event o (Leaves id other) other_than count = refl
-  plain_by event o (Shows _ listing c) other_than count = absurd (other_than c.asked c.is_event)
+  plain_by event o (Shows _ asker peer text its undecided what) other_than count = ap (λ (t : Text). SaysText t) (shown_untold w event text what count)
   plain_by event o (Obeys _ command c) other_than count = absurd (other_than c.asked c.is_event)
   plain_by event o (HasPassed ms e) other_than count = refl
   plain_by event o (Ticks ms e) other_than count = refl
@@ -68,9 +68,9 @@ module _ (w : World) where
   obeys_completed id (SetTitle mount text) = refl
   obeys_completed id (SetFallback mount fallback) = refl
 
-  shows_completed : (id : ℕ) (listing : Listing) → IsCompleted (shows w id listing)
-  shows_completed id listing =
-      ap (λ (text : Text). SaysText (told_moved text 0)) (shown_untold w listing 0) ∙ ap (λ (text : Text). SaysText text) (shown_untold w listing 0)
+  shows_completed : (event : Event) (text : Text) → IsShownBy w event text → with_count (with_count (SaysText text) 0) 0 ≡ SaysText text
+  shows_completed event text what =
+      ap (λ (t : Text). SaysText (told_moved t 0)) (shown_untold w event text what 0) ∙ ap (λ (t : Text). SaysText t) (shown_untold w event text what 0)
 
   completed_by : (event : Event) (o : Outcome) → Way w event o → IsCompleted o
   completed_by event o (Misplaced _) = refl
@@ -86,7 +86,7 @@ module _ (w : World) where
   completed_by event o (Ends id mount feeding) = refl
   completed_by event o (EndsAndLeaves id mount feeding) = refl
   completed_by event o (Leaves id other) = refl
-  completed_by event o (Shows _ listing c) = shows_completed c.asked.id listing
+  completed_by event o (Shows _ asker peer text its undecided what) = shows_completed event text what
   completed_by event o (Obeys _ command c) = obeys_completed c.asked.id command
   completed_by event o (HasPassed ms e) = refl
   completed_by event o (Ticks ms e) = refl

@@ -1,7 +1,7 @@
 -- each reply fits the client to whom it is told
 use Rattle.std.proofs.Common.{◌≡◌, ℕ, ◌+◌, ◌<◌, Option, refl, ap, sym, ◌∙◌, arith}
 use Rattle.radio_addr.specs.declared.peer.Peer.{Peer}
-use Rattle.radio_settings.specs.declared.field.Shown.{Shown}
+use Rattle.radio_events.specs.declared.reply.StreamHead.{StreamHead}
 use Rattle.radio_events.specs.declared.event.Event.{Event}
 use Rattle.radio_events.specs.declared.event.Event.TheVariants.{Arrive, Source, Listen}
 use Rattle.radio_events.specs.declared.event.SourceRequest.{SourceRequest}
@@ -29,7 +29,7 @@ record Fits (w : World) (event : Event) (o : Outcome) : Type 0 where
       × (standing_of (changed w o.change) id ≡ Undecided peer)
   pub feeding : o.reply ≡ Feeding → (asked : SourceRequest) × (event ≡ Source asked) × IsUndecided w asked.id
       × (standing_of (changed w o.change) asked.id ≡ Feeds asked.mount)
-  pub seated : (interval : Option ℕ) (shown : Shown) → o.reply ≡ Seated interval shown
+  pub seated : (interval : Option ℕ) (head : StreamHead) → o.reply ≡ Seated interval head
       → (asked : ListenRequest) × (event ≡ Listen asked) × IsUndecided w asked.id × (standing_of (changed w o.change) asked.id ≡ Sits)
 
 module _ (w : World) (s : IsSound w) where
@@ -69,7 +69,7 @@ module _ (w : World) (s : IsSound w) where
   fits_by event o (IsRefused _ him by v its undecided) = record { arrived = λ id d. cc; feeding = λ d. cc; seated = λ interval shown d. cc }
   fits_by event o (Receives him mount block feeding) = record { arrived = λ id d. cc; feeding = λ d. cc; seated = λ interval shown d. cc }
   fits_by event o (SetsTitle him mount text feeding) = record { arrived = λ id d. cc; feeding = λ d. cc; seated = λ interval shown d. cc }
-  fits_by event o (Shows _ listing c) = record { arrived = λ id d. cc; feeding = λ d. cc; seated = λ interval shown d. cc }
+  fits_by event o (Shows _ asker peer text its undecided what) = record { arrived = λ id d. cc; feeding = λ d. cc; seated = λ interval shown d. cc }
   fits_by event o (Obeys _ command c) = record { arrived = λ id d. cc; feeding = λ d. cc; seated = λ interval shown d. cc }
   fits_by event o (HasPassed ms e) = record { arrived = λ id d. cc; feeding = λ d. cc; seated = λ interval shown d. cc }
   fits_by event o (Ticks ms e) = record { arrived = λ id d. cc; feeding = λ d. cc; seated = λ interval shown d. cc }

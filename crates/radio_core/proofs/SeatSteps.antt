@@ -248,7 +248,7 @@ module _ (w : World) (s : IsSound w) (id : ℕ) where
   step_by event o (Begins asked undecided none allowed) =
       comes_up asked undecided.0 undecided.1 none allowed (of_client event id []) (nothing_of event id [] refl)
   step_by event o (Receives him mount block feeding) = lags him mount block feeding (of_client event id []) (nothing_of event id [] refl)
-  step_by event o (Shows _ listing c) =
+  step_by event o (Shows _ asker peer text its undecided what) =
       stays (changed w o.change) event (of_client event id []) mine (nothing_of event id [] refl) refl
   step_by event o (Obeys _ command c) = obeys event command c (of_client event id []) (nothing_of event id [] refl)
   step_by event o (HasPassed ms e) = stays w event [] mine refl refl

@@ -230,7 +230,7 @@ module _ (w : World) (s : IsSound w) (mount : List ℕ) where
   step_by event o (Ends him fed feeding) = is_ended event him fed feeding (inl refl)
   step_by event o (EndsAndLeaves him fed feeding) = is_ended event him fed feeding (inr refl)
   step_by event o (Leaves him other) = Stays mine
-  step_by event o (Shows _ listing c) = Stays mine
+  step_by event o (Shows _ asker peer text its undecided what) = Stays mine
   step_by event o (Obeys _ command c) = obeys event command c
   step_by event o (HasPassed ms e) = Stays mine
   step_by event o (Ticks ms e) = at_the_moment ms
@@ -258,7 +258,7 @@ module _ (w : World) (s : IsSound w) where
   keeps_by event o (Ends him fed feeding) = (refl, refl)
   keeps_by event o (EndsAndLeaves him fed feeding) = (refl, refl)
   keeps_by event o (Leaves him other) = (refl, refl)
-  keeps_by event o (Shows _ listing c) = (refl, refl)
+  keeps_by event o (Shows _ asker peer text its undecided what) = (refl, refl)
   keeps_by event o (Obeys _ command c) = obeyed_keeps w c.asked.id command
   keeps_by event o (HasPassed ms e) = (refl, refl)
 

@@ -63,7 +63,7 @@ sound_by w s event o (Begins asked undecided none allowed) =
     sound_up w s asked.id asked.mount (shown_for w.house asked.mount asked.shown) undecided.0 undecided.1 none
 sound_by w s event o (Receives id mount block feeding) = sound_fates (Cause w (taken_in w mount block) (Push id block)) NoMove Nobody HasEnded
     (grown_world w mount block) (taken_in w mount block) (sound_grown w s mount block id feeding) (lag_fates w s mount block id feeding)
-sound_by w s event o (Shows _ listing c) = sound_answered w s c.asked.id c.peer c.undecided
+sound_by w s event o (Shows _ asker peer text its undecided what) = sound_answered w s asker peer undecided
 sound_by w s event o (Obeys _ command c) = sound_obeyed w s event command c
 sound_by w s event o (HasPassed ms e) = s
 sound_by w s event o (Ticks ms e) =

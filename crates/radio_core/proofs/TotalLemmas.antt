@@ -123,8 +123,8 @@ module _ (w : World) (s : IsSound w) (inv : AreInOrder w) where
       (same_begun w asked.id asked.mount (shown_for w.house asked.mount asked.shown)) refl refl refl refl
   adds_by event o (Receives him mount block feeding) known =
       nobody_moves (changed w o.change) event o.reply (same_received w mount block) refl refl refl refl
-  adds_by event o (Shows _ listing c) known =
-      nobody_moves (changed w o.change) event o.reply (record { same_ids = same_state c.asked.id HasHisAnswer w.house.clients; same_rows = refl; same_last = refl })
+  adds_by event o (Shows _ asker peer text its undecided what) known =
+      nobody_moves (changed w o.change) event o.reply (record { same_ids = same_state asker HasHisAnswer w.house.clients; same_rows = refl; same_last = refl })
       refl refl refl refl
   adds_by event o (Obeys _ command c) known = nobody_moves (changed w o.change) event o.reply (same_obeyed w c.asked.id command) refl refl refl refl
   adds_by event o (HasPassed ms e) known = nobody_moves w event o.reply (nobody_else w) refl refl refl refl

@@ -8,7 +8,9 @@ use Rattle.radio_policy.specs.declared.judgement.Verdict.TheVariants.{Allow, Den
 use Rattle.radio_policy.specs.Table.{row, source_rows, listen_rows}
 use Rattle.radio_policy.specs.Verdicts.{verdict_in}
 use Rattle.radio_addr.specs.declared.peer.Peer.{Peer}
+use Rattle.radio_settings.specs.declared.web.WebPath.{WebPath}
 use Rattle.radio_settings.specs.MountName.{is_mount_name}
+use Rattle.radio_settings.specs.Web.{web_path}
 use Rattle.radio_access.specs.Lists.{passes}
 use Rattle.radio_events.specs.declared.event.SourceRequest.{SourceRequest}
 use Rattle.radio_events.specs.declared.event.ListenRequest.{ListenRequest}
@@ -28,13 +30,15 @@ use Rattle.radio_fallback.proofs.TurnLemmas.{lands_where_he_fits}
 use Rattle.radio_core.specs.declared.standing.Standing.{Standing}
 use Rattle.radio_core.specs.declared.standing.Standing.TheVariants.{Unknown, Undecided, Feeds, Sits, Answered, Finished}
 use Rattle.radio_core.specs.World.{World, standing_of}
-use Rattle.radio_core.specs.Facts.{largest_number, is_full, is_known, sight_of, arrive_facts, source_facts_at, rows_to_arrive, rows_to_feed}
+use Rattle.radio_core.specs.Facts.{largest_number, is_full, is_known, names_mount, sight_of, arrive_facts, source_facts_at, rows_to_arrive, rows_to_feed}
 use Rattle.radio_core.specs.Facts.{rows_to_push, rows_to_listen, walks_to, walk_stops}
 use Rattle.radio_core.specs.Outcomes.{says, on_verdict, out_of_place, if_undecided, if_feeding, if_sitting}
 use Rattle.radio_core.specs.Arrive.{admits_client}
 use Rattle.radio_core.specs.Source.{begins}
 use Rattle.radio_core.specs.Push.{takes_in}
 use Rattle.radio_core.specs.Listen.{takes_seat, sits_where}
+use Rattle.radio_core.specs.Listings.{shown}
+use Rattle.radio_core.specs.Pages.{IsListing, IsAtPath, asks_by, page_at}
 use Rattle.radio_core.specs.Draw.{hands_out, hands_out_at}
 use Rattle.radio_core.specs.Leave.{leaves_from}
 use Rattle.radio_events.specs.declared.command.Asked.{Asked}
@@ -120,7 +124,7 @@ MayFeed house asked =
 pub may_feed : (house : House) (asked : SourceRequest) → verdict_in (rows_to_feed house asked) ≡ Allow → MayFeed house asked
 may_feed house asked v =
     let facts = source_facts_at house asked.mount asked in
-    free_by (is_mount_name asked.mount) facts.is_source_pair facts.sources_are_full facts.mount_is_live facts.type_is_refused v
+    free_by (names_mount house.settings asked.mount) facts.is_source_pair facts.sources_are_full facts.mount_is_live facts.type_is_refused v
 
 pub may_begin : (w : World) (asked : SourceRequest) → verdict_in (rows_to_feed w.house asked) ≡ Allow → session_of w.house.live asked.mount ≡ None
 may_begin w asked v = none_there (session_of w.house.live asked.mount) (may_feed w.house asked v).is_free
@@ -168,6 +172,25 @@ hears_by true true false twice stop v = cc
 hears_by true false accepted twice stop v = cc
 hears_by false known accepted twice stop v = cc
 
+-- and his path names a mount, and is none of the web site's
+named_by : (named known accepted twice : Bool) (stop : Option Rule)
+    → verdict_in (listen_rows (if named then Some (record { mount_is_known = known; users_accept = accepted; user_is_twice = twice; walk_stops = stop })
+    else None)) ≡ Allow → named ≡ true
+named_by true known accepted twice stop v = refl
+named_by false known accepted twice stop v = cc
+
+none_by : (named : Bool) (path : Option WebPath) → (named && not (is_some path)) ≡ true → path ≡ None
+none_by named None e = refl
+none_by true (Some path) e = cc
+none_by false (Some path) e = cc
+
+pub no_path : (w : World) (asked : ListenRequest) → verdict_in (rows_to_listen w asked) ≡ Allow → web_path w.house.settings.web asked.mount ≡ None
+no_path w asked v =
+    let found = found_at (sight_of w.house) w.seats asked.mount asked.pair in
+    none_by (is_mount_name asked.mount) (web_path w.house.settings.web asked.mount)
+    (named_by (names_mount w.house.settings asked.mount) (is_known w.house asked.mount) found.users_accept found.user_is_twice
+    (walk_stops w.house w.seats asked.mount asked.pair) v)
+
 -- what one who asks finds at the mount of his path
 abbrev pub found_by : World → ListenRequest → Found
 found_by w asked = found_at (sight_of w.house) w.seats asked.mount asked.pair
@@ -175,7 +198,7 @@ found_by w asked = found_at (sight_of w.house) w.seats asked.mount asked.pair
 pub may_listen : (w : World) (asked : ListenRequest) → verdict_in (rows_to_listen w asked) ≡ Allow
     → IsWelcome (found_by w asked).users_accept (found_by w asked).user_is_twice (walk_stops w.house w.seats asked.mount asked.pair)
 may_listen w asked v =
-    hears_by (is_mount_name asked.mount) (is_known w.house asked.mount) (found_by w asked).users_accept (found_by w asked).user_is_twice
+    hears_by (names_mount w.house.settings asked.mount) (is_known w.house asked.mount) (found_by w asked).users_accept (found_by w asked).user_is_twice
     (walk_stops w.house w.seats asked.mount asked.pair) v
 
 -- so his walk lands where he may sit
@@ -233,9 +256,25 @@ module _ (w : World) (asked : CommandRequest) (peer : Peer) (e : standing_of w a
   does NoCommand is = Misplaced (Command asked)
   does (MissingArgument by) is = Misplaced (Command asked)
   does (AsksFor listing) is =
-      Shows (Command asked) listing (record { asked = asked; is_event = refl; is_asked = is; peer = peer; undecided = e; allowed = v })
+      Shows (Command asked) asked.id peer (shown w listing) refl e
+      (IsListing listing (record { asked = asked; is_event = refl; is_asked = is; peer = peer; undecided = e; allowed = v }))
   does (Asks command) is =
       Obeys (Command asked) command (record { asked = asked; is_event = refl; is_asked = is; peer = peer; undecided = e; allowed = v })
+
+-- a client asks by a path
+by_path : (w : World) (asked : ListenRequest) (path : Option WebPath) → web_path w.house.settings.web asked.mount ≡ path
+    → Way w (Listen asked) (asks_by w asked path)
+by_path w asked None no_path =
+    by_undecided w (Listen asked) asked.id refl _
+    (λ peer e. by_verdict w (Listen asked) (Answer asked.id) (sits_where w.house asked peer (walks_to w.house w.seats asked.mount asked.pair))
+    (verdict_in (rows_for w (Listen asked)))
+    (λ rule v. IsRefused (Listen asked) asked.id rule v refl (peer, e))
+    (λ v. sits w asked peer e v (walks_to w.house w.seats asked.mount asked.pair) refl))
+    (standing_of w asked.id) refl
+by_path w asked (Some path) is_path =
+    by_undecided w (Listen asked) asked.id refl _
+    (λ peer e. Shows (Listen asked) asked.id peer (page_at w path asked.host) refl e (IsAtPath asked path refl is_path))
+    (standing_of w asked.id) refl
 
 pub way_of : (w : World) (event : Event) → Way w event (outcome w event)
 unfolding outcome
@@ -258,13 +297,7 @@ way_of w (Push id block) =
       feeds_and_asks mount e him h u = let same : id ≡ him = cc in let also : standing_of w id ≡ Undecided u.0 = ap (standing_of w) same ∙ u.1 in cc
 way_of w (SourceEnd id) = by_feeding w (SourceEnd id) id refl _ (λ mount e. Ends id mount e) (standing_of w id) refl
 way_of w (Title id text) = by_feeding w (Title id text) id refl _ (λ mount e. SetsTitle id mount text e) (standing_of w id) refl
-way_of w (Listen asked) =
-    by_undecided w (Listen asked) asked.id refl _
-    (λ peer e. by_verdict w (Listen asked) (Answer asked.id) (sits_where w.house asked peer (walks_to w.house w.seats asked.mount asked.pair))
-    (verdict_in (rows_for w (Listen asked)))
-    (λ rule v. IsRefused (Listen asked) asked.id rule v refl (peer, e))
-    (λ v. sits w asked peer e v (walks_to w.house w.seats asked.mount asked.pair) refl))
-    (standing_of w asked.id) refl
+way_of w (Listen asked) = by_path w asked (web_path w.house.settings.web asked.mount) refl
 way_of w (Draw id room) = by_sitting w (Draw id room) id refl _ (λ e. hands_at w id room e (seat_of w.seats id) refl) (standing_of w id) refl
 way_of w (Command asked) =
     by_undecided w (Command asked) asked.id refl _

@@ -14,8 +14,9 @@ use Rattle.radio_events.specs.Events.{client_in}
 use Rattle.radio_core.specs.declared.standing.Standing.{Standing}
 use Rattle.radio_core.specs.declared.standing.Standing.TheVariants.{Unknown, Undecided, Feeds, Sits, Answered, Finished}
 use Rattle.radio_events.specs.declared.command.Command.{Command}
-use Rattle.radio_events.specs.declared.command.Listing.{Listing}
-use Rattle.radio_core.specs.CommandFacts.{IsCommanded, IsListed}
+use Rattle.radio_events.specs.declared.text.Text.{Text}
+use Rattle.radio_core.specs.CommandFacts.{IsCommanded}
+use Rattle.radio_core.specs.Pages.{IsShownBy}
 use Rattle.radio_core.specs.Facts.{rows_to_feed, rows_to_listen}
 use Rattle.radio_core.specs.Finishes.{Finishes}
 use Rattle.radio_core.specs.Clients.{Client, client_of}
@@ -35,7 +36,7 @@ pub data ClientStep (w : World) (Cause : Rule → Type 0) (event : Event) (id : 
   IsObeyed : (peer : Peer) (command : Command) → client_in event ≡ Some id → IsCommanded w event command
       → ClientStep w Cause event id (Undecided peer) Answered
   -- he asks to be shown something of the station, and the policy allows it
-  IsShown : (peer : Peer) (listing : Listing) → client_in event ≡ Some id → IsListed w event listing
+  IsShown : (peer : Peer) (text : Text) → client_in event ≡ Some id → IsShownBy w event text
       → ClientStep w Cause event id (Undecided peer) Answered
   -- he asks to feed a mount, and the policy allows it
   BeginsToFeed : (peer : Peer) (asked : SourceRequest) → event ≡ Source asked → asked.id ≡ id → verdict_in (rows_to_feed w.house asked) ≡ Allow

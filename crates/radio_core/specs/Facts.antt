@@ -1,5 +1,5 @@
 -- What is looked up in the server for the policy.
-use Rattle.std.specs.Prelude.{ℕ, ◌+◌, ◌-◌, ◌^◌, ◌==◌, nat_lt, Bool, not, ◌||◌, if◌then◌else◌, List, length, Option, None, Some, is_some, find}
+use Rattle.std.specs.Prelude.{ℕ, ◌+◌, ◌-◌, ◌^◌, ◌==◌, nat_lt, Bool, not, ◌&&◌, ◌||◌, if◌then◌else◌, List, length, Option, None, Some, is_some, find}
 use Rattle.std.specs.Option.{option_map_or}
 use Rattle.std.specs.Str.{bytes_eq}
 use Rattle.radio_policy.specs.declared.rule.Rule.{Rule}
@@ -12,6 +12,7 @@ use Rattle.radio_addr.specs.declared.peer.Peer.{Peer}
 use Rattle.radio_creds.specs.Credentials.{Credentials}
 use Rattle.radio_settings.specs.declared.settings.Settings.{Settings}
 use Rattle.radio_settings.specs.MountName.{is_mount_name}
+use Rattle.radio_settings.specs.Web.{is_web_path}
 use Rattle.radio_settings.specs.Options.{options_for}
 use Rattle.radio_access.specs.Lists.{is_denied, is_allowed, lets_in}
 use Rattle.radio_access.specs.SourcePair.{is_source_pair}
@@ -34,6 +35,10 @@ largest_number = 2 ^ 64 - 1
 -- there are as many as there may be
 abbrev pub is_full : ℕ → ℕ → Bool
 is_full count limit = not (nat_lt count limit)
+
+-- the path names a mount: it has the form of a name, and is none of the web site's
+abbrev pub names_mount : Settings → List ℕ → Bool
+names_mount settings path = is_mount_name path && not (is_web_path settings.web path)
 
 -- the settings have a table for the mount, or a relay that feeds it
 abbrev pub is_in_settings : Settings → List ℕ → Bool
@@ -95,7 +100,7 @@ source_facts_at house mount asked = record {
 }
 
 abbrev pub source_facts : House → SourceRequest → Option SourceFacts
-source_facts house asked = (if is_mount_name asked.mount then Some (source_facts_at house asked.mount asked) else None)
+source_facts house asked = (if names_mount house.settings asked.mount then Some (source_facts_at house asked.mount asked) else None)
 
 abbrev pub push_facts : House → List ℕ → List ℕ → PushFacts
 push_facts house mount block = record { number_is_spent = nat_lt largest_number (live_end house mount + length block) }
@@ -109,7 +114,7 @@ listen_facts_at house seats mount pair = let found = found_at (sight_of house) s
 }
 
 abbrev pub listen_facts : House → List Listener → ListenRequest → Option ListenFacts
-listen_facts house seats asked = (if is_mount_name asked.mount then Some (listen_facts_at house seats asked.mount asked.pair) else None)
+listen_facts house seats asked = (if names_mount house.settings asked.mount then Some (listen_facts_at house seats asked.mount asked.pair) else None)
 
 -- the policy's rows for each action, as things stand
 abbrev pub rows_to_arrive : House → Peer → List Row

@@ -3,6 +3,7 @@ pub mod World
 pub mod Facts
 pub mod Timeouts
 pub mod Outcomes
+pub mod Pages
 pub mod Arrive
 pub mod Source
 pub mod Push

@@ -1,7 +1,7 @@
 -- What an event does to its own client, and to others.
 use Rattle.std.specs.Prelude.{◌≡◌, ◌⊎◌, ℕ, ◌<◌, Option, Some, None}
 use Rattle.radio_policy.specs.declared.rule.Rule.{Rule}
-use Rattle.radio_settings.specs.declared.field.Shown.{Shown}
+use Rattle.radio_events.specs.declared.reply.StreamHead.{StreamHead}
 use Rattle.radio_events.specs.declared.event.Event.{Event}
 use Rattle.radio_events.specs.declared.event.Event.TheVariants.{Arrive, Source, Listen, Leave}
 use Rattle.radio_events.specs.declared.event.SourceRequest.{SourceRequest}
@@ -32,7 +32,7 @@ pub record RepliesFit (w : World) (event : Event) : Type 0 where
       × (standing_of (world_after w event) id ≡ Undecided peer)
   pub feeding : reply_to w event ≡ Feeding → (asked : SourceRequest) × (event ≡ Source asked) × IsUndecided w asked.id
       × (standing_of (world_after w event) asked.id ≡ Feeds asked.mount)
-  pub seated : (interval : Option ℕ) (shown : Shown) → reply_to w event ≡ Seated interval shown
+  pub seated : (interval : Option ℕ) (head : StreamHead) → reply_to w event ≡ Seated interval head
       → (asked : ListenRequest) × (event ≡ Listen asked) × IsUndecided w asked.id × (standing_of (world_after w event) asked.id ≡ Sits)
   pub finished : (rule : Rule) → reply_to w event ≡ Finished rule → (id : ℕ) × (client_in event ≡ Some id) × (standing_of w id ≡ HasFinished rule)
 

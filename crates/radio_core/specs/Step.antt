@@ -12,7 +12,7 @@ use Rattle.radio_core.specs.Source.{asks_to_feed}
 use Rattle.radio_core.specs.Push.{delivers}
 use Rattle.radio_core.specs.SourceEnd.{stops_feeding}
 use Rattle.radio_core.specs.Title.{sets_title}
-use Rattle.radio_core.specs.Listen.{asks_to_hear}
+use Rattle.radio_core.specs.Pages.{asks_by_path}
 use Rattle.radio_core.specs.Draw.{draws}
 use Rattle.radio_core.specs.Command.{gives_command}
 use Rattle.radio_core.specs.Leave.{leaves}
@@ -27,7 +27,7 @@ outcome w (Source asked) = asks_to_feed w asked
 outcome w (Push id block) = delivers w id block
 outcome w (SourceEnd id) = stops_feeding w id
 outcome w (Title id text) = sets_title w id text
-outcome w (Listen asked) = asks_to_hear w asked
+outcome w (Listen asked) = asks_by_path w asked
 outcome w (Draw id room) = draws w id room
 outcome w (Command asked) = gives_command w asked
 outcome w (Leave id) = leaves w id

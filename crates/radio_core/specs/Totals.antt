@@ -22,7 +22,7 @@ departures reply event = 0
 
 -- a listener was given a seat
 abbrev pub seatings : Reply → ℕ
-seatings (Seated interval shown) = 1
+seatings (Seated interval head) = 1
 seatings reply = 0
 
 -- the client who has left was a listener, who sat or had lost his seat before

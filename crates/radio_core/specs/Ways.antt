@@ -12,17 +12,18 @@ use Rattle.radio_events.specs.declared.event.Event.TheVariants.{Arrive, Source, 
 use Rattle.radio_core.specs.declared.house.House.{House}
 use Rattle.radio_core.specs.declared.outcome.Change.TheVariants.{Nothing, Answer, Admit, Receive, SetTitle, TakeSeat, Advance, End, EndAndLeave, Forget, Tick}
 use Rattle.radio_core.specs.declared.outcome.Outcome.{Outcome}
-use Rattle.radio_events.specs.declared.reply.Reply.TheVariants.{Arrived, Seated, Drawn, Noted, Deny, Finished, Stray}
+use Rattle.radio_events.specs.declared.reply.Reply.TheVariants.{Arrived, Seated, Drawn, Noted, Text as SaysText, Deny, Finished, Stray}
 use Rattle.radio_seats.specs.declared.seat.Seat.{Seat}
 use Rattle.radio_core.specs.declared.standing.Standing.{Standing}
 use Rattle.radio_core.specs.declared.standing.Standing.TheVariants.{Undecided, Feeds, Sits, Finished as HasFinished}
 use Rattle.radio_fallback.specs.declared.walking.Landing.TheVariants.{Lands}
 use Rattle.radio_events.specs.declared.command.Command.{Command as TheCommand}
-use Rattle.radio_events.specs.declared.command.Listing.{Listing}
-use Rattle.radio_core.specs.Command.{obeys, shows}
-use Rattle.radio_core.specs.CommandFacts.{IsCommanded, IsListed, rows_to_command}
+use Rattle.radio_core.specs.Command.{obeys}
+use Rattle.radio_core.specs.CommandFacts.{IsCommanded, rows_to_command}
+use Rattle.radio_core.specs.Pages.{IsShownBy}
+use Rattle.radio_events.specs.declared.text.Text.{Text}
 use Rattle.radio_core.specs.Facts.{rows_to_arrive, rows_to_feed, rows_to_push, rows_to_listen, walks_to}
-use Rattle.radio_core.specs.Listen.{first_seat, interval_for}
+use Rattle.radio_core.specs.Listen.{first_seat, head_of, interval_for}
 use Rattle.radio_core.specs.Outcomes.{says}
 use Rattle.radio_seats.specs.Seats.{seat_of}
 use Rattle.radio_parts.specs.Sessions.{Session, session_of}
@@ -70,7 +71,7 @@ pub data Way (w : World) : Event → Outcome → Type 0 where
   TakesSeat : (asked : ListenRequest) (peer : Peer) (session : Session) → standing_of w asked.id ≡ Undecided peer
       → walks_to w.house w.seats asked.mount asked.pair ≡ Lands session.mount → session_of w.house.live session.mount ≡ Some session
       → verdict_in (rows_to_listen w asked) ≡ Allow → Way w (Listen asked)
-      (says (Seated (interval_for w.house asked.mount asked.wants_metadata) session.shown) (TakeSeat asked.id (first_seat w.house asked peer session)))
+      (says (Seated (interval_for w.house asked.mount asked.wants_metadata) (head_of w.house session.shown)) (TakeSeat asked.id (first_seat w.house asked peer session)))
   HandsOut : (id room : ℕ) (seat : Seat) (session : Session) → standing_of w id ≡ Sits → seat_of w.seats id ≡ Some seat
       → session_of w.house.live seat.mount ≡ Some session → Way w (Draw id room)
       (says (Drawn (data_at session.stream seat.place room) session.title) (Advance id (seat.place + length (data_at session.stream seat.place room))))
@@ -78,6 +79,7 @@ pub data Way (w : World) : Event → Outcome → Type 0 where
   EndsAndLeaves : (id : ℕ) (mount : List ℕ) → standing_of w id ≡ Feeds mount → Way w (Leave id) (says Noted (EndAndLeave id mount))
   Leaves : (id : ℕ) → ((mount : List ℕ) → standing_of w id ≡ Feeds mount → ⊥) → Way w (Leave id) (says Noted (Forget id))
   Obeys : (event : Event) (command : TheCommand) (c : IsCommanded w event command) → Way w event (obeys w c.asked.id command)
-  Shows : (event : Event) (listing : Listing) (c : IsListed w event listing) → Way w event (shows w c.asked.id listing)
+  Shows : (event : Event) (id : ℕ) (peer : Peer) (text : Text) → client_in event ≡ Some id → standing_of w id ≡ Undecided peer → IsShownBy w event text
+      → Way w event (says (SaysText text) (Answer id))
   HasPassed : (ms : ℕ) → nat_lt ms w.house.time ≡ true → Way w (Clock ms) (says Noted Nothing)
   Ticks : (ms : ℕ) → nat_lt ms w.house.time ≡ false → Way w (Clock ms) (says Noted (Tick ms))

@@ -1,9 +1,9 @@
 //! What is looked up in the house for the policy.
 
-ghost use Rattle.std.specs.Prelude.{◌≡◌};
+ghost use Rattle.std.specs.Prelude.{◌≡◌, true, false, MatchOption};
 ghost use Rattle.std.specs.Option.{option_copied};
 ghost use Rattle.radio_settings.specs.Options.{options_for};
-ghost use Rattle.radio_core.specs.Facts.{arrive_facts, source_facts_at, listen_facts_at, walks_to, is_full, is_in_settings, is_known, fallback_of};
+ghost use Rattle.radio_core.specs.Facts.{arrive_facts, source_facts_at, listen_facts_at, walks_to, is_full, is_in_settings, is_known, names_mount, fallback_of};
 
 use crate::house::House;
 use radio_access::{is_refused_type, is_source_pair};
@@ -17,6 +17,18 @@ use radio_seats::Seats;
 use radio_settings::{MountName, Settings};
 
 impl House {
+    /// The mount that a path names; `None` where it names none, or is one of the web site's.
+    pub(crate) fn mount_named(&self, path: &[u8]) -> Option<MountName>
+        ensures { MatchOption result (names_mount self.now.settings path.now ≡ false)
+            (λ mount. (names_mount self.now.settings path.now ≡ true) × (mount ≡ path.now)) }
+    {
+        let mount = MountName::read(path)?;
+        if self.settings.web.has(path) {
+            return None;
+        }
+        Some(mount)
+    }
+
     /// What is looked up for a connection that arrives from this address.
     pub(crate) fn arrive_facts(&self, peer: Peer) -> ArriveFacts
         ensures { result ≡ arrive_facts self.now peer }

@@ -27,6 +27,7 @@ mod leave;
 mod listen;
 mod listings;
 mod obey;
+mod pages;
 mod push;
 mod source;
 mod source_end;

@@ -74,6 +74,7 @@ fn listen_again(asked: &ListenRequest) -> Result<ListenRequest, OutOfMemory>
         mount: asked.mount.clone()?,
         pair: pair_again(&asked.pair)?,
         wants_metadata: asked.wants_metadata,
+        host: asked.host.clone()?,
     })
 }
 

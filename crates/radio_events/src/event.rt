@@ -32,6 +32,9 @@ pub struct ListenRequest {
     pub pair: Option<Pair>,
     /// Whether he wants metadata between the data (ICY convention, `Icy-MetaData`).
     pub wants_metadata: bool,
+    /// The host by which he calls the server (RFC 9110, section 7.2), where he asks for what is told
+    /// in full addresses; else, and where he calls it by none, empty.
+    pub host: Bytes,
 }
 
 /// What happens to the server.

@@ -23,11 +23,8 @@ use Rattle.radio_events.specs.declared.command.Command.{Command as TheCommand}
 use Rattle.radio_events.specs.declared.command.Command.TheVariants.{MoveClients, KillClient, KillSource, SetTitle, SetFallback}
 use Rattle.radio_events.specs.declared.event.Event.{Event}
 use Rattle.radio_events.specs.declared.reply.Reply.TheVariants.{Text as SaysText}
-use Rattle.radio_events.specs.declared.command.Listing.{Listing}
-use Rattle.radio_events.specs.declared.command.Listing.TheVariants.{Status, Stats, Mounts, Clients, Streams}
 use Rattle.radio_events.specs.declared.text.Text.{Text}
 use Rattle.radio_events.specs.Texts.{IsShort}
-use Rattle.radio_core.specs.Listings.{shown}
 use Rattle.radio_core.specs.declared.outcome.Change.TheVariants.{Answer, Obey}
 use Rattle.radio_core.specs.declared.outcome.Outcome.{Outcome}
 use Rattle.radio_core.specs.declared.standing.Standing.{Standing}
@@ -50,6 +47,7 @@ use Rattle.radio_core.specs.Fallbacks.{Fallback, set_for}
 use Rattle.radio_parts.specs.Sessions.{Session, session_of, without_session}
 use Rattle.radio_parts.proofs.ApartLemmas.{bytes_apart}
 use Rattle.radio_parts.proofs.SessionLookups.{is_over, is_titled, beside_titled, beside_ended}
+use Rattle.radio_core.proofs.ListingLemmas.{shown_long}
 use Rattle.radio_core.proofs.Lookups.{is_set, beside_set}
 use Rattle.radio_laws.specs.Walks.{FallsBack, ByTheSettings, ByACommand}
 use Rattle.radio_core.specs.Outcomes.{on_verdict, if_undecided}
@@ -169,17 +167,10 @@ module _ (w : World) (s : IsSound w) (event : Event) where
       given command c w.house.settings.access.admin has (AsTheAdmin command (record { user = has.user; password = has.password }))
   by_right command c (inr source) = by_source command c source
 
--- a listing is no short text
-pub no_short : (w : World) (listing : Listing) → IsShort (shown w listing) → ⊥
-no_short w Status short = short
-no_short w Stats short = short
-no_short w Mounts short = short
-no_short w (Clients mount) short = short
-no_short w Streams short = short
-
 given_by : (w : World) → IsSound w → (event : Event) (o : Outcome) → Way w event o → (text : Text) → o.reply ≡ SaysText text → IsShort text
     → IsGivenByRight w event
-given_by w s event o (Shows _ listing c) text d short = let same : shown w listing ≡ text = cc in absurd (no_short w listing (subst IsShort (sym same) short))
+given_by w s event o (Shows _ asker peer shown its undecided what) text d short =
+    let same : shown ≡ text = cc in absurd (shown_long w event shown what (subst IsShort (sym same) short))
 given_by w s event o (Obeys _ command c) text d short =
     by_right w s event command c (one_of (is_admin_pair w.house.settings c.asked.pair) (opens_as_source w.house.settings (opened_by command) c.asked.pair)
     (is_opened w s event c))

@@ -166,7 +166,7 @@ module _ (w : World) where
   source_by event o (IsAdmitted peer allowed) d = cc
   source_by event o (Receives him mount block feeding) d = cc
   source_by event o (SetsTitle him mount text feeding) d = cc
-  source_by event o (Shows _ listing c) d = cc
+  source_by event o (Shows _ asker peer text its undecided what) d = cc
   source_by event o (Obeys _ command c) d = cc
   source_by event o (HasPassed ms e) d = cc
   source_by event o (Ticks ms e) d = cc

@@ -49,7 +49,7 @@ module _ (w : World) (mount : List ℕ) where
   stays_by event o (HasPassed ms e) = inl refl
   stays_by event o (Ticks ms e) =
       inl (ap (λ (fallbacks : List Fallback). set_for fallbacks mount) (silence_sets (silent_in (before_silence w ms)) (before_silence w ms)))
-  stays_by event o (Shows _ listing c) = inl refl
+  stays_by event o (Shows _ asker peer text its undecided what) = inl refl
   stays_by event o (Obeys _ command c) = by_command command c where
     by_command : (command : TheCommand) (c : IsCommanded w event command) → StaysSet (changed w (Obey c.asked.id command))
         ⊎ ((fallback : Option (List ℕ)) × IsCommanded w event (SetFallback mount fallback))

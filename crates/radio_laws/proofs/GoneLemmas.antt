@@ -1,5 +1,5 @@
 -- the law of those who have left
-use Rattle.std.proofs.Common.{◌≡◌, inl, inr, true, false, ℕ, ◌≤◌, Bool, Some, List, [], ◌∷◌, ◌++◌, refl, ap, sym, subst, ◌∙◌, arith}
+use Rattle.std.proofs.Common.{Option, None, ◌≡◌, inl, inr, true, false, ℕ, ◌≤◌, Bool, Some, List, [], ◌∷◌, ◌++◌, refl, ap, sym, subst, ◌∙◌, arith}
 use Rattle.std.specs.Prelude.{if◌then◌else◌}
 use Rattle.std.proofs.lemmas.List.{append-nil}
 use Rattle.radio_settings.specs.declared.settings.Settings.{Settings}
@@ -23,6 +23,13 @@ use Rattle.radio_core.specs.Run.{world_after_all, run_after}
 use Rattle.radio_core.specs.Sound.{IsSound}
 use Rattle.radio_core.specs.Step.{outcome, reply_to, world_after}
 use Rattle.radio_core.specs.Ways.{Way, Misplaced, IsFinished, IsDenied, IsRefused, IsAdmitted, Begins, Receives, SetsTitle, TakesSeat, HandsOut, Ends}
+use Rattle.radio_settings.specs.Web.{web_path}
+use Rattle.radio_settings.specs.declared.web.WebPath.{WebPath}
+use Rattle.radio_events.specs.declared.event.ListenRequest.{ListenRequest}
+use Rattle.radio_core.specs.declared.outcome.Change.TheVariants.{Nothing}
+use Rattle.radio_core.specs.Outcomes.{says}
+use Rattle.radio_core.specs.Pages.{asks_by}
+use Rattle.radio_events.specs.declared.reply.Reply.TheVariants.{Stray}
 use Rattle.radio_core.specs.Ways.{EndsAndLeaves, Leaves, Obeys, Shows, HasPassed, Ticks}
 use Rattle.radio_events.specs.Events.{client_in}
 use Rattle.radio_core.proofs.FinishLemmas.{others_hold, known_before}
@@ -61,6 +68,11 @@ module _ (w : World) (id : ℕ) (unknown : standing_of w id ≡ Unknown) where
   his_standing : (him : ℕ) → Some him ≡ Some id → standing_of w him ≡ Unknown
   his_standing him e = let same : him ≡ id = cc in ap (standing_of w) same ∙ unknown
 
+  -- by whatever path he asks
+  asks_out_of_place : (asked : ListenRequest) → standing_of w asked.id ≡ Unknown → (path : Option WebPath) → asks_by w asked path ≡ says Stray Nothing
+  asks_out_of_place asked e None = rw e refl
+  asks_out_of_place asked e (Some path) = rw e refl
+
   pub strays : (event : Event) → client_in event ≡ Some id → IsOutOfPlace w event
   unfolding outcome
   strays (Arrive peer) e = cc
@@ -68,7 +80,7 @@ module _ (w : World) (id : ℕ) (unknown : standing_of w id ≡ Unknown) where
   strays (Push him block) e = rw (his_standing him e) refl
   strays (SourceEnd him) e = rw (his_standing him e) refl
   strays (Title him text) e = rw (his_standing him e) refl
-  strays (Listen asked) e = rw (his_standing asked.id e) refl
+  strays (Listen asked) e = asks_out_of_place asked (his_standing asked.id e) (web_path w.house.settings.web asked.mount)
   strays (Draw him room) e = rw (his_standing him e) refl
   strays (Command asked) e = rw (his_standing asked.id e) refl
   strays (Leave him) e = rw (his_standing him e) refl
@@ -86,7 +98,7 @@ low_by w s event o (Begins asked undecided none allowed) =
     let last = ap (λ (h : House). h.last_id) (house_called up asked.mount) in omega (arith, last)
 low_by w s event o (Receives him mount block feeding) = omega arith
 low_by w s event o (SetsTitle him mount text feeding) = omega arith
-low_by w s event o (Shows _ listing c) = omega arith
+low_by w s event o (Shows _ asker peer text its undecided what) = omega arith
 low_by w s event o (Obeys _ command c) = let last = obeyed_last w c.asked.id command in omega (arith, last)
 low_by w s event o (HasPassed ms e) = omega arith
 low_by w s event o (Ticks ms e) = let last = (ticked_fates w s ms).last in omega (arith, last)

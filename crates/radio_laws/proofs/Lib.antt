@@ -22,4 +22,5 @@ mod TickOrder
 mod TitleLemmas
 mod ToldLemmas
 mod WalkLemmas
+mod WebLaws
 mod WalkingOnLemmas

@@ -7,7 +7,6 @@ use Rattle.radio_policy.specs.declared.rule.Rule.{Rule}
 use Rattle.radio_policy.specs.declared.rule.Rule.TheVariants.{TooManyClients, TooManySources, MountFull, UserTwice, NumbersSpent, FallbackDepth}
 use Rattle.radio_policy.specs.Table.{Row, arrive_rows, source_rows}
 use Rattle.radio_policy.specs.Verdicts.{verdict_in}
-use Rattle.radio_settings.specs.MountName.{is_mount_name}
 use Rattle.radio_tables.specs.Lists.{Each}
 use Rattle.radio_events.specs.declared.event.Event.{Event}
 use Rattle.radio_events.specs.declared.event.Event.TheVariants.{Arrive, Source, Push, SourceEnd, Title, Listen, Draw, Command, Leave, Clock}
@@ -18,7 +17,7 @@ use Rattle.radio_events.specs.declared.reply.Reply.TheVariants.{Arrived, Feeding
 use Rattle.radio_core.specs.declared.standing.Standing.{Standing}
 use Rattle.radio_core.specs.declared.standing.Standing.TheVariants.{Unknown, Undecided, Feeds, Sits, Answered, Finished}
 use Rattle.radio_core.specs.CommandFacts.{facts_asked, rows_to_command}
-use Rattle.radio_core.specs.Facts.{is_full as is_too_many, arrive_facts, source_facts_at}
+use Rattle.radio_core.specs.Facts.{is_full as is_too_many, arrive_facts, names_mount, source_facts_at}
 use Rattle.radio_laws.specs.Limits.{IsFullAt, AdmitsByLimits}
 use Rattle.radio_laws.specs.LimitDenials.{HasUserAt, ByAMount, DeniesByLimits}
 use Rattle.radio_laws.specs.Walks.{ComesBy}
@@ -111,7 +110,7 @@ module _ (w : World) where
   only_listeners rule limit (Listen asked) v goes = goes asked refl v
   only_listeners rule limit (Arrive peer) v goes = absurd (no_limit is_limit (rows_for w (Arrive peer)) (refl, (refl, (refl, (refl, tt)))) rule v limit)
   only_listeners rule limit (Source asked) v goes =
-      absurd (no_limit is_limit (rows_for w (Source asked)) (no_limit_to_feed asked (is_mount_name asked.mount)) rule v limit)
+      absurd (no_limit is_limit (rows_for w (Source asked)) (no_limit_to_feed asked (names_mount w.house.settings asked.mount)) rule v limit)
   only_listeners rule limit (Push id block) v goes =
       absurd (no_limit is_limit (rows_from w.house block (standing_of w id)) (only_numbers is_limit refl block (standing_of w id)) rule v limit)
   only_listeners rule limit (SourceEnd id) v goes = cc
@@ -144,7 +143,7 @@ module _ (w : World) where
       let facts = arrive_facts w.house peer in
       reached (length w.house.clients) w.house.settings.limits.clients
       (clients_by facts.address_is_denied facts.address_is_allowed facts.clients_are_full facts.number_is_spent v)
-  many_clients (Source asked) v = absurd (no_limit is_of_clients (rows_for w (Source asked)) (to_feed (is_mount_name asked.mount)) TooManyClients v refl) where
+  many_clients (Source asked) v = absurd (no_limit is_of_clients (rows_for w (Source asked)) (to_feed (names_mount w.house.settings asked.mount)) TooManyClients v refl) where
     to_feed : (named : Bool)
         → Each (λ row. is_of_clients row.rule ≡ false) (source_rows (if named then Some (source_facts_at w.house asked.mount asked) else None))
     to_feed true = (refl, (refl, (refl, (refl, tt))))
@@ -166,7 +165,7 @@ module _ (w : World) where
   many_sources (Source asked) v =
       let facts = source_facts_at w.house asked.mount asked in
       reached (length w.house.live) w.house.settings.limits.sources
-      (sources_by (is_mount_name asked.mount) facts.is_source_pair facts.sources_are_full facts.mount_is_live facts.type_is_refused v)
+      (sources_by (names_mount w.house.settings asked.mount) facts.is_source_pair facts.sources_are_full facts.mount_is_live facts.type_is_refused v)
   many_sources (Arrive peer) v = absurd (no_limit is_of_sources (rows_for w (Arrive peer)) (refl, (refl, (refl, (refl, tt)))) TooManySources v refl)
   many_sources (Push id block) v =
       absurd (no_limit is_of_sources (rows_from w.house block (standing_of w id)) (only_numbers is_of_sources refl block (standing_of w id)) TooManySources v refl)
@@ -212,7 +211,7 @@ module _ (w : World) where
   admits_by event o (IsRefused _ him by v his undecided) = (λ id d. cc, λ d. cc)
   admits_by event o (Receives him mount block feeding) = (λ id d. cc, λ d. cc)
   admits_by event o (SetsTitle him mount text feeding) = (λ id d. cc, λ d. cc)
-  admits_by event o (Shows _ listing c) = (λ id d. cc, λ d. cc)
+  admits_by event o (Shows _ asker peer text its undecided what) = (λ id d. cc, λ d. cc)
   admits_by event o (Obeys _ command c) = (λ id d. cc, λ d. cc)
   admits_by event o (HasPassed ms e) = (λ id d. cc, λ d. cc)
   admits_by event o (Ticks ms e) = (λ id d. cc, λ d. cc)

@@ -228,7 +228,7 @@ module _ (w : World) (s : IsSound w) (l : Within w) where
   within_by event o (Receives him mount block feeding) =
       within_still (changed w o.change) refl
       (nobody_came_ending (lags_behind mount (live_end (received w.house mount block) mount) w.house.settings.limits.queue_size) Lagged w.seats)
-  within_by event o (Shows _ listing c) = within_still (changed w o.change) refl (nobody_came w.seats)
+  within_by event o (Shows _ asker peer text its undecided what) = within_still (changed w o.change) refl (nobody_came w.seats)
   within_by event o (Obeys _ command c) = within_obeyed c.asked.id command
   within_by event o (HasPassed ms e) = l
   within_by event o (Ticks ms e) =

@@ -33,6 +33,8 @@ use Rattle.radio_core.specs.Command.{does_asked, said_of, shows}
 use Rattle.radio_core.specs.CommandFacts.{IsListed, is_live, facts_asked, rows_to_command}
 use Rattle.radio_core.specs.Counts.{counts_by}
 use Rattle.radio_core.specs.Listings.{shown}
+use Rattle.radio_core.specs.Pages.{IsShownBy, IsListing, IsAtPath, page_at}
+use Rattle.radio_events.specs.Events.{client_in}
 use Rattle.radio_core.specs.Outcomes.{if_undecided, on_verdict}
 use Rattle.radio_parts.specs.Sessions.{Session, session_of}
 use Rattle.radio_core.specs.Step.{outcome, reply_to, world_after}
@@ -41,10 +43,11 @@ use Rattle.radio_core.specs.Ways.{EndsAndLeaves, Leaves, Obeys, Shows, HasPassed
 use Rattle.radio_core.specs.World.{World, standing_of}
 use Rattle.radio_core.proofs.Standings.{turns_answered}
 use Rattle.radio_core.proofs.Ways.{way_of}
-use Rattle.radio_laws.specs.Shown.{IsTheRelays, MaySee, AsAnybody, AsARelay, AsTheAdmin, IsThereToSee, IsShownByRight, OnlyWhoMayIsShown, WhoMayIsShown, Tells}
+use Rattle.radio_laws.specs.Shown.{IsTheRelays, MaySee, AsAnybody, AsARelay, AsTheAdmin, IsThereToSee, IsShownByRight, IsShownAtPath, OnlyWhoMayIsShown, WhoMayIsShown, Tells}
 use Rattle.radio_laws.proofs.CommandLaws.{login_sent, one_of}
 use Rattle.radio_laws.proofs.CommandService.{is_its, or_true, lives, with_mount, judged, said_short}
 use Rattle.radio_laws.proofs.ListingRows.{tells}
+use Rattle.radio_laws.proofs.WebLaws.{shown_there}
 
 -- a relay's pair that was sent
 record HasRelays (relays : RelayAccess) (sent : Option Credentials) : Type 0 where
@@ -184,8 +187,19 @@ module _ (w : World) (event : Event) (listing : Listing) (c : IsListed w event l
         seats = ap (λ (later : World). later.seats) later_so;
       }
 
-shown_by : (w : World) (event : Event) (o : Outcome) → Way w event o → (text : Text) → o.reply ≡ SaysText text → (IsShort text → ⊥) → IsShownByRight w event text
-shown_by w event o (Shows _ listing c) text d long = by_right w event listing c text cc
+-- or what is at a path of the web site
+module _ (w : World) (event : Event) (asker : ℕ) (peer : Peer) (its : client_in event ≡ Some asker) (undecided : standing_of w asker ≡ Undecided peer) where
+  by_what : (text : Text) → IsShownBy w event text → IsShownByRight w event text ⊎ IsShownAtPath w event text
+  by_what text (IsListing listing c) = inl (by_right w event listing c (shown w listing) refl)
+  by_what text (IsAtPath asked path is on) =
+      let both : Some asked.id ≡ Some asker = sym (ap client_in is) ∙ its in
+      let same : asked.id ≡ asker = cc in
+      inr (shown_there w asked path on peer (ap (standing_of w) same ∙ undecided) event (page_at w path asked.host) is refl)
+
+shown_by : (w : World) (event : Event) (o : Outcome) → Way w event o → (text : Text) → o.reply ≡ SaysText text → (IsShort text → ⊥)
+    → IsShownByRight w event text ⊎ IsShownAtPath w event text
+shown_by w event o (Shows _ asker peer told its undecided what) text d long =
+    let same : told ≡ text = cc in subst (λ (t : Text). IsShownByRight w event t ⊎ IsShownAtPath w event t) same (by_what w event asker peer its undecided told what)
 shown_by w event o (Obeys _ command c) text d long =
     let same : said_of command (counts_by w command) ≡ text = cc in absurd (long (subst IsShort same (said_short command (counts_by w command))))
 shown_by w event o (Misplaced _) text d long = cc

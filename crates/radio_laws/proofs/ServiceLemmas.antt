@@ -31,7 +31,7 @@ use Rattle.radio_core.specs.Outcomes.{says, on_verdict, if_undecided, if_feeding
 use Rattle.radio_core.specs.Arrive.{admits_client}
 use Rattle.radio_core.specs.Source.{shown_for, begins}
 use Rattle.radio_core.specs.Push.{takes_in}
-use Rattle.radio_core.specs.Listen.{first_seat, takes_seat, sits_where}
+use Rattle.radio_core.specs.Listen.{first_seat, head_of, takes_seat, sits_where}
 use Rattle.radio_core.specs.Draw.{hands_out, hands_out_at}
 use Rattle.radio_seats.specs.Seats.{seat_of}
 use Rattle.radio_laws.specs.Service.{IsTakenIn, IsHanded, Serves, ChangesNothing}
@@ -49,7 +49,8 @@ use Rattle.radio_core.proofs.SoundEnds.{turns_ended}
 use Rattle.radio_core.proofs.SoundSessions.{has_advanced}
 use Rattle.radio_core.proofs.SeatedLemmas.{seat_of_sitting}
 use Rattle.radio_core.proofs.Standings.{turns_sitting, turns_admitted}
-use Rattle.radio_core.proofs.Ways.{way_of, may_begin, lands_at}
+use Rattle.radio_core.proofs.Ways.{way_of, may_begin, lands_at, no_path}
+use Rattle.radio_core.specs.Pages.{asks_by}
 
 is_allowed : (v : Verdict) (denied : Change) (allowed : Outcome) → v ≡ Allow → on_verdict v denied allowed ≡ allowed
 is_allowed Allow denied allowed e = refl
@@ -105,7 +106,8 @@ module _ (allows : (rows : List Row) → (verdict_in rows ≡ Allow) ↔ Allows 
       → session_of w.house.live session.mount ≡ Some session → outcome w (Listen asked) ≡ takes_seat w.house asked peer (Some session)
   unfolding outcome
   outcome_listen asked peer session e v lands found =
-      goes_undecided (standing_of w asked.id) peer _ e
+      ap (asks_by w asked) (no_path w asked v)
+      ∙ goes_undecided (standing_of w asked.id) peer _ e
       ∙ is_allowed (verdict_in (rows_to_listen w asked)) _ (sits_where w.house asked peer (walks_to w.house w.seats asked.mount asked.pair)) v
       ∙ ap (sits_where w.house asked peer) lands
       ∙ ap (takes_seat w.house asked peer) found
@@ -146,6 +148,8 @@ module _ (allows : (rows : List Row) → (verdict_in rows ≡ Allow) ↔ Allows 
         not_too_far = way.1;
         on_his_way = subst (λ (m : List ℕ). ComesBy w asked.mount way.0 m) (sym named) way.2;
         is_live = ap (session_of w.house.live) named ∙ there.1;
+        head = head_of w.house there.0.shown;
+        shows = refl;
         is_shown = reply_is (Listen asked) (takes_seat w.house asked peer (Some there.0)) o;
         sits = after_outcome (Listen asked) (takes_seat w.house asked peer (Some there.0)) asked.id Sits o
             (turns_sitting w asked.id (first_seat w.house asked peer there.0) (λ u. cc)).his;
@@ -226,7 +230,7 @@ nothing_by w event o (HandsOut him room seat session sits has live) = (λ d. cc,
 nothing_by w event o (Ends him mount feeding) = (λ d. cc, λ rule d. cc)
 nothing_by w event o (EndsAndLeaves him mount feeding) = (λ d. cc, λ rule d. cc)
 nothing_by w event o (Leaves him other) = (λ d. cc, λ rule d. cc)
-nothing_by w event o (Shows _ listing c) = (λ d. cc, λ rule d. cc)
+nothing_by w event o (Shows _ asker peer text its undecided what) = (λ d. cc, λ rule d. cc)
 nothing_by w event o (Obeys _ command c) = (λ d. cc, λ rule d. cc)
 nothing_by w event o (HasPassed ms e) = (λ d. refl, λ rule d. refl)
 nothing_by w event o (Ticks ms e) = (λ d. cc, λ rule d. cc)

@@ -255,7 +255,7 @@ module _ (w : World) (s : IsSound w) (sent : ℕ → List ℕ) (h : Sent w sent)
   brings_nothing event o (IsRefused _ him by v its undecided) id not = nothing_of event id [] refl
   brings_nothing event o (IsAdmitted peer allowed) id not = refl
   brings_nothing event o (SetsTitle him mount text feeding) id not = nothing_of event id [] refl
-  brings_nothing event o (Shows _ listing c) id not = nothing_of event id [] refl
+  brings_nothing event o (Shows _ asker peer text its undecided what) id not = nothing_of event id [] refl
   brings_nothing event o (Obeys _ command c) id not = nothing_of event id [] refl
   brings_nothing event o (HasPassed ms e) id not = refl
   brings_nothing event o (Ticks ms e) id not = refl
@@ -321,7 +321,7 @@ module _ (w : World) (s : IsSound w) (sent : ℕ → List ℕ) (h : Sent w sent)
   unfolding whole_now
   whole_by event o (Receives him mount block feeding) = grown_whole him mount block feeding
   whole_by event o (SetsTitle him mount text feeding) = titled_whole him mount text feeding
-  whole_by event o (Shows _ listing c) = as_it_was event
+  whole_by event o (Shows _ asker peer text its undecided what) = as_it_was event
   whole_by event o (Obeys _ command c) = λ mount session e.
       let was = was_live_then w event command c mount s session e in
       subst (λ (x : WholeStream). x.bytes ≡ sent session.number ++ of_client event session.number []) was.stream

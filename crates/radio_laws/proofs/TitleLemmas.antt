@@ -17,14 +17,17 @@ use Rattle.radio_events.specs.declared.command.Command.{Command as TheCommand}
 use Rattle.radio_events.specs.declared.command.Command.TheVariants.{MoveClients, KillClient, KillSource, SetTitle as CommandsTitle, SetFallback}
 use Rattle.radio_events.specs.declared.event.Event.{Event}
 use Rattle.radio_events.specs.declared.event.Event.TheVariants.{Push, Title}
-use Rattle.radio_core.specs.declared.outcome.Change.TheVariants.{Receive, SetTitle}
+use Rattle.radio_core.specs.declared.outcome.Change.TheVariants.{Answer, Receive, SetTitle}
+use Rattle.radio_core.specs.Outcomes.{says}
+use Rattle.radio_events.specs.declared.reply.Reply.TheVariants.{Text as SaysText}
 use Rattle.radio_core.specs.declared.outcome.Outcome.{Outcome}
 use Rattle.radio_core.specs.declared.standing.Standing.TheVariants.{Unknown, Undecided, Feeds}
 use Rattle.radio_core.specs.World.{World, opening, standing_of}
 use Rattle.radio_core.specs.Changes.{answered, changed, session_killed}
 use Rattle.radio_core.specs.Command.{obeys as obeys_it}
-use Rattle.radio_events.specs.declared.command.Listing.{Listing}
-use Rattle.radio_events.specs.declared.command.Listing.TheVariants.{Status, Stats, Mounts, Clients, Streams}
+use Rattle.radio_events.specs.declared.text.Text.{Text}
+use Rattle.radio_events.specs.declared.text.Text.TheVariants.{Done, Moved, Json, Streams, Public, Page}
+use Rattle.radio_events.specs.Texts.{IsShort}
 use Rattle.radio_core.specs.Command.{shows}
 use Rattle.radio_core.specs.CommandFacts.{IsListed, IsCommanded}
 use Rattle.radio_core.specs.Handing.{is_number, of_client}
@@ -38,7 +41,9 @@ use Rattle.radio_core.specs.Ways.{Way, Misplaced, IsFinished, IsDenied, IsRefuse
 use Rattle.radio_core.specs.Ways.{EndsAndLeaves, Leaves, Obeys, Shows, HasPassed, Ticks}
 use Rattle.radio_laws.proofs.AccessLemmas.{access_holds}
 use Rattle.radio_core.proofs.FinishLemmas.{undecided_before}
+use Rattle.radio_core.proofs.ListingLemmas.{shown_long}
 use Rattle.radio_core.proofs.Obeyed.{title_live}
+use Rattle.radio_core.specs.Pages.{IsShownBy}
 use Rattle.radio_core.proofs.OwnLemmas.{not_of, nothing_of}
 use Rattle.radio_laws.proofs.StretchLemmas.{was_begun}
 use Rattle.radio_laws.proofs.GoneLemmas.{his_own, with_nothing, last_rises}
@@ -112,13 +117,17 @@ module _ (w : World) (s : IsSound w) (told : ℕ → List (List ℕ)) (h : Told 
       (λ same. absurd (not mount (ap (standing_of w) (sym same) ∙ s.fed mount there.0 there.1)))
       (λ apart. apart))
 
-  -- who is shown a listing sets none
-  listing_sets_none : (event : Event) (listing : Listing) (c : IsListed w event listing) (id : ℕ) → sets w event (shows w c.asked.id listing) id ≡ []
-  listing_sets_none event Status c id = nothing_of event id [] refl
-  listing_sets_none event Stats c id = nothing_of event id [] refl
-  listing_sets_none event Mounts c id = nothing_of event id [] refl
-  listing_sets_none event (Clients mount) c id = nothing_of event id [] refl
-  listing_sets_none event Streams c id = nothing_of event id [] refl
+  -- who is shown something of the station sets none
+  long_sets_none : (event : Event) (text : Text) → (IsShort text → ⊥) → (asker id : ℕ) → sets w event (says (SaysText text) (Answer asker)) id ≡ []
+  long_sets_none event Done long asker id = absurd (long tt)
+  long_sets_none event (Moved count) long asker id = nothing_of event id [] refl
+  long_sets_none event (Json bytes) long asker id = nothing_of event id [] refl
+  long_sets_none event (Streams bytes) long asker id = nothing_of event id [] refl
+  long_sets_none event (Public bytes origin) long asker id = nothing_of event id [] refl
+  long_sets_none event (Page origin) long asker id = nothing_of event id [] refl
+
+  shown_sets_none : (event : Event) (text : Text) → IsShownBy w event text → (asker id : ℕ) → sets w event (says (SaysText text) (Answer asker)) id ≡ []
+  shown_sets_none event text what = long_sets_none event text (shown_long w event text what)
 
   -- only a source and a command set a title
   sets_nothing : (event : Event) (o : Outcome) → Way w event o → (id : ℕ) → ((mount : List ℕ) → standing_of w id ≡ Feeds mount → ⊥)
@@ -130,7 +139,7 @@ module _ (w : World) (s : IsSound w) (told : ℕ → List (List ℕ)) (h : Told 
   sets_nothing event o (IsDenied _ by v nobody) id not = nothing_of event id [] refl
   sets_nothing event o (IsRefused _ him by v its undecided) id not = nothing_of event id [] refl
   sets_nothing event o (IsAdmitted peer allowed) id not = refl
-  sets_nothing event o (Shows _ listing c) id not = listing_sets_none event listing c id
+  sets_nothing event o (Shows _ asker peer text its undecided what) id not = shown_sets_none event text what asker id
   sets_nothing event o (Obeys _ command c) id not = commands_nothing event command c id not
   sets_nothing event o (HasPassed ms e) id not = refl
   sets_nothing event o (Ticks ms e) id not = refl
@@ -250,9 +259,9 @@ module _ (w : World) (s : IsSound w) (told : ℕ → List (List ℕ)) (h : Told 
   last_by : (event : Event) (o : Outcome) → Way w event o → last_now event o
   unfolding last_now
   last_by event o (SetsTitle him mount text feeding) = new_title him mount text feeding
-  last_by event o (Shows _ listing c) = λ mount session live.
+  last_by event o (Shows _ asker peer text its undecided what) = λ mount session live.
       h.last mount session live
-      ∙ ap (λ xs. last_or None xs) (with_nothing (told session.number) (sets w event o session.number) (listing_sets_none event listing c session.number))
+      ∙ ap (λ xs. last_or None xs) (with_nothing (told session.number) (sets w event o session.number) (shown_sets_none event text what asker session.number))
   last_by event o (Obeys _ command c) = command_title event command c
   last_by event o (HasPassed ms e) = as_it_was event
   last_by event o (Ticks ms e) = λ mount session h. as_it_was event mount session ((ticked_fates w s ms).live mount session h)

@@ -7,6 +7,7 @@ use Rattle.radio_events.specs.declared.event.Event.{Event}
 use Rattle.radio_events.specs.declared.event.Event.TheVariants.{Arrive, Source, Push, SourceEnd, Title, Listen, Draw}
 use Rattle.radio_events.specs.declared.event.SourceRequest.{SourceRequest}
 use Rattle.radio_events.specs.declared.event.ListenRequest.{ListenRequest}
+use Rattle.radio_events.specs.declared.reply.StreamHead.{StreamHead}
 use Rattle.radio_events.specs.declared.reply.Reply.TheVariants.{Arrived, Feeding, Noted, Seated, Drawn, Finished, Stray}
 use Rattle.radio_seats.specs.declared.seat.Seat.{Seat}
 use Rattle.radio_core.specs.declared.standing.Standing.TheVariants.{Undecided, Feeds, Sits, Answered}
@@ -28,7 +29,9 @@ pub record IsTakenIn (w : World) (asked : ListenRequest) : Type 0 where
   pub not_too_far : steps < 10
   pub on_his_way : ComesBy w asked.mount steps session.mount
   pub is_live : session_of w.house.live session.mount ≡ Some session
-  pub is_shown : reply_to w (Listen asked) ≡ Seated (interval_for w.house asked.mount asked.wants_metadata) session.shown
+  pub head : StreamHead
+  pub is_shown : reply_to w (Listen asked) ≡ Seated (interval_for w.house asked.mount asked.wants_metadata) head
+  pub shows : head.shown ≡ session.shown
   pub sits : standing_of (world_after w (Listen asked)) asked.id ≡ Sits
 
 -- a listener was handed what stands at his place in the stream of his mount, as much of it as is there and as he has room for, and the title that it has;

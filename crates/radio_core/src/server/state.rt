@@ -78,7 +78,7 @@ impl State {
             Event::Push { id, block } => Ok(self.push(id, block)),
             Event::SourceEnd { id } => Ok(self.source_end(id)),
             Event::Title { id, text } => Ok(self.title(id, text)),
-            Event::Listen(asked) => self.listen(asked),
+            Event::Listen(asked) => self.get(asked),
             Event::Draw { id, room } => self.draw(id, room),
             Event::Command(asked) => self.command(asked),
             Event::Leave { id } => Ok(self.leave(id)),
