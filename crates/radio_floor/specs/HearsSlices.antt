@@ -8,7 +8,7 @@ use Rattle.radio_access.specs.Lists.{Lists}
 use Rattle.radio_policy.specs.declared.rule.Rule.{Rule}
 use Rattle.radio_policy.specs.declared.rule.Status.{Status}
 use Rattle.radio_policy.specs.Words.{word_of, status_of}
-use Rattle.radio_heads.specs.Answer.{listener_head, denial_text}
+use Rattle.radio_heads.specs.Answer.{denial_text}
 use Rattle.radio_icy.specs.Weaving.{Call}
 use Rattle.radio_icy.specs.Stream.{sound_of_calls}
 use Rattle.radio_events.specs.declared.event.Event.{Event}
@@ -16,7 +16,7 @@ use Rattle.radio_events.specs.declared.event.Event.TheVariants.{Source, Listen, 
 use Rattle.radio_events.specs.declared.event.SourceRequest.{SourceRequest}
 use Rattle.radio_events.specs.declared.event.ListenRequest.{ListenRequest}
 use Rattle.radio_core.specs.Handing.{of_client, delivered}
-use Rattle.radio_core.specs.Listen.{interval_for}
+use Rattle.radio_core.specs.Listen.{head_of, interval_for}
 use Rattle.radio_core.specs.Source.{shown_for}
 use Rattle.radio_core.specs.Step.{reply_to, world_after}
 use Rattle.radio_core.specs.Run.{run_after}
@@ -24,7 +24,8 @@ use Rattle.radio_laws.specs.Stretches.{Sitting, sittings, AreStretches}
 use Rattle.radio_laws.specs.Walks.{ComesBy}
 use Rattle.radio_core.specs.World.{World, opening}
 use Rattle.radio_session.specs.Conversation.{Conversation, fresh}
-use Rattle.radio_session.specs.Draws.{interval_told, joined_draws}
+use Rattle.radio_session.specs.Draws.{joined_draws}
+use Rattle.radio_session.specs.Saying.{head_text}
 use Rattle.radio_session.specs.Hearing.{Heard, IsHeard}
 use Rattle.radio_session.specs.Told.{draws_of}
 use Rattle.radio_script.specs.declared.delivery.Delivery.{Delivery}
@@ -117,8 +118,8 @@ module _ (settings : Settings) (lists : Lists) (deliveries : List Delivery) (eve
   -- his head where this is the source: it shows what the stream of the source shows, by the settings, and his interval
   abbrev pub head_for : ListenRequest → SourceRequest → List ℕ
   head_for asked source =
-      let shown = shown_for (opening settings lists).house source.mount source.shown in
-      listener_head shown.content_type shown.name shown.genre (interval_told (his_interval asked))
+      let house = (opening settings lists).house in
+      head_text (his_interval asked) (head_of house (shown_for house source.mount source.shown))
 
   -- The client of this number is a listener who asked so, and is given these bytes: a head that shows what the stream of his first source
   -- shows, and then his draws, woven at his interval; the data in them are slices of what his sources delivered.

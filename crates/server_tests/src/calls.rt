@@ -223,6 +223,7 @@ pub fn listen_event(alloc: Global, id: u64, path: &str) -> Result<Event, OutOfMe
         mount: Bytes::copy_from_slice(alloc, path.as_bytes())?,
         pair: None,
         wants_metadata: false,
+        host: Bytes::from_static(b""),
     }))
 }
 

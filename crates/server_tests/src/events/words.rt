@@ -164,7 +164,7 @@ fn told(alloc: Global, reply: &Reply) -> Result<String, OutOfMemory> {
     match reply {
         Reply::Arrived(id) => format!(in alloc; "arrived {id}"),
         Reply::Feeding => "feeding".to_string(alloc),
-        Reply::Seated { shown, .. } => told_shown(alloc, shown),
+        Reply::Seated { head, .. } => told_shown(alloc, &head.shown),
         Reply::Drawn { pieces, .. } => told_drawn(alloc, pieces),
         Reply::Noted => "noted".to_string(alloc),
         Reply::Text(text) => told_text(alloc, text),
@@ -178,7 +178,10 @@ fn told_text(alloc: Global, answer: &Text) -> Result<String, OutOfMemory> {
     match answer {
         Text::Done => "done".to_string(alloc),
         Text::Moved(count) => format!(in alloc; "moved {count}"),
-        Text::Json(bytes) | Text::Streams(bytes) => text(bytes.as_slice()).to_string(alloc),
+        Text::Json(bytes) | Text::Streams(bytes) | Text::Public { bytes, .. } => {
+            text(bytes.as_slice()).to_string(alloc)
+        }
+        Text::Page { .. } => "page".to_string(alloc),
     }
 }
 
