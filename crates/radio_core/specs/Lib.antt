@@ -1,7 +1,9 @@
 pub mod Clients
+pub mod Relays
 pub mod World
 pub mod Facts
 pub mod Timeouts
+pub mod Closing
 pub mod Outcomes
 pub mod Arrive
 pub mod Source
@@ -11,6 +13,8 @@ pub mod Title
 pub mod Listen
 pub mod Draw
 pub mod Leave
+pub mod RelayUp
+pub mod RelayDown
 pub mod Clock
 pub mod Fallbacks
 pub mod CommandFacts
