@@ -1,16 +1,17 @@
 -- what comes of an event is the same where only a queue is kept of each stream
-use Rattle.std.proofs.Common.{◌≡◌, Bool, ℕ, ◌+◌, ◌||◌, Option, Some, None, is_some, List, length, refl, ap, ◌∙◌, arith}
+use Rattle.std.proofs.Common.{◌≡◌, Bool, ℕ, ◌+◌, ◌==◌, ◌||◌, Option, Some, None, is_some, List, length, refl, ap, ◌∙◌, arith}
 use Rattle.std.proofs.Math.Path.{fun_ext}
 use Rattle.std.specs.Prelude.{nat_lt, if◌then◌else◌}
 use Rattle.std.specs.Option.{option_map}
 use Rattle.std.specs.Str.{bytes_eq}
 use Rattle.std.proofs.lemmas.List.{length-map}
 use Rattle.radio_policy.specs.declared.facts.SourceFacts.{SourceFacts}
+use Rattle.radio_policy.specs.declared.facts.RelayFacts.{RelayFacts}
 use Rattle.radio_policy.specs.declared.facts.ListenFacts.{ListenFacts}
 use Rattle.radio_policy.specs.declared.facts.CommandFacts.{CommandFacts}
 use Rattle.radio_policy.specs.declared.facts.CommandNeeds.{CommandNeeds}
 use Rattle.radio_policy.specs.declared.facts.CommandNeeds.TheVariants.{Mount as MountNeeds, Destination, Client as ClientNeeds}
-use Rattle.radio_policy.specs.Table.{source_rows, push_rows, listen_rows, command_rows}
+use Rattle.radio_policy.specs.Table.{source_rows, relay_rows, push_rows, listen_rows, command_rows}
 use Rattle.radio_policy.specs.Verdicts.{verdict_in}
 use Rattle.radio_addr.specs.declared.peer.Peer.{Peer}
 use Rattle.radio_access.specs.ContentTypes.{is_refused_type}
@@ -23,7 +24,9 @@ use Rattle.radio_fallback.specs.Walk.{Sight, found_at, landing, stop_in}
 use Rattle.radio_events.specs.declared.event.SourceRequest.{SourceRequest}
 use Rattle.radio_events.specs.declared.event.ListenRequest.{ListenRequest}
 use Rattle.radio_events.specs.declared.event.Event.{Event}
-use Rattle.radio_events.specs.declared.event.Event.TheVariants.{Arrive, Source, Push, SourceEnd, Title, Listen, Draw, Command, Leave, Clock}
+use Rattle.radio_events.specs.declared.event.Event.TheVariants.{Arrive, Source, Push, SourceEnd, Title, Listen, Draw, Command, Leave}
+use Rattle.radio_events.specs.declared.event.Event.TheVariants.{RelayUp, RelayDown, Clock}
+use Rattle.radio_settings.specs.declared.field.Shown.{Shown}
 use Rattle.radio_core.specs.declared.house.House.{House}
 use Rattle.radio_core.specs.declared.outcome.Change.TheVariants.{Nothing, Answer, TakeSeat, Advance, Obey}
 use Rattle.radio_core.specs.declared.outcome.Outcome.{Outcome}
@@ -46,7 +49,7 @@ use Rattle.radio_core.specs.Counts.{counts_by}
 use Rattle.radio_core.specs.Draw.{hands_out, hands_out_at}
 use Rattle.radio_fallback.specs.declared.walking.Landing.{Landing}
 use Rattle.radio_fallback.specs.declared.walking.Landing.TheVariants.{Lands, Stops}
-use Rattle.radio_core.specs.Facts.{largest_number, is_full, is_in_settings, names_mount, sight_of, walks_to, source_facts, listen_facts}
+use Rattle.radio_core.specs.Facts.{largest_number, is_full, is_in_settings, sight_of, walks_to, source_facts, relay_facts, listen_facts, names_mount}
 use Rattle.radio_parts.specs.Kept.{kept_session}
 use Rattle.radio_core.specs.Kept.{kept_of}
 use Rattle.radio_core.specs.Listen.{burst_of, head_of, interval_for, first_seat, takes_seat, sits_where}
@@ -54,6 +57,7 @@ use Rattle.radio_core.specs.Outcomes.{says, on_verdict, if_undecided, if_feeding
 use Rattle.radio_core.specs.Push.{takes_in}
 use Rattle.radio_parts.specs.Sessions.{Session, is_of, session_of, HasRisingStarts}
 use Rattle.radio_core.specs.Source.{begins}
+use Rattle.radio_core.specs.RelayUp.{raises}
 use Rattle.radio_core.specs.StandsFor.{SeatsAreKept}
 use Rattle.radio_core.specs.Step.{outcome}
 use Rattle.radio_core.specs.World.{World, standing_of}
@@ -86,6 +90,18 @@ module _ (w : World) (rise : Each HasRisingStarts w.house.live) (kept : SeatsAre
       }) else None) in
       ap (λ (count : ℕ). facts count (is_some (session_of kept_house.live asked.mount))) (length-map w.house.live (kept_session queue))
       ∙ ap (facts (length w.house.live)) (has_session w rise asked.mount)
+
+  -- a relay comes up
+  raise_facts : (mount : List ℕ) (shown : Shown) → relay_facts kept_house mount shown ≡ relay_facts w.house mount shown
+  raise_facts mount shown =
+      let facts : ℕ → Bool → Option RelayFacts = λ count live. (if names_mount w.house.settings mount then Some (record {
+        sources_are_full = is_full count w.house.settings.limits.sources;
+        mount_is_live = live;
+        type_is_refused = is_refused_type shown.content_type;
+        number_is_spent = w.house.last_id == largest_number;
+      }) else None) in
+      ap (λ (count : ℕ). facts count (is_some (session_of kept_house.live mount))) (length-map w.house.live (kept_session queue))
+      ∙ ap (facts (length w.house.live)) (has_session w rise mount)
 
   -- a listener asks
   hear_facts : (asked : ListenRequest) → listen_facts kept_house w.seats asked ≡ listen_facts w.house w.seats asked
@@ -208,4 +224,7 @@ module _ (w : World) (rise : Each HasRisingStarts w.house.live) (kept : SeatsAre
   outcome_kept (Draw id room) = ap (if_sitting (standing_of w id)) (draws_alike id room (seat_of w.seats id) refl)
   outcome_kept (Command asked) = commands_alike asked
   outcome_kept (Leave id) = refl
+  outcome_kept (RelayUp mount shown) =
+      ap (λ (facts : Option RelayFacts). on_verdict (verdict_in (relay_rows facts)) Nothing (raises w.house mount shown)) (raise_facts mount shown)
+  outcome_kept (RelayDown id) = refl
   outcome_kept (Clock ms) = refl

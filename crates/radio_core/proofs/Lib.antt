@@ -13,6 +13,7 @@ mod SourceReplyLemmas
 pub mod ArrivalLemmas
 pub mod CalledHome
 pub mod CarriedFates
+pub mod ClosingLemmas
 pub mod ClientSteps
 pub mod Effects
 pub mod Fates
@@ -23,6 +24,7 @@ pub mod NamedRules
 mod NumbersRise
 mod NumbersStay
 pub mod OwnLemmas
+mod RelayRows
 pub mod ReplyLemmas
 pub mod SeatSteps
 pub mod SeatedLemmas

@@ -30,6 +30,7 @@ use Rattle.radio_core.specs.declared.standing.Standing.{Standing}
 use Rattle.radio_core.specs.declared.standing.Standing.TheVariants.{Unknown, Undecided, Feeds, Sits, Answered, Finished}
 use Rattle.radio_core.specs.Changes.{answered, changed, session_over, session_ended, session_ended_by, session_killed}
 use Rattle.radio_core.specs.Clients.{client_of}
+use Rattle.radio_core.specs.Relays.{relay_of}
 use Rattle.radio_core.specs.CommandFacts.{IsCommanded, is_live, sits_at, facts_asked, needs_of, opened_by, opener_in, opens}
 use Rattle.radio_core.specs.Facts.{sight_of}
 use Rattle.radio_core.specs.Finishes.{Cause, SessionIsOver, IsKilled, HisSessionIsKilled}
@@ -42,10 +43,10 @@ use Rattle.radio_core.proofs.CarriedFates.{order_carried, carried_fate}
 use Rattle.radio_core.proofs.Fates.{IsActive, Fate, GoesOn, IsEnded, HasStopped, IsMoved, Fates, HasEnded, Nobody, sound_fates, fates_none, lost_in, active_sitter}
 use Rattle.radio_parts.proofs.SessionLookups.{found_named, is_over}
 use Rattle.radio_parts.proofs.NumberOrder.{order_lost}
-use Rattle.radio_core.proofs.SoundEnds.{over_fates, late_beside, there, still_feeds, has_none_then, order_then}
+use Rattle.radio_core.proofs.SoundEnds.{over_fates, late_beside, still_feeds, has_none_then, order_then}
 use Rattle.radio_core.proofs.SoundTitles.{sound_titled}
 use Rattle.radio_core.proofs.Soundness.{sound_answered}
-use Rattle.radio_core.proofs.Standings.{Turns, turns_answered, turns_ended_by}
+use Rattle.radio_core.proofs.Standings.{Turns, asks, turns_answered, turns_ended_by}
 
 -- rows that deny nothing hold nothing, from the first on
 past_row : (rule : Rule) (holds : Bool) (rows : List Row) → verdict_in (row rule holds ∷ rows) ≡ Allow → (holds ≡ false) × (verdict_in rows ≡ Allow)
@@ -152,7 +153,7 @@ module _ (w : World) (s : IsSound w) (event : Event) where
 
     moved_fate : (id : ℕ) → Fate (Cause w moved_world event) (Takes w event) Nobody (LeavesFor w event) (heard c) moved_world id
     moved_fate id =
-        carried_fate (Cause w moved_world event) (Takes w event) Nobody (LeavesFor w event) (heard c) (sound_heard c) (heard c).house refl refl (To mount destination)
+        carried_fate (Cause w moved_world event) (Takes w event) Nobody (LeavesFor w event) (heard c) (sound_heard c) (heard c).house refl refl refl (To mount destination)
         moved_world (λ m. refl) id refl refl
         (λ turn same seats. GoesOn same seats (λ m feeds. refl) (λ seat has. refl))
         (λ seat session concerned turn live.
@@ -204,8 +205,8 @@ module _ (w : World) (s : IsSound w) (event : Event) where
 
     pub has_been_killed : standing_of killed_world listener ≡ Finished Killed
     has_been_killed =
-        ap (λ l. standing_in l (client_of (heard c).house.clients listener)) then_so
-        ∙ lost_in (listener_of w.seats listener) held.0.id Killed (client_of (heard c).house.clients listener) sat
+        ap (λ l. standing_in (relay_of w.house.relays listener) l (client_of (heard c).house.clients listener)) then_so
+        ∙ lost_in (relay_of w.house.relays listener) (listener_of w.seats listener) held.0.id Killed (client_of (heard c).house.clients listener) sat
 
     pub sits_no_more : seat_of killed_world.seats listener ≡ None
     sits_no_more = ap seat_in then_so
@@ -224,7 +225,7 @@ module _ (w : World) (s : IsSound w) (event : Event) where
     killed_fate : (id : ℕ) → KilledFate id
     killed_fate id =
         by_number listener id (λ same. subst KilledFate same his_end)
-        (λ apart. GoesOn (ap (λ l. standing_in l (client_of (heard c).house.clients id)) (beside_him id apart)) (ap seat_in (beside_him id apart)) (λ m e. refl) (λ seat e. refl))
+        (λ apart. GoesOn (ap (λ l. standing_in (relay_of w.house.relays id) l (client_of (heard c).house.clients id)) (beside_him id apart)) (ap seat_in (beside_him id apart)) (λ m e. refl) (λ seat e. refl))
 
     obeyed_kill : IsObeyed w event c.asked.id killed_world
     obeyed_kill = with_seats c killed_world.seats (order_lost w.seats s.by_number listener Killed) killed_fate
@@ -283,8 +284,7 @@ module _ (w : World) (s : IsSound w) (event : Event) where
         (λ id seat rule had turn. SessionIsOver rule seat had (SessionEnds cut.mount, session_over w cut.mount, ByKilling event cut.mount own, turn))
         (λ id session turn. (SessionEnds cut.mount, session_over w cut.mount, ByKilling event cut.mount own, turn))
         refl refl refl (order_then (heard c) (sound_heard c) cut.number cut.mount feeding)
-        (late_beside (heard c).house.clients cut.number (Ended SourceKilled) (there (heard c) (sound_heard c) cut.number cut.mount feeding).0
-        (there (heard c) (sound_heard c) cut.number cut.mount feeding).1 (λ client seconds moment late. cc))
+        (late_beside (heard c).house.clients cut.number (Ended SourceKilled) (λ client seconds moment late. cc))
 
     -- whoever goes on elsewhere left a mount whose session is over
     leaves_so : (id : ℕ) → Fate (Cause w cut_world event) (Takes w event) Nobody HasEnded (heard c) after id
@@ -391,7 +391,7 @@ module _ (w : World) (s : IsSound w) (event : Event) where
     obeyed_world = changed w (Obey c.asked.id command)
 
     turns_heard : Turns w (answered w c.asked.id) c.asked.id Answered
-    turns_heard = turns_answered w c.asked.id (λ u. let at = c.undecided in cc)
+    turns_heard = turns_answered w c.asked.id (asks w c.asked.id c.peer c.undecided)
 
     not_active : (now : Standing) → now ≡ Answered → IsActive now → ⊥
     not_active Answered e active = active

@@ -5,7 +5,7 @@ use Rattle.radio_policy.specs.declared.rule.Rule.{Rule}
 use Rattle.radio_policy.specs.declared.rule.Rule.TheVariants.{AddressDenied, AddressNotAllowed, TooManyClients, NumbersSpent}
 use Rattle.radio_policy.specs.declared.judgement.Verdict.{Verdict}
 use Rattle.radio_policy.specs.declared.judgement.Verdict.TheVariants.{Allow, Deny as Denied}
-use Rattle.radio_policy.specs.Table.{row, source_rows, listen_rows}
+use Rattle.radio_policy.specs.Table.{row, source_rows, relay_rows, listen_rows}
 use Rattle.radio_policy.specs.Verdicts.{verdict_in}
 use Rattle.radio_addr.specs.declared.peer.Peer.{Peer}
 use Rattle.radio_settings.specs.declared.web.WebPath.{WebPath}
@@ -15,12 +15,14 @@ use Rattle.radio_access.specs.Lists.{passes}
 use Rattle.radio_events.specs.declared.event.SourceRequest.{SourceRequest}
 use Rattle.radio_events.specs.declared.event.ListenRequest.{ListenRequest}
 use Rattle.radio_events.specs.declared.event.Event.{Event}
-use Rattle.radio_events.specs.declared.event.Event.TheVariants.{Arrive, Source, Push, SourceEnd, Title, Listen, Draw, Command, Leave, Clock}
+use Rattle.radio_events.specs.declared.event.Event.TheVariants.{Arrive, Source, Push, SourceEnd, Title, Listen, Draw, Command, Leave}
+use Rattle.radio_events.specs.declared.event.Event.TheVariants.{RelayUp, RelayDown, Clock}
+use Rattle.radio_settings.specs.declared.field.Shown.{Shown}
 use Rattle.radio_core.specs.declared.house.House.{House}
 use Rattle.radio_core.specs.declared.outcome.Change.{Change}
-use Rattle.radio_core.specs.declared.outcome.Change.TheVariants.{Nothing, Answer, Tick}
+use Rattle.radio_core.specs.declared.outcome.Change.TheVariants.{Nothing, Answer, End, Tick}
 use Rattle.radio_core.specs.declared.outcome.Outcome.{Outcome}
-use Rattle.radio_events.specs.declared.reply.Reply.TheVariants.{Deny, Noted}
+use Rattle.radio_events.specs.declared.reply.Reply.TheVariants.{Deny, Noted, Stray}
 use Rattle.radio_seats.specs.declared.seat.Seat.{Seat}
 use Rattle.radio_fallback.specs.declared.walking.Found.{Found}
 use Rattle.radio_fallback.specs.declared.walking.Landing.{Landing}
@@ -29,10 +31,10 @@ use Rattle.radio_fallback.specs.Walk.{MaySit, found_at, stop_in}
 use Rattle.radio_fallback.proofs.TurnLemmas.{lands_where_he_fits}
 use Rattle.radio_core.specs.declared.standing.Standing.{Standing}
 use Rattle.radio_core.specs.declared.standing.Standing.TheVariants.{Unknown, Undecided, Feeds, Sits, Answered, Finished}
-use Rattle.radio_core.specs.World.{World, standing_of}
-use Rattle.radio_core.specs.Facts.{largest_number, is_full, is_known, names_mount, sight_of, arrive_facts, source_facts_at, rows_to_arrive, rows_to_feed}
+use Rattle.radio_core.specs.World.{World, standing_of, has_relay}
+use Rattle.radio_core.specs.Facts.{largest_number, is_full, is_known, sight_of, arrive_facts, source_facts_at, relay_facts_at, rows_to_arrive, rows_to_feed, rows_to_raise, names_mount}
 use Rattle.radio_core.specs.Facts.{rows_to_push, rows_to_listen, walks_to, walk_stops}
-use Rattle.radio_core.specs.Outcomes.{says, on_verdict, out_of_place, if_undecided, if_feeding, if_sitting}
+use Rattle.radio_core.specs.Outcomes.{says, on_verdict, out_of_place, if_undecided, if_feeding, unless_relayed, if_sitting}
 use Rattle.radio_core.specs.Arrive.{admits_client}
 use Rattle.radio_core.specs.Source.{begins}
 use Rattle.radio_core.specs.Push.{takes_in}
@@ -40,7 +42,10 @@ use Rattle.radio_core.specs.Listen.{takes_seat, sits_where}
 use Rattle.radio_core.specs.Listings.{shown}
 use Rattle.radio_core.specs.Pages.{IsListing, IsAtPath, asks_by, page_at}
 use Rattle.radio_core.specs.Draw.{hands_out, hands_out_at}
+use Rattle.radio_core.specs.Closing.{OfClient, OfRelay}
 use Rattle.radio_core.specs.Leave.{leaves_from}
+use Rattle.radio_core.specs.RelayUp.{raises}
+use Rattle.radio_core.specs.RelayDown.{goes_down_from}
 use Rattle.radio_events.specs.declared.command.Asked.{Asked}
 use Rattle.radio_events.specs.declared.command.Asked.TheVariants.{NoCommand, MissingArgument, Listing as AsksFor, Command as Asks}
 use Rattle.radio_events.specs.declared.command.CommandRequest.{CommandRequest}
@@ -49,8 +54,8 @@ use Rattle.radio_core.specs.CommandFacts.{rows_to_command}
 use Rattle.radio_seats.specs.Seats.{seat_of}
 use Rattle.radio_parts.specs.Sessions.{Session, session_of}
 use Rattle.radio_core.specs.Step.{outcome}
-use Rattle.radio_core.specs.Ways.{Way, Misplaced, IsFinished, IsDenied, IsRefused, IsAdmitted, Begins, Receives, SetsTitle, TakesSeat, HandsOut, Ends}
-use Rattle.radio_core.specs.Ways.{EndsAndLeaves, Leaves, Obeys, Shows, HasPassed, Ticks, rows_for, IsUndecided}
+use Rattle.radio_core.specs.Ways.{Way, Misplaced, IsFinished, IsDenied, IsRefused, IsAdmitted, Begins, ComesUp, Receives, SetsTitle, TakesSeat, HandsOut, Ends}
+use Rattle.radio_core.specs.Ways.{EndsAndLeaves, Leaves, GoesDown, Obeys, Shows, HasPassed, Ticks, rows_for, IsUndecided}
 use Rattle.radio_events.specs.Events.{client_in}
 use Rattle.radio_parts.proofs.SessionLookups.{found_named}
 
@@ -128,6 +133,37 @@ may_feed house asked v =
 
 pub may_begin : (w : World) (asked : SourceRequest) → verdict_in (rows_to_feed w.house asked) ≡ Allow → session_of w.house.live asked.mount ≡ None
 may_begin w asked v = none_there (session_of w.house.live asked.mount) (may_feed w.house asked v).is_free
+
+-- where a relay may come up, there are fewer sources than there may be, its mount has no session, its type is carried, and there is a number left for it
+pub record MayRise (full live refused spent : Bool) : Type 0 where
+  pub has_room : full ≡ false
+  pub is_free : live ≡ false
+  pub is_carried : refused ≡ false
+  pub has_number : spent ≡ false
+
+rises_by : (named full live refused spent : Bool)
+    → verdict_in (relay_rows (if named then Some (record { sources_are_full = full; mount_is_live = live; type_is_refused = refused; number_is_spent = spent })
+    else None)) ≡ Allow → MayRise full live refused spent
+rises_by true false false false false v = record { has_room = refl; is_free = refl; is_carried = refl; has_number = refl }
+rises_by true false false false true v = cc
+rises_by true false false true spent v = cc
+rises_by true false true refused spent v = cc
+rises_by true true live refused spent v = cc
+rises_by false full live refused spent v = cc
+
+abbrev pub MayComeUp : House → List ℕ → Shown → Type 0
+MayComeUp house mount shown =
+    let facts = relay_facts_at house mount shown in
+    MayRise facts.sources_are_full facts.mount_is_live facts.type_is_refused facts.number_is_spent
+
+pub may_come_up : (house : House) (mount : List ℕ) (shown : Shown) → verdict_in (rows_to_raise house mount shown) ≡ Allow → MayComeUp house mount shown
+may_come_up house mount shown v =
+    let facts = relay_facts_at house mount shown in
+    rises_by (names_mount house.settings mount) facts.sources_are_full facts.mount_is_live facts.type_is_refused facts.number_is_spent v
+
+pub may_be_raised : (w : World) (mount : List ℕ) (shown : Shown) → verdict_in (rows_to_raise w.house mount shown) ≡ Allow
+    → session_of w.house.live mount ≡ None
+may_be_raised w mount shown v = none_there (session_of w.house.live mount) (may_come_up w.house mount shown v).is_free
 
 -- who may arrive passes the address lists, and there is a number left for him
 passes_by : (denied allowed full spent : Bool)
@@ -238,13 +274,35 @@ module _ (w : World) (id room : ℕ) (is_sitting : standing_of w id ≡ Sits) wh
   hands_at None none = Misplaced (Draw id room)
   hands_at (Some seat) has = hands seat has (session_of w.house.live seat.mount) refl
 
-by_leaving : (w : World) (id : ℕ) (s : Standing) → standing_of w id ≡ s → Way w (Leave id) (leaves_from id s)
-by_leaving w id Unknown e = Misplaced (Leave id)
-by_leaving w id (Feeds mount) e = EndsAndLeaves id mount e
-by_leaving w id (Undecided peer) e = Leaves id (λ mount f. cc)
-by_leaving w id Sits e = Leaves id (λ mount f. cc)
-by_leaving w id Answered e = Leaves id (λ mount f. cc)
-by_leaving w id (Finished rule) e = Leaves id (λ mount f. cc)
+module _ (w : World) (id : ℕ) where
+  by_leaving_from : has_relay w id ≡ false → (s : Standing) → standing_of w id ≡ s → Way w (Leave id) (leaves_from id s)
+  by_leaving_from no_relay Unknown e = Misplaced (Leave id)
+  by_leaving_from no_relay (Feeds mount) e = EndsAndLeaves (Leave id) id mount (OfClient no_relay) e
+  by_leaving_from no_relay (Undecided peer) e = Leaves id no_relay (λ mount f. cc)
+  by_leaving_from no_relay Sits e = Leaves id no_relay (λ mount f. cc)
+  by_leaving_from no_relay Answered e = Leaves id no_relay (λ mount f. cc)
+  by_leaving_from no_relay (Finished rule) e = Leaves id no_relay (λ mount f. cc)
+
+  by_going_down_from : has_relay w id ≡ true → (s : Standing) → standing_of w id ≡ s → Way w (RelayDown id) (goes_down_from id s)
+  by_going_down_from relay Unknown e = Misplaced (RelayDown id)
+  by_going_down_from relay (Feeds mount) e = EndsAndLeaves (RelayDown id) id mount (OfRelay relay) e
+  by_going_down_from relay (Undecided peer) e = Misplaced (RelayDown id)
+  by_going_down_from relay Sits e = Misplaced (RelayDown id)
+  by_going_down_from relay Answered e = Misplaced (RelayDown id)
+  by_going_down_from relay (Finished rule) e = GoesDown id rule relay e
+
+  by_leaving : (b : Bool) → has_relay w id ≡ b → Way w (Leave id) (unless_relayed b (leaves_from id (standing_of w id)))
+  by_leaving true e = Misplaced (Leave id)
+  by_leaving false e = by_leaving_from e (standing_of w id) refl
+
+  by_going_down : (b : Bool) → has_relay w id ≡ b → Way w (RelayDown id) (if b then goes_down_from id (standing_of w id) else says Stray Nothing)
+  by_going_down true e = by_going_down_from e (standing_of w id) refl
+  by_going_down false e = Misplaced (RelayDown id)
+
+  by_ending : (mount : List ℕ) → standing_of w id ≡ Feeds mount → (b : Bool) → has_relay w id ≡ b
+      → Way w (SourceEnd id) (unless_relayed b (says Noted (End id mount)))
+  by_ending mount feeds true e = Misplaced (SourceEnd id)
+  by_ending mount feeds false e = Ends id mount feeds e
 
 by_clock : (w : World) (ms : ℕ) (b : Bool) → nat_lt ms w.house.time ≡ b → Way w (Clock ms) (says Noted (if b then Nothing else Tick ms))
 by_clock w ms true e = HasPassed ms e
@@ -295,7 +353,7 @@ way_of w (Push id block) =
     (standing_of w id) refl where
       feeds_and_asks : (mount : List ℕ) → standing_of w id ≡ Feeds mount → (him : ℕ) → Some id ≡ Some him → IsUndecided w him → ⊥
       feeds_and_asks mount e him h u = let same : id ≡ him = cc in let also : standing_of w id ≡ Undecided u.0 = ap (standing_of w) same ∙ u.1 in cc
-way_of w (SourceEnd id) = by_feeding w (SourceEnd id) id refl _ (λ mount e. Ends id mount e) (standing_of w id) refl
+way_of w (SourceEnd id) = by_feeding w (SourceEnd id) id refl _ (λ mount e. by_ending w id mount e (has_relay w id) refl) (standing_of w id) refl
 way_of w (Title id text) = by_feeding w (Title id text) id refl _ (λ mount e. SetsTitle id mount text e) (standing_of w id) refl
 way_of w (Listen asked) = by_path w asked (web_path w.house.settings.web asked.mount) refl
 way_of w (Draw id room) = by_sitting w (Draw id room) id refl _ (λ e. hands_at w id room e (seat_of w.seats id) refl) (standing_of w id) refl
@@ -305,5 +363,9 @@ way_of w (Command asked) =
     (λ rule v. IsRefused (Command asked) asked.id rule v refl (peer, e))
     (λ v. does w asked peer e v asked.asked refl))
     (standing_of w asked.id) refl
-way_of w (Leave id) = by_leaving w id (standing_of w id) refl
+way_of w (Leave id) = by_leaving w id (has_relay w id) refl
+way_of w (RelayUp mount shown) =
+    by_verdict w (RelayUp mount shown) Nothing (raises w.house mount shown) (verdict_in (rows_to_raise w.house mount shown))
+    (λ rule v. IsDenied (RelayUp mount shown) rule v (λ id e u. cc)) (λ v. ComesUp mount shown (may_be_raised w mount shown v) v)
+way_of w (RelayDown id) = by_going_down w id (has_relay w id) refl
 way_of w (Clock ms) = by_clock w ms (nat_lt ms w.house.time) refl

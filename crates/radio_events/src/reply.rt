@@ -32,7 +32,7 @@ impl StreamHead {
 /// What the server replies to an event.
 #[derive(Drop)]
 pub enum Reply {
-    /// The client has this number from now on.
+    /// The client, or the relay, has this number from now on.
     Arrived(u64),
     /// The client feeds the mount from now on.
     Feeding,
@@ -56,9 +56,10 @@ pub enum Reply {
     Text(Text),
     /// The policy denies it, by this rule.
     Deny(Rule),
-    /// The client was finished before, by this rule.
+    /// The client or relay was finished before, by this rule.
     Finished(Rule),
-    /// The event does not fit the client, or there is none of that number; nothing has changed.
+    /// The event does not fit the client or relay, or there is none of that number; nothing has
+    /// changed.
     Stray,
 }
 

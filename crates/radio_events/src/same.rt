@@ -33,18 +33,22 @@ impl Event {
                 *a == *b && *x == *y
             }
             (Event::Command(a), Event::Command(b)) => is_same_request(a, b),
+            (Event::RelayUp { mount: a, shown: x }, Event::RelayUp { mount: b, shown: y }) => {
+                is_same_bytes(a.as_slice(), b.as_slice()) && is_same_shown(x, y)
+            }
             _ => is_same_end_or_clock(self, other),
         }
     }
 }
 
-/// Whether both are one end of a source, one end of a connection or one moment.
+/// Whether both are one end of a source, of a connection or of a relay, or one moment.
 fn is_same_end_or_clock(a: &Event, b: &Event) -> bool
     ensures { IsTrue result ↔ TakesNoMemory a.now × (a.now ≡ b.now) }
 {
     match (a, b) {
         (Event::SourceEnd { id: a }, Event::SourceEnd { id: b }) => *a == *b,
         (Event::Leave { id: a }, Event::Leave { id: b }) => *a == *b,
+        (Event::RelayDown { id: a }, Event::RelayDown { id: b }) => *a == *b,
         (Event::Clock { ms: a }, Event::Clock { ms: b }) => *a == *b,
         _ => false,
     }

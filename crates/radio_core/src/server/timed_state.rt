@@ -166,7 +166,7 @@ impl State {
         let limits = &self.house.settings.limits;
         match change {
             Change::Admit { .. } => due_at(limits.header_timeout.get(), self.house.time),
-            Change::Begin { .. } | Change::Receive { .. } => {
+            Change::Begin { .. } | Change::Raise { .. } | Change::Receive { .. } => {
                 due_at(limits.source_timeout.get(), self.house.time)
             }
             Change::TakeSeat { seat, .. } => seat_due(&self.house.settings, seat),
