@@ -171,8 +171,8 @@ module _ (w : World) (s : IsSound w) (him : ℕ) (mount : List ℕ) (feeding : s
       over_fates (Cause w ended (SourceEnd him)) (λ id session. TakesTo w (SourceEnd him) id session.mount) (λ id. client_in (SourceEnd him) ≡ Some id)
       w s him mount feeding ended Answered (turns_ended no_relay) refl (λ id other. refl)
       (HasStopped mount refl feeding (subst IsDone (sym (turns_ended no_relay).his) tt) has_none_then (is_over w.house.live mount))
-      (λ id seat rule had turn. SessionIsOver rule seat had (SessionEnds mount, session_over w mount, ByItsEnd him mount feeding, turn))
-      (λ id session turn. (SessionEnds mount, session_over w mount, ByItsEnd him mount feeding, turn))
+      (λ id seat rule had turn. SessionIsOver rule seat had (SessionEnds mount, session_over w mount, ByItsEnd him mount feeding no_relay, turn))
+      (λ id session turn. (SessionEnds mount, session_over w mount, ByItsEnd him mount feeding no_relay, turn))
       refl refl refl order_then (late_beside w.house.clients him HasHisAnswer (λ client seconds ms late. cc))
 
   -- he has left

@@ -1,5 +1,5 @@
 -- The moves that events bring, and the turn of each listener in them.
-use Rattle.std.specs.Prelude.{◌≡◌, ℕ, ◌+◌, true, List, ◌∷◌, ◌++◌, fold}
+use Rattle.std.specs.Prelude.{◌≡◌, ℕ, ◌+◌, true, false, List, ◌∷◌, ◌++◌, fold}
 use Rattle.radio_policy.specs.declared.rule.Rule.{Rule}
 use Rattle.radio_policy.specs.declared.judgement.Verdict.TheVariants.{Allow}
 use Rattle.radio_policy.specs.Verdicts.{verdict_in}
@@ -24,7 +24,7 @@ use Rattle.radio_core.specs.Facts.{sight_of, rows_to_feed, rows_to_raise}
 use Rattle.radio_parts.specs.Sessions.{Session}
 use Rattle.radio_core.specs.Source.{shown_for}
 use Rattle.radio_parts.specs.Stream.{end_of}
-use Rattle.radio_core.specs.World.{World, standing_of}
+use Rattle.radio_core.specs.World.{World, standing_of, has_relay}
 
 -- what the move has in store for the listener at his turn, where the state before the first turn is w: those of lower numbers have had theirs
 abbrev pub his_turn : World → Move → ℕ → Turn
@@ -37,7 +37,7 @@ moved_into session seat = record seat { mount = session.mount; session = session
 -- the event brings the move, and this is the state before the first listener has his turn
 pub data Brings (w : World) : Event → Move → World → Type 0 where
   -- a source's data come to their end
-  ByItsEnd : (him : ℕ) (mount : List ℕ) → standing_of w him ≡ Feeds mount → Brings w (SourceEnd him) (Ended mount) (session_over w mount)
+  ByItsEnd : (him : ℕ) (mount : List ℕ) → standing_of w him ≡ Feeds mount → has_relay w him ≡ false → Brings w (SourceEnd him) (Ended mount) (session_over w mount)
   -- a source leaves, or a relay goes down
   ByItsLeaving : (event : Event) (him : ℕ) (mount : List ℕ) → Closes w him event → standing_of w him ≡ Feeds mount
       → Brings w event (Ended mount) (session_over w mount)

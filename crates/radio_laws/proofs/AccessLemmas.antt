@@ -20,8 +20,8 @@ use Rattle.radio_parts.specs.Sessions.{Session}
 use Rattle.radio_parts.specs.Stream.{AreRising, WholeStream, end_of, burst_start}
 use Rattle.radio_core.specs.Sound.{IsSound}
 use Rattle.radio_core.specs.Step.{outcome, reply_to, world_after}
-use Rattle.radio_core.specs.Ways.{Way, Misplaced, IsFinished, IsDenied, IsRefused, IsAdmitted, Begins, Receives, SetsTitle, TakesSeat, HandsOut, Ends}
-use Rattle.radio_core.specs.Ways.{EndsAndLeaves, Leaves, Obeys, Shows, HasPassed, Ticks}
+use Rattle.radio_core.specs.Ways.{Way, Misplaced, IsFinished, IsDenied, IsRefused, IsAdmitted, Begins, ComesUp, Receives, SetsTitle, TakesSeat, HandsOut, Ends}
+use Rattle.radio_core.specs.Ways.{EndsAndLeaves, Leaves, GoesDown, Obeys, Shows, HasPassed, Ticks}
 use Rattle.radio_seats.proofs.SeatLaws.{has_sat_down}
 use Rattle.std.proofs.lemmas.Bool.{and_parts}
 use Rattle.radio_access.specs.Lists.{lets_in}
@@ -71,6 +71,7 @@ module _ (w : World) (s : IsSound w) (k : KeepsLists w) (l : Within w) where
   his_by event o (IsRefused _ id by v his undecided) bytes title d = cc
   his_by event o (IsAdmitted peer allowed) bytes title d = cc
   his_by event o (Begins asked undecided none allowed) bytes title d = cc
+  his_by event o (ComesUp mount shown unfed allowed) bytes title d = cc
   his_by event o (Receives id mount block feeding) bytes title d = cc
   his_by event o (SetsTitle id mount text feeding) bytes title d = cc
   his_by event o (Shows _ asker peer text its undecided what) bytes title d = cc
@@ -78,9 +79,10 @@ module _ (w : World) (s : IsSound w) (k : KeepsLists w) (l : Within w) where
   his_by event o (HasPassed ms e) bytes title d = cc
   his_by event o (Ticks ms e) bytes title d = cc
   his_by event o (TakesSeat asked peer session undecided lands live allowed) bytes title d = cc
-  his_by event o (Ends id mount feeding) bytes title d = cc
-  his_by event o (EndsAndLeaves id mount feeding) bytes title d = cc
-  his_by event o (Leaves id other) bytes title d = cc
+  his_by event o (Ends id mount feeding no_relay) bytes title d = cc
+  his_by event o (EndsAndLeaves _ id mount closes feeding) bytes title d = cc
+  his_by event o (Leaves id no_relay other) bytes title d = cc
+  his_by event o (GoesDown id by_rule relay over) bytes title d = cc
 
   pub access_holds : (event : Event) → AccessIsKept w event
   unfolding reply_to
@@ -231,6 +233,7 @@ module _ (w : World) (s : IsSound w) where
   seated_by event o (IsRefused _ id by v his undecided) interval head d after = cc
   seated_by event o (IsAdmitted peer allowed) interval head d after = cc
   seated_by event o (Begins asked undecided none allowed) interval head d after = cc
+  seated_by event o (ComesUp mount shown unfed allowed) interval head d after = cc
   seated_by event o (Receives id mount block feeding) interval head d after = cc
   seated_by event o (SetsTitle id mount text feeding) interval head d after = cc
   seated_by event o (Shows _ asker peer text its undecided what) interval head d after = cc
@@ -238,9 +241,10 @@ module _ (w : World) (s : IsSound w) where
   seated_by event o (HasPassed ms e) interval head d after = cc
   seated_by event o (Ticks ms e) interval head d after = cc
   seated_by event o (HandsOut id room seat session sits has live) interval head d after = cc
-  seated_by event o (Ends id mount feeding) interval head d after = cc
-  seated_by event o (EndsAndLeaves id mount feeding) interval head d after = cc
-  seated_by event o (Leaves id other) interval head d after = cc
+  seated_by event o (Ends id mount feeding no_relay) interval head d after = cc
+  seated_by event o (EndsAndLeaves _ id mount closes feeding) interval head d after = cc
+  seated_by event o (Leaves id no_relay other) interval head d after = cc
+  seated_by event o (GoesDown id by_rule relay over) interval head d after = cc
 
   pub admission_holds : (event : Event) → BeginsAtABlock w event
   unfolding reply_to world_after

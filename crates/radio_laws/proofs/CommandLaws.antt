@@ -53,8 +53,8 @@ use Rattle.radio_laws.specs.Walks.{FallsBack, ByTheSettings, ByACommand}
 use Rattle.radio_core.specs.Outcomes.{on_verdict, if_undecided}
 use Rattle.radio_core.specs.Sound.{IsSound}
 use Rattle.radio_core.specs.Step.{outcome, reply_to, world_after}
-use Rattle.radio_core.specs.Ways.{Way, Misplaced, IsFinished, IsDenied, IsRefused, IsAdmitted, Begins, Receives, SetsTitle, TakesSeat, HandsOut, Ends}
-use Rattle.radio_core.specs.Ways.{EndsAndLeaves, Leaves, Obeys, Shows, HasPassed, Ticks}
+use Rattle.radio_core.specs.Ways.{Way, Misplaced, IsFinished, IsDenied, IsRefused, IsAdmitted, Begins, ComesUp, Receives, SetsTitle, TakesSeat, HandsOut, Ends}
+use Rattle.radio_core.specs.Ways.{EndsAndLeaves, Leaves, GoesDown, Obeys, Shows, HasPassed, Ticks}
 use Rattle.radio_core.specs.World.{World, standing_of}
 use Rattle.radio_core.proofs.Obeyed.{needs_hold, may_act, is_opened, is_another, his_seat, has_been_killed, sits_no_more, beside_him, live, is_cut, named, turned, title_live, is_answered}
 use Rattle.radio_core.proofs.SoundRuns.{sound_after}
@@ -180,15 +180,17 @@ given_by w s event o (IsDenied _ by v nobody) text d short = cc
 given_by w s event o (IsRefused _ him by v its undecided) text d short = cc
 given_by w s event o (IsAdmitted peer allowed) text d short = cc
 given_by w s event o (Begins asked undecided none allowed) text d short = cc
+given_by w s event o (ComesUp mount shown unfed allowed) text d short = cc
 given_by w s event o (Receives him mount block feeding) text d short = cc
 given_by w s event o (SetsTitle him mount title feeding) text d short = cc
 given_by w s event o (HasPassed ms e) text d short = cc
 given_by w s event o (Ticks ms e) text d short = cc
 given_by w s event o (TakesSeat asked peer session undecided lands live allowed) text d short = cc
 given_by w s event o (HandsOut him room seat session sits has live) text d short = cc
-given_by w s event o (Ends him mount feeding) text d short = cc
-given_by w s event o (EndsAndLeaves him mount feeding) text d short = cc
-given_by w s event o (Leaves him other) text d short = cc
+given_by w s event o (Ends him mount feeding no_relay) text d short = cc
+given_by w s event o (EndsAndLeaves _ him mount closes feeding) text d short = cc
+given_by w s event o (Leaves him no_relay other) text d short = cc
+given_by w s event o (GoesDown him by_rule relay over) text d short = cc
 
 pub only_who_may : (w : World) → IsSound w → (event : Event) → OnlyWhoMayCommands w event
 unfolding reply_to

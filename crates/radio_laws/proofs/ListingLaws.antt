@@ -38,10 +38,10 @@ use Rattle.radio_events.specs.Events.{client_in}
 use Rattle.radio_core.specs.Outcomes.{if_undecided, on_verdict}
 use Rattle.radio_parts.specs.Sessions.{Session, session_of}
 use Rattle.radio_core.specs.Step.{outcome, reply_to, world_after}
-use Rattle.radio_core.specs.Ways.{Way, Misplaced, IsFinished, IsDenied, IsRefused, IsAdmitted, Begins, Receives, SetsTitle, TakesSeat, HandsOut, Ends}
-use Rattle.radio_core.specs.Ways.{EndsAndLeaves, Leaves, Obeys, Shows, HasPassed, Ticks}
+use Rattle.radio_core.specs.Ways.{Way, Misplaced, IsFinished, IsDenied, IsRefused, IsAdmitted, Begins, ComesUp, Receives, SetsTitle, TakesSeat, HandsOut, Ends}
+use Rattle.radio_core.specs.Ways.{EndsAndLeaves, Leaves, GoesDown, Obeys, Shows, HasPassed, Ticks}
 use Rattle.radio_core.specs.World.{World, standing_of}
-use Rattle.radio_core.proofs.Standings.{turns_answered}
+use Rattle.radio_core.proofs.Standings.{asks, turns_answered}
 use Rattle.radio_core.proofs.Ways.{way_of}
 use Rattle.radio_laws.specs.Shown.{IsTheRelays, MaySee, AsAnybody, AsARelay, AsTheAdmin, IsThereToSee, IsShownByRight, IsShownAtPath, OnlyWhoMayIsShown, WhoMayIsShown, Tells}
 use Rattle.radio_laws.proofs.CommandLaws.{login_sent, one_of}
@@ -182,7 +182,7 @@ module _ (w : World) (event : Event) (listing : Listing) (c : IsListed w event l
         tells = subst (Tells w listing) is (tells w listing);
         answered =
             subst (λ (later : World). standing_of later c.asked.id ≡ Answered) (sym later_so)
-            (turns_answered w c.asked.id (λ u. let at = c.undecided in cc)).his;
+            (turns_answered w c.asked.id (asks w c.asked.id c.peer c.undecided)).his;
         sessions = ap (λ (later : World). later.house.live) later_so;
         seats = ap (λ (later : World). later.seats) later_so;
       }
@@ -208,15 +208,17 @@ shown_by w event o (IsDenied _ by v nobody) text d long = cc
 shown_by w event o (IsRefused _ him by v its undecided) text d long = cc
 shown_by w event o (IsAdmitted peer allowed) text d long = cc
 shown_by w event o (Begins asked undecided none allowed) text d long = cc
+shown_by w event o (ComesUp mount shown unfed allowed) text d long = cc
 shown_by w event o (Receives him mount block feeding) text d long = cc
 shown_by w event o (SetsTitle him mount title feeding) text d long = cc
 shown_by w event o (HasPassed ms e) text d long = cc
 shown_by w event o (Ticks ms e) text d long = cc
 shown_by w event o (TakesSeat asked peer session undecided lands live allowed) text d long = cc
 shown_by w event o (HandsOut him room seat session sits has live) text d long = cc
-shown_by w event o (Ends him mount feeding) text d long = cc
-shown_by w event o (EndsAndLeaves him mount feeding) text d long = cc
-shown_by w event o (Leaves him other) text d long = cc
+shown_by w event o (Ends him mount feeding no_relay) text d long = cc
+shown_by w event o (EndsAndLeaves _ him mount closes feeding) text d long = cc
+shown_by w event o (Leaves him no_relay other) text d long = cc
+shown_by w event o (GoesDown him by_rule relay over) text d long = cc
 
 pub only_who_may_is_shown : (w : World) (event : Event) → OnlyWhoMayIsShown w event
 unfolding reply_to

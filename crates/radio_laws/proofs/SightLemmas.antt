@@ -30,8 +30,8 @@ use Rattle.radio_core.specs.declared.outcome.Outcome.{Outcome}
 use Rattle.radio_core.specs.Listings.{shown, mount_row, mount_rows, public_row}
 use Rattle.radio_parts.specs.Sessions.{Session}
 use Rattle.radio_core.specs.Step.{outcome, reply_to}
-use Rattle.radio_core.specs.Ways.{Way, Misplaced, IsFinished, IsDenied, IsRefused, IsAdmitted, Begins, Receives, SetsTitle, TakesSeat, HandsOut, Ends}
-use Rattle.radio_core.specs.Ways.{EndsAndLeaves, Leaves, Obeys, Shows, HasPassed, Ticks}
+use Rattle.radio_core.specs.Ways.{Way, Misplaced, IsFinished, IsDenied, IsRefused, IsAdmitted, Begins, ComesUp, Receives, SetsTitle, TakesSeat, HandsOut, Ends}
+use Rattle.radio_core.specs.Ways.{EndsAndLeaves, Leaves, GoesDown, Obeys, Shows, HasPassed, Ticks}
 use Rattle.radio_core.specs.World.{World}
 use Rattle.radio_core.proofs.Ways.{way_of}
 use Rattle.radio_laws.specs.Shown.{Seen, seen, is_public, public_live, seen_by_all, LooksAlike, AreAnsweredAlike, AreVisitedAlike, SightIsKept}
@@ -62,15 +62,17 @@ module _ (w : World) (asked : CommandRequest) (listing : Listing) (text : Text) 
   told_by event o (IsRefused _ him by v its undecided) e d = cc
   told_by event o (IsAdmitted peer allowed) e d = cc
   told_by event o (Begins request undecided none allowed) e d = cc
+  told_by event o (ComesUp mount shown unfed allowed) e d = cc
   told_by event o (Receives him mount block feeding) e d = cc
   told_by event o (SetsTitle him mount title feeding) e d = cc
   told_by event o (HasPassed ms past) e d = cc
   told_by event o (Ticks ms past) e d = cc
   told_by event o (TakesSeat request peer session undecided lands live allowed) e d = cc
   told_by event o (HandsOut him room seat session sits has live) e d = cc
-  told_by event o (Ends him mount feeding) e d = cc
-  told_by event o (EndsAndLeaves him mount feeding) e d = cc
-  told_by event o (Leaves him other) e d = cc
+  told_by event o (Ends him mount feeding no_relay) e d = cc
+  told_by event o (EndsAndLeaves _ him mount closes feeding) e d = cc
+  told_by event o (Leaves him no_relay other) e d = cc
+  told_by event o (GoesDown him by_rule relay over) e d = cc
 
   is_told : reply_to w (Command asked) ≡ SaysText text → shown w listing ≡ text
   unfolding reply_to
@@ -96,15 +98,17 @@ module _ (w : World) (asked : ListenRequest) (path : WebPath) (text : Text) (on 
   visited_by event o (IsRefused _ him by v its undecided) e d = cc
   visited_by event o (IsAdmitted peer allowed) e d = cc
   visited_by event o (Begins request undecided none allowed) e d = cc
+  visited_by event o (ComesUp mount shown unfed allowed) e d = cc
   visited_by event o (Receives him mount block feeding) e d = cc
   visited_by event o (SetsTitle him mount title feeding) e d = cc
   visited_by event o (HasPassed ms past) e d = cc
   visited_by event o (Ticks ms past) e d = cc
   visited_by event o (TakesSeat request peer session undecided lands live allowed) e d = cc
   visited_by event o (HandsOut him room seat session sits has live) e d = cc
-  visited_by event o (Ends him mount feeding) e d = cc
-  visited_by event o (EndsAndLeaves him mount feeding) e d = cc
-  visited_by event o (Leaves him other) e d = cc
+  visited_by event o (Ends him mount feeding no_relay) e d = cc
+  visited_by event o (EndsAndLeaves _ him mount closes feeding) e d = cc
+  visited_by event o (Leaves him no_relay other) e d = cc
+  visited_by event o (GoesDown him by_rule relay over) e d = cc
 
   is_visited : reply_to w (Listen asked) ≡ SaysText text → page_at w path asked.host ≡ text
   unfolding reply_to

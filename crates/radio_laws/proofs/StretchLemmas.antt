@@ -29,8 +29,8 @@ use Rattle.radio_core.specs.Source.{shown_for}
 use Rattle.radio_core.specs.Step.{outcome, world_after}
 use Rattle.radio_parts.specs.Stream.{WholeStream, data_at, end_of}
 use Rattle.radio_laws.specs.Stretches.{between, Sitting, sitting_in, begun_sittings, sittings, AreStretches, StretchesAreWhole}
-use Rattle.radio_core.specs.Ways.{Way, Misplaced, IsFinished, IsDenied, IsRefused, IsAdmitted, Begins, Receives, SetsTitle, TakesSeat, HandsOut, Ends}
-use Rattle.radio_core.specs.Ways.{EndsAndLeaves, Leaves, Obeys, Shows, HasPassed, Ticks}
+use Rattle.radio_core.specs.Ways.{Way, Misplaced, IsFinished, IsDenied, IsRefused, IsAdmitted, Begins, ComesUp, Receives, SetsTitle, TakesSeat, HandsOut, Ends}
+use Rattle.radio_core.specs.Ways.{EndsAndLeaves, Leaves, GoesDown, Obeys, Shows, HasPassed, Ticks}
 use Rattle.radio_core.proofs.FinishLemmas.{undecided_before}
 use Rattle.radio_core.proofs.OwnLemmas.{not_of, nothing_of}
 use Rattle.radio_laws.proofs.GoneLemmas.{his_own, with_nothing, last_rises}
@@ -49,6 +49,11 @@ use Rattle.radio_core.proofs.TickLemmas.{ticked_fates}
 use Rattle.radio_laws.proofs.ObeyLemmas.{was_live_then}
 use Rattle.radio_core.proofs.SoundRuns.{sound_after, sound_opening}
 use Rattle.radio_core.proofs.Ways.{way_of}
+use Rattle.radio_settings.specs.declared.field.Shown.{Shown}
+use Rattle.radio_core.specs.declared.house.House.{House}
+use Rattle.radio_core.specs.Changes.{begun, raised, called_home}
+use Rattle.radio_parts.specs.Sessions.{opened, with_session}
+use Rattle.radio_core.proofs.Standings.{Turns, asks, turns_feeding, turns_raised}
 
 -- slices of data that grows
 
@@ -236,17 +241,15 @@ record Sent (w : World) (sent : ℕ → List ℕ) : Type 0 where
   pub none_above : (id : ℕ) → w.house.last_id < id → sent id ≡ []
 
 -- who are called home change no session
-pub was_begun : (w : World) (asked : SourceRequest) (mount : List ℕ) (session : Session)
-    → session_of (changed w (Begin asked.id asked.mount (shown_for w.house asked.mount asked.shown))).house.live mount ≡ Some session
-    → session_of (begun w.house asked.id asked.mount (shown_for w.house asked.mount asked.shown)).live mount ≡ Some session
-was_begun w asked mount session e =
-    let up = record w { house = begun w.house asked.id asked.mount (shown_for w.house asked.mount asked.shown) } in
-    ap (λ (h : House). session_of h.live mount) (sym (house_called up asked.mount)) ∙ e
+pub was_begun : (w : World) (there : List ℕ) (house : House) (mount : List ℕ) (session : Session)
+    → session_of (called_home (record w { house = house }) there).house.live mount ≡ Some session → session_of house.live mount ≡ Some session
+was_begun w there house mount session e = ap (λ (h : House). session_of h.live mount) (sym (house_called (record w { house = house }) there)) ∙ e
 
 module _ (w : World) (s : IsSound w) (sent : ℕ → List ℕ) (h : Sent w sent) where
   -- only a source brings something
   brings_nothing : (event : Event) (o : Outcome) → Way w event o → (id : ℕ) → ((mount : List ℕ) → standing_of w id ≡ Feeds mount → ⊥)
       → of_client event id (block_in o.change) ≡ []
+  brings_nothing event o (ComesUp mount shown unfed allowed) id not = refl
   brings_nothing event o (Receives him mount block feeding) id not =
       by_number him id (λ same. absurd (not mount (ap (standing_of w) (sym same) ∙ feeding))) (λ other. not_of (Push him block) id block other)
   brings_nothing event o (Misplaced _) id not = nothing_of event id [] refl
@@ -262,9 +265,10 @@ module _ (w : World) (s : IsSound w) (sent : ℕ → List ℕ) (h : Sent w sent)
   brings_nothing event o (Begins asked undecided none allowed) id not = nothing_of event id [] refl
   brings_nothing event o (TakesSeat asked peer session undecided lands live allowed) id not = nothing_of event id [] refl
   brings_nothing event o (HandsOut him room seat session sits has live) id not = nothing_of event id [] refl
-  brings_nothing event o (Ends him mount feeding) id not = nothing_of event id [] refl
-  brings_nothing event o (EndsAndLeaves him mount feeding) id not = nothing_of event id [] refl
-  brings_nothing event o (Leaves him other) id not = nothing_of event id [] refl
+  brings_nothing event o (Ends him mount feeding no_relay) id not = nothing_of event id [] refl
+  brings_nothing event o (EndsAndLeaves _ him mount closes feeding) id not = nothing_of event id [] refl
+  brings_nothing event o (Leaves him no_relay other) id not = nothing_of event id [] refl
+  brings_nothing event o (GoesDown him by_rule relay over) id not = nothing_of event id [] refl
 
   whole_now : Event → Outcome → Type 0
   whole_now event o = (mount : List ℕ) (session : Session) → session_of (changed w o.change).house.live mount ≡ Some session
@@ -317,6 +321,18 @@ module _ (w : World) (s : IsSound w) (sent : ℕ → List ℕ) (h : Sent w sent)
       (as_it_was (Title him text) other session found))
       (λ apart found. as_it_was (Title him text) other now found)
 
+  -- a session that has only begun has no data, and nothing was sent by its number
+  begins_empty : (event : Event) (him : ℕ) (there : List ℕ) (shown : Shown) (house : House)
+      → house.live ≡ with_session w.house.live (opened there him shown w.house.time) → Turns w (record w { house = house }) him (Feeds there)
+      → session_of w.house.live there ≡ None → sent him ≡ [] → (mount : List ℕ) (session : Session)
+      → session_of (called_home (record w { house = house }) there).house.live mount ≡ Some session
+      → session.stream.bytes ≡ sent session.number ++ of_client event session.number []
+  begins_empty event him there shown house live t none nothing mount session e =
+      begun_cases w s him there shown house live t none mount session (was_begun w there house mount session e)
+      (λ same one. subst (λ (x : Session). x.stream.bytes ≡ sent x.number ++ of_client event x.number []) one
+      (sym nothing ∙ with_nothing (sent him) (of_client event him []) (nothing_of event him [] refl)))
+      (λ old. as_it_was event mount session old)
+
   whole_by : (event : Event) (o : Outcome) → Way w event o → whole_now event o
   unfolding whole_now
   whole_by event o (Receives him mount block feeding) = grown_whole him mount block feeding
@@ -329,13 +345,18 @@ module _ (w : World) (s : IsSound w) (sent : ℕ → List ℕ) (h : Sent w sent)
   whole_by event o (HasPassed ms e) = as_it_was event
   whole_by event o (Ticks ms e) = λ mount session h. as_it_was event mount session ((ticked_fates w s ms).live mount session h)
   whole_by event o (Begins asked undecided none allowed) = λ mount session e.
-      begun_cases w s asked.id asked.mount (shown_for w.house asked.mount asked.shown) undecided.0 undecided.1 none mount session
-      (was_begun w asked mount session e)
-      (λ same one. subst (λ (x : Session). x.stream.bytes ≡ sent x.number ++ of_client event x.number []) one
-      (sym (h.none_yet asked.id undecided.0 undecided.1) ∙ with_nothing (sent asked.id) (of_client event asked.id []) (nothing_of event asked.id [] refl)))
-      (λ old. as_it_was event mount session old)
-  whole_by event o (Ends him mount feeding) = left_over event mount
-  whole_by event o (EndsAndLeaves him mount feeding) = left_over event mount
+      begins_empty event asked.id asked.mount (shown_for w.house asked.mount asked.shown)
+      (begun w.house asked.id asked.mount (shown_for w.house asked.mount asked.shown)) refl
+      (turns_feeding w asked.id asked.mount (shown_for w.house asked.mount asked.shown) (asks w asked.id undecided.0 undecided.1)) none
+      (h.none_yet asked.id undecided.0 undecided.1) mount session e
+  whole_by event o (ComesUp there shown none allowed) = λ mount session e.
+      let new : w.house.last_id < w.house.last_id + 1 = omega arith in
+      begins_empty event (w.house.last_id + 1) there (shown_for w.house there shown)
+      (raised w.house (w.house.last_id + 1) there (shown_for w.house there shown)) refl
+      (turns_raised w (w.house.last_id + 1) there (shown_for w.house there shown) (s.numbered (w.house.last_id + 1) new)) none
+      (h.none_above (w.house.last_id + 1) new) mount session e
+  whole_by event o (Ends him mount feeding no_relay) = left_over event mount
+  whole_by event o (EndsAndLeaves _ him mount closes feeding) = left_over event mount
   whole_by event o (Misplaced _) = as_it_was event
   whole_by event o (IsFinished _ him by its known) = as_it_was event
   whole_by event o (IsDenied _ by v nobody) = as_it_was event
@@ -343,7 +364,8 @@ module _ (w : World) (s : IsSound w) (sent : ℕ → List ℕ) (h : Sent w sent)
   whole_by event o (IsAdmitted peer allowed) = as_it_was event
   whole_by event o (TakesSeat asked peer session undecided lands live allowed) = as_it_was event
   whole_by event o (HandsOut him room seat session sits has live) = as_it_was event
-  whole_by event o (Leaves him other) = as_it_was event
+  whole_by event o (Leaves him no_relay other) = as_it_was event
+  whole_by event o (GoesDown him by_rule relay over) = as_it_was event
 
   sent_step : (event : Event) → Sent (world_after w event) (λ n. sent n ++ delivered_at w event n)
   unfolding world_after whole_now

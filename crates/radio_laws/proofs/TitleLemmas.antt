@@ -1,5 +1,5 @@
 -- the law of titles
-use Rattle.std.proofs.Common.{◌≡◌, ◌⊎◌, inl, inr, Bool, true, false, ℕ, ◌<◌, ◌==◌, Option, Some, None, List, [], ◌∷◌, ◌++◌, refl, ap, sym, subst, ◌∙◌, arith, append_assoc}
+use Rattle.std.proofs.Common.{◌+◌, ◌≡◌, ◌⊎◌, inl, inr, Bool, true, false, ℕ, ◌<◌, ◌==◌, Option, Some, None, List, [], ◌∷◌, ◌++◌, refl, ap, sym, subst, ◌∙◌, arith, append_assoc}
 use Rattle.std.specs.Prelude.{if◌then◌else◌}
 use Rattle.std.specs.List.{last_or}
 use Rattle.std.specs.Option.{option_map}
@@ -36,9 +36,9 @@ use Rattle.radio_parts.specs.Sessions.{Session, session_of, without_session}
 use Rattle.radio_core.specs.Sound.{IsSound}
 use Rattle.radio_core.specs.Source.{shown_for}
 use Rattle.radio_core.specs.Step.{outcome, reply_to, world_after}
-use Rattle.radio_laws.specs.TitlesTold.{commanded_at, commanded_in, set_by, set_at, titles_set, last_title, TitlesAreTold}
-use Rattle.radio_core.specs.Ways.{Way, Misplaced, IsFinished, IsDenied, IsRefused, IsAdmitted, Begins, Receives, SetsTitle, TakesSeat, HandsOut, Ends}
-use Rattle.radio_core.specs.Ways.{EndsAndLeaves, Leaves, Obeys, Shows, HasPassed, Ticks}
+use Rattle.radio_laws.specs.TitlesTold.{title_in, commanded_at, commanded_in, set_by, set_at, titles_set, last_title, TitlesAreTold}
+use Rattle.radio_core.specs.Ways.{Way, Misplaced, IsFinished, IsDenied, IsRefused, IsAdmitted, Begins, ComesUp, Receives, SetsTitle, TakesSeat, HandsOut, Ends}
+use Rattle.radio_core.specs.Ways.{EndsAndLeaves, Leaves, GoesDown, Obeys, Shows, HasPassed, Ticks}
 use Rattle.radio_laws.proofs.AccessLemmas.{access_holds}
 use Rattle.radio_core.proofs.FinishLemmas.{undecided_before}
 use Rattle.radio_core.proofs.ListingLemmas.{shown_long}
@@ -55,6 +55,12 @@ use Rattle.radio_core.proofs.SoundSessions.{begun_cases, grown_cases}
 use Rattle.radio_core.proofs.SoundTitles.{titled_cases}
 use Rattle.radio_core.proofs.TickLemmas.{ticked_fates}
 use Rattle.radio_core.proofs.Ways.{way_of}
+use Rattle.radio_settings.specs.declared.field.Shown.{Shown}
+use Rattle.radio_core.specs.declared.house.House.{House}
+use Rattle.radio_core.specs.Changes.{begun, raised, called_home}
+use Rattle.radio_parts.specs.Sessions.{opened, with_session}
+use Rattle.radio_core.proofs.Standings.{Turns, asks, turns_feeding, turns_raised}
+use Rattle.radio_core.specs.Closing.{Closes, OfClient, OfRelay}
 
 -- the last of a list with one more
 last_is : {A : Type 0} (o : Option A) (xs : List A) (x : A) → last_or o (xs ++ x ∷ []) ≡ Some x
@@ -77,6 +83,11 @@ told_as w told now same h = record {
 -- what an outcome sets for the source of this number
 abbrev sets : World → Event → Outcome → ℕ → List (List ℕ)
 sets w event o id = set_by w event o.reply id
+
+-- whose connection is closed sets no title by it
+closes_untitled : (w : World) (him : ℕ) (event : Event) → Closes w him event → title_in event ≡ []
+closes_untitled w him event (OfClient no_relay) = refl
+closes_untitled w him event (OfRelay relay) = refl
 
 module _ (w : World) (s : IsSound w) (told : ℕ → List (List ℕ)) (h : Told w told) where
   -- what a command sets
@@ -144,12 +155,14 @@ module _ (w : World) (s : IsSound w) (told : ℕ → List (List ℕ)) (h : Told 
   sets_nothing event o (HasPassed ms e) id not = refl
   sets_nothing event o (Ticks ms e) id not = refl
   sets_nothing event o (Begins asked undecided none allowed) id not = nothing_of event id [] refl
+  sets_nothing event o (ComesUp mount shown unfed allowed) id not = refl
   sets_nothing event o (Receives him mount block feeding) id not = nothing_of event id [] refl
   sets_nothing event o (TakesSeat asked peer session undecided lands live allowed) id not = nothing_of event id [] refl
   sets_nothing event o (HandsOut him room seat session sits has live) id not = nothing_of event id [] refl
-  sets_nothing event o (Ends him mount feeding) id not = nothing_of event id [] refl
-  sets_nothing event o (EndsAndLeaves him mount feeding) id not = nothing_of event id [] refl
-  sets_nothing event o (Leaves him other) id not = nothing_of event id [] refl
+  sets_nothing event o (Ends him mount feeding no_relay) id not = nothing_of event id [] refl
+  sets_nothing event o (EndsAndLeaves _ him mount closes feeding) id not = nothing_of event id (title_in event) (closes_untitled w him event closes)
+  sets_nothing event o (Leaves him no_relay other) id not = nothing_of event id [] refl
+  sets_nothing event o (GoesDown him by_rule relay over) id not = nothing_of event id [] refl
 
   last_now : Event → Outcome → Type 0
   last_now event o = (mount : List ℕ) (session : Session) → session_of (changed w o.change).house.live mount ≡ Some session
@@ -256,6 +269,18 @@ module _ (w : World) (s : IsSound w) (told : ℕ → List (List ℕ)) (h : Told 
   command_title event (SetFallback mount fallback) c = none_set event (SetFallback mount fallback) c (λ id. refl)
   command_title event (CommandsTitle mount text) c = command_sets event mount text c
 
+  -- a session that has only begun has no title, and nothing was told of its number
+  begins_untitled : (event : Event) (him : ℕ) (there : List ℕ) (shown : Shown) (house : House)
+      → house.live ≡ with_session w.house.live (opened there him shown w.house.time) → Turns w (record w { house = house }) him (Feeds there)
+      → session_of w.house.live there ≡ None → told him ≡ [] → (mount : List ℕ) (session : Session)
+      → session_of (called_home (record w { house = house }) there).house.live mount ≡ Some session
+      → session.title ≡ last_or None (told session.number ++ of_client event session.number [])
+  begins_untitled event him there shown house live t none nothing mount session e =
+      begun_cases w s him there shown house live t none mount session (was_begun w there house mount session e)
+      (λ same one. subst (λ (x : Session). x.title ≡ last_or None (told x.number ++ of_client event x.number [])) one
+      (ap (λ xs. last_or None xs) (sym nothing ∙ with_nothing (told him) (of_client event him []) (nothing_of event him [] refl))))
+      (λ old. as_it_was event mount session old)
+
   last_by : (event : Event) (o : Outcome) → Way w event o → last_now event o
   unfolding last_now
   last_by event o (SetsTitle him mount text feeding) = new_title him mount text feeding
@@ -267,14 +292,20 @@ module _ (w : World) (s : IsSound w) (told : ℕ → List (List ℕ)) (h : Told 
   last_by event o (Ticks ms e) = λ mount session h. as_it_was event mount session ((ticked_fates w s ms).live mount session h)
   last_by event o (Receives him mount block feeding) = grown_title him mount block feeding
   last_by event o (Begins asked undecided none allowed) = λ mount session e.
-      begun_cases w s asked.id asked.mount (shown_for w.house asked.mount asked.shown) undecided.0 undecided.1 none mount session
-      (was_begun w asked mount session e)
-      (λ same one. subst (λ (x : Session). x.title ≡ last_or None (told x.number ++ of_client event x.number [])) one
-      (ap (λ xs. last_or None xs) (sym (h.none_yet asked.id undecided.0 undecided.1)
-      ∙ with_nothing (told asked.id) (of_client event asked.id []) (nothing_of event asked.id [] refl))))
-      (λ old. as_it_was event mount session old)
-  last_by event o (Ends him mount feeding) = left_over event mount
-  last_by event o (EndsAndLeaves him mount feeding) = left_over event mount
+      begins_untitled event asked.id asked.mount (shown_for w.house asked.mount asked.shown)
+      (begun w.house asked.id asked.mount (shown_for w.house asked.mount asked.shown)) refl
+      (turns_feeding w asked.id asked.mount (shown_for w.house asked.mount asked.shown) (asks w asked.id undecided.0 undecided.1)) none
+      (h.none_yet asked.id undecided.0 undecided.1) mount session e
+  last_by event o (ComesUp there shown none allowed) = λ mount session e.
+      let new : w.house.last_id < w.house.last_id + 1 = omega arith in
+      begins_untitled event (w.house.last_id + 1) there (shown_for w.house there shown)
+      (raised w.house (w.house.last_id + 1) there (shown_for w.house there shown)) refl
+      (turns_raised w (w.house.last_id + 1) there (shown_for w.house there shown) (s.numbered (w.house.last_id + 1) new)) none
+      (h.none_above (w.house.last_id + 1) new) mount session e
+  last_by event o (Ends him mount feeding no_relay) = left_over event mount
+  last_by event o (EndsAndLeaves _ him mount closes feeding) = λ other session e.
+      left_over event mount other session e
+      ∙ ap (λ xs. last_or None (told session.number ++ of_client event session.number xs)) (sym (closes_untitled w him event closes))
   last_by event o (Misplaced _) = as_it_was event
   last_by event o (IsFinished _ him by its known) = as_it_was event
   last_by event o (IsDenied _ by v nobody) = as_it_was event
@@ -282,7 +313,8 @@ module _ (w : World) (s : IsSound w) (told : ℕ → List (List ℕ)) (h : Told 
   last_by event o (IsAdmitted peer allowed) = as_it_was event
   last_by event o (TakesSeat asked peer session undecided lands live allowed) = as_it_was event
   last_by event o (HandsOut him room seat session sits has live) = as_it_was event
-  last_by event o (Leaves him other) = as_it_was event
+  last_by event o (Leaves him no_relay other) = as_it_was event
+  last_by event o (GoesDown him by_rule relay over) = as_it_was event
 
   told_step : (event : Event) → Told (world_after w event) (λ n. told n ++ set_at w event n)
   unfolding world_after reply_to last_now

@@ -34,7 +34,7 @@ use Rattle.radio_core.specs.Pages.{asks_by, page_at, server_as, shows_page}
 use Rattle.radio_core.specs.Source.{begins}
 use Rattle.radio_core.specs.Step.{outcome, reply_to, world_after}
 use Rattle.radio_core.specs.World.{World, standing_of}
-use Rattle.radio_core.proofs.Standings.{turns_answered}
+use Rattle.radio_core.proofs.Standings.{asks, turns_answered}
 use Rattle.radio_laws.specs.Shown.{IsPath, StatusIsOn, PageIsOn, TellsAt, IsShownAtPath, WhoVisitsIsShown, NobodyFeedsAPath}
 use Rattle.radio_laws.proofs.ListingRows.{rows_tell}
 
@@ -120,7 +120,7 @@ module _ (w : World) (asked : ListenRequest) (path : WebPath) (on : web_path w.h
     tells = subst (TellsAt w path asked.host) told (tells_at w path asked.host);
     answered =
         subst (λ (later : World). standing_of later asked.id ≡ Answered) (sym (ap (world_after w) is ∙ later_there))
-        (turns_answered w asked.id (λ u. let at = undecided in cc)).his;
+        (turns_answered w asked.id (asks w asked.id peer undecided)).his;
     sessions = ap (λ (later : World). later.house.live) (ap (world_after w) is ∙ later_there);
     seats = ap (λ (later : World). later.seats) (ap (world_after w) is ∙ later_there);
   }

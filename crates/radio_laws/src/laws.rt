@@ -6,7 +6,6 @@ ghost use Rattle.radio_settings.specs.declared.settings.Settings.{Settings};
 ghost use Rattle.radio_laws.specs.Shown.{OnlyWhoMayIsShown, WhoMayIsShown, WhoVisitsIsShown, NobodyFeedsAPath, HiddenAreLeftOut, HiddenAreNotToldOnTheWeb, SightIsKept};
 ghost use Rattle.radio_access.specs.Lists.{Lists};
 ghost use Rattle.radio_events.specs.declared.event.Event.{Event};
-ghost use Rattle.radio_events.specs.declared.event.Event.TheVariants.{Leave};
 ghost use Rattle.radio_events.specs.declared.event.ListenRequest.{ListenRequest};
 ghost use Rattle.radio_core.specs.Run.{run_after};
 ghost use Rattle.radio_events.specs.Events.{client_in};
@@ -23,7 +22,7 @@ ghost use Rattle.radio_laws.specs.Commanded.{OnlyWhoMayCommands, WhoMayIsServed,
 ghost use Rattle.radio_laws.specs.TitlesTold.{TitlesAreTold};
 ghost use Rattle.radio_core.specs.Timeouts.{TestsAreInNumbers};
 ghost use Rattle.radio_laws.specs.Outstaying.{NobodyOutstays};
-ghost use Rattle.radio_laws.specs.Gone.{HasLeft, IsOutOfPlace, StaysGone};
+ghost use Rattle.radio_laws.specs.Gone.{Leaving, HasLeft, IsOutOfPlace, StaysGone};
 
 use radio_policy::denials_name_the_first_rule;
 
@@ -174,9 +173,9 @@ pub fn nobody_outstays()
 
 /// The law of those who have left.
 pub fn who_left_is_gone()
-    // whoever was given a number and leaves is no client then
+    // whoever was given a number and leaves is no client then, and a relay that has gone down is none
     ensures left { (settings : Settings) (lists : Lists) (events : List Event) (id : ℕ) → id ≤ (run_after settings lists events).house.last_id
-        → HasLeft (run_after settings lists (events ++ Leave id ∷ [])) id }
+        → (event : Event) → Leaving (run_after settings lists events) id event → HasLeft (run_after settings lists (events ++ event ∷ [])) id }
     // whatever happens in the name of one who has left is out of place, and changes nothing
     ensures strays { (settings : Settings) (lists : Lists) (events : List Event) (event : Event) (id : ℕ) → HasLeft (run_after settings lists events) id
         → client_in event ≡ Some id → IsOutOfPlace (run_after settings lists events) event }
