@@ -12,9 +12,9 @@ use radio_core::clients_and_seats_add_up;
 
 /// The law of totals, for whoever has a history, as [`settle`](crate::settle) gives one.
 pub fn histories_add_up()
-    // in every run from an opening state, the numbers that were given to clients are the clients
-    // who are there and those who have left, and the seats that were made are those that are there
-    // and those that have ended
+    // in every run from an opening state, as many clients have come as are there and as have left,
+    // and so it is with relays; numbers were given one after another; and the seats that were made
+    // are those that are there and those that have ended
     ensures add_up { (settings : Settings) (lists : Lists) (history : List Entry) → IsRun (opening settings lists) history
         → AddsUp (opening settings lists) history }
 {
