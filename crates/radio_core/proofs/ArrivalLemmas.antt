@@ -1,12 +1,10 @@
 -- through each event, a client who is there keeps the address from which he came, and the moment
-use Rattle.std.proofs.Common.{◌≡◌, true, false, Bool, ℕ, ◌==◌, ◌+◌, Option, Some, None, List, [], ◌∷◌, map, refl, ap, sym, subst, ◌∙◌, arith}
+use Rattle.std.proofs.Common.{◌≡◌, true, ℕ, ◌==◌, ◌+◌, Option, Some, None, List, [], ◌∷◌, map, refl, ap, sym, subst, ◌∙◌, arith}
 use Rattle.std.specs.Prelude.{fold}
 use Rattle.std.specs.Option.{option_map}
 use Rattle.std.proofs.lemmas.Bool.Decides.{nat_tests}
 use Rattle.radio_addr.specs.declared.peer.Peer.{Peer}
-use Rattle.radio_tables.proofs.FindLaws.{find_here, find_later}
 use Rattle.radio_tables.proofs.KeyLaws.{by_number}
-use Rattle.radio_seats.specs.Seats.{listener_of}
 use Rattle.radio_events.specs.declared.command.Command.{Command}
 use Rattle.radio_events.specs.declared.command.Command.TheVariants.{MoveClients, KillClient, KillSource, SetTitle, SetFallback}
 use Rattle.radio_events.specs.declared.event.Event.{Event}
@@ -19,14 +17,14 @@ use Rattle.radio_core.specs.declared.house.House.{House}
 use Rattle.radio_core.specs.Source.{shown_for}
 use Rattle.radio_core.specs.Changes.{answered, session_killed, changed, begun, raised, before_silence, session_silenced, silent_in, ticked}
 use Rattle.radio_core.specs.ClientSteps.{ArrivalsStay}
-use Rattle.radio_core.specs.Clients.{Client, is_client, client_of, with_state, in_state, without_client}
+use Rattle.radio_core.specs.Clients.{Client, client_of, with_state, in_state, without_client}
 use Rattle.radio_parts.specs.Sessions.{Session, session_of}
 use Rattle.radio_core.specs.Sound.{IsSound}
 use Rattle.radio_core.specs.Step.{outcome, world_after}
 use Rattle.radio_core.specs.Timeouts.{timed_out}
 use Rattle.radio_core.specs.Ways.{Way, Misplaced, IsFinished, IsDenied, IsRefused, IsAdmitted, Begins, ComesUp, Receives, SetsTitle, TakesSeat, HandsOut, Ends}
 use Rattle.radio_core.specs.Ways.{EndsAndLeaves, Leaves, GoesDown, Obeys, Shows, HasPassed, Ticks}
-use Rattle.radio_core.specs.World.{World, standing_of, standing_in}
+use Rattle.radio_core.specs.World.{World, standing_of}
 use Rattle.radio_core.proofs.CalledHome.{house_called}
 use Rattle.radio_core.proofs.Lookups.{does, still_none, beside_state, is_no_client, beside_forgotten, beside_new}
 use Rattle.radio_core.proofs.TickLemmas.{clients_after}

@@ -1,7 +1,6 @@
 -- what an event does to how one client stands
 use Rattle.std.proofs.Common.{◌≡◌, ◌⊎◌, inl, inr, ℕ, ◌<◌, true, false, List, Some, refl, ap, sym, subst, ◌∙◌}
 use Rattle.radio_policy.specs.declared.rule.Rule.{Rule}
-use Rattle.radio_addr.specs.declared.peer.Peer.{Peer}
 use Rattle.radio_access.specs.Lists.{passes}
 use Rattle.radio_settings.specs.declared.field.Shown.{Shown}
 use Rattle.radio_events.specs.declared.event.Event.{Event}

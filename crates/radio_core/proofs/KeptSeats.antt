@@ -11,7 +11,6 @@ use Rattle.radio_policy.specs.declared.rule.Rule.{Rule}
 use Rattle.radio_policy.specs.declared.rule.Rule.TheVariants.{Lagged, TimeOver, Killed}
 use Rattle.radio_addr.specs.declared.peer.Peer.{Peer}
 use Rattle.radio_settings.specs.declared.field.Shown.{Shown}
-use Rattle.radio_tables.specs.Lists.{update_first}
 use Rattle.radio_tables.proofs.FindLaws.{find_here, find_later, find_apart}
 use Rattle.radio_tables.proofs.KeyLaws.{by_number, by_name}
 use Rattle.radio_seats.specs.declared.seat.Listener.{Listener}
@@ -38,7 +37,7 @@ use Rattle.radio_core.specs.Changes.{before_silence, session_silenced, silent_in
 use Rattle.radio_core.specs.Facts.{live_end, sight_of}
 use Rattle.radio_core.specs.Lagging.{EachSeat}
 use Rattle.radio_core.specs.Listen.{burst_of, first_seat}
-use Rattle.radio_parts.specs.Sessions.{Session, is_of, session_of, opened, with_session, longer, with_title}
+use Rattle.radio_parts.specs.Sessions.{Session, session_of, opened, with_session, longer, with_title}
 use Rattle.radio_core.specs.Source.{shown_for}
 use Rattle.radio_core.specs.Step.{outcome}
 use Rattle.radio_parts.specs.Stream.{WholeStream, no_data, end_of, with_block, burst_start, data_at}
@@ -52,6 +51,7 @@ use Rattle.radio_core.proofs.CarriedFates.{order_carried}
 use Rattle.radio_parts.proofs.SessionLookups.{beside_fed, beside_titled, beside_begun, is_new_session}
 use Rattle.radio_parts.proofs.NumberOrder.{order_ended}
 use Rattle.radio_core.proofs.SoundEnds.{was_live}
+use Rattle.radio_core.proofs.UpdatedSessions.{session_updated}
 use Rattle.radio_core.proofs.Ways.{way_of}
 
 -- he sits at the end of his session's stream
@@ -203,33 +203,6 @@ settings_by w order event o (GoesDown id rule relay told) = refl
 
 pub settings_stay : (w : World) → AreByNumber w.seats → (event : Event) → (changed w (outcome w event).change).house.settings ≡ w.house.settings
 settings_stay w order event = settings_by w order event (outcome w event) (way_of w event)
-
--- what is found where the session of a mount has changed
-module _ (live : List Session) (mount : List ℕ) (f : Session → Session) (same_test : (x : Session) → is_of mount (f x) ≡ is_of mount x) where
-  updated_at : (x : Session) (xs : List Session) (his : Bool) → is_of mount x ≡ his
-      → session_of (update_first (is_of mount) f xs) mount ≡ option_map f (session_of xs mount)
-      → session_of (if his then f x ∷ xs else x ∷ update_first (is_of mount) f xs) mount ≡ option_map f (if his then Some x else session_of xs mount)
-  updated_at x xs true e later = find_here (is_of mount) (f x) xs (same_test x ∙ e)
-  updated_at x xs false e later = find_later (is_of mount) x (update_first (is_of mount) f xs) e ∙ later
-
-  updated_in : (xs : List Session) → session_of (update_first (is_of mount) f xs) mount ≡ option_map f (session_of xs mount)
-  updated_in [] = refl
-  updated_in (x ∷ xs) = updated_at x xs (is_of mount x) refl (updated_in xs)
-
-  pub session_updated : {A : Type 0} (other : List ℕ) (now : Session)
-      → (bytes_eq mount other ≡ false → session_of (update_first (is_of mount) f live) other ≡ session_of live other)
-      → session_of (update_first (is_of mount) f live) other ≡ Some now
-      → ((old : Session) → mount ≡ other → session_of live other ≡ Some old → f old ≡ now → A) → (session_of live other ≡ Some now → A) → A
-  session_updated {A} other now beside e new same_as =
-      by_name mount other
-      (λ same. by_found same (session_of live mount) refl (sym (updated_in live) ∙ ap (session_of (update_first (is_of mount) f live)) same ∙ e))
-      (λ apart. same_as (sym (beside apart) ∙ e)) where
-        by_found : mount ≡ other → (found : Option Session) → session_of live mount ≡ found → option_map f (session_of live mount) ≡ Some now → A
-        by_found same None none is = let nothing : option_map f (session_of live mount) ≡ None = ap (option_map f) none in cc
-        by_found same (Some old) found is =
-            let both : Some (f old) ≡ Some now = sym (ap (option_map f) found) ∙ is in
-            let one : f old ≡ now = cc in
-            new old same (ap (session_of live) (sym same) ∙ found) one
 
 -- who is not behind at the mount
 not_behind : {queue : ℕ} (there : Bool) (lag : ℕ) → there ≡ true → (there && nat_lt queue lag) ≡ false → lag ≤ queue

@@ -40,4 +40,5 @@ pub mod StepLemmas
 pub mod TickLemmas
 pub mod TimeoutLemmas
 pub mod TotalLemmas
+mod UpdatedSessions
 pub mod Ways

@@ -1,6 +1,6 @@
 -- a relay's row that was put into its place and is put back
-use Rattle.std.proofs.Common.{◌≡◌, Bool, true, false, ℕ, ◌<◌, ◌==◌, not, Option, Some, None, List, [], ◌∷◌, refl, ap, sym, ◌∙◌, arith}
-use Rattle.std.specs.Prelude.{find, filter, map, if◌then◌else◌}
+use Rattle.std.proofs.Common.{◌≡◌, Bool, true, false, ℕ, Option, Some, None, List, [], ◌∷◌, refl, ap, sym, ◌∙◌, arith}
+use Rattle.std.specs.Prelude.{map}
 use Rattle.std.specs.Option.{option_map}
 use Rattle.std.specs.List.{AllByRecursion}
 use Rattle.std.specs.List.Sorted.{IsStrictlySortedBy}
@@ -10,7 +10,6 @@ use Rattle.std.specs.declared.cmp.Ordering.TheVariants.{Less, Equal, Greater}
 use Rattle.std.proofs.lemmas.Bool.Decides.{nat_tests}
 use Rattle.radio_tables.specs.Lists.{update_first}
 use Rattle.radio_tables.proofs.FindLaws.{find_here, find_later}
-use Rattle.radio_core.specs.declared.relays.RelayState.{RelayState}
 use Rattle.radio_core.specs.Relays.{Relay, is_relay, relay_of, doing, with_relay, without_relay, put_back}
 
 abbrev number_of : Relay → ℕ

@@ -17,7 +17,7 @@ use Rattle.radio_core.specs.declared.standing.Standing.TheVariants.{Unknown, Und
 use Rattle.radio_core.specs.declared.standing.Standing.TheVariants.{Answered as IsAnswered, Finished}
 use Rattle.radio_core.specs.declared.relays.RelayState.{RelayState}
 use Rattle.radio_core.specs.declared.relays.RelayState.TheVariants.{Feeds as RelayFeeds, Ended as RelayEnded}
-use Rattle.radio_core.specs.Clients.{Client, is_client, client_of, in_state, with_state}
+use Rattle.radio_core.specs.Clients.{Client, client_of, in_state, with_state}
 use Rattle.radio_core.specs.Relays.{Relay, relay_of, risen, ended}
 use Rattle.radio_seats.specs.Seats.{listener_of, advanced, heard_to}
 use Rattle.radio_core.specs.World.{World, standing_of, standing_in, standing_by, standing_seated, standing_of_listener, standing_relayed, standing_of_relay, has_relay}

@@ -1,20 +1,15 @@
 -- the law of totals
-use Rattle.std.proofs.Common.{◌≡◌, Bool, true, false, ◌||◌, ◌==◌, ℕ, ◌+◌, not, Option, Some, None, is_some, List, [], ◌∷◌, length, refl, ap}
+use Rattle.std.proofs.Common.{◌≡◌, Bool, true, false, ◌||◌, ◌==◌, ℕ, ◌+◌, not, is_some, List, [], ◌∷◌, length, refl, ap}
 use Rattle.std.proofs.Common.{sym, subst, ◌∙◌, arith}
 use Rattle.std.specs.Prelude.{if◌then◌else◌, map}
 use Rattle.std.proofs.lemmas.Bool.{eqb-true}
 use Rattle.radio_tables.specs.Lists.{Each}
 use Rattle.std.proofs.lemmas.List.{length-map}
 use Rattle.std.proofs.lemmas.List.Filters.{length-filter_both}
-use Rattle.radio_addr.specs.declared.peer.Peer.{Peer}
 use Rattle.radio_settings.specs.declared.settings.Settings.{Settings}
 use Rattle.radio_access.specs.Lists.{Lists}
-use Rattle.radio_seats.specs.declared.seat.Listener.{Listener}
-use Rattle.radio_seats.specs.declared.seat.Seating.{Seating}
-use Rattle.radio_seats.specs.declared.seat.Seating.TheVariants.{Sits as HasSeat, Finished as HasFinished}
 use Rattle.radio_seats.specs.Seats.{is_listener, listener_of, advanced, seated}
-use Rattle.radio_core.specs.declared.clients.ClientState.{ClientState}
-use Rattle.radio_core.specs.declared.clients.ClientState.TheVariants.{Undecided as IsNew, Feeds as IsSource, Listens, Answered as HasHisAnswer, Ended}
+use Rattle.radio_core.specs.declared.clients.ClientState.TheVariants.{Listens, Answered as HasHisAnswer}
 use Rattle.radio_events.specs.declared.event.Event.{Event}
 use Rattle.radio_events.specs.declared.event.Event.TheVariants.{Leave, RelayDown}
 use Rattle.radio_core.specs.declared.outcome.Outcome.{Outcome}

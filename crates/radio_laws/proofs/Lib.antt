@@ -1,4 +1,5 @@
 mod AccessLemmas
+mod BegunLemmas
 mod CommandLaws
 mod CommandRows
 mod CommandService

@@ -13,19 +13,17 @@ use Rattle.radio_access.specs.Lists.{Lists, passes}
 use Rattle.radio_tables.proofs.KeyLaws.{by_number, by_name}
 use Rattle.radio_events.specs.declared.event.Event.{Event}
 use Rattle.radio_events.specs.declared.event.Event.TheVariants.{Push, Title}
-use Rattle.radio_core.specs.declared.outcome.Change.TheVariants.{Begin, Receive, SetTitle}
+use Rattle.radio_laws.proofs.BegunLemmas.{source_begins, relay_begins}
+use Rattle.radio_core.specs.declared.outcome.Change.TheVariants.{Receive, SetTitle}
 use Rattle.radio_core.specs.declared.outcome.Outcome.{Outcome}
 use Rattle.radio_seats.specs.declared.seat.Seat.{Seat}
 use Rattle.radio_core.specs.declared.standing.Standing.TheVariants.{Unknown, Undecided, Feeds}
 use Rattle.radio_core.specs.World.{World, opening, standing_of}
-use Rattle.radio_events.specs.declared.event.SourceRequest.{SourceRequest}
-use Rattle.radio_core.specs.declared.house.House.{House}
-use Rattle.radio_core.specs.Changes.{changed, begun}
+use Rattle.radio_core.specs.Changes.{changed}
 use Rattle.radio_core.specs.Handing.{block_in, of_client, handed_at, handed, delivered_at, delivered}
 use Rattle.radio_seats.specs.Seats.{seat_of}
 use Rattle.radio_parts.specs.Sessions.{Session, session_of, without_session}
 use Rattle.radio_core.specs.Sound.{IsSound}
-use Rattle.radio_core.specs.Source.{shown_for}
 use Rattle.radio_core.specs.Step.{outcome, world_after}
 use Rattle.radio_parts.specs.Stream.{WholeStream, data_at, end_of}
 use Rattle.radio_laws.specs.Stretches.{between, Sitting, sitting_in, begun_sittings, sittings, AreStretches, StretchesAreWhole}
@@ -34,7 +32,6 @@ use Rattle.radio_core.specs.Ways.{EndsAndLeaves, Leaves, GoesDown, Obeys, Shows,
 use Rattle.radio_core.proofs.FinishLemmas.{undecided_before}
 use Rattle.radio_core.proofs.OwnLemmas.{not_of, nothing_of}
 use Rattle.radio_laws.proofs.GoneLemmas.{his_own, with_nothing, last_rises}
-use Rattle.radio_core.proofs.CalledHome.{house_called}
 use Rattle.radio_parts.proofs.SessionLookups.{beside_ended, is_over}
 use Rattle.radio_core.specs.Moves.{moved_into}
 use Rattle.radio_core.proofs.SeatSteps.{seats_step}
@@ -43,17 +40,12 @@ use Rattle.radio_core.specs.Finishes.{Finishes}
 use Rattle.radio_core.specs.Listen.{first_seat, burst_of}
 use Rattle.radio_core.specs.SeatSteps.{SeatStep, Stays, IsHanded, SitsDown, IsMoved, Leaves as HeLeaves, IsEnded as HeIsEnded}
 use Rattle.radio_policy.specs.declared.rule.Rule.{Rule}
-use Rattle.radio_core.proofs.SoundSessions.{begun_cases, grown_cases}
+use Rattle.radio_core.proofs.SoundSessions.{grown_cases}
 use Rattle.radio_core.proofs.SoundTitles.{titled_cases}
 use Rattle.radio_core.proofs.TickLemmas.{ticked_fates}
 use Rattle.radio_laws.proofs.ObeyLemmas.{was_live_then}
 use Rattle.radio_core.proofs.SoundRuns.{sound_after, sound_opening}
 use Rattle.radio_core.proofs.Ways.{way_of}
-use Rattle.radio_settings.specs.declared.field.Shown.{Shown}
-use Rattle.radio_core.specs.declared.house.House.{House}
-use Rattle.radio_core.specs.Changes.{begun, raised, called_home}
-use Rattle.radio_parts.specs.Sessions.{opened, with_session}
-use Rattle.radio_core.proofs.Standings.{Turns, asks, turns_feeding, turns_raised}
 
 -- slices of data that grows
 
@@ -240,11 +232,6 @@ record Sent (w : World) (sent : ℕ → List ℕ) : Type 0 where
   pub none_yet : (id : ℕ) (peer : Peer) → standing_of w id ≡ Undecided peer → sent id ≡ []
   pub none_above : (id : ℕ) → w.house.last_id < id → sent id ≡ []
 
--- who are called home change no session
-pub was_begun : (w : World) (there : List ℕ) (house : House) (mount : List ℕ) (session : Session)
-    → session_of (called_home (record w { house = house }) there).house.live mount ≡ Some session → session_of house.live mount ≡ Some session
-was_begun w there house mount session e = ap (λ (h : House). session_of h.live mount) (sym (house_called (record w { house = house }) there)) ∙ e
-
 module _ (w : World) (s : IsSound w) (sent : ℕ → List ℕ) (h : Sent w sent) where
   -- only a source brings something
   brings_nothing : (event : Event) (o : Outcome) → Way w event o → (id : ℕ) → ((mount : List ℕ) → standing_of w id ≡ Feeds mount → ⊥)
@@ -321,17 +308,8 @@ module _ (w : World) (s : IsSound w) (sent : ℕ → List ℕ) (h : Sent w sent)
       (as_it_was (Title him text) other session found))
       (λ apart found. as_it_was (Title him text) other now found)
 
-  -- a session that has only begun has no data, and nothing was sent by its number
-  begins_empty : (event : Event) (him : ℕ) (there : List ℕ) (shown : Shown) (house : House)
-      → house.live ≡ with_session w.house.live (opened there him shown w.house.time) → Turns w (record w { house = house }) him (Feeds there)
-      → session_of w.house.live there ≡ None → sent him ≡ [] → (mount : List ℕ) (session : Session)
-      → session_of (called_home (record w { house = house }) there).house.live mount ≡ Some session
-      → session.stream.bytes ≡ sent session.number ++ of_client event session.number []
-  begins_empty event him there shown house live t none nothing mount session e =
-      begun_cases w s him there shown house live t none mount session (was_begun w there house mount session e)
-      (λ same one. subst (λ (x : Session). x.stream.bytes ≡ sent x.number ++ of_client event x.number []) one
-      (sym nothing ∙ with_nothing (sent him) (of_client event him []) (nothing_of event him [] refl)))
-      (λ old. as_it_was event mount session old)
+  abbrev is_whole : Event → Session → Type 0
+  is_whole event session = session.stream.bytes ≡ sent session.number ++ of_client event session.number []
 
   whole_by : (event : Event) (o : Outcome) → Way w event o → whole_now event o
   unfolding whole_now
@@ -344,17 +322,13 @@ module _ (w : World) (s : IsSound w) (sent : ℕ → List ℕ) (h : Sent w sent)
       (subst (λ (n : ℕ). was.old.stream.bytes ≡ sent n ++ of_client event n []) was.number (as_it_was event mount was.old was.was))
   whole_by event o (HasPassed ms e) = as_it_was event
   whole_by event o (Ticks ms e) = λ mount session h. as_it_was event mount session ((ticked_fates w s ms).live mount session h)
-  whole_by event o (Begins asked undecided none allowed) = λ mount session e.
-      begins_empty event asked.id asked.mount (shown_for w.house asked.mount asked.shown)
-      (begun w.house asked.id asked.mount (shown_for w.house asked.mount asked.shown)) refl
-      (turns_feeding w asked.id asked.mount (shown_for w.house asked.mount asked.shown) (asks w asked.id undecided.0 undecided.1)) none
-      (h.none_yet asked.id undecided.0 undecided.1) mount session e
-  whole_by event o (ComesUp there shown none allowed) = λ mount session e.
-      let new : w.house.last_id < w.house.last_id + 1 = omega arith in
-      begins_empty event (w.house.last_id + 1) there (shown_for w.house there shown)
-      (raised w.house (w.house.last_id + 1) there (shown_for w.house there shown)) refl
-      (turns_raised w (w.house.last_id + 1) there (shown_for w.house there shown) (s.numbered (w.house.last_id + 1) new)) none
-      (h.none_above (w.house.last_id + 1) new) mount session e
+  whole_by event o (Begins asked undecided none allowed) =
+      source_begins w s (is_whole event) (as_it_was event) asked undecided none
+      (sym (h.none_yet asked.id undecided.0 undecided.1) ∙ with_nothing (sent asked.id) (of_client event asked.id []) (nothing_of event asked.id [] refl))
+  whole_by event o (ComesUp there shown none allowed) =
+      let him = w.house.last_id + 1 in
+      relay_begins w s (is_whole event) (as_it_was event) there shown none
+      (sym (h.none_above him (omega arith)) ∙ with_nothing (sent him) (of_client event him []) (nothing_of event him [] refl))
   whole_by event o (Ends him mount feeding no_relay) = left_over event mount
   whole_by event o (EndsAndLeaves _ him mount closes feeding) = left_over event mount
   whole_by event o (Misplaced _) = as_it_was event

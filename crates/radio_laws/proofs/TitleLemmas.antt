@@ -17,7 +17,8 @@ use Rattle.radio_events.specs.declared.command.Command.{Command as TheCommand}
 use Rattle.radio_events.specs.declared.command.Command.TheVariants.{MoveClients, KillClient, KillSource, SetTitle as CommandsTitle, SetFallback}
 use Rattle.radio_events.specs.declared.event.Event.{Event}
 use Rattle.radio_events.specs.declared.event.Event.TheVariants.{Push, Title}
-use Rattle.radio_core.specs.declared.outcome.Change.TheVariants.{Answer, Receive, SetTitle}
+use Rattle.radio_laws.proofs.BegunLemmas.{source_begins, relay_begins}
+use Rattle.radio_core.specs.declared.outcome.Change.TheVariants.{Receive, SetTitle, Answer}
 use Rattle.radio_core.specs.Outcomes.{says}
 use Rattle.radio_events.specs.declared.reply.Reply.TheVariants.{Text as SaysText}
 use Rattle.radio_core.specs.declared.outcome.Outcome.{Outcome}
@@ -34,7 +35,6 @@ use Rattle.radio_core.specs.Handing.{is_number, of_client}
 use Rattle.radio_core.specs.Run.{world_after_all, run_after}
 use Rattle.radio_parts.specs.Sessions.{Session, session_of, without_session}
 use Rattle.radio_core.specs.Sound.{IsSound}
-use Rattle.radio_core.specs.Source.{shown_for}
 use Rattle.radio_core.specs.Step.{outcome, reply_to, world_after}
 use Rattle.radio_laws.specs.TitlesTold.{title_in, commanded_at, commanded_in, set_by, set_at, titles_set, last_title, TitlesAreTold}
 use Rattle.radio_core.specs.Ways.{Way, Misplaced, IsFinished, IsDenied, IsRefused, IsAdmitted, Begins, ComesUp, Receives, SetsTitle, TakesSeat, HandsOut, Ends}
@@ -45,21 +45,15 @@ use Rattle.radio_core.proofs.ListingLemmas.{shown_long}
 use Rattle.radio_core.proofs.Obeyed.{title_live}
 use Rattle.radio_core.specs.Pages.{IsShownBy}
 use Rattle.radio_core.proofs.OwnLemmas.{not_of, nothing_of}
-use Rattle.radio_laws.proofs.StretchLemmas.{was_begun}
 use Rattle.radio_laws.proofs.GoneLemmas.{his_own, with_nothing, last_rises}
 use Rattle.radio_laws.proofs.ListsLemmas.{lists_run}
 use Rattle.radio_laws.proofs.LimitLemmas.{within_run}
 use Rattle.radio_parts.proofs.SessionLookups.{beside_ended, is_over}
 use Rattle.radio_core.proofs.SoundRuns.{sound_after, sound_opening, sound_run}
-use Rattle.radio_core.proofs.SoundSessions.{begun_cases, grown_cases}
+use Rattle.radio_core.proofs.SoundSessions.{grown_cases}
 use Rattle.radio_core.proofs.SoundTitles.{titled_cases}
 use Rattle.radio_core.proofs.TickLemmas.{ticked_fates}
 use Rattle.radio_core.proofs.Ways.{way_of}
-use Rattle.radio_settings.specs.declared.field.Shown.{Shown}
-use Rattle.radio_core.specs.declared.house.House.{House}
-use Rattle.radio_core.specs.Changes.{begun, raised, called_home}
-use Rattle.radio_parts.specs.Sessions.{opened, with_session}
-use Rattle.radio_core.proofs.Standings.{Turns, asks, turns_feeding, turns_raised}
 use Rattle.radio_core.specs.Closing.{Closes, OfClient, OfRelay}
 
 -- the last of a list with one more
@@ -269,17 +263,12 @@ module _ (w : World) (s : IsSound w) (told : ℕ → List (List ℕ)) (h : Told 
   command_title event (SetFallback mount fallback) c = none_set event (SetFallback mount fallback) c (λ id. refl)
   command_title event (CommandsTitle mount text) c = command_sets event mount text c
 
-  -- a session that has only begun has no title, and nothing was told of its number
-  begins_untitled : (event : Event) (him : ℕ) (there : List ℕ) (shown : Shown) (house : House)
-      → house.live ≡ with_session w.house.live (opened there him shown w.house.time) → Turns w (record w { house = house }) him (Feeds there)
-      → session_of w.house.live there ≡ None → told him ≡ [] → (mount : List ℕ) (session : Session)
-      → session_of (called_home (record w { house = house }) there).house.live mount ≡ Some session
-      → session.title ≡ last_or None (told session.number ++ of_client event session.number [])
-  begins_untitled event him there shown house live t none nothing mount session e =
-      begun_cases w s him there shown house live t none mount session (was_begun w there house mount session e)
-      (λ same one. subst (λ (x : Session). x.title ≡ last_or None (told x.number ++ of_client event x.number [])) one
-      (ap (λ xs. last_or None xs) (sym nothing ∙ with_nothing (told him) (of_client event him []) (nothing_of event him [] refl))))
-      (λ old. as_it_was event mount session old)
+  abbrev has_last : Event → Session → Type 0
+  has_last event session = session.title ≡ last_or None (told session.number ++ of_client event session.number [])
+
+  -- of a number of which nothing was told
+  none_told : (event : Event) (him : ℕ) → told him ≡ [] → None ≡ last_or None (told him ++ of_client event him [])
+  none_told event him nothing = ap (λ xs. last_or None xs) (sym nothing ∙ with_nothing (told him) (of_client event him []) (nothing_of event him [] refl))
 
   last_by : (event : Event) (o : Outcome) → Way w event o → last_now event o
   unfolding last_now
@@ -291,17 +280,11 @@ module _ (w : World) (s : IsSound w) (told : ℕ → List (List ℕ)) (h : Told 
   last_by event o (HasPassed ms e) = as_it_was event
   last_by event o (Ticks ms e) = λ mount session h. as_it_was event mount session ((ticked_fates w s ms).live mount session h)
   last_by event o (Receives him mount block feeding) = grown_title him mount block feeding
-  last_by event o (Begins asked undecided none allowed) = λ mount session e.
-      begins_untitled event asked.id asked.mount (shown_for w.house asked.mount asked.shown)
-      (begun w.house asked.id asked.mount (shown_for w.house asked.mount asked.shown)) refl
-      (turns_feeding w asked.id asked.mount (shown_for w.house asked.mount asked.shown) (asks w asked.id undecided.0 undecided.1)) none
-      (h.none_yet asked.id undecided.0 undecided.1) mount session e
-  last_by event o (ComesUp there shown none allowed) = λ mount session e.
-      let new : w.house.last_id < w.house.last_id + 1 = omega arith in
-      begins_untitled event (w.house.last_id + 1) there (shown_for w.house there shown)
-      (raised w.house (w.house.last_id + 1) there (shown_for w.house there shown)) refl
-      (turns_raised w (w.house.last_id + 1) there (shown_for w.house there shown) (s.numbered (w.house.last_id + 1) new)) none
-      (h.none_above (w.house.last_id + 1) new) mount session e
+  last_by event o (Begins asked undecided none allowed) =
+      source_begins w s (has_last event) (as_it_was event) asked undecided none (none_told event asked.id (h.none_yet asked.id undecided.0 undecided.1))
+  last_by event o (ComesUp there shown none allowed) =
+      let him = w.house.last_id + 1 in
+      relay_begins w s (has_last event) (as_it_was event) there shown none (none_told event him (h.none_above him (omega arith)))
   last_by event o (Ends him mount feeding no_relay) = left_over event mount
   last_by event o (EndsAndLeaves _ him mount closes feeding) = λ other session e.
       left_over event mount other session e

@@ -1,5 +1,5 @@
 -- what a move makes of each listener
-use Rattle.std.proofs.Common.{◌≡◌, Bool, true, false, ℕ, Option, Some, None, is_some, List, [], ◌∷◌, refl, ap, sym, subst, ◌∙◌}
+use Rattle.std.proofs.Common.{◌≡◌, Bool, true, ℕ, Option, Some, None, is_some, List, [], ◌∷◌, refl, ap, sym, subst, ◌∙◌}
 use Rattle.std.specs.Prelude.{fold, if◌then◌else◌}
 use Rattle.std.specs.Option.{option_map_or}
 use Rattle.std.proofs.lemmas.Slice.Eq.{bytes_eq-Decides}
