@@ -1,3 +1,4 @@
+pub mod AllowedCommands
 pub mod CommandLemmas
 mod CoreReplyLemmas
 mod DueLemmas

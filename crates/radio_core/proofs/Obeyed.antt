@@ -39,6 +39,7 @@ use Rattle.radio_core.specs.SeatSteps.{IsSent, HisSessionIsOver, IsCommandedTher
 use Rattle.radio_parts.specs.Sessions.{Session, session_of}
 use Rattle.radio_core.specs.Sound.{IsSound}
 use Rattle.radio_core.specs.World.{World, standing_of, standing_in}
+use Rattle.radio_core.proofs.AllowedCommands.{may_act, may_kill, may_move, needs_hold}
 use Rattle.radio_core.proofs.CarriedFates.{order_carried, carried_fate}
 use Rattle.radio_core.proofs.Fates.{IsActive, Fate, GoesOn, IsEnded, HasStopped, IsMoved, Fates, HasEnded, Nobody, sound_fates, fates_none, lost_in, active_sitter}
 use Rattle.radio_parts.proofs.SessionLookups.{found_named, is_over}
@@ -47,31 +48,6 @@ use Rattle.radio_core.proofs.SoundEnds.{over_fates, late_beside, still_feeds, ha
 use Rattle.radio_core.proofs.SoundTitles.{sound_titled}
 use Rattle.radio_core.proofs.Soundness.{sound_answered}
 use Rattle.radio_core.proofs.Standings.{Turns, asks, turns_answered, turns_ended_by}
-
--- rows that deny nothing hold nothing, from the first on
-past_row : (rule : Rule) (holds : Bool) (rows : List Row) → verdict_in (row rule holds ∷ rows) ≡ Allow → (holds ≡ false) × (verdict_in rows ≡ Allow)
-past_row rule true rows e = cc
-past_row rule false rows e = (refl, e)
-
-is_so : (b : Bool) → not b ≡ false → b ≡ true
-is_so true e = refl
-is_so false e = cc
-
--- what a command needs is there
-pub may_act : (live : Bool) → verdict_in (row NoMount (not live) ∷ []) ≡ Allow → live ≡ true
-may_act true e = refl
-may_act false e = cc
-
-may_kill : (live sits : Bool) → verdict_in (row NoMount (not live) ∷ row NoClient (not sits) ∷ []) ≡ Allow → sits ≡ true
-may_kill true true e = refl
-may_kill true false e = cc
-may_kill false sits e = cc
-
-may_move : (live there same : Bool) → verdict_in (row NoMount (not live) ∷ row NoDestination (not there) ∷ row SameMount same ∷ []) ≡ Allow → same ≡ false
-may_move true true false e = refl
-may_move true true true e = cc
-may_move true false same e = cc
-may_move false there same e = cc
 
 -- whoever is moved by a command, or from a mount whose session is over, leaves it for another
 abbrev pub LeavesFor : World → Event → World → Seat → Session → Type 0
@@ -123,26 +99,13 @@ module _ (w : World) (s : IsSound w) (event : Event) where
         };
       }
 
-    -- the pair that was sent opens the command
-    pub is_opened : opens w.house.settings (opened_by command) c.asked.pair ≡ true
-    is_opened =
-        is_so (opens w.house.settings (opened_by command) c.asked.pair)
-        (past_row (password_rule (opener_in (opened_by command))) (not (opens w.house.settings (opened_by command) c.asked.pair)) (needs_rows (needs_of w command))
-        (ap (λ (a : Asked). verdict_in (command_rows (facts_asked w a c.asked.pair))) (sym c.is_asked) ∙ c.allowed)).0
-
-    -- what it needs is there
-    pub needs_hold : verdict_in (needs_rows (needs_of w command)) ≡ Allow
-    needs_hold =
-        (past_row (password_rule (opener_in (opened_by command))) (not (opens w.house.settings (opened_by command) c.asked.pair)) (needs_rows (needs_of w command))
-        (ap (λ (a : Asked). verdict_in (command_rows (facts_asked w a c.asked.pair))) (sym c.is_asked) ∙ c.allowed)).1
-
   -- listeners are moved
   module _ (mount destination : List ℕ) (c : IsCommanded w event (MoveClients mount destination)) where
     abbrev moved_world : World
     moved_world = changed w (Obey c.asked.id (MoveClients mount destination))
 
     pub is_another : bytes_eq mount destination ≡ false
-    is_another = may_move (is_live w.house mount) (is_live w.house destination) (bytes_eq mount destination) (needs_hold c)
+    is_another = may_move (is_live w.house mount) (is_live w.house destination) (bytes_eq mount destination) (needs_hold w event c)
 
     sent : (seat : Seat) (to : List ℕ) → seat.mount ≡ mount → destination ≡ to → IsCommanded w event (MoveClients seat.mount to)
     sent seat to at goes =
@@ -179,7 +142,7 @@ module _ (w : World) (s : IsSound w) (event : Event) where
     sits_by (Some seat) e = (seat, refl, (bytes_eq-Decides seat.mount mount).0 e)
 
     pub his_seat : (seat : Seat) × (seat_of w.seats listener ≡ Some seat) × (seat.mount ≡ mount)
-    his_seat = sits_by (seat_of w.seats listener) (may_kill (is_live w.house mount) (sits_at w.seats mount listener) (needs_hold c))
+    his_seat = sits_by (seat_of w.seats listener) (may_kill (is_live w.house mount) (sits_at w.seats mount listener) (needs_hold w event c))
 
     abbrev KilledFate : ℕ → Type 0
     KilledFate id = Fate (Cause w killed_world event) (Takes w event) Nobody (LeavesFor w event) (heard c) killed_world id
@@ -240,7 +203,7 @@ module _ (w : World) (s : IsSound w) (event : Event) where
     found_by (Some session) e = (session, refl)
 
     pub live : (session : Session) × (session_of w.house.live mount ≡ Some session)
-    live = found_by (session_of w.house.live mount) (may_act (is_live w.house mount) (needs_hold c))
+    live = found_by (session_of w.house.live mount) (may_act (is_live w.house mount) (needs_hold w event c))
 
     abbrev cut : Session
     cut = live.0
@@ -330,7 +293,7 @@ module _ (w : World) (s : IsSound w) (event : Event) where
 
     pub title_live : (session : Session) × (session_of w.house.live mount ≡ Some session)
     title_live =
-        title_found (session_of w.house.live mount) (may_act (is_live w.house mount) (needs_hold c))
+        title_found (session_of w.house.live mount) (may_act (is_live w.house mount) (needs_hold w event c))
 
     sound_text : IsSound titled_world
     sound_text =
@@ -409,9 +372,9 @@ module _ (w : World) (s : IsSound w) (event : Event) where
       by_fate : Fate (Cause w (changed w (Obey c.asked.id command)) event) (Takes w event) Nobody (LeavesFor w event) (obeyed command c).base
           (changed w (Obey c.asked.id command)) c.asked.id → standing_of (changed w (Obey c.asked.id command)) c.asked.id ≡ Answered
       by_fate (GoesOn same seat feeds sits) = same ∙ before
-      by_fate (IsEnded rule cause active ended none over) = absurd (not_active (standing_of (obeyed command c).base c.asked.id) before active)
-      by_fate (HasStopped m why feeds done none over) = absurd why
-      by_fate (IsMoved old session carries left had has same live opens) = same ∙ before
+      by_fate (IsEnded rule cause active ended none gone) = absurd (not_active (standing_of (obeyed command c).base c.asked.id) before active)
+      by_fate (HasStopped m why feeds done none gone) = absurd why
+      by_fate (IsMoved old session carries left had has same alive opens) = same ∙ before
 
     pub others_stood : (id : ℕ) → (c.asked.id == id) ≡ false → standing_of (obeyed command c).base id ≡ standing_of w id
     others_stood id apart = (obeyed command c).stands id ∙ turns_heard.others id apart

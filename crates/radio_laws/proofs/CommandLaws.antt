@@ -47,6 +47,7 @@ use Rattle.radio_core.specs.Fallbacks.{Fallback, set_for}
 use Rattle.radio_parts.specs.Sessions.{Session, session_of, without_session}
 use Rattle.radio_parts.proofs.ApartLemmas.{bytes_apart}
 use Rattle.radio_parts.proofs.SessionLookups.{is_over, is_titled, beside_titled, beside_ended}
+use Rattle.radio_core.proofs.AllowedCommands.{is_opened, may_act, needs_hold}
 use Rattle.radio_core.proofs.ListingLemmas.{shown_long}
 use Rattle.radio_core.proofs.Lookups.{is_set, beside_set}
 use Rattle.radio_laws.specs.Walks.{FallsBack, ByTheSettings, ByACommand}
@@ -56,7 +57,7 @@ use Rattle.radio_core.specs.Step.{outcome, reply_to, world_after}
 use Rattle.radio_core.specs.Ways.{Way, Misplaced, IsFinished, IsDenied, IsRefused, IsAdmitted, Begins, ComesUp, Receives, SetsTitle, TakesSeat, HandsOut, Ends}
 use Rattle.radio_core.specs.Ways.{EndsAndLeaves, Leaves, GoesDown, Obeys, Shows, HasPassed, Ticks}
 use Rattle.radio_core.specs.World.{World, standing_of}
-use Rattle.radio_core.proofs.Obeyed.{needs_hold, may_act, is_opened, is_another, his_seat, has_been_killed, sits_no_more, beside_him, live, is_cut, named, turned, title_live, is_answered}
+use Rattle.radio_core.proofs.Obeyed.{is_another, his_seat, has_been_killed, sits_no_more, beside_him, live, is_cut, named, turned, title_live, is_answered}
 use Rattle.radio_core.proofs.SoundRuns.{sound_after}
 use Rattle.radio_core.proofs.Ways.{way_of}
 use Rattle.radio_laws.proofs.GoneLemmas.{last_rises}
@@ -102,20 +103,21 @@ pub one_of : (a b : Bool) → (a || b) ≡ true → (a ≡ true) ⊎ (b ≡ true
 one_of true b e = inl refl
 one_of false b e = inr e
 
+-- so it has a session
+is_found : (found : Option Session) → is_some found ≡ true → (session : Session) × (found ≡ Some session)
+is_found None e = cc
+is_found (Some session) e = (session, refl)
+
+pub lives_by : (w : World) (mount : List ℕ) → is_live w.house mount ≡ true → IsLive w mount
+lives_by w mount e = is_found (session_of w.house.live mount) e
+
 module _ (w : World) (s : IsSound w) (event : Event) where
   -- what it needs was there
-  is_found : (found : Option Session) → is_some found ≡ true → (session : Session) × (found ≡ Some session)
-  is_found None e = cc
-  is_found (Some session) e = (session, refl)
-
-  lives_by : (mount : List ℕ) → is_live w.house mount ≡ true → IsLive w mount
-  lives_by mount e = is_found (session_of w.house.live mount) e
-
   was_there : (command : TheCommand) (c : IsCommanded w event command) → IsThere w command
   was_there (MoveClients mount destination) c =
-      let both = may_go (is_live w.house mount) (is_live w.house destination) (bytes_eq mount destination) (needs_hold w s event c) in (
-        lives_by mount both.0,
-        lives_by destination both.1,
+      let both = may_go (is_live w.house mount) (is_live w.house destination) (bytes_eq mount destination) (needs_hold w event c) in (
+        lives_by w mount both.0,
+        lives_by w destination both.1,
         λ same.
             let one : bytes_eq mount destination ≡ true = (bytes_eq-Decides mount destination).1 same in
             let two : bytes_eq mount destination ≡ false = is_another w s event mount destination c in
@@ -123,11 +125,11 @@ module _ (w : World) (s : IsSound w) (event : Event) where
       )
   was_there (KillClient mount listener) c =
       let his = his_seat w s event mount listener c in
-      let live = lives_by mount (may_end (is_live w.house mount) (sits_at w.seats mount listener) (needs_hold w s event c)) in
+      let live = lives_by w mount (may_end (is_live w.house mount) (sits_at w.seats mount listener) (needs_hold w event c)) in
       (live, his.0, his.1, his.2)
-  was_there (KillSource mount) c = lives_by mount (may_act (is_live w.house mount) (needs_hold w s event c))
-  was_there (SetTitle mount text) c = lives_by mount (may_act (is_live w.house mount) (needs_hold w s event c))
-  was_there (SetFallback mount fallback) c = lives_by mount (may_act (is_live w.house mount) (needs_hold w s event c))
+  was_there (KillSource mount) c = lives_by w mount (may_act (is_live w.house mount) (needs_hold w event c))
+  was_there (SetTitle mount text) c = lives_by w mount (may_act (is_live w.house mount) (needs_hold w event c))
+  was_there (SetFallback mount fallback) c = lives_by w mount (may_act (is_live w.house mount) (needs_hold w event c))
 
   -- so who sent a login that may give it gave it by right
   given : (command : TheCommand) (c : IsCommanded w event command) (login : Login) (has : HasLogin login c.asked.pair) → MayGive w has.pair command
@@ -173,7 +175,7 @@ given_by w s event o (Shows _ asker peer shown its undecided what) text d short 
     let same : shown ≡ text = cc in absurd (shown_long w event shown what (subst IsShort (sym same) short))
 given_by w s event o (Obeys _ command c) text d short =
     by_right w s event command c (one_of (is_admin_pair w.house.settings c.asked.pair) (opens_as_source w.house.settings (opened_by command) c.asked.pair)
-    (is_opened w s event c))
+    (is_opened w event c))
 given_by w s event o (Misplaced _) text d short = cc
 given_by w s event o (IsFinished _ him by its known) text d short = cc
 given_by w s event o (IsDenied _ by v nobody) text d short = cc

@@ -42,9 +42,11 @@ use Rattle.radio_core.specs.Ways.{Way, Misplaced, IsFinished, IsDenied, IsRefuse
 use Rattle.radio_core.specs.Ways.{EndsAndLeaves, Leaves, GoesDown, Obeys, Shows, HasPassed, Ticks}
 use Rattle.radio_core.specs.World.{World, standing_of}
 use Rattle.radio_core.proofs.Standings.{asks, turns_answered}
+use Rattle.radio_core.proofs.AllowedCommands.{may_act, past_sent}
 use Rattle.radio_core.proofs.Ways.{way_of}
 use Rattle.radio_laws.specs.Shown.{IsTheRelays, MaySee, AsAnybody, AsARelay, AsTheAdmin, IsThereToSee, IsShownByRight, IsShownAtPath, OnlyWhoMayIsShown, WhoMayIsShown, Tells}
-use Rattle.radio_laws.proofs.CommandLaws.{login_sent, one_of}
+use Rattle.radio_laws.proofs.CommandLaws.{lives_by, login_sent, one_of}
+use Rattle.radio_laws.proofs.WalkLemmas.{both}
 use Rattle.radio_laws.proofs.CommandService.{is_its, or_true, lives, with_mount, judged, said_short}
 use Rattle.radio_laws.proofs.ListingRows.{tells}
 use Rattle.radio_laws.proofs.WebLaws.{shown_there}
@@ -55,11 +57,6 @@ record HasRelays (relays : RelayAccess) (sent : Option Credentials) : Type 0 whe
   pub is_sent : sent ≡ Some pair
   pub user : pair.user ≡ relays.username
   pub password : relays.password ≡ Some pair.password
-
-both : (a b : Bool) → (a && b) ≡ true → (a ≡ true) × (b ≡ true)
-both true true e = (refl, refl)
-both true false e = cc
-both false b e = cc
 
 relays_sent : (relays : RelayAccess) (sent : Option Credentials) → option_map_or (is_relays relays) sent false ≡ true → HasRelays relays sent
 relays_sent relays None e = cc
@@ -75,15 +72,6 @@ relays_sent relays (Some pair) e = by_password relays.password refl e where
         user = sym ((bytes_eq-Decides relays.username pair.user).0 parts.0);
         password = is ∙ ap (λ (p : List ℕ). Some p) ((bytes_eq-Decides password pair.password).0 parts.1);
       }
-
--- what the rows of an allowed listing say
-past : (rule : Rule) (sent : Bool) (rows : List Row) → verdict_in (row rule (not sent) ∷ rows) ≡ Allow → (sent ≡ true) × (verdict_in rows ≡ Allow)
-past rule true rows e = (refl, e)
-past rule false rows e = cc
-
-lives_by : (found : Option Session) → verdict_in (row NoMount (not (is_some found)) ∷ []) ≡ Allow → (session : Session) × (found ≡ Some session)
-lives_by None e = cc
-lives_by (Some session) e = (session, refl)
 
 module _ (w : World) where
   as_admin : (listing : Listing) (sent : Option Credentials) → is_admin_pair w.house.settings sent ≡ true → MaySee w listing sent
@@ -104,15 +92,15 @@ module _ (w : World) where
   may_see : (listing : Listing) (sent : Option Credentials) → verdict_in (command_rows (facts_asked w (AsksFor listing) sent)) ≡ Allow
       → MaySee w listing sent × IsThereToSee w listing
   may_see Status sent e = (AsAnybody sent, tt)
-  may_see Stats sent e = (as_admin Stats sent (past AdminPassword (is_admin_pair w.house.settings sent) [] e).0, tt)
-  may_see Mounts sent e = (as_admin Mounts sent (past AdminPassword (is_admin_pair w.house.settings sent) [] e).0, tt)
+  may_see Stats sent e = (as_admin Stats sent (past_sent AdminPassword (is_admin_pair w.house.settings sent) [] e).0, tt)
+  may_see Mounts sent e = (as_admin Mounts sent (past_sent AdminPassword (is_admin_pair w.house.settings sent) [] e).0, tt)
   may_see (Clients mount) sent e =
-      let parts = past AdminPassword (is_admin_pair w.house.settings sent) (row NoMount (not (is_live w.house mount)) ∷ []) e in
-      (as_admin (Clients mount) sent parts.0, lives_by (session_of w.house.live mount) parts.1)
+      let parts = past_sent AdminPassword (is_admin_pair w.house.settings sent) (row NoMount (not (is_live w.house mount)) ∷ []) e in
+      (as_admin (Clients mount) sent parts.0, lives_by w mount (may_act (is_live w.house mount) parts.1))
   may_see Streams sent e = (
     as_either sent
         (one_of (is_admin_pair w.house.settings sent) (is_relay_pair w.house.settings sent)
-        (past RelayPassword (is_admin_pair w.house.settings sent || is_relay_pair w.house.settings sent) [] e).0),
+        (past_sent RelayPassword (is_admin_pair w.house.settings sent || is_relay_pair w.house.settings sent) [] e).0),
     tt,
   )
 

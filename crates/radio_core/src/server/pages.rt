@@ -74,10 +74,6 @@ impl State {
             base_url: Shown::of(base.as_slice()),
         };
         let rows = self.mount_rows()?;
-        Ok(Bytes::from_vec(icecast_status(
-            self.alloc,
-            &server,
-            rows.as_slice(),
-        )?)?)
+        Ok(Bytes::from_vec(icecast_status(self.alloc, &server, rows.as_slice())?)?)
     }
 }
