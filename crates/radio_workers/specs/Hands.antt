@@ -1,0 +1,11 @@
+-- What a pass of an intake tells behind a worker's time, or that of all.
+use Rattle.std.specs.Prelude.{◌≡◌, List, ◌++◌}
+use Rattle.radio_intake.specs.Passes.{Told}
+
+-- the pass is of the same intake, with the same parts; nothing was put through it, and what was taken through it stands behind what was before
+pub record HasTakenMore {L : Type 0} (before now : Told L) : Type 0 where
+  pub intake : now.intake ≡ before.intake
+  pub parts : now.parts ≡ before.parts
+  pub put : now.put ≡ before.put
+  pub more : List L
+  pub taken : now.taken ≡ before.taken ++ more

@@ -1,0 +1,45 @@
+//! Where a worker's turns come from.
+
+use radio_addr::Peer;
+use radio_hall::{Line, Turn};
+use radio_notes::Log;
+
+/// What a worker is told before a turn.
+#[derive(Clone, Copy)]
+pub struct Call {
+    /// What the turn is told of.
+    pub turn: Turn,
+    /// How many of the connections that wait he takes before it, at most.
+    pub comings: usize,
+}
+
+/// What a worker tells after a turn.
+#[derive(Clone, Copy)]
+pub struct Seen {
+    /// Whether listeners may have news by what was done in this turn, whichever worker serves them.
+    pub news: bool,
+    /// Whether somebody has drawn all that he had room for, so that there may be more for him.
+    pub more: bool,
+    /// How many connections the worker has.
+    pub connections: usize,
+    /// Whether one of them is a listener's.
+    pub has_listeners: bool,
+    /// Whether fewer are left than there were before the turn.
+    pub has_closed: bool,
+}
+
+/// Where a worker's turns and lines come from: of connections, that wait as `T`, each becomes an `L`.
+pub trait Post<T, L: Line>: Drop {
+    /// Waits until there is something to do. What the next turn is told; `None` where he is to stop. The log is to be told
+    /// the moment.
+    fn next(&mut self, log: &Log) -> Option<Call>;
+
+    /// The line of a connection that was taken, and its peer. `None` where it can't be served: it is closed then.
+    fn open(&mut self, coming: T) -> Option<(L, Peer)>;
+
+    /// How many connections may linger, where so many do: of more, the oldest are closed.
+    fn most_lingering(&mut self, lingering: usize) -> usize;
+
+    /// A turn is over, and this came of it. The lines of the log that wait are to be taken.
+    fn note(&mut self, seen: Seen, log: &Log);
+}

@@ -1,0 +1,50 @@
+//! All workers, each in a thread.
+
+ghost use Rattle.std.specs.Prelude.{◌≡◌, ◌<◌, ℕ, length, All, slice_index_or};
+ghost use Rattle.radio_workers.specs.Hands.{HasTakenMore};
+
+use crate::shift::work;
+use crate::{Post, Seat, Workplace};
+use radio_book::{Chronicle, House};
+use radio_hall::{Gate, Line};
+use std::alloc::Global;
+use std::sync::Wait;
+use std::thread::{Threads, for_each_mut};
+
+/// Runs a worker at each seat, in a thread of its own, and joins them all. Each takes connections from the intake, as his
+/// post calls him to, and serves his own; at his end all who are still here leave, and are closed.
+///
+/// Nothing here asks for memory, and no memory that is refused to a worker ends him. One for whom no thread can be had is
+/// left out as long as others work.
+pub fn run_workers<R, C, H, T, L, P, G>(
+    rt: &R,
+    alloc: Global,
+    place: &Workplace<'_, C, H, T, G>,
+    seats: &mut [Seat<C, H, T, P>],
+)
+where
+    R: Threads + Wait + Sync,
+    C: Chronicle + Send + Sync,
+    H: House + Send + Sync,
+    T: Send + Drop,
+    L: Line + Send,
+    P: Post<T, L> + Send,
+    G: Gate + Sync,
+    requires own { All (λ seat. seat.hand.intake ≡ place.now.intake.now) seats.old }
+    // each pass of the intake has its parts, and tells behind what it told what was taken at its seat
+    ensures hands { (i : ℕ) (d : _) → i < length seats.old → HasTakenMore (slice_index_or seats.old i d).hand (slice_index_or seats.new i d).hand }
+{
+    let count = seats.len();
+    if count == 0 {
+        return;
+    }
+    for_each_mut(
+        rt,
+        seats,
+        count,
+        &|_, seat|
+            requires { seat.now.hand.intake ≡ place.now.intake.now }
+            ensures { HasTakenMore seat.entry.now.hand seat.exit.now.hand }
+        { work::<R, C, H, T, L, P, G>(rt, alloc, place, seat) },
+    );
+}

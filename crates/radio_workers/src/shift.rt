@@ -1,0 +1,131 @@
+//! One worker, at his seat.
+
+ghost use Rattle.std.specs.Prelude.{◌≡◌};
+ghost use Rattle.radio_workers.specs.Hands.{HasTakenMore};
+
+use crate::leaving::leave_all;
+use crate::{Call, Post, Seat, Seen, Workplace};
+use radio_book::{Chronicle, House};
+use radio_hall::{
+    Caller, Conn, Gate, Line, Server, Watched, Worker, close_first_lingering, count_lingering,
+};
+use radio_intake::{Intake, IntakePass};
+use std::alloc::Global;
+use std::sync::Wait;
+
+/// A worker and his connections.
+#[derive(Drop)]
+struct Shift<S: Server + Drop, L: Line> {
+    worker: Worker<Watched<S>>,
+    conns: Vec<Conn<L>>,
+}
+
+/// Works at this seat, turn after turn, until his post tells him to stop, or he has made all turns. Then all of his
+/// clients leave, and their connections are closed.
+pub(crate) fn work<R: Wait, C: Chronicle, H: House, T: Drop, L: Line, P: Post<T, L>, G: Gate>(
+    rt: &R,
+    alloc: Global,
+    place: &Workplace<'_, C, H, T, G>,
+    seat: &mut Seat<C, H, T, P>,
+)
+    requires own { seat.old.hand.intake ≡ place.now.intake.now }
+    ensures taken { HasTakenMore seat.old.hand seat.new.hand }
+{
+    let Some(pass) = seat.pass.take() else {
+        return;
+    };
+    let server = Watched::new(alloc, Caller::new(rt, place.hall, pass));
+    let mut shift: Shift<Caller<'_, R, C, H>, L> = Shift {
+        worker: Worker::new(alloc, server, place.patience_s),
+        conns: Vec::new(alloc),
+    };
+    shift.make_turns(rt, place, &mut seat.post, &mut seat.hand);
+    seat.pass = Some(shift.end().into_pass());
+}
+
+impl<S: Server + Drop, L: Line> Shift<S, L> {
+    /// Turn after turn, as long as the post goes on.
+    #[tactic(auto, using(crate::proofs::Takings::taken_none, crate::proofs::Takings::taken_one, crate::proofs::Takings::taken_then))]
+    fn make_turns<R: Wait, C: Chronicle, H: House, T: Drop, P: Post<T, L>, G: Gate>(
+        &mut self,
+        rt: &R,
+        place: &Workplace<'_, C, H, T, G>,
+        post: &mut P,
+        hand: &mut IntakePass<T>,
+    )
+        requires own { hand.old.intake ≡ place.now.intake.now }
+        ensures taken { HasTakenMore hand.old hand.new }
+    {
+        'turns: for _ in 0..place.turns {
+            let Some(call) = post.next(self.worker.log()) else {
+                return;
+            };
+            self.take_in(rt, place.intake, post, hand, call);
+            self.make_turn(place.gate, post, call);
+        }
+    }
+
+    /// Takes in of those who wait as many as he is called to.
+    #[tactic(auto, using(crate::proofs::Takings::taken_none, crate::proofs::Takings::taken_one, crate::proofs::Takings::taken_then))]
+    fn take_in<R: Wait, T: Drop, P: Post<T, L>>(
+        &mut self,
+        rt: &R,
+        intake: &Intake<T>,
+        post: &mut P,
+        hand: &mut IntakePass<T>,
+        call: Call,
+    )
+        requires own { hand.old.intake ≡ intake.now }
+        ensures taken { HasTakenMore hand.old hand.new }
+    {
+        'comings: for _ in 0..call.comings {
+            let Some(coming) = intake.take(rt, hand) else {
+                return;
+            };
+            self.admit(post, coming, call.turn.ms);
+        }
+    }
+
+    /// Takes one in. Who can't be served, or is refused memory, has had his line closed.
+    fn admit<T, P: Post<T, L>>(&mut self, post: &mut P, coming: T, ms: u64) {
+        if let Some((line, peer)) = post.open(coming) {
+            let _ = self.worker.admit(&mut self.conns, line, peer, ms);
+        }
+    }
+
+    /// Serves each connection once, closes those who linger too long, and tells what came of it.
+    fn make_turn<T, P: Post<T, L>, G: Gate>(&mut self, gate: &G, post: &mut P, call: Call) {
+        let before = self.conns.len();
+        self.worker.serve_turn(&mut self.conns, gate, call.turn);
+        self.close_oldest(post);
+        let seen = Seen {
+            news: self.worker.server().take_news(),
+            more: self.worker.server().take_more(),
+            connections: self.conns.len(),
+            has_listeners: has_listeners(self.conns.as_slice()),
+            has_closed: self.conns.len() < before,
+        };
+        post.note(seen, self.worker.log());
+    }
+
+    /// Closes the oldest of those who linger, if they are too many.
+    fn close_oldest<T, P: Post<T, L>>(&mut self, post: &mut P) {
+        let count = count_lingering(self.conns.as_slice());
+        'oldest: for _ in post.most_lingering(count)..count {
+            close_first_lingering(&mut self.conns);
+        }
+    }
+
+    /// All who are here leave, and their connections are closed.
+    fn end(self) -> S {
+        let mut server = self.worker.into_server();
+        leave_all(&mut server, self.conns.as_slice());
+        drop(self.conns);
+        server.into_server()
+    }
+}
+
+/// Whether one of them has a seat.
+fn has_listeners<L: Line>(conns: &[Conn<L>]) -> bool {
+    conns.iter().any(|conn| conn.status().sits)
+}

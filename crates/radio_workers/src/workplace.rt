@@ -1,0 +1,60 @@
+//! What workers share, and what each has.
+
+ghost use Rattle.std.specs.Prelude.{◌≡◌, ◌-◌, ◌<◌, All, OnOk, OnErr};
+
+use crate::OutOfMemory;
+use radio_book::{Chronicle, House, Pass};
+use radio_hall::{Gate, Hall};
+use radio_intake::{Intake, IntakePass};
+
+/// What all workers share.
+#[derive(Drop)]
+pub struct Workplace<'a, C: Chronicle, H: House, T, G: Gate> {
+    /// The house whose connections they serve.
+    pub hall: &'a Hall<C, H>,
+    /// Where they take connections from.
+    pub intake: &'a Intake<T>,
+    /// Whom each tells of his writes.
+    pub gate: &'a G,
+    /// For how many seconds a line is kept that takes nothing of what it is owed.
+    pub patience_s: u32,
+    /// How many turns each makes at most.
+    pub turns: u64,
+}
+
+/// What one worker has.
+#[derive(Drop)]
+pub struct Seat<C: Chronicle, H: House, T: Drop, P: Drop> {
+    /// A pass of the hall. It has the receipts of all that was applied at this seat, once the worker has ended.
+    pub pass: Option<Pass<C, H>>,
+    /// A pass of the intake.
+    pub hand: IntakePass<T>,
+    /// Where his turns come from.
+    pub post: P,
+}
+
+/// Adds a seat with this pass of the hall, this post, and one part of the intake from those of `hand`. `OutOfMemory` where
+/// memory was refused: no part was taken then, and the seats are as they were.
+pub fn add_seat<C: Chronicle, H: House, T: Drop, P: Drop>(
+    seats: &mut Vec<Seat<C, H, T, P>>,
+    intake: &Intake<T>,
+    hand: &mut IntakePass<T>,
+    pass: Option<Pass<C, H>>,
+    post: P,
+) -> Result<(), OutOfMemory>
+    requires own { hand.old.intake ≡ intake.now }
+    requires parts { 1 < hand.old.parts }
+    ensures part { OnOk result (hand.new ≡ record hand.old { parts = hand.old.parts - 1 }) }
+    ensures seats { All (λ seat. seat.hand.intake ≡ intake.now) seats.old.items → OnOk result (All (λ seat. seat.hand.intake ≡ intake.now) seats.new.items) }
+    ensures whole { OnErr result (hand.new ≡ hand.old) }
+    ensures same { OnErr result (seats.new.items ≡ seats.old.items) }
+{
+    seats.reserve(1)?;
+    let own = intake.split(hand);
+    seats.push_reserved(Seat {
+        pass,
+        hand: own,
+        post,
+    });
+    Ok(())
+}
