@@ -2,14 +2,9 @@
 use Rattle.std.specs.Prelude.{◌≡◌, ℕ, ◌+◌, List, [], ◌∷◌, sum_by}
 use Rattle.radio_core.specs.World.{World}
 use Rattle.radio_core.specs.Step.{world_after}
-use Rattle.radio_core.specs.Totals.{numbers_given as numbers_by, arrivals, departures, relays_up, relays_down, seatings, listeners_leaving}
-use Rattle.radio_core.specs.Totals.{clients_there, relays_there, seats_there, seats_lost}
+use Rattle.radio_core.specs.Totals.{arrivals, departures, relays_up, relays_down, seatings, listeners_leaving, clients_there, relays_there, seats_there, seats_lost}
 use Rattle.radio_book.specs.declared.entry.Entry.{Entry}
 use Rattle.radio_book.specs.History.{world_of}
-
--- how many numbers were given, to clients and to relays
-abbrev pub numbers_given : List Entry → ℕ
-numbers_given history = sum_by (λ e. numbers_by e.reply) history
 
 -- how many clients have come, and how many have left
 abbrev pub clients_come : List Entry → ℕ
@@ -39,11 +34,11 @@ abbrev pub seats_ended : World → List Entry → ℕ
 seats_ended opening history = seats_lost (world_of opening history) + listeners_left opening history
 
 pub record AddsUp (opening : World) (history : List Entry) : Type 0 where
-  -- numbers are given one after another, from 1 on
-  pub numbers : numbers_given history ≡ (world_of opening history).house.last_id
+  -- numbers are given one after another, from 1 on, to clients and to relays
+  pub numbers : clients_come history + relays_come history ≡ (world_of opening history).house.last_id
   -- the clients who have come are there, or have left
   pub clients : clients_come history ≡ clients_there (world_of opening history) + clients_left history
-  -- and so it is with relays
+  -- the relays that have come up are there, or have gone down
   pub relays : relays_come history ≡ relays_there (world_of opening history) + relays_gone history
   -- the seats that were made are there, or have ended
   pub seats : seats_made history ≡ seats_there (world_of opening history) + seats_ended opening history

@@ -1,15 +1,11 @@
 -- how each client fares where a command is done
-use Rattle.std.proofs.Common.{◌≡◌, Bool, true, false, ℕ, ◌==◌, Option, Some, None, is_some, List, [], ◌∷◌, refl, ap, sym, subst, ◌∙◌, arith}
-use Rattle.std.specs.Prelude.{not}
+use Rattle.std.proofs.Common.{◌≡◌, true, false, ℕ, ◌==◌, Option, Some, None, is_some, List, refl, ap, sym, subst, ◌∙◌, arith}
 use Rattle.std.specs.Option.{option_map_or}
 use Rattle.std.specs.Str.{bytes_eq}
 use Rattle.std.proofs.lemmas.Bool.Decides.{nat_tests}
 use Rattle.std.proofs.lemmas.Slice.Eq.{bytes_eq-Decides}
-use Rattle.radio_policy.specs.declared.rule.Rule.{Rule}
-use Rattle.radio_policy.specs.declared.rule.Rule.TheVariants.{NoMount, NoDestination, SameMount, NoClient, Killed, SourceKilled}
-use Rattle.radio_policy.specs.declared.judgement.Verdict.TheVariants.{Allow}
-use Rattle.radio_policy.specs.Table.{Row, row, needs_rows, password_rule, command_rows}
-use Rattle.radio_policy.specs.Verdicts.{verdict_in}
+use Rattle.radio_policy.specs.declared.rule.Rule.TheVariants.{Killed, SourceKilled}
+use Rattle.radio_policy.specs.Table.{row}
 use Rattle.radio_tables.proofs.FindLaws.{find_same, find_apart}
 use Rattle.radio_tables.proofs.KeyLaws.{by_number, by_name}
 use Rattle.radio_seats.specs.declared.seat.Listener.{Listener}
@@ -20,7 +16,6 @@ use Rattle.radio_seats.specs.Seats.{is_listener, listener_of, seat_of, seat_in, 
 use Rattle.radio_fallback.specs.declared.moves.Move.TheVariants.{Ended as SessionEnds, To}
 use Rattle.radio_fallback.specs.Carry.{at_his_turn}
 use Rattle.radio_fallback.proofs.Faring.{goes_there, never_out_there}
-use Rattle.radio_events.specs.declared.command.Asked.{Asked}
 use Rattle.radio_events.specs.declared.command.Command.{Command}
 use Rattle.radio_events.specs.declared.command.Command.TheVariants.{MoveClients, KillClient, KillSource, SetTitle, SetFallback}
 use Rattle.radio_events.specs.declared.event.Event.{Event}
@@ -31,7 +26,7 @@ use Rattle.radio_core.specs.declared.standing.Standing.TheVariants.{Unknown, Und
 use Rattle.radio_core.specs.Changes.{answered, changed, session_over, session_ended, session_ended_by, session_killed}
 use Rattle.radio_core.specs.Clients.{client_of}
 use Rattle.radio_core.specs.Relays.{relay_of}
-use Rattle.radio_core.specs.CommandFacts.{IsCommanded, is_live, sits_at, facts_asked, needs_of, opened_by, opener_in, opens}
+use Rattle.radio_core.specs.CommandFacts.{IsCommanded, is_live, sits_at, opens}
 use Rattle.radio_core.specs.Facts.{sight_of}
 use Rattle.radio_core.specs.Finishes.{Cause, SessionIsOver, IsKilled, HisSessionIsKilled}
 use Rattle.radio_core.specs.Moves.{TakesTo, ByKilling, ByMoving}

@@ -94,6 +94,11 @@ pub opening_represents : (settings : Settings) (lists : Lists) → Represents (o
 unfolding Represents
 opening_represents settings lists = record { shows = refl; rise = tt; kept = λ id seat session e f. cc; sound = sound_opening settings lists }
 
+-- a core has the settings of whatever state it stands for
+pub keeps_settings : (core w : World) → Represents core w → core.house.settings ≡ w.house.settings
+unfolding Represents
+keeps_settings core w stands = ap (λ (x : World). x.house.settings) stands.shows
+
 pub opening_stands : (settings : Settings) (lists : Lists) → StandsForSome (opening settings lists)
 unfolding StandsForSome
 opening_stands settings lists = (opening settings lists, opening_represents settings lists)

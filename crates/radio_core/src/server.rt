@@ -79,6 +79,14 @@ impl Core {
         let _ = &self.state;
     }
 
+    /// The settings that it was given.
+    pub fn settings(&self) -> &Settings
+        // they are those of whatever state it stands for
+        ensures { (w : World) → Represents self.now w → result.now ≡ w.house.settings }
+    {
+        self.state.settings()
+    }
+
     /// One event. `OutOfMemory` where memory was refused; nothing has changed then.
     pub fn step(&mut self, event: Event) -> Result<Reply, OutOfMemory>
         // whatever state the core stands for, the reply is that of a step from it, and the core stands for the state after it

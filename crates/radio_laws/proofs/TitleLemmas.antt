@@ -29,8 +29,7 @@ use Rattle.radio_core.specs.Command.{obeys as obeys_it}
 use Rattle.radio_events.specs.declared.text.Text.{Text}
 use Rattle.radio_events.specs.declared.text.Text.TheVariants.{Done, Moved, Json, Streams, Public, Page}
 use Rattle.radio_events.specs.Texts.{IsShort}
-use Rattle.radio_core.specs.Command.{shows}
-use Rattle.radio_core.specs.CommandFacts.{IsListed, IsCommanded}
+use Rattle.radio_core.specs.CommandFacts.{IsCommanded}
 use Rattle.radio_core.specs.Handing.{is_number, of_client}
 use Rattle.radio_core.specs.Run.{world_after_all, run_after}
 use Rattle.radio_parts.specs.Sessions.{Session, session_of, without_session}

@@ -1,11 +1,9 @@
 -- what is shown at the paths of the web site
-use Rattle.std.proofs.Common.{◌≡◌, ◌⊎◌, inl, inr, ◌&&◌, Bool, true, false, not, ℕ, ◌++◌, Option, Some, None, is_some, List, [], ◌∷◌, refl, ap, sym, subst, ◌∙◌, if◌then◌else◌}
-use Rattle.std.specs.Prelude.{codes, map}
+use Rattle.std.proofs.Common.{◌≡◌, ◌⊎◌, inl, inr, ◌&&◌, Bool, true, false, not, ℕ, Option, Some, None, is_some, List, refl, ap, sym, subst, ◌∙◌, if◌then◌else◌}
+use Rattle.std.specs.Prelude.{codes}
 use Rattle.std.specs.Str.{bytes_eq}
-use Rattle.std.specs.Str.Lossy.{utf8_lossy}
 use Rattle.std.proofs.lemmas.Slice.Eq.{bytes_eq-Decides}
 use Rattle.radio_policy.specs.declared.rule.Rule.TheVariants.{BadMount}
-use Rattle.radio_policy.specs.declared.judgement.Verdict.TheVariants.{Deny as Denied}
 use Rattle.radio_policy.specs.Table.{source_rows}
 use Rattle.radio_policy.specs.Verdicts.{verdict_in}
 use Rattle.radio_addr.specs.declared.peer.Peer.{Peer}
@@ -14,20 +12,18 @@ use Rattle.radio_settings.specs.Web.{web_path}
 use Rattle.radio_settings.specs.declared.web.WebPath.{WebPath}
 use Rattle.radio_settings.specs.declared.web.WebPath.TheVariants.{IcecastStatus, Page as AtPage}
 use Rattle.radio_settings.specs.declared.web.WebSettings.{WebSettings}
-use Rattle.radio_listing.specs.declared.rows.MountRow.{MountRow}
 use Rattle.radio_events.specs.declared.event.Event.{Event}
-use Rattle.radio_events.specs.declared.event.Event.TheVariants.{Source, Listen}
+use Rattle.radio_events.specs.declared.event.Event.TheVariants.{Listen}
 use Rattle.radio_events.specs.declared.event.ListenRequest.{ListenRequest}
 use Rattle.radio_events.specs.declared.event.SourceRequest.{SourceRequest}
 use Rattle.radio_events.specs.declared.reply.Reply.TheVariants.{Text as SaysText, Deny}
 use Rattle.radio_events.specs.declared.text.Text.{Text}
-use Rattle.radio_core.specs.declared.outcome.Change.{Change}
 use Rattle.radio_core.specs.declared.outcome.Change.TheVariants.{Answer}
 use Rattle.radio_core.specs.declared.outcome.Outcome.{Outcome}
 use Rattle.radio_core.specs.declared.standing.Standing.{Standing}
 use Rattle.radio_core.specs.declared.standing.Standing.TheVariants.{Undecided, Answered}
 use Rattle.radio_core.specs.Changes.{changed}
-use Rattle.radio_core.specs.Facts.{names_mount, source_facts_at, rows_to_feed}
+use Rattle.radio_core.specs.Facts.{names_mount, source_facts_at}
 use Rattle.radio_core.specs.Listings.{mount_rows}
 use Rattle.radio_core.specs.Outcomes.{says, if_undecided, on_verdict}
 use Rattle.radio_core.specs.Pages.{asks_by, page_at, server_as, shows_page}

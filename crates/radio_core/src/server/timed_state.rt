@@ -62,6 +62,13 @@ impl TimedState {
         }
     }
 
+    /// The settings.
+    pub(super) fn settings(&self) -> &Settings
+        ensures { result.now ≡ self.now.house.settings }
+    {
+        &self.state.house.settings
+    }
+
     /// What comes of an event, before its change is made. `OutOfMemory` where memory was refused.
     pub(super) fn outcome(&self, event: Event) -> Result<Outcome, OutOfMemory>
         requires { StandsForSome self.now }
