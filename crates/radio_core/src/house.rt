@@ -5,9 +5,9 @@ ghost use Rattle.std.specs.Cmp.Lexicographic.{slice_cmp};
 ghost use Rattle.std.specs.List.Sorted.{IsStrictlySortedBy};
 ghost use Rattle.std.specs.Option.{option_copied, option_map};
 ghost use Rattle.std.specs.Ordering.{nat_cmp};
-ghost use Rattle.radio_parts.specs.Sessions.{Session as SessionOf, session_of};
+ghost use Rattle.radio_parts.specs.Sessions.{Session as SessionOf, session_of, with_session};
 ghost use Rattle.radio_core.specs.Facts.{live_end, live_number};
-ghost use Rattle.radio_core.specs.Relays.{Relay as RelayOf, relay_of, put_back};
+ghost use Rattle.radio_core.specs.Relays.{Relay as RelayOf, relay_of, risen, with_relay, put_back};
 ghost use Rattle.radio_core.specs.Source.{shown_for};
 ghost use Rattle.radio_core.specs.Changes.{now_in_state, admitted, begun, raised, finished_in, retitled, falling_back, timed_out_by};
 ghost use Rattle.radio_core.specs.KeptChanges.{kept_received};
@@ -143,6 +143,25 @@ impl House {
         ensures err { OnErr result (self.new ≡ self.old) }
     {
         let session = Session::new(alloc, mount, id, shown, self.time)?;
+        self.insert_both(id, mount, session)?;
+        self.last_id = id;
+        Ok(())
+    }
+
+    /// One relay more, which feeds the mount, and one session. `OutOfMemory` where memory was refused
+    /// for either; nothing has changed then.
+    fn insert_both(
+        &mut self,
+        id: u64,
+        mount: MountName,
+        session: Session,
+    ) -> Result<(), OutOfMemory>
+        ensures ok { OnOk result (self.new ≡ record self.old {
+          live = with_session self.old.live session;
+          relays = with_relay self.old.relays (risen id mount);
+        }) }
+        ensures err { OnErr result (self.new ≡ self.old) }
+    {
         let before = self.relay_state(id);
         // their numbers rise, so that what is put back is what was there
         let _relays = self.relays.len();
@@ -151,10 +170,7 @@ impl House {
             state: RelayState::Feeds(mount),
         })?;
         match self.live.insert(session) {
-            Ok(()) => {
-                self.last_id = id;
-                Ok(())
-            }
+            Ok(()) => Ok(()),
             Err(refused) => {
                 self.put_relay_back(id, before);
                 Err(refused)

@@ -3,7 +3,7 @@ use Rattle.radio_parts.specs.Sessions.{Session}
 use Rattle.radio_core.specs.declared.relays.RelayState.{RelayState}
 use Rattle.radio_core.specs.Relays.{Relay, risen, with_relay, put_back}
 use Rattle.radio_core.proofs.RelayRows.{restored}
-use Rattle.radio_core.proofs.house.House.raise.Goals as goal
+use Rattle.radio_core.proofs.house.House.insert_both.Goals as goal
 
 pub returns-in-Err-clause-err : goal.returns-in-Err-clause-err
 returns-in-Err-clause-err c =
