@@ -11,7 +11,7 @@ use Rattle.radio_heads.specs.declared.outcome.HeadFault.{HeadFault}
 use Rattle.radio_heads.specs.Head.{RequestParts}
 use Rattle.radio_policy.specs.declared.rule.Rule.TheVariants.{BadMethod}
 use Rattle.radio_events.specs.declared.event.Event.{Event}
-use Rattle.radio_events.specs.declared.event.Event.TheVariants.{Arrive, Draw, Title, Leave, RelayDown, Clock}
+use Rattle.radio_events.specs.declared.event.Event.TheVariants.{Arrive, Draw, Title, Leave, Clock}
 use Rattle.radio_core.specs.Run.{world_after_all}
 use Rattle.radio_core.specs.Step.{reply_to, world_after}
 use Rattle.radio_core.specs.World.{World}

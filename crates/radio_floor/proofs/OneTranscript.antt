@@ -1,6 +1,5 @@
 -- Each delivery comes to one thing.
 use Rattle.std.proofs.Common.{◌≡◌, ℕ, Option, None, Some, ap, sym, ◌∙◌}
-use Rattle.std.specs.Option.{option_map}
 use Rattle.radio_script.specs.declared.delivery.Delivery.{Delivery}
 use Rattle.radio_script.specs.declared.delivery.Delivery.TheVariants.{Open, Pull, To, Clock}
 use Rattle.radio_script.specs.declared.delivery.Input.{Input}

@@ -11,11 +11,10 @@ use Rattle.radio_core.specs.Step.{Step, world_after}
 use Rattle.radio_core.specs.World.{World}
 use Rattle.radio_relay.specs.declared.items.PullItem.{PullItem}
 use Rattle.radio_relay.specs.declared.items.PullItem.TheVariants.{Up, Sound, Title as Named}
-use Rattle.radio_relay.specs.Items.{items_of}
 use Rattle.radio_relay.specs.Pulled.{GoesOn, Standing as AnswerStanding, Stops}
 use Rattle.radio_session.specs.declared.state.State.{State}
 use Rattle.radio_session.specs.declared.state.State.TheVariants.{Running, Shut}
-use Rattle.radio_pull.specs.Pulling.{Pulling, Standing, answered, event_for, event_of}
+use Rattle.radio_pull.specs.Pulling.{Pulling, Standing, answered, event_of}
 use Rattle.radio_pull.specs.Course.{Asks, AsksIf, Brings, ComesOf, Follows, GoesDown, GoesDownIfShut, Onwards}
 use Rattle.radio_floor.specs.ScriptEvents.{ComeAbout, MayHave}
 

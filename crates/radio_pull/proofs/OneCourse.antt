@@ -1,9 +1,8 @@
 -- What comes to a pull comes to one thing.
-use Rattle.std.proofs.Common.{◌≡◌, ℕ, List, [], ◌∷◌, ◌++◌, Option, None, Some, refl, sym, ap, subst, ◌∙◌}
+use Rattle.std.proofs.Common.{◌≡◌, ℕ, List, [], ◌∷◌, ◌++◌, Option, None, Some, sym, ap, subst, ◌∙◌}
 use Rattle.radio_events.specs.declared.event.Event.{Event}
-use Rattle.radio_events.specs.declared.reply.Reply.{Reply}
 use Rattle.radio_core.specs.World.{World}
-use Rattle.radio_core.specs.Step.{Step, reply_to, world_after}
+use Rattle.radio_core.specs.Step.{Step}
 use Rattle.radio_relay.specs.declared.items.PullItem.{PullItem}
 use Rattle.radio_relay.specs.declared.pull.Stage.{Stage}
 use Rattle.radio_relay.specs.declared.pull.Stage.TheVariants.{Head, Behind, Over}
@@ -13,7 +12,7 @@ use Rattle.radio_relay.specs.Pulled.{GoesOn, IsPulledAt, Pulled, Standing as Ans
 use Rattle.radio_session.specs.declared.state.State.{State}
 use Rattle.radio_session.specs.declared.state.State.TheVariants.{Running, Shut}
 use Rattle.radio_pull.specs.Pulling.{Pulling, Standing, answered, event_for}
-use Rattle.radio_pull.specs.Course.{Asks, AsksIf, Brings, ComesOf, Follows, GoesDown, GoesDownIfShut, Onwards, Takes}
+use Rattle.radio_pull.specs.Course.{Asks, Brings, ComesOf, Follows, GoesDownIfShut, Onwards}
 use Rattle.radio_pull.specs.Laws.{AskingIsOne, GoingDownIsOne, TakingIsOne}
 
 pub going_down_is_one : GoingDownIsOne

@@ -7,7 +7,7 @@ use Rattle.radio_core.specs.World.{World}
 use Rattle.radio_core.specs.Step.{Represents, Step}
 use Rattle.radio_relay.specs.declared.items.PullItem.{PullItem}
 use Rattle.radio_relay.specs.Items.{items_of}
-use Rattle.radio_relay.specs.Pulled.{GoesOn, IsPulledAt, Pulled, Standing as AnswerStanding, Stops}
+use Rattle.radio_relay.specs.Pulled.{GoesOn, Standing as AnswerStanding, Stops}
 use Rattle.radio_session.specs.declared.state.State.{State}
 use Rattle.radio_session.specs.declared.state.State.TheVariants.{Running, Shut}
 use Rattle.radio_session.specs.Exchanges.{Steps, core_steps}

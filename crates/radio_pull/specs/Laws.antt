@@ -4,7 +4,7 @@ use Rattle.radio_events.specs.declared.event.Event.{Event}
 use Rattle.radio_core.specs.World.{World}
 use Rattle.radio_core.specs.Step.{Represents, Step}
 use Rattle.radio_session.specs.declared.state.State.{State}
-use Rattle.radio_session.specs.Exchanges.{Steps, core_steps}
+use Rattle.radio_session.specs.Exchanges.{core_steps}
 use Rattle.radio_pull.specs.Pulling.{Pulling, Standing}
 use Rattle.radio_pull.specs.Course.{AsksIf, GoesDown, Takes}
 

@@ -44,8 +44,8 @@ impl error::Error for PlayFault {}
 /// Why a list of deliveries was not performed to its end.
 #[derive(Clone, Copy, Debug, PartialEq, Eq, Error)]
 pub enum RunFault {
-    /// A delivery opens a label twice or names one that was not opened. Deliveries are counted
-    /// from 1.
+    /// A delivery opens a label twice, names one that was not opened, or pulls for a mount that no
+    /// relay feeds. Deliveries are counted from 1.
     #[error("delivery {number}")]
     Delivery { number: usize },
     /// Memory ran out.
@@ -56,8 +56,8 @@ pub enum RunFault {
 /// Why a delivery was not performed.
 #[derive(Clone, Copy, Debug, PartialEq, Eq, Error)]
 pub enum PerformFault {
-    /// It opens a label twice or names one that was not opened.
-    #[error("a label that was not opened, or was opened twice")]
+    /// It opens a label twice, names one that was not opened, or pulls for a mount that no relay feeds.
+    #[error("a label that was not opened, or was opened twice, or a mount that no relay feeds")]
     Label,
     /// Memory ran out.
     #[error("out of memory")]

@@ -15,9 +15,10 @@ pub trait Performer {
     ghost performs: { Conduct Self };
 
     /// Performs a delivery, and adds what it comes to to the lines of the transcript. It is
-    /// refused with `Label` where the label was not opened or is opened twice, and with
-    /// `OutOfMemory`, and for nothing else. Of the lines after an `Err`, and of the performer
-    /// after `OutOfMemory`, nothing is said: the script ends there.
+    /// refused with `Label` where the label was not opened or is opened twice, or no relay feeds
+    /// the mount that it pulls for, and with `OutOfMemory`, and for nothing else. Of the lines
+    /// after an `Err`, and of the performer after `OutOfMemory`, nothing is said: the script ends
+    /// there.
     fn perform(
         &mut self,
         alloc: Global,
