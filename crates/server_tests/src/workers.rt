@@ -248,7 +248,8 @@ fn add_pass<H: House>(
     seat: Seat<Kept, H, Manners, MemoryPost>,
     passes: &mut Vec<Pass<Kept, H>>,
 ) -> bool {
-    match seat.pass {
+    let Seat { pass, .. } = seat;
+    match pass {
         Some(pass) => passes.push(pass).is_ok(),
         None => false,
     }
