@@ -304,6 +304,7 @@ fn listen_event(id: u64, path: &'static str) -> Event {
         mount: Bytes::from_static(path.as_bytes()),
         pair: None,
         wants_metadata: false,
+        host: Bytes::from_static(b""),
     })
 }
 

@@ -1,4 +1,4 @@
 pub mod Telling
-pub mod Clients
+pub mod Newcomers
 pub mod Settled
 pub mod TotalLemmas

@@ -1,6 +1,6 @@
 pub mod Stamp
 pub mod History
-pub mod Clients
+pub mod Newcomers
 pub mod Books
 pub mod Settling
 pub mod Totals

@@ -2,16 +2,23 @@
 use Rattle.std.specs.Prelude.{◌≡◌, ℕ, ◌+◌, List, [], ◌∷◌, sum_by}
 use Rattle.radio_core.specs.World.{World}
 use Rattle.radio_core.specs.Step.{world_after}
-use Rattle.radio_core.specs.Totals.{arrivals, departures, seatings, listeners_leaving, clients_there, seats_there, seats_lost}
+use Rattle.radio_core.specs.Totals.{arrivals, departures, relays_up, relays_down, seatings, listeners_leaving, clients_there, relays_there, seats_there, seats_lost}
 use Rattle.radio_book.specs.declared.entry.Entry.{Entry}
 use Rattle.radio_book.specs.History.{world_of}
 
--- how many numbers were given to clients, and how many clients have left
-abbrev pub numbers_given : List Entry → ℕ
-numbers_given history = sum_by (λ e. arrivals e.reply) history
+-- how many clients have come, and how many have left
+abbrev pub clients_come : List Entry → ℕ
+clients_come history = sum_by (λ e. arrivals e.reply e.event) history
 
 abbrev pub clients_left : List Entry → ℕ
 clients_left history = sum_by (λ e. departures e.reply e.event) history
+
+-- how many relays have come up, and how many have gone down
+abbrev pub relays_come : List Entry → ℕ
+relays_come history = sum_by (λ e. relays_up e.reply e.event) history
+
+abbrev pub relays_gone : List Entry → ℕ
+relays_gone history = sum_by (λ e. relays_down e.reply e.event) history
 
 -- how many seats were made
 abbrev pub seats_made : List Entry → ℕ
@@ -27,9 +34,11 @@ abbrev pub seats_ended : World → List Entry → ℕ
 seats_ended opening history = seats_lost (world_of opening history) + listeners_left opening history
 
 pub record AddsUp (opening : World) (history : List Entry) : Type 0 where
-  -- numbers are given one after another, from 1 on
-  pub numbers : numbers_given history ≡ (world_of opening history).house.last_id
-  -- the clients who were given numbers are there, or have left
-  pub clients : numbers_given history ≡ clients_there (world_of opening history) + clients_left history
+  -- numbers are given one after another, from 1 on, to clients and to relays
+  pub numbers : clients_come history + relays_come history ≡ (world_of opening history).house.last_id
+  -- the clients who have come are there, or have left
+  pub clients : clients_come history ≡ clients_there (world_of opening history) + clients_left history
+  -- the relays that have come up are there, or have gone down
+  pub relays : relays_come history ≡ relays_there (world_of opening history) + relays_gone history
   -- the seats that were made are there, or have ended
   pub seats : seats_made history ≡ seats_there (world_of opening history) + seats_ended opening history

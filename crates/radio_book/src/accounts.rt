@@ -5,7 +5,7 @@ ghost use Rattle.radio_core.specs.World.{World};
 ghost use Rattle.radio_core.specs.Step.{Represents, reply_to, world_after};
 ghost use Rattle.radio_events.specs.Events.{TakesNoMemory};
 ghost use Rattle.radio_book.specs.History.{entry_of};
-ghost use Rattle.radio_book.specs.Clients.{is_arrival, room_for};
+ghost use Rattle.radio_book.specs.Newcomers.{is_arrival, room_for};
 
 use crate::debt::Debt;
 use crate::holdings::Holdings;
@@ -147,7 +147,7 @@ impl<C: Chronicle, H: House> Accounts<C, H> {
         ensures receipts { IfOk result (λ receipt. holdings.new.receipts.items ≡ holdings.old.receipts.items ++ receipt ∷ []) }
         ensures err { OnErr result ((self.new.story.core ≡ self.old.story.core) × (C.entries self.new.story.chronicle ≡ C.entries self.old.story.chronicle)
             × (holdings.new.receipts.items ≡ holdings.old.receipts.items)) }
-        ensures frees { TakesNoMemory event → room_for holdings.old.clients.items event ≡ 0 → IsOk result }
+        ensures frees { TakesNoMemory event → room_for holdings.old.present.items event ≡ 0 → IsOk result }
     {
         match self.prepare(holdings, &event) {
             Ok(copies) => self.note_in_room(holdings, event, copies),
@@ -163,15 +163,15 @@ impl<C: Chronicle, H: House> Accounts<C, H> {
     fn prepare(&mut self, holdings: &mut Holdings<H>, event: &Event) -> Result<Copies, OutOfMemory>
         ensures copies { IfOk result (λ copies. (copies.noted ≡ event.now) × (copies.held ≡ event.now) × (copies.told ≡ event.now)) }
         ensures chronicle { OnOk result ((0 < C.room self.new.story.chronicle)
-            × (self.new.debt.owed + room_for holdings.new.clients.items event.now ≤ C.room self.new.story.chronicle)) }
+            × (self.new.debt.owed + room_for holdings.new.present.items event.now ≤ C.room self.new.story.chronicle)) }
         ensures most { OnOk result (C.room self.new.story.chronicle < 2 ^ 64) }
         ensures receipts { OnOk result
-            (vec_len holdings.new.receipts + vec_len holdings.new.clients + room_for holdings.new.clients.items event.now
+            (vec_len holdings.new.receipts + vec_len holdings.new.present + room_for holdings.new.present.items event.now
             ≤ vec_capacity holdings.new.receipts) }
-        ensures clients { OnOk result (is_arrival event.now ≡ true → vec_len holdings.new.clients < vec_capacity holdings.new.clients) }
-        ensures frees { TakesNoMemory event.now → room_for holdings.old.clients.items event.now ≡ 0 → IsOk result }
+        ensures present { OnOk result (is_arrival event.now ≡ true → vec_len holdings.new.present < vec_capacity holdings.new.present) }
+        ensures frees { TakesNoMemory event.now → room_for holdings.old.present.items event.now ≡ 0 → IsOk result }
         ensures same { (self.new.story.core ≡ self.old.story.core) × (C.entries self.new.story.chronicle ≡ C.entries self.old.story.chronicle) }
-        ensures held { (holdings.new.receipts.items ≡ holdings.old.receipts.items) × (holdings.new.clients.items ≡ holdings.old.clients.items) }
+        ensures held { (holdings.new.receipts.items ≡ holdings.old.receipts.items) × (holdings.new.present.items ≡ holdings.old.present.items) }
     {
         self.make_room(holdings, event)?;
         thrice(event)
@@ -181,15 +181,15 @@ impl<C: Chronicle, H: House> Accounts<C, H> {
     /// refused.
     fn make_room(&mut self, holdings: &mut Holdings<H>, event: &Event) -> Result<(), OutOfMemory>
         ensures chronicle { OnOk result ((0 < C.room self.new.story.chronicle)
-            × (self.new.debt.owed + room_for holdings.new.clients.items event.now ≤ C.room self.new.story.chronicle)) }
+            × (self.new.debt.owed + room_for holdings.new.present.items event.now ≤ C.room self.new.story.chronicle)) }
         ensures most { OnOk result (C.room self.new.story.chronicle < 2 ^ 64) }
         ensures receipts { OnOk result
-            (vec_len holdings.new.receipts + vec_len holdings.new.clients + room_for holdings.new.clients.items event.now
+            (vec_len holdings.new.receipts + vec_len holdings.new.present + room_for holdings.new.present.items event.now
             ≤ vec_capacity holdings.new.receipts) }
-        ensures clients { OnOk result (is_arrival event.now ≡ true → vec_len holdings.new.clients < vec_capacity holdings.new.clients) }
-        ensures frees { room_for holdings.old.clients.items event.now ≡ 0 → IsOk result }
+        ensures present { OnOk result (is_arrival event.now ≡ true → vec_len holdings.new.present < vec_capacity holdings.new.present) }
+        ensures frees { room_for holdings.old.present.items event.now ≡ 0 → IsOk result }
         ensures same { (self.new.story.core ≡ self.old.story.core) × (C.entries self.new.story.chronicle ≡ C.entries self.old.story.chronicle) }
-        ensures held { (holdings.new.receipts.items ≡ holdings.old.receipts.items) × (holdings.new.clients.items ≡ holdings.old.clients.items) }
+        ensures held { (holdings.new.receipts.items ≡ holdings.old.receipts.items) × (holdings.new.present.items ≡ holdings.old.present.items) }
     {
         let more = holdings.room_for(event);
         holdings.audit(&mut self.debt);
@@ -211,11 +211,11 @@ impl<C: Chronicle, H: House> Accounts<C, H> {
         requires keeps { C.KEEPS ≡ true }
         requires copies { (copies.noted ≡ event) × (copies.held ≡ event) × (copies.told ≡ event) }
         requires chronicle { (0 < C.room self.old.story.chronicle)
-            × (self.old.debt.owed + room_for holdings.old.clients.items event ≤ C.room self.old.story.chronicle) }
+            × (self.old.debt.owed + room_for holdings.old.present.items event ≤ C.room self.old.story.chronicle) }
         requires most { C.room self.old.story.chronicle < 2 ^ 64 }
-        requires receipts { vec_len holdings.old.receipts + vec_len holdings.old.clients + room_for holdings.old.clients.items event
+        requires receipts { vec_len holdings.old.receipts + vec_len holdings.old.present + room_for holdings.old.present.items event
             ≤ vec_capacity holdings.old.receipts }
-        requires clients { is_arrival event ≡ true → vec_len holdings.old.clients < vec_capacity holdings.old.clients }
+        requires present { is_arrival event ≡ true → vec_len holdings.old.present < vec_capacity holdings.old.present }
         ensures step { (w : World) → Represents self.old.story.core w
             → IfOk result (λ receipt. (receipt.reply ≡ reply_to w event) × Represents self.new.story.core (world_after w event)) }
         ensures event { IfOk result (λ receipt. receipt.event ≡ event) }

@@ -5,7 +5,8 @@ ghost use Rattle.radio_core.specs.World.{World, opening};
 ghost use Rattle.radio_core.specs.Step.{Represents, reply_to, world_after};
 ghost use Rattle.radio_events.specs.Events.{TakesNoMemory};
 ghost use Rattle.radio_book.specs.History.{IsLegal, IsTold, entry_of};
-ghost use Rattle.radio_book.specs.Clients.{is_here};
+ghost use Rattle.radio_book.specs.Newcomers.{is_here, leaver_of};
+ghost use Rattle.radio_book.specs.declared.newcomer.Newcomer.{Newcomer};
 
 use crate::accounts::Accounts;
 use crate::debt::Debt;
@@ -71,9 +72,9 @@ impl<C: Chronicle, H: House> Book<C, H> {
     /// One event, noted with its reply where entries are stored; its receipt.
     ///
     /// `OutOfMemory` where memory was refused; book and pass are unchanged then. Where entries are
-    /// stored, the end of a client who was let in through this pass, and has not left through it, is
-    /// never refused: its entry was reserved when he was let in. Where they are not, no end is ever
-    /// refused, nor the clock.
+    /// stored, the end of a client or a relay that was let in through this pass, and has not gone
+    /// through it, is never refused: its entry was reserved when it was let in. Where they are not, no
+    /// end is ever refused, nor the clock.
     pub fn apply(&mut self, pass: &mut Pass<C, H>, event: Event) -> Result<Receipt, OutOfMemory>
         // whatever state the core stands for, the reply is that of a step from it, and the core stands for the state after it
         ensures step { (w : World) → Represents self.old.core w
@@ -91,8 +92,8 @@ impl<C: Chronicle, H: House> Book<C, H> {
         // where they are not, nothing is noted
         ensures unkept { C.KEEPS ≡ false → (self.new.history ≡ self.old.history) × (pass.new ≡ pass.old) × IfOk result (λ receipt. receipt.serial ≡ 0) }
         ensures err { OnErr result ((self.new ≡ self.old) × (pass.new ≡ pass.old)) }
-        // the end of who was let in by the receipts of this pass, and has not left by them, is never refused
-        ensures leave { (id : ℕ) → event ≡ Event.Leave id → is_here id pass.old ≡ true → IsOk result }
+        // the end of who was let in by the receipts of this pass, and has not gone by them, is never refused
+        ensures leave { (one : Newcomer) → leaver_of event ≡ Some one → is_here one pass.old ≡ true → IsOk result }
         // where nothing is stored, the end of a session and of a connection, and the clock, are never refused
         ensures frees { C.KEEPS ≡ false → TakesNoMemory event → IsOk result }
     {

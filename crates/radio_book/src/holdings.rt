@@ -1,25 +1,26 @@
 //! What a caller holds.
 
 ghost use Rattle.std.specs.Prelude.{◌≡◌, ◌+◌, ◌≤◌, ◌<◌, ◌^◌, ◌∷◌, [], ◌++◌, ℕ, true, false, IsOk, IsSome, OnOk, vec_len, vec_capacity};
-ghost use Rattle.radio_book.specs.Clients.{clients_by, clients_of, is_arrival, leaver_of, newcomer_by, place_of, room_by, room_for};
+ghost use Rattle.radio_book.specs.Newcomers.{present_by, present_of, is_arrival, leaver_of, newcomer_by, place_of, room_by, room_for};
 
 use crate::debt::Debt;
+use crate::newcomer::Newcomer;
 use crate::{OutOfMemory, Receipt};
 use radio_events::{Event, Reply};
 use std::alloc::Global;
 use std::sync::ledger::{Ledger, Share};
 
-/// The receipts of a caller's calls, and the clients whom he has let in and not seen off, for each
-/// of whom the book owes him an entry. There is room for the receipt of each such end.
+/// The receipts of a caller's calls, and who came by them and has not gone by them, for each of whom
+/// the book owes him an entry. There is room for the receipt of each such end.
 #[derive(Drop)]
 pub(crate) struct Holdings<L: Ledger> {
     pub(crate) receipts: Vec<Receipt>,
-    pub(crate) clients: Vec<u64>,
+    pub(crate) present: Vec<Newcomer>,
     share: Share<L>,
-    pub(crate) ghost here: { clients.items ≡ clients_of receipts.items },
-    ghost owed: { share.amount ≡ vec_len clients },
+    pub(crate) ghost here: { present.items ≡ present_of receipts.items },
+    ghost owed: { share.amount ≡ vec_len present },
     ghost some_part: { 0 < share.parts },
-    ghost room: { vec_len receipts + vec_len clients ≤ vec_capacity receipts },
+    ghost room: { vec_len receipts + vec_len present ≤ vec_capacity receipts },
 }
 
 impl<L: Ledger> Holdings<L> {
@@ -31,17 +32,17 @@ impl<L: Ledger> Holdings<L> {
     {
         Holdings {
             receipts: Vec::new(alloc),
-            clients: Vec::new(alloc),
+            present: Vec::new(alloc),
             share,
         }
     }
 
     /// For how many entries room must be found before the event.
     pub(crate) fn room_for(&self, event: &Event) -> usize
-        ensures { result ≡ room_for self.now.clients.items event.now }
+        ensures { result ≡ room_for self.now.present.items event.now }
     {
         match leaver_of(event) {
-            Some(id) => room_for_leaver(self.clients.as_slice(), id),
+            Some(gone) => room_for_leaver(self.present.as_slice(), gone),
             None => room_for_others(event),
         }
     }
@@ -49,44 +50,44 @@ impl<L: Ledger> Holdings<L> {
     /// Makes room for so many more receipts. `OutOfMemory` where memory was refused.
     pub(crate) fn reserve(&mut self, more: usize) -> Result<(), OutOfMemory>
         requires { more ≤ 2 }
-        ensures ok { OnOk result (vec_len self.new.receipts + vec_len self.new.clients + more ≤ vec_capacity self.new.receipts) }
-        ensures clients { OnOk result (1 < more → vec_len self.new.clients < vec_capacity self.new.clients) }
+        ensures ok { OnOk result (vec_len self.new.receipts + vec_len self.new.present + more ≤ vec_capacity self.new.receipts) }
+        ensures present { OnOk result (1 < more → vec_len self.new.present < vec_capacity self.new.present) }
         ensures frees { more ≡ 0 → IsOk result }
-        ensures same { (self.new.receipts.items ≡ self.old.receipts.items) × (self.new.clients.items ≡ self.old.clients.items) }
+        ensures same { (self.new.receipts.items ≡ self.old.receipts.items) × (self.new.present.items ≡ self.old.present.items) }
     {
-        self.receipts.reserve(self.clients.len() + more)?;
+        self.receipts.reserve(self.present.len() + more)?;
         if more > 1 {
-            self.clients.reserve(1)?;
+            self.present.reserve(1)?;
         }
         Ok(())
     }
 
     /// No more is owed to him than the book owes in all.
     pub(crate) fn audit(&mut self, debt: &mut Debt<L>)
-        ensures bound { vec_len self.old.clients ≤ debt.old.owed }
+        ensures bound { vec_len self.old.present ≤ debt.old.owed }
         ensures owed { debt.new.owed ≡ debt.old.owed }
-        ensures same { (self.new.receipts ≡ self.old.receipts) × (self.new.clients ≡ self.old.clients) }
+        ensures same { (self.new.receipts ≡ self.old.receipts) × (self.new.present ≡ self.old.present) }
     {
         debt.audit(&mut self.share);
     }
 
     /// Takes the receipt of a call, for which there is room.
     pub(crate) fn note(&mut self, debt: &mut Debt<L>, receipt: Receipt)
-        requires room { vec_len self.old.receipts + vec_len self.old.clients + room_for self.old.clients.items receipt.event ≤ vec_capacity self.old.receipts }
-        requires clients { is_arrival receipt.event ≡ true → vec_len self.old.clients < vec_capacity self.old.clients }
+        requires room { vec_len self.old.receipts + vec_len self.old.present + room_for self.old.present.items receipt.event ≤ vec_capacity self.old.receipts }
+        requires present { is_arrival receipt.event ≡ true → vec_len self.old.present < vec_capacity self.old.present }
         requires fits { is_arrival receipt.event ≡ true → debt.old.owed + 1 < 2 ^ 64 }
         ensures receipts { self.new.receipts.items ≡ self.old.receipts.items ++ receipt ∷ [] }
-        ensures owed { debt.new.owed + vec_len self.old.clients ≡ debt.old.owed + vec_len self.new.clients }
-        ensures enough { debt.new.owed + 1 ≤ debt.old.owed + room_for self.old.clients.items receipt.event }
+        ensures owed { debt.new.owed + vec_len self.old.present ≡ debt.old.owed + vec_len self.new.present }
+        ensures enough { debt.new.owed + 1 ≤ debt.old.owed + room_for self.old.present.items receipt.event }
     {
         let leaver = leaver_in(&receipt);
         let newcomer = newcomer_in(&receipt);
         let Holdings {
             receipts,
-            clients,
+            present,
             share,
         } = self;
-        come_and_go(debt, share, clients, leaver, newcomer);
+        come_and_go(debt, share, present, leaver, newcomer);
         receipts.push_reserved(receipt);
     }
 }
@@ -95,59 +96,59 @@ impl<L: Ledger> Holdings<L> {
 fn come_and_go<L: Ledger>(
     debt: &mut Debt<L>,
     share: &mut Share<L>,
-    clients: &mut Vec<u64>,
-    leaver: Option<u64>,
-    newcomer: Option<u64>,
+    present: &mut Vec<Newcomer>,
+    leaver: Option<Newcomer>,
+    newcomer: Option<Newcomer>,
 )
     requires part { 0 < share.old.parts }
-    requires amount { share.old.amount ≡ vec_len clients.old }
-    requires room { IsSome newcomer → vec_len clients.old < vec_capacity clients.old }
+    requires amount { share.old.amount ≡ vec_len present.old }
+    requires room { IsSome newcomer → vec_len present.old < vec_capacity present.old }
     requires fits { IsSome newcomer → debt.old.owed + 1 < 2 ^ 64 }
-    ensures clients { clients.new.items ≡ clients_by leaver newcomer clients.old.items }
-    ensures owed { debt.new.owed + vec_len clients.old ≡ debt.old.owed + vec_len clients.new }
-    ensures amount { share.new.amount ≡ vec_len clients.new }
+    ensures present { present.new.items ≡ present_by leaver newcomer present.old.items }
+    ensures owed { debt.new.owed + vec_len present.old ≡ debt.old.owed + vec_len present.new }
+    ensures amount { share.new.amount ≡ vec_len present.new }
     ensures parts { share.new.parts ≡ share.old.parts }
 {
     match (leaver, newcomer) {
-        (Some(id), _) => client_leaves(debt, share, clients, id),
-        (None, Some(id)) => {
+        (Some(gone), _) => goes(debt, share, present, gone),
+        (None, Some(newcomer)) => {
             debt.grow(share);
-            clients.push_reserved(id);
+            present.push_reserved(newcomer);
         }
         (None, None) => (),
     }
 }
 
-/// One leaves, if he is among the clients; the book then owes an entry less.
-fn client_leaves<L: Ledger>(
+/// One goes, if he is among those who are there; the book then owes an entry less.
+fn goes<L: Ledger>(
     debt: &mut Debt<L>,
     share: &mut Share<L>,
-    clients: &mut Vec<u64>,
-    id: u64,
+    present: &mut Vec<Newcomer>,
+    gone: Newcomer,
 )
-    requires { share.old.amount ≡ vec_len clients.old }
-    ensures clients { clients.new.items ≡ clients_by (Some id) None clients.old.items }
-    ensures owed { debt.new.owed + vec_len clients.old ≡ debt.old.owed + vec_len clients.new }
-    ensures amount { share.new.amount ≡ vec_len clients.new }
+    requires { share.old.amount ≡ vec_len present.old }
+    ensures present { present.new.items ≡ present_by (Some gone) None present.old.items }
+    ensures owed { debt.new.owed + vec_len present.old ≡ debt.old.owed + vec_len present.new }
+    ensures amount { share.new.amount ≡ vec_len present.new }
     ensures parts { share.new.parts ≡ share.old.parts }
 {
-    if let Some(i) = place_of(clients.as_slice(), id) {
+    if let Some(i) = place_of(present.as_slice(), gone) {
         debt.shrink(share);
-        clients.remove(i);
+        present.remove(i);
     }
 }
 
-/// Where the client stands among these.
-fn place_of(clients: &[u64], id: u64) -> Option<usize>
-    ensures { result ≡ place_of id clients.now }
+/// Where he stands among these.
+fn place_of(present: &[Newcomer], one: Newcomer) -> Option<usize>
+    ensures { result ≡ place_of one present.now }
 {
-    clients.iter().position(|x| *x == id)
+    present.iter().position(|other| other.is(one))
 }
 
-fn room_for_leaver(clients: &[u64], id: u64) -> usize
-    ensures { result ≡ room_by (Some id) false clients.now }
+fn room_for_leaver(present: &[Newcomer], gone: Newcomer) -> usize
+    ensures { result ≡ room_by (Some gone) false present.now }
 {
-    if place_of(clients, id).is_some() {
+    if place_of(present, gone).is_some() {
         0
     } else {
         1
@@ -160,41 +161,43 @@ fn room_for_others(event: &Event) -> usize
     if is_arrival(event) { 2 } else { 1 }
 }
 
-/// Whose connection the event closes.
-fn leaver_of(event: &Event) -> Option<u64>
+/// Whose end the event is.
+fn leaver_of(event: &Event) -> Option<Newcomer>
     ensures { result ≡ leaver_of event.now }
 {
     match event {
-        Event::Leave { id } => Some(*id),
+        Event::Leave { id } => Some(Newcomer::Client(*id)),
+        Event::RelayDown { id } => Some(Newcomer::Relay(*id)),
         _ => None,
     }
 }
 
-/// Whether a connection comes.
+/// Whether somebody comes: a connection, or a relay that comes up.
 fn is_arrival(event: &Event) -> bool
     ensures { result ≡ is_arrival event.now }
 {
-    matches!(event, Event::Arrive { .. })
+    matches!(event, Event::Arrive { .. } | Event::RelayUp { .. })
 }
 
-fn leaver_in(receipt: &Receipt) -> Option<u64>
+fn leaver_in(receipt: &Receipt) -> Option<Newcomer>
     ensures { result ≡ leaver_of receipt.now.event }
 {
     leaver_of(receipt.event())
 }
 
-fn newcomer_in(receipt: &Receipt) -> Option<u64>
-    ensures { result ≡ newcomer_by (is_arrival receipt.now.event) receipt.now.reply }
+fn newcomer_in(receipt: &Receipt) -> Option<Newcomer>
+    ensures { result ≡ newcomer_by receipt.now.event receipt.now.reply }
 {
-    newcomer_by(is_arrival(receipt.event()), receipt.reply())
+    newcomer_by(receipt.event(), receipt.reply())
 }
 
-/// The client who has this number from now on, if a connection was let in.
-fn newcomer_by(came: bool, reply: &Reply) -> Option<u64>
-    ensures { result ≡ newcomer_by came reply.now }
+/// Who has come, if the reply lets him in.
+fn newcomer_by(event: &Event, reply: &Reply) -> Option<Newcomer>
+    ensures { result ≡ newcomer_by event.now reply.now }
 {
-    match reply {
-        Reply::Arrived(id) if came => Some(*id),
+    match (event, reply) {
+        (Event::Arrive { .. }, Reply::Arrived(id)) => Some(Newcomer::Client(*id)),
+        (Event::RelayUp { .. }, Reply::Arrived(id)) => Some(Newcomer::Relay(*id)),
         _ => None,
     }
 }

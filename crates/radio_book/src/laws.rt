@@ -8,15 +8,16 @@ ghost use Rattle.radio_book.specs.declared.entry.Entry.{Entry};
 ghost use Rattle.radio_book.specs.History.{IsRun};
 ghost use Rattle.radio_book.specs.Totals.{AddsUp};
 
-use radio_core::clients_and_seats_add_up;
+use radio_core::{clients_and_seats_add_up, events_are_of_their_clients};
 
 /// The law of totals, for whoever has a history, as [`settle`](crate::settle) gives one.
 pub fn histories_add_up()
-    // in every run from an opening state, the numbers that were given to clients are the clients
-    // who are there and those who have left, and the seats that were made are those that are there
-    // and those that have ended
+    // in every run from an opening state, the numbers that were given are those of the clients and of
+    // the relays that have come; of each the ones are there that have not gone, and the seats that
+    // were made are those that are there and those that have ended
     ensures add_up { (settings : Settings) (lists : Lists) (history : List Entry) → IsRun (opening settings lists) history
         → AddsUp (opening settings lists) history }
 {
     clients_and_seats_add_up();
+    events_are_of_their_clients();
 }

@@ -2,7 +2,8 @@
 //!
 //! - [`Book`]: a core and its chronicle; [`Book::apply`] is one event, noted.
 //! - [`Chronicle`]: what becomes of the entries. [`Kept`] stores each, [`Unkept`] none.
-//! - [`Pass`]: what a caller has: the receipts of his calls, and the right to see off whom he let in.
+//! - [`Pass`]: what a caller has: the receipts of his calls, and the right to see off whom he let in,
+//!   a client or a relay ([`Newcomer`]).
 //! - [`settle`]: all passes held against the book, when nobody calls any more.
 //! - [`histories_add_up`]: what a history counts up to.
 //! - [`House`]: which house a book and its passes belong to; it stands in contracts alone.
@@ -16,6 +17,7 @@ mod entry;
 mod holdings;
 mod house;
 mod laws;
+mod newcomer;
 mod pass;
 mod receipt;
 mod settling;
@@ -26,6 +28,7 @@ pub use chronicle::{Chronicle, Kept, Unkept};
 pub use entry::Entry;
 pub use house::House;
 pub use laws::histories_add_up;
+pub use newcomer::Newcomer;
 pub use pass::Pass;
 pub use receipt::Receipt;
 pub use settling::{SettleFault, settle};

@@ -7,7 +7,7 @@ use crate::{Chronicle, House, Receipt};
 use std::marker::{Model, PhantomData};
 
 /// What a caller of a house has: the receipts of his calls, in their order, if the house stores
-/// entries; and for each client whom he has let in the right to see him off.
+/// entries; and for each client and each relay that he has let in the right to see it off.
 #[derive(Drop)]
 pub struct Pass<C: Chronicle, H: House> {
     pub(crate) holdings: Holdings<H>,

@@ -1,12 +1,10 @@
 -- through each event, a client who is there keeps the address from which he came, and the moment
-use Rattle.std.proofs.Common.{◌≡◌, true, false, Bool, ℕ, ◌==◌, ◌+◌, Option, Some, None, List, [], ◌∷◌, map, refl, ap, sym, subst, ◌∙◌, arith}
+use Rattle.std.proofs.Common.{◌≡◌, true, ℕ, ◌==◌, ◌+◌, Option, Some, None, List, [], ◌∷◌, map, refl, ap, sym, subst, ◌∙◌, arith}
 use Rattle.std.specs.Prelude.{fold}
 use Rattle.std.specs.Option.{option_map}
 use Rattle.std.proofs.lemmas.Bool.Decides.{nat_tests}
 use Rattle.radio_addr.specs.declared.peer.Peer.{Peer}
-use Rattle.radio_tables.proofs.FindLaws.{find_here, find_later}
 use Rattle.radio_tables.proofs.KeyLaws.{by_number}
-use Rattle.radio_seats.specs.Seats.{listener_of}
 use Rattle.radio_events.specs.declared.command.Command.{Command}
 use Rattle.radio_events.specs.declared.command.Command.TheVariants.{MoveClients, KillClient, KillSource, SetTitle, SetFallback}
 use Rattle.radio_events.specs.declared.event.Event.{Event}
@@ -17,20 +15,20 @@ use Rattle.radio_core.specs.declared.outcome.Change.TheVariants.{Admit, Obey}
 use Rattle.radio_core.specs.declared.standing.Standing.TheVariants.{Unknown}
 use Rattle.radio_core.specs.declared.house.House.{House}
 use Rattle.radio_core.specs.Source.{shown_for}
-use Rattle.radio_core.specs.Changes.{answered, session_killed, changed, begun, before_silence, session_silenced, silent_in, ticked}
+use Rattle.radio_core.specs.Changes.{answered, session_killed, changed, begun, raised, before_silence, session_silenced, silent_in, ticked}
 use Rattle.radio_core.specs.ClientSteps.{ArrivalsStay}
-use Rattle.radio_core.specs.Clients.{Client, is_client, client_of, with_state, in_state, without_client}
+use Rattle.radio_core.specs.Clients.{Client, client_of, with_state, in_state, without_client}
 use Rattle.radio_parts.specs.Sessions.{Session, session_of}
 use Rattle.radio_core.specs.Sound.{IsSound}
 use Rattle.radio_core.specs.Step.{outcome, world_after}
 use Rattle.radio_core.specs.Timeouts.{timed_out}
-use Rattle.radio_core.specs.Ways.{Way, Misplaced, IsFinished, IsDenied, IsRefused, IsAdmitted, Begins, Receives, SetsTitle, TakesSeat, HandsOut, Ends}
-use Rattle.radio_core.specs.Ways.{EndsAndLeaves, Leaves, Obeys, Shows, HasPassed, Ticks}
-use Rattle.radio_core.specs.World.{World, standing_of, standing_in}
+use Rattle.radio_core.specs.Ways.{Way, Misplaced, IsFinished, IsDenied, IsRefused, IsAdmitted, Begins, ComesUp, Receives, SetsTitle, TakesSeat, HandsOut, Ends}
+use Rattle.radio_core.specs.Ways.{EndsAndLeaves, Leaves, GoesDown, Obeys, Shows, HasPassed, Ticks}
+use Rattle.radio_core.specs.World.{World, standing_of}
 use Rattle.radio_core.proofs.CalledHome.{house_called}
-use Rattle.radio_core.proofs.Lookups.{does, beside_state, is_no_client, beside_forgotten, beside_new}
+use Rattle.radio_core.proofs.Lookups.{does, still_none, beside_state, is_no_client, beside_forgotten, beside_new}
 use Rattle.radio_core.proofs.TickLemmas.{clients_after}
-use Rattle.radio_core.proofs.TotalLemmas.{is_known}
+use Rattle.radio_core.proofs.Standings.{no_client_there}
 use Rattle.radio_core.proofs.Ways.{way_of}
 
 -- he was there before, from the same address and from the same moment on
@@ -53,18 +51,6 @@ keeps_then xs ys zs first second id later e =
     let before = first id middle.client middle.there in
     record { client = before.client; there = before.there; peer = middle.peer ∙ before.peer; arrived = middle.arrived ∙ before.arrived }
 
--- where nobody is found, nobody is changed
-none_changed : (him : ℕ) (state : ClientState) (xs : List Client) → client_of xs him ≡ None → client_of (in_state xs him state) him ≡ None
-none_changed him state [] e = refl
-none_changed him state (x ∷ xs) e = by_test (λ h. none_changed him state xs h) (is_client him x) refl where
-  by_test : (client_of xs him ≡ None → client_of (in_state xs him state) him ≡ None) → (b : Bool) → is_client him x ≡ b
-      → client_of (in_state (x ∷ xs) him state) him ≡ None
-  by_test rest true t = let here : client_of (x ∷ xs) him ≡ Some x = find_here (is_client him) x xs t in cc
-  by_test rest false t =
-      let later : client_of xs him ≡ None = sym (find_later (is_client him) x xs t) ∙ e in
-      let past : in_state (x ∷ xs) him state ≡ x ∷ in_state xs him state = rw t refl in
-      ap (λ (ys : List Client). client_of ys him) past ∙ find_later (is_client him) x (in_state xs him state) t ∙ rest later
-
 keeps_state : (xs : List Client) (him : ℕ) (state : ClientState) → Keeps xs (in_state xs him state)
 keeps_state xs him state id later e =
     by_number him id
@@ -72,7 +58,7 @@ keeps_state xs him state id later e =
     (λ apart. record { client = later; there = sym (beside_state xs him id apart state) ∙ e; peer = refl; arrived = refl }) where
       by_found : him ≡ id → (found : Option Client) → client_of xs him ≡ found → WasThere xs id later
       by_found same None none =
-          let now : client_of (in_state xs him state) id ≡ None = ap (client_of (in_state xs him state)) (sym same) ∙ none_changed him state xs none in cc
+          let now : client_of (in_state xs him state) id ≡ None = ap (client_of (in_state xs him state)) (sym same) ∙ still_none him state xs none in cc
       by_found same (Some client) there =
           let now : Some (with_state state client) ≡ Some later =
           sym (does xs him state client there) ∙ ap (client_of (in_state xs him state)) same ∙ e in
@@ -152,7 +138,8 @@ module _ (w : World) (s : IsSound w) where
     taken : w.house.last_id + 1 ≡ id → ⊥
     taken same =
         let unknown : standing_of w id ≡ Unknown = s.numbered id (omega (arith, same)) in
-        is_known (listener_of w.seats id) client.peer client.state (sym (ap (standing_in (listener_of w.seats id)) there) ∙ unknown)
+        let none : client_of w.house.clients id ≡ None = no_client_there w id unknown in
+        cc
 
   stays_admitted : (peer : Peer) → Stay (changed w (Admit (w.house.last_id + 1) peer))
   stays_admitted peer id client later before after =
@@ -174,14 +161,18 @@ module _ (w : World) (s : IsSound w) where
       let up = record w { house = begun w.house asked.id asked.mount (shown_for w.house asked.mount asked.shown) } in
       stays_so (changed w o.change) (subst (λ (h : House). Keeps w.house.clients h.clients) (sym (house_called up asked.mount))
       (keeps_state w.house.clients asked.id (IsSource asked.mount)))
+  stay_by event o (ComesUp mount shown none allowed) =
+      let up = record w { house = raised w.house (w.house.last_id + 1) mount (shown_for w.house mount shown) } in
+      stays_so (changed w o.change) (subst (λ (h : House). Keeps w.house.clients h.clients) (sym (house_called up mount)) (same_clients w.house.clients))
   stay_by event o (Receives him mount block feeding) = stays_so (changed w o.change) (same_clients w.house.clients)
   stay_by event o (SetsTitle him mount text feeding) = stays_so (changed w o.change) (same_clients w.house.clients)
   stay_by event o (TakesSeat asked peer session undecided lands live allowed) = stays_so (changed w o.change) (keeps_state w.house.clients asked.id Listens)
   stay_by event o (HandsOut him room seat session sits has live) = stays_so (changed w o.change) (same_clients w.house.clients)
-  stay_by event o (Ends him mount feeding) = stays_so (changed w o.change) (keeps_state w.house.clients him HasHisAnswer)
-  stay_by event o (EndsAndLeaves him mount feeding) = stays_so (changed w o.change) (keeps_forgotten w.house.clients him)
-  stay_by event o (Leaves him other) = stays_so (changed w o.change) (keeps_forgotten w.house.clients him)
-  stay_by event o (Shows _ listing c) = stays_so (changed w o.change) (keeps_state w.house.clients c.asked.id HasHisAnswer)
+  stay_by event o (Ends him mount feeding no_relay) = stays_so (changed w o.change) (keeps_state w.house.clients him HasHisAnswer)
+  stay_by event o (EndsAndLeaves _ him mount closes feeding) = stays_so (changed w o.change) (keeps_forgotten w.house.clients him)
+  stay_by event o (Leaves him no_relay other) = stays_so (changed w o.change) (keeps_forgotten w.house.clients him)
+  stay_by event o (GoesDown him rule relay told) = stays_so (changed w o.change) (keeps_forgotten w.house.clients him)
+  stay_by event o (Shows _ asker peer text its undecided what) = stays_so (changed w o.change) (keeps_state w.house.clients asker HasHisAnswer)
   stay_by event o (Obeys _ command c) = stays_so (changed w o.change) (keeps_obeyed w c.asked.id command)
   stay_by event o (HasPassed ms e) = stays_so w (same_clients w.house.clients)
   stay_by event o (Ticks ms e) = stays_so (ticked w ms) (keeps_ticked w ms)

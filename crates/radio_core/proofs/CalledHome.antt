@@ -1,5 +1,5 @@
 -- how each listener fares where a source comes up on a mount that calls its listeners home
-use Rattle.std.proofs.Common.{◌≡◌, Bool, true, false, ℕ, Some, None, List, refl, ap, sym, ◌∙◌}
+use Rattle.std.proofs.Common.{◌≡◌, ◌+◌, arith, Bool, true, false, ℕ, Some, None, List, refl, ap, sym, ◌∙◌}
 use Rattle.std.specs.Prelude.{◌&&◌, not, if◌then◌else◌}
 use Rattle.std.specs.Str.{bytes_eq}
 use Rattle.std.proofs.lemmas.Bool.{and_parts}
@@ -14,19 +14,19 @@ use Rattle.radio_fallback.specs.declared.moves.Move.TheVariants.{Up}
 use Rattle.radio_fallback.specs.declared.moves.Turn.TheVariants.{GoesTo}
 use Rattle.radio_fallback.specs.Carry.{at_his_turn}
 use Rattle.radio_fallback.proofs.Faring.{comes_home, never_out}
-use Rattle.radio_core.specs.declared.outcome.Change.TheVariants.{Begin}
+use Rattle.radio_core.specs.declared.outcome.Change.TheVariants.{Begin, Raise}
 use Rattle.radio_core.specs.declared.standing.Standing.TheVariants.{Undecided, Feeds}
 use Rattle.radio_addr.specs.declared.peer.Peer.{Peer}
 use Rattle.radio_settings.specs.declared.field.Shown.{Shown}
-use Rattle.radio_core.specs.Changes.{changed, begun, carried_along, called_home}
+use Rattle.radio_core.specs.Changes.{changed, begun, raised, carried_along, called_home}
 use Rattle.radio_core.specs.Facts.{sight_of}
 use Rattle.radio_core.specs.Moves.{his_turn, moved_into}
 use Rattle.radio_parts.specs.Sessions.{Session, session_of}
 use Rattle.radio_core.specs.Sound.{IsSound}
 use Rattle.radio_core.specs.World.{World, standing_of}
 use Rattle.radio_core.proofs.CarriedFates.{order_carried, carried_fate}
-use Rattle.radio_core.proofs.SoundSessions.{sound_begun}
-use Rattle.radio_core.proofs.Standings.{Turns, turns_feeding}
+use Rattle.radio_core.proofs.SoundSessions.{sound_begun, sound_raised}
+use Rattle.radio_core.proofs.Standings.{Turns, asks, turns_feeding, turns_raised}
 use Rattle.radio_core.proofs.Fates.{Fate, GoesOn, IsEnded, HasStopped, IsMoved, Fates, Nobody, sound_fates}
 
 abbrev Nothing : ℕ → Rule → Type 0
@@ -72,7 +72,7 @@ module _ (w : World) (s : IsSound w) (mount : List ℕ) (M : ℕ → Session →
 
     home_fate : (id : ℕ) → Fate Nothing M Nobody LeavesAnother w later id
     home_fate id =
-        carried_fate Nothing M Nobody LeavesAnother w s w.house refl refl (Up mount) later (λ m. refl) id refl refl
+        carried_fate Nothing M Nobody LeavesAnother w s w.house refl refl refl (Up mount) later (λ m. refl) id refl refl
         (λ turn same seats. GoesOn same seats (λ m feeds. refl) (λ seat has. refl))
         (λ seat session concerned turn is_live.
         let same : mount ≡ session.mount = comes_home (sight_of w.house) mount (seats_then id) id session.mount turn in (
@@ -141,8 +141,28 @@ module _ (w : World) (s : IsSound w) (him : ℕ) (mount : List ℕ) (shown : Sho
 
   pub turns_up : Turns w (changed w (Begin him mount shown)) him (Feeds mount)
   turns_up =
-      let begins = turns_feeding w him mount shown (λ u. cc) in
+      let begins = turns_feeding w him mount shown (asks w him peer stood) in
       record {
         his = stands_called just_begun sound_just_begun mount (λ id session. Unit {0}) (λ calls id session turn. tt) him ∙ begins.his;
         others = λ id other. stands_called just_begun sound_just_begun mount (λ id session. Unit {0}) (λ calls id session turn. tt) id ∙ begins.others id other;
+      }
+
+-- a relay comes up on a mount that was not live, and those come home whom it calls
+module _ (w : World) (s : IsSound w) (mount : List ℕ) (shown : Shown) (not_live : session_of w.house.live mount ≡ None) where
+  abbrev pub just_raised : World
+  just_raised = record w { house = raised w.house (w.house.last_id + 1) mount shown }
+
+  pub sound_just_raised : IsSound just_raised
+  sound_just_raised = sound_raised w s mount shown not_live
+
+  pub sound_risen : IsSound (changed w (Raise (w.house.last_id + 1) mount shown))
+  sound_risen = sound_called just_raised sound_just_raised mount (λ id session. Unit {0}) (λ calls id session turn. tt)
+
+  pub turns_risen : Turns w (changed w (Raise (w.house.last_id + 1) mount shown)) (w.house.last_id + 1) (Feeds mount)
+  turns_risen =
+      let him = w.house.last_id + 1 in
+      let rises = turns_raised w him mount shown (s.numbered him (omega arith)) in
+      record {
+        his = stands_called just_raised sound_just_raised mount (λ id session. Unit {0}) (λ calls id session turn. tt) him ∙ rises.his;
+        others = λ id other. stands_called just_raised sound_just_raised mount (λ id session. Unit {0}) (λ calls id session turn. tt) id ∙ rises.others id other;
       }

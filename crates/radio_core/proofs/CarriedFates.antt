@@ -19,6 +19,7 @@ use Rattle.radio_core.specs.declared.house.House.{House}
 use Rattle.radio_core.specs.declared.standing.Standing.TheVariants.{Sits}
 use Rattle.radio_core.specs.Changes.{carried_along}
 use Rattle.radio_core.specs.Clients.{Client, client_of}
+use Rattle.radio_core.specs.Relays.{Relay, relay_of}
 use Rattle.radio_core.specs.Facts.{sight_of, live_end}
 use Rattle.radio_core.specs.Moves.{his_turn, moved_into}
 use Rattle.radio_parts.specs.Sessions.{Session, session_of}
@@ -50,7 +51,7 @@ at_its_end house to session seat live =
     ∙ ap (λ (m : List ℕ). record seat { mount = m; session = session.number; place = end_of session.stream }) (sym named)
 
 module _ (C : ℕ → Rule → Type 0) (M : ℕ → Session → Type 0) (S : ℕ → Type 0) (L : World → Seat → Session → Type 0) (w : World) (s : IsSound w) (house : House)
-    (clients : house.clients ≡ w.house.clients) (lists : house.lists ≡ w.house.lists) (move : Move) (later : World)
+    (clients : house.clients ≡ w.house.clients) (relays : house.relays ≡ w.house.relays) (lists : house.lists ≡ w.house.lists) (move : Move) (later : World)
     (live : (mount : List ℕ) → session_of later.house.live mount ≡ session_of house.live mount) (id : ℕ) where
   -- the state before the first turn
   abbrev before : World
@@ -62,10 +63,15 @@ module _ (C : ℕ → Rule → Type 0) (M : ℕ → Session → Type 0) (S : ℕ
   abbrev client : Option Client
   client = client_of w.house.clients id
 
+  abbrev relay : Option Relay
+  relay = relay_of w.house.relays id
+
   -- he stands as his place in the table says
-  stands_by : (listener : Option Listener) → listener_of after.seats id ≡ listener → standing_of after id ≡ standing_in listener client
+  stands_by : (listener : Option Listener) → listener_of after.seats id ≡ listener → standing_of after id ≡ standing_in relay listener client
   stands_by listener e =
-      ap (λ l. standing_in l (client_of house.clients id)) e ∙ ap (λ (cs : List Client). standing_in listener (client_of cs id)) clients
+      ap (λ l. standing_in (relay_of house.relays id) l (client_of house.clients id)) e
+      ∙ ap (λ (cs : List Client). standing_in (relay_of house.relays id) listener (client_of cs id)) clients
+      ∙ ap (λ (rs : List Relay). standing_in (relay_of rs id) listener client) relays
 
   module _ (stands : standing_of later id ≡ standing_of after id) (seats : seat_of later.seats id ≡ seat_of after.seats id)
       (stays : ((seat : Seat) → seat_of w.seats id ≡ Some seat → his_turn before move id ≡ Stays) → standing_of later id ≡ standing_of w id
@@ -87,7 +93,7 @@ module _ (C : ℕ → Rule → Type 0) (M : ℕ → Session → Type 0) (S : ℕ
         IsMoved seat found.0 (carries found.0 goes_there) (left seat found.0 concerned goes_there is_live) had
         (seats ∙ ap seat_in now ∙ ap (λ (x : Seat). Some x) (at_its_end house to found.0 seat found.1))
         (stands ∙ stands_by (Some (record { id = id; seating = HasSeat (seat_at_end (sight_of house) to seat) })) now
-        ∙ sits_in (listener_of w.seats id) client id (seat_at_end (sight_of house) to seat) sat ∙ sym sat)
+        ∙ sits_in relay (listener_of w.seats id) client id (seat_at_end (sight_of house) to seat) sat ∙ sym sat)
         (live found.0.mount ∙ is_live)
         (ap (λ (x : Lists). lets_in x found.0.mount seat.pair) (sym lists) ∙ ap (λ (m : List ℕ). lets_in house.lists m seat.pair) named ∙ opens)
 
@@ -98,7 +104,7 @@ module _ (C : ℕ → Rule → Type 0) (M : ℕ → Session → Type 0) (S : ℕ
     fate_by (HasLost seat rule turn had concerned now) =
         let sat : standing_of w id ≡ Sits = s.sitting id seat had in
         IsEnded rule (causes seat rule had turn) (active_sitter (standing_of w id) sat)
-        (stands ∙ stands_by (Some (record { id = id; seating = HasLostIt rule })) now ∙ lost_in (listener_of w.seats id) id rule client sat)
+        (stands ∙ stands_by (Some (record { id = id; seating = HasLostIt rule })) now ∙ lost_in relay (listener_of w.seats id) id rule client sat)
         (seats ∙ ap seat_in now) (λ mount e. cc)
 
     pub carried_fate : Fate C M S L w later id

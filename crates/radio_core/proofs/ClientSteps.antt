@@ -1,29 +1,37 @@
 -- what an event does to how one client stands
-use Rattle.std.proofs.Common.{◌≡◌, ◌⊎◌, inl, inr, ℕ, ◌<◌, true, Some, refl, ap, sym, subst, ◌∙◌}
+use Rattle.std.proofs.Common.{◌≡◌, ◌⊎◌, inl, inr, ℕ, ◌<◌, true, false, List, Some, refl, ap, sym, subst, ◌∙◌}
 use Rattle.radio_policy.specs.declared.rule.Rule.{Rule}
-use Rattle.radio_addr.specs.declared.peer.Peer.{Peer}
 use Rattle.radio_access.specs.Lists.{passes}
+use Rattle.radio_settings.specs.declared.field.Shown.{Shown}
 use Rattle.radio_events.specs.declared.event.Event.{Event}
-use Rattle.radio_events.specs.declared.event.Event.TheVariants.{Arrive, Push, SourceEnd, Leave}
-use Rattle.radio_events.specs.declared.reply.Reply.TheVariants.{Deny}
+use Rattle.radio_events.specs.declared.event.Event.TheVariants.{Arrive, Push, SourceEnd, Leave, RelayUp, RelayDown}
+use Rattle.radio_events.specs.declared.reply.Reply.TheVariants.{Arrived, Deny}
 use Rattle.radio_events.specs.Events.{client_in}
 use Rattle.radio_core.specs.declared.outcome.Outcome.{Outcome}
 use Rattle.radio_core.specs.declared.standing.Standing.{Standing}
 use Rattle.radio_core.specs.declared.standing.Standing.TheVariants.{Unknown, Undecided, Feeds, Finished as HasFinished}
 use Rattle.radio_core.specs.Changes.{changed, taken_in}
 use Rattle.radio_core.specs.ClientSteps.{ClientStep, Stays, Arrives, IsAnswered, IsObeyed, IsShown, BeginsToFeed, SitsDown, StopsFeeding, ClientsStep}
-use Rattle.radio_core.specs.ClientSteps.{Leaves as HeLeaves, IsFinished as HeIsFinished}
+use Rattle.radio_core.specs.ClientSteps.{Leaves as HeLeaves, ComesUp as ItComesUp, GoesDown as ItGoesDown, IsFinished as HeIsFinished}
 use Rattle.radio_core.specs.Finishes.{Cause, Finishes}
 use Rattle.radio_core.specs.Listen.{first_seat}
-use Rattle.radio_core.specs.Others.{StandsOn}
+use Rattle.radio_core.specs.Facts.{rows_to_raise}
+use Rattle.radio_core.specs.Others.{StandsOn, HasCome, AsClient, AsRelay}
+use Rattle.radio_core.specs.Outcomes.{on_verdict}
+use Rattle.radio_core.specs.RelayUp.{raises}
+use Rattle.radio_core.specs.declared.outcome.Change.TheVariants.{Nothing}
+use Rattle.radio_policy.specs.declared.judgement.Verdict.{Verdict}
+use Rattle.radio_policy.specs.declared.judgement.Verdict.TheVariants.{Allow, Deny as Denied}
+use Rattle.radio_policy.specs.Verdicts.{verdict_in}
 use Rattle.radio_core.specs.Sound.{IsSound}
 use Rattle.radio_core.specs.Source.{shown_for}
 use Rattle.radio_core.specs.Step.{outcome, reply_to, world_after}
-use Rattle.radio_core.specs.Ways.{Way, Misplaced, IsFinished, IsDenied, IsRefused, IsAdmitted, Begins, Receives, SetsTitle, TakesSeat, HandsOut, Ends}
-use Rattle.radio_core.specs.Ways.{EndsAndLeaves, Leaves, Obeys, Shows, HasPassed, Ticks}
-use Rattle.radio_core.specs.World.{World, standing_of}
+use Rattle.radio_core.specs.Ways.{Way, Misplaced, IsFinished, IsDenied, IsRefused, IsAdmitted, Begins, ComesUp, Receives, SetsTitle, TakesSeat, HandsOut, Ends}
+use Rattle.radio_core.specs.Ways.{EndsAndLeaves, Leaves, GoesDown, Obeys, Shows, HasPassed, Ticks}
+use Rattle.radio_core.specs.World.{World, standing_of, has_relay}
 use Rattle.radio_seats.proofs.SeatLaws.{listener_seated}
 use Rattle.radio_core.proofs.CalledHome.{turns_up}
+use Rattle.radio_core.proofs.ClosingLemmas.{closes_his, leaves_or_goes_down}
 use Rattle.radio_core.proofs.Fates.{Fate, GoesOn, IsEnded, HasStopped, IsMoved, HasEnded, Nobody}
 use Rattle.radio_core.proofs.FinishLemmas.{others_hold, finish_step, undecided_before}
 use Rattle.radio_core.proofs.Effects.{his_event}
@@ -32,7 +40,7 @@ use Rattle.radio_core.proofs.OwnLemmas.{by_own}
 use Rattle.radio_core.proofs.ReplyLemmas.{replies_fit}
 use Rattle.radio_core.proofs.SoundEnds.{turns_ended, turns_ended_and_left}
 use Rattle.radio_core.proofs.SoundRuns.{grown_world, NoMove, lag_fates}
-use Rattle.radio_core.proofs.Standings.{turns_answered, turns_sitting, turns_forgotten, stays_hearing}
+use Rattle.radio_core.proofs.Standings.{asks, turns_answered, turns_sitting, turns_forgotten, stays_hearing}
 use Rattle.radio_core.proofs.Ways.{way_of}
 
 turned : (w : World) (C : Rule → Type 0) (event : Event) (id : ℕ) {before a later b : Standing} → before ≡ a → later ≡ b → ClientStep w C event id before later
@@ -41,6 +49,15 @@ turned w C event id {before} {a} {later} {b} ea eb step =
     subst (λ (x : Standing). ClientStep w C event id x b) ea (subst (λ (x : Standing). ClientStep w C event id before x) eb step)
 
 module _ (w : World) (s : IsSound w) (id : ℕ) (C : Rule → Type 0) where
+  -- he leaves, or it goes down
+  goes : (event : Event) (him : ℕ) → him ≡ id
+      → ((event ≡ Leave him) × (has_relay w him ≡ false)) ⊎ ((event ≡ RelayDown him) × (has_relay w him ≡ true))
+      → ClientStep w C event id (standing_of w id) Unknown
+  goes event him same (inl leaves) =
+      HeLeaves (standing_of w id) (leaves.0 ∙ ap (λ (n : ℕ). Leave n) same) (ap (has_relay w) (sym same) ∙ leaves.1)
+  goes event him same (inr down) =
+      ItGoesDown (standing_of w id) (down.0 ∙ ap (λ (n : ℕ). RelayDown n) same) (ap (has_relay w) (sym same) ∙ down.1)
+
   -- his own event
   own_by : (event : Event) (o : Outcome) → Way w event o → client_in event ≡ Some id
       → ((rule : Rule) → standing_of (changed w o.change) id ≡ HasFinished rule → (standing_of w id ≡ HasFinished rule) ⊎ C rule)
@@ -53,7 +70,7 @@ module _ (w : World) (s : IsSound w) (id : ℕ) (C : Rule → Type 0) where
       let both : Some him ≡ Some id = sym its ∙ his in
       let same : him ≡ id = cc in
       turned w C event id (sym undecided.1 ∙ ap (standing_of w) same)
-      (sym (turns_answered w him (λ u. let at = undecided.1 in cc)).his ∙ ap (standing_of (changed w o.change)) same)
+      (sym (turns_answered w him (asks w him undecided.0 undecided.1)).his ∙ ap (standing_of (changed w o.change)) same)
       (IsAnswered undecided.0 by his (denies by refl))
   own_by event o (IsAdmitted peer allowed) his fin denies = cc
   own_by event o (Begins asked undecided none allowed) his fin denies =
@@ -62,6 +79,7 @@ module _ (w : World) (s : IsSound w) (id : ℕ) (C : Rule → Type 0) where
       (sym (turns_up w s asked.id asked.mount (shown_for w.house asked.mount asked.shown) undecided.0 undecided.1 none).his
       ∙ ap (standing_of (changed w o.change)) same)
       (BeginsToFeed undecided.0 asked refl same allowed)
+  own_by event o (ComesUp mount shown none allowed) his fin denies = cc
   own_by event o (Receives him mount block feeding) his fin denies = by_fate ((lag_fates w s mount block him feeding).fate id) where
     feeds : standing_of w id ≡ Feeds mount
     feeds = let same : him ≡ id = cc in ap (standing_of w) (sym same) ∙ feeding
@@ -82,30 +100,33 @@ module _ (w : World) (s : IsSound w) (id : ℕ) (C : Rule → Type 0) where
   own_by event o (TakesSeat asked peer session undecided lands live allowed) his fin denies =
       let same : asked.id ≡ id = cc in
       turned w C event id (sym undecided ∙ ap (standing_of w) same)
-      (sym (turns_sitting w asked.id (first_seat w.house asked peer session) (λ u. cc)).his ∙ ap (standing_of (changed w o.change)) same)
+      (sym (turns_sitting w asked.id (first_seat w.house asked peer session) (asks w asked.id peer undecided)).his ∙ ap (standing_of (changed w o.change)) same)
       (SitsDown peer asked refl same allowed)
   own_by event o (HandsOut him room seat session sits has live) his fin denies =
       let listener = listener_seated w.seats him seat has in
       turned w C event id refl (sym (stays_hearing w him _ listener.0 listener.1 id)) (Stays (standing_of w id))
-  own_by event o (Ends him mount feeding) his fin denies =
+  own_by event o (Ends him mount feeding no_relay) his fin denies =
       let same : him ≡ id = cc in
       turned w C event id (sym feeding ∙ ap (standing_of w) same)
-      (sym (turns_ended w s him mount feeding).his ∙ ap (standing_of (changed w o.change)) same)
-      (StopsFeeding mount (ap (λ (n : ℕ). SourceEnd n) same))
-  own_by event o (EndsAndLeaves him mount feeding) his fin denies =
+      (sym (turns_ended w s him mount feeding no_relay).his ∙ ap (standing_of (changed w o.change)) same)
+      (StopsFeeding mount (ap (λ (n : ℕ). SourceEnd n) same) (ap (has_relay w) (sym same) ∙ no_relay))
+  own_by event o (EndsAndLeaves _ him mount closes feeding) his fin denies =
+      let both : Some him ≡ Some id = sym (closes_his w him event closes) ∙ his in
       let same : him ≡ id = cc in
       turned w C event id refl (sym (turns_ended_and_left w s him mount feeding).his ∙ ap (standing_of (changed w o.change)) same)
-      (HeLeaves (standing_of w id) (ap (λ (n : ℕ). Leave n) same))
-  own_by event o (Leaves him other) his fin denies =
+      (goes event him same (leaves_or_goes_down w him event closes))
+  own_by event o (Leaves him no_relay other) his fin denies =
       let same : him ≡ id = cc in
-      turned w C event id refl (sym (turns_forgotten w him).his ∙ ap (standing_of (changed w o.change)) same)
-      (HeLeaves (standing_of w id) (ap (λ (n : ℕ). Leave n) same))
-  own_by event o (Shows _ listing c) his fin denies =
-      let both : Some c.asked.id ≡ Some id = sym (ap client_in c.is_event) ∙ his in
-      let same : c.asked.id ≡ id = cc in
-      turned w C event id (sym c.undecided ∙ ap (standing_of w) same)
-      (sym (turns_answered w c.asked.id (λ u. let at = c.undecided in cc)).his ∙ ap (standing_of (changed w o.change)) same)
-      (IsShown c.peer listing his c)
+      turned w C event id refl (sym (turns_forgotten w him).his ∙ ap (standing_of (changed w o.change)) same) (goes event him same (inl (refl, no_relay)))
+  own_by event o (GoesDown him rule relay told) his fin denies =
+      let same : him ≡ id = cc in
+      turned w C event id refl (sym (turns_forgotten w him).his ∙ ap (standing_of (changed w o.change)) same) (goes event him same (inr (refl, relay)))
+  own_by event o (Shows _ asker peer text its undecided what) his fin denies =
+      let both : Some asker ≡ Some id = sym its ∙ his in
+      let same : asker ≡ id = cc in
+      turned w C event id (sym undecided ∙ ap (standing_of w) same)
+      (sym (turns_answered w asker (asks w asker peer undecided)).his ∙ ap (standing_of (changed w o.change)) same)
+      (IsShown peer text his what)
   own_by event o (Obeys _ command c) his fin denies =
       let both : Some c.asked.id ≡ Some id = sym (his_event w s event command c) ∙ his in
       let same : c.asked.id ≡ id = cc in
@@ -121,21 +142,36 @@ module _ (w : World) (s : IsSound w) (id : ℕ) (C : Rule → Type 0) where
   unfolding reply_to world_after
   own event his fin = own_by event (outcome w event) (way_of w event) his fin (λ rule d. d)
 
+-- a relay that is given a number may come up
+allowed_by : (v : Verdict) (raised : Outcome) (id : ℕ) → (on_verdict v Nothing raised).reply ≡ Arrived id → v ≡ Allow
+allowed_by Allow raised id told = refl
+allowed_by (Denied rule) raised id told = cc
+
+raise_allowed : (w : World) (mount : List ℕ) (shown : Shown) (id : ℕ) → reply_to w (RelayUp mount shown) ≡ Arrived id
+    → verdict_in (rows_to_raise w.house mount shown) ≡ Allow
+unfolding reply_to outcome
+raise_allowed w mount shown id told = allowed_by (verdict_in (rows_to_raise w.house mount shown)) (raises w.house mount shown) id told
+
+-- a client arrives, or a relay comes up
+module _ (w : World) (s : IsSound w) (id : ℕ) where
+  comes : (event : Event) → HasCome w id event → w.house.last_id < id → standing_of w id ≡ Unknown → reply_to w event ≡ Arrived id
+      → ClientStep w (Finishes w event id) event id (standing_of w id) (standing_of (world_after w event) id)
+  comes event (AsClient peer stands) above unknown told = by_arrival (undecided_before w s (Arrive peer) id peer stands) where
+    by_arrival : (standing_of w id ≡ Undecided peer) ⊎ ((w.house.last_id < id) × (passes w.house.lists peer ≡ true))
+        → ClientStep w (Finishes w (Arrive peer) id) (Arrive peer) id (standing_of w id) (standing_of (world_after w (Arrive peer)) id)
+    by_arrival (inl was) = cc
+    by_arrival (inr new) = turned w (Finishes w (Arrive peer) id) (Arrive peer) id (sym unknown) (sym stands) (Arrives peer refl new.1 new.0)
+  comes event (AsRelay mount shown stands) above unknown told =
+      turned w (Finishes w (RelayUp mount shown) id) (RelayUp mount shown) id (sym unknown) (sym stands)
+      (ItComesUp mount shown refl above (raise_allowed w mount shown id told))
+
 module _ (w : World) (s : IsSound w) (event : Event) (id : ℕ) where
   -- an event of another
   by_other : StandsOn w event id → ClientStep w (Finishes w event id) event id (standing_of w id) (standing_of (world_after w event) id)
   by_other (inl same) = turned w (Finishes w event id) event id refl (sym same) (Stays (standing_of w id))
   by_other (inr (inl finished)) =
       turned w (Finishes w event id) event id refl (sym finished.1.has_finished) (HeIsFinished (standing_of w id) finished.0 finished.1)
-  by_other (inr (inr arrived)) = comes (undecided_before w s event id fits.0 fits.4) where
-    fits : (peer : Peer) × (event ≡ Arrive peer) × (w.house.last_id < id) × (standing_of w id ≡ Unknown)
-        × (standing_of (world_after w event) id ≡ Undecided peer)
-    fits = (replies_fit w s event).arrived id arrived
-
-    comes : (standing_of w id ≡ Undecided fits.0) ⊎ ((w.house.last_id < id) × (passes w.house.lists fits.0 ≡ true))
-        → ClientStep w (Finishes w event id) event id (standing_of w id) (standing_of (world_after w event) id)
-    comes (inl was) = let unknown : standing_of w id ≡ Unknown = fits.3 in cc
-    comes (inr new) = turned w (Finishes w event id) event id (sym fits.3) (sym fits.4) (Arrives fits.0 fits.1 new.1 new.0)
+  by_other (inr (inr arrived)) = let fits = (replies_fit w s event).arrived id arrived in comes w s id event fits.0 fits.1 fits.2 arrived
 
   pub client_step : ClientStep w (Finishes w event id) event id (standing_of w id) (standing_of (world_after w event) id)
   client_step =

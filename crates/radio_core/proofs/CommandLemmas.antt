@@ -3,23 +3,22 @@ use Rattle.std.proofs.Common.{◌≡◌, ℕ, Option, None, Some, List, refl, ap
 use Rattle.radio_policy.specs.declared.rule.Rule.TheVariants.{SourceKilled}
 use Rattle.radio_events.specs.declared.command.Command.{Command}
 use Rattle.radio_events.specs.declared.command.Command.TheVariants.{MoveClients, KillClient, KillSource, SetTitle, SetFallback}
-use Rattle.radio_core.specs.declared.clients.ClientState.TheVariants.{Ended}
 use Rattle.radio_core.specs.declared.house.House.{House}
 use Rattle.radio_core.specs.declared.outcome.Change.TheVariants.{Obey}
-use Rattle.radio_core.specs.Changes.{answered, changed, now_in_state, session_ended, session_killed}
+use Rattle.radio_core.specs.Changes.{answered, changed, finished_in, session_ended, session_killed}
 use Rattle.radio_parts.specs.Sessions.{Session, session_of}
 use Rattle.radio_core.specs.World.{World}
 use Rattle.radio_parts.proofs.SessionLookups.{found_named}
 
 -- its source has the number that it has, and its mount the name
 pub killed_so : (w after : World) (mount : List ℕ) (session : Session) (number : ℕ) (house : House) → session_of w.house.live mount ≡ Some session
-    → session.number ≡ number → after ≡ session_ended w mount → house ≡ now_in_state after.house number (Ended SourceKilled)
+    → session.number ≡ number → after ≡ session_ended w mount → house ≡ finished_in after.house number SourceKilled
     → record { house = house; seats = after.seats } ≡ session_killed w (session_of w.house.live mount)
 killed_so w after mount session number house found same ended now =
     ap (λ (h : House). record { house = h; seats = after.seats }) now
-    ∙ ap (λ (n : ℕ). record { house = now_in_state after.house n (Ended SourceKilled); seats = after.seats }) (sym same)
-    ∙ ap (λ (v : World). record v { house = now_in_state v.house session.number (Ended SourceKilled) }) ended
-    ∙ ap (λ (m : List ℕ). record (session_ended w m) { house = now_in_state (session_ended w m).house session.number (Ended SourceKilled) })
+    ∙ ap (λ (n : ℕ). record { house = finished_in after.house n SourceKilled; seats = after.seats }) (sym same)
+    ∙ ap (λ (v : World). record v { house = finished_in v.house session.number SourceKilled }) ended
+    ∙ ap (λ (m : List ℕ). record (session_ended w m) { house = finished_in (session_ended w m).house session.number SourceKilled })
     (sym (found_named w.house.live mount session found))
     ∙ ap (session_killed w) (sym found)
 

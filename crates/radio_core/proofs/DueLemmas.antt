@@ -15,12 +15,12 @@ use Rattle.radio_events.specs.declared.command.Command.TheVariants.{MoveClients,
 use Rattle.radio_core.specs.declared.clients.ClientState.{ClientState}
 use Rattle.radio_core.specs.declared.clients.ClientState.TheVariants.{Undecided, Feeds, Listens, Answered, Ended}
 use Rattle.radio_core.specs.declared.outcome.Change.{Change}
-use Rattle.radio_core.specs.declared.outcome.Change.TheVariants.{Nothing, Answer, Admit, Begin, Receive, SetTitle, TakeSeat, Advance, End}
+use Rattle.radio_core.specs.declared.outcome.Change.TheVariants.{Nothing, Answer, Admit, Begin, Raise, Receive, SetTitle, TakeSeat, Advance, End}
 use Rattle.radio_core.specs.declared.outcome.Change.TheVariants.{EndAndLeave, Forget, Tick, Obey}
 use Rattle.radio_fallback.specs.declared.moves.Move.{Move}
 use Rattle.radio_fallback.specs.declared.moves.Move.TheVariants.{Ended as SessionEnds, Up, To}
 use Rattle.radio_fallback.proofs.Faring.{each_carried}
-use Rattle.radio_core.specs.Changes.{answered, done, session_ended_by, session_killed, begun, carried_along, session_over, session_ended, called_home, client_gone, before_silence}
+use Rattle.radio_core.specs.Changes.{answered, done, session_ended_by, session_killed, begun, raised, carried_along, session_over, session_ended, called_home, client_gone, before_silence}
 use Rattle.radio_core.specs.Changes.{session_silenced, silent_in, ticked}
 use Rattle.radio_core.specs.Clients.{Client, newcomer, is_client, by_number, with_state, in_state}
 use Rattle.radio_parts.specs.Due.{last_moment, due_at, listener_due, session_due, earliest}
@@ -113,6 +113,7 @@ brings_by_last w Nothing = omega arith
 brings_by_last w (Answer id) = omega arith
 brings_by_last w (Admit id peer) = due_by_last w.house.settings.limits.header_timeout w.house.time
 brings_by_last w (Begin id mount shown) = due_by_last w.house.settings.limits.source_timeout w.house.time
+brings_by_last w (Raise id mount shown) = due_by_last w.house.settings.limits.source_timeout w.house.time
 brings_by_last w (Receive mount block) = due_by_last w.house.settings.limits.source_timeout w.house.time
 brings_by_last w (SetTitle mount title) = omega arith
 brings_by_last w (TakeSeat id seat) = duration_by_last (options_for w.house.settings seat.home).listeners.max_listener_duration seat.since
@@ -235,6 +236,11 @@ module _ (moment : ℕ) (last : moment ≤ last_moment) where
   }
   stays_due w (Begin id mount shown) due h = called_due (record w { house = begun w.house id mount shown }) mount (record {
     clients = Each_updated _ (is_client id) (with_state (Feeds mount)) (λ client k. last) w.house.clients due.clients;
+    listeners = due.listeners;
+    sessions = Each_placed _ by_mount (opened mount id shown w.house.time) w.house.live h due.sessions;
+  })
+  stays_due w (Raise id mount shown) due h = called_due (record w { house = raised w.house id mount shown }) mount (record {
+    clients = due.clients;
     listeners = due.listeners;
     sessions = Each_placed _ by_mount (opened mount id shown w.house.time) w.house.live h due.sessions;
   })

@@ -3,7 +3,7 @@ use Rattle.std.proofs.Common.{◌≡◌, true, false, ℕ, ◌+◌, ◌==◌, So
 use Rattle.radio_addr.specs.declared.peer.Peer.{Peer}
 use Rattle.radio_policy.specs.declared.rule.Rule.{Rule}
 use Rattle.radio_events.specs.declared.event.Event.{Event}
-use Rattle.radio_events.specs.declared.event.Event.TheVariants.{Push, SourceEnd, Leave, Clock}
+use Rattle.radio_events.specs.declared.event.Event.TheVariants.{Push, SourceEnd, Clock}
 use Rattle.radio_tables.proofs.KeyLaws.{by_number}
 use Rattle.radio_events.specs.declared.command.Command.{Command}
 use Rattle.radio_core.specs.CommandFacts.{IsCommanded}
@@ -25,12 +25,12 @@ use Rattle.radio_parts.specs.Sessions.{Session}
 use Rattle.radio_core.specs.Sound.{IsSound}
 use Rattle.radio_core.specs.Source.{shown_for}
 use Rattle.radio_core.specs.Step.{outcome, reply_to, world_after}
-use Rattle.radio_core.specs.Ways.{Way, Misplaced, IsFinished, IsDenied, IsRefused, IsAdmitted, Begins, Receives, SetsTitle, TakesSeat, HandsOut, Ends}
-use Rattle.radio_core.specs.Ways.{EndsAndLeaves, Leaves, Obeys, Shows, HasPassed, Ticks}
+use Rattle.radio_core.specs.Ways.{Way, Misplaced, IsFinished, IsDenied, IsRefused, IsAdmitted, Begins, ComesUp, Receives, SetsTitle, TakesSeat, HandsOut, Ends}
+use Rattle.radio_core.specs.Ways.{EndsAndLeaves, Leaves, GoesDown, Obeys, Shows, HasPassed, Ticks}
 use Rattle.radio_events.specs.Events.{client_in}
 use Rattle.radio_seats.proofs.SeatLaws.{listener_seated}
-use Rattle.radio_core.proofs.CalledHome.{turns_up}
-use Rattle.radio_core.proofs.Standings.{Turns, turns_answered, turns_sitting, turns_forgotten, turns_admitted, stays_hearing}
+use Rattle.radio_core.proofs.CalledHome.{turns_up, turns_risen}
+use Rattle.radio_core.proofs.Standings.{Turns, asks, turns_answered, turns_sitting, turns_forgotten, turns_admitted, stays_hearing}
 use Rattle.radio_core.proofs.Fates.{IsDone, Fate, GoesOn, IsEnded, HasStopped, IsMoved, HasEnded, Nobody}
 use Rattle.radio_core.proofs.SoundEnds.{ended_fates, ended_and_left_fates}
 use Rattle.radio_core.proofs.SoundRuns.{grown_world, NoMove, lag_fates}
@@ -71,6 +71,8 @@ pub data Effect (w later : World) (event : Event) (reply : Reply) : Type 0 where
   -- a client has arrived
   Joins : (peer : Peer) → passes w.house.lists peer ≡ true → reply ≡ Arrived (w.house.last_id + 1) → Turns w later (w.house.last_id + 1) (Undecided peer)
       → Effect w later event reply
+  -- a relay has come up
+  Rises : (mount : List ℕ) → reply ≡ Arrived (w.house.last_id + 1) → Turns w later (w.house.last_id + 1) (Feeds mount) → Effect w later event reply
   -- the event's client stands otherwise
   Acts : (him : ℕ) (now : Standing) → client_in event ≡ Some him → HasActed now → Turns w later him now → Effect w later event reply
   -- some are finished, one perhaps stops feeding, and the others stand as before
@@ -126,28 +128,31 @@ module _ (w : World) (s : IsSound w) where
   effect_by event o (Misplaced _) = Same (λ id. refl)
   effect_by event o (IsFinished _ him by its known) = Same (λ id. refl)
   effect_by event o (IsDenied _ by v nobody) = Same (λ id. refl)
-  effect_by event o (IsRefused _ him by v its undecided) = let at = undecided.1 in Acts him Answered its tt (turns_answered w him (λ u. cc))
+  effect_by event o (IsRefused _ him by v its undecided) = Acts him Answered its tt (turns_answered w him (asks w him undecided.0 undecided.1))
   effect_by event o (IsAdmitted peer allowed) = Joins peer (may_arrive w peer allowed) refl (turns_admitted w (w.house.last_id + 1) peer)
   effect_by event o (Begins asked undecided none allowed) = let at = undecided.1 in Acts asked.id (Feeds asked.mount) refl tt
       (turns_up w s asked.id asked.mount (shown_for w.house asked.mount asked.shown) undecided.0 undecided.1 none)
+  effect_by event o (ComesUp mount shown none allowed) = Rises mount refl (turns_risen w s mount (shown_for w.house mount shown) none)
   effect_by event o (Receives him mount block feeding) = Sweeps (λ id. lag_swept w s mount block him feeding id)
-  effect_by event o (Shows _ listing c) = let at = c.undecided in Acts c.asked.id Answered (ap client_in c.is_event) tt (turns_answered w c.asked.id (λ u. cc))
+  effect_by event o (Shows _ asker peer text its undecided what) = Acts asker Answered its tt
+      (turns_answered w asker (asks w asker peer undecided))
   effect_by event o (Obeys _ command c) = Sweeps (λ id. obeyed_swept w s event command c id)
   effect_by event o (HasPassed ms e) = Same (λ id. refl)
   effect_by event o (Ticks ms e) = Sweeps (λ id. tick_swept ms id)
   effect_by event o (SetsTitle him mount text feeding) = Same (λ id. refl)
   effect_by event o (TakesSeat asked peer session undecided lands live allowed) =
-      Acts asked.id Sits refl tt (turns_sitting w asked.id (first_seat w.house asked peer session) (λ u. cc))
+      Acts asked.id Sits refl tt (turns_sitting w asked.id (first_seat w.house asked peer session) (asks w asked.id peer undecided))
   effect_by event o (HandsOut him room seat session sits has live) =
       let listener = listener_seated w.seats him seat has in
       Same (λ id. stays_hearing w him _ listener.0 listener.1 id)
-  effect_by event o (Ends him mount feeding) =
+  effect_by event o (Ends him mount feeding no_relay) =
       Sweeps (λ id. swept w (changed w (End him mount)) (SourceEnd him) (λ id session. TakesTo w (SourceEnd him) id session.mount)
-      (λ id. client_in (SourceEnd him) ≡ Some id) HasEnded id (λ his. his) ((ended_fates w s him mount feeding).fate id))
-  effect_by event o (EndsAndLeaves him mount feeding) =
-      Sweeps (λ id. swept w (changed w (EndAndLeave him mount)) (Leave him) (λ id session. TakesTo w (Leave him) id session.mount)
-      (λ id. client_in (Leave him) ≡ Some id) HasEnded id (λ his. his) ((ended_and_left_fates w s him mount feeding).fate id))
-  effect_by event o (Leaves him other) = Acts him Unknown refl tt (turns_forgotten w him)
+      (λ id. client_in (SourceEnd him) ≡ Some id) HasEnded id (λ his. his) ((ended_fates w s him mount feeding no_relay).fate id))
+  effect_by event o (EndsAndLeaves _ him mount closes feeding) =
+      Sweeps (λ id. swept w (changed w (EndAndLeave him mount)) event (λ id session. TakesTo w event id session.mount)
+      (λ id. client_in event ≡ Some id) HasEnded id (λ his. his) ((ended_and_left_fates w s him mount feeding event closes).fate id))
+  effect_by event o (Leaves him no_relay other) = Acts him Unknown refl tt (turns_forgotten w him)
+  effect_by event o (GoesDown him rule relay told) = Acts him Unknown refl tt (turns_forgotten w him)
 
   pub effect_of : (event : Event) → Effect w (world_after w event) event (reply_to w event)
   unfolding reply_to world_after

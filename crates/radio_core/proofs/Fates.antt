@@ -12,12 +12,14 @@ use Rattle.radio_core.specs.declared.clients.ClientState.TheVariants.{Undecided 
 use Rattle.radio_core.specs.declared.standing.Standing.{Standing}
 use Rattle.radio_core.specs.declared.standing.Standing.TheVariants.{Unknown, Undecided, Feeds, Sits, Answered, Finished}
 use Rattle.radio_core.specs.Clients.{Client, client_of}
+use Rattle.radio_core.specs.Relays.{Relay, relay_of}
 use Rattle.radio_core.specs.Moves.{moved_into}
 use Rattle.radio_parts.specs.Sessions.{Session, session_of, AreApart}
 use Rattle.radio_core.specs.Sound.{IsSeatedIn, IsSound}
 use Rattle.radio_core.specs.Timeouts.{asks_too_late}
 use Rattle.radio_core.specs.World.{World, standing_of, standing_in, standing_by}
 use Rattle.radio_parts.proofs.NumberOrder.{order_ended}
+use Rattle.radio_core.proofs.Standings.{no_relay_sits}
 
 -- there is something that can end for him
 abbrev pub IsActive : Standing → Type 0
@@ -240,10 +242,10 @@ lost_by listener number rule client Listens e = refl
 lost_by listener number rule client HasHisAnswer e = cc
 lost_by listener number rule client (Ended by) e = cc
 
-pub lost_in : (listener : Option Listener) (number : ℕ) (rule : Rule) (client : Option Client) → standing_in listener client ≡ Sits
-    → standing_in (Some (record { id = number; seating = HasLostIt rule })) client ≡ Finished rule
-lost_in listener number rule None e = cc
-lost_in listener number rule (Some client) e = lost_by listener number rule client client.state e
+pub lost_in : (relay : Option Relay) (listener : Option Listener) (number : ℕ) (rule : Rule) (client : Option Client)
+    → standing_in relay listener client ≡ Sits → standing_in relay (Some (record { id = number; seating = HasLostIt rule })) client ≡ Finished rule
+lost_in relay listener number rule None e = absurd (no_relay_sits relay e)
+lost_in relay listener number rule (Some client) e = lost_by listener number rule client client.state e
 
 pub active_sitter : (now : Standing) → now ≡ Sits → IsActive now
 active_sitter now e = subst (λ (x : Standing). IsActive x) (sym e) tt
@@ -259,12 +261,12 @@ module _ (C : ℕ → Rule → Type 0) (M : ℕ → Session → Type 0) (S : ℕ
     by_loss : (listener_of (with_ended w.seats p rule) id ≡ listener_of w.seats id)
         ⊎ LosesSeat p rule (listener_of w.seats id) (listener_of (with_ended w.seats p rule) id)
         → Fate C M S L w (record w { seats = with_ended w.seats p rule }) id
-    by_loss (inl same) = GoesOn (ap (λ l. standing_in l (client_of w.house.clients id)) same) (ap seat_in same) (λ mount e. refl) (λ seat e. refl)
+    by_loss (inl same) = GoesOn (ap (λ l. standing_in (relay_of w.house.relays id) l (client_of w.house.clients id)) same) (ap seat_in same) (λ mount e. refl) (λ seat e. refl)
     by_loss (inr loses) =
         let sat : standing_of w id ≡ Sits = s.sitting id loses.seat loses.had_a_seat in
         IsEnded rule (causes id loses.seat loses.had_a_seat loses.holds) (active_sitter (standing_of w id) sat)
-        (ap (λ l. standing_in l (client_of w.house.clients id)) loses.finished
-        ∙ lost_in (listener_of w.seats id) loses.id rule (client_of w.house.clients id) sat)
+        (ap (λ l. standing_in (relay_of w.house.relays id) l (client_of w.house.clients id)) loses.finished
+        ∙ lost_in (relay_of w.house.relays id) (listener_of w.seats id) loses.id rule (client_of w.house.clients id) sat)
         (ap seat_in loses.finished) (λ mount e. cc)
 
   pub seats_fates : Fates C M S L w (record w { seats = with_ended w.seats p rule })

@@ -5,6 +5,7 @@ use Rattle.radio_addr.specs.declared.peer.Peer.{Peer}
 use Rattle.radio_access.specs.Lists.{passes}
 use Rattle.radio_tables.proofs.KeyLaws.{by_number}
 use Rattle.radio_core.specs.Clients.{Client}
+use Rattle.radio_core.specs.Relays.{Relay, relay_of}
 use Rattle.radio_core.specs.declared.clients.ClientState.TheVariants.{Undecided as IsNew}
 use Rattle.radio_seats.specs.declared.seat.Listener.{Listener}
 use Rattle.radio_seats.specs.declared.seat.Seat.{Seat}
@@ -21,12 +22,12 @@ use Rattle.radio_core.specs.Sound.{IsSound}
 use Rattle.radio_core.specs.Step.{outcome, reply_to, world_after}
 use Rattle.radio_events.specs.Events.{client_in}
 use Rattle.radio_core.proofs.NamedRules.{RuleNamed, DeniesIt, RefusesHim, TellsHisRule, NamesNoRule, rule_in, rule_named}
-use Rattle.radio_core.proofs.Effects.{Effect, Same, Joins, Acts, Sweeps, IsSwept, GoesOnAs, IsOut, HasDone, HasActed, effect_of}
+use Rattle.radio_core.proofs.Effects.{Effect, Same, Joins, Rises, Acts, Sweeps, IsSwept, GoesOnAs, IsOut, HasDone, HasActed, effect_of}
 use Rattle.radio_core.proofs.TickLemmas.{asking_at}
 
 -- whoever is finished by an event was there
-new_in : (listener : Option Listener) (client : Client) → client.state ≡ IsNew → standing_in listener (Some client) ≡ Unknown → ⊥
-new_in listener client e u = let undecided : standing_in listener (Some client) ≡ Undecided client.peer = rw e refl in cc
+new_in : (relay : Option Relay) (listener : Option Listener) (client : Client) → client.state ≡ IsNew → standing_in relay listener (Some client) ≡ Unknown → ⊥
+new_in relay listener client e u = let undecided : standing_in relay listener (Some client) ≡ Undecided client.peer = rw e refl in cc
 
 pub known_before : (w : World) → IsSound w → (event : Event) (id : ℕ) (rule : Rule) → Finishes w event id rule → standing_of w id ≡ Unknown → ⊥
 known_before w s event id rule finishes unknown = by_cause finishes.cause where
@@ -38,8 +39,8 @@ known_before w s event id rule finishes unknown = by_cause finishes.cause where
   by_cause (IsFarBehind him block seat e feeds has behind) = no_seat seat has
   by_cause (HasSatOut ms seat e has out) = no_seat seat has
   by_cause (HasAskedNothing ms client e found late) =
-      new_in (listener_of w.seats id) client (asking_at w.house.settings.limits.header_timeout ms client.arrived client.state late)
-      (ap (standing_in (listener_of w.seats id)) (sym found) ∙ unknown)
+      new_in (relay_of w.house.relays id) (listener_of w.seats id) client (asking_at w.house.settings.limits.header_timeout ms client.arrived client.state late)
+      (ap (standing_in (relay_of w.house.relays id) (listener_of w.seats id)) (sym found) ∙ unknown)
   by_cause (HasSentNothing ms session e feeds live silent) = cc
   by_cause (IsKilled seat has named) = no_seat seat has
   by_cause (HisSessionIsKilled session feeds live named) = cc
@@ -70,6 +71,8 @@ module _ (w : World) (s : IsSound w) (event : Event) where
   stands_by id not (Same same) = inl (same id)
   stands_by id not (Joins peer passing arrived t) = by_number (w.house.last_id + 1) id (λ same. inr (inr (arrived ∙ ap (λ (n : ℕ). Arrived n) same)))
       (λ other. inl (t.others id other))
+  stands_by id not (Rises mount arrived t) = by_number (w.house.last_id + 1) id (λ same. inr (inr (arrived ∙ ap (λ (n : ℕ). Arrived n) same)))
+      (λ other. inl (t.others id other))
   stands_by id not (Acts him now his acted t) = inl (t.others id (apart_from event him id his not))
   stands_by id not (Sweeps swept) = by_sweep (swept id) where
     by_sweep : IsSwept w (world_after w event) event id → StandsOn w event id
@@ -87,6 +90,10 @@ module _ (w : World) (s : IsSound w) (event : Event) where
   finished_by id rule e (Joins peer passing arrived t) =
       by_number (w.house.last_id + 1) id
       (λ same. let now : Undecided peer ≡ HasFinished rule = sym t.his ∙ ap (standing_of (world_after w event)) same ∙ e in cc)
+      (λ other. inl (sym (t.others id other) ∙ e))
+  finished_by id rule e (Rises mount arrived t) =
+      by_number (w.house.last_id + 1) id
+      (λ same. let now : Feeds mount ≡ HasFinished rule = sym t.his ∙ ap (standing_of (world_after w event)) same ∙ e in cc)
       (λ other. inl (sym (t.others id other) ∙ e))
   finished_by id rule e (Acts him now his acted t) =
       by_number him id
@@ -120,6 +127,10 @@ module _ (w : World) (s : IsSound w) (event : Event) where
       let one : other ≡ peer = cc in
       let new : w.house.last_id < id = omega arith in
       inr (new, ap (passes w.house.lists) (sym one) ∙ passing))
+      (λ apart. inl (sym (t.others id apart) ∙ e))
+  undecided_by id peer e (Rises mount arrived t) =
+      by_number (w.house.last_id + 1) id
+      (λ same. let now : Feeds mount ≡ Undecided peer = sym t.his ∙ ap (standing_of (world_after w event)) same ∙ e in cc)
       (λ apart. inl (sym (t.others id apart) ∙ e))
   undecided_by id peer e (Acts him now his acted t) =
       by_number him id

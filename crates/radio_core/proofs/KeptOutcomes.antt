@@ -1,19 +1,19 @@
 -- what comes of an event is the same where only a queue is kept of each stream
-use Rattle.std.proofs.Common.{◌≡◌, Bool, ℕ, ◌+◌, ◌||◌, Option, Some, None, is_some, List, length, refl, ap, ◌∙◌, arith}
+use Rattle.std.proofs.Common.{◌≡◌, Bool, ℕ, ◌+◌, ◌==◌, ◌||◌, Option, Some, None, is_some, List, length, refl, ap, ◌∙◌, arith}
 use Rattle.std.proofs.Math.Path.{fun_ext}
 use Rattle.std.specs.Prelude.{nat_lt, if◌then◌else◌}
 use Rattle.std.specs.Option.{option_map}
 use Rattle.std.specs.Str.{bytes_eq}
 use Rattle.std.proofs.lemmas.List.{length-map}
 use Rattle.radio_policy.specs.declared.facts.SourceFacts.{SourceFacts}
+use Rattle.radio_policy.specs.declared.facts.RelayFacts.{RelayFacts}
 use Rattle.radio_policy.specs.declared.facts.ListenFacts.{ListenFacts}
 use Rattle.radio_policy.specs.declared.facts.CommandFacts.{CommandFacts}
 use Rattle.radio_policy.specs.declared.facts.CommandNeeds.{CommandNeeds}
 use Rattle.radio_policy.specs.declared.facts.CommandNeeds.TheVariants.{Mount as MountNeeds, Destination, Client as ClientNeeds}
-use Rattle.radio_policy.specs.Table.{source_rows, push_rows, listen_rows, command_rows}
+use Rattle.radio_policy.specs.Table.{source_rows, relay_rows, push_rows, listen_rows, command_rows}
 use Rattle.radio_policy.specs.Verdicts.{verdict_in}
 use Rattle.radio_addr.specs.declared.peer.Peer.{Peer}
-use Rattle.radio_settings.specs.MountName.{is_mount_name}
 use Rattle.radio_access.specs.ContentTypes.{is_refused_type}
 use Rattle.radio_access.specs.SourcePair.{is_source_pair}
 use Rattle.radio_tables.specs.Lists.{Each}
@@ -24,7 +24,9 @@ use Rattle.radio_fallback.specs.Walk.{Sight, found_at, landing, stop_in}
 use Rattle.radio_events.specs.declared.event.SourceRequest.{SourceRequest}
 use Rattle.radio_events.specs.declared.event.ListenRequest.{ListenRequest}
 use Rattle.radio_events.specs.declared.event.Event.{Event}
-use Rattle.radio_events.specs.declared.event.Event.TheVariants.{Arrive, Source, Push, SourceEnd, Title, Listen, Draw, Command, Leave, Clock}
+use Rattle.radio_events.specs.declared.event.Event.TheVariants.{Arrive, Source, Push, SourceEnd, Title, Listen, Draw, Command, Leave}
+use Rattle.radio_events.specs.declared.event.Event.TheVariants.{RelayUp, RelayDown, Clock}
+use Rattle.radio_settings.specs.declared.field.Shown.{Shown}
 use Rattle.radio_core.specs.declared.house.House.{House}
 use Rattle.radio_core.specs.declared.outcome.Change.TheVariants.{Nothing, Answer, TakeSeat, Advance, Obey}
 use Rattle.radio_core.specs.declared.outcome.Outcome.{Outcome}
@@ -47,21 +49,25 @@ use Rattle.radio_core.specs.Counts.{counts_by}
 use Rattle.radio_core.specs.Draw.{hands_out, hands_out_at}
 use Rattle.radio_fallback.specs.declared.walking.Landing.{Landing}
 use Rattle.radio_fallback.specs.declared.walking.Landing.TheVariants.{Lands, Stops}
-use Rattle.radio_core.specs.Facts.{largest_number, is_full, is_in_settings, sight_of, walks_to, source_facts, listen_facts}
+use Rattle.radio_core.specs.Facts.{largest_number, is_full, is_in_settings, sight_of, walks_to, source_facts, relay_facts, listen_facts, names_mount}
 use Rattle.radio_parts.specs.Kept.{kept_session}
 use Rattle.radio_core.specs.Kept.{kept_of}
-use Rattle.radio_core.specs.Listen.{burst_of, interval_for, first_seat, takes_seat, sits_where}
+use Rattle.radio_core.specs.Listen.{burst_of, head_of, interval_for, first_seat, takes_seat, sits_where}
 use Rattle.radio_core.specs.Outcomes.{says, on_verdict, if_undecided, if_feeding, if_sitting}
 use Rattle.radio_core.specs.Push.{takes_in}
 use Rattle.radio_parts.specs.Sessions.{Session, is_of, session_of, HasRisingStarts}
 use Rattle.radio_core.specs.Source.{begins}
+use Rattle.radio_core.specs.RelayUp.{raises}
 use Rattle.radio_core.specs.StandsFor.{SeatsAreKept}
 use Rattle.radio_core.specs.Step.{outcome}
 use Rattle.radio_core.specs.World.{World, standing_of}
 use Rattle.radio_parts.proofs.KeptStreams.{kept_data, kept_burst}
 use Rattle.radio_parts.proofs.KeptLists.{kept_found, kept_ends}
 use Rattle.radio_core.proofs.KeptSights.{has_session, same_sight}
-use Rattle.radio_core.proofs.ListingLemmas.{shown_kept}
+use Rattle.radio_core.proofs.ListingLemmas.{shown_kept, page_kept}
+use Rattle.radio_core.specs.Pages.{asks_by}
+use Rattle.radio_settings.specs.declared.web.WebPath.{WebPath}
+use Rattle.radio_settings.specs.Web.{web_path}
 
 module _ (w : World) (rise : Each HasRisingStarts w.house.live) (kept : SeatsAreKept w) where
   abbrev queue : ℕ
@@ -76,7 +82,7 @@ module _ (w : World) (rise : Each HasRisingStarts w.house.live) (kept : SeatsAre
   -- a source asks
   feed_facts : (asked : SourceRequest) → source_facts kept_house asked ≡ source_facts w.house asked
   feed_facts asked =
-      let facts : ℕ → Bool → Option SourceFacts = λ count live. (if is_mount_name asked.mount then Some (record {
+      let facts : ℕ → Bool → Option SourceFacts = λ count live. (if names_mount w.house.settings asked.mount then Some (record {
         is_source_pair = is_source_pair w.house.settings asked.mount asked.pair;
         sources_are_full = is_full count w.house.settings.limits.sources;
         mount_is_live = live;
@@ -85,11 +91,23 @@ module _ (w : World) (rise : Each HasRisingStarts w.house.live) (kept : SeatsAre
       ap (λ (count : ℕ). facts count (is_some (session_of kept_house.live asked.mount))) (length-map w.house.live (kept_session queue))
       ∙ ap (facts (length w.house.live)) (has_session w rise asked.mount)
 
+  -- a relay comes up
+  raise_facts : (mount : List ℕ) (shown : Shown) → relay_facts kept_house mount shown ≡ relay_facts w.house mount shown
+  raise_facts mount shown =
+      let facts : ℕ → Bool → Option RelayFacts = λ count live. (if names_mount w.house.settings mount then Some (record {
+        sources_are_full = is_full count w.house.settings.limits.sources;
+        mount_is_live = live;
+        type_is_refused = is_refused_type shown.content_type;
+        number_is_spent = w.house.last_id == largest_number;
+      }) else None) in
+      ap (λ (count : ℕ). facts count (is_some (session_of kept_house.live mount))) (length-map w.house.live (kept_session queue))
+      ∙ ap (facts (length w.house.live)) (has_session w rise mount)
+
   -- a listener asks
   hear_facts : (asked : ListenRequest) → listen_facts kept_house w.seats asked ≡ listen_facts w.house w.seats asked
   hear_facts asked =
       let facts : Sight → Bool → Option ListenFacts = λ sight live.
-      (if is_mount_name asked.mount then Some (record {
+      (if names_mount w.house.settings asked.mount then Some (record {
         mount_is_known = is_in_settings w.house.settings asked.mount || live;
         users_accept = (found_at sight w.seats asked.mount asked.pair).users_accept;
         user_is_twice = (found_at sight w.seats asked.mount asked.pair).user_is_twice;
@@ -102,7 +120,7 @@ module _ (w : World) (rise : Each HasRisingStarts w.house.live) (kept : SeatsAre
       → takes_seat kept_house asked peer (option_map (kept_session queue) found) ≡ takes_seat w.house asked peer found
   sits_alike asked peer None rises = refl
   sits_alike asked peer (Some session) rises =
-      ap (λ (place : ℕ). says (Seated (interval_for w.house asked.mount asked.wants_metadata) session.shown)
+      ap (λ (place : ℕ). says (Seated (interval_for w.house asked.mount asked.wants_metadata) (head_of w.house session.shown))
       (TakeSeat asked.id (record (first_seat w.house asked peer session) { place = place })))
       (kept_burst queue (burst_of w.house session.mount) session.stream (omega arith) (rises session refl))
 
@@ -179,6 +197,17 @@ module _ (w : World) (rise : Each HasRisingStarts w.house.live) (kept : SeatsAre
       ∙ ap (λ (o : Outcome). if_undecided (standing_of w asked.id) (λ _. on_verdict (verdict_in (rows_to_command w asked)) (Answer asked.id) o))
       (does_alike asked.id asked.asked)
 
+  -- a client asks by a path
+  paths_alike : (asked : ListenRequest) (path : Option WebPath) → asks_by (kept_of w) asked path ≡ asks_by w asked path
+  paths_alike asked None =
+      ap (λ (facts : Option ListenFacts). if_undecided (standing_of w asked.id) (λ peer.
+      on_verdict (verdict_in (listen_rows facts)) (Answer asked.id)
+      (sits_where kept_house asked peer (walks_to kept_house w.seats asked.mount asked.pair)))) (hear_facts asked)
+      ∙ ap (if_undecided (standing_of w asked.id)) (fun_ext (λ peer.
+      ap (on_verdict (verdict_in (listen_rows (listen_facts w.house w.seats asked))) (Answer asked.id)) (hears_alike asked peer)))
+  paths_alike asked (Some path) =
+      ap (λ (text : Text). if_undecided (standing_of w asked.id) (λ _. says (SaysText text) (Answer asked.id))) (page_kept w path asked.host)
+
   pub outcome_kept : (event : Event) → outcome (kept_of w) event ≡ outcome w event
   unfolding outcome
   outcome_kept (Arrive peer) = refl
@@ -191,13 +220,11 @@ module _ (w : World) (rise : Each HasRisingStarts w.house.live) (kept : SeatsAre
       (takes_in mount block)) (kept_ends queue w.house.live mount rise)))
   outcome_kept (SourceEnd id) = refl
   outcome_kept (Title id text) = refl
-  outcome_kept (Listen asked) =
-      ap (λ (facts : Option ListenFacts). if_undecided (standing_of w asked.id) (λ peer.
-      on_verdict (verdict_in (listen_rows facts)) (Answer asked.id)
-      (sits_where kept_house asked peer (walks_to kept_house w.seats asked.mount asked.pair)))) (hear_facts asked)
-      ∙ ap (if_undecided (standing_of w asked.id)) (fun_ext (λ peer.
-      ap (on_verdict (verdict_in (listen_rows (listen_facts w.house w.seats asked))) (Answer asked.id)) (hears_alike asked peer)))
+  outcome_kept (Listen asked) = paths_alike asked (web_path w.house.settings.web asked.mount)
   outcome_kept (Draw id room) = ap (if_sitting (standing_of w id)) (draws_alike id room (seat_of w.seats id) refl)
   outcome_kept (Command asked) = commands_alike asked
   outcome_kept (Leave id) = refl
+  outcome_kept (RelayUp mount shown) =
+      ap (λ (facts : Option RelayFacts). on_verdict (verdict_in (relay_rows facts)) Nothing (raises w.house mount shown)) (raise_facts mount shown)
+  outcome_kept (RelayDown id) = refl
   outcome_kept (Clock ms) = refl

@@ -11,7 +11,6 @@ use Rattle.radio_policy.specs.declared.rule.Rule.{Rule}
 use Rattle.radio_policy.specs.declared.rule.Rule.TheVariants.{Lagged, TimeOver, Killed}
 use Rattle.radio_addr.specs.declared.peer.Peer.{Peer}
 use Rattle.radio_settings.specs.declared.field.Shown.{Shown}
-use Rattle.radio_tables.specs.Lists.{update_first}
 use Rattle.radio_tables.proofs.FindLaws.{find_here, find_later, find_apart}
 use Rattle.radio_tables.proofs.KeyLaws.{by_number, by_name}
 use Rattle.radio_seats.specs.declared.seat.Listener.{Listener}
@@ -25,7 +24,7 @@ use Rattle.radio_events.specs.declared.command.Command.{Command}
 use Rattle.radio_events.specs.declared.command.Command.TheVariants.{MoveClients, KillClient, KillSource, SetTitle as NewTitle, SetFallback}
 use Rattle.radio_events.specs.declared.event.Event.{Event}
 use Rattle.radio_events.specs.declared.event.ListenRequest.{ListenRequest}
-use Rattle.radio_core.specs.declared.outcome.Change.TheVariants.{Begin, Receive, SetTitle, TakeSeat, Advance, End, EndAndLeave, Forget, Obey}
+use Rattle.radio_core.specs.declared.outcome.Change.TheVariants.{Receive, SetTitle, TakeSeat, Advance, End, EndAndLeave, Forget, Obey}
 use Rattle.radio_core.specs.declared.outcome.Outcome.{Outcome}
 use Rattle.radio_settings.specs.Options.{options_for}
 use Rattle.radio_fallback.specs.declared.moves.Move.{Move}
@@ -33,18 +32,18 @@ use Rattle.radio_fallback.specs.declared.moves.Move.TheVariants.{Ended as Sessio
 use Rattle.radio_fallback.specs.Fares.{seat_at_end}
 use Rattle.radio_fallback.proofs.Faring.{Faring, HasStayed, HasGone, HasLost, fares}
 use Rattle.radio_core.specs.declared.house.House.{House}
-use Rattle.radio_core.specs.Changes.{answered, session_killed, changed, begun, received, carried_along, session_over, session_ended, called_home}
+use Rattle.radio_core.specs.Changes.{answered, session_killed, changed, begun, raised, received, carried_along, session_over, session_ended, called_home}
 use Rattle.radio_core.specs.Changes.{before_silence, session_silenced, silent_in, ticked}
 use Rattle.radio_core.specs.Facts.{live_end, sight_of}
 use Rattle.radio_core.specs.Lagging.{EachSeat}
 use Rattle.radio_core.specs.Listen.{burst_of, first_seat}
-use Rattle.radio_parts.specs.Sessions.{Session, is_of, session_of, opened, longer, with_title}
+use Rattle.radio_parts.specs.Sessions.{Session, session_of, opened, with_session, longer, with_title}
 use Rattle.radio_core.specs.Source.{shown_for}
 use Rattle.radio_core.specs.Step.{outcome}
 use Rattle.radio_parts.specs.Stream.{WholeStream, no_data, end_of, with_block, burst_start, data_at}
 use Rattle.radio_parts.specs.Timeouts.{lags_behind, has_sat_out}
-use Rattle.radio_core.specs.Ways.{Way, Misplaced, IsFinished, IsDenied, IsRefused, IsAdmitted, Begins, Receives, SetsTitle, TakesSeat, HandsOut, Ends}
-use Rattle.radio_core.specs.Ways.{EndsAndLeaves, Leaves, Obeys, Shows, HasPassed, Ticks}
+use Rattle.radio_core.specs.Ways.{Way, Misplaced, IsFinished, IsDenied, IsRefused, IsAdmitted, Begins, ComesUp, Receives, SetsTitle, TakesSeat, HandsOut, Ends}
+use Rattle.radio_core.specs.Ways.{EndsAndLeaves, Leaves, GoesDown, Obeys, Shows, HasPassed, Ticks}
 use Rattle.radio_core.specs.World.{World}
 use Rattle.radio_core.proofs.CalledHome.{house_called}
 use Rattle.radio_core.proofs.CommandLemmas.{obeyed_keeps}
@@ -52,6 +51,7 @@ use Rattle.radio_core.proofs.CarriedFates.{order_carried}
 use Rattle.radio_parts.proofs.SessionLookups.{beside_fed, beside_titled, beside_begun, is_new_session}
 use Rattle.radio_parts.proofs.NumberOrder.{order_ended}
 use Rattle.radio_core.proofs.SoundEnds.{was_live}
+use Rattle.radio_core.proofs.UpdatedSessions.{session_updated}
 use Rattle.radio_core.proofs.Ways.{way_of}
 
 -- he sits at the end of his session's stream
@@ -186,47 +186,23 @@ settings_by w order event o (IsRefused _ id rule v his undecided) = refl
 settings_by w order event o (IsAdmitted peer allowed) = refl
 settings_by w order event o (Begins asked undecided none allowed) =
     ap (λ (h : House). h.settings) (house_called (record w { house = begun w.house asked.id asked.mount (shown_for w.house asked.mount asked.shown) }) asked.mount)
+settings_by w order event o (ComesUp mount shown none allowed) =
+    ap (λ (h : House). h.settings) (house_called (record w { house = raised w.house (w.house.last_id + 1) mount (shown_for w.house mount shown) }) mount)
 settings_by w order event o (Receives id mount block feeding) = refl
-settings_by w order event o (Shows _ listing c) = refl
+settings_by w order event o (Shows _ asker peer text its undecided what) = refl
 settings_by w order event o (Obeys _ command c) = (obeyed_keeps w c.asked.id command).0
 settings_by w order event o (HasPassed ms e) = refl
 settings_by w order event o (Ticks ms e) = (fewer_ticked w ms order).settings
 settings_by w order event o (SetsTitle id mount text feeding) = refl
 settings_by w order event o (TakesSeat asked peer session undecided lands live allowed) = refl
 settings_by w order event o (HandsOut id room seat session sits has live) = refl
-settings_by w order event o (Ends id mount feeding) = refl
-settings_by w order event o (EndsAndLeaves id mount feeding) = refl
-settings_by w order event o (Leaves id other) = refl
+settings_by w order event o (Ends id mount feeding no_relay) = refl
+settings_by w order event o (EndsAndLeaves _ id mount closes feeding) = refl
+settings_by w order event o (Leaves id no_relay other) = refl
+settings_by w order event o (GoesDown id rule relay told) = refl
 
 pub settings_stay : (w : World) → AreByNumber w.seats → (event : Event) → (changed w (outcome w event).change).house.settings ≡ w.house.settings
 settings_stay w order event = settings_by w order event (outcome w event) (way_of w event)
-
--- what is found where the session of a mount has changed
-module _ (live : List Session) (mount : List ℕ) (f : Session → Session) (same_test : (x : Session) → is_of mount (f x) ≡ is_of mount x) where
-  updated_at : (x : Session) (xs : List Session) (his : Bool) → is_of mount x ≡ his
-      → session_of (update_first (is_of mount) f xs) mount ≡ option_map f (session_of xs mount)
-      → session_of (if his then f x ∷ xs else x ∷ update_first (is_of mount) f xs) mount ≡ option_map f (if his then Some x else session_of xs mount)
-  updated_at x xs true e later = find_here (is_of mount) (f x) xs (same_test x ∙ e)
-  updated_at x xs false e later = find_later (is_of mount) x (update_first (is_of mount) f xs) e ∙ later
-
-  updated_in : (xs : List Session) → session_of (update_first (is_of mount) f xs) mount ≡ option_map f (session_of xs mount)
-  updated_in [] = refl
-  updated_in (x ∷ xs) = updated_at x xs (is_of mount x) refl (updated_in xs)
-
-  pub session_updated : {A : Type 0} (other : List ℕ) (now : Session)
-      → (bytes_eq mount other ≡ false → session_of (update_first (is_of mount) f live) other ≡ session_of live other)
-      → session_of (update_first (is_of mount) f live) other ≡ Some now
-      → ((old : Session) → mount ≡ other → session_of live other ≡ Some old → f old ≡ now → A) → (session_of live other ≡ Some now → A) → A
-  session_updated {A} other now beside e new same_as =
-      by_name mount other
-      (λ same. by_found same (session_of live mount) refl (sym (updated_in live) ∙ ap (session_of (update_first (is_of mount) f live)) same ∙ e))
-      (λ apart. same_as (sym (beside apart) ∙ e)) where
-        by_found : mount ≡ other → (found : Option Session) → session_of live mount ≡ found → option_map f (session_of live mount) ≡ Some now → A
-        by_found same None none is = let nothing : option_map f (session_of live mount) ≡ None = ap (option_map f) none in cc
-        by_found same (Some old) found is =
-            let both : Some (f old) ≡ Some now = sym (ap (option_map f) found) ∙ is in
-            let one : f old ≡ now = cc in
-            new old same (ap (session_of live) (sym same) ∙ found) one
 
 -- who is not behind at the mount
 not_behind : {queue : ℕ} (there : Bool) (lag : ℕ) → there ≡ true → (there && nat_lt queue lag) ≡ false → lag ≤ queue
@@ -254,41 +230,47 @@ module _ (P : WholeStream → ℕ → Type 0) (w : World) (order : AreByNumber w
     by_seat (inr ends) = subst (λ (n : ℕ). P session.stream n) (sym (ends session live)) (holds.at_end seat.mount session before)
 
   -- a session begins
-  each_begun : (him : ℕ) (mount : List ℕ) (shown : Shown) → EachSeat P (record w { house = begun w.house him mount shown })
-  each_begun him mount shown id seat session has live =
-      let fresh = opened mount him shown w.house.time in
-      by_name mount seat.mount
-      (λ same.
-      let new = is_new_session w.house.live fresh seat.mount ((bytes_eq-Decides mount seat.mount).1 same) in
-      let found : Some fresh ≡ Some session = sym new ∙ live in
-      let one : fresh ≡ session = cc in
-      subst (λ (x : Session). P x.stream seat.place) one (holds.at_none seat.place))
-      (λ apart. all id seat session has (sym (beside_begun w.house.live fresh seat.mount apart) ∙ live))
+  module _ (him : ℕ) (mount : List ℕ) (shown : Shown) (house : House)
+      (begins : house.live ≡ with_session w.house.live (opened mount him shown w.house.time)) where
+    abbrev fresh : Session
+    fresh = opened mount him shown w.house.time
 
-  -- and those come home whom it calls
-  each_up : (him : ℕ) (mount : List ℕ) (shown : Shown) → EachSeat P (changed w (Begin him mount shown))
-  each_up him mount shown id seat session has live = by_seat (called.seats id seat has) where
-    up : World
-    up = record w { house = begun w.house him mount shown }
+    abbrev up : World
+    up = record w { house = house }
 
-    called : HasFewer (record w { house = begun w.house him mount shown }) (changed w (Begin him mount shown))
-    called = fewer_called (record w { house = begun w.house him mount shown }) mount order
+    is_fresh : (at : List ℕ) (session : Session) → mount ≡ at → session_of house.live at ≡ Some session → fresh ≡ session
+    is_fresh at session same live =
+        let new = is_new_session w.house.live fresh at ((bytes_eq-Decides mount at).1 same) in
+        let found : Some fresh ≡ Some session = sym new ∙ ap (λ (xs : List Session). session_of xs at) (sym begins) ∙ live in
+        cc
 
-    before : session_of (begun w.house him mount shown).live seat.mount ≡ Some session
-    before = called.sessions seat.mount session live
+    was_there : (at : List ℕ) (session : Session) → bytes_eq mount at ≡ false → session_of house.live at ≡ Some session
+        → session_of w.house.live at ≡ Some session
+    was_there at session apart live =
+        sym (beside_begun w.house.live fresh at apart) ∙ ap (λ (xs : List Session). session_of xs at) (sym begins) ∙ live
 
-    by_seat : (seat_of w.seats id ≡ Some seat) ⊎ SitsAtEnd (changed w (Begin him mount shown)) seat → P session.stream seat.place
-    by_seat (inl had) = each_begun him mount shown id seat session had before
-    by_seat (inr ends) =
-        let fresh = opened mount him shown w.house.time in
-        subst (λ (n : ℕ). P session.stream n) (sym (ends session live))
-        (by_name mount seat.mount
-        (λ same.
-        let new = is_new_session w.house.live fresh seat.mount ((bytes_eq-Decides mount seat.mount).1 same) in
-        let found : Some fresh ≡ Some session = sym new ∙ before in
-        let one : fresh ≡ session = cc in
-        subst (λ (x : Session). P x.stream (end_of x.stream)) one (holds.at_none 0))
-        (λ apart. holds.at_end seat.mount session (sym (beside_begun w.house.live fresh seat.mount apart) ∙ before)))
+    each_begun : EachSeat P (record w { house = house })
+    each_begun id seat session has live =
+        by_name mount seat.mount
+        (λ same. subst (λ (x : Session). P x.stream seat.place) (is_fresh seat.mount session same live) (holds.at_none seat.place))
+        (λ apart. all id seat session has (was_there seat.mount session apart live))
+
+    -- and those come home whom it calls
+    each_up : EachSeat P (called_home (record w { house = house }) mount)
+    each_up id seat session has live = by_seat (called.seats id seat has) where
+      called : HasFewer (record w { house = house }) (called_home (record w { house = house }) mount)
+      called = fewer_called (record w { house = house }) mount order
+
+      before : session_of house.live seat.mount ≡ Some session
+      before = called.sessions seat.mount session live
+
+      by_seat : (seat_of w.seats id ≡ Some seat) ⊎ SitsAtEnd (called_home (record w { house = house }) mount) seat → P session.stream seat.place
+      by_seat (inl had) = each_begun id seat session had before
+      by_seat (inr ends) =
+          subst (λ (n : ℕ). P session.stream n) (sym (ends session live))
+          (by_name mount seat.mount
+          (λ same. subst (λ (x : Session). P x.stream (end_of x.stream)) (is_fresh seat.mount session same before) (holds.at_none 0))
+          (λ apart. holds.at_end seat.mount session (was_there seat.mount session apart before)))
 
   -- a title is set
   each_titled : (mount text : List ℕ) → EachSeat P (changed w (SetTitle mount text))
@@ -377,22 +359,26 @@ module _ (P : WholeStream → ℕ → Type 0) (w : World) (order : AreByNumber w
   each_by event o (IsDenied _ rule v other) = all
   each_by event o (IsRefused _ id rule v his undecided) = all
   each_by event o (IsAdmitted peer allowed) = all
-  each_by event o (Begins asked undecided none allowed) = each_up asked.id asked.mount (shown_for w.house asked.mount asked.shown)
+  each_by event o (Begins asked undecided none allowed) =
+      each_up asked.id asked.mount (shown_for w.house asked.mount asked.shown) (begun w.house asked.id asked.mount (shown_for w.house asked.mount asked.shown)) refl
+  each_by event o (ComesUp mount shown none allowed) =
+      each_up (w.house.last_id + 1) mount (shown_for w.house mount shown) (raised w.house (w.house.last_id + 1) mount (shown_for w.house mount shown)) refl
   each_by event o (Receives id mount block feeding) = each_received mount block
-  each_by event o (Shows _ listing c) = all
+  each_by event o (Shows _ asker peer text its undecided what) = all
   each_by event o (Obeys _ command c) = each_obeyed command c.asked.id
   each_by event o (HasPassed ms e) = all
   each_by event o (Ticks ms e) = each_fewer (ticked w ms) (fewer_ticked w ms order)
   each_by event o (SetsTitle id mount text feeding) = each_titled mount text
   each_by event o (TakesSeat asked peer session undecided lands live allowed) = each_seated asked peer session live
   each_by event o (HandsOut id room seat session sits has live) = each_heard id seat (length (data_at session.stream seat.place room)) has
-  each_by event o (Ends id mount feeding) =
+  each_by event o (Ends id mount feeding no_relay) =
       let ended = fewer_ended w mount order in
       each_fewer (changed w (End id mount)) (record { settings = refl; seats = ended.seats; sessions = ended.sessions })
-  each_by event o (EndsAndLeaves id mount feeding) =
+  each_by event o (EndsAndLeaves _ id mount closes feeding) =
       each_fewer (changed w (EndAndLeave id mount))
       (fewer_twice w (session_ended w mount) (changed w (EndAndLeave id mount)) (fewer_ended w mount order) (fewer_left (session_ended w mount) id))
-  each_by event o (Leaves id other) = each_fewer (changed w (Forget id)) (fewer_left w id)
+  each_by event o (Leaves id no_relay other) = each_fewer (changed w (Forget id)) (fewer_left w id)
+  each_by event o (GoesDown id rule relay told) = each_fewer (changed w (Forget id)) (fewer_left w id)
 
   pub each_after : (event : Event) → EachSeat P (changed w (outcome w event).change)
   each_after event = each_by event (outcome w event) (way_of w event)

@@ -9,18 +9,18 @@ use Rattle.radio_events.specs.declared.command.Command.TheVariants.{MoveClients,
 use Rattle.radio_tables.specs.Lists.{Each}
 use Rattle.radio_tables.proofs.EachLaws.{Each_kept, Each_updated, Each_placed}
 use Rattle.radio_seats.specs.Seats.{with_ended}
-use Rattle.radio_core.specs.declared.clients.ClientState.TheVariants.{Answered, Ended}
+use Rattle.radio_core.specs.declared.clients.ClientState.TheVariants.{Answered}
 use Rattle.radio_core.specs.declared.outcome.Change.{Change}
-use Rattle.radio_core.specs.declared.outcome.Change.TheVariants.{Nothing, Answer, Admit, Begin, Receive, SetTitle, TakeSeat, Advance, End}
+use Rattle.radio_core.specs.declared.outcome.Change.TheVariants.{Nothing, Answer, Admit, Begin, Raise, Receive, SetTitle, TakeSeat, Advance, End}
 use Rattle.radio_core.specs.declared.outcome.Change.TheVariants.{EndAndLeave, Forget, Tick, Obey}
 use Rattle.radio_core.specs.declared.house.House.{House}
-use Rattle.radio_core.specs.Changes.{answered, done, session_ended_by, session_killed, changed, now_in_state, begun, carried_along, session_over, session_ended, called_home, client_gone, laggards_ended}
+use Rattle.radio_core.specs.Changes.{answered, done, session_ended_by, session_killed, changed, finished_in, begun, raised, carried_along, session_over, session_ended, called_home, client_gone, laggards_ended}
 use Rattle.radio_core.specs.Changes.{before_silence, session_silenced, silent_in, ticked}
 use Rattle.radio_core.specs.Clients.{in_state}
 use Rattle.radio_parts.specs.Kept.{kept_session, kept_live}
 use Rattle.radio_core.specs.Kept.{kept_of}
 use Rattle.radio_core.specs.KeptChanges.{kept_changed}
-use Rattle.radio_parts.specs.Sessions.{Session, session_of, is_of, by_mount, opened, longer, fed, with_title, HasRisingStarts}
+use Rattle.radio_parts.specs.Sessions.{Session, session_of, is_of, by_mount, opened, with_session, longer, fed, with_title, HasRisingStarts}
 use Rattle.radio_parts.specs.Stream.{end_of, with_block}
 use Rattle.radio_parts.specs.Timeouts.{lags_behind}
 use Rattle.radio_core.specs.World.{World}
@@ -54,7 +54,7 @@ rise_silenced [] w rise = rise
 rise_silenced (session ∷ sessions) w rise = rise_silenced sessions (session_silenced w session) (rise_ended w session.mount rise)
 
 rise_begun : (w : World) (id : ℕ) (mount : List ℕ) (shown : Shown) → Each HasRisingStarts w.house.live
-    → Each HasRisingStarts (begun w.house id mount shown).live
+    → Each HasRisingStarts (with_session w.house.live (opened mount id shown w.house.time))
 rise_begun w id mount shown rise = Each_placed HasRisingStarts by_mount (opened mount id shown w.house.time) w.house.live tt rise
 
 rise_killed : (w : World) → Each HasRisingStarts w.house.live → (found : Option Session) → Each HasRisingStarts (session_killed w found).house.live
@@ -74,6 +74,9 @@ rise_changed w rise (Answer id) = rise
 rise_changed w rise (Admit id peer) = rise
 rise_changed w rise (Begin id mount shown) =
     subst (λ (h : House). Each HasRisingStarts h.live) (sym (house_called (record w { house = begun w.house id mount shown }) mount))
+    (rise_begun w id mount shown rise)
+rise_changed w rise (Raise id mount shown) =
+    subst (λ (h : House). Each HasRisingStarts h.live) (sym (house_called (record w { house = raised w.house id mount shown }) mount))
     (rise_begun w id mount shown rise)
 rise_changed w rise (Receive mount block) = rise_fed w.house.live mount block w.house.time rise
 rise_changed w rise (SetTitle mount title) = Each_updated HasRisingStarts (is_of mount) (with_title (Some title)) (λ x r. r) w.house.live rise
@@ -103,7 +106,7 @@ module _ (w : World) where
   ended_by_alike : (rule : Rule) (session : Session) → Each HasRisingStarts w.house.live
       → session_ended_by rule (kept_of w) (kept_session queue session) ≡ kept_of (session_ended_by rule w session)
   ended_by_alike rule session rise =
-      ap (λ (v : World). record v { house = now_in_state v.house session.number (Ended rule) }) (ended_alike session.mount rise)
+      ap (λ (v : World). record v { house = finished_in v.house session.number rule }) (ended_alike session.mount rise)
 
   killed_alike : (found : Option Session) → Each HasRisingStarts w.house.live
       → session_killed (kept_of w) (option_map (kept_session queue) found) ≡ kept_of (session_killed w found)
@@ -147,6 +150,10 @@ module _ (w : World) (rise : Each HasRisingStarts w.house.live) where
   changed_kept (Admit id peer) = refl
   changed_kept (Begin id mount shown) =
       let up = record w { house = begun w.house id mount shown } in
+      ap (λ (live : List Session). called_home (with_live up live) mount) (begun_kept (queue w) w.house.live (opened mount id shown w.house.time))
+      ∙ called_alike up (rise_begun w id mount shown rise) mount
+  changed_kept (Raise id mount shown) =
+      let up = record w { house = raised w.house id mount shown } in
       ap (λ (live : List Session). called_home (with_live up live) mount) (begun_kept (queue w) w.house.live (opened mount id shown w.house.time))
       ∙ called_alike up (rise_begun w id mount shown rise) mount
   changed_kept (Receive mount block) = received_alike mount block

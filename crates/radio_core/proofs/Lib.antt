@@ -1,7 +1,8 @@
+pub mod AllowedCommands
 pub mod CommandLemmas
 mod CoreReplyLemmas
 mod DueLemmas
-mod ListingLemmas
+pub mod ListingLemmas
 mod KeptOutcomes
 mod KeptRuns
 pub mod KeptSeats
@@ -13,6 +14,7 @@ mod SourceReplyLemmas
 pub mod ArrivalLemmas
 pub mod CalledHome
 pub mod CarriedFates
+pub mod ClosingLemmas
 pub mod ClientSteps
 pub mod Effects
 pub mod Fates
@@ -23,6 +25,7 @@ pub mod NamedRules
 mod NumbersRise
 mod NumbersStay
 pub mod OwnLemmas
+mod RelayRows
 pub mod ReplyLemmas
 pub mod SeatSteps
 pub mod SeatedLemmas
@@ -38,4 +41,5 @@ pub mod StepLemmas
 pub mod TickLemmas
 pub mod TimeoutLemmas
 pub mod TotalLemmas
+mod UpdatedSessions
 pub mod Ways

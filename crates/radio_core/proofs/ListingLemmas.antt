@@ -3,14 +3,21 @@ use Rattle.std.proofs.Common.{◌≡◌, ℕ, List, [], ◌∷◌, refl, ap}
 use Rattle.std.specs.Prelude.{map, length}
 use Rattle.radio_events.specs.declared.command.Listing.{Listing}
 use Rattle.radio_events.specs.declared.command.Listing.TheVariants.{Status, Stats, Mounts, Clients, Streams}
-use Rattle.radio_events.specs.declared.text.Text.TheVariants.{Json, Streams as StreamList}
+use Rattle.radio_events.specs.declared.text.Text.{Text}
+use Rattle.radio_events.specs.declared.text.Text.TheVariants.{Done, Moved, Json, Streams as StreamList, Public, Page}
 use Rattle.radio_listing.specs.declared.rows.MountRow.{MountRow}
 use Rattle.radio_listing.specs.Admin.{stats_text, mounts_text}
 use Rattle.radio_listing.specs.Public.{status_text, stream_text}
 use Rattle.radio_parts.specs.Kept.{kept_live}
 use Rattle.radio_core.specs.Kept.{kept_of}
 use Rattle.radio_core.specs.Listings.{shown, mount_row, mount_rows}
+use Rattle.radio_core.specs.Pages.{IsShownBy, IsListing, IsAtPath, page_at, server_as}
 use Rattle.radio_core.specs.Planned.{told_moved}
+use Rattle.radio_settings.specs.declared.web.WebPath.{WebPath}
+use Rattle.radio_settings.specs.declared.web.WebPath.TheVariants.{IcecastStatus, Page as AtPage}
+use Rattle.radio_listing.specs.Icecast.{icecast_text}
+use Rattle.radio_events.specs.declared.event.Event.{Event}
+use Rattle.radio_events.specs.Texts.{IsShort}
 use Rattle.radio_parts.specs.Sessions.{Session}
 use Rattle.radio_core.specs.World.{World}
 
@@ -24,16 +31,40 @@ module _ (w : World) where
 
   -- it is the same
   pub shown_kept : (listing : Listing) → shown (kept_of w) listing ≡ shown w listing
-  shown_kept Status = ap (λ (rows : List MountRow). Json (status_text rows)) rows_kept
+  shown_kept Status = ap (λ (rows : List MountRow). Public (status_text rows) w.house.settings.web.allow_origin) rows_kept
   shown_kept Stats = ap (λ (rows : List MountRow). Json (stats_text (length w.house.clients) rows)) rows_kept
   shown_kept Mounts = ap (λ (rows : List MountRow). Json (mounts_text rows)) rows_kept
   shown_kept (Clients mount) = refl
   shown_kept Streams = ap (λ (rows : List MountRow). StreamList (stream_text rows)) rows_kept
 
-  -- and tells no number of those who were moved
-  pub shown_untold : (listing : Listing) (count : ℕ) → told_moved (shown w listing) count ≡ shown w listing
-  shown_untold Status count = refl
-  shown_untold Stats count = refl
-  shown_untold Mounts count = refl
-  shown_untold (Clients mount) count = refl
-  shown_untold Streams count = refl
+  pub page_kept : (path : WebPath) (host : List ℕ) → page_at (kept_of w) path host ≡ page_at w path host
+  page_kept IcecastStatus host =
+      ap (λ (rows : List MountRow). Public (icecast_text (server_as w.house.settings host) rows) w.house.settings.web.allow_origin) rows_kept
+  page_kept AtPage host = refl
+
+  -- and it is no short text
+  pub no_short : (listing : Listing) → IsShort (shown w listing) → ⊥
+  no_short Status short = short
+  no_short Stats short = short
+  no_short Mounts short = short
+  no_short (Clients mount) short = short
+  no_short Streams short = short
+
+  no_short_page : (path : WebPath) (host : List ℕ) → IsShort (page_at w path host) → ⊥
+  no_short_page IcecastStatus host short = short
+  no_short_page AtPage host short = short
+
+  pub shown_long : (event : Event) (text : Text) → IsShownBy w event text → IsShort text → ⊥
+  shown_long event text (IsListing listing c) short = no_short listing short
+  shown_long event text (IsAtPath asked path is_event is_path) short = no_short_page path asked.host short
+
+  -- so it tells no number of those who were moved
+  pub shown_untold : (event : Event) (text : Text) → IsShownBy w event text → (count : ℕ) → told_moved text count ≡ text
+  shown_untold event text shown count = untold text (shown_long event text shown) where
+    untold : (text : Text) → (IsShort text → ⊥) → told_moved text count ≡ text
+    untold Done long = absurd (long tt)
+    untold (Moved other) long = absurd (long tt)
+    untold (Json bytes) long = refl
+    untold (StreamList bytes) long = refl
+    untold (Public bytes origin) long = refl
+    untold (Page origin) long = refl

@@ -12,10 +12,11 @@ use Rattle.radio_core.specs.Finishes.{Finishes}
 use Rattle.radio_core.specs.Others.{StandsOn, LosesNoSeatElse}
 use Rattle.radio_core.specs.Sound.{IsSound}
 use Rattle.radio_core.specs.Step.{outcome, world_after}
-use Rattle.radio_core.specs.Ways.{Way, Misplaced, IsFinished, IsDenied, IsRefused, IsAdmitted, Begins, Receives, SetsTitle, TakesSeat, HandsOut, Ends}
-use Rattle.radio_core.specs.Ways.{EndsAndLeaves, Leaves, Obeys, Shows, HasPassed, Ticks}
+use Rattle.radio_core.specs.Ways.{Way, Misplaced, IsFinished, IsDenied, IsRefused, IsAdmitted, Begins, ComesUp, Receives, SetsTitle, TakesSeat, HandsOut, Ends}
+use Rattle.radio_core.specs.Ways.{EndsAndLeaves, Leaves, GoesDown, Obeys, Shows, HasPassed, Ticks}
 use Rattle.radio_events.specs.Events.{client_in}
 use Rattle.radio_core.specs.World.{World, standing_of}
+use Rattle.radio_core.proofs.ClosingLemmas.{closes_his}
 use Rattle.radio_core.proofs.Effects.{his_event}
 use Rattle.radio_core.proofs.FinishLemmas.{others_hold}
 use Rattle.radio_core.proofs.OwnLemmas.{by_own}
@@ -30,8 +31,14 @@ module _ (w : World) (s : IsSound w) (id : ℕ) (seat : Seat) (has : seat_of w.s
 
   -- by his own events, he loses it by leaving alone
   own_by : (event : Event) (o : Outcome) → Way w event o → client_in event ≡ Some id → seat_of (changed w o.change).seats id ≡ None → event ≡ Leave id
-  own_by event o (EndsAndLeaves him mount feeding) his none = let same : him ≡ id = cc in ap (λ n. Leave n) same
-  own_by event o (Leaves him other) his none = let same : him ≡ id = cc in ap (λ n. Leave n) same
+  own_by event o (EndsAndLeaves _ him mount closes feeding) his none =
+      let both : Some him ≡ Some id = sym (closes_his w him event closes) ∙ his in
+      let same : him ≡ id = cc in
+      let sat : standing_of w him ≡ Sits = ap (standing_of w) same ∙ sits in cc
+  own_by event o (GoesDown him rule relay told) his none =
+      let same : him ≡ id = cc in let sat : standing_of w him ≡ Sits = ap (standing_of w) same ∙ sits in cc
+  own_by event o (ComesUp mount shown free allowed) his none = cc
+  own_by event o (Leaves him no_relay other) his none = let same : him ≡ id = cc in ap (λ n. Leave n) same
   own_by event o (HandsOut him room old session sitting had live) his none =
       let same : him ≡ id = cc in
       let still = has_advanced w s him room old session sitting had live in
@@ -39,7 +46,7 @@ module _ (w : World) (s : IsSound w) (id : ℕ) (seat : Seat) (has : seat_of w.s
       cc
   own_by event o (Receives him mount block feeding) his none =
       let same : him ≡ id = cc in let sat : standing_of w him ≡ Sits = ap (standing_of w) same ∙ sits in cc
-  own_by event o (Ends him mount feeding) his none =
+  own_by event o (Ends him mount feeding no_relay) his none =
       let same : him ≡ id = cc in let sat : standing_of w him ≡ Sits = ap (standing_of w) same ∙ sits in cc
   own_by event o (TakesSeat asked peer session undecided lands live allowed) his none =
       let same : asked.id ≡ id = cc in let sat : standing_of w asked.id ≡ Sits = ap (standing_of w) same ∙ sits in cc
@@ -51,10 +58,10 @@ module _ (w : World) (s : IsSound w) (id : ℕ) (seat : Seat) (has : seat_of w.s
   own_by event o (Begins asked undecided free allowed) his none =
       let at = undecided.1 in let same : asked.id ≡ id = cc in let sat : standing_of w asked.id ≡ Sits = ap (standing_of w) same ∙ sits in cc
   own_by event o (SetsTitle him mount text feeding) his none = cc
-  own_by event o (Shows _ listing c) his none =
-      let both : Some c.asked.id ≡ Some id = sym (ap client_in c.is_event) ∙ his in
-      let same : c.asked.id ≡ id = cc in
-      let at = c.undecided in let sat : standing_of w c.asked.id ≡ Sits = ap (standing_of w) same ∙ sits in cc
+  own_by event o (Shows _ asker peer text its undecided what) his none =
+      let both : Some asker ≡ Some id = sym its ∙ his in
+      let same : asker ≡ id = cc in
+      let at = undecided in let sat : standing_of w asker ≡ Sits = ap (standing_of w) same ∙ sits in cc
   own_by event o (Obeys _ command c) his none =
       let both : Some c.asked.id ≡ Some id = sym (his_event w s event command c) ∙ his in
       let same : c.asked.id ≡ id = cc in
@@ -73,7 +80,7 @@ module _ (w : World) (s : IsSound w) (id : ℕ) (seat : Seat) (has : seat_of w.s
       cc
   other_by event (inr (inl finished)) none = finished
   other_by event (inr (inr arrived)) none = let unknown : standing_of w id ≡ Unknown =
-      ((replies_fit w s event).arrived id arrived).3 in let sat : standing_of w id ≡ Sits = sits in cc
+      ((replies_fit w s event).arrived id arrived).2 in let sat : standing_of w id ≡ Sits = sits in cc
 
 pub loses_no_seat_else : (w : World) → IsSound w → (event : Event) → LosesNoSeatElse w event
 loses_no_seat_else w s event id seat has none =

@@ -12,8 +12,8 @@ use Rattle.radio_core.specs.declared.outcome.Outcome.{Outcome}
 use Rattle.radio_core.specs.declared.standing.Standing.TheVariants.{Finished as HasFinished}
 use Rattle.radio_core.specs.Outcomes.{says}
 use Rattle.radio_core.specs.Step.{outcome}
-use Rattle.radio_core.specs.Ways.{Way, Misplaced, IsFinished, IsDenied, IsRefused, IsAdmitted, Begins, Receives, SetsTitle, TakesSeat, HandsOut, Ends}
-use Rattle.radio_core.specs.Ways.{EndsAndLeaves, Leaves, Obeys, Shows, HasPassed, Ticks, rows_for, IsUndecided}
+use Rattle.radio_core.specs.Ways.{Way, Misplaced, IsFinished, IsDenied, IsRefused, IsAdmitted, Begins, ComesUp, Receives, SetsTitle, TakesSeat, HandsOut, Ends}
+use Rattle.radio_core.specs.Ways.{EndsAndLeaves, Leaves, GoesDown, Obeys, Shows, HasPassed, Ticks, rows_for, IsUndecided}
 use Rattle.radio_core.specs.World.{World, standing_of}
 use Rattle.radio_core.proofs.Ways.{way_of}
 
@@ -39,17 +39,19 @@ named_by w event o (IsRefused _ id rule v its undecided) = RefusesHim id rule v 
 named_by w event o (Misplaced _) = NamesNoRule o refl
 named_by w event o (IsAdmitted peer allowed) = NamesNoRule o refl
 named_by w event o (Begins asked undecided none allowed) = NamesNoRule o refl
+named_by w event o (ComesUp mount shown none allowed) = NamesNoRule o refl
 named_by w event o (Receives id mount block feeding) = NamesNoRule o refl
 named_by w event o (SetsTitle id mount text feeding) = NamesNoRule o refl
-named_by w event o (Shows _ listing c) = NamesNoRule o refl
+named_by w event o (Shows _ asker peer text its undecided what) = NamesNoRule o refl
 named_by w event o (Obeys _ command c) = NamesNoRule o refl
 named_by w event o (HasPassed ms e) = NamesNoRule o refl
 named_by w event o (Ticks ms e) = NamesNoRule o refl
 named_by w event o (TakesSeat asked peer session undecided lands live allowed) = NamesNoRule o refl
 named_by w event o (HandsOut id room seat session sits has live) = NamesNoRule o refl
-named_by w event o (Ends id mount feeding) = NamesNoRule o refl
-named_by w event o (EndsAndLeaves id mount feeding) = NamesNoRule o refl
-named_by w event o (Leaves id other) = NamesNoRule o refl
+named_by w event o (Ends id mount feeding no_relay) = NamesNoRule o refl
+named_by w event o (EndsAndLeaves _ id mount closes feeding) = NamesNoRule o refl
+named_by w event o (Leaves id no_relay other) = NamesNoRule o refl
+named_by w event o (GoesDown id rule relay told) = NamesNoRule o refl
 
 pub rule_named : (w : World) (event : Event) → RuleNamed w event (outcome w event)
 rule_named w event = named_by w event (outcome w event) (way_of w event)

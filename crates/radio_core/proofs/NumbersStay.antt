@@ -13,6 +13,7 @@ use Rattle.radio_events.specs.declared.command.Command.{Command}
 use Rattle.radio_events.specs.declared.command.Command.TheVariants.{MoveClients, KillClient, KillSource, SetTitle, SetFallback}
 use Rattle.radio_core.specs.declared.outcome.Change.TheVariants.{Begin, Obey}
 use Rattle.radio_core.specs.Clients.{Client, is_client, in_state, with_state}
+use Rattle.radio_core.specs.Relays.{Relay, is_relay, ended, with_ended as with_relay_ended}
 use Rattle.radio_settings.specs.Options.{options_for}
 use Rattle.radio_settings.specs.declared.field.Shown.{Shown}
 use Rattle.radio_fallback.specs.declared.moves.Move.{Move}
@@ -27,9 +28,12 @@ use Rattle.radio_core.specs.Timeouts.{timed_out}
 use Rattle.radio_core.specs.World.{World}
 use Rattle.radio_parts.proofs.NumberLists.{numbers_updated, numbers_mapped}
 
--- the numbers of the clients, and those of the listeners
+-- the numbers of the clients, those of the relays, and those of the listeners
 abbrev pub number_of : Client → ℕ
 number_of client = client.id
+
+abbrev pub relay_number : Relay → ℕ
+relay_number relay = relay.id
 
 abbrev pub row_of : Listener → ℕ
 row_of listener = listener.id
@@ -37,27 +41,35 @@ row_of listener = listener.id
 abbrev pub ids : World → List ℕ
 ids w = map number_of w.house.clients
 
+abbrev pub relay_ids : World → List ℕ
+relay_ids w = map relay_number w.house.relays
+
 abbrev pub rows : World → List ℕ
 rows w = map row_of w.seats
 
 -- the same are there
 pub record AreTheSame (w later : World) : Type 0 where
   pub same_ids : ids later ≡ ids w
+  pub same_relays : relay_ids later ≡ relay_ids w
   pub same_rows : rows later ≡ rows w
   pub same_last : later.house.last_id ≡ w.house.last_id
 
 pub nobody_else : (w : World) → AreTheSame w w
-nobody_else w = record { same_ids = refl; same_rows = refl; same_last = refl }
+nobody_else w = record { same_ids = refl; same_relays = refl; same_rows = refl; same_last = refl }
 
 then_the_same : (w next later : World) → AreTheSame w next → AreTheSame next later → AreTheSame w later
 then_the_same w next later a b = record {
   same_ids = b.same_ids ∙ a.same_ids;
+  same_relays = b.same_relays ∙ a.same_relays;
   same_rows = b.same_rows ∙ a.same_rows;
   same_last = b.same_last ∙ a.same_last;
 }
 
 pub same_state : (id : ℕ) (state : ClientState) (clients : List Client) → map number_of (in_state clients id state) ≡ map number_of clients
 same_state id state clients = numbers_updated number_of (is_client id) (with_state state) (λ x. refl) clients
+
+same_finished : (id : ℕ) (rule : Rule) (relays : List Relay) → map relay_number (with_relay_ended relays id rule) ≡ map relay_number relays
+same_finished id rule relays = numbers_updated relay_number (is_relay id) (ended rule) (λ x. refl) relays
 
 same_ended : (p : Seat → Bool) (rule : Rule) (seats : List Listener) → map row_of (with_ended seats p rule) ≡ map row_of seats
 same_ended p rule seats = numbers_mapped row_of (finished_if p rule) (λ x. refl) seats
@@ -70,6 +82,7 @@ same_killed : (w : World) (found : Option Session) → AreTheSame w (session_kil
 same_killed w None = nobody_else w
 same_killed w (Some session) = record {
   same_ids = same_state session.number (Ended SourceKilled) w.house.clients;
+  same_relays = same_finished session.number SourceKilled w.house.relays;
   same_rows = same_carried (session_over w session.mount) (SessionEnds session.mount);
   same_last = refl;
 }
@@ -77,14 +90,14 @@ same_killed w (Some session) = record {
 pub same_obeyed : (w : World) (id : ℕ) (command : Command) → AreTheSame w (changed w (Obey id command))
 same_obeyed w id command =
     then_the_same w (answered w id) (changed w (Obey id command))
-    (record { same_ids = same_state id HasHisAnswer w.house.clients; same_rows = refl; same_last = refl }) (by_command command) where
+    (record { same_ids = same_state id HasHisAnswer w.house.clients; same_relays = refl; same_rows = refl; same_last = refl }) (by_command command) where
       by_command : (command : Command) → AreTheSame (answered w id) (changed w (Obey id command))
-      by_command (MoveClients mount destination) = record { same_ids = refl; same_rows = same_carried (answered w id) (To mount destination); same_last = refl }
+      by_command (MoveClients mount destination) = record { same_ids = refl; same_relays = refl; same_rows = same_carried (answered w id) (To mount destination); same_last = refl }
       by_command (KillClient mount listener) =
-          record { same_ids = refl; same_rows = numbers_updated row_of (is_listener listener) (loses Killed) (λ x. refl) w.seats; same_last = refl }
+          record { same_ids = refl; same_relays = refl; same_rows = numbers_updated row_of (is_listener listener) (loses Killed) (λ x. refl) w.seats; same_last = refl }
       by_command (KillSource mount) = same_killed (answered w id) (session_of w.house.live mount)
-      by_command (SetTitle mount text) = record { same_ids = refl; same_rows = refl; same_last = refl }
-      by_command (SetFallback mount fallback) = record { same_ids = refl; same_rows = refl; same_last = refl }
+      by_command (SetTitle mount text) = record { same_ids = refl; same_relays = refl; same_rows = refl; same_last = refl }
+      by_command (SetFallback mount fallback) = record { same_ids = refl; same_relays = refl; same_rows = refl; same_last = refl }
 
 pub same_over_rows : (w : World) (mount : List ℕ) → map row_of (session_ended w mount).seats ≡ map row_of w.seats
 same_over_rows w mount = same_carried (session_over w mount) (SessionEnds mount)
@@ -96,6 +109,7 @@ same_silenced (session ∷ sessions) w =
     let next = session_silenced w session in
     then_the_same w next (fold session_silenced next sessions) (record {
       same_ids = same_state session.number (Ended SourceSilent) w.house.clients;
+      same_relays = same_finished session.number SourceSilent w.house.relays;
       same_rows = same_over_rows w session.mount;
       same_last = refl;
     }) (same_silenced sessions next)
@@ -105,26 +119,28 @@ same_ticked w ms =
     let later = before_silence w ms in
     then_the_same w later (ticked w ms) (record {
       same_ids = numbers_mapped number_of (timed_out w.house.settings.limits.header_timeout ms) (λ x. refl) w.house.clients;
+      same_relays = refl;
       same_rows = same_ended (has_sat_out w.house.settings ms) TimeOver w.seats;
       same_last = refl;
     }) (same_silenced (silent_in later) later)
 
 -- nor where a source comes up
-same_called : (w : World) (mount : List ℕ) → AreTheSame w (called_home w mount)
+pub same_called : (w : World) (mount : List ℕ) → AreTheSame w (called_home w mount)
 same_called w mount = by_test (options_for w.house.settings mount).listeners.fallback_override where
   by_test : (b : Bool) → AreTheSame w (if b then carried_along w (Up mount) else w)
-  by_test true = record { same_ids = refl; same_rows = same_carried w (Up mount); same_last = refl }
+  by_test true = record { same_ids = refl; same_relays = refl; same_rows = same_carried w (Up mount); same_last = refl }
   by_test false = nobody_else w
 
 pub same_begun : (w : World) (id : ℕ) (mount : List ℕ) (shown : Shown) → AreTheSame w (changed w (Begin id mount shown))
 same_begun w id mount shown =
     let up = record w { house = begun w.house id mount shown } in
     then_the_same w up (changed w (Begin id mount shown))
-    (record { same_ids = same_state id (IsSource mount) w.house.clients; same_rows = refl; same_last = refl }) (same_called up mount)
+    (record { same_ids = same_state id (IsSource mount) w.house.clients; same_relays = refl; same_rows = refl; same_last = refl }) (same_called up mount)
 
 pub same_received : (w : World) (mount block : List ℕ) → AreTheSame w (taken_in w mount block)
 same_received w mount block = record {
   same_ids = refl;
+  same_relays = refl;
   same_rows = same_ended (lags_behind mount (live_end (received w.house mount block) mount) w.house.settings.limits.queue_size) Lagged w.seats;
   same_last = refl;
 }

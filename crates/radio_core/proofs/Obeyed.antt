@@ -1,15 +1,11 @@
 -- how each client fares where a command is done
-use Rattle.std.proofs.Common.{◌≡◌, Bool, true, false, ℕ, ◌==◌, Option, Some, None, is_some, List, [], ◌∷◌, refl, ap, sym, subst, ◌∙◌, arith}
-use Rattle.std.specs.Prelude.{not}
+use Rattle.std.proofs.Common.{◌≡◌, true, false, ℕ, ◌==◌, Option, Some, None, is_some, List, refl, ap, sym, subst, ◌∙◌, arith}
 use Rattle.std.specs.Option.{option_map_or}
 use Rattle.std.specs.Str.{bytes_eq}
 use Rattle.std.proofs.lemmas.Bool.Decides.{nat_tests}
 use Rattle.std.proofs.lemmas.Slice.Eq.{bytes_eq-Decides}
-use Rattle.radio_policy.specs.declared.rule.Rule.{Rule}
-use Rattle.radio_policy.specs.declared.rule.Rule.TheVariants.{NoMount, NoDestination, SameMount, NoClient, Killed, SourceKilled}
-use Rattle.radio_policy.specs.declared.judgement.Verdict.TheVariants.{Allow}
-use Rattle.radio_policy.specs.Table.{Row, row, needs_rows, password_rule, command_rows}
-use Rattle.radio_policy.specs.Verdicts.{verdict_in}
+use Rattle.radio_policy.specs.declared.rule.Rule.TheVariants.{Killed, SourceKilled}
+use Rattle.radio_policy.specs.Table.{row}
 use Rattle.radio_tables.proofs.FindLaws.{find_same, find_apart}
 use Rattle.radio_tables.proofs.KeyLaws.{by_number, by_name}
 use Rattle.radio_seats.specs.declared.seat.Listener.{Listener}
@@ -20,7 +16,6 @@ use Rattle.radio_seats.specs.Seats.{is_listener, listener_of, seat_of, seat_in, 
 use Rattle.radio_fallback.specs.declared.moves.Move.TheVariants.{Ended as SessionEnds, To}
 use Rattle.radio_fallback.specs.Carry.{at_his_turn}
 use Rattle.radio_fallback.proofs.Faring.{goes_there, never_out_there}
-use Rattle.radio_events.specs.declared.command.Asked.{Asked}
 use Rattle.radio_events.specs.declared.command.Command.{Command}
 use Rattle.radio_events.specs.declared.command.Command.TheVariants.{MoveClients, KillClient, KillSource, SetTitle, SetFallback}
 use Rattle.radio_events.specs.declared.event.Event.{Event}
@@ -30,7 +25,8 @@ use Rattle.radio_core.specs.declared.standing.Standing.{Standing}
 use Rattle.radio_core.specs.declared.standing.Standing.TheVariants.{Unknown, Undecided, Feeds, Sits, Answered, Finished}
 use Rattle.radio_core.specs.Changes.{answered, changed, session_over, session_ended, session_ended_by, session_killed}
 use Rattle.radio_core.specs.Clients.{client_of}
-use Rattle.radio_core.specs.CommandFacts.{IsCommanded, is_live, sits_at, facts_asked, needs_of, opened_by, opener_in, opens}
+use Rattle.radio_core.specs.Relays.{relay_of}
+use Rattle.radio_core.specs.CommandFacts.{IsCommanded, is_live, sits_at, opens}
 use Rattle.radio_core.specs.Facts.{sight_of}
 use Rattle.radio_core.specs.Finishes.{Cause, SessionIsOver, IsKilled, HisSessionIsKilled}
 use Rattle.radio_core.specs.Moves.{TakesTo, ByKilling, ByMoving}
@@ -38,39 +34,15 @@ use Rattle.radio_core.specs.SeatSteps.{IsSent, HisSessionIsOver, IsCommandedTher
 use Rattle.radio_parts.specs.Sessions.{Session, session_of}
 use Rattle.radio_core.specs.Sound.{IsSound}
 use Rattle.radio_core.specs.World.{World, standing_of, standing_in}
+use Rattle.radio_core.proofs.AllowedCommands.{may_act, may_kill, may_move, needs_hold}
 use Rattle.radio_core.proofs.CarriedFates.{order_carried, carried_fate}
 use Rattle.radio_core.proofs.Fates.{IsActive, Fate, GoesOn, IsEnded, HasStopped, IsMoved, Fates, HasEnded, Nobody, sound_fates, fates_none, lost_in, active_sitter}
 use Rattle.radio_parts.proofs.SessionLookups.{found_named, is_over}
 use Rattle.radio_parts.proofs.NumberOrder.{order_lost}
-use Rattle.radio_core.proofs.SoundEnds.{over_fates, late_beside, there, still_feeds, has_none_then, order_then}
+use Rattle.radio_core.proofs.SoundEnds.{over_fates, late_beside, still_feeds, has_none_then, order_then}
 use Rattle.radio_core.proofs.SoundTitles.{sound_titled}
 use Rattle.radio_core.proofs.Soundness.{sound_answered}
-use Rattle.radio_core.proofs.Standings.{Turns, turns_answered, turns_ended_by}
-
--- rows that deny nothing hold nothing, from the first on
-past_row : (rule : Rule) (holds : Bool) (rows : List Row) → verdict_in (row rule holds ∷ rows) ≡ Allow → (holds ≡ false) × (verdict_in rows ≡ Allow)
-past_row rule true rows e = cc
-past_row rule false rows e = (refl, e)
-
-is_so : (b : Bool) → not b ≡ false → b ≡ true
-is_so true e = refl
-is_so false e = cc
-
--- what a command needs is there
-pub may_act : (live : Bool) → verdict_in (row NoMount (not live) ∷ []) ≡ Allow → live ≡ true
-may_act true e = refl
-may_act false e = cc
-
-may_kill : (live sits : Bool) → verdict_in (row NoMount (not live) ∷ row NoClient (not sits) ∷ []) ≡ Allow → sits ≡ true
-may_kill true true e = refl
-may_kill true false e = cc
-may_kill false sits e = cc
-
-may_move : (live there same : Bool) → verdict_in (row NoMount (not live) ∷ row NoDestination (not there) ∷ row SameMount same ∷ []) ≡ Allow → same ≡ false
-may_move true true false e = refl
-may_move true true true e = cc
-may_move true false same e = cc
-may_move false there same e = cc
+use Rattle.radio_core.proofs.Standings.{Turns, asks, turns_answered, turns_ended_by}
 
 -- whoever is moved by a command, or from a mount whose session is over, leaves it for another
 abbrev pub LeavesFor : World → Event → World → Seat → Session → Type 0
@@ -122,26 +94,13 @@ module _ (w : World) (s : IsSound w) (event : Event) where
         };
       }
 
-    -- the pair that was sent opens the command
-    pub is_opened : opens w.house.settings (opened_by command) c.asked.pair ≡ true
-    is_opened =
-        is_so (opens w.house.settings (opened_by command) c.asked.pair)
-        (past_row (password_rule (opener_in (opened_by command))) (not (opens w.house.settings (opened_by command) c.asked.pair)) (needs_rows (needs_of w command))
-        (ap (λ (a : Asked). verdict_in (command_rows (facts_asked w a c.asked.pair))) (sym c.is_asked) ∙ c.allowed)).0
-
-    -- what it needs is there
-    pub needs_hold : verdict_in (needs_rows (needs_of w command)) ≡ Allow
-    needs_hold =
-        (past_row (password_rule (opener_in (opened_by command))) (not (opens w.house.settings (opened_by command) c.asked.pair)) (needs_rows (needs_of w command))
-        (ap (λ (a : Asked). verdict_in (command_rows (facts_asked w a c.asked.pair))) (sym c.is_asked) ∙ c.allowed)).1
-
   -- listeners are moved
   module _ (mount destination : List ℕ) (c : IsCommanded w event (MoveClients mount destination)) where
     abbrev moved_world : World
     moved_world = changed w (Obey c.asked.id (MoveClients mount destination))
 
     pub is_another : bytes_eq mount destination ≡ false
-    is_another = may_move (is_live w.house mount) (is_live w.house destination) (bytes_eq mount destination) (needs_hold c)
+    is_another = may_move (is_live w.house mount) (is_live w.house destination) (bytes_eq mount destination) (needs_hold w event c)
 
     sent : (seat : Seat) (to : List ℕ) → seat.mount ≡ mount → destination ≡ to → IsCommanded w event (MoveClients seat.mount to)
     sent seat to at goes =
@@ -152,7 +111,7 @@ module _ (w : World) (s : IsSound w) (event : Event) where
 
     moved_fate : (id : ℕ) → Fate (Cause w moved_world event) (Takes w event) Nobody (LeavesFor w event) (heard c) moved_world id
     moved_fate id =
-        carried_fate (Cause w moved_world event) (Takes w event) Nobody (LeavesFor w event) (heard c) (sound_heard c) (heard c).house refl refl (To mount destination)
+        carried_fate (Cause w moved_world event) (Takes w event) Nobody (LeavesFor w event) (heard c) (sound_heard c) (heard c).house refl refl refl (To mount destination)
         moved_world (λ m. refl) id refl refl
         (λ turn same seats. GoesOn same seats (λ m feeds. refl) (λ seat has. refl))
         (λ seat session concerned turn live.
@@ -178,7 +137,7 @@ module _ (w : World) (s : IsSound w) (event : Event) where
     sits_by (Some seat) e = (seat, refl, (bytes_eq-Decides seat.mount mount).0 e)
 
     pub his_seat : (seat : Seat) × (seat_of w.seats listener ≡ Some seat) × (seat.mount ≡ mount)
-    his_seat = sits_by (seat_of w.seats listener) (may_kill (is_live w.house mount) (sits_at w.seats mount listener) (needs_hold c))
+    his_seat = sits_by (seat_of w.seats listener) (may_kill (is_live w.house mount) (sits_at w.seats mount listener) (needs_hold w event c))
 
     abbrev KilledFate : ℕ → Type 0
     KilledFate id = Fate (Cause w killed_world event) (Takes w event) Nobody (LeavesFor w event) (heard c) killed_world id
@@ -204,8 +163,8 @@ module _ (w : World) (s : IsSound w) (event : Event) where
 
     pub has_been_killed : standing_of killed_world listener ≡ Finished Killed
     has_been_killed =
-        ap (λ l. standing_in l (client_of (heard c).house.clients listener)) then_so
-        ∙ lost_in (listener_of w.seats listener) held.0.id Killed (client_of (heard c).house.clients listener) sat
+        ap (λ l. standing_in (relay_of w.house.relays listener) l (client_of (heard c).house.clients listener)) then_so
+        ∙ lost_in (relay_of w.house.relays listener) (listener_of w.seats listener) held.0.id Killed (client_of (heard c).house.clients listener) sat
 
     pub sits_no_more : seat_of killed_world.seats listener ≡ None
     sits_no_more = ap seat_in then_so
@@ -224,7 +183,7 @@ module _ (w : World) (s : IsSound w) (event : Event) where
     killed_fate : (id : ℕ) → KilledFate id
     killed_fate id =
         by_number listener id (λ same. subst KilledFate same his_end)
-        (λ apart. GoesOn (ap (λ l. standing_in l (client_of (heard c).house.clients id)) (beside_him id apart)) (ap seat_in (beside_him id apart)) (λ m e. refl) (λ seat e. refl))
+        (λ apart. GoesOn (ap (λ l. standing_in (relay_of w.house.relays id) l (client_of (heard c).house.clients id)) (beside_him id apart)) (ap seat_in (beside_him id apart)) (λ m e. refl) (λ seat e. refl))
 
     obeyed_kill : IsObeyed w event c.asked.id killed_world
     obeyed_kill = with_seats c killed_world.seats (order_lost w.seats s.by_number listener Killed) killed_fate
@@ -239,7 +198,7 @@ module _ (w : World) (s : IsSound w) (event : Event) where
     found_by (Some session) e = (session, refl)
 
     pub live : (session : Session) × (session_of w.house.live mount ≡ Some session)
-    live = found_by (session_of w.house.live mount) (may_act (is_live w.house mount) (needs_hold c))
+    live = found_by (session_of w.house.live mount) (may_act (is_live w.house mount) (needs_hold w event c))
 
     abbrev cut : Session
     cut = live.0
@@ -283,8 +242,7 @@ module _ (w : World) (s : IsSound w) (event : Event) where
         (λ id seat rule had turn. SessionIsOver rule seat had (SessionEnds cut.mount, session_over w cut.mount, ByKilling event cut.mount own, turn))
         (λ id session turn. (SessionEnds cut.mount, session_over w cut.mount, ByKilling event cut.mount own, turn))
         refl refl refl (order_then (heard c) (sound_heard c) cut.number cut.mount feeding)
-        (late_beside (heard c).house.clients cut.number (Ended SourceKilled) (there (heard c) (sound_heard c) cut.number cut.mount feeding).0
-        (there (heard c) (sound_heard c) cut.number cut.mount feeding).1 (λ client seconds moment late. cc))
+        (late_beside (heard c).house.clients cut.number (Ended SourceKilled) (λ client seconds moment late. cc))
 
     -- whoever goes on elsewhere left a mount whose session is over
     leaves_so : (id : ℕ) → Fate (Cause w cut_world event) (Takes w event) Nobody HasEnded (heard c) after id
@@ -330,7 +288,7 @@ module _ (w : World) (s : IsSound w) (event : Event) where
 
     pub title_live : (session : Session) × (session_of w.house.live mount ≡ Some session)
     title_live =
-        title_found (session_of w.house.live mount) (may_act (is_live w.house mount) (needs_hold c))
+        title_found (session_of w.house.live mount) (may_act (is_live w.house mount) (needs_hold w event c))
 
     sound_text : IsSound titled_world
     sound_text =
@@ -391,7 +349,7 @@ module _ (w : World) (s : IsSound w) (event : Event) where
     obeyed_world = changed w (Obey c.asked.id command)
 
     turns_heard : Turns w (answered w c.asked.id) c.asked.id Answered
-    turns_heard = turns_answered w c.asked.id (λ u. let at = c.undecided in cc)
+    turns_heard = turns_answered w c.asked.id (asks w c.asked.id c.peer c.undecided)
 
     not_active : (now : Standing) → now ≡ Answered → IsActive now → ⊥
     not_active Answered e active = active
@@ -409,9 +367,9 @@ module _ (w : World) (s : IsSound w) (event : Event) where
       by_fate : Fate (Cause w (changed w (Obey c.asked.id command)) event) (Takes w event) Nobody (LeavesFor w event) (obeyed command c).base
           (changed w (Obey c.asked.id command)) c.asked.id → standing_of (changed w (Obey c.asked.id command)) c.asked.id ≡ Answered
       by_fate (GoesOn same seat feeds sits) = same ∙ before
-      by_fate (IsEnded rule cause active ended none over) = absurd (not_active (standing_of (obeyed command c).base c.asked.id) before active)
-      by_fate (HasStopped m why feeds done none over) = absurd why
-      by_fate (IsMoved old session carries left had has same live opens) = same ∙ before
+      by_fate (IsEnded rule cause active ended none gone) = absurd (not_active (standing_of (obeyed command c).base c.asked.id) before active)
+      by_fate (HasStopped m why feeds done none gone) = absurd why
+      by_fate (IsMoved old session carries left had has same alive opens) = same ∙ before
 
     pub others_stood : (id : ℕ) → (c.asked.id == id) ≡ false → standing_of (obeyed command c).base id ≡ standing_of w id
     others_stood id apart = (obeyed command c).stands id ∙ turns_heard.others id apart

@@ -3,19 +3,19 @@ use Rattle.std.proofs.Common.{◌≡◌, ◌∙◌, ℕ, refl, ap, sym}
 use Rattle.radio_events.specs.declared.command.Command.{Command as TheCommand}
 use Rattle.radio_events.specs.declared.command.Command.TheVariants.{MoveClients, KillClient, KillSource, SetTitle, SetFallback}
 use Rattle.radio_events.specs.declared.command.CommandRequest.{CommandRequest}
-use Rattle.radio_events.specs.declared.command.Listing.{Listing}
 use Rattle.radio_events.specs.declared.event.Event.{Event}
-use Rattle.radio_events.specs.declared.event.Event.TheVariants.{Arrive, Source, Push, SourceEnd, Title, Listen, Draw, Command, Leave, Clock}
+use Rattle.radio_events.specs.declared.event.Event.TheVariants.{Arrive, Source, Push, SourceEnd, Title, Listen, Draw, Command, Leave, RelayUp, RelayDown, Clock}
 use Rattle.radio_events.specs.declared.reply.Reply.{Reply}
 use Rattle.radio_events.specs.declared.reply.Reply.TheVariants.{Text as SaysText}
 use Rattle.radio_events.specs.declared.text.Text.{Text}
 use Rattle.radio_core.specs.declared.outcome.Outcome.{Outcome}
-use Rattle.radio_core.specs.Command.{obeys, shows}
+use Rattle.radio_core.specs.Command.{obeys}
+use Rattle.radio_core.specs.Pages.{IsShownBy}
 use Rattle.radio_core.specs.Counts.{counted}
 use Rattle.radio_core.specs.Planned.{told_moved, with_count, uncounted, planned}
 use Rattle.radio_core.specs.Step.{outcome}
-use Rattle.radio_core.specs.Ways.{Way, Misplaced, IsFinished, IsDenied, IsRefused, IsAdmitted, Begins, Receives, SetsTitle, TakesSeat, HandsOut, Ends}
-use Rattle.radio_core.specs.Ways.{EndsAndLeaves, Leaves, Obeys, Shows, HasPassed, Ticks}
+use Rattle.radio_core.specs.Ways.{Way, Misplaced, IsFinished, IsDenied, IsRefused, IsAdmitted, Begins, ComesUp, Receives, SetsTitle, TakesSeat, HandsOut, Ends}
+use Rattle.radio_core.specs.Ways.{EndsAndLeaves, Leaves, GoesDown, Obeys, Shows, HasPassed, Ticks}
 use Rattle.radio_core.specs.World.{World}
 use Rattle.radio_core.proofs.ListingLemmas.{shown_untold}
 use Rattle.radio_core.proofs.Ways.{way_of}
@@ -30,14 +30,16 @@ module _ (w : World) where
   plain_by event o (IsRefused _ id rule v his undecided) other_than count = refl
   plain_by event o (IsAdmitted peer allowed) other_than count = refl
   plain_by event o (Begins asked undecided none allowed) other_than count = refl
+  plain_by event o (ComesUp mount shown none allowed) other_than count = refl
   plain_by event o (Receives id mount block feeding) other_than count = refl
   plain_by event o (SetsTitle id mount text feeding) other_than count = refl
   plain_by event o (TakesSeat asked peer session undecided lands live allowed) other_than count = refl
   plain_by event o (HandsOut id room seat session sits has live) other_than count = refl
-  plain_by event o (Ends id mount feeding) other_than count = refl
-  plain_by event o (EndsAndLeaves id mount feeding) other_than count = refl
-  plain_by event o (Leaves id other) other_than count = refl
-  plain_by event o (Shows _ listing c) other_than count = absurd (other_than c.asked c.is_event)
+  plain_by event o (Ends id mount feeding no_relay) other_than count = refl
+  plain_by event o (EndsAndLeaves _ id mount closes feeding) other_than count = refl
+  plain_by event o (Leaves id no_relay other) other_than count = refl
+  plain_by event o (GoesDown id rule relay told) other_than count = refl
+  plain_by event o (Shows _ asker peer text its undecided what) other_than count = ap (λ (t : Text). SaysText t) (shown_untold w event text what count)
   plain_by event o (Obeys _ command c) other_than count = absurd (other_than c.asked c.is_event)
   plain_by event o (HasPassed ms e) other_than count = refl
   plain_by event o (Ticks ms e) other_than count = refl
@@ -56,6 +58,8 @@ module _ (w : World) where
   planned_so (Draw id room) = plain (Draw id room) (λ asked e. cc)
   planned_so (Command request) = refl
   planned_so (Leave id) = plain (Leave id) (λ asked e. cc)
+  planned_so (RelayUp mount shown) = plain (RelayUp mount shown) (λ asked e. cc)
+  planned_so (RelayDown id) = plain (RelayDown id) (λ asked e. cc)
   planned_so (Clock ms) = plain (Clock ms) (λ asked e. cc)
 
   abbrev IsCompleted : Outcome → Type 0
@@ -68,9 +72,9 @@ module _ (w : World) where
   obeys_completed id (SetTitle mount text) = refl
   obeys_completed id (SetFallback mount fallback) = refl
 
-  shows_completed : (id : ℕ) (listing : Listing) → IsCompleted (shows w id listing)
-  shows_completed id listing =
-      ap (λ (text : Text). SaysText (told_moved text 0)) (shown_untold w listing 0) ∙ ap (λ (text : Text). SaysText text) (shown_untold w listing 0)
+  shows_completed : (event : Event) (text : Text) → IsShownBy w event text → with_count (with_count (SaysText text) 0) 0 ≡ SaysText text
+  shows_completed event text what =
+      ap (λ (t : Text). SaysText (told_moved t 0)) (shown_untold w event text what 0) ∙ ap (λ (t : Text). SaysText t) (shown_untold w event text what 0)
 
   completed_by : (event : Event) (o : Outcome) → Way w event o → IsCompleted o
   completed_by event o (Misplaced _) = refl
@@ -79,14 +83,16 @@ module _ (w : World) where
   completed_by event o (IsRefused _ id rule v his undecided) = refl
   completed_by event o (IsAdmitted peer allowed) = refl
   completed_by event o (Begins asked undecided none allowed) = refl
+  completed_by event o (ComesUp mount shown none allowed) = refl
   completed_by event o (Receives id mount block feeding) = refl
   completed_by event o (SetsTitle id mount text feeding) = refl
   completed_by event o (TakesSeat asked peer session undecided lands live allowed) = refl
   completed_by event o (HandsOut id room seat session sits has live) = refl
-  completed_by event o (Ends id mount feeding) = refl
-  completed_by event o (EndsAndLeaves id mount feeding) = refl
-  completed_by event o (Leaves id other) = refl
-  completed_by event o (Shows _ listing c) = shows_completed c.asked.id listing
+  completed_by event o (Ends id mount feeding no_relay) = refl
+  completed_by event o (EndsAndLeaves _ id mount closes feeding) = refl
+  completed_by event o (Leaves id no_relay other) = refl
+  completed_by event o (GoesDown id rule relay told) = refl
+  completed_by event o (Shows _ asker peer text its undecided what) = shows_completed event text what
   completed_by event o (Obeys _ command c) = obeys_completed c.asked.id command
   completed_by event o (HasPassed ms e) = refl
   completed_by event o (Ticks ms e) = refl

@@ -9,47 +9,47 @@ use Rattle.radio_policy.specs.Verdicts.{verdict_in}
 use Rattle.radio_addr.specs.declared.peer.Peer.{Peer}
 use Rattle.radio_tables.proofs.KeyLaws.{by_number, by_name}
 use Rattle.radio_events.specs.declared.event.Event.{Event}
-use Rattle.radio_events.specs.declared.event.Event.TheVariants.{Source, Push, SourceEnd, Listen, Draw, Leave, Clock}
+use Rattle.radio_events.specs.declared.event.Event.TheVariants.{Push, SourceEnd, Listen, Draw, Leave, Clock}
 use Rattle.radio_events.specs.declared.event.ListenRequest.{ListenRequest}
-use Rattle.radio_core.specs.declared.outcome.Change.TheVariants.{Begin, TakeSeat, Advance, End, EndAndLeave, Obey}
+use Rattle.radio_core.specs.declared.outcome.Change.TheVariants.{TakeSeat, Advance, End, EndAndLeave, Forget, Obey}
 use Rattle.radio_core.specs.declared.outcome.Outcome.{Outcome}
 use Rattle.radio_seats.specs.declared.seat.Seat.{Seat}
 use Rattle.radio_core.specs.declared.standing.Standing.TheVariants.{Undecided, Feeds, Sits}
 use Rattle.radio_core.specs.World.{World, standing_of}
-use Rattle.radio_core.specs.Changes.{changed, taken_in, ticked}
+use Rattle.radio_core.specs.Changes.{changed, begun, raised, called_home, taken_in, ticked}
 use Rattle.radio_core.specs.Handing.{data_in, of_client, handed_at}
-use Rattle.radio_core.specs.Facts.{sight_of, rows_to_feed, rows_to_listen, walks_to}
+use Rattle.radio_core.specs.Facts.{sight_of, rows_to_listen, walks_to}
 use Rattle.radio_core.specs.Finishes.{Cause, Finishes}
-use Rattle.radio_core.specs.Moves.{TakesTo, ByComingUp, moved_into}
+use Rattle.radio_core.specs.Moves.{Brings, TakesTo, ByComingUp, ByRelayUp, moved_into}
 use Rattle.radio_core.specs.Source.{shown_for}
 use Rattle.radio_core.specs.declared.house.House.{House}
 use Rattle.radio_access.specs.Lists.{Lists, lets_in}
 use Rattle.radio_events.specs.declared.command.Command.{Command}
 use Rattle.radio_core.specs.CommandFacts.{IsCommanded}
-use Rattle.radio_events.specs.declared.event.SourceRequest.{SourceRequest}
 use Rattle.radio_events.specs.Events.{client_in}
 use Rattle.radio_fallback.specs.declared.moves.Move.TheVariants.{Up}
 use Rattle.radio_fallback.specs.Carry.{at_his_turn}
 use Rattle.radio_fallback.proofs.Faring.{comes_home}
+use Rattle.radio_settings.specs.declared.settings.Settings.{Settings}
 use Rattle.radio_settings.specs.Options.{options_for}
 use Rattle.radio_fallback.specs.declared.walking.Landing.TheVariants.{Lands}
 use Rattle.std.proofs.lemmas.Slice.Eq.{bytes_eq-Decides}
 use Rattle.radio_core.specs.Listen.{first_seat}
-use Rattle.radio_core.specs.SeatSteps.{IsSent, HisSessionIsOver, HeIsCalledHome, SeatStep, Stays, IsHanded, SitsDown, IsMoved as HeIsMoved, Leaves as HeLeaves, IsEnded as HeIsEnded, SeatsStep}
+use Rattle.radio_core.specs.SeatSteps.{ComesUpOn, ASource, ARelay, IsSent, HisSessionIsOver, HeIsCalledHome, SeatStep, Stays, IsHanded, SitsDown, IsMoved as HeIsMoved, Leaves as HeLeaves, IsEnded as HeIsEnded, SeatsStep}
 use Rattle.radio_seats.specs.Seats.{seat_of, seat_in}
 use Rattle.radio_parts.specs.Sessions.{Session, session_of}
 use Rattle.radio_core.specs.Sound.{IsSound}
 use Rattle.radio_core.specs.Step.{outcome, reply_to, world_after}
 use Rattle.radio_parts.specs.Stream.{data_at, end_of}
-use Rattle.radio_core.specs.Ways.{Way, Misplaced, IsFinished, IsDenied, IsRefused, IsAdmitted, Begins, Receives, SetsTitle, TakesSeat, HandsOut, Ends}
-use Rattle.radio_core.specs.Ways.{EndsAndLeaves, Leaves, Obeys, Shows, HasPassed, Ticks}
+use Rattle.radio_core.specs.Ways.{Way, Misplaced, IsFinished, IsDenied, IsRefused, IsAdmitted, Begins, ComesUp, Receives, SetsTitle, TakesSeat, HandsOut, Ends}
+use Rattle.radio_core.specs.Ways.{EndsAndLeaves, Leaves, GoesDown, Obeys, Shows, HasPassed, Ticks}
 use Rattle.radio_core.proofs.Obeyed.{IsObeyed, LeavesFor, Takes as TakesByIt, obeyed}
 use Rattle.radio_core.proofs.OwnLemmas.{not_of, nothing_of}
 use Rattle.radio_seats.proofs.SeatLaws.{is_no_listener, beside_left}
 use Rattle.radio_core.proofs.LostSeats.{loses_no_seat_else}
 use Rattle.radio_core.proofs.Soundness.{has_new_seat, had_no_seat, beside_new_seat}
 use Rattle.radio_core.proofs.SoundSessions.{has_advanced, others_seats, behind_within}
-use Rattle.radio_core.proofs.CalledHome.{IsCalled, Rests as CalledRests, Comes as CalledComes, is_called, house_called, just_begun, sound_just_begun}
+use Rattle.radio_core.proofs.CalledHome.{IsCalled, Rests as CalledRests, Comes as CalledComes, is_called, house_called, sound_just_begun, sound_just_raised}
 use Rattle.radio_core.proofs.SoundEnds.{ended_fates, ended_and_left_fates}
 use Rattle.radio_core.proofs.Fates.{Fate, GoesOn, IsEnded, HasStopped, IsMoved, Fates, HasEnded, Nobody}
 use Rattle.radio_core.proofs.TickLemmas.{ticked_fates}
@@ -185,35 +185,39 @@ module _ (w : World) (s : IsSound w) (id : ℕ) where
     by_fate (HasStopped other why feeds done gone over) = absurd why
     by_fate (IsMoved old session carries left had has same live opens) = absurd carries
 
-  -- a source comes up: he rests where he is, or comes home
-  module _ (asked : SourceRequest) (peer : Peer) (undecided : standing_of w asked.id ≡ Undecided peer) (free : session_of w.house.live asked.mount ≡ None)
-      (allowed : verdict_in (rows_to_feed w.house asked) ≡ Allow) (bytes : List ℕ) (none : bytes ≡ []) where
+  -- a source, or a relay, comes up: he rests where he is, or comes home
+  module _ (event : Event) (mount : List ℕ) (house : House) (settings : house.settings ≡ w.house.settings) (lists : house.lists ≡ w.house.lists)
+      (sound_then : IsSound (record w { house = house })) (coming : ComesUpOn event mount)
+      (brings : (options_for w.house.settings mount).listeners.fallback_override ≡ true → Brings w event (Up mount) (record w { house = house }))
+      (bytes : List ℕ) (none : bytes ≡ []) where
     abbrev up : World
-    up = just_begun w s asked.id asked.mount (shown_for w.house asked.mount asked.shown) peer undecided free
+    up = record w { house = house }
 
     abbrev come_up : World
-    come_up = changed w (Begin asked.id asked.mount (shown_for w.house asked.mount asked.shown))
-
-    sound_up_then : IsSound up
-    sound_up_then = sound_just_begun w s asked.id asked.mount (shown_for w.house asked.mount asked.shown) peer undecided free
+    come_up = called_home (record w { house = house }) mount
 
     abbrev Takes : ℕ → Session → Type 0
-    Takes him session = TakesTo w (Source asked) him session.mount × (session.mount ≡ asked.mount)
-        × ((options_for w.house.settings asked.mount).listeners.fallback_override ≡ true)
+    Takes him session = TakesTo w event him session.mount × (session.mount ≡ mount)
+        × ((options_for w.house.settings mount).listeners.fallback_override ≡ true)
 
-    by_call : IsCalled Takes up come_up id → Turn w come_up (Source asked) id mine bytes (seat_of come_up.seats id)
-    by_call (CalledRests same seat) = stays come_up (Source asked) bytes (seat_of come_up.seats id) none seat
+    by_call : IsCalled Takes up come_up id → Turn w come_up event id mine bytes (seat_of come_up.seats id)
+    by_call (CalledRests same seat) = stays come_up event bytes (seat_of come_up.seats id) none seat
     by_call (CalledComes old session takes left had has same live opens) =
-        moves come_up (Source asked) bytes old session none takes.0 (HeIsCalledHome asked refl takes.1 (left.1 ∙ takes.1) takes.2) had has live opens
-        (apart_sessions up sound_up_then id old session had (ap (λ (h : House). session_of h.live session.mount) (sym (house_called up asked.mount)) ∙ live) left.0)
+        moves come_up event bytes old session none takes.0
+        (HeIsCalledHome (subst (λ (m : List ℕ). ComesUpOn event m) (sym takes.1) coming) left.1
+        (ap (λ (m : List ℕ). (options_for w.house.settings m).listeners.fallback_override) takes.1 ∙ takes.2)) had has live
+        (ap (λ (x : Lists). lets_in x session.mount old.pair) (sym lists) ∙ opens)
+        (apart_sessions up sound_then id old session had (ap (λ (h : House). session_of h.live session.mount) (sym (house_called up mount)) ∙ live) left.0)
 
-    comes_up : Turn w come_up (Source asked) id mine bytes (seat_of come_up.seats id)
+    comes_up : Turn w come_up event id mine bytes (seat_of come_up.seats id)
     comes_up =
-        by_call (is_called up sound_up_then asked.mount Takes
-        (λ calls him session turn. (
-          (Up asked.mount, up, ByComingUp asked peer undecided allowed calls, turn),
-          sym (comes_home (sight_of up.house) asked.mount (at_his_turn (sight_of up.house) (Up asked.mount) up.seats him) him session.mount turn),
-          calls,
+        by_call (is_called up sound_then mount Takes
+        (λ calls him session turn.
+        let here : (options_for w.house.settings mount).listeners.fallback_override ≡ true
+        = ap (λ (set : Settings). (options_for set mount).listeners.fallback_override) (sym settings) ∙ calls in (
+          (Up mount, up, brings here, turn),
+          sym (comes_home (sight_of house) mount (at_his_turn (sight_of house) (Up mount) w.seats him) him session.mount turn),
+          here,
         )) id)
 
   -- a command is done: he rests, or is finished, or is carried along
@@ -237,6 +241,16 @@ module _ (w : World) (s : IsSound w) (id : ℕ) where
         (ap (λ (x : Lists). lets_in x session.mount old.pair) (sym did.lists) ∙ opens)
         (apart_sessions did.base did.sound id old session had (did.fates.live session.mount session live) left.1)
 
+  -- a client leaves, or a relay goes down
+  goes : (event : Event) (him : ℕ)
+      → Turn w (changed w (Forget him)) event id mine (of_client event id []) (seat_of (changed w (Forget him)).seats id)
+  goes event him =
+      let now = changed w (Forget him) in
+      by_number him id
+      (λ same. loses now event (of_client event id []) (seat_of now.seats id) (nothing_of event id [] refl)
+      (ap (seat_of now.seats) (sym same) ∙ ap seat_in (is_no_listener w.seats him)))
+      (λ apart. stays now event (of_client event id []) (seat_of now.seats id) (nothing_of event id [] refl) (ap seat_in (beside_left w.seats him id apart)))
+
   step_by : (event : Event) (o : Outcome) → Way w event o
       → Turn w (changed w o.change) event id mine (of_client event id (data_in o.reply)) (seat_of (changed w o.change).seats id)
   step_by event o (Misplaced _) = stays w event (of_client event id []) mine (nothing_of event id [] refl) refl
@@ -246,9 +260,15 @@ module _ (w : World) (s : IsSound w) (id : ℕ) where
       stays (changed w o.change) event (of_client event id []) mine (nothing_of event id [] refl) refl
   step_by event o (IsAdmitted peer allowed) = stays (changed w o.change) event [] mine refl refl
   step_by event o (Begins asked undecided none allowed) =
-      comes_up asked undecided.0 undecided.1 none allowed (of_client event id []) (nothing_of event id [] refl)
+      comes_up event asked.mount (begun w.house asked.id asked.mount (shown_for w.house asked.mount asked.shown)) refl refl
+      (sound_just_begun w s asked.id asked.mount (shown_for w.house asked.mount asked.shown) undecided.0 undecided.1 none) (ASource asked)
+      (λ calls. ByComingUp asked undecided.0 undecided.1 allowed calls) (of_client event id []) (nothing_of event id [] refl)
+  step_by event o (ComesUp mount shown none allowed) =
+      comes_up event mount (raised w.house (w.house.last_id + 1) mount (shown_for w.house mount shown)) refl refl
+      (sound_just_raised w s mount (shown_for w.house mount shown) none) (ARelay mount shown)
+      (λ calls. ByRelayUp mount shown allowed calls) [] refl
   step_by event o (Receives him mount block feeding) = lags him mount block feeding (of_client event id []) (nothing_of event id [] refl)
-  step_by event o (Shows _ listing c) =
+  step_by event o (Shows _ asker peer text its undecided what) =
       stays (changed w o.change) event (of_client event id []) mine (nothing_of event id [] refl) refl
   step_by event o (Obeys _ command c) = obeys event command c (of_client event id []) (nothing_of event id [] refl)
   step_by event o (HasPassed ms e) = stays w event [] mine refl refl
@@ -258,18 +278,14 @@ module _ (w : World) (s : IsSound w) (id : ℕ) where
   step_by event o (TakesSeat asked peer session undecided lands live allowed) =
       takes_seat_at asked peer session undecided lands live allowed (of_client event id []) (nothing_of event id [] refl)
   step_by event o (HandsOut him room seat session sits has live) = hands_at him room seat session sits has live
-  step_by event o (Ends him mount feeding) =
-      fares (changed w (End him mount)) (SourceEnd him) (λ him'. client_in (SourceEnd him) ≡ Some him') (ended_fates w s him mount feeding)
+  step_by event o (Ends him mount feeding no_relay) =
+      fares (changed w (End him mount)) (SourceEnd him) (λ him'. client_in (SourceEnd him) ≡ Some him') (ended_fates w s him mount feeding no_relay)
       (of_client event id []) (nothing_of event id [] refl)
-  step_by event o (EndsAndLeaves him mount feeding) =
-      fares (changed w (EndAndLeave him mount)) (Leave him) (λ him'. client_in (Leave him) ≡ Some him') (ended_and_left_fates w s him mount feeding)
+  step_by event o (EndsAndLeaves _ him mount closes feeding) =
+      fares (changed w (EndAndLeave him mount)) event (λ him'. client_in event ≡ Some him') (ended_and_left_fates w s him mount feeding event closes)
       (of_client event id []) (nothing_of event id [] refl)
-  step_by event o (Leaves him other) =
-      by_number him id
-      (λ same. loses (changed w o.change) event (of_client event id []) (seat_of (changed w o.change).seats id) (nothing_of event id [] refl)
-      (ap (seat_of (changed w o.change).seats) (sym same) ∙ ap seat_in (is_no_listener w.seats him)))
-      (λ apart. stays (changed w o.change) event (of_client event id []) (seat_of (changed w o.change).seats id) (nothing_of event id [] refl)
-      (ap seat_in (beside_left w.seats him id apart)))
+  step_by event o (Leaves him no_relay other) = goes event him
+  step_by event o (GoesDown him rule relay told) = goes event him
 
   turn_of : (event : Event) → Turn w (world_after w event) event id mine (handed_at w event id) (seat_of (world_after w event).seats id)
   unfolding reply_to world_after

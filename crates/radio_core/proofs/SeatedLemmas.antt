@@ -10,6 +10,8 @@ use Rattle.radio_core.specs.declared.clients.ClientState.{ClientState}
 use Rattle.radio_core.specs.declared.clients.ClientState.TheVariants.{Undecided as IsNew, Feeds as IsSource, Listens, Answered, Ended}
 use Rattle.radio_core.specs.declared.standing.Standing.TheVariants.{Sits}
 use Rattle.radio_core.specs.Clients.{Client, client_of}
+use Rattle.radio_core.specs.Relays.{Relay, relay_of}
+use Rattle.radio_core.proofs.Standings.{no_relay_sits}
 use Rattle.radio_core.specs.World.{World, standing_of, standing_in, standing_by, standing_of_listener, standing_seated}
 
 -- who sits has a seat
@@ -29,9 +31,9 @@ by_state listener peer Listens e = listener_seat listener e
 by_state listener peer Answered e = cc
 by_state listener peer (Ended rule) e = cc
 
-by_client : (listener : Option Listener) (client : Option Client) → standing_in listener client ≡ Sits → (seat : Seat) × (seat_in listener ≡ Some seat)
-by_client listener None e = cc
-by_client listener (Some client) e = by_state listener client.peer client.state e
+by_client : (relay : Option Relay) (listener : Option Listener) (client : Option Client) → standing_in relay listener client ≡ Sits → (seat : Seat) × (seat_in listener ≡ Some seat)
+by_client relay listener None e = absurd (no_relay_sits relay e)
+by_client relay listener (Some client) e = by_state listener client.peer client.state e
 
 pub seat_of_sitting : (w : World) (id : ℕ) → standing_of w id ≡ Sits → (seat : Seat) × (seat_of w.seats id ≡ Some seat)
-seat_of_sitting w id e = by_client (listener_of w.seats id) (client_of w.house.clients id) e
+seat_of_sitting w id e = by_client (relay_of w.house.relays id) (listener_of w.seats id) (client_of w.house.clients id) e

@@ -1,5 +1,5 @@
 -- what an event does to the session of one mount; no event changes the settings
-use Rattle.std.proofs.Common.{◌≡◌, ◌⊎◌, inl, inr, ℕ, ◌*◌, ◌-◌, ◌≤◌, Option, Some, None, List, refl, ap, sym, subst, ◌∙◌}
+use Rattle.std.proofs.Common.{◌≡◌, ◌⊎◌, inl, inr, ℕ, ◌+◌, ◌*◌, ◌-◌, ◌≤◌, Option, Some, None, List, refl, ap, sym, subst, ◌∙◌}
 use Rattle.std.specs.Prelude.{unwrap_or}
 use Rattle.std.proofs.lemmas.Slice.Eq.{bytes_eq-Decides}
 use Rattle.radio_policy.specs.declared.rule.Rule.{Rule}
@@ -7,19 +7,21 @@ use Rattle.radio_settings.specs.Options.{options_for}
 use Rattle.radio_tables.proofs.KeyLaws.{by_name}
 use Rattle.radio_seats.specs.Seats.{listener_of}
 use Rattle.radio_events.specs.declared.event.Event.{Event}
-use Rattle.radio_events.specs.declared.event.Event.TheVariants.{Source, Push, SourceEnd, Title, Leave, Clock}
-use Rattle.radio_events.specs.declared.event.SourceRequest.{SourceRequest}
+use Rattle.radio_events.specs.declared.event.Event.TheVariants.{Source, Push, SourceEnd, Title, Leave, RelayUp, RelayDown, Clock}
+use Rattle.radio_settings.specs.declared.field.Shown.{Shown}
 use Rattle.radio_core.specs.Clients.{Client}
+use Rattle.radio_core.specs.Closing.{Closes, OfClient, OfRelay}
+use Rattle.radio_core.specs.Relays.{relay_of}
 use Rattle.radio_core.specs.declared.clients.ClientState.TheVariants.{Undecided as IsNew}
-use Rattle.radio_core.specs.declared.outcome.Change.TheVariants.{Begin, Receive, SetTitle, Obey}
+use Rattle.radio_core.specs.declared.outcome.Change.TheVariants.{Receive, SetTitle, Obey}
 use Rattle.radio_core.specs.declared.outcome.Outcome.{Outcome}
 use Rattle.radio_core.specs.declared.standing.Standing.TheVariants.{Undecided, Feeds, Sits}
 use Rattle.radio_core.specs.declared.house.House.{House}
-use Rattle.radio_core.specs.Changes.{answered, changed, begun, session_ended, session_killed, ticked}
+use Rattle.radio_core.specs.Changes.{answered, changed, begun, raised, called_home, session_ended, session_killed, ticked}
 use Rattle.radio_core.specs.Moves.{TakesTo}
 use Rattle.radio_core.specs.Finishes.{Cause, SessionIsOver, IsFarBehind, HasSatOut, HasAskedNothing, HasSentNothing, IsKilled, HisSessionIsKilled}
-use Rattle.radio_parts.specs.Sessions.{Session, session_of, opened, titled, without_session}
-use Rattle.radio_core.specs.SessionSteps.{IsShownAs, OfTheSettings, OfTheSource, SessionStep, Stays, Begins as ItBegins, Grows, IsTitled}
+use Rattle.radio_parts.specs.Sessions.{Session, session_of, opened, with_session, titled, without_session}
+use Rattle.radio_core.specs.SessionSteps.{IsShownAs, OfTheSettings, OfTheSource, HasBegun, SessionStep, Stays, Begins as ItBegins, BeginsForRelay, Grows, IsTitled}
 use Rattle.radio_core.specs.SessionSteps.{Ends as ItEnds, IsRetitled, IsKilled as ItIsKilled, SessionsStep, KeepsSettings}
 use Rattle.radio_events.specs.declared.command.Command.{Command}
 use Rattle.radio_events.specs.declared.command.Command.TheVariants.{MoveClients, KillClient, KillSource, SetTitle as SetTitleOf, SetFallback}
@@ -27,8 +29,8 @@ use Rattle.radio_core.specs.CommandFacts.{IsCommanded}
 use Rattle.radio_core.specs.Sound.{IsSound}
 use Rattle.radio_core.specs.Source.{shown_for}
 use Rattle.radio_core.specs.Step.{outcome, world_after}
-use Rattle.radio_core.specs.Ways.{Way, Misplaced, IsFinished, IsDenied, IsRefused, IsAdmitted, Begins, Receives, SetsTitle, TakesSeat, HandsOut, Ends}
-use Rattle.radio_core.specs.Ways.{EndsAndLeaves, Leaves, Obeys, Shows, HasPassed, Ticks}
+use Rattle.radio_core.specs.Ways.{Way, Misplaced, IsFinished, IsDenied, IsRefused, IsAdmitted, Begins, ComesUp, Receives, SetsTitle, TakesSeat, HandsOut, Ends}
+use Rattle.radio_core.specs.Ways.{EndsAndLeaves, Leaves, GoesDown, Obeys, Shows, HasPassed, Ticks}
 use Rattle.radio_core.specs.World.{World, standing_of, standing_in}
 use Rattle.radio_core.proofs.CalledHome.{house_called}
 use Rattle.radio_core.proofs.Fates.{Fate, GoesOn, IsEnded, HasStopped, IsMoved, HasEnded, Nobody}
@@ -54,37 +56,40 @@ module _ (w : World) (s : IsSound w) (mount : List ℕ) where
   stays : (event : Event) (later : Option Session) → later ≡ mine → SessionStep w event mount mine later
   stays event later same = turned event refl (sym same) (Stays mine)
 
-  begins : (asked : SourceRequest) → session_of w.house.live asked.mount ≡ None
-      → SessionStep w (Source asked) mount mine
-      (session_of (record w { house = begun w.house asked.id asked.mount (shown_for w.house asked.mount asked.shown) }).house.live mount)
-  begins asked none =
-      let stream = (options_for w.house.settings asked.mount).stream in
-      let fresh = opened asked.mount asked.id (shown_for w.house asked.mount asked.shown) w.house.time in
-      by_name asked.mount mount
-      (λ same. turned (Source asked) (sym none ∙ ap (session_of w.house.live) same)
-      (sym (is_new_session w.house.live fresh mount ((bytes_eq-Decides asked.mount mount).1 same)))
-      (ItBegins asked fresh refl same (record {
-        its_mount = refl;
-        its_source = refl;
-        has_no_data = refl;
-        has_no_blocks = refl;
-        has_no_title = refl;
-        from_now = refl;
-        shows_type = refl;
-        shows_name = is_shown stream.stream_name asked.shown.name;
-        shows_genre = is_shown stream.genre asked.shown.genre;
-      })))
-      (λ apart. stays (Source asked)
-      (session_of (record w { house = begun w.house asked.id asked.mount (shown_for w.house asked.mount asked.shown) }).house.live mount)
-      (beside_begun w.house.live fresh mount apart))
+  -- the session of a source, or relay, that comes up on the mount `there`; those who are called home change no session
+  module _ (event : Event) (there : List ℕ) (number : ℕ) (shown : Shown) (house : House)
+      (live : house.live ≡ with_session w.house.live (opened there number (shown_for w.house there shown) w.house.time))
+      (none : session_of w.house.live there ≡ None)
+      (it_begins : (session : Session) → there ≡ mount → HasBegun w mount number shown session → SessionStep w event mount None (Some session)) where
+    abbrev fresh : Session
+    fresh = opened there number (shown_for w.house there shown) w.house.time
 
-  -- those who are called home change no session
-  comes_up : (asked : SourceRequest) → session_of w.house.live asked.mount ≡ None
-      → SessionStep w (Source asked) mount mine
-      (session_of (changed w (Begin asked.id asked.mount (shown_for w.house asked.mount asked.shown))).house.live mount)
-  comes_up asked none =
-      let up = record w { house = begun w.house asked.id asked.mount (shown_for w.house asked.mount asked.shown) } in
-      turned (Source asked) refl (ap (λ (h : House). session_of h.live mount) (sym (house_called up asked.mount))) (begins asked none)
+    has_begun : HasBegun w there number shown fresh
+    has_begun = record {
+      its_mount = refl;
+      its_source = refl;
+      has_no_data = refl;
+      has_no_blocks = refl;
+      has_no_title = refl;
+      from_now = refl;
+      shows_type = refl;
+      shows_name = is_shown (options_for w.house.settings there).stream.stream_name shown.name;
+      shows_genre = is_shown (options_for w.house.settings there).stream.genre shown.genre;
+    }
+
+    begins : SessionStep w event mount mine (session_of (with_session w.house.live fresh) mount)
+    begins =
+        by_name there mount
+        (λ same. turned event (sym none ∙ ap (session_of w.house.live) same)
+        (sym (is_new_session w.house.live fresh mount ((bytes_eq-Decides there mount).1 same)))
+        (it_begins fresh same (subst (λ (m : List ℕ). HasBegun w m number shown fresh) same has_begun)))
+        (λ apart. stays event (session_of (with_session w.house.live fresh) mount) (beside_begun w.house.live fresh mount apart))
+
+    comes_up : SessionStep w event mount mine (session_of (called_home (record w { house = house }) there).house.live mount)
+    comes_up =
+        turned event refl
+        (ap (λ (sessions : List Session). session_of sessions mount) (sym live)
+        ∙ ap (λ (h : House). session_of h.live mount) (sym (house_called (record w { house = house }) there))) begins
 
   grows : (him : ℕ) (fed block : List ℕ) → standing_of w him ≡ Feeds fed
       → SessionStep w (Push him block) mount mine (session_of (changed w (Receive fed block)).house.live mount)
@@ -107,7 +112,8 @@ module _ (w : World) (s : IsSound w) (mount : List ℕ) where
       (IsTitled ours.0 text (ap (λ (n : ℕ). Title n text) (sym ours.2))))
       (λ apart. stays (Title him text) (session_of (changed w (SetTitle fed text)).house.live mount) (beside_titled w.house.live fed mount apart text))
 
-  is_ended : (event : Event) (him : ℕ) (fed : List ℕ) → standing_of w him ≡ Feeds fed → (event ≡ SourceEnd him) ⊎ (event ≡ Leave him)
+  is_ended : (event : Event) (him : ℕ) (fed : List ℕ) → standing_of w him ≡ Feeds fed
+      → (event ≡ SourceEnd him) ⊎ (event ≡ Leave him) ⊎ (event ≡ RelayDown him)
       → SessionStep w event mount mine (session_of (session_ended w fed).house.live mount)
   is_ended event him fed feeding by =
       let ours = s.feeds him fed feeding in
@@ -116,11 +122,17 @@ module _ (w : World) (s : IsSound w) (mount : List ℕ) where
       (sym (is_over w.house.live fed) ∙ ap (session_of (session_ended w fed).house.live) same)
       (ItEnds ours.0 (his ours.0 ours.2 by)))
       (λ apart. stays event (session_of (session_ended w fed).house.live mount) (beside_ended w.house.live fed mount apart)) where
-        his : (session : Session) → session.number ≡ him → (event ≡ SourceEnd him) ⊎ (event ≡ Leave him)
-            → (event ≡ SourceEnd session.number) ⊎ (event ≡ Leave session.number) ⊎ ((ms : ℕ) × (event ≡ Clock ms)
-            × (1000 * w.house.settings.limits.source_timeout ≤ ms - session.last_block))
+        his : (session : Session) → session.number ≡ him → (event ≡ SourceEnd him) ⊎ (event ≡ Leave him) ⊎ (event ≡ RelayDown him)
+            → (event ≡ SourceEnd session.number) ⊎ (event ≡ Leave session.number) ⊎ (event ≡ RelayDown session.number)
+            ⊎ ((ms : ℕ) × (event ≡ Clock ms) × (1000 * w.house.settings.limits.source_timeout ≤ ms - session.last_block))
         his session number (inl e) = inl (e ∙ ap (λ (n : ℕ). SourceEnd n) (sym number))
-        his session number (inr e) = inr (inl (e ∙ ap (λ (n : ℕ). Leave n) (sym number)))
+        his session number (inr (inl e)) = inr (inl (e ∙ ap (λ (n : ℕ). Leave n) (sym number)))
+        his session number (inr (inr e)) = inr (inr (inl (e ∙ ap (λ (n : ℕ). RelayDown n) (sym number))))
+
+  -- whose connection is closed
+  is_closed : (event : Event) (him : ℕ) → Closes w him event → (event ≡ SourceEnd him) ⊎ (event ≡ Leave him) ⊎ (event ≡ RelayDown him)
+  is_closed event him (OfClient no_relay) = inr (inl refl)
+  is_closed event him (OfRelay relay) = inr (inr refl)
 
   -- a command sets its title, or ends it
   is_retitled : (event : Event) (named text : List ℕ) (c : IsCommanded w event (SetTitleOf named text)) (session : Session)
@@ -179,21 +191,22 @@ module _ (w : World) (s : IsSound w) (mount : List ℕ) where
         let feeds : standing_of w session.number ≡ Feeds mount = s.fed mount session here in
         let new : client.state ≡ IsNew = asking_at w.house.settings.limits.header_timeout moment client.arrived client.state late in
         let undecided : standing_of w session.number ≡ Undecided client.peer =
-        ap (standing_in (listener_of w.seats session.number)) found ∙ is_new (listener_of w.seats session.number) client new in
+        ap (standing_in (relay_of w.house.relays session.number) (listener_of w.seats session.number)) found
+        ∙ is_new (relay_of w.house.relays session.number) (listener_of w.seats session.number) client new in
         cc where
-          is_new : (listener : _) (x : Client) → x.state ≡ IsNew → standing_in listener (Some x) ≡ Undecided x.peer
-          is_new listener x e = rw e refl
+          is_new : (relay : _) (listener : _) (x : Client) → x.state ≡ IsNew → standing_in relay listener (Some x) ≡ Undecided x.peer
+          is_new relay listener x e = rw e refl
     is_silenced session here (HasSentNothing moment silent e feeds live is) gone =
         let both : Feeds mount ≡ Feeds silent.mount = sym (s.fed mount session here) ∙ feeds in
         let name : mount ≡ silent.mount = cc in
         let same : Some session ≡ Some silent = sym here ∙ ap (session_of w.house.live) name ∙ live in
         let one : session ≡ silent = cc in
-        turned (Clock ms) (sym here) (sym gone) (ItEnds session (inr (inr (
+        turned (Clock ms) (sym here) (sym gone) (ItEnds session (inr (inr (inr (
           moment,
           e,
           subst (λ (x : Session). 1000 * w.house.settings.limits.source_timeout ≤ moment - x.last_block) (sym one)
               ((tests_are_in_numbers.sends_nothing w.house.settings.limits.source_timeout moment silent).0 is),
-        ))))
+        )))))
 
     at_the_moment : SessionStep w (Clock ms) mount mine later
     at_the_moment = by_found mine refl where
@@ -222,15 +235,21 @@ module _ (w : World) (s : IsSound w) (mount : List ℕ) where
   step_by event o (IsDenied _ by v nobody) = Stays mine
   step_by event o (IsRefused _ him by v its undecided) = Stays mine
   step_by event o (IsAdmitted peer allowed) = Stays mine
-  step_by event o (Begins asked undecided none allowed) = comes_up asked none
+  step_by event o (Begins asked undecided none allowed) =
+      comes_up (Source asked) asked.mount asked.id asked.shown (begun w.house asked.id asked.mount (shown_for w.house asked.mount asked.shown)) refl none
+      (λ session same has. ItBegins asked session refl same has)
+  step_by event o (ComesUp there shown none allowed) =
+      comes_up (RelayUp there shown) there (w.house.last_id + 1) shown (raised w.house (w.house.last_id + 1) there (shown_for w.house there shown)) refl none
+      (λ session same has. BeginsForRelay shown session (ap (λ (m : List ℕ). RelayUp m shown) same) has)
   step_by event o (Receives him fed block feeding) = grows him fed block feeding
   step_by event o (SetsTitle him fed text feeding) = is_told him fed text feeding
   step_by event o (TakesSeat asked peer session undecided lands live allowed) = Stays mine
   step_by event o (HandsOut him room seat session sits has live) = Stays mine
-  step_by event o (Ends him fed feeding) = is_ended event him fed feeding (inl refl)
-  step_by event o (EndsAndLeaves him fed feeding) = is_ended event him fed feeding (inr refl)
-  step_by event o (Leaves him other) = Stays mine
-  step_by event o (Shows _ listing c) = Stays mine
+  step_by event o (Ends him fed feeding no_relay) = is_ended event him fed feeding (inl refl)
+  step_by event o (EndsAndLeaves _ him fed closes feeding) = is_ended event him fed feeding (is_closed event him closes)
+  step_by event o (Leaves him no_relay other) = Stays mine
+  step_by event o (GoesDown him rule relay told) = Stays mine
+  step_by event o (Shows _ asker peer text its undecided what) = Stays mine
   step_by event o (Obeys _ command c) = obeys event command c
   step_by event o (HasPassed ms e) = Stays mine
   step_by event o (Ticks ms e) = at_the_moment ms
@@ -251,14 +270,18 @@ module _ (w : World) (s : IsSound w) where
   keeps_by event o (Begins asked undecided none allowed) =
       let same = house_called (record w { house = begun w.house asked.id asked.mount (shown_for w.house asked.mount asked.shown) }) asked.mount in
       (ap (λ (h : House). h.settings) same, ap (λ (h : House). h.lists) same)
+  keeps_by event o (ComesUp there shown none allowed) =
+      let same = house_called (record w { house = raised w.house (w.house.last_id + 1) there (shown_for w.house there shown) }) there in
+      (ap (λ (h : House). h.settings) same, ap (λ (h : House). h.lists) same)
   keeps_by event o (Receives him fed block feeding) = (refl, refl)
   keeps_by event o (SetsTitle him fed text feeding) = (refl, refl)
   keeps_by event o (TakesSeat asked peer session undecided lands live allowed) = (refl, refl)
   keeps_by event o (HandsOut him room seat session sits has live) = (refl, refl)
-  keeps_by event o (Ends him fed feeding) = (refl, refl)
-  keeps_by event o (EndsAndLeaves him fed feeding) = (refl, refl)
-  keeps_by event o (Leaves him other) = (refl, refl)
-  keeps_by event o (Shows _ listing c) = (refl, refl)
+  keeps_by event o (Ends him fed feeding no_relay) = (refl, refl)
+  keeps_by event o (EndsAndLeaves _ him fed closes feeding) = (refl, refl)
+  keeps_by event o (Leaves him no_relay other) = (refl, refl)
+  keeps_by event o (GoesDown him rule relay told) = (refl, refl)
+  keeps_by event o (Shows _ asker peer text its undecided what) = (refl, refl)
   keeps_by event o (Obeys _ command c) = obeyed_keeps w c.asked.id command
   keeps_by event o (HasPassed ms e) = (refl, refl)
 

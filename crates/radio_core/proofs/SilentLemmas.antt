@@ -9,9 +9,8 @@ use Rattle.radio_tables.proofs.FindLaws.{passes_none}
 use Rattle.radio_parts.specs.Sessions.{Session, AreApart}
 use Rattle.radio_parts.specs.Timeouts.{is_silent}
 use Rattle.radio_parts.proofs.SilentSessions.{rising_apart, found_first, none_pass, others_left}
-use Rattle.radio_core.specs.declared.clients.ClientState.TheVariants.{Ended}
 use Rattle.radio_core.specs.declared.house.House.{House}
-use Rattle.radio_core.specs.Changes.{now_in_state, session_ended, session_silenced, silent_in}
+use Rattle.radio_core.specs.Changes.{finished_in, session_ended, session_silenced, silent_in}
 use Rattle.radio_core.specs.World.{World}
 
 module _ (w : World) (session : Session) (apart : AreApart w.house.live) where
@@ -40,15 +39,15 @@ module _ (w : World) (house : House) (same : house ≡ w.house) where
   module _ (ended : World) (left : House) (session : Session) (mount : List ℕ) (number : ℕ)
       (rising : IsStrictlySortedBy (slice_cmp nat_cmp) (map (λ (x : Session). x.mount) house.live)) (first : FoundFirst (Some session))
       (its_mount : mount ≡ session.mount) (its_number : number ≡ session.number) (is_ended : ended ≡ session_ended w mount)
-      (is_left : left ≡ now_in_state ended.house number (Ended SourceSilent)) where
+      (is_left : left ≡ finished_in ended.house number SourceSilent) where
     abbrev later : World
     later = record ended { house = left }
 
     is_silenced : later ≡ session_silenced w session
     is_silenced =
         ap (λ (h : House). record ended { house = h }) is_left
-        ∙ ap (λ (v : World). record v { house = now_in_state v.house number (Ended SourceSilent) }) (is_ended ∙ ap (session_ended w) its_mount)
-        ∙ ap (λ (n : ℕ). let v = session_ended w session.mount in record v { house = now_in_state v.house n (Ended SourceSilent) }) its_number
+        ∙ ap (λ (v : World). record v { house = finished_in v.house number SourceSilent }) (is_ended ∙ ap (session_ended w) its_mount)
+        ∙ ap (λ (n : ℕ). let v = session_ended w session.mount in record v { house = finished_in v.house n SourceSilent }) its_number
 
     first_ends : silent_in w ≡ session ∷ silent_in later
     first_ends =

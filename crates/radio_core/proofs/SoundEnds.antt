@@ -10,7 +10,8 @@ use Rattle.radio_fallback.specs.declared.moves.Move.TheVariants.{Ended as Sessio
 use Rattle.radio_fallback.specs.declared.moves.Move.{Move}
 use Rattle.radio_fallback.specs.declared.moves.Turn.TheVariants.{Stays, GoesTo, IsOut}
 use Rattle.radio_fallback.proofs.Faring.{Faring, HasStayed, HasGone, HasLost, fares, nobody_stays}
-use Rattle.radio_events.specs.declared.event.Event.TheVariants.{SourceEnd, Leave}
+use Rattle.radio_events.specs.declared.event.Event.{Event}
+use Rattle.radio_events.specs.declared.event.Event.TheVariants.{SourceEnd}
 use Rattle.radio_events.specs.Events.{client_in}
 use Rattle.radio_core.specs.declared.clients.ClientState.{ClientState}
 use Rattle.radio_core.specs.declared.clients.ClientState.TheVariants.{Answered as HasHisAnswer}
@@ -18,9 +19,10 @@ use Rattle.radio_core.specs.declared.outcome.Change.TheVariants.{End, EndAndLeav
 use Rattle.radio_seats.specs.declared.seat.Seat.{Seat}
 use Rattle.radio_core.specs.declared.standing.Standing.{Standing}
 use Rattle.radio_core.specs.declared.standing.Standing.TheVariants.{Unknown, Feeds, Sits, Answered}
-use Rattle.radio_core.specs.World.{World, standing_of}
+use Rattle.radio_core.specs.World.{World, standing_of, has_relay}
 use Rattle.radio_core.specs.Changes.{changed, carried_along, session_over, session_ended}
 use Rattle.radio_core.specs.Clients.{Client, client_of, with_state, in_state}
+use Rattle.radio_core.specs.Closing.{Closes}
 use Rattle.radio_core.specs.Facts.{sight_of}
 use Rattle.radio_core.specs.Finishes.{Cause, SessionIsOver}
 use Rattle.radio_core.specs.Moves.{his_turn, ByItsEnd, ByItsLeaving, TakesTo}
@@ -33,9 +35,10 @@ use Rattle.radio_parts.proofs.ApartLemmas.{kept_apart, bytes_apart}
 use Rattle.radio_core.proofs.CarriedFates.{order_carried, carried_fate}
 use Rattle.radio_core.proofs.Fates.{IsDone, Fate, GoesOn, HasStopped, Fates, HasEnded, sound_fates}
 use Rattle.radio_parts.proofs.SessionLookups.{beside_ended, is_over}
-use Rattle.radio_core.proofs.Lookups.{beside_state, beside_forgotten, does, is_no_client}
+use Rattle.radio_core.proofs.Lookups.{beside_state, beside_forgotten, does, still_none, is_no_client}
+use Rattle.radio_core.proofs.ClosingLemmas.{closes_his}
 use Rattle.radio_parts.proofs.NumberOrder.{order_left}
-use Rattle.radio_core.proofs.Standings.{Turns, kept_of, turns_answered, turns_forgotten, feeds_whoever_sits}
+use Rattle.radio_core.proofs.Standings.{Turns, is_client_there, turns_answered, turns_forgotten, feeds_whoever_sits}
 
 -- who has no seat has none when a move has carried the others along
 pub no_seat_carried : (w : World) (move : Move) → AreByNumber w.seats → (id : ℕ) → seat_of w.seats id ≡ None → seat_of (carried_along w move).seats id ≡ None
@@ -100,7 +103,7 @@ module _ (C : ℕ → Rule → Type 0) (M : ℕ → Session → Type 0) (S : ℕ
 
   fate_of : (id : ℕ) → (him == id) ≡ false → Fate C M S HasEnded w later id
   fate_of id other =
-      carried_fate C M S HasEnded w s (session_over w mount).house refl refl (SessionEnds mount) later live_then id
+      carried_fate C M S HasEnded w s (session_over w mount).house refl refl refl (SessionEnds mount) later live_then id
       (t.others id other) (seats id other)
       (λ turn same seats. GoesOn same seats (λ m feeds. left_over m (other_mount id m other feeds)) (λ seat has. left_over seat.mount
       (elsewhere id seat has (turn seat has))))
@@ -126,22 +129,23 @@ module _ (C : ℕ → Rule → Type 0) (M : ℕ → Session → Type 0) (S : ℕ
     }
 
 -- who asks too late after one client has turned to something else was as he is
-pub late_beside : (clients : List Client) (him : ℕ) (state : ClientState) (old : Client) → client_of clients him ≡ Some old
+pub late_beside : (clients : List Client) (him : ℕ) (state : ClientState)
     → ((client : Client) (seconds ms : ℕ) → asks_too_late seconds ms (with_state state client) ≡ true → ⊥)
     → (id : ℕ) (client : Client) (seconds ms : ℕ) → client_of (in_state clients him state) id ≡ Some client → asks_too_late seconds ms client ≡ true
     → client_of clients id ≡ Some client
-late_beside clients him state old there never id client seconds ms e late =
-    by_number him id
-    (λ same.
-    let both : Some (with_state state old) ≡ Some client = sym (does clients him state old there) ∙ ap (client_of (in_state clients him state)) same ∙ e in
-    let one : with_state state old ≡ client = cc in
-    absurd (never old seconds ms (ap (λ (x : Client). asks_too_late seconds ms x) one ∙ late)))
-    (λ other. sym (beside_state clients him id other state) ∙ e)
+late_beside clients him state never id client seconds ms e late =
+    by_number him id (λ same. by_found same (client_of clients him) refl) (λ other. sym (beside_state clients him id other state) ∙ e) where
+      by_found : him ≡ id → (found : Option Client) → client_of clients him ≡ found → client_of clients id ≡ Some client
+      by_found same None none =
+          let still : client_of (in_state clients him state) id ≡ None
+          = ap (client_of (in_state clients him state)) (sym same) ∙ still_none him state clients none in cc
+      by_found same (Some old) there =
+          let both : Some (with_state state old) ≡ Some client
+          = sym (does clients him state old there) ∙ ap (client_of (in_state clients him state)) same ∙ e in
+          let one : with_state state old ≡ client = cc in
+          absurd (never old seconds ms (ap (λ (x : Client). asks_too_late seconds ms x) one ∙ late))
 
 module _ (w : World) (s : IsSound w) (him : ℕ) (mount : List ℕ) (feeding : standing_of w him ≡ Feeds mount) where
-  pub there : (client : Client) × (client_of w.house.clients him ≡ Some client)
-  there = kept_of w him (λ u. cc)
-
   pub still_feeds : standing_of (session_ended w mount) him ≡ Feeds mount
   still_feeds = feeds_whoever_sits w (session_ended w mount).seats him mount feeding
 
@@ -155,18 +159,21 @@ module _ (w : World) (s : IsSound w) (him : ℕ) (mount : List ℕ) (feeding : s
   abbrev ended : World
   ended = changed w (End him mount)
 
-  pub turns_ended : Turns (session_ended w mount) (changed w (End him mount)) him Answered
-  turns_ended = turns_answered (session_ended w mount) him (λ u. let still : standing_of (session_ended w mount) him ≡ Feeds mount = still_feeds in cc)
+  pub turns_ended : has_relay w him ≡ false → Turns (session_ended w mount) (changed w (End him mount)) him Answered
+  turns_ended no_relay =
+      turns_answered (session_ended w mount) him
+      (is_client_there (session_ended w mount) him (λ u. let still : standing_of (session_ended w mount) him ≡ Feeds mount = still_feeds in cc) no_relay)
 
-  pub ended_fates : Fates (Cause w (changed w (End him mount)) (SourceEnd him)) (λ id session. TakesTo w (SourceEnd him) id session.mount)
+  pub ended_fates : has_relay w him ≡ false
+      → Fates (Cause w (changed w (End him mount)) (SourceEnd him)) (λ id session. TakesTo w (SourceEnd him) id session.mount)
       (λ id. client_in (SourceEnd him) ≡ Some id) HasEnded w (changed w (End him mount))
-  ended_fates =
+  ended_fates no_relay =
       over_fates (Cause w ended (SourceEnd him)) (λ id session. TakesTo w (SourceEnd him) id session.mount) (λ id. client_in (SourceEnd him) ≡ Some id)
-      w s him mount feeding ended Answered turns_ended refl (λ id other. refl)
-      (HasStopped mount refl feeding (subst IsDone (sym turns_ended.his) tt) has_none_then (is_over w.house.live mount))
-      (λ id seat rule had turn. SessionIsOver rule seat had (SessionEnds mount, session_over w mount, ByItsEnd him mount feeding, turn))
-      (λ id session turn. (SessionEnds mount, session_over w mount, ByItsEnd him mount feeding, turn))
-      refl refl refl order_then (late_beside w.house.clients him HasHisAnswer there.0 there.1 (λ client seconds ms late. cc))
+      w s him mount feeding ended Answered (turns_ended no_relay) refl (λ id other. refl)
+      (HasStopped mount refl feeding (subst IsDone (sym (turns_ended no_relay).his) tt) has_none_then (is_over w.house.live mount))
+      (λ id seat rule had turn. SessionIsOver rule seat had (SessionEnds mount, session_over w mount, ByItsEnd him mount feeding no_relay, turn))
+      (λ id session turn. (SessionEnds mount, session_over w mount, ByItsEnd him mount feeding no_relay, turn))
+      refl refl refl order_then (late_beside w.house.clients him HasHisAnswer (λ client seconds ms late. cc))
 
   -- he has left
   abbrev gone : World
@@ -175,28 +182,29 @@ module _ (w : World) (s : IsSound w) (him : ℕ) (mount : List ℕ) (feeding : s
   pub turns_ended_and_left : Turns (session_ended w mount) (changed w (EndAndLeave him mount)) him Unknown
   turns_ended_and_left = turns_forgotten (session_ended w mount) him
 
-  pub ended_and_left_fates : Fates (Cause w (changed w (EndAndLeave him mount)) (Leave him)) (λ id session. TakesTo w (Leave him) id session.mount)
-      (λ id. client_in (Leave him) ≡ Some id) HasEnded w (changed w (EndAndLeave him mount))
-  ended_and_left_fates =
-      over_fates (Cause w gone (Leave him)) (λ id session. TakesTo w (Leave him) id session.mount) (λ id. client_in (Leave him) ≡ Some id)
+  pub ended_and_left_fates : (event : Event) → Closes w him event
+      → Fates (Cause w (changed w (EndAndLeave him mount)) event) (λ id session. TakesTo w event id session.mount)
+      (λ id. client_in event ≡ Some id) HasEnded w (changed w (EndAndLeave him mount))
+  ended_and_left_fates event closes =
+      over_fates (Cause w gone event) (λ id session. TakesTo w event id session.mount) (λ id. client_in event ≡ Some id)
       w s him mount feeding gone Unknown turns_ended_and_left refl
       (λ id other. ap seat_in (beside_left (session_ended w mount).seats him id other))
-      (HasStopped mount refl feeding (subst IsDone (sym turns_ended_and_left.his) tt) (ap seat_in (is_no_listener (session_ended w mount).seats him))
+      (HasStopped mount (closes_his w him event closes) feeding (subst IsDone (sym turns_ended_and_left.his) tt) (ap seat_in (is_no_listener (session_ended w mount).seats him))
       (is_over w.house.live mount))
-      (λ id seat rule had turn. SessionIsOver rule seat had (SessionEnds mount, session_over w mount, ByItsLeaving him mount feeding, turn))
-      (λ id session turn. (SessionEnds mount, session_over w mount, ByItsLeaving him mount feeding, turn))
+      (λ id seat rule had turn. SessionIsOver rule seat had (SessionEnds mount, session_over w mount, ByItsLeaving event him mount closes feeding, turn))
+      (λ id session turn. (SessionEnds mount, session_over w mount, ByItsLeaving event him mount closes feeding, turn))
       refl refl refl (order_left (session_ended w mount).seats order_then him)
       (λ id client seconds ms e late.
       by_number him id
       (λ same. let none : client_of gone.house.clients id ≡ None = ap (client_of gone.house.clients) (sym same) ∙ is_no_client w.house.clients him in cc)
       (λ other. sym (beside_forgotten w.house.clients him id other) ∙ e))
 
-  pub sound_ended : IsSound (changed w (End him mount))
-  sound_ended =
+  pub sound_ended : has_relay w him ≡ false → IsSound (changed w (End him mount))
+  sound_ended no_relay =
       sound_fates (Cause w ended (SourceEnd him)) (λ id session. TakesTo w (SourceEnd him) id session.mount) (λ id. client_in (SourceEnd him) ≡ Some id)
-      HasEnded w ended s ended_fates
+      HasEnded w ended s (ended_fates no_relay)
 
-  pub sound_ended_and_left : IsSound (changed w (EndAndLeave him mount))
-  sound_ended_and_left =
-      sound_fates (Cause w gone (Leave him)) (λ id session. TakesTo w (Leave him) id session.mount) (λ id. client_in (Leave him) ≡ Some id)
-      HasEnded w gone s ended_and_left_fates
+  pub sound_ended_and_left : (event : Event) → Closes w him event → IsSound (changed w (EndAndLeave him mount))
+  sound_ended_and_left event closes =
+      sound_fates (Cause w gone event) (λ id session. TakesTo w event id session.mount) (λ id. client_in event ≡ Some id)
+      HasEnded w gone s (ended_and_left_fates event closes)

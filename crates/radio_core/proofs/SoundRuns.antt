@@ -20,10 +20,10 @@ use Rattle.radio_core.specs.Run.{world_after_all, run_after}
 use Rattle.radio_core.specs.Sound.{IsSound}
 use Rattle.radio_core.specs.Source.{shown_for}
 use Rattle.radio_core.specs.Step.{outcome, world_after}
-use Rattle.radio_core.specs.Ways.{Way, Misplaced, IsFinished, IsDenied, IsRefused, IsAdmitted, Begins, Receives, SetsTitle, TakesSeat, HandsOut, Ends}
-use Rattle.radio_core.specs.Ways.{EndsAndLeaves, Leaves, Obeys, Shows, HasPassed, Ticks}
+use Rattle.radio_core.specs.Ways.{Way, Misplaced, IsFinished, IsDenied, IsRefused, IsAdmitted, Begins, ComesUp, Receives, SetsTitle, TakesSeat, HandsOut, Ends}
+use Rattle.radio_core.specs.Ways.{EndsAndLeaves, Leaves, GoesDown, Obeys, Shows, HasPassed, Ticks}
 use Rattle.radio_core.proofs.Soundness.{sound_answered, sound_forgotten, sound_admitted, sound_sits}
-use Rattle.radio_core.proofs.CalledHome.{sound_up}
+use Rattle.radio_core.proofs.CalledHome.{sound_up, sound_risen}
 use Rattle.radio_core.proofs.SoundSessions.{sound_grown, sound_heard}
 use Rattle.radio_parts.proofs.NumberOrder.{in_order}
 use Rattle.radio_core.proofs.SoundTitles.{sound_titled}
@@ -61,9 +61,10 @@ sound_by w s event o (IsRefused _ id rule v his undecided) = sound_answered w s 
 sound_by w s event o (IsAdmitted peer allowed) = sound_admitted w s peer
 sound_by w s event o (Begins asked undecided none allowed) =
     sound_up w s asked.id asked.mount (shown_for w.house asked.mount asked.shown) undecided.0 undecided.1 none
+sound_by w s event o (ComesUp mount shown none allowed) = sound_risen w s mount (shown_for w.house mount shown) none
 sound_by w s event o (Receives id mount block feeding) = sound_fates (Cause w (taken_in w mount block) (Push id block)) NoMove Nobody HasEnded
     (grown_world w mount block) (taken_in w mount block) (sound_grown w s mount block id feeding) (lag_fates w s mount block id feeding)
-sound_by w s event o (Shows _ listing c) = sound_answered w s c.asked.id c.peer c.undecided
+sound_by w s event o (Shows _ asker peer text its undecided what) = sound_answered w s asker peer undecided
 sound_by w s event o (Obeys _ command c) = sound_obeyed w s event command c
 sound_by w s event o (HasPassed ms e) = s
 sound_by w s event o (Ticks ms e) =
@@ -71,9 +72,10 @@ sound_by w s event o (Ticks ms e) =
 sound_by w s event o (SetsTitle id mount text feeding) = sound_titled w s mount text id feeding
 sound_by w s event o (TakesSeat asked peer session undecided lands live allowed) = sound_sits w s asked peer session undecided live
 sound_by w s event o (HandsOut id room seat session sits has live) = sound_heard w s id room seat session sits has live
-sound_by w s event o (Ends id mount feeding) = sound_ended w s id mount feeding
-sound_by w s event o (EndsAndLeaves id mount feeding) = sound_ended_and_left w s id mount feeding
-sound_by w s event o (Leaves id other) = sound_forgotten w s id other
+sound_by w s event o (Ends id mount feeding no_relay) = sound_ended w s id mount feeding no_relay
+sound_by w s event o (EndsAndLeaves _ id mount closes feeding) = sound_ended_and_left w s id mount feeding event closes
+sound_by w s event o (Leaves id no_relay other) = sound_forgotten w s id other
+sound_by w s event o (GoesDown id rule relay told) = sound_forgotten w s id (λ mount feeds. cc)
 
 pub sound_after : (w : World) → IsSound w → (event : Event) → IsSound (world_after w event)
 unfolding world_after

@@ -1,7 +1,8 @@
 -- what holds of every state of a run holds still after what sessions do
-use Rattle.std.proofs.Common.{◌≡◌, true, false, ℕ, ◌+◌, ◌≤◌, ◌==◌, Option, Some, None, List, length, drop, refl, ap, sym, subst, ◌∙◌, arith, length-append}
+use Rattle.std.proofs.Common.{◌≡◌, true, false, ℕ, ◌+◌, ◌<◌, ◌≤◌, ◌==◌, Option, Some, None, List, length, drop, refl, ap, sym, subst, ◌∙◌, arith, length-append}
 use Rattle.std.specs.Str.{bytes_eq}
 use Rattle.std.proofs.lemmas.List.{length-take, length-drop}
+use Rattle.std.proofs.lemmas.Bool.Decides.{nat_tests}
 use Rattle.std.proofs.lemmas.Slice.Eq.{bytes_eq-Decides}
 use Rattle.radio_addr.specs.declared.peer.Peer.{Peer}
 use Rattle.radio_settings.specs.declared.field.Shown.{Shown}
@@ -11,10 +12,11 @@ use Rattle.radio_seats.specs.declared.seat.Seat.{Seat}
 use Rattle.radio_seats.specs.declared.seat.Seating.{Seating}
 use Rattle.radio_seats.specs.declared.seat.Seating.TheVariants.{Sits as HasSeat, Finished as HasFinished}
 use Rattle.radio_core.specs.declared.standing.Standing.TheVariants.{Unknown, Undecided, Feeds, Sits}
+use Rattle.radio_core.specs.declared.house.House.{House}
 use Rattle.radio_core.specs.World.{World, standing_of}
-use Rattle.radio_core.specs.Changes.{changed, begun, received}
+use Rattle.radio_core.specs.Changes.{changed, begun, raised, received}
 use Rattle.radio_seats.specs.Seats.{seat_of, seat_in, seat_held, heard_to}
-use Rattle.radio_parts.specs.Sessions.{Session, is_of, session_of, opened, longer}
+use Rattle.radio_parts.specs.Sessions.{Session, AreApart, is_of, session_of, opened, with_session, longer}
 use Rattle.radio_parts.specs.Stream.{AreRising, end_of, data_at}
 use Rattle.radio_core.specs.Sound.{IsSeatedIn, IsSound}
 use Rattle.radio_seats.proofs.SeatLaws.{beside_moved, has_moved}
@@ -22,7 +24,7 @@ use Rattle.radio_parts.proofs.ApartLemmas.{begun_apart, updated_apart}
 use Rattle.radio_parts.proofs.NumberOrder.{order_heard}
 use Rattle.radio_parts.proofs.SessionLookups.{beside_fed, is_longer, is_new_session, beside_begun}
 use Rattle.radio_seats.proofs.SeatLaws.{listener_seated}
-use Rattle.radio_core.proofs.Standings.{Turns, turns_feeding, stays_hearing}
+use Rattle.radio_core.proofs.Standings.{Turns, asks, turns_feeding, turns_raised, stays_hearing}
 use Rattle.radio_parts.proofs.RisingLemmas.{rising_more}
 use Rattle.radio_core.proofs.Soundness.{seated_still}
 
@@ -30,23 +32,22 @@ use Rattle.radio_core.proofs.Soundness.{seated_still}
 same_names : (mount other : List ℕ) → mount ≡ other → bytes_eq mount other ≡ true
 same_names mount other same = (bytes_eq-Decides mount other).1 same
 
--- a session begins on a mount that was not live
-module _ (w : World) (s : IsSound w) (him : ℕ) (mount : List ℕ) (shown : Shown) (peer : Peer) (stood : standing_of w him ≡ Undecided peer)
+-- a session begins on a mount that was not live, for one who sat nowhere and fed nothing
+module _ (w : World) (s : IsSound w) (him : ℕ) (mount : List ℕ) (shown : Shown) (house : House)
+    (live : house.live ≡ with_session w.house.live (opened mount him shown w.house.time)) (t : Turns w (record w { house = house }) him (Feeds mount))
     (not_live : session_of w.house.live mount ≡ None) where
   abbrev after_begin : World
-  after_begin = record w { house = begun w.house him mount shown }
+  after_begin = record w { house = house }
 
   abbrev fresh : Session
   fresh = opened mount him shown w.house.time
 
-  begin_turns : Turns w after_begin him (Feeds mount)
-  begin_turns = turns_feeding w him mount shown (λ u. cc)
-
   new_here : (other : List ℕ) → mount ≡ other → session_of after_begin.house.live other ≡ Some fresh
-  new_here other same = is_new_session w.house.live fresh other (same_names mount other same)
+  new_here other same =
+      ap (λ (sessions : List Session). session_of sessions other) live ∙ is_new_session w.house.live fresh other (same_names mount other same)
 
   as_before : (other : List ℕ) → bytes_eq mount other ≡ false → session_of after_begin.house.live other ≡ session_of w.house.live other
-  as_before other apart = beside_begun w.house.live fresh other apart
+  as_before other apart = ap (λ (sessions : List Session). session_of sessions other) live ∙ beside_begun w.house.live fresh other apart
 
   -- what was live is live as it was
   pub begun_beside : (other : List ℕ) (session : Session) → session_of w.house.live other ≡ Some session
@@ -64,39 +65,56 @@ module _ (w : World) (s : IsSound w) (him : ℕ) (mount : List ℕ) (shown : Sho
       (λ same. let found : Some fresh ≡ Some session = sym (new_here other same) ∙ e in let one : fresh ≡ session = cc in new same one)
       (λ apart. old (sym (as_before other apart) ∙ e))
 
-  pub sound_begun : IsSound after_begin
-  sound_begun = record {
-    numbered = λ id h.
-        by_number him id
-        (λ same. let unknown : standing_of w him ≡ Unknown = ap (standing_of w) same ∙ s.numbered id h in cc)
-        (λ other. begin_turns.others id other ∙ s.numbered id h);
-    feeds = λ id other e.
-        by_number him id
-        (λ same.
-        let now : Feeds mount ≡ Feeds other = sym begin_turns.his ∙ ap (standing_of after_begin) same ∙ e in
-        let one : mount ≡ other = cc in
-        (fresh, new_here other one, same))
-        (λ apart. let old = s.feeds id other (sym (begin_turns.others id apart) ∙ e) in (old.0, begun_beside other old.0 old.1, old.2));
-    fed = λ other session e.
-        begun_cases other session e
-        (λ same one. ap (λ (x : Session). standing_of after_begin x.number) (sym one) ∙ begin_turns.his ∙ ap (λ (m : List ℕ). Feeds m) same)
-        (λ old.
-        let was = s.fed other session old in
-        by_number him session.number (λ same. let feeds : standing_of w him ≡ Feeds other = ap (standing_of w) same ∙ was in cc)
-        (λ apart. begin_turns.others session.number apart ∙ was));
-    apart = begun_apart fresh w.house.live not_live s.apart;
-    starts = λ other session e.
-        begun_cases other session e
-        (λ same one. subst (λ (x : Session). AreRising x.stream.starts (end_of x.stream)) one tt)
-        (λ old. s.starts other session old);
-    by_number = s.by_number;
-    sitting = λ id seat e.
-        let sat : standing_of w id ≡ Sits = s.sitting id seat e in
-        by_number him id (λ same. let also : standing_of w him ≡ Sits = ap (standing_of w) same ∙ sat in cc) (λ apart. begin_turns.others id apart ∙ sat);
-    seated = λ id seat e.
-        let old = s.seated id seat e in
-        record { session = old.session; is_live = begun_beside seat.mount old.session old.is_live; his_session = old.his_session; within = old.within };
-  }
+  module _ (numbers : (id : ℕ) → house.last_id < id → (w.house.last_id < id) × ((him == id) ≡ false))
+      (fed_none : (other : List ℕ) → standing_of w him ≡ Feeds other → ⊥) (sat_nowhere : standing_of w him ≡ Sits → ⊥) where
+    pub sound_begun_so : IsSound after_begin
+    sound_begun_so = record {
+      numbered = λ id h. let new = numbers id h in t.others id new.1 ∙ s.numbered id new.0;
+      feeds = λ id other e.
+          by_number him id
+          (λ same.
+          let now : Feeds mount ≡ Feeds other = sym t.his ∙ ap (standing_of after_begin) same ∙ e in
+          let one : mount ≡ other = cc in
+          (fresh, new_here other one, same))
+          (λ apart. let old = s.feeds id other (sym (t.others id apart) ∙ e) in (old.0, begun_beside other old.0 old.1, old.2));
+      fed = λ other session e.
+          begun_cases other session e
+          (λ same one. ap (λ (x : Session). standing_of after_begin x.number) (sym one) ∙ t.his ∙ ap (λ (m : List ℕ). Feeds m) same)
+          (λ old.
+          let was = s.fed other session old in
+          by_number him session.number (λ same. absurd (fed_none other (ap (standing_of w) same ∙ was)))
+          (λ apart. t.others session.number apart ∙ was));
+      apart = subst AreApart (sym live) (begun_apart fresh w.house.live not_live s.apart);
+      starts = λ other session e.
+          begun_cases other session e
+          (λ same one. subst (λ (x : Session). AreRising x.stream.starts (end_of x.stream)) one tt)
+          (λ old. s.starts other session old);
+      by_number = s.by_number;
+      sitting = λ id seat e.
+          let sat : standing_of w id ≡ Sits = s.sitting id seat e in
+          by_number him id (λ same. absurd (sat_nowhere (ap (standing_of w) same ∙ sat))) (λ apart. t.others id apart ∙ sat);
+      seated = λ id seat e.
+          let old = s.seated id seat e in
+          record { session = old.session; is_live = begun_beside seat.mount old.session old.is_live; his_session = old.his_session; within = old.within };
+    }
+
+-- a client begins to feed
+pub sound_begun : (w : World) → IsSound w → (him : ℕ) (mount : List ℕ) (shown : Shown) (peer : Peer) → standing_of w him ≡ Undecided peer
+    → session_of w.house.live mount ≡ None → IsSound (record w { house = begun w.house him mount shown })
+sound_begun w s him mount shown peer stood not_live =
+    sound_begun_so w s him mount shown (begun w.house him mount shown) refl (turns_feeding w him mount shown (asks w him peer stood)) not_live
+    (λ id h. (h, by_number him id (λ same. let unknown : standing_of w him ≡ Unknown = ap (standing_of w) same ∙ s.numbered id h in cc) (λ apart. apart)))
+    (λ other e. cc) (λ e. cc)
+
+-- a relay comes up
+pub sound_raised : (w : World) → IsSound w → (mount : List ℕ) (shown : Shown) → session_of w.house.live mount ≡ None
+    → IsSound (record w { house = raised w.house (w.house.last_id + 1) mount shown })
+sound_raised w s mount shown not_live =
+    let him = w.house.last_id + 1 in
+    let unknown : standing_of w him ≡ Unknown = s.numbered him (omega arith) in
+    sound_begun_so w s him mount shown (raised w.house him mount shown) refl (turns_raised w him mount shown unknown) not_live
+    (λ id h. (omega (arith, h), grind (arith, nat_tests, h)))
+    (λ other e. cc) (λ e. cc)
 
 -- a source delivers a block
 module _ (w : World) (s : IsSound w) (mount block : List ℕ) where

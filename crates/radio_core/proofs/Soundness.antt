@@ -17,7 +17,7 @@ use Rattle.radio_core.specs.Sound.{IsSeatedIn, IsSound}
 use Rattle.radio_seats.proofs.SeatLaws.{beside_left, beside_seated, is_no_listener, has_sat_down}
 use Rattle.radio_parts.proofs.RisingLemmas.{burst_within}
 use Rattle.radio_parts.proofs.NumberOrder.{order_left, order_seated}
-use Rattle.radio_core.proofs.Standings.{Turns, turns_answered, turns_sitting, turns_forgotten, turns_admitted}
+use Rattle.radio_core.proofs.Standings.{Turns, asks, turns_answered, turns_sitting, turns_forgotten, turns_admitted}
 
 module _ (w : World) (s : IsSound w) where
   -- who is seated is seated still, where sessions are as they were
@@ -72,7 +72,7 @@ module _ (w : World) (s : IsSound w) where
 
   pub sound_answered : (id : ℕ) (peer : Peer) → standing_of w id ≡ Undecided peer → IsSound (changed w (Answer id))
   sound_answered id peer e =
-      let t = turns_answered w id (λ u. cc) in
+      let t = turns_answered w id (asks w id peer e) in
       sound_turned (changed w (Answer id)) id Answered t s.apart s.by_number (λ mount. refl)
       (sits_still (changed w (Answer id)) id Answered t (λ him. refl) (λ u. cc))
       (λ him seat h. seated_still (changed w (Answer id)) (λ mount. refl) seat (s.seated him seat h))
@@ -117,7 +117,7 @@ module _ (w : World) (s : IsSound w) where
     after_seat = changed w (TakeSeat asked.id new_seat)
 
     pub turns_seated : Turns w after_seat asked.id Sits
-    turns_seated = turns_sitting w asked.id new_seat (λ u. cc)
+    turns_seated = turns_sitting w asked.id new_seat (asks w asked.id peer e)
 
     -- he has that seat, and had none before
     pub has_new_seat : seat_of after_seat.seats asked.id ≡ Some new_seat

@@ -1,5 +1,5 @@
 -- What a source is replied goes by its data.
-use Rattle.std.proofs.Common.{◌≡◌, ◌⊎◌, inl, inr, ℕ, ◌+◌, Bool, true, false, List, [], ◌∷◌, ◌++◌, length, length-append, Option, None, Some, refl, ap}
+use Rattle.std.proofs.Common.{◌≡◌, ◌⊎◌, inl, inr, ℕ, ◌+◌, Bool, true, false, List, [], ◌∷◌, ◌++◌, length, length-append, Option, None, Some, is_some, refl, ap}
 use Rattle.std.proofs.Common.{sym, subst, ◌∙◌, arith}
 use Rattle.std.specs.Prelude.{find, nat_lt, if◌then◌else◌}
 use Rattle.std.specs.Option.{option_map}
@@ -22,19 +22,20 @@ use Rattle.radio_core.specs.declared.standing.Standing.TheVariants.{Unknown, Und
 use Rattle.radio_core.specs.declared.standing.Standing.TheVariants.{Answered as IsAnswered, Finished as IsFinished}
 use Rattle.radio_core.specs.Changes.{changed, received}
 use Rattle.radio_core.specs.Clients.{Client, client_of}
+use Rattle.radio_core.specs.Relays.{Relay, relay_of}
 use Rattle.radio_core.specs.Facts.{largest_number, live_end, rows_to_push}
-use Rattle.radio_core.specs.Outcomes.{says, on_verdict, if_feeding}
+use Rattle.radio_core.specs.Outcomes.{says, on_verdict, if_feeding, unless_relayed}
 use Rattle.radio_core.specs.Push.{delivers, takes_in}
 use Rattle.radio_core.specs.declared.outcome.Change.TheVariants.{Nothing, End}
 use Rattle.radio_core.specs.declared.outcome.Outcome.{Outcome}
 use Rattle.radio_policy.specs.declared.judgement.Verdict.TheVariants.{Allow, Deny as Denied}
 use Rattle.radio_policy.specs.Verdicts.{verdict_in}
 use Rattle.radio_parts.specs.Sessions.{Session, is_of, session_of, longer}
-use Rattle.radio_core.specs.SourceReplies.{unless_spent, to_session, to_data_from, to_end_from, to_data, to_end, IsQuiet, EndsByRule, IsToldByData}
+use Rattle.radio_core.specs.SourceReplies.{unless_spent, to_session, to_data_from, to_feeders_end, to_end_from, to_data, to_end, IsQuiet, EndsByRule, IsToldByData}
 use Rattle.radio_core.specs.SourceReplies.{SourcesAreToldByTheirData, EndsAreTold}
 use Rattle.radio_core.specs.Step.{outcome, reply_to, world_after}
 use Rattle.radio_parts.specs.Stream.{end_of}
-use Rattle.radio_core.specs.World.{World, standing_of, standing_in, standing_by, standing_seated, standing_of_listener}
+use Rattle.radio_core.specs.World.{World, standing_of, has_relay, standing_in, standing_by, standing_seated, standing_of_listener}
 
 -- the first that is sought, after a change of it
 find-updated : {X : Type 0} (p : X → Bool) (f : X → X) → ((x : X) → p (f x) ≡ p x) → (xs : List X) → find p (update_first p f xs) ≡ option_map f (find p xs)
@@ -61,16 +62,17 @@ feeds_by listener other peer Listens mount e = absurd (listener_feeds listener m
 feeds_by listener other peer Answered mount e = cc
 feeds_by listener other peer (Ended rule) mount e = cc
 
-feeds_in : (listener other : Option Listener) (client : Option Client) (mount : List ℕ) → standing_in listener client ≡ IsFeeding mount
-    → standing_in other client ≡ IsFeeding mount
-feeds_in listener other None mount e = cc
-feeds_in listener other (Some client) mount e = feeds_by listener other client.peer client.state mount e
+feeds_in : (relay : Option Relay) (listener other : Option Listener) (client : Option Client) (mount : List ℕ)
+    → standing_in relay listener client ≡ IsFeeding mount → standing_in relay other client ≡ IsFeeding mount
+feeds_in relay listener other None mount e = e
+feeds_in relay listener other (Some client) mount e = feeds_by listener other client.peer client.state mount e
 
-feeds_on : (w w' : World) (id : ℕ) (mount : List ℕ) → w'.house.clients ≡ w.house.clients → standing_of w id ≡ IsFeeding mount
-    → standing_of w' id ≡ IsFeeding mount
-feeds_on w w' id mount same e =
-    ap (λ (clients : List Client). standing_in (listener_of w'.seats id) (client_of clients id)) same
-    ∙ feeds_in (listener_of w.seats id) (listener_of w'.seats id) (client_of w.house.clients id) mount e
+feeds_on : (w w' : World) (id : ℕ) (mount : List ℕ) → w'.house.clients ≡ w.house.clients → w'.house.relays ≡ w.house.relays
+    → standing_of w id ≡ IsFeeding mount → standing_of w' id ≡ IsFeeding mount
+feeds_on w w' id mount same same_relays e =
+    ap (λ (clients : List Client). standing_in (relay_of w'.house.relays id) (listener_of w'.seats id) (client_of clients id)) same
+    ∙ ap (λ (relays : List Relay). standing_in (relay_of relays id) (listener_of w'.seats id) (client_of w.house.clients id)) same_relays
+    ∙ feeds_in (relay_of w.house.relays id) (listener_of w.seats id) (listener_of w'.seats id) (client_of w.house.clients id) mount e
 
 -- more data, behind a block that was taken
 in_longer : (session : Option Session) (block rest : List ℕ) (moment : ℕ)
@@ -152,7 +154,7 @@ module _ (w : World) (id : ℕ) (block : List ℕ) (valid : IsBlock block) where
       let taken : to_session (session_of w.house.live mount) block ≡ Noted = sym (fits (session_of w.house.live mount) block w mount valid refl)
       ∙ ap unless_spent t in
       let house : next.house ≡ received w.house mount block = ap (λ (o : Outcome). (changed w o.change).house) out in
-      let feeds : standing_of next id ≡ IsFeeding mount = feeds_on w next id mount (ap (λ (h : House). h.clients) house) e in
+      let feeds : standing_of next id ≡ IsFeeding mount = feeds_on w next id mount (ap (λ (h : House). h.clients) house) (ap (λ (h : House). h.relays) house) e in
       record {
         at_block = reply ∙ sym taken ∙ ap (λ (s : Standing). to_data_from s w.house block) (sym e);
         kinds = inl (subst IsQuiet (sym reply) tt);
@@ -163,7 +165,8 @@ module _ (w : World) (id : ℕ) (block : List ℕ) (valid : IsBlock block) where
             (sym (find-updated (is_of mount) (longer block w.house.time) (λ session. refl) w.house.live))
             ∙ ap (λ (h : House). to_session (session_of h.live mount) rest) (sym house)
             ∙ ap (λ (s : Standing). to_data_from s next.house rest) (sym feeds);
-        end_stays = λ on. ap to_end_from (e ∙ sym feeds);
+        end_stays = λ on. ap (λ (h : House). to_end_from (is_some (relay_of h.relays id)) (standing_of w id)) (sym house)
+            ∙ ap (to_end_from (has_relay next id)) (e ∙ sym feeds);
         rule_stays = λ rest told. absurd (subst EndsByRule reply told);
       }
 
@@ -178,14 +181,19 @@ module _ (w : World) (id : ℕ) (block : List ℕ) (valid : IsBlock block) where
 pub told_by_data : SourcesAreToldByTheirData
 told_by_data w id block valid = told_by w id block valid (standing_of w id) refl
 
-end_by : (standing : Standing) (id : ℕ) → (if_feeding standing (λ mount. says Noted (End id mount))).reply ≡ to_end_from standing
-end_by (IsFeeding mount) id = refl
-end_by Unknown id = refl
-end_by (IsUndecided peer) id = refl
-end_by Sits id = refl
-end_by IsAnswered id = refl
-end_by (IsFinished rule) id = refl
+feeders_end : (relayed : Bool) (mount : List ℕ) (id : ℕ) → (unless_relayed relayed (says Noted (End id mount))).reply ≡ to_feeders_end relayed
+feeders_end true mount id = refl
+feeders_end false mount id = refl
+
+end_by : (relayed : Bool) (standing : Standing) (id : ℕ)
+    → (if_feeding standing (λ mount. unless_relayed relayed (says Noted (End id mount)))).reply ≡ to_end_from relayed standing
+end_by relayed (IsFeeding mount) id = feeders_end relayed mount id
+end_by relayed Unknown id = refl
+end_by relayed (IsUndecided peer) id = refl
+end_by relayed Sits id = refl
+end_by relayed IsAnswered id = refl
+end_by relayed (IsFinished rule) id = refl
 
 pub ends_told : EndsAreTold
 unfolding reply_to outcome to_end
-ends_told w id = end_by (standing_of w id) id
+ends_told w id = end_by (has_relay w id) (standing_of w id) id

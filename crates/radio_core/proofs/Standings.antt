@@ -1,5 +1,5 @@
--- how clients stand after each change
-use Rattle.std.proofs.Common.{◌≡◌, true, false, ℕ, ◌==◌, Option, Some, None, List, refl, ap, sym, ◌∙◌, arith}
+-- how clients and relays stand after each change
+use Rattle.std.proofs.Common.{◌≡◌, true, false, ℕ, ◌==◌, Option, Some, None, is_some, List, refl, ap, sym, ◌∙◌, arith}
 use Rattle.std.proofs.lemmas.Bool.Decides.{nat_tests}
 use Rattle.radio_policy.specs.declared.rule.Rule.{Rule}
 use Rattle.radio_addr.specs.declared.peer.Peer.{Peer}
@@ -15,84 +15,187 @@ use Rattle.radio_seats.specs.declared.seat.Seating.TheVariants.{Sits as HasSeat,
 use Rattle.radio_core.specs.declared.standing.Standing.{Standing}
 use Rattle.radio_core.specs.declared.standing.Standing.TheVariants.{Unknown, Undecided as IsUndecided, Feeds as IsFeeding, Sits}
 use Rattle.radio_core.specs.declared.standing.Standing.TheVariants.{Answered as IsAnswered, Finished}
+use Rattle.radio_core.specs.declared.relays.RelayState.{RelayState}
+use Rattle.radio_core.specs.declared.relays.RelayState.TheVariants.{Feeds as RelayFeeds, Ended as RelayEnded}
 use Rattle.radio_core.specs.Clients.{Client, client_of, in_state, with_state}
+use Rattle.radio_core.specs.Relays.{Relay, relay_of, risen, ended}
 use Rattle.radio_seats.specs.Seats.{listener_of, advanced, heard_to}
-use Rattle.radio_core.specs.World.{World, standing_of, standing_in, standing_by, standing_seated}
-use Rattle.radio_core.specs.Changes.{changed, begun, now_in_state}
+use Rattle.radio_core.specs.World.{World, standing_of, standing_in, standing_by, standing_seated, standing_of_listener, standing_relayed, standing_of_relay, has_relay}
+use Rattle.radio_core.specs.Changes.{changed, begun, raised, finished_in}
 use Rattle.radio_seats.proofs.SeatLaws.{beside_moved, beside_left, beside_seated, has_moved, is_no_listener, has_sat_down}
-use Rattle.radio_core.proofs.Lookups.{beside_state, beside_forgotten, does, is_no_client, is_new_client, beside_new}
+use Rattle.radio_core.proofs.Lookups.{beside_state, beside_forgotten, does, still_none, is_no_client, is_new_client, beside_new}
+use Rattle.radio_core.proofs.Lookups.{relay_beside_ended, relay_beside_gone, is_ended_relay, is_no_relay, is_new_relay, beside_new_relay}
 
 -- one client stands so from now on, and the others as before
 pub record Turns (w later : World) (him : ℕ) (now : Standing) : Type 0 where
   pub his : standing_of later him ≡ now
   pub others : (id : ℕ) → (him == id) ≡ false → standing_of later id ≡ standing_of w id
 
--- who is there is kept
-pub kept_of : (w : World) (id : ℕ) → (standing_of w id ≡ Unknown → ⊥) → (client : Client) × (client_of w.house.clients id ≡ Some client)
-kept_of w id known = by_found (client_of w.house.clients id) refl where
-  unknown : (found : Option Client) → found ≡ None → standing_in (listener_of w.seats id) found ≡ Unknown
-  unknown found e = rw e refl
+-- a client of this number is there
+abbrev pub IsThere : World → ℕ → Type 0
+IsThere w id = (client : Client) × (client_of w.house.clients id ≡ Some client)
 
-  by_found : (found : Option Client) → client_of w.house.clients id ≡ found → (client : Client) × (client_of w.house.clients id ≡ Some client)
-  by_found None e = absurd (known (unknown (client_of w.house.clients id) e))
-  by_found (Some client) e = (client, e)
+-- no relay has yet to ask for something
+no_relay_asks : (relay : Option Relay) (peer : Peer) → standing_of_relay relay ≡ IsUndecided peer → ⊥
+no_relay_asks None peer e = cc
+no_relay_asks (Some relay) peer e = by_state relay.state e where
+  by_state : (state : RelayState) → standing_relayed state ≡ IsUndecided peer → ⊥
+  by_state (RelayFeeds mount) h = cc
+  by_state (RelayEnded rule) h = cc
 
--- one client is kept so from now on
-module _ (w later : World) (him : ℕ) (client : Option Client) (listener : Option Listener) (his_client : client_of later.house.clients him ≡ client)
-    (his_seat : listener_of later.seats him ≡ listener) (clients : (id : ℕ) → (him == id) ≡ false
+-- each client stands somehow
+no_unknown_seating : (seating : Seating) → standing_seated seating ≡ Unknown → ⊥
+no_unknown_seating (HasSeat seat) e = cc
+no_unknown_seating (HasFinished rule) e = cc
+
+no_unknown_listener : (listener : Option Listener) → standing_of_listener listener ≡ Unknown → ⊥
+no_unknown_listener None e = cc
+no_unknown_listener (Some listener) e = no_unknown_seating listener.seating e
+
+pub is_known : (listener : Option Listener) (peer : Peer) (state : ClientState) → standing_by listener peer state ≡ Unknown → ⊥
+is_known listener peer Undecided e = cc
+is_known listener peer (Feeds mount) e = cc
+is_known listener peer Listens e = no_unknown_listener listener e
+is_known listener peer Answered e = cc
+is_known listener peer (Ended rule) e = cc
+
+-- and each relay
+pub is_known_relay : (state : RelayState) → standing_relayed state ≡ Unknown → ⊥
+is_known_relay (RelayFeeds mount) e = cc
+is_known_relay (RelayEnded rule) e = cc
+
+module _ (w : World) (id : ℕ) where
+  abbrev relay_row : Option Relay
+  relay_row = relay_of w.house.relays id
+
+  abbrev listener_row : Option Listener
+  listener_row = listener_of w.seats id
+
+  -- where there is no client, he stands as a relay
+  pub stands_as_relay : client_of w.house.clients id ≡ None → standing_of w id ≡ standing_of_relay relay_row
+  stands_as_relay none = ap (standing_in relay_row listener_row) none
+
+  pub stands_as_client : (client : Client) → client_of w.house.clients id ≡ Some client → standing_of w id ≡ standing_by listener_row client.peer client.state
+  stands_as_client client there = ap (standing_in relay_row listener_row) there
+
+  -- whoever has yet to ask for something is a client
+  pub asks : (peer : Peer) → standing_of w id ≡ IsUndecided peer → IsThere w id
+  asks peer e = by_found (client_of w.house.clients id) refl where
+    by_found : (found : Option Client) → client_of w.house.clients id ≡ found → IsThere w id
+    by_found None none = absurd (no_relay_asks relay_row peer (sym (stands_as_relay none) ∙ e))
+    by_found (Some client) there = (client, there)
+
+  -- whoever is known, and no relay, is a client
+  pub is_client_there : (standing_of w id ≡ Unknown → ⊥) → has_relay w id ≡ false → IsThere w id
+  is_client_there known no_relay = by_found (client_of w.house.clients id) refl where
+    no_row : (relay : Option Relay) → is_some relay ≡ false → standing_of_relay relay ≡ Unknown
+    no_row None e = refl
+    no_row (Some relay) e = cc
+
+    by_found : (found : Option Client) → client_of w.house.clients id ≡ found → IsThere w id
+    by_found None none = absurd (known (stands_as_relay none ∙ no_row relay_row no_relay))
+    by_found (Some client) there = (client, there)
+
+  -- nobody has a number by which nobody is known
+  pub no_client_there : standing_of w id ≡ Unknown → client_of w.house.clients id ≡ None
+  no_client_there unknown = by_found (client_of w.house.clients id) refl where
+    by_found : (found : Option Client) → client_of w.house.clients id ≡ found → found ≡ None
+    by_found None none = refl
+    by_found (Some client) there = absurd (is_known listener_row client.peer client.state (sym (stands_as_client client there) ∙ unknown))
+
+  pub no_relay_there : standing_of w id ≡ Unknown → relay_row ≡ None
+  no_relay_there unknown = by_found relay_row (sym (stands_as_relay (no_client_there unknown)) ∙ unknown) where
+    by_found : (found : Option Relay) → standing_of_relay found ≡ Unknown → found ≡ None
+    by_found None e = refl
+    by_found (Some relay) e = absurd (is_known_relay relay.state e)
+
+-- one client, or relay, is kept so from now on
+module _ (w later : World) (him : ℕ) (relay : Option Relay) (client : Option Client) (listener : Option Listener)
+    (its_row : relay_of later.house.relays him ≡ relay) (his_client : client_of later.house.clients him ≡ client)
+    (his_seat : listener_of later.seats him ≡ listener) (relays : (id : ℕ) → (him == id) ≡ false
+    → relay_of later.house.relays id ≡ relay_of w.house.relays id) (clients : (id : ℕ) → (him == id) ≡ false
     → client_of later.house.clients id ≡ client_of w.house.clients id)
     (seats : (id : ℕ) → (him == id) ≡ false → listener_of later.seats id ≡ listener_of w.seats id) where
-  turns : Turns w later him (standing_in listener client)
+  turns : Turns w later him (standing_in relay listener client)
   turns = record {
-    his = ap (λ l. standing_in l (client_of later.house.clients him)) his_seat ∙ ap (standing_in listener) his_client;
-    others = λ id other. ap (λ l. standing_in l (client_of later.house.clients id)) (seats id other) ∙ ap (standing_in (listener_of w.seats id))
-        (clients id other);
+    his = ap (λ r. standing_in r (listener_of later.seats him) (client_of later.house.clients him)) its_row
+        ∙ ap (λ l. standing_in relay l (client_of later.house.clients him)) his_seat ∙ ap (standing_in relay listener) his_client;
+    others = λ id other. ap (λ r. standing_in r (listener_of later.seats id) (client_of later.house.clients id)) (relays id other)
+        ∙ ap (λ l. standing_in (relay_of w.house.relays id) l (client_of later.house.clients id)) (seats id other)
+        ∙ ap (standing_in (relay_of w.house.relays id) (listener_of w.seats id)) (clients id other);
   }
 
 module _ (w : World) (id : ℕ) where
   -- who does something else, and is there
-  module _ (state : ClientState) (known : standing_of w id ≡ Unknown → ⊥) where
+  module _ (state : ClientState) (there : IsThere w id) where
     turns_state : (later : World) (listener : Option Listener) → later.house.clients ≡ in_state w.house.clients id state
+        → ((him : ℕ) → (id == him) ≡ false → relay_of later.house.relays him ≡ relay_of w.house.relays him)
         → listener_of later.seats id ≡ listener → ((him : ℕ) → (id == him) ≡ false → listener_of later.seats him ≡ listener_of w.seats him)
         → (client : Client) × Turns w later id (standing_by listener client.peer state)
-    turns_state later listener e his others =
-        let found = kept_of w id known in
-        let is_so : client_of later.house.clients id ≡ Some (with_state state found.0) =
-        ap (λ cs. client_of cs id) e ∙ does w.house.clients id state found.0 found.1 in (
-          found.0,
-          turns w later id (Some (with_state state found.0)) listener is_so his
+    turns_state later listener e relays his others =
+        let is_so : client_of later.house.clients id ≡ Some (with_state state there.0) =
+        ap (λ cs. client_of cs id) e ∙ does w.house.clients id state there.0 there.1 in (
+          there.0,
+          turns w later id (relay_of later.house.relays id) (Some (with_state state there.0)) listener refl is_so his relays
               (λ him other. ap (λ cs. client_of cs him) e ∙ beside_state w.house.clients id him other state) others,
         )
 
-  pub turns_answered : (standing_of w id ≡ Unknown → ⊥) → Turns w (changed w (Answer id)) id IsAnswered
-  turns_answered known = (turns_state Answered known (changed w (Answer id)) (listener_of w.seats id) refl refl (λ him other. refl)).1
+  pub turns_answered : IsThere w id → Turns w (changed w (Answer id)) id IsAnswered
+  turns_answered there = (turns_state Answered there (changed w (Answer id)) (listener_of w.seats id) refl (λ him other. refl) refl (λ him other. refl)).1
 
-  pub turns_ended_by : (rule : Rule) → (standing_of w id ≡ Unknown → ⊥) → Turns w (record w { house = now_in_state w.house id (Ended rule) }) id (Finished rule)
-  turns_ended_by rule known =
-      (turns_state (Ended rule) known (record w { house = now_in_state w.house id (Ended rule) }) (listener_of w.seats id) refl refl (λ him other. refl)).1
+  abbrev ended_then : Rule → World
+  ended_then rule = record w { house = finished_in w.house id rule }
 
-  pub turns_feeding : (mount : List ℕ) (shown : Shown) → (standing_of w id ≡ Unknown → ⊥)
+  -- a rule finishes whoever is known: a client, or a relay
+  pub turns_ended_by : (rule : Rule) → (standing_of w id ≡ Unknown → ⊥) → Turns w (record w { house = finished_in w.house id rule }) id (Finished rule)
+  turns_ended_by rule known = by_client (client_of w.house.clients id) refl where
+    by_relay : client_of w.house.clients id ≡ None → (found : Option Relay) → relay_of w.house.relays id ≡ found → Turns w (ended_then rule) id (Finished rule)
+    by_relay nobody None none = absurd (known (stands_as_relay w id nobody ∙ ap standing_of_relay none))
+    by_relay nobody (Some relay) there =
+        turns w (ended_then rule) id (Some (ended rule relay)) None (listener_of w.seats id) (is_ended_relay w.house.relays id rule relay there)
+        (still_none id (Ended rule) w.house.clients nobody) refl (λ him other. relay_beside_ended w.house.relays id him other rule)
+        (λ him other. beside_state w.house.clients id him other (Ended rule)) (λ him other. refl)
+
+    by_client : (found : Option Client) → client_of w.house.clients id ≡ found → Turns w (ended_then rule) id (Finished rule)
+    by_client None none = by_relay none (relay_of w.house.relays id) refl
+    by_client (Some client) there =
+        (turns_state (Ended rule) (client, there) (ended_then rule) (listener_of w.seats id) refl
+        (λ him other. relay_beside_ended w.house.relays id him other rule) refl (λ him other. refl)).1
+
+  pub turns_feeding : (mount : List ℕ) (shown : Shown) → IsThere w id
       → Turns w (record w { house = begun w.house id mount shown }) id (IsFeeding mount)
-  turns_feeding mount shown known =
-      (turns_state (Feeds mount) known (record w { house = begun w.house id mount shown }) (listener_of w.seats id) refl refl (λ him other. refl)).1
+  turns_feeding mount shown there =
+      (turns_state (Feeds mount) there (record w { house = begun w.house id mount shown }) (listener_of w.seats id) refl (λ him other. refl) refl
+      (λ him other. refl)).1
 
-  pub turns_sitting : (seat : Seat) → (standing_of w id ≡ Unknown → ⊥) → Turns w (changed w (TakeSeat id seat)) id Sits
-  turns_sitting seat known =
+  pub turns_sitting : (seat : Seat) → IsThere w id → Turns w (changed w (TakeSeat id seat)) id Sits
+  turns_sitting seat there =
       let itself : (id == id) ≡ true = grind (arith, nat_tests) in
-      (turns_state Listens known (changed w (TakeSeat id seat)) (Some (record { id = id; seating = HasSeat seat })) refl
+      (turns_state Listens there (changed w (TakeSeat id seat)) (Some (record { id = id; seating = HasSeat seat })) refl (λ him other. refl)
       (has_sat_down w.seats id seat itself) (λ him other. beside_seated w.seats id him other seat)).1
 
   pub turns_forgotten : Turns w (changed w (Forget id)) id Unknown
   turns_forgotten =
-      turns w (changed w (Forget id)) id None None (is_no_client w.house.clients id) (is_no_listener w.seats id)
-      (λ him other. beside_forgotten w.house.clients id him other) (λ him other. beside_left w.seats id him other)
+      turns w (changed w (Forget id)) id None None None (is_no_relay w.house.relays id) (is_no_client w.house.clients id) (is_no_listener w.seats id)
+      (λ him other. relay_beside_gone w.house.relays id him other) (λ him other. beside_forgotten w.house.clients id him other)
+      (λ him other. beside_left w.seats id him other)
 
   pub turns_admitted : (peer : Peer) → Turns w (changed w (Admit id peer)) id (IsUndecided peer)
   turns_admitted peer =
       let itself : (id == id) ≡ true = grind (arith, nat_tests) in
       let new : Client = record { id = id; peer = peer; arrived = w.house.time; state = Undecided } in
-      turns w (changed w (Admit id peer)) id (Some new) (listener_of w.seats id) (is_new_client w.house.clients new id itself) refl
-      (λ him other. beside_new w.house.clients new him other) (λ him other. refl)
+      turns w (changed w (Admit id peer)) id (relay_of w.house.relays id) (Some new) (listener_of w.seats id) refl
+      (is_new_client w.house.clients new id itself) refl (λ him other. refl) (λ him other. beside_new w.house.clients new him other) (λ him other. refl)
+
+  -- a relay comes up with a number that nobody had
+  pub turns_raised : (mount : List ℕ) (shown : Shown) → standing_of w id ≡ Unknown
+      → Turns w (record w { house = raised w.house id mount shown }) id (IsFeeding mount)
+  turns_raised mount shown unknown =
+      let itself : (id == id) ≡ true = grind (arith, nat_tests) in
+      let new : Relay = risen id mount in
+      turns w (record w { house = raised w.house id mount shown }) id (Some new) None (listener_of w.seats id)
+      (is_new_relay w.house.relays new id itself) (no_client_there w id unknown) refl
+      (λ him other. beside_new_relay w.house.relays new him other) (λ him other. refl) (λ him other. refl)
 
 -- a listener hears on, and stands as before
 heard_on : (place : ℕ) (seating : Seating) → standing_seated (heard_to place seating) ≡ standing_seated seating
@@ -107,10 +210,10 @@ heard_by place listener peer Listens = heard_on place listener.seating
 heard_by place listener peer Answered = refl
 heard_by place listener peer (Ended rule) = refl
 
-heard_in : (place : ℕ) (listener : Listener) (client : Option Client)
-    → standing_in (Some (advanced place listener)) client ≡ standing_in (Some listener) client
-heard_in place listener None = refl
-heard_in place listener (Some client) = heard_by place listener client.peer client.state
+heard_in : (relay : Option Relay) (place : ℕ) (listener : Listener) (client : Option Client)
+    → standing_in relay (Some (advanced place listener)) client ≡ standing_in relay (Some listener) client
+heard_in relay place listener None = refl
+heard_in relay place listener (Some client) = heard_by place listener client.peer client.state
 
 pub stays_hearing : (w : World) (him place : ℕ) (listener : Listener) → listener_of w.seats him ≡ Some listener → (id : ℕ)
     → standing_of (changed w (Advance him place)) id ≡ standing_of w id
@@ -118,14 +221,15 @@ stays_hearing w him place listener found id = by_number him id his others where
   his : him ≡ id → standing_of (changed w (Advance him place)) id ≡ standing_of w id
   his same =
       let client = client_of w.house.clients id in
-      ap (λ n. standing_in (listener_of (changed w (Advance him place)).seats n) client) (sym same)
-      ∙ ap (λ l. standing_in l client) (has_moved w.seats him place listener found)
-      ∙ heard_in place listener client
-      ∙ ap (λ l. standing_in l client) (sym found)
-      ∙ ap (λ n. standing_in (listener_of w.seats n) client) same
+      let relay = relay_of w.house.relays id in
+      ap (λ n. standing_in relay (listener_of (changed w (Advance him place)).seats n) client) (sym same)
+      ∙ ap (λ l. standing_in relay l client) (has_moved w.seats him place listener found)
+      ∙ heard_in relay place listener client
+      ∙ ap (λ l. standing_in relay l client) (sym found)
+      ∙ ap (λ n. standing_in relay (listener_of w.seats n) client) same
 
   others : (him == id) ≡ false → standing_of (changed w (Advance him place)) id ≡ standing_of w id
-  others other = ap (λ l. standing_in l (client_of w.house.clients id)) (beside_moved w.seats him id other place)
+  others other = ap (λ l. standing_in (relay_of w.house.relays id) l (client_of w.house.clients id)) (beside_moved w.seats him id other place)
 
 -- who feeds feeds whoever listens
 no_source : (seating : Seating) (mount : List ℕ) → standing_seated seating ≡ IsFeeding mount → ⊥
@@ -141,14 +245,14 @@ feeds_by (Some listener) other peer Listens mount e = absurd (no_source listener
 feeds_by listener other peer Answered mount e = cc
 feeds_by listener other peer (Ended rule) mount e = cc
 
-feeds_in : (listener other : Option Listener) (client : Option Client) (mount : List ℕ) → standing_in listener client ≡ IsFeeding mount
-    → standing_in other client ≡ IsFeeding mount
-feeds_in listener other None mount e = cc
-feeds_in listener other (Some client) mount e = feeds_by listener other client.peer client.state mount e
+feeds_in : (relay : Option Relay) (listener other : Option Listener) (client : Option Client) (mount : List ℕ)
+    → standing_in relay listener client ≡ IsFeeding mount → standing_in relay other client ≡ IsFeeding mount
+feeds_in relay listener other None mount e = e
+feeds_in relay listener other (Some client) mount e = feeds_by listener other client.peer client.state mount e
 
 pub feeds_whoever_sits : (w : World) (seats : List Listener) (id : ℕ) (mount : List ℕ) → standing_of w id ≡ IsFeeding mount
     → standing_of (record w { seats = seats }) id ≡ IsFeeding mount
-feeds_whoever_sits w seats id mount e = feeds_in (listener_of w.seats id) (listener_of seats id) (client_of w.house.clients id) mount e
+feeds_whoever_sits w seats id mount e = feeds_in (relay_of w.house.relays id) (listener_of w.seats id) (listener_of seats id) (client_of w.house.clients id) mount e
 
 -- who sits does so at whatever mount
 sits_by : (listener : Option Listener) (peer : Peer) (state : ClientState) (id : ℕ) (seat : Seat) → standing_by listener peer state ≡ Sits
@@ -159,7 +263,14 @@ sits_by listener peer Listens id seat e = refl
 sits_by listener peer Answered id seat e = cc
 sits_by listener peer (Ended rule) id seat e = cc
 
-pub sits_in : (listener : Option Listener) (client : Option Client) (id : ℕ) (seat : Seat) → standing_in listener client ≡ Sits
-    → standing_in (Some (record { id = id; seating = HasSeat seat })) client ≡ Sits
-sits_in listener None id seat e = cc
-sits_in listener (Some client) id seat e = sits_by listener client.peer client.state id seat e
+pub no_relay_sits : (relay : Option Relay) → standing_of_relay relay ≡ Sits → ⊥
+no_relay_sits None e = cc
+no_relay_sits (Some relay) e = by_state relay.state e where
+  by_state : (state : RelayState) → standing_relayed state ≡ Sits → ⊥
+  by_state (RelayFeeds mount) h = cc
+  by_state (RelayEnded rule) h = cc
+
+pub sits_in : (relay : Option Relay) (listener : Option Listener) (client : Option Client) (id : ℕ) (seat : Seat) → standing_in relay listener client ≡ Sits
+    → standing_in relay (Some (record { id = id; seating = HasSeat seat })) client ≡ Sits
+sits_in relay listener None id seat e = absurd (no_relay_sits relay e)
+sits_in relay listener (Some client) id seat e = sits_by listener client.peer client.state id seat e

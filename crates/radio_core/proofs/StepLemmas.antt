@@ -2,15 +2,17 @@
 use Rattle.std.specs.Prelude.{if◌then◌else◌, nat_lt}
 use Rattle.std.proofs.Common.{◌≡◌, Bool, true, false, ℕ, List, [], ◌∷◌, Some, Result, Ok, Err, OnOk, OnErr, IfOk, ◌≤◌, refl, ap, sym, subst, ◌∙◌}
 use Rattle.radio_events.specs.declared.event.Event.{Event}
-use Rattle.radio_events.specs.declared.event.Event.TheVariants.{Arrive, Source, Push, SourceEnd, Title, Listen, Draw, Command, Leave, Clock}
+use Rattle.radio_events.specs.declared.event.Event.TheVariants.{Arrive, Source, Push, SourceEnd, Title, Listen, Draw, Command, Leave}
+use Rattle.radio_events.specs.declared.event.Event.TheVariants.{RelayUp, RelayDown, Clock}
 use Rattle.radio_core.specs.declared.outcome.Outcome.{Outcome}
 use Rattle.radio_core.specs.declared.standing.Standing.{Standing}
 use Rattle.radio_core.specs.declared.standing.Standing.TheVariants.{Unknown, Undecided, Feeds, Sits, Answered, Finished}
 use Rattle.radio_events.specs.declared.reply.Reply.{Reply}
-use Rattle.radio_events.specs.declared.reply.Reply.TheVariants.{Noted}
+use Rattle.radio_events.specs.declared.reply.Reply.TheVariants.{Noted, Stray}
 use Rattle.radio_core.specs.declared.outcome.Change.TheVariants.{Nothing, End, Tick}
 use Rattle.radio_core.specs.Leave.{leaves_from}
-use Rattle.radio_core.specs.Outcomes.{says, if_feeding}
+use Rattle.radio_core.specs.RelayDown.{goes_down_from}
+use Rattle.radio_core.specs.Outcomes.{says, if_feeding, unless_relayed}
 use Rattle.radio_events.specs.Replies.{HoldsNoText}
 use Rattle.radio_core.specs.Changes.{changed}
 use Rattle.radio_parts.specs.Kept.{first_start}
@@ -21,7 +23,7 @@ use Rattle.radio_parts.specs.Sessions.{Session, session_of}
 use Rattle.radio_core.specs.Step.{outcome, reply_to, world_after, Step, Represents, StandsForSome, NeedsNoMemory}
 use Rattle.radio_events.specs.Events.{TakesNoMemory}
 use Rattle.radio_parts.specs.Stream.{end_of}
-use Rattle.radio_core.specs.World.{World, opening, standing_of}
+use Rattle.radio_core.specs.World.{World, opening, standing_of, has_relay}
 use Rattle.radio_settings.specs.declared.settings.Settings.{Settings}
 use Rattle.radio_access.specs.Lists.{Lists}
 use Rattle.radio_core.proofs.KeptOutcomes.{outcome_kept}
@@ -36,13 +38,17 @@ use Rattle.radio_seats.specs.Seats.{seat_of}
 abbrev pub IsSmall : Outcome → Type 0
 IsSmall o = HoldsNoText o.reply × NeedsNoMemory o.change
 
-end_by : (id : ℕ) (s : Standing) → IsSmall (if_feeding s (λ (mount : List ℕ). says Noted (End id mount)))
-end_by id Unknown = (tt, tt)
-end_by id (Undecided peer) = (tt, tt)
-end_by id (Feeds mount) = (tt, tt)
-end_by id Sits = (tt, tt)
-end_by id Answered = (tt, tt)
-end_by id (Finished rule) = (tt, tt)
+unless_by : (relayed : Bool) (o : Outcome) → IsSmall o → IsSmall (unless_relayed relayed o)
+unless_by true o small = (tt, tt)
+unless_by false o small = small
+
+end_by : (id : ℕ) (relayed : Bool) (s : Standing) → IsSmall (if_feeding s (λ (mount : List ℕ). unless_relayed relayed (says Noted (End id mount))))
+end_by id relayed Unknown = (tt, tt)
+end_by id relayed (Undecided peer) = (tt, tt)
+end_by id relayed (Feeds mount) = unless_by relayed (says Noted (End id mount)) (tt, tt)
+end_by id relayed Sits = (tt, tt)
+end_by id relayed Answered = (tt, tt)
+end_by id relayed (Finished rule) = (tt, tt)
 
 leave_by : (id : ℕ) (s : Standing) → IsSmall (leaves_from id s)
 leave_by id Unknown = (tt, tt)
@@ -52,14 +58,27 @@ leave_by id Sits = (tt, tt)
 leave_by id Answered = (tt, tt)
 leave_by id (Finished rule) = (tt, tt)
 
+down_from : (id : ℕ) (s : Standing) → IsSmall (goes_down_from id s)
+down_from id Unknown = (tt, tt)
+down_from id (Undecided peer) = (tt, tt)
+down_from id (Feeds mount) = (tt, tt)
+down_from id Sits = (tt, tt)
+down_from id Answered = (tt, tt)
+down_from id (Finished rule) = (tt, tt)
+
+down_by : (id : ℕ) (relayed : Bool) (s : Standing) → IsSmall (if relayed then goes_down_from id s else says Stray Nothing)
+down_by id true s = down_from id s
+down_by id false s = (tt, tt)
+
 clock_by : (ms : ℕ) (b : Bool) → IsSmall (says Noted (if b then Nothing else Tick ms))
 clock_by ms true = (tt, tt)
 clock_by ms false = (tt, tt)
 
 pub small_outcome : (w : World) (event : Event) → TakesNoMemory event → IsSmall (planned w event)
 unfolding planned outcome
-small_outcome w (SourceEnd id) small = end_by id (standing_of w id)
-small_outcome w (Leave id) small = leave_by id (standing_of w id)
+small_outcome w (SourceEnd id) small = end_by id (has_relay w id) (standing_of w id)
+small_outcome w (Leave id) small = unless_by (has_relay w id) (leaves_from id (standing_of w id)) (leave_by id (standing_of w id))
+small_outcome w (RelayDown id) small = down_by id (has_relay w id) (standing_of w id)
 small_outcome w (Clock ms) small = clock_by ms (nat_lt ms w.house.time)
 small_outcome w (Arrive peer) small = absurd small
 small_outcome w (Source asked) small = absurd small
@@ -68,11 +87,17 @@ small_outcome w (Title id text) small = absurd small
 small_outcome w (Listen asked) small = absurd small
 small_outcome w (Draw id room) small = absurd small
 small_outcome w (Command asked) small = absurd small
+small_outcome w (RelayUp mount shown) small = absurd small
 
 -- the opening state stands for itself
 pub opening_represents : (settings : Settings) (lists : Lists) → Represents (opening settings lists) (opening settings lists)
 unfolding Represents
 opening_represents settings lists = record { shows = refl; rise = tt; kept = λ id seat session e f. cc; sound = sound_opening settings lists }
+
+-- a core has the settings of whatever state it stands for
+pub keeps_settings : (core w : World) → Represents core w → core.house.settings ≡ w.house.settings
+unfolding Represents
+keeps_settings core w stands = ap (λ (x : World). x.house.settings) stands.shows
 
 pub opening_stands : (settings : Settings) (lists : Lists) → StandsForSome (opening settings lists)
 unfolding StandsForSome

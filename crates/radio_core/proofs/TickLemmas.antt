@@ -17,6 +17,7 @@ use Rattle.radio_core.specs.declared.standing.Standing.{Standing}
 use Rattle.radio_core.specs.declared.standing.Standing.TheVariants.{Undecided, Feeds, Sits, Finished}
 use Rattle.radio_core.specs.Changes.{session_over, session_ended, timed_out_by, before_silence, silent_in, session_silenced, ticked}
 use Rattle.radio_core.specs.Clients.{Client, is_client, client_of, with_state}
+use Rattle.radio_core.specs.Relays.{Relay, relay_of}
 use Rattle.radio_core.specs.Finishes.{Cause, SessionIsOver, HasSatOut, HasAskedNothing, HasSentNothing}
 use Rattle.radio_core.specs.Moves.{Brings, BySilence, TakesTo}
 use Rattle.radio_fallback.specs.declared.moves.Move.TheVariants.{Ended as SessionEnds}
@@ -32,7 +33,7 @@ use Rattle.radio_core.proofs.Fates.{IsActive, Fate, GoesOn, IsEnded, HasStopped,
 use Rattle.radio_parts.proofs.SessionLookups.{is_over}
 use Rattle.radio_parts.proofs.SilentSessions.{found_first}
 use Rattle.radio_core.proofs.SilentLemmas.{silent_then}
-use Rattle.radio_core.proofs.SoundEnds.{over_fates, late_beside, there, still_feeds, has_none_then, order_then}
+use Rattle.radio_core.proofs.SoundEnds.{over_fates, late_beside, still_feeds, has_none_then, order_then}
 use Rattle.radio_core.proofs.Standings.{Turns, turns_ended_by}
 
 module _ (seconds ms : ℕ) where
@@ -94,14 +95,16 @@ module _ (w : World) (s : IsSound w) (ms : ℕ) where
   timeout = w.house.settings.limits.header_timeout
 
   stands_in : (id : ℕ) (found : Option Client) → client_of timed.house.clients id ≡ found
-      → standing_of timed id ≡ standing_in (listener_of w.seats id) found
-  stands_in id found e = ap (standing_in (listener_of w.seats id)) e
+      → standing_of timed id ≡ standing_in (relay_of w.house.relays id) (listener_of w.seats id) found
+  stands_in id found e = ap (standing_in (relay_of w.house.relays id) (listener_of w.seats id)) e
 
-  stood_in : (id : ℕ) (found : Option Client) → client_of w.house.clients id ≡ found → standing_of w id ≡ standing_in (listener_of w.seats id) found
-  stood_in id found e = ap (standing_in (listener_of w.seats id)) e
+  stood_in : (id : ℕ) (found : Option Client) → client_of w.house.clients id ≡ found
+      → standing_of w id ≡ standing_in (relay_of w.house.relays id) (listener_of w.seats id) found
+  stood_in id found e = ap (standing_in (relay_of w.house.relays id) (listener_of w.seats id)) e
 
-  new_by : (listener : Option Listener) (client : Client) → client.state ≡ IsNew → standing_in listener (Some client) ≡ Undecided client.peer
-  new_by listener client e = rw e refl
+  new_by : (relay : Option Relay) (listener : Option Listener) (client : Client) → client.state ≡ IsNew
+      → standing_in relay listener (Some client) ≡ Undecided client.peer
+  new_by relay listener client e = rw e refl
 
   has_no_seat : (id : ℕ) (peer : Peer) → standing_of w id ≡ Undecided peer → seat_of w.seats id ≡ None
   has_no_seat id peer e = by_found (seat_of w.seats id) refl where
@@ -114,7 +117,7 @@ module _ (w : World) (s : IsSound w) (ms : ℕ) where
       → ClockFate w timed id
   timeout_at id client found true late now =
       let is_new : client.state ≡ IsNew = asking_at timeout ms client.arrived client.state late in
-      let undecided : standing_of w id ≡ Undecided client.peer = stood_in id (Some client) found ∙ new_by (listener_of w.seats id) client is_new in
+      let undecided : standing_of w id ≡ Undecided client.peer = stood_in id (Some client) found ∙ new_by (relay_of w.house.relays id) (listener_of w.seats id) client is_new in
       IsEnded HeaderTimeout (HasAskedNothing ms client refl found late) (subst (λ (x : Standing). IsActive x) (sym undecided) tt)
       (stands_in id (Some (with_state (Ended HeaderTimeout) client)) now) (has_no_seat id client.peer undecided) (λ mount e. cc)
   timeout_at id client found false late now =
@@ -231,8 +234,7 @@ module _ (w : World) (s : IsSound w) (ms : ℕ) where
         SessionIsOver rule old.0 old.1 (SessionEnds session.mount, session_over during session.mount, brings, turn))
         (λ id target turn. (SessionEnds session.mount, session_over during session.mount, brings, turn))
         refl refl refl (order_then during way.sound session.number session.mount feeding)
-        (late_beside during.house.clients session.number (Ended SourceSilent) (there during way.sound session.number session.mount feeding).0
-        (there during way.sound session.number session.mount feeding).1 (λ client seconds moment late. cc))
+        (late_beside during.house.clients session.number (Ended SourceSilent) (λ client seconds moment late. cc))
 
     pub goes_on : IsOnTheWay sessions (session_silenced during session)
     goes_on = record {

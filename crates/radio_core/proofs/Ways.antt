@@ -5,20 +5,24 @@ use Rattle.radio_policy.specs.declared.rule.Rule.{Rule}
 use Rattle.radio_policy.specs.declared.rule.Rule.TheVariants.{AddressDenied, AddressNotAllowed, TooManyClients, NumbersSpent}
 use Rattle.radio_policy.specs.declared.judgement.Verdict.{Verdict}
 use Rattle.radio_policy.specs.declared.judgement.Verdict.TheVariants.{Allow, Deny as Denied}
-use Rattle.radio_policy.specs.Table.{row, source_rows, listen_rows}
+use Rattle.radio_policy.specs.Table.{row, source_rows, relay_rows, listen_rows}
 use Rattle.radio_policy.specs.Verdicts.{verdict_in}
 use Rattle.radio_addr.specs.declared.peer.Peer.{Peer}
+use Rattle.radio_settings.specs.declared.web.WebPath.{WebPath}
 use Rattle.radio_settings.specs.MountName.{is_mount_name}
+use Rattle.radio_settings.specs.Web.{web_path}
 use Rattle.radio_access.specs.Lists.{passes}
 use Rattle.radio_events.specs.declared.event.SourceRequest.{SourceRequest}
 use Rattle.radio_events.specs.declared.event.ListenRequest.{ListenRequest}
 use Rattle.radio_events.specs.declared.event.Event.{Event}
-use Rattle.radio_events.specs.declared.event.Event.TheVariants.{Arrive, Source, Push, SourceEnd, Title, Listen, Draw, Command, Leave, Clock}
+use Rattle.radio_events.specs.declared.event.Event.TheVariants.{Arrive, Source, Push, SourceEnd, Title, Listen, Draw, Command, Leave}
+use Rattle.radio_events.specs.declared.event.Event.TheVariants.{RelayUp, RelayDown, Clock}
+use Rattle.radio_settings.specs.declared.field.Shown.{Shown}
 use Rattle.radio_core.specs.declared.house.House.{House}
 use Rattle.radio_core.specs.declared.outcome.Change.{Change}
-use Rattle.radio_core.specs.declared.outcome.Change.TheVariants.{Nothing, Answer, Tick}
+use Rattle.radio_core.specs.declared.outcome.Change.TheVariants.{Nothing, Answer, End, Tick}
 use Rattle.radio_core.specs.declared.outcome.Outcome.{Outcome}
-use Rattle.radio_events.specs.declared.reply.Reply.TheVariants.{Deny, Noted}
+use Rattle.radio_events.specs.declared.reply.Reply.TheVariants.{Deny, Noted, Stray}
 use Rattle.radio_seats.specs.declared.seat.Seat.{Seat}
 use Rattle.radio_fallback.specs.declared.walking.Found.{Found}
 use Rattle.radio_fallback.specs.declared.walking.Landing.{Landing}
@@ -27,16 +31,21 @@ use Rattle.radio_fallback.specs.Walk.{MaySit, found_at, stop_in}
 use Rattle.radio_fallback.proofs.TurnLemmas.{lands_where_he_fits}
 use Rattle.radio_core.specs.declared.standing.Standing.{Standing}
 use Rattle.radio_core.specs.declared.standing.Standing.TheVariants.{Unknown, Undecided, Feeds, Sits, Answered, Finished}
-use Rattle.radio_core.specs.World.{World, standing_of}
-use Rattle.radio_core.specs.Facts.{largest_number, is_full, is_known, sight_of, arrive_facts, source_facts_at, rows_to_arrive, rows_to_feed}
+use Rattle.radio_core.specs.World.{World, standing_of, has_relay}
+use Rattle.radio_core.specs.Facts.{largest_number, is_full, is_known, sight_of, arrive_facts, source_facts_at, relay_facts_at, rows_to_arrive, rows_to_feed, rows_to_raise, names_mount}
 use Rattle.radio_core.specs.Facts.{rows_to_push, rows_to_listen, walks_to, walk_stops}
-use Rattle.radio_core.specs.Outcomes.{says, on_verdict, out_of_place, if_undecided, if_feeding, if_sitting}
+use Rattle.radio_core.specs.Outcomes.{says, on_verdict, out_of_place, if_undecided, if_feeding, unless_relayed, if_sitting}
 use Rattle.radio_core.specs.Arrive.{admits_client}
 use Rattle.radio_core.specs.Source.{begins}
 use Rattle.radio_core.specs.Push.{takes_in}
 use Rattle.radio_core.specs.Listen.{takes_seat, sits_where}
+use Rattle.radio_core.specs.Listings.{shown}
+use Rattle.radio_core.specs.Pages.{IsListing, IsAtPath, asks_by, page_at}
 use Rattle.radio_core.specs.Draw.{hands_out, hands_out_at}
+use Rattle.radio_core.specs.Closing.{OfClient, OfRelay}
 use Rattle.radio_core.specs.Leave.{leaves_from}
+use Rattle.radio_core.specs.RelayUp.{raises}
+use Rattle.radio_core.specs.RelayDown.{goes_down_from}
 use Rattle.radio_events.specs.declared.command.Asked.{Asked}
 use Rattle.radio_events.specs.declared.command.Asked.TheVariants.{NoCommand, MissingArgument, Listing as AsksFor, Command as Asks}
 use Rattle.radio_events.specs.declared.command.CommandRequest.{CommandRequest}
@@ -45,8 +54,8 @@ use Rattle.radio_core.specs.CommandFacts.{rows_to_command}
 use Rattle.radio_seats.specs.Seats.{seat_of}
 use Rattle.radio_parts.specs.Sessions.{Session, session_of}
 use Rattle.radio_core.specs.Step.{outcome}
-use Rattle.radio_core.specs.Ways.{Way, Misplaced, IsFinished, IsDenied, IsRefused, IsAdmitted, Begins, Receives, SetsTitle, TakesSeat, HandsOut, Ends}
-use Rattle.radio_core.specs.Ways.{EndsAndLeaves, Leaves, Obeys, Shows, HasPassed, Ticks, rows_for, IsUndecided}
+use Rattle.radio_core.specs.Ways.{Way, Misplaced, IsFinished, IsDenied, IsRefused, IsAdmitted, Begins, ComesUp, Receives, SetsTitle, TakesSeat, HandsOut, Ends}
+use Rattle.radio_core.specs.Ways.{EndsAndLeaves, Leaves, GoesDown, Obeys, Shows, HasPassed, Ticks, rows_for, IsUndecided}
 use Rattle.radio_events.specs.Events.{client_in}
 use Rattle.radio_parts.proofs.SessionLookups.{found_named}
 
@@ -120,10 +129,41 @@ MayFeed house asked =
 pub may_feed : (house : House) (asked : SourceRequest) → verdict_in (rows_to_feed house asked) ≡ Allow → MayFeed house asked
 may_feed house asked v =
     let facts = source_facts_at house asked.mount asked in
-    free_by (is_mount_name asked.mount) facts.is_source_pair facts.sources_are_full facts.mount_is_live facts.type_is_refused v
+    free_by (names_mount house.settings asked.mount) facts.is_source_pair facts.sources_are_full facts.mount_is_live facts.type_is_refused v
 
 pub may_begin : (w : World) (asked : SourceRequest) → verdict_in (rows_to_feed w.house asked) ≡ Allow → session_of w.house.live asked.mount ≡ None
 may_begin w asked v = none_there (session_of w.house.live asked.mount) (may_feed w.house asked v).is_free
+
+-- where a relay may come up, there are fewer sources than there may be, its mount has no session, its type is carried, and there is a number left for it
+pub record MayRise (full live refused spent : Bool) : Type 0 where
+  pub has_room : full ≡ false
+  pub is_free : live ≡ false
+  pub is_carried : refused ≡ false
+  pub has_number : spent ≡ false
+
+rises_by : (named full live refused spent : Bool)
+    → verdict_in (relay_rows (if named then Some (record { sources_are_full = full; mount_is_live = live; type_is_refused = refused; number_is_spent = spent })
+    else None)) ≡ Allow → MayRise full live refused spent
+rises_by true false false false false v = record { has_room = refl; is_free = refl; is_carried = refl; has_number = refl }
+rises_by true false false false true v = cc
+rises_by true false false true spent v = cc
+rises_by true false true refused spent v = cc
+rises_by true true live refused spent v = cc
+rises_by false full live refused spent v = cc
+
+abbrev pub MayComeUp : House → List ℕ → Shown → Type 0
+MayComeUp house mount shown =
+    let facts = relay_facts_at house mount shown in
+    MayRise facts.sources_are_full facts.mount_is_live facts.type_is_refused facts.number_is_spent
+
+pub may_come_up : (house : House) (mount : List ℕ) (shown : Shown) → verdict_in (rows_to_raise house mount shown) ≡ Allow → MayComeUp house mount shown
+may_come_up house mount shown v =
+    let facts = relay_facts_at house mount shown in
+    rises_by (names_mount house.settings mount) facts.sources_are_full facts.mount_is_live facts.type_is_refused facts.number_is_spent v
+
+pub may_be_raised : (w : World) (mount : List ℕ) (shown : Shown) → verdict_in (rows_to_raise w.house mount shown) ≡ Allow
+    → session_of w.house.live mount ≡ None
+may_be_raised w mount shown v = none_there (session_of w.house.live mount) (may_come_up w.house mount shown v).is_free
 
 -- who may arrive passes the address lists, and there is a number left for him
 passes_by : (denied allowed full spent : Bool)
@@ -168,6 +208,25 @@ hears_by true true false twice stop v = cc
 hears_by true false accepted twice stop v = cc
 hears_by false known accepted twice stop v = cc
 
+-- and his path names a mount, and is none of the web site's
+named_by : (named known accepted twice : Bool) (stop : Option Rule)
+    → verdict_in (listen_rows (if named then Some (record { mount_is_known = known; users_accept = accepted; user_is_twice = twice; walk_stops = stop })
+    else None)) ≡ Allow → named ≡ true
+named_by true known accepted twice stop v = refl
+named_by false known accepted twice stop v = cc
+
+none_by : (named : Bool) (path : Option WebPath) → (named && not (is_some path)) ≡ true → path ≡ None
+none_by named None e = refl
+none_by true (Some path) e = cc
+none_by false (Some path) e = cc
+
+pub no_path : (w : World) (asked : ListenRequest) → verdict_in (rows_to_listen w asked) ≡ Allow → web_path w.house.settings.web asked.mount ≡ None
+no_path w asked v =
+    let found = found_at (sight_of w.house) w.seats asked.mount asked.pair in
+    none_by (is_mount_name asked.mount) (web_path w.house.settings.web asked.mount)
+    (named_by (names_mount w.house.settings asked.mount) (is_known w.house asked.mount) found.users_accept found.user_is_twice
+    (walk_stops w.house w.seats asked.mount asked.pair) v)
+
 -- what one who asks finds at the mount of his path
 abbrev pub found_by : World → ListenRequest → Found
 found_by w asked = found_at (sight_of w.house) w.seats asked.mount asked.pair
@@ -175,7 +234,7 @@ found_by w asked = found_at (sight_of w.house) w.seats asked.mount asked.pair
 pub may_listen : (w : World) (asked : ListenRequest) → verdict_in (rows_to_listen w asked) ≡ Allow
     → IsWelcome (found_by w asked).users_accept (found_by w asked).user_is_twice (walk_stops w.house w.seats asked.mount asked.pair)
 may_listen w asked v =
-    hears_by (is_mount_name asked.mount) (is_known w.house asked.mount) (found_by w asked).users_accept (found_by w asked).user_is_twice
+    hears_by (names_mount w.house.settings asked.mount) (is_known w.house asked.mount) (found_by w asked).users_accept (found_by w asked).user_is_twice
     (walk_stops w.house w.seats asked.mount asked.pair) v
 
 -- so his walk lands where he may sit
@@ -215,13 +274,35 @@ module _ (w : World) (id room : ℕ) (is_sitting : standing_of w id ≡ Sits) wh
   hands_at None none = Misplaced (Draw id room)
   hands_at (Some seat) has = hands seat has (session_of w.house.live seat.mount) refl
 
-by_leaving : (w : World) (id : ℕ) (s : Standing) → standing_of w id ≡ s → Way w (Leave id) (leaves_from id s)
-by_leaving w id Unknown e = Misplaced (Leave id)
-by_leaving w id (Feeds mount) e = EndsAndLeaves id mount e
-by_leaving w id (Undecided peer) e = Leaves id (λ mount f. cc)
-by_leaving w id Sits e = Leaves id (λ mount f. cc)
-by_leaving w id Answered e = Leaves id (λ mount f. cc)
-by_leaving w id (Finished rule) e = Leaves id (λ mount f. cc)
+module _ (w : World) (id : ℕ) where
+  by_leaving_from : has_relay w id ≡ false → (s : Standing) → standing_of w id ≡ s → Way w (Leave id) (leaves_from id s)
+  by_leaving_from no_relay Unknown e = Misplaced (Leave id)
+  by_leaving_from no_relay (Feeds mount) e = EndsAndLeaves (Leave id) id mount (OfClient no_relay) e
+  by_leaving_from no_relay (Undecided peer) e = Leaves id no_relay (λ mount f. cc)
+  by_leaving_from no_relay Sits e = Leaves id no_relay (λ mount f. cc)
+  by_leaving_from no_relay Answered e = Leaves id no_relay (λ mount f. cc)
+  by_leaving_from no_relay (Finished rule) e = Leaves id no_relay (λ mount f. cc)
+
+  by_going_down_from : has_relay w id ≡ true → (s : Standing) → standing_of w id ≡ s → Way w (RelayDown id) (goes_down_from id s)
+  by_going_down_from relay Unknown e = Misplaced (RelayDown id)
+  by_going_down_from relay (Feeds mount) e = EndsAndLeaves (RelayDown id) id mount (OfRelay relay) e
+  by_going_down_from relay (Undecided peer) e = Misplaced (RelayDown id)
+  by_going_down_from relay Sits e = Misplaced (RelayDown id)
+  by_going_down_from relay Answered e = Misplaced (RelayDown id)
+  by_going_down_from relay (Finished rule) e = GoesDown id rule relay e
+
+  by_leaving : (b : Bool) → has_relay w id ≡ b → Way w (Leave id) (unless_relayed b (leaves_from id (standing_of w id)))
+  by_leaving true e = Misplaced (Leave id)
+  by_leaving false e = by_leaving_from e (standing_of w id) refl
+
+  by_going_down : (b : Bool) → has_relay w id ≡ b → Way w (RelayDown id) (if b then goes_down_from id (standing_of w id) else says Stray Nothing)
+  by_going_down true e = by_going_down_from e (standing_of w id) refl
+  by_going_down false e = Misplaced (RelayDown id)
+
+  by_ending : (mount : List ℕ) → standing_of w id ≡ Feeds mount → (b : Bool) → has_relay w id ≡ b
+      → Way w (SourceEnd id) (unless_relayed b (says Noted (End id mount)))
+  by_ending mount feeds true e = Misplaced (SourceEnd id)
+  by_ending mount feeds false e = Ends id mount feeds e
 
 by_clock : (w : World) (ms : ℕ) (b : Bool) → nat_lt ms w.house.time ≡ b → Way w (Clock ms) (says Noted (if b then Nothing else Tick ms))
 by_clock w ms true e = HasPassed ms e
@@ -233,9 +314,25 @@ module _ (w : World) (asked : CommandRequest) (peer : Peer) (e : standing_of w a
   does NoCommand is = Misplaced (Command asked)
   does (MissingArgument by) is = Misplaced (Command asked)
   does (AsksFor listing) is =
-      Shows (Command asked) listing (record { asked = asked; is_event = refl; is_asked = is; peer = peer; undecided = e; allowed = v })
+      Shows (Command asked) asked.id peer (shown w listing) refl e
+      (IsListing listing (record { asked = asked; is_event = refl; is_asked = is; peer = peer; undecided = e; allowed = v }))
   does (Asks command) is =
       Obeys (Command asked) command (record { asked = asked; is_event = refl; is_asked = is; peer = peer; undecided = e; allowed = v })
+
+-- a client asks by a path
+by_path : (w : World) (asked : ListenRequest) (path : Option WebPath) → web_path w.house.settings.web asked.mount ≡ path
+    → Way w (Listen asked) (asks_by w asked path)
+by_path w asked None no_path =
+    by_undecided w (Listen asked) asked.id refl _
+    (λ peer e. by_verdict w (Listen asked) (Answer asked.id) (sits_where w.house asked peer (walks_to w.house w.seats asked.mount asked.pair))
+    (verdict_in (rows_for w (Listen asked)))
+    (λ rule v. IsRefused (Listen asked) asked.id rule v refl (peer, e))
+    (λ v. sits w asked peer e v (walks_to w.house w.seats asked.mount asked.pair) refl))
+    (standing_of w asked.id) refl
+by_path w asked (Some path) is_path =
+    by_undecided w (Listen asked) asked.id refl _
+    (λ peer e. Shows (Listen asked) asked.id peer (page_at w path asked.host) refl e (IsAtPath asked path refl is_path))
+    (standing_of w asked.id) refl
 
 pub way_of : (w : World) (event : Event) → Way w event (outcome w event)
 unfolding outcome
@@ -256,15 +353,9 @@ way_of w (Push id block) =
     (standing_of w id) refl where
       feeds_and_asks : (mount : List ℕ) → standing_of w id ≡ Feeds mount → (him : ℕ) → Some id ≡ Some him → IsUndecided w him → ⊥
       feeds_and_asks mount e him h u = let same : id ≡ him = cc in let also : standing_of w id ≡ Undecided u.0 = ap (standing_of w) same ∙ u.1 in cc
-way_of w (SourceEnd id) = by_feeding w (SourceEnd id) id refl _ (λ mount e. Ends id mount e) (standing_of w id) refl
+way_of w (SourceEnd id) = by_feeding w (SourceEnd id) id refl _ (λ mount e. by_ending w id mount e (has_relay w id) refl) (standing_of w id) refl
 way_of w (Title id text) = by_feeding w (Title id text) id refl _ (λ mount e. SetsTitle id mount text e) (standing_of w id) refl
-way_of w (Listen asked) =
-    by_undecided w (Listen asked) asked.id refl _
-    (λ peer e. by_verdict w (Listen asked) (Answer asked.id) (sits_where w.house asked peer (walks_to w.house w.seats asked.mount asked.pair))
-    (verdict_in (rows_for w (Listen asked)))
-    (λ rule v. IsRefused (Listen asked) asked.id rule v refl (peer, e))
-    (λ v. sits w asked peer e v (walks_to w.house w.seats asked.mount asked.pair) refl))
-    (standing_of w asked.id) refl
+way_of w (Listen asked) = by_path w asked (web_path w.house.settings.web asked.mount) refl
 way_of w (Draw id room) = by_sitting w (Draw id room) id refl _ (λ e. hands_at w id room e (seat_of w.seats id) refl) (standing_of w id) refl
 way_of w (Command asked) =
     by_undecided w (Command asked) asked.id refl _
@@ -272,5 +363,9 @@ way_of w (Command asked) =
     (λ rule v. IsRefused (Command asked) asked.id rule v refl (peer, e))
     (λ v. does w asked peer e v asked.asked refl))
     (standing_of w asked.id) refl
-way_of w (Leave id) = by_leaving w id (standing_of w id) refl
+way_of w (Leave id) = by_leaving w id (has_relay w id) refl
+way_of w (RelayUp mount shown) =
+    by_verdict w (RelayUp mount shown) Nothing (raises w.house mount shown) (verdict_in (rows_to_raise w.house mount shown))
+    (λ rule v. IsDenied (RelayUp mount shown) rule v (λ id e u. cc)) (λ v. ComesUp mount shown (may_be_raised w mount shown v) v)
+way_of w (RelayDown id) = by_going_down w id (has_relay w id) refl
 way_of w (Clock ms) = by_clock w ms (nat_lt ms w.house.time) refl

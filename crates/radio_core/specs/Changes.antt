@@ -14,9 +14,10 @@ use Rattle.radio_core.specs.declared.clients.ClientState.{ClientState}
 use Rattle.radio_core.specs.declared.clients.ClientState.TheVariants.{Feeds, Listens, Answered, Ended}
 use Rattle.radio_core.specs.declared.house.House.{House}
 use Rattle.radio_core.specs.declared.outcome.Change.{Change}
-use Rattle.radio_core.specs.declared.outcome.Change.TheVariants.{Nothing, Answer, Admit, Begin, Receive, SetTitle, TakeSeat, Advance, End}
+use Rattle.radio_core.specs.declared.outcome.Change.TheVariants.{Nothing, Answer, Admit, Begin, Raise, Receive, SetTitle, TakeSeat, Advance, End}
 use Rattle.radio_core.specs.declared.outcome.Change.TheVariants.{EndAndLeave, Forget, Tick, Obey}
 use Rattle.radio_core.specs.Clients.{newcomer, with_client, in_state, without_client}
+use Rattle.radio_core.specs.Relays.{risen, with_relay, with_ended as with_relay_ended, without_relay}
 use Rattle.radio_core.specs.Fallbacks.{with_fallback}
 use Rattle.radio_parts.specs.Sessions.{Session, session_of, opened, with_session, fed, titled, without_session}
 use Rattle.radio_seats.specs.Seats.{with_seat, with_place, with_end, with_ended, without_listener}
@@ -40,6 +41,18 @@ begun house id mount shown = record house {
   clients =
       in_state house.clients id (Feeds mount);
 }
+
+-- a relay has come up with this number, and a session has begun on the mount, which it feeds
+abbrev pub raised : House → ℕ → List ℕ → Shown → House
+raised house id mount shown = record house {
+  live = with_session house.live (opened mount id shown house.time);
+  relays = with_relay house.relays (risen id mount);
+  last_id = id;
+}
+
+-- the rule has finished the client, or the relay, of this number
+abbrev pub finished_in : House → ℕ → Rule → House
+finished_in house id rule = record (now_in_state house id (Ended rule)) { relays = with_relay_ended house.relays id rule }
 
 -- the block has come at the end of the mount's stream
 abbrev pub received : House → List ℕ → List ℕ → House
@@ -65,13 +78,16 @@ session_over w mount = record w { house = record w.house { live = without_sessio
 abbrev pub session_ended : World → List ℕ → World
 session_ended w mount = carried_along (session_over w mount) (HasEnded mount)
 
--- a source has come up on the mount: where its settings say so, those have come home who had asked for it
+-- a source, or a relay, has come up on the mount: where its settings say so, those have come home who had asked for it
 abbrev pub called_home : World → List ℕ → World
 called_home w mount = (if (options_for w.house.settings mount).listeners.fallback_override then carried_along w (Up mount) else w)
 
--- nothing is left of the client
+-- nothing is left of the client, or of the relay
 abbrev pub client_gone : World → ℕ → World
-client_gone w id = record { house = record w.house { clients = without_client w.house.clients id }; seats = without_listener w.seats id }
+client_gone w id = record {
+  house = record w.house { clients = without_client w.house.clients id; relays = without_relay w.house.relays id };
+  seats = without_listener w.seats id;
+}
 
 -- the listeners of the mount who are further behind than a queue is long have lost their seats
 abbrev pub laggards_ended : World → List ℕ → World
@@ -100,7 +116,7 @@ silent_in w = filter (is_silent w.house.settings.limits.source_timeout w.house.t
 
 -- the session ends, and its source is finished by the rule
 abbrev pub session_ended_by : Rule → World → Session → World
-session_ended_by rule w session = let after = session_ended w session.mount in record after { house = now_in_state after.house session.number (Ended rule) }
+session_ended_by rule w session = let after = session_ended w session.mount in record after { house = finished_in after.house session.number rule }
 
 abbrev pub session_silenced : World → Session → World
 session_silenced w session = session_ended_by SourceSilent w session
@@ -136,6 +152,7 @@ changed w Nothing = w
 changed w (Answer id) = answered w id
 changed w (Admit id peer) = record w { house = admitted w.house id peer }
 changed w (Begin id mount shown) = called_home (record w { house = begun w.house id mount shown }) mount
+changed w (Raise id mount shown) = called_home (record w { house = raised w.house id mount shown }) mount
 changed w (Receive mount block) = taken_in w mount block
 changed w (SetTitle mount title) = record w { house = retitled w.house mount title }
 changed w (TakeSeat id seat) = record { house = now_in_state w.house id Listens; seats = with_seat w.seats id seat }

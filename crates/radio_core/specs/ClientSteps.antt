@@ -1,12 +1,13 @@
--- What an event does to how one client stands.
-use Rattle.std.specs.Prelude.{◌≡◌, ℕ, ◌<◌, true, List, Some}
+-- What an event does to how one client, or one relay, stands.
+use Rattle.std.specs.Prelude.{◌≡◌, ℕ, ◌<◌, true, false, List, Some}
 use Rattle.radio_policy.specs.declared.rule.Rule.{Rule}
 use Rattle.radio_policy.specs.declared.judgement.Verdict.TheVariants.{Allow}
 use Rattle.radio_policy.specs.Verdicts.{verdict_in}
 use Rattle.radio_addr.specs.declared.peer.Peer.{Peer}
+use Rattle.radio_settings.specs.declared.field.Shown.{Shown}
 use Rattle.radio_access.specs.Lists.{passes}
 use Rattle.radio_events.specs.declared.event.Event.{Event}
-use Rattle.radio_events.specs.declared.event.Event.TheVariants.{Arrive, Source, SourceEnd, Listen, Leave}
+use Rattle.radio_events.specs.declared.event.Event.TheVariants.{Arrive, Source, SourceEnd, Listen, Leave, RelayUp, RelayDown}
 use Rattle.radio_events.specs.declared.event.SourceRequest.{SourceRequest}
 use Rattle.radio_events.specs.declared.event.ListenRequest.{ListenRequest}
 use Rattle.radio_events.specs.declared.reply.Reply.TheVariants.{Deny}
@@ -14,15 +15,16 @@ use Rattle.radio_events.specs.Events.{client_in}
 use Rattle.radio_core.specs.declared.standing.Standing.{Standing}
 use Rattle.radio_core.specs.declared.standing.Standing.TheVariants.{Unknown, Undecided, Feeds, Sits, Answered, Finished}
 use Rattle.radio_events.specs.declared.command.Command.{Command}
-use Rattle.radio_events.specs.declared.command.Listing.{Listing}
-use Rattle.radio_core.specs.CommandFacts.{IsCommanded, IsListed}
-use Rattle.radio_core.specs.Facts.{rows_to_feed, rows_to_listen}
+use Rattle.radio_core.specs.CommandFacts.{IsCommanded}
+use Rattle.radio_core.specs.Facts.{rows_to_feed, rows_to_raise, rows_to_listen}
+use Rattle.radio_events.specs.declared.text.Text.{Text}
+use Rattle.radio_core.specs.Pages.{IsShownBy}
 use Rattle.radio_core.specs.Finishes.{Finishes}
 use Rattle.radio_core.specs.Clients.{Client, client_of}
 use Rattle.radio_core.specs.Step.{reply_to, world_after}
-use Rattle.radio_core.specs.World.{World, standing_of}
+use Rattle.radio_core.specs.World.{World, standing_of, has_relay}
 
--- all that an event can do to how the client of this number stands, where a rule finishes him only for its cause
+-- all that an event can do to how the client, or the relay, of this number stands, where a rule finishes him only for its cause
 pub data ClientStep (w : World) (Cause : Rule → Type 0) (event : Event) (id : ℕ) : Standing → Standing → Type 0 where
   -- he stands as before
   Stays : (standing : Standing) → ClientStep w Cause event id standing standing
@@ -35,7 +37,7 @@ pub data ClientStep (w : World) (Cause : Rule → Type 0) (event : Event) (id : 
   IsObeyed : (peer : Peer) (command : Command) → client_in event ≡ Some id → IsCommanded w event command
       → ClientStep w Cause event id (Undecided peer) Answered
   -- he asks to be shown something of the station, and the policy allows it
-  IsShown : (peer : Peer) (listing : Listing) → client_in event ≡ Some id → IsListed w event listing
+  IsShown : (peer : Peer) (text : Text) → client_in event ≡ Some id → IsShownBy w event text
       → ClientStep w Cause event id (Undecided peer) Answered
   -- he asks to feed a mount, and the policy allows it
   BeginsToFeed : (peer : Peer) (asked : SourceRequest) → event ≡ Source asked → asked.id ≡ id → verdict_in (rows_to_feed w.house asked) ≡ Allow
@@ -44,9 +46,14 @@ pub data ClientStep (w : World) (Cause : Rule → Type 0) (event : Event) (id : 
   SitsDown : (peer : Peer) (asked : ListenRequest) → event ≡ Listen asked → asked.id ≡ id → verdict_in (rows_to_listen w asked) ≡ Allow
       → ClientStep w Cause event id (Undecided peer) Sits
   -- his data have come to their end
-  StopsFeeding : (mount : List ℕ) → event ≡ SourceEnd id → ClientStep w Cause event id (Feeds mount) Answered
+  StopsFeeding : (mount : List ℕ) → event ≡ SourceEnd id → has_relay w id ≡ false → ClientStep w Cause event id (Feeds mount) Answered
   -- he leaves
-  Leaves : (standing : Standing) → event ≡ Leave id → ClientStep w Cause event id standing Unknown
+  Leaves : (standing : Standing) → event ≡ Leave id → has_relay w id ≡ false → ClientStep w Cause event id standing Unknown
+  -- a relay comes up, with a number that was not given before, and the policy allows it
+  ComesUp : (mount : List ℕ) (shown : Shown) → event ≡ RelayUp mount shown → w.house.last_id < id
+      → verdict_in (rows_to_raise w.house mount shown) ≡ Allow → ClientStep w Cause event id Unknown (Feeds mount)
+  -- it goes down
+  GoesDown : (standing : Standing) → event ≡ RelayDown id → has_relay w id ≡ true → ClientStep w Cause event id standing Unknown
   -- he is finished by a rule
   IsFinished : (standing : Standing) (rule : Rule) → Cause rule → ClientStep w Cause event id standing (Finished rule)
 

@@ -8,8 +8,8 @@ use Rattle.radio_fallback.specs.Carry.{carried}
 use Rattle.radio_events.specs.declared.command.Command.{Command}
 use Rattle.radio_events.specs.declared.command.Command.TheVariants.{MoveClients}
 use Rattle.radio_core.specs.declared.outcome.Change.{Change}
-use Rattle.radio_core.specs.declared.outcome.Change.TheVariants.{Begin, End, EndAndLeave, Obey}
-use Rattle.radio_core.specs.Changes.{begun, session_over}
+use Rattle.radio_core.specs.declared.outcome.Change.TheVariants.{Begin, Raise, End, EndAndLeave, Obey}
+use Rattle.radio_core.specs.Changes.{begun, raised, session_over}
 use Rattle.radio_core.specs.Facts.{sight_of}
 use Rattle.radio_core.specs.World.{World}
 
@@ -24,7 +24,7 @@ counts_along w move = (carried (sight_of w.house) move w.seats).counts
 abbrev pub counts_ended : World → List ℕ → Carried
 counts_ended w mount = counts_along (session_over w mount) (HasEnded mount)
 
--- a source has come up on the mount: how many come home
+-- a source, or a relay, has come up on the mount: how many come home
 abbrev pub counts_home : World → List ℕ → Carried
 counts_home w mount = (if (options_for w.house.settings mount).listeners.fallback_override then counts_along w (Up mount) else nobody)
 
@@ -37,6 +37,7 @@ counts_by w command = nobody
 -- counted
 abbrev pub counted : World → Change → Carried
 counted w (Begin id mount shown) = counts_home (record w { house = begun w.house id mount shown }) mount
+counted w (Raise id mount shown) = counts_home (record w { house = raised w.house id mount shown }) mount
 counted w (End id mount) = counts_ended w mount
 counted w (EndAndLeave id mount) = counts_ended w mount
 counted w (Obey id command) = counts_by w command

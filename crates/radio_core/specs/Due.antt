@@ -7,7 +7,7 @@ use Rattle.radio_core.specs.Clients.{Client}
 use Rattle.radio_core.specs.declared.clients.ClientState.{ClientState}
 use Rattle.radio_core.specs.declared.clients.ClientState.TheVariants.{Undecided}
 use Rattle.radio_core.specs.declared.outcome.Change.{Change}
-use Rattle.radio_core.specs.declared.outcome.Change.TheVariants.{Admit, Begin, Receive, TakeSeat}
+use Rattle.radio_core.specs.declared.outcome.Change.TheVariants.{Admit, Begin, Raise, Receive, TakeSeat}
 use Rattle.radio_core.specs.World.{World}
 
 -- a client of this state, who arrived then, is due if he has asked for nothing
@@ -33,6 +33,7 @@ first_due w = min (earliest (client_due w.house.settings.limits.header_timeout) 
 abbrev pub due_by : World → Change → ℕ
 due_by w (Admit id peer) = due_at w.house.settings.limits.header_timeout w.house.time
 due_by w (Begin id mount shown) = due_at w.house.settings.limits.source_timeout w.house.time
+due_by w (Raise id mount shown) = due_at w.house.settings.limits.source_timeout w.house.time
 due_by w (Receive mount block) = due_at w.house.settings.limits.source_timeout w.house.time
 due_by w (TakeSeat id seat) = seat_due w.house.settings seat
 due_by w change = last_moment

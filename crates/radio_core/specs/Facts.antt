@@ -1,17 +1,20 @@
 -- What is looked up in the server for the policy.
-use Rattle.std.specs.Prelude.{ℕ, ◌+◌, ◌-◌, ◌^◌, ◌==◌, nat_lt, Bool, not, ◌||◌, if◌then◌else◌, List, length, Option, None, Some, is_some, find}
+use Rattle.std.specs.Prelude.{ℕ, ◌+◌, ◌-◌, ◌^◌, ◌==◌, nat_lt, Bool, not, ◌&&◌, ◌||◌, if◌then◌else◌, List, length, Option, None, Some, is_some, find}
 use Rattle.std.specs.Option.{option_map_or}
 use Rattle.std.specs.Str.{bytes_eq}
 use Rattle.radio_policy.specs.declared.rule.Rule.{Rule}
 use Rattle.radio_policy.specs.declared.facts.ArriveFacts.{ArriveFacts}
 use Rattle.radio_policy.specs.declared.facts.SourceFacts.{SourceFacts}
+use Rattle.radio_policy.specs.declared.facts.RelayFacts.{RelayFacts}
 use Rattle.radio_policy.specs.declared.facts.PushFacts.{PushFacts}
 use Rattle.radio_policy.specs.declared.facts.ListenFacts.{ListenFacts}
-use Rattle.radio_policy.specs.Table.{Row, arrive_rows, source_rows, push_rows, listen_rows}
+use Rattle.radio_policy.specs.Table.{Row, arrive_rows, source_rows, relay_rows, push_rows, listen_rows}
 use Rattle.radio_addr.specs.declared.peer.Peer.{Peer}
 use Rattle.radio_creds.specs.Credentials.{Credentials}
+use Rattle.radio_settings.specs.declared.field.Shown.{Shown}
 use Rattle.radio_settings.specs.declared.settings.Settings.{Settings}
 use Rattle.radio_settings.specs.MountName.{is_mount_name}
+use Rattle.radio_settings.specs.Web.{is_web_path}
 use Rattle.radio_settings.specs.Options.{options_for}
 use Rattle.radio_access.specs.Lists.{is_denied, is_allowed, lets_in}
 use Rattle.radio_access.specs.SourcePair.{is_source_pair}
@@ -27,13 +30,17 @@ use Rattle.radio_parts.specs.Stream.{end_of}
 use Rattle.radio_parts.specs.Sessions.{session_of}
 use Rattle.radio_core.specs.World.{World}
 
--- the largest number that a client's number or a place in a stream can be
+-- the largest number that the number of a client or relay, or a place in a stream, can be
 abbrev pub largest_number : ℕ
 largest_number = 2 ^ 64 - 1
 
 -- there are as many as there may be
 abbrev pub is_full : ℕ → ℕ → Bool
 is_full count limit = not (nat_lt count limit)
+
+-- the path names a mount: it has the form of a name, and is none of the web site's
+abbrev pub names_mount : Settings → List ℕ → Bool
+names_mount settings path = is_mount_name path && not (is_web_path settings.web path)
 
 -- the settings have a table for the mount, or a relay that feeds it
 abbrev pub is_in_settings : Settings → List ℕ → Bool
@@ -95,7 +102,18 @@ source_facts_at house mount asked = record {
 }
 
 abbrev pub source_facts : House → SourceRequest → Option SourceFacts
-source_facts house asked = (if is_mount_name asked.mount then Some (source_facts_at house asked.mount asked) else None)
+source_facts house asked = (if names_mount house.settings asked.mount then Some (source_facts_at house asked.mount asked) else None)
+
+abbrev pub relay_facts_at : House → List ℕ → Shown → RelayFacts
+relay_facts_at house mount shown = record {
+  sources_are_full = is_full (length house.live) house.settings.limits.sources;
+  mount_is_live = is_some (session_of house.live mount);
+  type_is_refused = is_refused_type shown.content_type;
+  number_is_spent = house.last_id == largest_number;
+}
+
+abbrev pub relay_facts : House → List ℕ → Shown → Option RelayFacts
+relay_facts house mount shown = (if names_mount house.settings mount then Some (relay_facts_at house mount shown) else None)
 
 abbrev pub push_facts : House → List ℕ → List ℕ → PushFacts
 push_facts house mount block = record { number_is_spent = nat_lt largest_number (live_end house mount + length block) }
@@ -109,7 +127,7 @@ listen_facts_at house seats mount pair = let found = found_at (sight_of house) s
 }
 
 abbrev pub listen_facts : House → List Listener → ListenRequest → Option ListenFacts
-listen_facts house seats asked = (if is_mount_name asked.mount then Some (listen_facts_at house seats asked.mount asked.pair) else None)
+listen_facts house seats asked = (if names_mount house.settings asked.mount then Some (listen_facts_at house seats asked.mount asked.pair) else None)
 
 -- the policy's rows for each action, as things stand
 abbrev pub rows_to_arrive : House → Peer → List Row
@@ -117,6 +135,9 @@ rows_to_arrive house peer = arrive_rows (arrive_facts house peer)
 
 abbrev pub rows_to_feed : House → SourceRequest → List Row
 rows_to_feed house asked = source_rows (source_facts house asked)
+
+abbrev pub rows_to_raise : House → List ℕ → Shown → List Row
+rows_to_raise house mount shown = relay_rows (relay_facts house mount shown)
 
 abbrev pub rows_to_push : House → List ℕ → List ℕ → List Row
 rows_to_push house mount block = push_rows (push_facts house mount block)

@@ -4,14 +4,15 @@ use Rattle.radio_core.specs.declared.outcome.Change.TheVariants.{Nothing, EndAnd
 use Rattle.radio_core.specs.declared.outcome.Outcome.{Outcome}
 use Rattle.radio_core.specs.declared.standing.Standing.{Standing}
 use Rattle.radio_core.specs.declared.standing.Standing.TheVariants.{Unknown, Feeds}
-use Rattle.radio_core.specs.World.{World, standing_of}
-use Rattle.radio_core.specs.Outcomes.{says}
+use Rattle.radio_core.specs.World.{World, standing_of, has_relay}
+use Rattle.radio_core.specs.Outcomes.{says, unless_relayed}
 
--- a client's connection is closed, who stands so; a source's session ends first
+-- the connection is closed of a client who stands so; a source's session ends first
 abbrev pub leaves_from : ℕ → Standing → Outcome
 leaves_from id Unknown = says Stray Nothing
 leaves_from id (Feeds mount) = says Noted (EndAndLeave id mount)
 leaves_from id standing = says Noted (Forget id)
 
+-- a client's connection is closed
 abbrev pub leaves : World → ℕ → Outcome
-leaves w id = leaves_from id (standing_of w id)
+leaves w id = unless_relayed (has_relay w id) (leaves_from id (standing_of w id))

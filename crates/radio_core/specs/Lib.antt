@@ -1,8 +1,11 @@
 pub mod Clients
+pub mod Relays
 pub mod World
 pub mod Facts
 pub mod Timeouts
+pub mod Closing
 pub mod Outcomes
+pub mod Pages
 pub mod Arrive
 pub mod Source
 pub mod Push
@@ -11,6 +14,8 @@ pub mod Title
 pub mod Listen
 pub mod Draw
 pub mod Leave
+pub mod RelayUp
+pub mod RelayDown
 pub mod Clock
 pub mod Fallbacks
 pub mod CommandFacts

@@ -5,6 +5,8 @@ use Rattle.radio_settings.specs.Options.{options_for}
 use Rattle.radio_events.specs.declared.event.ListenRequest.{ListenRequest}
 use Rattle.radio_core.specs.declared.house.House.{House}
 use Rattle.radio_events.specs.declared.reply.Reply.TheVariants.{Seated, Stray}
+use Rattle.radio_events.specs.declared.reply.StreamHead.{StreamHead}
+use Rattle.radio_settings.specs.declared.field.Shown.{Shown}
 use Rattle.radio_core.specs.declared.outcome.Change.TheVariants.{Nothing, Answer, TakeSeat}
 use Rattle.radio_core.specs.declared.outcome.Outcome.{Outcome}
 use Rattle.radio_seats.specs.declared.seat.Seat.{Seat}
@@ -37,11 +39,15 @@ first_seat house asked peer session = record {
   since = house.time;
 }
 
+-- what the head of a stream says that shows this
+abbrev pub head_of : House → Shown → StreamHead
+head_of house shown = record { shown = shown; allow_origin = house.settings.web.allow_origin }
+
 -- the listener sits down; where the mount is not live, at which no walk lands, nothing happens
 abbrev pub takes_seat : House → ListenRequest → Peer → Option Session → Outcome
 takes_seat house asked peer None = says Stray Nothing
 takes_seat house asked peer (Some session) =
-    says (Seated (interval_for house asked.mount asked.wants_metadata) session.shown) (TakeSeat asked.id (first_seat house asked peer session))
+    says (Seated (interval_for house asked.mount asked.wants_metadata) (head_of house session.shown)) (TakeSeat asked.id (first_seat house asked peer session))
 
 -- he sits down where his walk lands; where it is stopped, which the policy denies, nothing happens
 abbrev pub sits_where : House → ListenRequest → Peer → Landing → Outcome

@@ -14,7 +14,7 @@ use Rattle.radio_listing.specs.Public.{status_text, stream_text}
 use Rattle.radio_events.specs.declared.command.Listing.{Listing}
 use Rattle.radio_events.specs.declared.command.Listing.TheVariants.{Status, Stats, Mounts, Clients, Streams}
 use Rattle.radio_events.specs.declared.text.Text.{Text}
-use Rattle.radio_events.specs.declared.text.Text.TheVariants.{Json, Streams as StreamList}
+use Rattle.radio_events.specs.declared.text.Text.TheVariants.{Json, Streams as StreamList, Public}
 use Rattle.radio_core.specs.Facts.{fallback_of}
 use Rattle.radio_parts.specs.Sessions.{Session}
 use Rattle.radio_core.specs.World.{World}
@@ -65,7 +65,7 @@ listener_rows w mount = map (listener_row w.house.time) (guests_at w.seats mount
 
 -- what is shown; who asks is counted among the clients
 abbrev pub shown : World → Listing → Text
-shown w Status = Json (status_text (mount_rows w))
+shown w Status = Public (status_text (mount_rows w)) w.house.settings.web.allow_origin
 shown w Stats = Json (stats_text (length w.house.clients) (mount_rows w))
 shown w Mounts = Json (mounts_text (mount_rows w))
 shown w (Clients mount) = Json (listeners_text mount (listener_rows w mount))

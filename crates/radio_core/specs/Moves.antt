@@ -1,9 +1,10 @@
 -- The moves that events bring, and the turn of each listener in them.
-use Rattle.std.specs.Prelude.{◌≡◌, ℕ, true, List, ◌∷◌, ◌++◌, fold}
+use Rattle.std.specs.Prelude.{◌≡◌, ℕ, ◌+◌, true, false, List, ◌∷◌, ◌++◌, fold}
 use Rattle.radio_policy.specs.declared.rule.Rule.{Rule}
 use Rattle.radio_policy.specs.declared.judgement.Verdict.TheVariants.{Allow}
 use Rattle.radio_policy.specs.Verdicts.{verdict_in}
 use Rattle.radio_addr.specs.declared.peer.Peer.{Peer}
+use Rattle.radio_settings.specs.declared.field.Shown.{Shown}
 use Rattle.radio_settings.specs.Options.{options_for}
 use Rattle.radio_fallback.specs.declared.moves.Move.{Move}
 use Rattle.radio_fallback.specs.declared.moves.Move.TheVariants.{Ended, Up, To}
@@ -12,17 +13,18 @@ use Rattle.radio_fallback.specs.declared.moves.Turn.TheVariants.{GoesTo, IsOut}
 use Rattle.radio_fallback.specs.Carry.{turn_of, at_his_turn}
 use Rattle.radio_seats.specs.declared.seat.Seat.{Seat}
 use Rattle.radio_events.specs.declared.event.Event.{Event}
-use Rattle.radio_events.specs.declared.event.Event.TheVariants.{Source, SourceEnd, Leave, Clock}
+use Rattle.radio_events.specs.declared.event.Event.TheVariants.{Source, SourceEnd, RelayUp, Clock}
 use Rattle.radio_events.specs.declared.event.SourceRequest.{SourceRequest}
 use Rattle.radio_core.specs.declared.standing.Standing.TheVariants.{Undecided, Feeds}
-use Rattle.radio_core.specs.Changes.{begun, session_over, before_silence, silent_in, session_silenced}
+use Rattle.radio_core.specs.Changes.{begun, raised, session_over, before_silence, silent_in, session_silenced}
 use Rattle.radio_events.specs.declared.command.Command.TheVariants.{MoveClients, KillSource}
+use Rattle.radio_core.specs.Closing.{Closes}
 use Rattle.radio_core.specs.CommandFacts.{IsCommanded}
-use Rattle.radio_core.specs.Facts.{sight_of, rows_to_feed}
+use Rattle.radio_core.specs.Facts.{sight_of, rows_to_feed, rows_to_raise}
 use Rattle.radio_parts.specs.Sessions.{Session}
 use Rattle.radio_core.specs.Source.{shown_for}
 use Rattle.radio_parts.specs.Stream.{end_of}
-use Rattle.radio_core.specs.World.{World, standing_of}
+use Rattle.radio_core.specs.World.{World, standing_of, has_relay}
 
 -- what the move has in store for the listener at his turn, where the state before the first turn is w: those of lower numbers have had theirs
 abbrev pub his_turn : World → Move → ℕ → Turn
@@ -35,9 +37,10 @@ moved_into session seat = record seat { mount = session.mount; session = session
 -- the event brings the move, and this is the state before the first listener has his turn
 pub data Brings (w : World) : Event → Move → World → Type 0 where
   -- a source's data come to their end
-  ByItsEnd : (him : ℕ) (mount : List ℕ) → standing_of w him ≡ Feeds mount → Brings w (SourceEnd him) (Ended mount) (session_over w mount)
-  -- a source leaves
-  ByItsLeaving : (him : ℕ) (mount : List ℕ) → standing_of w him ≡ Feeds mount → Brings w (Leave him) (Ended mount) (session_over w mount)
+  ByItsEnd : (him : ℕ) (mount : List ℕ) → standing_of w him ≡ Feeds mount → has_relay w him ≡ false → Brings w (SourceEnd him) (Ended mount) (session_over w mount)
+  -- a source leaves, or a relay goes down
+  ByItsLeaving : (event : Event) (him : ℕ) (mount : List ℕ) → Closes w him event → standing_of w him ≡ Feeds mount
+      → Brings w event (Ended mount) (session_over w mount)
   -- a source has sent nothing in the time that it has for it; the sessions before its own that are silent too have ended
   BySilence : (ms : ℕ) (before others : List Session) (session : Session) → silent_in (before_silence w ms) ≡ before ++ session ∷ others
       → Brings w (Clock ms) (Ended session.mount) (session_over (fold session_silenced (before_silence w ms) before) session.mount)
@@ -45,6 +48,10 @@ pub data Brings (w : World) : Event → Move → World → Type 0 where
   ByComingUp : (asked : SourceRequest) (peer : Peer) → standing_of w asked.id ≡ Undecided peer → verdict_in (rows_to_feed w.house asked) ≡ Allow
       → (options_for w.house.settings asked.mount).listeners.fallback_override ≡ true
       → Brings w (Source asked) (Up asked.mount) (record w { house = begun w.house asked.id asked.mount (shown_for w.house asked.mount asked.shown) })
+  -- and so does a relay
+  ByRelayUp : (mount : List ℕ) (shown : Shown) → verdict_in (rows_to_raise w.house mount shown) ≡ Allow
+      → (options_for w.house.settings mount).listeners.fallback_override ≡ true
+      → Brings w (RelayUp mount shown) (Up mount) (record w { house = raised w.house (w.house.last_id + 1) mount (shown_for w.house mount shown) })
   -- a command ends the session of a mount
   ByKilling : (event : Event) (mount : List ℕ) → IsCommanded w event (KillSource mount) → Brings w event (Ended mount) (session_over w mount)
   -- a command moves the listeners of a mount to another

@@ -1,5 +1,5 @@
 -- What comes of an event: the reply, and the change of the state.
-use Rattle.std.specs.Prelude.{ℕ, List}
+use Rattle.std.specs.Prelude.{ℕ, Bool, true, false, List}
 use Rattle.radio_policy.specs.declared.judgement.Verdict.{Verdict}
 use Rattle.radio_policy.specs.declared.judgement.Verdict.TheVariants.{Allow, Deny as Denied}
 use Rattle.radio_addr.specs.declared.peer.Peer.{Peer}
@@ -33,6 +33,11 @@ if_undecided standing go = out_of_place standing
 abbrev pub if_feeding : Standing → (List ℕ → Outcome) → Outcome
 if_feeding (Feeds mount) go = go mount
 if_feeding standing go = out_of_place standing
+
+-- no relay may do it
+abbrev pub unless_relayed : Bool → Outcome → Outcome
+unless_relayed true go = says Stray Nothing
+unless_relayed false go = go
 
 -- only a listener who has a seat may do it
 abbrev pub if_sitting : Standing → Outcome → Outcome

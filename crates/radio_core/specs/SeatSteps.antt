@@ -4,11 +4,12 @@ use Rattle.radio_policy.specs.declared.rule.Rule.{Rule}
 use Rattle.radio_policy.specs.declared.judgement.Verdict.TheVariants.{Allow}
 use Rattle.radio_policy.specs.Verdicts.{verdict_in}
 use Rattle.radio_addr.specs.declared.peer.Peer.{Peer}
+use Rattle.radio_settings.specs.declared.field.Shown.{Shown}
 use Rattle.radio_settings.specs.Options.{options_for}
 use Rattle.radio_seats.specs.declared.seat.Seat.{Seat}
 use Rattle.radio_seats.specs.Seats.{seat_of}
 use Rattle.radio_events.specs.declared.event.Event.{Event}
-use Rattle.radio_events.specs.declared.event.Event.TheVariants.{Source, Listen, Draw, Leave}
+use Rattle.radio_events.specs.declared.event.Event.TheVariants.{Source, Listen, Draw, Leave, RelayUp}
 use Rattle.radio_events.specs.declared.event.SourceRequest.{SourceRequest}
 use Rattle.radio_events.specs.declared.event.ListenRequest.{ListenRequest}
 use Rattle.radio_core.specs.declared.standing.Standing.TheVariants.{Undecided}
@@ -26,12 +27,17 @@ use Rattle.radio_core.specs.Step.{world_after}
 use Rattle.radio_parts.specs.Stream.{data_at, end_of}
 use Rattle.radio_core.specs.World.{World, standing_of}
 
--- why a listener goes from his seat to the mount: the session in which he sat is over; or a source has come up at the mount, which is the one that he asked
+-- a source, or a relay, comes up on the mount by the event
+pub data ComesUpOn : Event → List ℕ → Type 0 where
+  ASource : (asked : SourceRequest) → ComesUpOn (Source asked) asked.mount
+  ARelay : (mount : List ℕ) (shown : Shown) → ComesUpOn (RelayUp mount shown) mount
+
+-- why a listener goes from his seat to the mount: the session in which he sat is over; or one has come up on the mount, which is the one that he asked
 -- for, and calls its listeners home; or a command moves the listeners of his mount there
 pub data IsSent (w later : World) (event : Event) (seat : Seat) (mount : List ℕ) : Type 0 where
   HisSessionIsOver : session_of later.house.live seat.mount ≡ None → IsSent w later event seat mount
-  HeIsCalledHome : (asked : SourceRequest) → event ≡ Source asked → mount ≡ asked.mount → seat.home ≡ asked.mount
-      → (options_for w.house.settings asked.mount).listeners.fallback_override ≡ true → IsSent w later event seat mount
+  HeIsCalledHome : ComesUpOn event mount → seat.home ≡ mount → (options_for w.house.settings mount).listeners.fallback_override ≡ true
+      → IsSent w later event seat mount
   IsCommandedThere : IsCommanded w event (MoveClients seat.mount mount) → IsSent w later event seat mount
 
 -- all that an event can do to the seat of the client of this number, where a rule ends one only for its cause; between the seats, what it hands to him

@@ -1,8 +1,9 @@
 -- What an event does to the session of one mount.
-use Rattle.std.specs.Prelude.{◌≡◌, ◌⊎◌, ℕ, ◌*◌, ◌-◌, ◌≤◌, Option, Some, None, List, [], ◌∷◌, ◌++◌, length}
+use Rattle.std.specs.Prelude.{◌≡◌, ◌⊎◌, ℕ, ◌+◌, ◌*◌, ◌-◌, ◌≤◌, Option, Some, None, List, [], ◌∷◌, ◌++◌, length}
+use Rattle.radio_settings.specs.declared.field.Shown.{Shown}
 use Rattle.radio_settings.specs.Options.{options_for}
 use Rattle.radio_events.specs.declared.event.Event.{Event}
-use Rattle.radio_events.specs.declared.event.Event.TheVariants.{Source, Push, SourceEnd, Title, Leave, Clock}
+use Rattle.radio_events.specs.declared.event.Event.TheVariants.{Source, Push, SourceEnd, Title, Leave, RelayUp, RelayDown, Clock}
 use Rattle.radio_events.specs.declared.event.SourceRequest.{SourceRequest}
 use Rattle.radio_events.specs.declared.command.Command.TheVariants.{KillSource, SetTitle}
 use Rattle.radio_core.specs.CommandFacts.{IsCommanded}
@@ -15,25 +16,28 @@ pub data IsShownAs (given : Option (List ℕ)) (own : List ℕ) : List ℕ → T
   OfTheSettings : (text : List ℕ) → given ≡ Some text → IsShownAs given own text
   OfTheSource : given ≡ None → IsShownAs given own own
 
--- a session that has only begun: its source asked for the mount now, it has delivered nothing, and it shows the source's content type, with the name and
--- the genre of the mount's settings, or else the source's
-pub record HasBegun (w : World) (asked : SourceRequest) (session : Session) : Type 0 where
-  pub its_mount : session.mount ≡ asked.mount
-  pub its_source : session.number ≡ asked.id
+-- a session that has only begun: the source, or relay, of this number has come to feed the mount now, it has delivered nothing, and the session shows
+-- its content type, with the name and the genre of the mount's settings, or else its own
+pub record HasBegun (w : World) (mount : List ℕ) (number : ℕ) (shown : Shown) (session : Session) : Type 0 where
+  pub its_mount : session.mount ≡ mount
+  pub its_source : session.number ≡ number
   pub has_no_data : session.stream.bytes ≡ []
   pub has_no_blocks : session.stream.starts ≡ []
   pub has_no_title : session.title ≡ None
   pub from_now : session.last_block ≡ w.house.time
-  pub shows_type : session.shown.content_type ≡ asked.shown.content_type
-  pub shows_name : IsShownAs (options_for w.house.settings asked.mount).stream.stream_name asked.shown.name session.shown.name
-  pub shows_genre : IsShownAs (options_for w.house.settings asked.mount).stream.genre asked.shown.genre session.shown.genre
+  pub shows_type : session.shown.content_type ≡ shown.content_type
+  pub shows_name : IsShownAs (options_for w.house.settings mount).stream.stream_name shown.name session.shown.name
+  pub shows_genre : IsShownAs (options_for w.house.settings mount).stream.genre shown.genre session.shown.genre
 
 -- all that an event can do to the session of a mount
 pub data SessionStep (w : World) (event : Event) (mount : List ℕ) : Option Session → Option Session → Type 0 where
   -- it stays as it is, or there is none still
   Stays : (session : Option Session) → SessionStep w event mount session session
   -- it begins, for the source that asked for the mount
-  Begins : (asked : SourceRequest) (session : Session) → event ≡ Source asked → asked.mount ≡ mount → HasBegun w asked session
+  Begins : (asked : SourceRequest) (session : Session) → event ≡ Source asked → asked.mount ≡ mount → HasBegun w mount asked.id asked.shown session
+      → SessionStep w event mount None (Some session)
+  -- or for a relay, which has the next number
+  BeginsForRelay : (shown : Shown) (session : Session) → event ≡ RelayUp mount shown → HasBegun w mount (w.house.last_id + 1) shown session
       → SessionStep w event mount None (Some session)
   -- its source delivers a block, which starts where the data ended before; it is the last one now
   Grows : (session : Session) (block : List ℕ) → event ≡ Push session.number block → SessionStep w event mount (Some session) (Some (record session {
@@ -46,9 +50,9 @@ pub data SessionStep (w : World) (event : Event) (mount : List ℕ) : Option Ses
   -- a command sets it
   IsRetitled : (session : Session) (text : List ℕ) → IsCommanded w event (SetTitle mount text)
       → SessionStep w event mount (Some session) (Some (record session { title = Some text }))
-  -- it ends: its source has come to the end of its data, or has left, or has sent nothing in the time that it has for it
-  Ends : (session : Session) → (event ≡ SourceEnd session.number) ⊎ (event ≡ Leave session.number) ⊎ ((ms : ℕ) × (event ≡ Clock ms)
-      × (1000 * w.house.settings.limits.source_timeout ≤ ms - session.last_block)) → SessionStep w event mount (Some session) None
+  -- it ends: its source has come to the end of its data, or has left, or its relay has gone down, or it was sent nothing in the time that there is for it
+  Ends : (session : Session) → (event ≡ SourceEnd session.number) ⊎ (event ≡ Leave session.number) ⊎ (event ≡ RelayDown session.number)
+      ⊎ ((ms : ℕ) × (event ≡ Clock ms) × (1000 * w.house.settings.limits.source_timeout ≤ ms - session.last_block)) → SessionStep w event mount (Some session) None
   -- a command ends it
   IsKilled : (session : Session) → IsCommanded w event (KillSource mount) → SessionStep w event mount (Some session) None
 

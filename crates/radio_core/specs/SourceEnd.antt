@@ -2,9 +2,9 @@ use Rattle.std.specs.Prelude.{ℕ}
 use Rattle.radio_events.specs.declared.reply.Reply.TheVariants.{Noted}
 use Rattle.radio_core.specs.declared.outcome.Change.TheVariants.{End}
 use Rattle.radio_core.specs.declared.outcome.Outcome.{Outcome}
-use Rattle.radio_core.specs.World.{World, standing_of}
-use Rattle.radio_core.specs.Outcomes.{says, if_feeding}
+use Rattle.radio_core.specs.World.{World, standing_of, has_relay}
+use Rattle.radio_core.specs.Outcomes.{says, if_feeding, unless_relayed}
 
--- a source has come to the end of its data
+-- a source has come to the end of its data; a relay's end with its connection
 abbrev pub stops_feeding : World → ℕ → Outcome
-stops_feeding w id = if_feeding (standing_of w id) (λ mount. says Noted (End id mount))
+stops_feeding w id = if_feeding (standing_of w id) (λ mount. unless_relayed (has_relay w id) (says Noted (End id mount)))

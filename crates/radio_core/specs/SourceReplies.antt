@@ -13,7 +13,7 @@ use Rattle.radio_core.specs.Outcomes.{out_of_place}
 use Rattle.radio_parts.specs.Sessions.{Session, session_of}
 use Rattle.radio_core.specs.Step.{reply_to, world_after}
 use Rattle.radio_parts.specs.Stream.{end_of}
-use Rattle.radio_core.specs.World.{World, standing_of}
+use Rattle.radio_core.specs.World.{World, standing_of, has_relay}
 
 -- whether there are too many for the numbers of a stream
 abbrev pub unless_spent : Bool → Reply
@@ -29,16 +29,21 @@ abbrev pub to_data_from : Standing → House → List ℕ → Reply
 to_data_from (Feeds mount) house bytes = to_session (session_of house.live mount) bytes
 to_data_from standing house bytes = (out_of_place standing).reply
 
-abbrev pub to_end_from : Standing → Reply
-to_end_from (Feeds mount) = Noted
-to_end_from standing = (out_of_place standing).reply
+-- a relay's data end with its connection, so their end is out of place
+abbrev pub to_feeders_end : Bool → Reply
+to_feeders_end true = Stray
+to_feeders_end false = Noted
+
+abbrev pub to_end_from : Bool → Standing → Reply
+to_end_from relayed (Feeds mount) = to_feeders_end relayed
+to_end_from relayed standing = (out_of_place standing).reply
 
 -- the reply to data from this client, and to their end
 unfoldable pub to_data : World → ℕ → List ℕ → Reply
 to_data w id bytes = to_data_from (standing_of w id) w.house bytes
 
 unfoldable pub to_end : World → ℕ → Reply
-to_end w id = to_end_from (standing_of w id)
+to_end w id = to_end_from (has_relay w id) (standing_of w id)
 
 -- nothing is told of it and the source goes on, or it ends by a rule
 abbrev pub IsQuiet : Reply → Type 0

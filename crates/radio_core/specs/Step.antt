@@ -1,7 +1,8 @@
 -- One event of the server.
 use Rattle.std.specs.Prelude.{◌≡◌}
 use Rattle.radio_events.specs.declared.event.Event.{Event}
-use Rattle.radio_events.specs.declared.event.Event.TheVariants.{Arrive, Source, Push, SourceEnd, Title, Listen, Draw, Command, Leave, Clock}
+use Rattle.radio_events.specs.declared.event.Event.TheVariants.{Arrive, Source, Push, SourceEnd, Title, Listen, Draw, Command, Leave}
+use Rattle.radio_events.specs.declared.event.Event.TheVariants.{RelayUp, RelayDown, Clock}
 use Rattle.radio_events.specs.declared.reply.Reply.{Reply}
 use Rattle.radio_core.specs.declared.outcome.Change.{Change}
 use Rattle.radio_core.specs.declared.outcome.Change.TheVariants.{Nothing, Answer, SetTitle, Advance, End, EndAndLeave, Forget, Tick}
@@ -12,10 +13,12 @@ use Rattle.radio_core.specs.Source.{asks_to_feed}
 use Rattle.radio_core.specs.Push.{delivers}
 use Rattle.radio_core.specs.SourceEnd.{stops_feeding}
 use Rattle.radio_core.specs.Title.{sets_title}
-use Rattle.radio_core.specs.Listen.{asks_to_hear}
+use Rattle.radio_core.specs.Pages.{asks_by_path}
 use Rattle.radio_core.specs.Draw.{draws}
 use Rattle.radio_core.specs.Command.{gives_command}
 use Rattle.radio_core.specs.Leave.{leaves}
+use Rattle.radio_core.specs.RelayUp.{comes_up}
+use Rattle.radio_core.specs.RelayDown.{goes_down}
 use Rattle.radio_core.specs.Clock.{hears_clock}
 use Rattle.radio_core.specs.Changes.{changed}
 use Rattle.radio_core.specs.StandsFor.{StandsFor}
@@ -27,10 +30,12 @@ outcome w (Source asked) = asks_to_feed w asked
 outcome w (Push id block) = delivers w id block
 outcome w (SourceEnd id) = stops_feeding w id
 outcome w (Title id text) = sets_title w id text
-outcome w (Listen asked) = asks_to_hear w asked
+outcome w (Listen asked) = asks_by_path w asked
 outcome w (Draw id room) = draws w id room
 outcome w (Command asked) = gives_command w asked
 outcome w (Leave id) = leaves w id
+outcome w (RelayUp mount shown) = comes_up w mount shown
+outcome w (RelayDown id) = goes_down w id
 outcome w (Clock ms) = hears_clock w ms
 
 -- the reply to an event in this state, and the state after it

@@ -1,5 +1,6 @@
 -- The ways in which an event can end.
 use Rattle.std.specs.Prelude.{◌≡◌, ℕ, ◌+◌, nat_lt, true, false, length, List, [], Some, None}
+use Rattle.radio_settings.specs.declared.field.Shown.{Shown}
 use Rattle.radio_policy.specs.declared.rule.Rule.{Rule}
 use Rattle.radio_policy.specs.declared.judgement.Verdict.TheVariants.{Allow, Deny as Denied}
 use Rattle.radio_policy.specs.Table.{Row}
@@ -8,27 +9,30 @@ use Rattle.radio_addr.specs.declared.peer.Peer.{Peer}
 use Rattle.radio_events.specs.declared.event.SourceRequest.{SourceRequest}
 use Rattle.radio_events.specs.declared.event.ListenRequest.{ListenRequest}
 use Rattle.radio_events.specs.declared.event.Event.{Event}
-use Rattle.radio_events.specs.declared.event.Event.TheVariants.{Arrive, Source, Push, SourceEnd, Title, Listen, Draw, Command, Leave, Clock}
+use Rattle.radio_events.specs.declared.event.Event.TheVariants.{Arrive, Source, Push, SourceEnd, Title, Listen, Draw, Command, Leave, RelayUp, RelayDown, Clock}
 use Rattle.radio_core.specs.declared.house.House.{House}
 use Rattle.radio_core.specs.declared.outcome.Change.TheVariants.{Nothing, Answer, Admit, Receive, SetTitle, TakeSeat, Advance, End, EndAndLeave, Forget, Tick}
 use Rattle.radio_core.specs.declared.outcome.Outcome.{Outcome}
-use Rattle.radio_events.specs.declared.reply.Reply.TheVariants.{Arrived, Seated, Drawn, Noted, Deny, Finished, Stray}
+use Rattle.radio_events.specs.declared.reply.Reply.TheVariants.{Arrived, Seated, Drawn, Noted, Text as SaysText, Deny, Finished, Stray}
 use Rattle.radio_seats.specs.declared.seat.Seat.{Seat}
 use Rattle.radio_core.specs.declared.standing.Standing.{Standing}
 use Rattle.radio_core.specs.declared.standing.Standing.TheVariants.{Undecided, Feeds, Sits, Finished as HasFinished}
 use Rattle.radio_fallback.specs.declared.walking.Landing.TheVariants.{Lands}
 use Rattle.radio_events.specs.declared.command.Command.{Command as TheCommand}
-use Rattle.radio_events.specs.declared.command.Listing.{Listing}
-use Rattle.radio_core.specs.Command.{obeys, shows}
-use Rattle.radio_core.specs.CommandFacts.{IsCommanded, IsListed, rows_to_command}
-use Rattle.radio_core.specs.Facts.{rows_to_arrive, rows_to_feed, rows_to_push, rows_to_listen, walks_to}
-use Rattle.radio_core.specs.Listen.{first_seat, interval_for}
+use Rattle.radio_core.specs.Closing.{Closes}
+use Rattle.radio_core.specs.Command.{obeys}
+use Rattle.radio_core.specs.CommandFacts.{IsCommanded, rows_to_command}
+use Rattle.radio_core.specs.Facts.{rows_to_arrive, rows_to_feed, rows_to_raise, rows_to_push, rows_to_listen, walks_to}
+use Rattle.radio_core.specs.Listen.{first_seat, interval_for, head_of}
+use Rattle.radio_core.specs.Pages.{IsShownBy}
+use Rattle.radio_events.specs.declared.text.Text.{Text}
 use Rattle.radio_core.specs.Outcomes.{says}
+use Rattle.radio_core.specs.RelayUp.{raises}
 use Rattle.radio_seats.specs.Seats.{seat_of}
 use Rattle.radio_parts.specs.Sessions.{Session, session_of}
 use Rattle.radio_core.specs.Source.{begins}
 use Rattle.radio_parts.specs.Stream.{data_at}
-use Rattle.radio_core.specs.World.{World, standing_of}
+use Rattle.radio_core.specs.World.{World, standing_of, has_relay}
 use Rattle.radio_events.specs.Events.{client_in}
 
 -- the client has asked for nothing yet
@@ -47,6 +51,7 @@ rows_for w (Source asked) = rows_to_feed w.house asked
 rows_for w (Push id block) = rows_from w.house block (standing_of w id)
 rows_for w (Listen asked) = rows_to_listen w asked
 rows_for w (Command asked) = rows_to_command w asked
+rows_for w (RelayUp mount shown) = rows_to_raise w.house mount shown
 rows_for w event = []
 
 pub data Way (w : World) : Event → Outcome → Type 0 where
@@ -65,19 +70,24 @@ pub data Way (w : World) : Event → Outcome → Type 0 where
       → Way w (Arrive peer) (says (Arrived (w.house.last_id + 1)) (Admit (w.house.last_id + 1) peer))
   Begins : (asked : SourceRequest) → IsUndecided w asked.id → (session_of w.house.live asked.mount ≡ None)
       → verdict_in (rows_to_feed w.house asked) ≡ Allow → Way w (Source asked) (begins w.house asked)
+  ComesUp : (mount : List ℕ) (shown : Shown) → (session_of w.house.live mount ≡ None) → verdict_in (rows_to_raise w.house mount shown) ≡ Allow
+      → Way w (RelayUp mount shown) (raises w.house mount shown)
   Receives : (id : ℕ) (mount block : List ℕ) → standing_of w id ≡ Feeds mount → Way w (Push id block) (says Noted (Receive mount block))
   SetsTitle : (id : ℕ) (mount text : List ℕ) → standing_of w id ≡ Feeds mount → Way w (Title id text) (says Noted (SetTitle mount text))
   TakesSeat : (asked : ListenRequest) (peer : Peer) (session : Session) → standing_of w asked.id ≡ Undecided peer
       → walks_to w.house w.seats asked.mount asked.pair ≡ Lands session.mount → session_of w.house.live session.mount ≡ Some session
       → verdict_in (rows_to_listen w asked) ≡ Allow → Way w (Listen asked)
-      (says (Seated (interval_for w.house asked.mount asked.wants_metadata) session.shown) (TakeSeat asked.id (first_seat w.house asked peer session)))
+      (says (Seated (interval_for w.house asked.mount asked.wants_metadata) (head_of w.house session.shown)) (TakeSeat asked.id (first_seat w.house asked peer session)))
   HandsOut : (id room : ℕ) (seat : Seat) (session : Session) → standing_of w id ≡ Sits → seat_of w.seats id ≡ Some seat
       → session_of w.house.live seat.mount ≡ Some session → Way w (Draw id room)
       (says (Drawn (data_at session.stream seat.place room) session.title) (Advance id (seat.place + length (data_at session.stream seat.place room))))
-  Ends : (id : ℕ) (mount : List ℕ) → standing_of w id ≡ Feeds mount → Way w (SourceEnd id) (says Noted (End id mount))
-  EndsAndLeaves : (id : ℕ) (mount : List ℕ) → standing_of w id ≡ Feeds mount → Way w (Leave id) (says Noted (EndAndLeave id mount))
-  Leaves : (id : ℕ) → ((mount : List ℕ) → standing_of w id ≡ Feeds mount → ⊥) → Way w (Leave id) (says Noted (Forget id))
+  Ends : (id : ℕ) (mount : List ℕ) → standing_of w id ≡ Feeds mount → has_relay w id ≡ false → Way w (SourceEnd id) (says Noted (End id mount))
+  EndsAndLeaves : (event : Event) (id : ℕ) (mount : List ℕ) → Closes w id event → standing_of w id ≡ Feeds mount
+      → Way w event (says Noted (EndAndLeave id mount))
+  Leaves : (id : ℕ) → has_relay w id ≡ false → ((mount : List ℕ) → standing_of w id ≡ Feeds mount → ⊥) → Way w (Leave id) (says Noted (Forget id))
+  GoesDown : (id : ℕ) (rule : Rule) → has_relay w id ≡ true → standing_of w id ≡ HasFinished rule → Way w (RelayDown id) (says Noted (Forget id))
   Obeys : (event : Event) (command : TheCommand) (c : IsCommanded w event command) → Way w event (obeys w c.asked.id command)
-  Shows : (event : Event) (listing : Listing) (c : IsListed w event listing) → Way w event (shows w c.asked.id listing)
+  Shows : (event : Event) (id : ℕ) (peer : Peer) (text : Text) → client_in event ≡ Some id → standing_of w id ≡ Undecided peer → IsShownBy w event text
+      → Way w event (says (SaysText text) (Answer id))
   HasPassed : (ms : ℕ) → nat_lt ms w.house.time ≡ true → Way w (Clock ms) (says Noted Nothing)
   Ticks : (ms : ℕ) → nat_lt ms w.house.time ≡ false → Way w (Clock ms) (says Noted (Tick ms))

@@ -1,5 +1,5 @@
 -- The server's state.
-use Rattle.std.specs.Prelude.{ℕ, List, [], Option, Some, None}
+use Rattle.std.specs.Prelude.{ℕ, Bool, List, [], Option, Some, None, is_some}
 use Rattle.radio_addr.specs.declared.peer.Peer.{Peer}
 use Rattle.radio_settings.specs.declared.settings.Settings.{Settings}
 use Rattle.radio_access.specs.Lists.{Lists}
@@ -12,12 +12,15 @@ use Rattle.radio_seats.specs.declared.seat.Seating.TheVariants.{Sits as HasSeat,
 use Rattle.radio_core.specs.declared.standing.Standing.{Standing}
 use Rattle.radio_core.specs.declared.standing.Standing.TheVariants.{Unknown, Undecided as IsUndecided, Feeds as IsFeeding, Sits}
 use Rattle.radio_core.specs.declared.standing.Standing.TheVariants.{Answered as IsAnswered, Finished}
+use Rattle.radio_core.specs.declared.relays.RelayState.{RelayState}
+use Rattle.radio_core.specs.declared.relays.RelayState.TheVariants.{Feeds as RelayFeeds, Ended as RelayEnded}
 use Rattle.radio_core.specs.Clients.{Client, client_of}
+use Rattle.radio_core.specs.Relays.{Relay, relay_of}
 use Rattle.radio_seats.specs.Seats.{listener_of}
 
 -- the house, and the table of those who listen in it
 pub record World : Type 0 where
-  -- the moment, the settings and their lists, the live sessions, the fallbacks that were set, the clients, and the number that was given last
+  -- the moment, the settings and their lists, the live sessions, the fallbacks that were set, the clients, the relays, and the number that was given last
   pub house : House
   -- the listeners, in order of their numbers
   pub seats : List Listener
@@ -25,7 +28,7 @@ pub record World : Type 0 where
 -- nothing has happened yet
 abbrev pub opening : Settings → Lists → World
 opening settings lists = record {
-  house = record { time = 0; settings = settings; lists = lists; live = []; fallbacks = []; clients = []; last_id = 0 };
+  house = record { time = 0; settings = settings; lists = lists; live = []; fallbacks = []; clients = []; relays = []; last_id = 0 };
   seats = [];
 }
 
@@ -46,10 +49,23 @@ standing_by listener peer Listens = standing_of_listener listener
 standing_by listener peer Answered = IsAnswered
 standing_by listener peer (Ended rule) = Finished rule
 
-abbrev pub standing_in : Option Listener → Option Client → Standing
-standing_in listener None = Unknown
-standing_in listener (Some client) = standing_by listener client.peer client.state
+-- and how a relay stands that does this
+abbrev pub standing_relayed : RelayState → Standing
+standing_relayed (RelayFeeds mount) = IsFeeding mount
+standing_relayed (RelayEnded rule) = Finished rule
 
--- how the client of this number stands
+abbrev pub standing_of_relay : Option Relay → Standing
+standing_of_relay None = Unknown
+standing_of_relay (Some relay) = standing_relayed relay.state
+
+abbrev pub standing_in : Option Relay → Option Listener → Option Client → Standing
+standing_in relay listener None = standing_of_relay relay
+standing_in relay listener (Some client) = standing_by listener client.peer client.state
+
+-- how the client, or the relay, of this number stands
 abbrev pub standing_of : World → ℕ → Standing
-standing_of w id = standing_in (listener_of w.seats id) (client_of w.house.clients id)
+standing_of w id = standing_in (relay_of w.house.relays id) (listener_of w.seats id) (client_of w.house.clients id)
+
+-- there is a relay of this number
+abbrev pub has_relay : World → ℕ → Bool
+has_relay w id = is_some (relay_of w.house.relays id)

@@ -1,9 +1,9 @@
 //! What is looked up in the house for the policy.
 
-ghost use Rattle.std.specs.Prelude.{◌≡◌};
+ghost use Rattle.std.specs.Prelude.{◌≡◌, true, false, MatchOption};
 ghost use Rattle.std.specs.Option.{option_copied};
 ghost use Rattle.radio_settings.specs.Options.{options_for};
-ghost use Rattle.radio_core.specs.Facts.{arrive_facts, source_facts_at, listen_facts_at, walks_to, is_full, is_in_settings, is_known, fallback_of};
+ghost use Rattle.radio_core.specs.Facts.{arrive_facts, source_facts_at, relay_facts_at, listen_facts_at, walks_to, is_full, is_in_settings, is_known, fallback_of, names_mount};
 
 use crate::house::House;
 use radio_access::{is_refused_type, is_source_pair};
@@ -12,11 +12,23 @@ use radio_blocks::Place;
 use radio_creds::Pair;
 use radio_events::SourceRequest;
 use radio_fallback::{Landing, StreamEnd, View, Walk, walk_from};
-use radio_policy::{ArriveFacts, ListenFacts, SourceFacts};
+use radio_policy::{ArriveFacts, ListenFacts, RelayFacts, SourceFacts};
 use radio_seats::Seats;
-use radio_settings::{MountName, Settings};
+use radio_settings::{MountName, Settings, Shown};
 
 impl House {
+    /// The mount that a path names; `None` where it names none, or is one of the web site's.
+    pub(crate) fn mount_named(&self, path: &[u8]) -> Option<MountName>
+        ensures { MatchOption result (names_mount self.now.settings path.now ≡ false)
+            (λ mount. (names_mount self.now.settings path.now ≡ true) × (mount ≡ path.now)) }
+    {
+        let mount = MountName::read(path)?;
+        if self.settings.web.has(path) {
+            return None;
+        }
+        Some(mount)
+    }
+
     /// What is looked up for a connection that arrives from this address.
     pub(crate) fn arrive_facts(&self, peer: Peer) -> ArriveFacts
         ensures { result ≡ arrive_facts self.now peer }
@@ -38,6 +50,18 @@ impl House {
             sources_are_full: is_full(self.live.len(), self.settings.limits.sources.get()),
             mount_is_live: self.session(mount).is_some(),
             type_is_refused: is_refused_type(asked.shown.content_type.as_bytes()),
+        }
+    }
+
+    /// What is looked up for a relay that wants to feed the mount, and shows this.
+    pub(crate) fn relay_facts(&self, mount: &MountName, shown: &Shown) -> RelayFacts
+        ensures { result ≡ relay_facts_at self.now mount.now shown.now }
+    {
+        RelayFacts {
+            sources_are_full: is_full(self.live.len(), self.settings.limits.sources.get()),
+            mount_is_live: self.session(mount).is_some(),
+            type_is_refused: is_refused_type(shown.content_type.as_bytes()),
+            number_is_spent: self.last_id == u64::MAX,
         }
     }
 

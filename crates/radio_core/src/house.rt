@@ -3,24 +3,27 @@
 ghost use Rattle.std.specs.Prelude.{◌≡◌, find, map, unwrap_or, IfOk, OnOk, OnErr};
 ghost use Rattle.std.specs.Cmp.Lexicographic.{slice_cmp};
 ghost use Rattle.std.specs.List.Sorted.{IsStrictlySortedBy};
-ghost use Rattle.std.specs.Option.{option_copied};
+ghost use Rattle.std.specs.Option.{option_copied, option_map};
 ghost use Rattle.std.specs.Ordering.{nat_cmp};
-ghost use Rattle.radio_parts.specs.Sessions.{Session as SessionOf, session_of};
+ghost use Rattle.radio_parts.specs.Sessions.{Session as SessionOf, session_of, with_session};
 ghost use Rattle.radio_core.specs.Facts.{live_end, live_number};
+ghost use Rattle.radio_core.specs.Relays.{Relay as RelayOf, relay_of, risen, with_relay, put_back};
 ghost use Rattle.radio_core.specs.Source.{shown_for};
-ghost use Rattle.radio_core.specs.Changes.{now_in_state, admitted, begun, retitled, falling_back, timed_out_by};
+ghost use Rattle.radio_core.specs.Changes.{now_in_state, admitted, begun, raised, finished_in, retitled, falling_back, timed_out_by};
 ghost use Rattle.radio_core.specs.KeptChanges.{kept_received};
 ghost use Rattle.radio_parts.specs.Timeouts.{is_silent};
 
 use crate::OutOfMemory;
 use crate::clients::{Client, ClientState, SetState};
 use crate::fallbacks::Fallback;
+use crate::relays::{Relay, RelayState, SetRelayState};
 use crate::timeouts::TimesOut;
 use radio_access::Lists;
 use radio_addr::Peer;
 use radio_blocks::Block;
 use radio_icy::Title;
 use radio_parts::{Delivers, NewTitle, Session, first_silent};
+use radio_policy::Rule;
 use radio_settings::{Field, MountName, Settings, Shown};
 use radio_tables::Table;
 use std::alloc::Global;
@@ -39,7 +42,9 @@ pub struct House {
     pub(crate) fallbacks: Table<Fallback>,
     /// The clients, in the order of their numbers.
     pub(crate) clients: Table<Client>,
-    /// The number that was given last.
+    /// The relays, in the order of their numbers.
+    pub(crate) relays: Table<Relay>,
+    /// The number that was given last, to a client or a relay.
     pub(crate) last_id: u64,
 }
 
@@ -123,6 +128,83 @@ impl House {
         self.live.insert(session)?;
         self.set_state(id, ClientState::Feeds(mount));
         Ok(())
+    }
+
+    /// A relay has come up with this number, and feeds the mount from now on. `OutOfMemory` where
+    /// memory was refused; nothing has changed then.
+    pub(crate) fn raise(
+        &mut self,
+        alloc: Global,
+        id: u64,
+        mount: MountName,
+        shown: Shown,
+    ) -> Result<(), OutOfMemory>
+        ensures ok { OnOk result (self.new ≡ raised self.old id mount shown) }
+        ensures err { OnErr result (self.new ≡ self.old) }
+    {
+        let session = Session::new(alloc, mount, id, shown, self.time)?;
+        self.insert_both(id, mount, session)?;
+        self.last_id = id;
+        Ok(())
+    }
+
+    /// One relay more, which feeds the mount, and one session. `OutOfMemory` where memory was refused
+    /// for either; nothing has changed then.
+    fn insert_both(
+        &mut self,
+        id: u64,
+        mount: MountName,
+        session: Session,
+    ) -> Result<(), OutOfMemory>
+        ensures ok { OnOk result (self.new ≡ record self.old {
+          live = with_session self.old.live session;
+          relays = with_relay self.old.relays (risen id mount);
+        }) }
+        ensures err { OnErr result (self.new ≡ self.old) }
+    {
+        let before = self.relay_state(id);
+        // their numbers rise, so that what is put back is what was there
+        let _relays = self.relays.len();
+        self.relays.insert(Relay {
+            id,
+            state: RelayState::Feeds(mount),
+        })?;
+        match self.live.insert(session) {
+            Ok(()) => Ok(()),
+            Err(refused) => {
+                self.put_relay_back(id, before);
+                Err(refused)
+            }
+        }
+    }
+
+    /// What the relay of this number does, if it is there.
+    fn relay_state(&self, id: u64) -> Option<RelayState>
+        ensures { result ≡ option_map (λ (relay : RelayOf). relay.state) (relay_of self.now.relays id) }
+    {
+        match self.relays.get(&id) {
+            Some(relay) => Some(relay.state),
+            None => None,
+        }
+    }
+
+    /// The relay of this number is as it was before. It takes no memory.
+    fn put_relay_back(&mut self, id: u64, before: Option<RelayState>)
+        ensures { self.new ≡ record self.old { relays = put_back self.old.relays id before } }
+    {
+        match before {
+            Some(state) => self.relays.change(&id, &SetRelayState { state }),
+            None => drop(self.relays.remove(&id)),
+        }
+    }
+
+    /// The rule finishes the client, or the relay, of this number. It takes no memory.
+    pub(crate) fn finish(&mut self, id: u64, rule: Rule)
+        ensures { self.new ≡ finished_in self.old id rule }
+    {
+        self.set_state(id, ClientState::Ended(rule));
+        let state = RelayState::Ended(rule);
+        self.relays.change(&id, &SetRelayState { state });
     }
 
     /// The mount's session has delivered a block, and of its stream the last blocks are kept, as far

@@ -4,7 +4,7 @@
 //! - [`clients_stand_by_their_events`] and the other functions of `laws`: what an event can do to
 //!   one client, one seat and one session, in every run. The laws of every run stand on them
 //!   (`radio_laws`).
-//! - [`House`], [`ClientState`], [`Standing`], [`Outcome`], [`Change`]: the words in which contracts
+//! - [`House`], [`ClientState`], [`RelayState`], [`Standing`], [`Outcome`], [`Change`]: the words in which contracts
 //!   and laws speak of the state, and of what comes of an event. No call takes or gives one.
 //!
 //! The state has two parts: the house (the settings, the live mounts' sessions, the clients), and
@@ -20,6 +20,7 @@ mod fallbacks;
 mod house;
 mod laws;
 mod outcome;
+mod relays;
 mod server;
 mod standing;
 mod timeouts;
@@ -33,6 +34,7 @@ pub use laws::{
     sources_are_told_by_their_data,
 };
 pub use outcome::{Change, Outcome};
+pub use relays::RelayState;
 pub use server::Core;
 pub use standing::Standing;
 pub use totals::clients_and_seats_add_up;

@@ -28,6 +28,12 @@ pub enum Change {
         mount: MountName,
         shown: Shown,
     },
+    /// A relay has come up, has this number, and feeds the mount from now on: a session begins.
+    Raise {
+        id: u64,
+        mount: MountName,
+        shown: Shown,
+    },
     /// The mount's session has delivered a block; listeners too far behind lose their seats.
     Receive {
         mount: MountName,
@@ -53,12 +59,12 @@ pub enum Change {
         id: u64,
         mount: MountName,
     },
-    /// The mount's session ends, and nothing is left of its source.
+    /// The mount's session ends, and nothing is left of its source or relay.
     EndAndLeave {
         id: u64,
         mount: MountName,
     },
-    /// Nothing is left of the client.
+    /// Nothing is left of the client or relay.
     Forget {
         id: u64,
     },
@@ -90,6 +96,16 @@ impl Outcome {
     {
         Outcome {
             reply: Reply::Stray,
+            change: Change::Nothing,
+        }
+    }
+
+    /// The policy denies it by the rule, and nothing changes.
+    pub(crate) fn denied(rule: Rule) -> Outcome
+        ensures { result ≡ says (Reply.Deny rule) Change.Nothing }
+    {
+        Outcome {
+            reply: Reply::Deny(rule),
             change: Change::Nothing,
         }
     }

@@ -27,7 +27,9 @@ mod leave;
 mod listen;
 mod listings;
 mod obey;
+mod pages;
 mod push;
+mod relay;
 mod source;
 mod source_end;
 mod state;
@@ -77,11 +79,19 @@ impl Core {
         let _ = &self.state;
     }
 
+    /// The settings that it was given.
+    pub fn settings(&self) -> &Settings
+        // they are those of whatever state it stands for
+        ensures { (w : World) → Represents self.now w → result.now ≡ w.house.settings }
+    {
+        self.state.settings()
+    }
+
     /// One event. `OutOfMemory` where memory was refused; nothing has changed then.
     pub fn step(&mut self, event: Event) -> Result<Reply, OutOfMemory>
         // whatever state the core stands for, the reply is that of a step from it, and the core stands for the state after it
         ensures step { (w : World) → Represents self.old w → IfOk result (λ reply. (w' : World) × Step w event reply w' × Represents self.new w') }
-        // the end of a session and of a connection, and the clock, are never refused
+        // the end of a session, of a connection and of a relay, and the clock, are never refused
         ensures frees { TakesNoMemory event → IsOk result }
         ensures err { OnErr result (self.new ≡ self.old) }
     {
@@ -96,7 +106,7 @@ impl Core {
         ensures step { (w : World) → Represents self.old w
             → IfOk result (λ replies. (reply : ReplyOf) × (w' : World) × Step w event reply w' × (replies ≡ reply ∷ reply ∷ reply ∷ [])
             × Represents self.new w') }
-        // the end of a session and of a connection, and the clock, are never refused
+        // the end of a session, of a connection and of a relay, and the clock, are never refused
         ensures frees { TakesNoMemory event → IsOk result }
         ensures err { OnErr result (self.new ≡ self.old) }
     {

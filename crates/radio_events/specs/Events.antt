@@ -1,9 +1,10 @@
 -- Whose events are, and which take no memory.
 use Rattle.std.specs.Prelude.{ℕ, Option, Some, None}
 use Rattle.radio_events.specs.declared.event.Event.{Event}
-use Rattle.radio_events.specs.declared.event.Event.TheVariants.{Arrive, Source, Push, SourceEnd, Title, Listen, Draw, Command, Leave, Clock}
+use Rattle.radio_events.specs.declared.event.Event.TheVariants.{Arrive, Source, Push, SourceEnd, Title, Listen, Draw, Command, Leave}
+use Rattle.radio_events.specs.declared.event.Event.TheVariants.{RelayUp, RelayDown, Clock}
 
--- the client of an event; an arrival and the clock have none
+-- the client or relay of an event; one that comes, and the clock, have none
 abbrev pub client_in : Event → Option ℕ
 client_in (Arrive peer) = None
 client_in (Source asked) = Some asked.id
@@ -14,11 +15,14 @@ client_in (Listen asked) = Some asked.id
 client_in (Draw id room) = Some id
 client_in (Command asked) = Some asked.id
 client_in (Leave id) = Some id
+client_in (RelayUp mount shown) = None
+client_in (RelayDown id) = Some id
 client_in (Clock ms) = None
 
--- the end of a session and of a connection, and the clock, are never refused for want of memory
+-- the end of a session, of a connection and of a relay, and the clock, are never refused for want of memory
 abbrev pub TakesNoMemory : Event → Type 0
 TakesNoMemory (SourceEnd id) = Unit {0}
 TakesNoMemory (Leave id) = Unit {0}
+TakesNoMemory (RelayDown id) = Unit {0}
 TakesNoMemory (Clock ms) = Unit {0}
 TakesNoMemory _ = ⊥

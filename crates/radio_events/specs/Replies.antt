@@ -5,7 +5,7 @@ use Rattle.radio_events.specs.Texts.{IsShort}
 
 -- it has neither data nor names, titles or listings
 abbrev pub HoldsNoText : Reply → Type 0
-HoldsNoText (Seated interval shown) = ⊥
+HoldsNoText (Seated interval head) = ⊥
 HoldsNoText (Drawn pieces title) = ⊥
 HoldsNoText (Text text) = IsShort text
 HoldsNoText reply = Unit {0}

@@ -1,18 +1,21 @@
 -- What is answered to a command, or to one who is shown something of the station.
 use Rattle.std.specs.Prelude.{ℕ, List, ◌++◌, codes, decimal}
 use Rattle.radio_events.specs.declared.text.Text.{Text}
-use Rattle.radio_events.specs.declared.text.Text.TheVariants.{Done, Moved, Json, Streams}
+use Rattle.radio_events.specs.declared.text.Text.TheVariants.{Done, Moved, Json, Streams, Public, Page}
 
--- its bytes: a line that it was done, or how many listeners went to another mount; a listing as it is
-abbrev pub bytes_of : Text → List ℕ
-bytes_of Done = codes "done\n"
-bytes_of (Moved count) = codes "moved: " ++ decimal count ++ codes "\n"
-bytes_of (Json bytes) = bytes
-bytes_of (Streams bytes) = bytes
+-- a line that a command was done
+abbrev pub done_line : List ℕ
+done_line = codes "done\n"
 
--- it is no listing
+-- a line that tells how many listeners went to another mount
+abbrev pub moved_line : ℕ → List ℕ
+moved_line count = codes "moved: " ++ decimal count ++ codes "\n"
+
+-- it is neither a listing nor the page
 abbrev pub IsShort : Text → Type 0
 IsShort Done = Unit {0}
 IsShort (Moved count) = Unit {0}
 IsShort (Json bytes) = ⊥
 IsShort (Streams bytes) = ⊥
+IsShort (Public bytes origin) = ⊥
+IsShort (Page origin) = ⊥

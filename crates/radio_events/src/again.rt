@@ -4,15 +4,17 @@ ghost use Rattle.std.specs.Prelude.{◌≡◌, IsOk, IfOk};
 ghost use Rattle.radio_events.specs.Events.{TakesNoMemory};
 
 use crate::{Asked, Command, CommandRequest, Event, ListenRequest, OutOfMemory, SourceRequest};
+use bytes::Bytes;
 use radio_blocks::Block;
 use radio_creds::Pair;
 use radio_icy::Title;
+use radio_settings::Shown;
 
 impl Event {
     /// An equal event. `OutOfMemory` where memory was refused.
     pub fn again(&self) -> Result<Event, OutOfMemory>
         ensures value { IfOk result (λ event. event ≡ self.now) }
-        // of the end of a session and of a connection, and of the clock, it is never refused
+        // of the end of a session, a connection and a relay, and of the clock, it is never refused
         ensures frees { TakesNoMemory self.now → IsOk result }
     {
         match self {
@@ -28,6 +30,8 @@ impl Event {
             }),
             Event::Command(asked) => Ok(Event::Command(request_again(asked)?)),
             Event::Leave { id } => Ok(Event::Leave { id: *id }),
+            Event::RelayUp { mount, shown } => relay_again(mount, shown),
+            Event::RelayDown { id } => Ok(Event::RelayDown { id: *id }),
             Event::Clock { ms } => Ok(Event::Clock { ms: *ms }),
         }
     }
@@ -53,6 +57,16 @@ fn title_again(id: u64, text: &Title) -> Result<Event, OutOfMemory>
     })
 }
 
+/// The same relay's coming. `OutOfMemory` where memory was refused.
+fn relay_again(mount: &Bytes, shown: &Shown) -> Result<Event, OutOfMemory>
+    ensures { IfOk result (λ event. event ≡ Event.RelayUp mount.now shown.now) }
+{
+    Ok(Event::RelayUp {
+        mount: mount.clone()?,
+        shown: shown.clone()?,
+    })
+}
+
 /// An equal request. `OutOfMemory` where memory was refused.
 fn source_again(asked: &SourceRequest) -> Result<SourceRequest, OutOfMemory>
     ensures { IfOk result (λ again. again ≡ asked.now) }
@@ -74,6 +88,7 @@ fn listen_again(asked: &ListenRequest) -> Result<ListenRequest, OutOfMemory>
         mount: asked.mount.clone()?,
         pair: pair_again(&asked.pair)?,
         wants_metadata: asked.wants_metadata,
+        host: asked.host.clone()?,
     })
 }
 

@@ -32,29 +32,60 @@ pub struct ListenRequest {
     pub pair: Option<Pair>,
     /// Whether he wants metadata between the data (ICY convention, `Icy-MetaData`).
     pub wants_metadata: bool,
+    /// The host by which he calls the server (RFC 9110, section 7.2), where he asks for what is told
+    /// in full addresses; else, and where he calls it by none, empty.
+    pub host: Bytes,
 }
 
 /// What happens to the server.
 #[derive(Drop)]
 pub enum Event {
     /// A connection comes from this address.
-    Arrive { peer: Peer },
+    Arrive {
+        peer: Peer,
+    },
     /// A client wants to feed a mount.
     Source(SourceRequest),
     /// The source has delivered a block.
-    Push { id: u64, block: Block },
+    Push {
+        id: u64,
+        block: Block,
+    },
     /// The source has come to the end of its data.
-    SourceEnd { id: u64 },
+    SourceEnd {
+        id: u64,
+    },
     /// The source tells what is on the air from now on.
-    Title { id: u64, text: Title },
+    Title {
+        id: u64,
+        text: Title,
+    },
     /// A client wants to hear a mount.
     Listen(ListenRequest),
     /// The listener has room for so many bytes of data.
-    Draw { id: u64, room: u32 },
+    Draw {
+        id: u64,
+        room: u32,
+    },
     /// A client gives a command.
     Command(CommandRequest),
     /// The client's connection is closed.
-    Leave { id: u64 },
+    Leave {
+        id: u64,
+    },
+    /// A relay's master has answered, and the relay wants to feed a mount.
+    RelayUp {
+        /// The name of the mount, which need not be one.
+        mount: Bytes,
+        /// What the head of the master's answer tells of the stream.
+        shown: Shown,
+    },
+    /// The relay's connection to its master is closed.
+    RelayDown {
+        id: u64,
+    },
     /// It is this moment, in milliseconds; one that has passed does not count.
-    Clock { ms: u64 },
+    Clock {
+        ms: u64,
+    },
 }

@@ -17,7 +17,7 @@ mod text;
 
 pub use command::{Asked, Command, CommandRequest, Listing, OpenedBy};
 pub use event::{Event, ListenRequest, SourceRequest};
-pub use reply::Reply;
+pub use reply::{Reply, StreamHead};
 pub use text::Text;
 
 /// What a call answers where memory was refused. Nothing has changed then.

@@ -4,12 +4,35 @@ use crate::{OutOfMemory, Text};
 use radio_blocks::Pieces;
 use radio_icy::Title;
 use radio_policy::Rule;
-use radio_settings::Shown;
+use radio_settings::{AllowedOrigin, Shown};
+
+/// What the head of a listener's stream says.
+#[derive(Drop)]
+pub struct StreamHead {
+    /// What the session shows that he hears.
+    pub shown: Shown,
+    /// Whose pages may read the stream (`Access-Control-Allow-Origin`), where the settings say it.
+    pub allow_origin: Option<AllowedOrigin>,
+}
+
+impl StreamHead {
+    ghost use Rattle.std.specs.Prelude.{◌≡◌, IfOk};
+
+    /// An equal one. `OutOfMemory` where memory was refused.
+    pub fn again(&self) -> Result<StreamHead, OutOfMemory>
+        ensures { IfOk result (λ head. head ≡ self.now) }
+    {
+        Ok(StreamHead {
+            shown: self.shown.clone()?,
+            allow_origin: self.allow_origin.clone()?,
+        })
+    }
+}
 
 /// What the server replies to an event.
 #[derive(Drop)]
 pub enum Reply {
-    /// The client has this number from now on.
+    /// The client, or the relay, has this number from now on.
     Arrived(u64),
     /// The client feeds the mount from now on.
     Feeding,
@@ -17,8 +40,8 @@ pub enum Reply {
     Seated {
         /// After how many bytes of data he is sent a metadata block, if he asked for metadata.
         interval: Option<u32>,
-        /// What the session shows that he hears.
-        shown: Shown,
+        /// What his head says beside it.
+        head: StreamHead,
     },
     /// The listener's next data.
     Drawn {
@@ -33,9 +56,10 @@ pub enum Reply {
     Text(Text),
     /// The policy denies it, by this rule.
     Deny(Rule),
-    /// The client was finished before, by this rule.
+    /// The client or relay was finished before, by this rule.
     Finished(Rule),
-    /// The event does not fit the client, or there is none of that number; nothing has changed.
+    /// The event does not fit the client or relay, or there is none of that number; nothing has
+    /// changed.
     Stray,
 }
 
@@ -52,9 +76,9 @@ impl Reply {
         match self {
             Reply::Arrived(id) => Ok(Reply::Arrived(*id)),
             Reply::Feeding => Ok(Reply::Feeding),
-            Reply::Seated { interval, shown } => Ok(Reply::Seated {
+            Reply::Seated { interval, head } => Ok(Reply::Seated {
                 interval: *interval,
-                shown: shown.clone()?,
+                head: head.again()?,
             }),
             Reply::Drawn { pieces, title } => Ok(Reply::Drawn {
                 pieces: pieces.again()?,

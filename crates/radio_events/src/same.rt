@@ -6,13 +6,13 @@ ghost use Rattle.radio_events.specs.Events.{TakesNoMemory};
 use crate::data::is_same_data;
 use crate::{
     Asked, Command, CommandRequest, Event, ListenRequest, Listing, OpenedBy, Reply, SourceRequest,
-    Text,
+    StreamHead, Text,
 };
 use radio_addr::Peer;
 use radio_creds::Pair;
 use radio_icy::Title;
 use radio_policy::Rule;
-use radio_settings::{MountName, Shown};
+use radio_settings::{AllowedOrigin, MountName, Shown};
 
 impl Event {
     /// Whether the two events are equal.
@@ -33,18 +33,22 @@ impl Event {
                 *a == *b && *x == *y
             }
             (Event::Command(a), Event::Command(b)) => is_same_request(a, b),
+            (Event::RelayUp { mount: a, shown: x }, Event::RelayUp { mount: b, shown: y }) => {
+                is_same_bytes(a.as_slice(), b.as_slice()) && is_same_shown(x, y)
+            }
             _ => is_same_end_or_clock(self, other),
         }
     }
 }
 
-/// Whether both are one end of a source, one end of a connection or one moment.
+/// Whether both are one end of a source, of a connection or of a relay, or one moment.
 fn is_same_end_or_clock(a: &Event, b: &Event) -> bool
     ensures { IsTrue result ↔ TakesNoMemory a.now × (a.now ≡ b.now) }
 {
     match (a, b) {
         (Event::SourceEnd { id: a }, Event::SourceEnd { id: b }) => *a == *b,
         (Event::Leave { id: a }, Event::Leave { id: b }) => *a == *b,
+        (Event::RelayDown { id: a }, Event::RelayDown { id: b }) => *a == *b,
         (Event::Clock { ms: a }, Event::Clock { ms: b }) => *a == *b,
         _ => false,
     }
@@ -61,13 +65,13 @@ impl Reply {
             (
                 Reply::Seated {
                     interval: a,
-                    shown: x,
+                    head: x,
                 },
                 Reply::Seated {
                     interval: b,
-                    shown: y,
+                    head: y,
                 },
-            ) => *a == *b && is_same_shown(x, y),
+            ) => *a == *b && is_same_head(x, y),
             (
                 Reply::Drawn {
                     pieces: a,
@@ -104,6 +108,7 @@ fn is_same_listener(a: &ListenRequest, b: &ListenRequest) -> bool
         && a.wants_metadata == b.wants_metadata
         && is_same_bytes(a.mount.as_slice(), b.mount.as_slice())
         && is_same_pair(&a.pair, &b.pair)
+        && is_same_bytes(a.host.as_slice(), b.host.as_slice())
 }
 
 fn is_same_request(a: &CommandRequest, b: &CommandRequest) -> bool
@@ -237,6 +242,33 @@ fn is_same_text(a: &Text, b: &Text) -> bool
         (Text::Moved(a), Text::Moved(b)) => *a == *b,
         (Text::Json(a), Text::Json(b)) => is_same_bytes(a.as_slice(), b.as_slice()),
         (Text::Streams(a), Text::Streams(b)) => is_same_bytes(a.as_slice(), b.as_slice()),
+        (
+            Text::Public {
+                bytes: a,
+                allow_origin: x,
+            },
+            Text::Public {
+                bytes: b,
+                allow_origin: y,
+            },
+        ) => is_same_bytes(a.as_slice(), b.as_slice()) && is_same_origin(x, y),
+        (Text::Page { allow_origin: a }, Text::Page { allow_origin: b }) => is_same_origin(a, b),
+        _ => false,
+    }
+}
+
+fn is_same_head(a: &StreamHead, b: &StreamHead) -> bool
+    ensures { IsTrue result ↔ a.now ≡ b.now }
+{
+    is_same_shown(&a.shown, &b.shown) && is_same_origin(&a.allow_origin, &b.allow_origin)
+}
+
+fn is_same_origin(a: &Option<AllowedOrigin>, b: &Option<AllowedOrigin>) -> bool
+    ensures { IsTrue result ↔ a.now ≡ b.now }
+{
+    match (a, b) {
+        (Some(a), Some(b)) => is_same_bytes(a.as_bytes(), b.as_bytes()),
+        (None, None) => true,
         _ => false,
     }
 }

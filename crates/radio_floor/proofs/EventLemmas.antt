@@ -1,6 +1,6 @@
 -- Deliveries come to events.
 use Rattle.std.proofs.Common.{◌≡◌, ℕ, Bool, true, false, cond, List, [], ◌∷◌, ◌++◌, Option, None, Some, Result, Ok, Err, inl, inr, refl, sym, ap, subst, ◌∙◌}
-use Rattle.std.specs.Prelude.{drop, codes}
+use Rattle.std.specs.Prelude.{drop, codes, map}
 use Rattle.std.specs.Str.{bytes_eq}
 use Rattle.radio_addr.specs.declared.peer.Peer.{Peer}
 use Rattle.radio_settings.specs.declared.settings.Settings.{Settings}
@@ -11,7 +11,7 @@ use Rattle.radio_heads.specs.declared.outcome.HeadFault.{HeadFault}
 use Rattle.radio_heads.specs.Head.{RequestParts}
 use Rattle.radio_policy.specs.declared.rule.Rule.TheVariants.{BadMethod}
 use Rattle.radio_events.specs.declared.event.Event.{Event}
-use Rattle.radio_events.specs.declared.event.Event.TheVariants.{Arrive, Draw, Title, Leave, Clock}
+use Rattle.radio_events.specs.declared.event.Event.TheVariants.{Arrive, Draw, Title, Leave, RelayDown, Clock}
 use Rattle.radio_core.specs.Run.{world_after_all}
 use Rattle.radio_core.specs.Step.{reply_to, world_after}
 use Rattle.radio_core.specs.World.{World}
@@ -29,13 +29,21 @@ use Rattle.radio_session.specs.Hearing.{Heard, HearsAs, delivered, greeted, head
 use Rattle.radio_session.specs.Hearing.{refuses, source_heard}
 use Rattle.radio_session.specs.Saying.{Said, said}
 use Rattle.radio_script.specs.declared.delivery.Delivery.{Delivery}
-use Rattle.radio_script.specs.declared.delivery.Delivery.TheVariants.{Open, To, Clock as ClockIs}
+use Rattle.radio_script.specs.declared.delivery.Delivery.TheVariants.{Open, Pull, To, Clock as ClockIs}
 use Rattle.radio_script.specs.declared.delivery.Input.{Input}
 use Rattle.radio_script.specs.declared.delivery.Input.TheVariants.{Data, Room, Title as Named, End}
 use Rattle.radio_script.proofs.SimulationLemmas.{runs}
-use Rattle.radio_floor.specs.ScriptEvents.{ComeAbout, ComesToEvents, Nothing as NoEvents, Arrives, Ticks, Exchanges, IsAskedBy, Traced, traces, ComeToEvents}
-use Rattle.radio_floor.specs.ScriptState.{ScriptState, Performed, ComesTo, IsPerformed, on_connection, connection_of, opening_script}
-use Rattle.radio_floor.specs.ScriptState.{opens, closes, exchanges, for_new_label}
+use Rattle.radio_floor.specs.ScriptEvents.{ComeAbout, ComesToEvents, Nothing as NoEvents, Arrives, Ticks, Exchanges, Pulls, IsAskedBy, IsAskedByRelay, Traced, traces, ComeToEvents}
+use Rattle.radio_floor.specs.declared.labelled.Connection.{Connection}
+use Rattle.radio_floor.specs.declared.labelled.Connection.TheVariants.{Client, Relay}
+use Rattle.radio_floor.specs.ScriptState.{ScriptState, Performed, AsksOn, ComesTo, ComesToClient, ComesToRelay, IsPerformed, on_connection, connection_of}
+use Rattle.radio_floor.specs.ScriptState.{opening_script, opens, connects, relay_named, closes, exchanges, for_new_label, pulled_on}
+use Rattle.radio_settings.specs.declared.settings.RelaySetting.{RelaySetting}
+use Rattle.radio_pull.specs.Pulling.{Pulling, event_of}
+use Rattle.radio_relay.specs.Items.{items_of}
+use Rattle.radio_session.specs.declared.state.Ending.TheVariants.{Done}
+use Rattle.std.specs.Option.{option_map}
+use Rattle.radio_floor.proofs.PullEventLemmas.{LeadBy, PullLeads, asks_lead, goes_lead, one_more, takes_lead}
 use Rattle.radio_floor.specs.Transcript.{conduct, IsTranscriptOf}
 
 -- what is heard on a connection is of its client still
@@ -71,36 +79,20 @@ module _ (conversation : Conversation) where
       ap (λ (x : Heard). x.conversation.id) h ∙ of_choice conversation (delivered (nothing_held conversation) _ _) refl (λ word. refl) _
   of_heard Nothing bytes heard h = ap (λ (x : Heard). x.conversation.id) h
 
--- these events come about of what is asked for a client, and lead from the one state to the other
-abbrev LeadBy : World → ℕ → List Event → World → Type 0
-LeadBy w id asked later = (events : List Event) × ComeAbout id asked events × (later ≡ world_after_all w events)
-
--- one event more in front
-one_more : (id : ℕ) (event : Event) (asked events : List Event) → ComeAbout id asked events → ComeAbout id (event ∷ asked) (event ∷ events)
-one_more id event asked events c = record {
-  front = event ∷ c.front;
-  rest = c.rest;
-  in_order = ap (λ (xs : List Event). event ∷ xs) c.in_order;
-  come = elim c.come [
-    | inl e ↦ inl (ap (λ (xs : List Event). event ∷ xs) e)
-    | inr e ↦ inr (ap (λ (xs : List Event). event ∷ xs) e)
-  ];
-}
-
 -- the connection has ended with the event, and its client leaves, unless that is what it was
 left_by : (w : World) (id : ℕ) (event : Event) (asked : List Event) (leaves : Bool)
-    → LeadBy w id (event ∷ asked) (cond leaves (world_after w event) (world_after (world_after w event) (Leave id)))
+    → LeadBy w (Leave id) (event ∷ asked) (cond leaves (world_after w event) (world_after (world_after w event) (Leave id)))
 left_by w id event asked true = (event ∷ [], record { front = event ∷ []; rest = asked; in_order = refl; come = inl refl }, refl)
 left_by w id event asked false = (event ∷ Leave id ∷ [], record { front = event ∷ []; rest = asked; in_order = refl; come = inr refl }, refl)
 
 then_lead : (w : World) (id : ℕ) (event : Event) (asked : List Event) (told : Said) (state : State) (others : WorldExchange)
-    → LeadBy (world_after w event) id asked others.world
-    → LeadBy w id (event ∷ asked) (then_exchanged (world_after w event) id event told state others).world
-then_lead w id event asked told Running others (events, come, leads) = (event ∷ events, one_more id event asked events come, leads)
+    → LeadBy (world_after w event) (Leave id) asked others.world
+    → LeadBy w (Leave id) (event ∷ asked) (then_exchanged (world_after w event) id event told state others).world
+then_lead w id event asked told Running others (events, come, leads) = (event ∷ events, one_more (Leave id) event asked events come, leads)
 then_lead w id event asked told (Shut ending) others lead = left_by w id event asked (is_leave event)
 
 -- what is exchanged for a client leads by some of its events
-exchanges_lead : (w : World) (id : ℕ) (says : Says) (asked : List Event) → LeadBy w id asked (exchanged w id says asked).world
+exchanges_lead : (w : World) (id : ℕ) (says : Says) (asked : List Event) → LeadBy w (Leave id) asked (exchanged w id says asked).world
 exchanges_lead w id says [] = ([], record { front = []; rest = []; in_order = refl; come = inl refl }, refl)
 exchanges_lead w id says (event ∷ asked) =
     let told = said says (reply_to w event) in
@@ -114,19 +106,19 @@ comes_as : (state : ScriptState) (delivery : Delivery) (p q : Performed) → p �
 comes_as state delivery p q e c = subst (λ (x : Performed). Comes state delivery x.state) (sym e) c
 
 module _ (state : ScriptState) (label : ℕ) where
-  opened : (peer : Peer) (found : Option (Option Conversation)) → Comes state (Open label peer) (for_new_label state (opens state label peer) found).state
+  opened : (peer : Peer) (found : Option (Option Connection)) → Comes state (Open label peer) (for_new_label state (opens state label peer) found).state
   opened peer None = (Arrive peer ∷ [], Arrives label peer, refl)
   opened peer (Some connection) = ([], NoEvents (Open label peer), refl)
 
-  module _ (conversation : Conversation) (connected : connection_of state.connections label ≡ Some (Some conversation)) where
+  module _ (conversation : Conversation) (connected : connection_of state.connections label ≡ Some (Some (Client conversation))) where
     exchange_comes : (input : Input) (now : Conversation) (asked : List Event) → now.id ≡ conversation.id → IsAskedBy conversation input asked
         → Comes state (To label input) (exchanges state label now asked).state
     exchange_comes input now asked his is_asked =
         let lead = exchanges_lead state.world now.id now.says asked in
-        let come = subst (λ (id : ℕ). ComeAbout id asked lead.0) his lead.1 in
+        let come = subst (λ (id : ℕ). ComeAbout (Leave id) asked lead.0) his lead.1 in
         (lead.0, Exchanges label input conversation asked lead.0 connected is_asked come, lead.2)
 
-    input_comes : (input : Input) (p : Performed) → ComesTo state label conversation input p → Comes state (To label input) p.state
+    input_comes : (input : Input) (p : Performed) → ComesToClient state label conversation input p → Comes state (To label input) p.state
     input_comes (Data bytes) p h =
         comes_as state (To label (Data bytes)) p _ (sym h.2)
         (exchange_comes (Data bytes) h.0.conversation h.0.events (of_heard conversation conversation.hears bytes h.0 h.1) (h.0, h.1, refl))
@@ -143,14 +135,55 @@ module _ (state : ScriptState) (label : ℕ) where
           refl,
         )
 
-  label_comes : (input : Input) (p : Performed) (found : Option (Option Conversation)) → connection_of state.connections label ≡ found
-      → on_connection state (λ conversation done. ComesTo state label conversation input done) p found → Comes state (To label input) p.state
+  connected : (mount : List ℕ) (relay : Option RelaySetting) (found : Option (Option Connection))
+      → Comes state (Pull label mount) (for_new_label state (connects state label relay) found).state
+  connected mount None None = ([], NoEvents (Pull label mount), refl)
+  connected mount (Some relay) None = ([], NoEvents (Pull label mount), refl)
+  connected mount relay (Some connection) = ([], NoEvents (Pull label mount), refl)
+
+  module _ (pulling : Pulling) (connected : connection_of state.connections label ≡ Some (Some (Relay pulling))) where
+    led : (input : Input) (now : Pulling) (ends : State) (w : World) (asked : ℕ → List Event) (lead : PullLeads state.world pulling.number asked w)
+        → IsAskedByRelay pulling lead.id input (asked lead.id) → Comes state (To label input) (pulled_on state label now ends w).state
+    led input now ends w asked lead is_asked = (
+      lead.events,
+      Pulls label input pulling lead.id (asked lead.id) lead.events connected lead.may is_asked lead.come,
+      lead.leads,
+    )
+
+    asks_comes : (input : Input) (event : ℕ → Event) (p : Performed) → ((id : ℕ) → IsAskedByRelay pulling id input (event id ∷ []))
+        → AsksOn state label pulling (option_map event pulling.number) p → Comes state (To label input) p.state
+    asks_comes input event p is_asked h =
+        let lead = asks_lead pulling.number event state.world h.1 h.0 h.2 in
+        comes_as state (To label input) p _ (sym h.3)
+        (led input (record pulling { number = h.0.number }) h.0.state h.1 (λ id. event id ∷ []) lead (is_asked lead.id))
+
+    relay_comes : (input : Input) (p : Performed) → ComesToRelay state label pulling input p → Comes state (To label input) p.state
+    relay_comes (Data bytes) p h =
+        let pulled = h.3.0 in
+        let lead = takes_lead pulling h.0 (items_of pulled.parts) pulled.standing h.1 state.world h.2 h.3.2 in
+        comes_as state (To label (Data bytes)) p _ (sym h.4)
+        (led (Data bytes) h.0 h.1 h.2 (λ id. map (event_of pulling.mount id) (items_of pulled.parts)) lead (pulled, h.3.1, refl))
+    relay_comes (Room room) p h = asks_comes (Room room) (λ id. Draw id room) p (λ id. refl) h
+    relay_comes (Named text) p h = asks_comes (Named text) (λ id. Title id (cleaned max_title text)) p (λ id. refl) h
+    relay_comes End p h =
+        let lead = goes_lead state.world h.0 pulling.number (λ id. []) h.1 in
+        comes_as state (To label End) p _ (sym h.2) (led End pulling (Shut Done) h.0 (λ id. []) lead refl)
+
+  connection_comes : (input : Input) (p : Performed) (connection : Connection) → connection_of state.connections label ≡ Some (Some connection)
+      → ComesTo state label connection input p → Comes state (To label input) p.state
+  connection_comes input p (Client conversation) known h = input_comes conversation known input p h
+  connection_comes input p (Relay pulling) known h = relay_comes pulling known input p h
+
+  label_comes : (input : Input) (p : Performed) (found : Option (Option Connection)) → connection_of state.connections label ≡ found
+      → on_connection state (λ connection done. ComesTo state label connection input done) p found → Comes state (To label input) p.state
   label_comes input p None known h = comes_as state (To label input) p _ h ([], NoEvents (To label input), refl)
   label_comes input p (Some None) known h = comes_as state (To label input) p _ h ([], NoEvents (To label input), refl)
-  label_comes input p (Some (Some conversation)) known h = input_comes conversation known input p h
+  label_comes input p (Some (Some connection)) known h = connection_comes input p connection known h
 
 delivery_comes : (state : ScriptState) (delivery : Delivery) (p : Performed) → IsPerformed state delivery p → Comes state delivery p.state
 delivery_comes state (Open label peer) p h = comes_as state (Open label peer) p _ h (opened state label peer (connection_of state.connections label))
+delivery_comes state (Pull label mount) p h =
+    comes_as state (Pull label mount) p _ h (connected state label mount (relay_named state.world mount) (connection_of state.connections label))
 delivery_comes state (To label input) p h = label_comes state label input p (connection_of state.connections label) refl h
 delivery_comes state (ClockIs ms) p h = comes_as state (ClockIs ms) p _ h (Clock ms ∷ [], Ticks ms, refl)
 

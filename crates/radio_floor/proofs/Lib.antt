@@ -3,5 +3,6 @@ mod VisitLemmas
 mod ServerSimulation
 mod OneTranscript
 mod LastWordLemmas
+mod PullEventLemmas
 mod EventLemmas
 mod DrawLemmas

@@ -1,39 +1,84 @@
 -- Each delivery comes to one thing.
 use Rattle.std.proofs.Common.{◌≡◌, ℕ, Option, None, Some, ap, sym, ◌∙◌}
+use Rattle.std.specs.Option.{option_map}
 use Rattle.radio_script.specs.declared.delivery.Delivery.{Delivery}
-use Rattle.radio_script.specs.declared.delivery.Delivery.TheVariants.{Open, To, Clock}
+use Rattle.radio_script.specs.declared.delivery.Delivery.TheVariants.{Open, Pull, To, Clock}
 use Rattle.radio_script.specs.declared.delivery.Input.{Input}
 use Rattle.radio_script.specs.declared.delivery.Input.TheVariants.{Data, Room, Title, End}
 use Rattle.radio_session.specs.Conversation.{Conversation}
 use Rattle.radio_session.specs.Hearing.{Heard}
 use Rattle.radio_session.specs.Laws.{HearingIsOne}
-use Rattle.radio_floor.specs.ScriptState.{ScriptState, Performed, ComesTo, IsPerformed, on_connection, connection_of, exchanges}
+use Rattle.radio_session.specs.declared.state.State.{State}
+use Rattle.radio_session.specs.declared.state.State.TheVariants.{Shut}
+use Rattle.radio_session.specs.declared.state.Ending.TheVariants.{Done}
+use Rattle.radio_core.specs.World.{World}
+use Rattle.radio_events.specs.declared.event.Event.{Event}
+use Rattle.radio_pull.specs.Pulling.{Pulling, Standing}
+use Rattle.radio_pull.specs.Laws.{AskingIsOne, GoingDownIsOne, TakingIsOne}
+use Rattle.radio_floor.specs.declared.labelled.Connection.{Connection}
+use Rattle.radio_floor.specs.declared.labelled.Connection.TheVariants.{Client, Relay}
+use Rattle.radio_floor.specs.ScriptState.{ScriptState, Performed, AsksOn, ComesTo, ComesToClient, ComesToRelay, IsPerformed, on_connection, connection_of}
+use Rattle.radio_floor.specs.ScriptState.{exchanges, pulled_on}
 use Rattle.radio_floor.specs.Transcript.{conduct}
 use Rattle.radio_script.specs.Laws.{IsDetermined}
 
 -- where a connection does one thing, so does its label
-one_on_connection : (state : ScriptState) (On : Conversation → Performed → Type 0)
-    → ((conversation : Conversation) (p q : Performed) → On conversation p → On conversation q → p ≡ q) → (o : Option (Option Conversation)) (p q : Performed)
+one_on_connection : (state : ScriptState) (On : Connection → Performed → Type 0)
+    → ((connection : Connection) (p q : Performed) → On connection p → On connection q → p ≡ q) → (o : Option (Option Connection)) (p q : Performed)
     → on_connection state On p o → on_connection state On q o → p ≡ q
 one_on_connection state On one None p q h k = h ∙ sym k
 one_on_connection state On one (Some None) p q h k = h ∙ sym k
-one_on_connection state On one (Some (Some conversation)) p q h k = one conversation p q h k
+one_on_connection state On one (Some (Some connection)) p q h k = one connection p q h k
 
-module _ (heard_as_one : HearingIsOne) where
-  -- so does what comes to a connection
-  comes_to_once : (state : ScriptState) (label : ℕ) (conversation : Conversation) (input : Input) (p q : Performed)
-      → ComesTo state label conversation input p → ComesTo state label conversation input q → p ≡ q
-  comes_to_once state label conversation (Data bytes) p q h k =
+-- a pull that stands alike, over servers that stand alike
+same_pull : (state : ScriptState) (label : ℕ) (one other : Pulling) (ends stops : State) (a b : World) → one ≡ other → ends ≡ stops → a ≡ b
+    → pulled_on state label one ends a ≡ pulled_on state label other stops b
+same_pull state label one other ends stops a b e f g =
+    ap (λ (x : Pulling). pulled_on state label x ends a) e ∙ ap (λ (x : State). pulled_on state label other x a) f
+    ∙ ap (λ (x : World). pulled_on state label other stops x) g
+
+module _ (heard_as_one : HearingIsOne) (take_as_one : TakingIsOne) (ask_as_one : AskingIsOne) (go_as_one : GoingDownIsOne) where
+  -- so does what comes to a client's connection
+  client_once : (state : ScriptState) (label : ℕ) (conversation : Conversation) (input : Input) (p q : Performed)
+      → ComesToClient state label conversation input p → ComesToClient state label conversation input q → p ≡ q
+  client_once state label conversation (Data bytes) p q h k =
       sym h.2 ∙ ap (λ (heard : Heard). exchanges state label heard.conversation heard.events) (heard_as_one conversation bytes h.0 k.0 h.1 k.1) ∙ k.2
-  comes_to_once state label conversation (Room room) p q h k = sym h ∙ k
-  comes_to_once state label conversation (Title text) p q h k = sym h ∙ k
-  comes_to_once state label conversation End p q h k = sym h ∙ k
+  client_once state label conversation (Room room) p q h k = sym h ∙ k
+  client_once state label conversation (Title text) p q h k = sym h ∙ k
+  client_once state label conversation End p q h k = sym h ∙ k
+
+  -- and what a relay asks for
+  asks_once : (state : ScriptState) (label : ℕ) (pulling : Pulling) (event : Option Event) (p q : Performed) → AsksOn state label pulling event p
+      → AsksOn state label pulling event q → p ≡ q
+  asks_once state label pulling event p q h k =
+      let same = ask_as_one pulling.number event h.0 k.0 state.world h.1 k.1 h.2 k.2 in
+      sym h.3
+      ∙ same_pull state label (record pulling { number = h.0.number }) (record pulling { number = k.0.number }) h.0.state k.0.state h.1 k.1
+      (ap (λ (x : Standing). record pulling { number = x.number }) same.0) (ap (λ (x : Standing). x.state) same.0) same.1
+      ∙ k.3
+
+  -- and what comes to its connection
+  relay_once : (state : ScriptState) (label : ℕ) (pulling : Pulling) (input : Input) (p q : Performed)
+      → ComesToRelay state label pulling input p → ComesToRelay state label pulling input q → p ≡ q
+  relay_once state label pulling (Data bytes) p q h k =
+      let same = take_as_one pulling h.0 k.0 bytes h.1 k.1 state.world h.2 k.2 h.3 k.3 in
+      sym h.4 ∙ same_pull state label h.0 k.0 h.1 k.1 h.2 k.2 same.0 same.1 same.2 ∙ k.4
+  relay_once state label pulling (Room room) p q h k = asks_once state label pulling _ p q h k
+  relay_once state label pulling (Title text) p q h k = asks_once state label pulling _ p q h k
+  relay_once state label pulling End p q h k =
+      sym h.2 ∙ ap (λ (x : World). pulled_on state label pulling (Shut Done) x) (go_as_one pulling.number state.world h.0 k.0 h.1 k.1) ∙ k.2
+
+  comes_to_once : (state : ScriptState) (label : ℕ) (connection : Connection) (input : Input) (p q : Performed)
+      → ComesTo state label connection input p → ComesTo state label connection input q → p ≡ q
+  comes_to_once state label (Client conversation) input p q h k = client_once state label conversation input p q h k
+  comes_to_once state label (Relay pulling) input p q h k = relay_once state label pulling input p q h k
 
   -- a delivery comes to one thing
   performed_once : (state : ScriptState) (delivery : Delivery) (p q : Performed) → IsPerformed state delivery p → IsPerformed state delivery q → p ≡ q
   performed_once state (Open label peer) p q h k = h ∙ sym k
+  performed_once state (Pull label mount) p q h k = h ∙ sym k
   performed_once state (To label input) p q h k =
-      one_on_connection state (λ conversation done. ComesTo state label conversation input done) (λ conversation. comes_to_once state label conversation input)
+      one_on_connection state (λ connection done. ComesTo state label connection input done) (λ connection. comes_to_once state label connection input)
       (connection_of state.connections label) p q h k
   performed_once state (Clock ms) p q h k = h ∙ sym k
 

@@ -3,7 +3,7 @@ use Rattle.radio_core.specs.World.{World}
 use Rattle.radio_script.specs.declared.delivery.Delivery.{Delivery}
 use Rattle.radio_script.specs.declared.faults.PerformFault.{PerformFault}
 use Rattle.radio_script.specs.declared.faults.PerformFault.TheVariants.{Label}
-use Rattle.radio_session.specs.Conversation.{Conversation}
+use Rattle.radio_floor.specs.declared.labelled.Connection.{Connection}
 use Rattle.radio_floor.specs.declared.labelled.Labelled.{Labelled}
 use Rattle.radio_floor.specs.ScriptState.{ScriptState, Performed, connection_of, for_new_label}
 use Rattle.radio_floor.specs.Performing.{Performs, PerformsAs}
@@ -12,7 +12,7 @@ use Rattle.radio_floor.specs.Performing.{Performs, PerformsAs}
 pub new-label : (state : ScriptState) (label : ℕ) (opened done : Performed) → false ≡ is_some (connection_of state.connections label) → opened ≡ done
     → done ≡ for_new_label state opened (connection_of state.connections label)
 new-label state label opened done e h = by_connection (connection_of state.connections label) e where
-  by_connection : (o : Option (Option Conversation)) → false ≡ is_some o → done ≡ for_new_label state opened o
+  by_connection : (o : Option (Option Connection)) → false ≡ is_some o → done ≡ for_new_label state opened o
   by_connection None f = sym h
   by_connection (Some o) f = cc
 

@@ -8,10 +8,10 @@ use Rattle.radio_script.specs.declared.delivery.Delivery.{Delivery}
 use Rattle.radio_script.specs.declared.delivery.Input.{Input}
 use Rattle.radio_script.specs.declared.faults.PerformFault.{PerformFault}
 use Rattle.radio_script.specs.declared.faults.PerformFault.TheVariants.{OutOfMemory}
-use Rattle.radio_session.specs.Conversation.{Conversation}
 use Rattle.radio_tables.proofs.FindLaws.{changed_alike, unchanged}
 use Rattle.radio_tables.specs.Lists.{update_first}
 use Rattle.radio_floor.specs.declared.handler.Told.{Told}
+use Rattle.radio_floor.specs.declared.labelled.Connection.{Connection}
 use Rattle.radio_floor.specs.declared.labelled.Labelled.{Labelled}
 use Rattle.radio_floor.specs.Performing.{Performs, PerformsAs}
 use Rattle.radio_floor.specs.ScriptState.{Performed, ComesTo, for_label, has_label, holding, on_connection, told_lines, with_connection}
@@ -21,15 +21,15 @@ module _ (label : ℕ) (input : Input) (connections connections' : List Labelled
   abbrev pub Comes : World → Performed → Type 0
   Comes w done =
       let state = script_state_of w connections in
-      for_label state label (λ conversation done. ComesTo state label conversation input done) done
+      for_label state label (λ connection done. ComesTo state label connection input done) done
 
   -- as it comes where this became of the label
-  abbrev ComesOf : World → Performed → Option (Option Conversation) → Type 0
+  abbrev ComesOf : World → Performed → Option (Option Connection) → Type 0
   ComesOf w done o =
       let state = script_state_of w connections in
-      on_connection state (λ conversation done. ComesTo state label conversation input done) done o
+      on_connection state (λ connection done. ComesTo state label connection input done) done o
 
-  abbrev became : Option Labelled → Option (Option Conversation)
+  abbrev became : Option Labelled → Option (Option Connection)
   became = option_map (λ (l : Labelled). l.connection)
 
   -- the label was not opened
@@ -39,19 +39,19 @@ module _ (label : ℕ) (input : Input) (connections connections' : List Labelled
   module _ (core core' : World) (l l' : Labelled) (found : find (has_label label) connections ≡ Some l)
       (changed : connections' ≡ update_first (has_label label) (λ _. l') connections) where
     -- its connection was shut
-    shut_at : (o o' : Option Conversation) → l.connection ≡ o → l'.connection ≡ o' → AnswersOn core input o (Ok None) core' o'
+    shut_at : (o o' : Option Connection) → l.connection ≡ o → l'.connection ≡ o' → AnswersOn core input o (Ok None) core' o'
         → (core' ≡ core) × (l.connection ≡ None) × (l'.connection ≡ None)
     shut_at None o' e e' h = (h.1, e, e' ∙ h.2)
-    shut_at (Some conversation) o' e e' h = let none : None ≡ Some h.0 = h.2 in cc
+    shut_at (Some connection) o' e e' h = let none : None ≡ Some h.0 = h.2 in cc
 
     pub shut-label : AnswersUnder core input l (Ok None) core' l' → (core' ≡ core) × ((w : World) → Comes w (performed_as (Some []) w connections'))
     shut-label h =
         let shut = shut_at l.connection l'.connection refl refl h.1 in
         let row : l' ≡ l =
         ap (λ (n : ℕ). let r : Labelled = record { label = n; connection = l'.connection } in r) h.0
-        ∙ ap (λ (o : Option Conversation). let r : Labelled = record { label = l.label; connection = o } in r) (shut.2 ∙ sym shut.1) in
+        ∙ ap (λ (o : Option Connection). let r : Labelled = record { label = l.label; connection = o } in r) (shut.2 ∙ sym shut.1) in
         let same : connections' ≡ connections = changed ∙ unchanged (has_label label) (λ _. l') l row connections found in
-        let was : became (find (has_label label) connections) ≡ Some None = ap became found ∙ ap (λ (o : Option Conversation). Some o) shut.1 in (
+        let was : became (find (has_label label) connections) ≡ Some None = ap became found ∙ ap (λ (o : Option Connection). Some o) shut.1 in (
           shut.0,
           λ w. subst (ComesOf w (performed_as (Some []) w connections')) (sym was) (ap (λ (xs : List Labelled). performed_as (Some []) w xs) same),
         )
@@ -61,23 +61,23 @@ module _ (label : ℕ) (input : Input) (connections connections' : List Labelled
     TellsOn told = (w : World) → Represents core w
         → (w' : World) × Represents core' w' × Comes w (performed_as (Some (told_lines label told.bytes.items told.state)) w' connections')
 
-    told_at : (o o' : Option Conversation) (told : Told) → l.connection ≡ o → l'.connection ≡ o' → l'.label ≡ l.label
+    told_at : (o o' : Option Connection) (told : Told) → l.connection ≡ o → l'.connection ≡ o' → l'.label ≡ l.label
         → AnswersOn core input o (Ok (Some told)) core' o' → TellsOn told
     told_at None o' told e e' same h w stands = let none : Ok (Some told) ≡ Ok None = h.0 in cc
-    told_at (Some conversation) o' told e e' same h w stands =
+    told_at (Some connection) o' told e e' same h w stands =
         let t = h.0 in
         let a = h.4 w stands in
         let is : Some told ≡ Some t = h.2 in
         let one : t ≡ told = cc in
         let row : l' ≡ holding o' l =
         ap (λ (n : ℕ). let r : Labelled = record { label = n; connection = l'.connection } in r) same
-        ∙ ap (λ (p : Option Conversation). holding p l) e' in
+        ∙ ap (λ (p : Option Connection). holding p l) e' in
         let set : connections' ≡ with_connection connections label o' =
         changed ∙ changed_alike (has_label label) (λ _. l') (holding o') l row connections found in
-        let was : became (find (has_label label) connections) ≡ Some (Some conversation) =
-        ap became found ∙ ap (λ (p : Option Conversation). Some p) e in
+        let was : became (find (has_label label) connections) ≡ Some (Some connection) =
+        ap became found ∙ ap (λ (p : Option Connection). Some p) e in
         let done = performed_as (Some (told_lines label told.bytes.items told.state)) a.0 connections' in
-        let done_of = λ (x : Told) (o : Option Conversation).
+        let done_of = λ (x : Told) (o : Option Connection).
         performed_as (Some (told_lines label x.bytes.items x.state)) a.0 (with_connection connections label o) in
         let same_done : answered_under connections label t h.1 a.0 ≡ done =
         ap (done_of t) (sym h.3) ∙ ap (λ (x : Told). done_of x o') one
@@ -85,7 +85,7 @@ module _ (label : ℕ) (input : Input) (connections connections' : List Labelled
           a.0,
           a.1,
           subst (ComesOf w done) (sym was)
-              (subst (λ (x : Performed). ComesTo (script_state_of w connections) label conversation input x) same_done (a.2 connections label)),
+              (subst (λ (x : Performed). ComesTo (script_state_of w connections) label connection input x) same_done (a.2 connections label)),
         )
 
     pub answered-label : (told : Told) → AnswersUnder core input l (Ok (Some told)) core' l' → TellsOn told

@@ -5,10 +5,12 @@ use Rattle.radio_addr.specs.declared.peer.Peer.{Peer}
 use Rattle.radio_core.specs.World.{World}
 use Rattle.radio_core.specs.Step.{Represents}
 use Rattle.radio_script.specs.declared.delivery.Input.{Input}
-use Rattle.radio_session.specs.Conversation.{Conversation}
+use Rattle.radio_session.specs.declared.state.State.{State}
+use Rattle.radio_pull.specs.Pulling.{Pulling}
 use Rattle.radio_floor.specs.declared.handler.Told.{Told}
 use Rattle.radio_floor.specs.declared.labelled.Labelled.{Labelled}
-use Rattle.radio_floor.specs.ScriptState.{ScriptState, Performed, ComesTo, opens, told_lines, with_connection, conversation_unless}
+use Rattle.radio_floor.specs.declared.labelled.Connection.{Connection}
+use Rattle.radio_floor.specs.ScriptState.{ScriptState, Performed, ComesTo, opens, connects, relay_named, told_lines, with_connection, kept_unless, pulled_on}
 
 abbrev pub script_state_of : World → List Labelled → ScriptState
 script_state_of w connections = record { world = w; connections = connections }
@@ -23,25 +25,36 @@ OpensAs core connections label peer lines core' connections' lines' =
     × ((w : World) → Represents core w
     → (w' : World) × Represents core' w' × (opens (script_state_of w connections) label peer ≡ performed_as (Some text) w' connections'))
 
+-- whatever state the core stood for, the relay of this mount connects, or there is none, and the core is as it was
+abbrev pub ConnectsAs : World → List Labelled → ℕ → List ℕ → Option (List ℕ) → List Labelled → Type 0
+ConnectsAs core connections label mount text connections' = (w : World) → Represents core w
+    → connects (script_state_of w connections) label (relay_named w mount) ≡ performed_as text w connections'
+
 -- a connection of a label that is now so was told this, as what is performed
-abbrev pub answered_under : List Labelled → ℕ → Told → Conversation → World → Performed
-answered_under connections label told conversation w =
+abbrev pub answered_under : List Labelled → ℕ → Told → Connection → World → Performed
+answered_under connections label told connection w =
     performed_as (Some (told_lines label told.bytes.items told.state)) w
-    (with_connection connections label (conversation_unless conversation told.state))
+    (with_connection connections label (kept_unless connection told.state))
 
 -- Whatever state the core stood for, and whatever the labels are: it comes of it so, and the core stands for the state after it.
-abbrev pub AnswersAs : World → World → Told → Conversation → (ScriptState → ℕ → Performed → Type 0) → Type 0
-AnswersAs core core' told conversation Done =
+abbrev pub AnswersAs : World → World → Told → Connection → (ScriptState → ℕ → Performed → Type 0) → Type 0
+AnswersAs core core' told connection Done =
     (w : World) → Represents core w → (w' : World) × Represents core' w'
-    × ((connections : List Labelled) (label : ℕ) → Done (script_state_of w connections) label (answered_under connections label told conversation w'))
+    × ((connections : List Labelled) (label : ℕ) → Done (script_state_of w connections) label (answered_under connections label told connection w'))
+
+-- the same of a relay, to whose master nothing more is said
+abbrev pub PullsAs : World → World → State → Pulling → (ScriptState → ℕ → Performed → Type 0) → Type 0
+PullsAs core core' ends pulling Done =
+    (w : World) → Represents core w → (w' : World) × Represents core' w'
+    × ((connections : List Labelled) (label : ℕ) → Done (script_state_of w connections) label (pulled_on (script_state_of w connections) label pulling ends w'))
 
 -- something comes to what became of a label: its connection is dealt with, if it has one; of want of memory nothing is said
-abbrev pub AnswersOn : World → Input → Option Conversation → Result (Option Told) AllocError → World → Option Conversation → Type 0
+abbrev pub AnswersOn : World → Input → Option Connection → Result (Option Told) AllocError → World → Option Connection → Type 0
 AnswersOn core input None result core' connection' = (result ≡ Ok None) × (core' ≡ core) × (connection' ≡ None)
-AnswersOn core input (Some conversation) result core' connection' =
-    IfOk result (λ answer. (told : Told) × (conversation' : Conversation) × (answer ≡ Some told)
-    × (connection' ≡ conversation_unless conversation' told.state)
-    × AnswersAs core core' told conversation' (λ state label done. ComesTo state label conversation input done))
+AnswersOn core input (Some connection) result core' connection' =
+    IfOk result (λ answer. (told : Told) × (now : Connection) × (answer ≡ Some told)
+    × (connection' ≡ kept_unless now told.state)
+    × AnswersAs core core' told now (λ state label done. ComesTo state label connection input done))
 
 -- something comes to a label, which stays that label
 abbrev pub AnswersUnder : World → Input → Labelled → Result (Option Told) AllocError → World → Labelled → Type 0

@@ -1,5 +1,6 @@
 -- The server behind a script: what each delivery comes to.
-use Rattle.std.specs.Prelude.{◌≡◌, ℕ, Bool, ◌==◌, List, [], ◌∷◌, Option, None, Some, find}
+use Rattle.std.specs.Prelude.{◌≡◌, ℕ, Bool, ◌==◌, List, [], ◌∷◌, Option, None, Some, find, if◌then◌else◌}
+use Rattle.std.specs.Str.{bytes_eq}
 use Rattle.std.specs.Option.{option_map}
 use Rattle.radio_events.specs.declared.event.Event.{Event}
 use Rattle.radio_events.specs.declared.event.Event.TheVariants.{Arrive, Draw, Title, Leave, Clock}
@@ -9,20 +10,27 @@ use Rattle.radio_addr.specs.declared.peer.Peer.{Peer}
 use Rattle.radio_icy.specs.Cleaning.{cleaned}
 use Rattle.radio_icy.specs.Limits.{max_title}
 use Rattle.radio_settings.specs.declared.settings.Settings.{Settings}
+use Rattle.radio_settings.specs.declared.settings.RelaySetting.{RelaySetting}
+use Rattle.radio_settings.specs.MountName.{is_mount_name}
+use Rattle.radio_relay.specs.Request.{request_text}
+use Rattle.radio_pull.specs.Pulling.{Pulling, Standing, begun}
+use Rattle.radio_pull.specs.Course.{AsksIf, GoesDown, Takes}
 use Rattle.radio_access.specs.Lists.{Lists}
 use Rattle.radio_core.specs.World.{World, opening}
 use Rattle.radio_tables.specs.Lists.{update_first, placed}
 use Rattle.std.specs.declared.cmp.Ordering.{Ordering}
 use Rattle.std.specs.Ordering.{nat_cmp}
-use Rattle.radio_core.specs.Step.{reply_to, world_after}
+use Rattle.radio_core.specs.Step.{Step, reply_to, world_after}
 use Rattle.radio_session.specs.declared.state.State.{State}
 use Rattle.radio_session.specs.declared.state.State.TheVariants.{Running, Shut}
 use Rattle.radio_session.specs.declared.state.Ending.TheVariants.{Done}
 use Rattle.radio_script.specs.declared.delivery.Delivery.{Delivery}
-use Rattle.radio_script.specs.declared.delivery.Delivery.TheVariants.{Open, To, Clock as ClockIs}
+use Rattle.radio_script.specs.declared.delivery.Delivery.TheVariants.{Open, Pull, To, Clock as ClockIs}
 use Rattle.radio_script.specs.declared.delivery.Input.{Input}
 use Rattle.radio_script.specs.declared.delivery.Input.TheVariants.{Data, Room, Title as Named, End}
 use Rattle.radio_floor.specs.declared.labelled.Labelled.{Labelled}
+use Rattle.radio_floor.specs.declared.labelled.Connection.{Connection}
+use Rattle.radio_floor.specs.declared.labelled.Connection.TheVariants.{Client, Relay}
 use Rattle.radio_script.specs.TranscriptLines.{answer_lines}
 use Rattle.radio_session.specs.Conversation.{asking, Conversation, fresh, saying_now, ending_word}
 use Rattle.radio_session.specs.Hearing.{Heard, IsHeard}
@@ -46,15 +54,15 @@ abbrev pub by_label : Labelled → Labelled → Ordering
 by_label a b = nat_cmp a.label b.label
 
 -- what became of the label, if it was opened
-abbrev pub connection_of : List Labelled → ℕ → Option (Option Conversation)
+abbrev pub connection_of : List Labelled → ℕ → Option (Option Connection)
 connection_of connections label = option_map (λ labelled. labelled.connection) (find (has_label label) connections)
 
-abbrev pub holding : Option Conversation → Labelled → Labelled
-holding conversation labelled = record labelled { connection = conversation }
+abbrev pub holding : Option Connection → Labelled → Labelled
+holding connection labelled = record labelled { connection = connection }
 
 -- something else has become of the label
-abbrev pub with_connection : List Labelled → ℕ → Option Conversation → List Labelled
-with_connection connections label conversation = update_first (has_label label) (holding conversation) connections
+abbrev pub with_connection : List Labelled → ℕ → Option Connection → List Labelled
+with_connection connections label connection = update_first (has_label label) (holding connection) connections
 
 -- the word of a connection that is shut
 abbrev pub last_word : State → Option (List ℕ)
@@ -79,8 +87,8 @@ abbrev pub passed_over : ScriptState → Performed
 passed_over state = record { lines = Some []; state = state }
 
 -- the label's new connection, if the server takes it in
-abbrev pub taken_in : Peer → Reply → Option Conversation
-taken_in peer (Arrived id) = Some (fresh id peer)
+abbrev pub taken_in : Peer → Reply → Option Connection
+taken_in peer (Arrived id) = Some (Client (fresh id peer))
 taken_in peer reply = None
 
 -- a connection arrives under a new label
@@ -99,13 +107,30 @@ opens state label peer =
     }
 
 -- what became of a label, unless its connection was shut
-abbrev pub connection_unless : Option Conversation → State → Option Conversation
+abbrev pub connection_unless : Option Connection → State → Option Connection
 connection_unless connection Running = connection
 connection_unless connection (Shut ending) = None
 
--- the conversation, unless its connection was shut
-abbrev pub conversation_unless : Conversation → State → Option Conversation
-conversation_unless conversation state = connection_unless (Some conversation) state
+-- the connection, unless it was shut
+abbrev pub kept_unless : Connection → State → Option Connection
+kept_unless connection state = connection_unless (Some connection) state
+
+-- the relay that feeds the mount of this name
+abbrev pub relay_named : World → List ℕ → Option RelaySetting
+relay_named w mount =
+    if is_mount_name mount then find (λ relay. bytes_eq relay.local_mount mount) w.house.settings.relays else None
+
+-- the relay connects to its master under a new label: its request goes out; with no such relay the label is at fault
+abbrev pub connects : ScriptState → ℕ → Option RelaySetting → Performed
+connects state label None = at_fault state
+connects state label (Some relay) = record {
+  lines = Some (told_lines label (request_text relay) Running);
+  state =
+      record state {
+        connections =
+            placed by_label (record { label = label; connection = Some (Relay (begun relay.local_mount)) }) state.connections;
+      };
+}
 
 -- a connection's events are exchanged with the server
 abbrev pub exchanges : ScriptState → ℕ → Conversation → List Event → Performed
@@ -117,7 +142,7 @@ exchanges state label conversation events =
           record {
             world = x.world;
             connections =
-                with_connection state.connections label (conversation_unless (saying_now conversation x.exchange.says) x.exchange.state);
+                with_connection state.connections label (kept_unless (Client (saying_now conversation x.exchange.says)) x.exchange.state);
           };
     }
 
@@ -129,35 +154,64 @@ closes state label conversation =
       state = record { world = world_after state.world (Leave conversation.id); connections = with_connection state.connections label None };
     }
 
--- what comes to a connection comes to that (a relation, since the grammar of heads is one; there is one answer)
-abbrev pub ComesTo : ScriptState → ℕ → Conversation → Input → Performed → Type 0
-ComesTo state label conversation (Data bytes) done =
+-- what comes to a client's connection comes to that (a relation, since the grammar of heads is one; there is one answer)
+abbrev pub ComesToClient : ScriptState → ℕ → Conversation → Input → Performed → Type 0
+ComesToClient state label conversation (Data bytes) done =
     (heard : Heard) × IsHeard conversation bytes heard × (exchanges state label heard.conversation heard.events ≡ done)
-ComesTo state label conversation (Room room) done = exchanges state label conversation (Draw conversation.id room ∷ []) ≡ done
-ComesTo state label conversation (Named text) done = exchanges state label conversation (Title conversation.id (cleaned max_title text) ∷ []) ≡ done
-ComesTo state label conversation End done = closes state label conversation ≡ done
+ComesToClient state label conversation (Room room) done = exchanges state label conversation (Draw conversation.id room ∷ []) ≡ done
+ComesToClient state label conversation (Named text) done = exchanges state label conversation (Title conversation.id (cleaned max_title text) ∷ []) ≡ done
+ComesToClient state label conversation End done = closes state label conversation ≡ done
+
+-- nothing more goes out on the connection to a master; the pull stands so, or is shut, and so does the server
+abbrev pub pulled_on : ScriptState → ℕ → Pulling → State → World → Performed
+pulled_on state label pulling ends w = record {
+  lines = Some (told_lines label [] ends);
+  state = record { world = w; connections = with_connection state.connections label (kept_unless (Relay pulling) ends) };
+}
+
+-- an event is applied that the relay asks for, if it asks for one
+abbrev pub AsksOn : ScriptState → ℕ → Pulling → Option Event → Performed → Type 0
+AsksOn state label pulling event done =
+    (after : Standing) × (w : World) × AsksIf Step pulling.number event state.world after w
+    × (pulled_on state label (record pulling { number = after.number }) after.state w ≡ done)
+
+-- what comes to a relay's connection comes to that
+abbrev pub ComesToRelay : ScriptState → ℕ → Pulling → Input → Performed → Type 0
+ComesToRelay state label pulling (Data bytes) done =
+    (now : Pulling) × (ends : State) × (w : World) × Takes Step pulling bytes state.world now ends w × (pulled_on state label now ends w ≡ done)
+ComesToRelay state label pulling (Room room) done = AsksOn state label pulling (option_map (λ id. Draw id room) pulling.number) done
+ComesToRelay state label pulling (Named text) done = AsksOn state label pulling (option_map (λ id. Title id (cleaned max_title text)) pulling.number) done
+ComesToRelay state label pulling End done =
+    (w : World) × GoesDown Step pulling.number state.world w × (pulled_on state label pulling (Shut Done) w ≡ done)
+
+-- what comes to a connection comes to that
+abbrev pub ComesTo : ScriptState → ℕ → Connection → Input → Performed → Type 0
+ComesTo state label (Client conversation) input done = ComesToClient state label conversation input done
+ComesTo state label (Relay pulling) input done = ComesToRelay state label pulling input done
 
 -- the moment is another
 abbrev pub ticks : ScriptState → ℕ → Performed
 ticks state ms = record { lines = Some []; state = record state { world = world_after state.world (Clock ms) } }
 
 -- a delivery for a connection, by what became of it
-abbrev pub on_connection : ScriptState → (Conversation → Performed → Type 0) → Performed → Option (Option Conversation) → Type 0
-on_connection state OnConversation performed None = performed ≡ at_fault state
-on_connection state OnConversation performed (Some None) = performed ≡ passed_over state
-on_connection state OnConversation performed (Some (Some conversation)) = OnConversation conversation performed
+abbrev pub on_connection : ScriptState → (Connection → Performed → Type 0) → Performed → Option (Option Connection) → Type 0
+on_connection state OnConnection performed None = performed ≡ at_fault state
+on_connection state OnConnection performed (Some None) = performed ≡ passed_over state
+on_connection state OnConnection performed (Some (Some connection)) = OnConnection connection performed
 
 -- a delivery for a label that must have been opened
-abbrev pub for_label : ScriptState → ℕ → (Conversation → Performed → Type 0) → Performed → Type 0
-for_label state label OnConversation performed = on_connection state OnConversation performed (connection_of state.connections label)
+abbrev pub for_label : ScriptState → ℕ → (Connection → Performed → Type 0) → Performed → Type 0
+for_label state label OnConnection performed = on_connection state OnConnection performed (connection_of state.connections label)
 
 -- a label is opened once
-abbrev pub for_new_label : ScriptState → Performed → Option (Option Conversation) → Performed
+abbrev pub for_new_label : ScriptState → Performed → Option (Option Connection) → Performed
 for_new_label state performed None = performed
 for_new_label state performed (Some connection) = at_fault state
 
 -- from this state the delivery comes to that
 abbrev pub IsPerformed : ScriptState → Delivery → Performed → Type 0
 IsPerformed state (Open label peer) performed = performed ≡ for_new_label state (opens state label peer) (connection_of state.connections label)
-IsPerformed state (To label input) performed = for_label state label (λ conversation done. ComesTo state label conversation input done) performed
+IsPerformed state (Pull label mount) performed =
+    performed ≡ for_new_label state (connects state label (relay_named state.world mount)) (connection_of state.connections label)
+IsPerformed state (To label input) performed = for_label state label (λ connection done. ComesTo state label connection input done) performed
 IsPerformed state (ClockIs ms) performed = performed ≡ ticks state ms

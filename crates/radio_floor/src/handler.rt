@@ -7,11 +7,11 @@ ghost use Rattle.radio_core.specs.World.{World};
 ghost use Rattle.radio_events.specs.declared.event.Event.TheVariants.{Leave, Clock};
 ghost use Rattle.radio_core.specs.Step.{Represents, world_after};
 ghost use Rattle.radio_session.specs.Hearing.{Heard, IsHeard};
-ghost use Rattle.radio_floor.specs.ScriptState.{exchanges, closes, connection_unless, ComesTo};
+ghost use Rattle.radio_floor.specs.ScriptState.{exchanges, closes, connection_unless, ComesTo, ComesToClient};
 ghost use Rattle.radio_floor.specs.ScriptServer.{AnswersAs};
 
 use crate::OutOfMemory;
-use crate::labelled::Labelled;
+use crate::labelled::{Connection, Labelled};
 use radio_core::Core;
 use radio_events::Event;
 use radio_icy::Title;
@@ -36,9 +36,24 @@ pub(crate) struct Handler {
 
 impl Handler {
     /// Something comes to a connection: what it is told.
-    fn answer(&mut self, connection: &mut Session, input: &Input) -> Result<Told, OutOfMemory>
+    fn answer(&mut self, connection: &mut Connection, input: &Input) -> Result<Told, OutOfMemory>
         ensures { IfOk result (λ told. AnswersAs self.old.core self.new.core told connection.new
             (λ state label done. ComesTo state label connection.old input.now done)) }
+    {
+        match connection {
+            Connection::Client(session) => self.answer_client(session, input),
+            Connection::Relay(pull) => self.answer_relay(pull, input),
+        }
+    }
+
+    /// Something comes to a client's connection: what it is told.
+    fn answer_client(
+        &mut self,
+        connection: &mut Session,
+        input: &Input,
+    ) -> Result<Told, OutOfMemory>
+        ensures { IfOk result (λ told. AnswersAs self.old.core self.new.core told (Connection.Client connection.new)
+            (λ state label done. ComesToClient state label connection.old input.now done)) }
     {
         match input {
             Input::Data(bytes) => self.hear(connection, bytes.as_slice()),
@@ -50,7 +65,7 @@ impl Handler {
 
     /// Bytes come on it.
     fn hear(&mut self, connection: &mut Session, bytes: &[u8]) -> Result<Told, OutOfMemory>
-        ensures { IfOk result (λ told. AnswersAs self.old.core self.new.core told connection.new
+        ensures { IfOk result (λ told. AnswersAs self.old.core self.new.core told (Connection.Client connection.new)
             (λ state label done. (heard : Heard) × IsHeard connection.old bytes.now heard × (exchanges state label heard.conversation heard.events ≡ done))) }
     {
         let events = connection.take(bytes)?;
@@ -59,7 +74,7 @@ impl Handler {
 
     /// There is room for so many bytes on it.
     fn draw(&mut self, connection: &mut Session, room: u32) -> Result<Told, OutOfMemory>
-        ensures { IfOk result (λ told. AnswersAs self.old.core self.new.core told connection.new
+        ensures { IfOk result (λ told. AnswersAs self.old.core self.new.core told (Connection.Client connection.new)
             (λ state label done. exchanges state label connection.old (Event.Draw connection.old.id room ∷ []) ≡ done)) }
     {
         let id = connection.id();
@@ -68,7 +83,7 @@ impl Handler {
 
     /// Its source names what is on the air.
     fn title(&mut self, connection: &mut Session, text: &[u8]) -> Result<Told, OutOfMemory>
-        ensures { IfOk result (λ told. AnswersAs self.old.core self.new.core told connection.new
+        ensures { IfOk result (λ told. AnswersAs self.old.core self.new.core told (Connection.Client connection.new)
             (λ state label done. exchanges state label connection.old (Event.Title connection.old.id (cleaned max_title text.now) ∷ []) ≡ done)) }
     {
         let id = connection.id();
@@ -78,7 +93,7 @@ impl Handler {
 
     /// The peer has closed it.
     fn close(&mut self, connection: &Session) -> Result<Told, OutOfMemory>
-        ensures { IfOk result (λ told. AnswersAs self.old.core self.new.core told connection.now
+        ensures { IfOk result (λ told. AnswersAs self.old.core self.new.core told (Connection.Client connection.now)
             (λ state label done. closes state label connection.now ≡ done)) }
     {
         leave(&mut self.core, connection.id())?;
@@ -90,7 +105,7 @@ impl Handler {
 
     /// One event is exchanged on it.
     fn event(&mut self, connection: &mut Session, event: Event) -> Result<Told, OutOfMemory>
-        ensures { IfOk result (λ told. AnswersAs self.old.core self.new.core told connection.new
+        ensures { IfOk result (λ told. AnswersAs self.old.core self.new.core told (Connection.Client connection.new)
             (λ state label done. exchanges state label connection.old (event ∷ []) ≡ done)) }
     {
         let mut events = Vec::new(self.alloc);
@@ -104,7 +119,7 @@ impl Handler {
         connection: &mut Session,
         events: Vec<Event>,
     ) -> Result<Told, OutOfMemory>
-        ensures { IfOk result (λ told. AnswersAs self.old.core self.new.core told connection.new
+        ensures { IfOk result (λ told. AnswersAs self.old.core self.new.core told (Connection.Client connection.new)
             (λ state label done. exchanges state label connection.old events.items ≡ done)) }
     {
         cores_exchange_as_their_states();
@@ -136,7 +151,7 @@ impl Visit<Labelled> for Handler {
 }
 
 /// Nothing is left of a connection that was shut.
-fn close_if_shut(connection: &mut Option<Session>, state: State)
+fn close_if_shut(connection: &mut Option<Connection>, state: State)
     ensures { connection.new ≡ connection_unless connection.old state }
 {
     if let State::Shut(_) = state {

@@ -3,15 +3,25 @@
 ghost use Rattle.std.specs.Prelude.{◌≡◌, is_some};
 ghost use Rattle.radio_floor.specs.ScriptState.{connection_of};
 
+use radio_pull::RelayPull;
 use radio_session::Session;
 use radio_tables::{Row, Table};
+
+/// What a label names.
+#[derive(Drop)]
+pub(crate) enum Connection {
+    /// A client's connection.
+    Client(Session),
+    /// A relay's connection to its master.
+    Relay(RelayPull),
+}
 
 /// A label that was opened, and its connection until that is shut. What a draw reads of both lies
 /// together.
 #[derive(Drop)]
 pub(crate) struct Labelled {
     pub(crate) label: u32,
-    pub(crate) connection: Option<Session>,
+    pub(crate) connection: Option<Connection>,
 }
 
 impl Row for Labelled {

@@ -11,6 +11,7 @@ ghost use Rattle.radio_floor.specs.ScriptEvents.{ScriptsComeToEvents};
 ghost use Rattle.radio_floor.specs.HearsSlices.{DrawsAreStretches};
 
 use radio_laws::stretches_are_whole;
+use radio_pull::pulling_is_one;
 use radio_session::{hearing_is_one, last_words_name_the_rule};
 
 /// The server does one thing at each delivery. So a script has one transcript, and what the whole
@@ -21,6 +22,7 @@ pub fn the_transcript_is_one()
     ensures goes_on { GoesOnAsItBegan conduct }
 {
     hearing_is_one();
+    pulling_is_one();
 }
 
 /// A connection that is shut shows the word of the rule by which it is, or `done` where its peer has

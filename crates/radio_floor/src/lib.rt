@@ -2,18 +2,20 @@
 //!
 //! - [`play`]: a script from a reader, its transcript to a writer; [`run`]: a list of deliveries.
 //! - The server as the performer of deliveries: `script_server` (its core, and the connections of the
-//!   labels), `labelled`, `handler` (what comes to a connection), and `performing`.
+//!   labels), `labelled`, `handler` and `relay_handler` (what comes to a client's connection, and to a
+//!   relay's), and `performing`.
 //! - Laws, which run no code: [`the_transcript_is_one`], [`last_words_are_told`],
 //!   [`scripts_come_to_events`], [`draws_are_stretches`].
 //!
 //! The lines of scripts and of transcripts, and the devices, are those of `radio_script`; what a
-//! connection hears and says is `radio_session`'s.
+//! client's connection hears and says is `radio_session`'s, and what a relay pulls in `radio_pull`'s.
 #![tactic(auto)]
 
 mod handler;
 mod labelled;
 mod laws;
 mod performing;
+mod relay_handler;
 mod script_server;
 mod scripts;
 

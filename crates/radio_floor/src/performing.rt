@@ -3,7 +3,7 @@
 ghost use Rattle.std.specs.Prelude.{◌≡◌, ◌++◌, MatchResult};
 ghost use Rattle.radio_floor.specs.ScriptState.{told_lines};
 ghost use Rattle.radio_floor.specs.Performing.{PerformsAs};
-ghost use Rattle.radio_script.specs.declared.delivery.Delivery.TheVariants.{Open, To, Clock};
+ghost use Rattle.radio_script.specs.declared.delivery.Delivery.TheVariants.{Open, Pull, To, Clock};
 
 use crate::handler::{Told, tick};
 use crate::labelled::has_label;
@@ -23,6 +23,7 @@ impl ScriptServer {
     {
         match delivery {
             Delivery::Open { label, peer } => self.perform_open(*label, *peer, lines),
+            Delivery::Pull { label, mount } => self.perform_pull(*label, mount.as_slice(), lines),
             Delivery::To { label, input } => self.perform_input(*label, input, lines),
             Delivery::Clock { ms } => self.perform_clock(*ms, lines),
         }
@@ -42,6 +43,25 @@ impl ScriptServer {
         }
         match self.open(label, peer, lines) {
             Ok(()) => Ok(()),
+            Err(_) => Err(PerformFault::OutOfMemory),
+        }
+    }
+
+    fn perform_pull(
+        &mut self,
+        label: u32,
+        mount: &[u8],
+        lines: &mut Vec<u8>,
+    ) -> Result<(), PerformFault>
+        ensures { PerformsAs result self.old.handler.core self.old.connections (Pull label mount.now) lines.old.items lines.new.items
+            self.new.handler.core self.new.connections }
+    {
+        if has_label(&self.connections, label) {
+            return Err(PerformFault::Label);
+        }
+        match self.connect(label, mount, lines) {
+            Ok(true) => Ok(()),
+            Ok(false) => Err(PerformFault::Label),
             Err(_) => Err(PerformFault::OutOfMemory),
         }
     }

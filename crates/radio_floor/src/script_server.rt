@@ -1,24 +1,27 @@
 //! The server behind a script: its core, and the connections of the labels.
 
-ghost use Rattle.std.specs.Prelude.{◌≡◌, ℕ, List, [], ◌∷◌, ◌++◌, true, Ok, Err, IfOk, OnOk, is_some, Some, None};
+ghost use Rattle.std.specs.Prelude.{◌≡◌, ℕ, List, [], ◌++◌, true, false, Ok, IfOk, OnOk, Some, None};
+ghost use Rattle.std.specs.Option.{option_copied};
 ghost use Rattle.radio_core.specs.World.{World, opening};
 ghost use Rattle.radio_events.specs.declared.event.Event.TheVariants.{Arrive};
 ghost use Rattle.radio_core.specs.Step.{Represents, reply_to, world_after};
 ghost use Rattle.radio_session.specs.Conversation.{asking};
 ghost use Rattle.radio_session.specs.Saying.{said};
-ghost use Rattle.radio_floor.specs.ScriptState.{taken_in, told_lines};
-ghost use Rattle.radio_floor.specs.ScriptServer.{OpensAs};
+ghost use Rattle.radio_floor.specs.ScriptState.{connects, relay_named, taken_in, told_lines};
+ghost use Rattle.radio_floor.specs.ScriptServer.{ConnectsAs, OpensAs};
 
 use crate::OutOfMemory;
 use crate::handler::Handler;
-use crate::labelled::Labelled;
+use crate::labelled::{Connection, Labelled};
 use radio_access::Lists;
 use radio_addr::Peer;
 use radio_core::Core;
 use radio_events::{Event, Reply};
+use radio_pull::RelayPull;
+use radio_relay::request_text;
 use radio_script::push_answer;
 use radio_session::{Session, State};
-use radio_settings::Settings;
+use radio_settings::{MountName, RelaySetting, Settings};
 use radio_tables::Table;
 use std::alloc::Global;
 
@@ -62,6 +65,38 @@ impl ScriptServer {
         push_told(alloc, label, told.as_slice(), state, lines)?;
         Ok(())
     }
+
+    /// The relay that feeds the mount of this name connects to its master under a new label; whether
+    /// there is one.
+    pub(crate) fn connect(
+        &mut self,
+        label: u32,
+        mount: &[u8],
+        lines: &mut Vec<u8>,
+    ) -> Result<bool, OutOfMemory>
+        ensures core { self.new.handler.core ≡ self.old.handler.core }
+        ensures one { result ≡ Ok true → (text : List ℕ) × (lines.new.items ≡ lines.old.items ++ text)
+            × ConnectsAs self.old.handler.core self.old.connections label mount.now (Some text) self.new.connections }
+        ensures none { result ≡ Ok false → ConnectsAs self.old.handler.core self.old.connections label mount.now None self.new.connections }
+    {
+        let alloc = self.handler.alloc;
+        let Some(relay) = relay_named(&self.handler.core, mount) else {
+            return Ok(false);
+        };
+        let request = request_text(alloc, relay)?;
+        let connection = Some(Connection::Relay(RelayPull::new(alloc, relay.local_mount)));
+        self.connections.insert(Labelled { label, connection })?;
+        push_told(alloc, label, request.as_slice(), State::Running, lines)?;
+        Ok(true)
+    }
+}
+
+/// The relay that feeds the mount of this name, by the settings.
+fn relay_named<'a>(core: &'a Core, mount: &[u8]) -> Option<&'a RelaySetting>
+    ensures { (w : World) → Represents core.now w → option_copied result ≡ relay_named w mount.now }
+{
+    let name = MountName::read(mount)?;
+    core.settings().relays.get(&name)
 }
 
 /// A connection arrives at the server: the connection, if it is taken in, and whether it goes
@@ -71,7 +106,7 @@ fn arrive(
     core: &mut Core,
     peer: Peer,
     out: &mut Vec<u8>,
-) -> Result<(Option<Session>, State), OutOfMemory>
+) -> Result<(Option<Connection>, State), OutOfMemory>
     ensures { IfOk result (λ arrived. (w : World) → Represents core.old w →
         let reply = reply_to w (Arrive peer) in
         let told = said asking reply in
@@ -89,7 +124,7 @@ fn answer_arrival(
     peer: Peer,
     reply: Reply,
     out: &mut Vec<u8>,
-) -> Result<(Option<Session>, State), OutOfMemory>
+) -> Result<(Option<Connection>, State), OutOfMemory>
     ensures { let told = said asking reply in
         IfOk result (λ arrived. (out.new.items ≡ out.old.items ++ told.bytes) × (arrived.0 ≡ taken_in peer reply) × (arrived.1 ≡ told.state)) }
 {
@@ -113,11 +148,11 @@ fn tell_arrival(
 }
 
 /// The new connection, if the server takes it in.
-fn taken_in(alloc: Global, peer: Peer, reply: &Reply) -> Option<Session>
+fn taken_in(alloc: Global, peer: Peer, reply: &Reply) -> Option<Connection>
     ensures { result ≡ taken_in peer reply.now }
 {
     match reply {
-        Reply::Arrived(id) => Some(Session::new(alloc, *id, peer)),
+        Reply::Arrived(id) => Some(Connection::Client(Session::new(alloc, *id, peer))),
         _ => None,
     }
 }

@@ -1,20 +1,20 @@
 -- What a caller of a hall is told, and what his pass gains.
-use Rattle.std.specs.Prelude.{◌≡◌, ℕ, Bool, true, false, List, [], ◌∷◌, ◌++◌, map}
+use Rattle.std.specs.Prelude.{◌≡◌, ℕ, Bool, true, false, List, [], ◌∷◌, ◌++◌, map, Some}
 use Rattle.radio_events.specs.declared.event.Event.{Event}
-use Rattle.radio_events.specs.declared.event.Event.TheVariants.{Leave}
 use Rattle.radio_events.specs.declared.reply.Reply.{Reply}
 use Rattle.radio_events.specs.Events.{TakesNoMemory}
 use Rattle.radio_core.specs.Step.{reply_to}
 use Rattle.radio_core.specs.World.{World}
-use Rattle.radio_book.specs.Clients.{is_here}
+use Rattle.radio_book.specs.declared.newcomer.Newcomer.{Newcomer}
+use Rattle.radio_book.specs.Newcomers.{is_here, leaver_of}
 use Rattle.radio_book.specs.declared.entry.Entry.{Entry}
 use Rattle.radio_book.specs.History.{IsRun, entry_of, world_of}
 use Rattle.radio_book.specs.Stamp.{Stamp, stamped}
 use Rattle.radio_hall.specs.Turns.{Chain}
 
--- the event is not the end of one who was let in by these receipts, and has not left by them
+-- the event is not the end of one who was let in by these receipts, and has not gone by them
 abbrev pub IsNotHisEnd : List Stamp → Event → Type 0
-IsNotHisEnd receipts event = (id : ℕ) → event ≡ Leave id → is_here id receipts ≡ true → ⊥
+IsNotHisEnd receipts event = (one : Newcomer) → leaver_of event ≡ Some one → is_here one receipts ≡ true → ⊥
 
 -- where entries are stored, the pass gains the receipt of this event with this reply
 abbrev pub Gains : Bool → List Stamp → Event → Reply → List Stamp → Type 0

@@ -5,7 +5,8 @@ ghost use Rattle.std.specs.List.{range_with_len};
 ghost use Rattle.radio_events.specs.Events.{TakesNoMemory};
 ghost use Rattle.radio_core.specs.World.{opening};
 ghost use Rattle.radio_book.specs.declared.entry.Entry.{Entry as EntryOf};
-ghost use Rattle.radio_book.specs.Clients.{is_here};
+ghost use Rattle.radio_book.specs.declared.newcomer.Newcomer.{Newcomer};
+ghost use Rattle.radio_book.specs.Newcomers.{is_here, leaver_of};
 ghost use Rattle.radio_book.specs.History.{IsLegal, IsRun, StandsIn};
 ghost use Rattle.radio_book.specs.Settling.{Rises, Shows, all_serials, serials};
 
@@ -52,8 +53,8 @@ impl<C: Chronicle, H: House> Hall<C, H> {
     /// One event, by [`Book::apply`] under the lock; its receipt.
     ///
     /// `OutOfMemory` where memory was refused; the book and the pass are unchanged then. Where
-    /// entries are stored, the end of a client who was let in through this pass, and has not left
-    /// through it, is never refused. Where they are not, no end is ever refused, nor the clock.
+    /// entries are stored, the end of a client or a relay that was let in through this pass, and has
+    /// not gone through it, is never refused. Where they are not, no end is ever refused, nor the clock.
     pub fn apply<R: Wait>(
         &self,
         rt: &R,
@@ -69,8 +70,8 @@ impl<C: Chronicle, H: House> Hall<C, H> {
         ensures pass { C.KEEPS ≡ true → IfOk result (λ receipt. pass.new ≡ pass.old ++ receipt ∷ []) }
         ensures unkept { C.KEEPS ≡ false → (pass.new ≡ pass.old) × IfOk result (λ receipt. receipt.serial ≡ 0) }
         ensures err { OnErr result (pass.new ≡ pass.old) }
-        // the end of who was let in by the receipts of this pass, and has not left by them, is never refused
-        ensures leave { (id : ℕ) → event ≡ Event.Leave id → is_here id pass.old ≡ true → IsOk result }
+        // the end of who was let in by the receipts of this pass, and has not gone by them, is never refused
+        ensures leave { (one : Newcomer) → leaver_of event ≡ Some one → is_here one pass.old ≡ true → IsOk result }
         // where nothing is stored, the end of a session and of a connection, and the clock, are never refused
         ensures frees { C.KEEPS ≡ false → TakesNoMemory event → IsOk result }
     {

@@ -2,7 +2,7 @@
 use Rattle.std.proofs.Common.{◌≡◌, inl, inr, Bool, true, false, ℕ, ◌-◌, ◌<◌, ◌≤◌, ◌==◌, Option, Some, None, List, [], ◌∷◌, refl, ap, sym, subst, ◌∙◌, arith}
 use Rattle.std.specs.Prelude.{find, nat_le, unwrap_or, min}
 use Rattle.std.proofs.lemmas.Bool.Decides.{nat_tests}
-use Rattle.radio_settings.specs.declared.field.Shown.{Shown}
+use Rattle.radio_events.specs.declared.reply.StreamHead.{StreamHead}
 use Rattle.radio_tables.specs.Lists.{Each, Has}
 use Rattle.radio_tables.proofs.FindLaws.{find_here, find_later}
 use Rattle.radio_events.specs.declared.event.Event.{Event}
@@ -20,8 +20,8 @@ use Rattle.radio_parts.specs.Sessions.{Session}
 use Rattle.radio_parts.specs.Stream.{AreRising, WholeStream, end_of, burst_start}
 use Rattle.radio_core.specs.Sound.{IsSound}
 use Rattle.radio_core.specs.Step.{outcome, reply_to, world_after}
-use Rattle.radio_core.specs.Ways.{Way, Misplaced, IsFinished, IsDenied, IsRefused, IsAdmitted, Begins, Receives, SetsTitle, TakesSeat, HandsOut, Ends}
-use Rattle.radio_core.specs.Ways.{EndsAndLeaves, Leaves, Obeys, Shows, HasPassed, Ticks}
+use Rattle.radio_core.specs.Ways.{Way, Misplaced, IsFinished, IsDenied, IsRefused, IsAdmitted, Begins, ComesUp, Receives, SetsTitle, TakesSeat, HandsOut, Ends}
+use Rattle.radio_core.specs.Ways.{EndsAndLeaves, Leaves, GoesDown, Obeys, Shows, HasPassed, Ticks}
 use Rattle.radio_seats.proofs.SeatLaws.{has_sat_down}
 use Rattle.std.proofs.lemmas.Bool.{and_parts}
 use Rattle.radio_access.specs.Lists.{lets_in}
@@ -71,16 +71,18 @@ module _ (w : World) (s : IsSound w) (k : KeepsLists w) (l : Within w) where
   his_by event o (IsRefused _ id by v his undecided) bytes title d = cc
   his_by event o (IsAdmitted peer allowed) bytes title d = cc
   his_by event o (Begins asked undecided none allowed) bytes title d = cc
+  his_by event o (ComesUp mount shown unfed allowed) bytes title d = cc
   his_by event o (Receives id mount block feeding) bytes title d = cc
   his_by event o (SetsTitle id mount text feeding) bytes title d = cc
-  his_by event o (Shows _ listing c) bytes title d = cc
+  his_by event o (Shows _ asker peer text its undecided what) bytes title d = cc
   his_by event o (Obeys _ command c) bytes title d = cc
   his_by event o (HasPassed ms e) bytes title d = cc
   his_by event o (Ticks ms e) bytes title d = cc
   his_by event o (TakesSeat asked peer session undecided lands live allowed) bytes title d = cc
-  his_by event o (Ends id mount feeding) bytes title d = cc
-  his_by event o (EndsAndLeaves id mount feeding) bytes title d = cc
-  his_by event o (Leaves id other) bytes title d = cc
+  his_by event o (Ends id mount feeding no_relay) bytes title d = cc
+  his_by event o (EndsAndLeaves _ id mount closes feeding) bytes title d = cc
+  his_by event o (Leaves id no_relay other) bytes title d = cc
+  his_by event o (GoesDown id by_rule relay over) bytes title d = cc
 
   pub access_holds : (event : Event) → AccessIsKept w event
   unfolding reply_to
@@ -187,9 +189,9 @@ no_interval : (house : House) (mount : List ℕ) (wants : Bool) → wants ≡ fa
 no_interval house mount wants e = rw e refl
 
 module _ (w : World) (s : IsSound w) where
-  seated_by : (event : Event) (o : Outcome) → Way w event o → (interval : Option ℕ) (shown : Shown) → o.reply ≡ Seated interval shown
-      → ((id : ℕ) → seat_of (changed w o.change).seats id ≡ seat_of (world_after w event).seats id) → IsSeated w event interval shown
-  seated_by event o (TakesSeat asked peer session undecided lands live allowed) interval shown d after =
+  seated_by : (event : Event) (o : Outcome) → Way w event o → (interval : Option ℕ) (head : StreamHead) → o.reply ≡ Seated interval head
+      → ((id : ℕ) → seat_of (changed w o.change).seats id ≡ seat_of (world_after w event).seats id) → IsSeated w event interval head
+  seated_by event o (TakesSeat asked peer session undecided lands live allowed) interval head d after =
       let itself : (asked.id == asked.id) ≡ true = grind (arith, nat_tests) in
       let seat = first_seat w.house asked peer session in
       let here : interval ≡ interval_for w.house asked.mount asked.wants_metadata = sym (seated_interval d) in
@@ -200,7 +202,8 @@ module _ (w : World) (s : IsSound w) where
         listens = refl;
         session = session;
         is_live = live;
-        shows = sym (seated_shown d);
+        shows = ap (λ (h : StreamHead). h.shown) (sym (seated_head d));
+        readers = ap (λ (h : StreamHead). h.allow_origin) (sym (seated_head d));
         seat = seat;
         has_the_seat = sym (after asked.id) ∙ ap seat_in (has_sat_down w.seats asked.id seat itself);
         steps = way.0;
@@ -219,28 +222,30 @@ module _ (w : World) (s : IsSound w) where
         starts = within_both session.stream (options_for w.house.settings session.mount).stream.burst_size w.house.settings.limits.queue_size seat.place
             (earliest_start session (burst_of w.house session.mount) (s.starts session.mount session live));
       } where
-        seated_shown : {a b : Option ℕ} {t u : Shown} → Seated a t ≡ Seated b u → t ≡ u
-        seated_shown e = cc
+        seated_head : {a b : Option ℕ} {t u : StreamHead} → Seated a t ≡ Seated b u → t ≡ u
+        seated_head e = cc
 
-        seated_interval : {a b : Option ℕ} {t u : Shown} → Seated a t ≡ Seated b u → a ≡ b
+        seated_interval : {a b : Option ℕ} {t u : StreamHead} → Seated a t ≡ Seated b u → a ≡ b
         seated_interval e = cc
-  seated_by event o (Misplaced _) interval shown d after = cc
-  seated_by event o (IsFinished _ id by his told) interval shown d after = cc
-  seated_by event o (IsDenied _ by v not) interval shown d after = cc
-  seated_by event o (IsRefused _ id by v his undecided) interval shown d after = cc
-  seated_by event o (IsAdmitted peer allowed) interval shown d after = cc
-  seated_by event o (Begins asked undecided none allowed) interval shown d after = cc
-  seated_by event o (Receives id mount block feeding) interval shown d after = cc
-  seated_by event o (SetsTitle id mount text feeding) interval shown d after = cc
-  seated_by event o (Shows _ listing c) interval shown d after = cc
-  seated_by event o (Obeys _ command c) interval shown d after = cc
-  seated_by event o (HasPassed ms e) interval shown d after = cc
-  seated_by event o (Ticks ms e) interval shown d after = cc
-  seated_by event o (HandsOut id room seat session sits has live) interval shown d after = cc
-  seated_by event o (Ends id mount feeding) interval shown d after = cc
-  seated_by event o (EndsAndLeaves id mount feeding) interval shown d after = cc
-  seated_by event o (Leaves id other) interval shown d after = cc
+  seated_by event o (Misplaced _) interval head d after = cc
+  seated_by event o (IsFinished _ id by his told) interval head d after = cc
+  seated_by event o (IsDenied _ by v not) interval head d after = cc
+  seated_by event o (IsRefused _ id by v his undecided) interval head d after = cc
+  seated_by event o (IsAdmitted peer allowed) interval head d after = cc
+  seated_by event o (Begins asked undecided none allowed) interval head d after = cc
+  seated_by event o (ComesUp mount shown unfed allowed) interval head d after = cc
+  seated_by event o (Receives id mount block feeding) interval head d after = cc
+  seated_by event o (SetsTitle id mount text feeding) interval head d after = cc
+  seated_by event o (Shows _ asker peer text its undecided what) interval head d after = cc
+  seated_by event o (Obeys _ command c) interval head d after = cc
+  seated_by event o (HasPassed ms e) interval head d after = cc
+  seated_by event o (Ticks ms e) interval head d after = cc
+  seated_by event o (HandsOut id room seat session sits has live) interval head d after = cc
+  seated_by event o (Ends id mount feeding no_relay) interval head d after = cc
+  seated_by event o (EndsAndLeaves _ id mount closes feeding) interval head d after = cc
+  seated_by event o (Leaves id no_relay other) interval head d after = cc
+  seated_by event o (GoesDown id by_rule relay over) interval head d after = cc
 
   pub admission_holds : (event : Event) → BeginsAtABlock w event
   unfolding reply_to world_after
-  admission_holds event interval shown d = seated_by event (outcome w event) (way_of w event) interval shown d (λ id. refl)
+  admission_holds event interval head d = seated_by event (outcome w event) (way_of w event) interval head d (λ id. refl)

@@ -23,11 +23,8 @@ use Rattle.radio_events.specs.declared.command.Command.{Command as TheCommand}
 use Rattle.radio_events.specs.declared.command.Command.TheVariants.{MoveClients, KillClient, KillSource, SetTitle, SetFallback}
 use Rattle.radio_events.specs.declared.event.Event.{Event}
 use Rattle.radio_events.specs.declared.reply.Reply.TheVariants.{Text as SaysText}
-use Rattle.radio_events.specs.declared.command.Listing.{Listing}
-use Rattle.radio_events.specs.declared.command.Listing.TheVariants.{Status, Stats, Mounts, Clients, Streams}
 use Rattle.radio_events.specs.declared.text.Text.{Text}
 use Rattle.radio_events.specs.Texts.{IsShort}
-use Rattle.radio_core.specs.Listings.{shown}
 use Rattle.radio_core.specs.declared.outcome.Change.TheVariants.{Answer, Obey}
 use Rattle.radio_core.specs.declared.outcome.Outcome.{Outcome}
 use Rattle.radio_core.specs.declared.standing.Standing.{Standing}
@@ -50,15 +47,17 @@ use Rattle.radio_core.specs.Fallbacks.{Fallback, set_for}
 use Rattle.radio_parts.specs.Sessions.{Session, session_of, without_session}
 use Rattle.radio_parts.proofs.ApartLemmas.{bytes_apart}
 use Rattle.radio_parts.proofs.SessionLookups.{is_over, is_titled, beside_titled, beside_ended}
+use Rattle.radio_core.proofs.AllowedCommands.{is_opened, may_act, needs_hold}
+use Rattle.radio_core.proofs.ListingLemmas.{shown_long}
 use Rattle.radio_core.proofs.Lookups.{is_set, beside_set}
 use Rattle.radio_laws.specs.Walks.{FallsBack, ByTheSettings, ByACommand}
 use Rattle.radio_core.specs.Outcomes.{on_verdict, if_undecided}
 use Rattle.radio_core.specs.Sound.{IsSound}
 use Rattle.radio_core.specs.Step.{outcome, reply_to, world_after}
-use Rattle.radio_core.specs.Ways.{Way, Misplaced, IsFinished, IsDenied, IsRefused, IsAdmitted, Begins, Receives, SetsTitle, TakesSeat, HandsOut, Ends}
-use Rattle.radio_core.specs.Ways.{EndsAndLeaves, Leaves, Obeys, Shows, HasPassed, Ticks}
+use Rattle.radio_core.specs.Ways.{Way, Misplaced, IsFinished, IsDenied, IsRefused, IsAdmitted, Begins, ComesUp, Receives, SetsTitle, TakesSeat, HandsOut, Ends}
+use Rattle.radio_core.specs.Ways.{EndsAndLeaves, Leaves, GoesDown, Obeys, Shows, HasPassed, Ticks}
 use Rattle.radio_core.specs.World.{World, standing_of}
-use Rattle.radio_core.proofs.Obeyed.{needs_hold, may_act, is_opened, is_another, his_seat, has_been_killed, sits_no_more, beside_him, live, is_cut, named, turned, title_live, is_answered}
+use Rattle.radio_core.proofs.Obeyed.{is_another, his_seat, has_been_killed, sits_no_more, beside_him, live, is_cut, named, turned, title_live, is_answered}
 use Rattle.radio_core.proofs.SoundRuns.{sound_after}
 use Rattle.radio_core.proofs.Ways.{way_of}
 use Rattle.radio_laws.proofs.GoneLemmas.{last_rises}
@@ -104,20 +103,21 @@ pub one_of : (a b : Bool) → (a || b) ≡ true → (a ≡ true) ⊎ (b ≡ true
 one_of true b e = inl refl
 one_of false b e = inr e
 
+-- so it has a session
+is_found : (found : Option Session) → is_some found ≡ true → (session : Session) × (found ≡ Some session)
+is_found None e = cc
+is_found (Some session) e = (session, refl)
+
+pub lives_by : (w : World) (mount : List ℕ) → is_live w.house mount ≡ true → IsLive w mount
+lives_by w mount e = is_found (session_of w.house.live mount) e
+
 module _ (w : World) (s : IsSound w) (event : Event) where
   -- what it needs was there
-  is_found : (found : Option Session) → is_some found ≡ true → (session : Session) × (found ≡ Some session)
-  is_found None e = cc
-  is_found (Some session) e = (session, refl)
-
-  lives_by : (mount : List ℕ) → is_live w.house mount ≡ true → IsLive w mount
-  lives_by mount e = is_found (session_of w.house.live mount) e
-
   was_there : (command : TheCommand) (c : IsCommanded w event command) → IsThere w command
   was_there (MoveClients mount destination) c =
-      let both = may_go (is_live w.house mount) (is_live w.house destination) (bytes_eq mount destination) (needs_hold w s event c) in (
-        lives_by mount both.0,
-        lives_by destination both.1,
+      let both = may_go (is_live w.house mount) (is_live w.house destination) (bytes_eq mount destination) (needs_hold w event c) in (
+        lives_by w mount both.0,
+        lives_by w destination both.1,
         λ same.
             let one : bytes_eq mount destination ≡ true = (bytes_eq-Decides mount destination).1 same in
             let two : bytes_eq mount destination ≡ false = is_another w s event mount destination c in
@@ -125,11 +125,11 @@ module _ (w : World) (s : IsSound w) (event : Event) where
       )
   was_there (KillClient mount listener) c =
       let his = his_seat w s event mount listener c in
-      let live = lives_by mount (may_end (is_live w.house mount) (sits_at w.seats mount listener) (needs_hold w s event c)) in
+      let live = lives_by w mount (may_end (is_live w.house mount) (sits_at w.seats mount listener) (needs_hold w event c)) in
       (live, his.0, his.1, his.2)
-  was_there (KillSource mount) c = lives_by mount (may_act (is_live w.house mount) (needs_hold w s event c))
-  was_there (SetTitle mount text) c = lives_by mount (may_act (is_live w.house mount) (needs_hold w s event c))
-  was_there (SetFallback mount fallback) c = lives_by mount (may_act (is_live w.house mount) (needs_hold w s event c))
+  was_there (KillSource mount) c = lives_by w mount (may_act (is_live w.house mount) (needs_hold w event c))
+  was_there (SetTitle mount text) c = lives_by w mount (may_act (is_live w.house mount) (needs_hold w event c))
+  was_there (SetFallback mount fallback) c = lives_by w mount (may_act (is_live w.house mount) (needs_hold w event c))
 
   -- so who sent a login that may give it gave it by right
   given : (command : TheCommand) (c : IsCommanded w event command) (login : Login) (has : HasLogin login c.asked.pair) → MayGive w has.pair command
@@ -169,35 +169,30 @@ module _ (w : World) (s : IsSound w) (event : Event) where
       given command c w.house.settings.access.admin has (AsTheAdmin command (record { user = has.user; password = has.password }))
   by_right command c (inr source) = by_source command c source
 
--- a listing is no short text
-pub no_short : (w : World) (listing : Listing) → IsShort (shown w listing) → ⊥
-no_short w Status short = short
-no_short w Stats short = short
-no_short w Mounts short = short
-no_short w (Clients mount) short = short
-no_short w Streams short = short
-
 given_by : (w : World) → IsSound w → (event : Event) (o : Outcome) → Way w event o → (text : Text) → o.reply ≡ SaysText text → IsShort text
     → IsGivenByRight w event
-given_by w s event o (Shows _ listing c) text d short = let same : shown w listing ≡ text = cc in absurd (no_short w listing (subst IsShort (sym same) short))
+given_by w s event o (Shows _ asker peer shown its undecided what) text d short =
+    let same : shown ≡ text = cc in absurd (shown_long w event shown what (subst IsShort (sym same) short))
 given_by w s event o (Obeys _ command c) text d short =
     by_right w s event command c (one_of (is_admin_pair w.house.settings c.asked.pair) (opens_as_source w.house.settings (opened_by command) c.asked.pair)
-    (is_opened w s event c))
+    (is_opened w event c))
 given_by w s event o (Misplaced _) text d short = cc
 given_by w s event o (IsFinished _ him by its known) text d short = cc
 given_by w s event o (IsDenied _ by v nobody) text d short = cc
 given_by w s event o (IsRefused _ him by v its undecided) text d short = cc
 given_by w s event o (IsAdmitted peer allowed) text d short = cc
 given_by w s event o (Begins asked undecided none allowed) text d short = cc
+given_by w s event o (ComesUp mount shown unfed allowed) text d short = cc
 given_by w s event o (Receives him mount block feeding) text d short = cc
 given_by w s event o (SetsTitle him mount title feeding) text d short = cc
 given_by w s event o (HasPassed ms e) text d short = cc
 given_by w s event o (Ticks ms e) text d short = cc
 given_by w s event o (TakesSeat asked peer session undecided lands live allowed) text d short = cc
 given_by w s event o (HandsOut him room seat session sits has live) text d short = cc
-given_by w s event o (Ends him mount feeding) text d short = cc
-given_by w s event o (EndsAndLeaves him mount feeding) text d short = cc
-given_by w s event o (Leaves him other) text d short = cc
+given_by w s event o (Ends him mount feeding no_relay) text d short = cc
+given_by w s event o (EndsAndLeaves _ him mount closes feeding) text d short = cc
+given_by w s event o (Leaves him no_relay other) text d short = cc
+given_by w s event o (GoesDown him by_rule relay over) text d short = cc
 
 pub only_who_may : (w : World) → IsSound w → (event : Event) → OnlyWhoMayCommands w event
 unfolding reply_to

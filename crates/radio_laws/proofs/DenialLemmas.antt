@@ -31,6 +31,7 @@ use Rattle.radio_core.specs.declared.outcome.Outcome.{Outcome}
 use Rattle.radio_core.specs.declared.standing.Standing.TheVariants.{Undecided}
 use Rattle.radio_core.specs.Changes.{changed}
 use Rattle.radio_core.specs.Clients.{Client, client_of, in_state}
+use Rattle.radio_core.specs.Relays.{Relay, relay_of}
 use Rattle.radio_laws.specs.Denials.{IsOnlyAnswered, DenialsAreThePolicys, AddressesAreDenied, FeedsAsItsSource, OnlySourcesFeed}
 use Rattle.radio_laws.specs.Denials.{KnownMountsAreKnown}
 use Rattle.radio_core.specs.Facts.{is_known, arrive_facts, rows_to_arrive}
@@ -38,8 +39,8 @@ use Rattle.radio_core.specs.Arrive.{admits_client}
 use Rattle.radio_core.specs.Outcomes.{on_verdict}
 use Rattle.radio_parts.specs.Sessions.{session_of}
 use Rattle.radio_core.specs.Step.{outcome, reply_to, world_after}
-use Rattle.radio_core.specs.Ways.{Way, Misplaced, IsFinished, IsDenied, IsRefused, IsAdmitted, Begins, Receives, SetsTitle, TakesSeat, HandsOut, Ends}
-use Rattle.radio_core.specs.Ways.{EndsAndLeaves, Leaves, Obeys, Shows, HasPassed, Ticks, rows_for, IsUndecided}
+use Rattle.radio_core.specs.Ways.{Way, Misplaced, IsFinished, IsDenied, IsRefused, IsAdmitted, Begins, ComesUp, Receives, SetsTitle, TakesSeat, HandsOut, Ends}
+use Rattle.radio_core.specs.Ways.{EndsAndLeaves, Leaves, GoesDown, Obeys, Shows, HasPassed, Ticks, rows_for, IsUndecided}
 use Rattle.radio_core.specs.World.{World, standing_of, standing_in}
 use Rattle.radio_laws.proofs.LimitDenials.{denied_by}
 use Rattle.radio_laws.proofs.ListenerDenials.{why_denied, unknown_where}
@@ -52,10 +53,10 @@ module _ (denies : (rows : List Row) (rule : Rule) → (verdict_in rows ≡ Deni
   Denial event o = (rule : Rule) → o.reply ≡ Deny rule → Denies (rows_for w event) rule × IsOnlyAnswered w (changed w o.change) (client_in event)
 
   -- who is there and has asked for nothing is undecided
-  is_undecided : (listener : Option Listener) (client : Option Client) (him : Client) → client ≡ Some him → him.state ≡ IsNew
-      → standing_in listener client ≡ Undecided him.peer
-  is_undecided listener client him there new = ap (standing_in listener) there ∙ by_state him new where
-    by_state : (x : Client) → x.state ≡ IsNew → standing_in listener (Some x) ≡ Undecided x.peer
+  is_undecided : (relay : Option Relay) (listener : Option Listener) (client : Option Client) (him : Client) → client ≡ Some him → him.state ≡ IsNew
+      → standing_in relay listener client ≡ Undecided him.peer
+  is_undecided relay listener client him there new = ap (standing_in relay listener) there ∙ by_state him new where
+    by_state : (x : Client) → x.state ≡ IsNew → standing_in relay listener (Some x) ≡ Undecided x.peer
     by_state x e = rw e refl
 
   -- the list of clients alone is another
@@ -70,6 +71,7 @@ module _ (denies : (rows : List Row) (rule : Rule) → (verdict_in rows ≡ Deni
     lists = refl;
     live = refl;
     fallbacks = refl;
+    relays = refl;
     last = refl;
     seats = refl;
     answered = answered;
@@ -79,7 +81,7 @@ module _ (denies : (rows : List Row) (rule : Rule) → (verdict_in rows ≡ Deni
   nobody_answered : (client : Option ℕ) → ((id : ℕ) → client ≡ Some id → IsUndecided w id → ⊥) → IsOnlyAnswered w w client
   nobody_answered client not =
       among_clients client w.house.clients
-      (λ id him his there new. absurd (not id his (him.peer, is_undecided (listener_of w.seats id) (client_of w.house.clients id) him there new)))
+      (λ id him his there new. absurd (not id his (him.peer, is_undecided (relay_of w.house.relays id) (listener_of w.seats id) (client_of w.house.clients id) him there new)))
       (λ id other. refl)
 
   named : (event : Event) (by rule : Rule) → verdict_in (rows_for w event) ≡ Denied by → Deny by ≡ Deny rule → Denies (rows_for w event) rule
@@ -164,17 +166,19 @@ module _ (w : World) where
   source_by event o (IsDenied _ by v nobody) d = cc
   source_by event o (IsRefused _ him by v his undecided) d = cc
   source_by event o (IsAdmitted peer allowed) d = cc
+  source_by event o (ComesUp mount shown unfed allowed) d = cc
   source_by event o (Receives him mount block feeding) d = cc
   source_by event o (SetsTitle him mount text feeding) d = cc
-  source_by event o (Shows _ listing c) d = cc
+  source_by event o (Shows _ asker peer text its undecided what) d = cc
   source_by event o (Obeys _ command c) d = cc
   source_by event o (HasPassed ms e) d = cc
   source_by event o (Ticks ms e) d = cc
   source_by event o (TakesSeat asked peer session undecided lands live allowed) d = cc
   source_by event o (HandsOut him room seat session sits has live) d = cc
-  source_by event o (Ends him mount feeding) d = cc
-  source_by event o (EndsAndLeaves him mount feeding) d = cc
-  source_by event o (Leaves him other) d = cc
+  source_by event o (Ends him mount feeding no_relay) d = cc
+  source_by event o (EndsAndLeaves _ him mount closes feeding) d = cc
+  source_by event o (Leaves him no_relay other) d = cc
+  source_by event o (GoesDown him by_rule relay over) d = cc
 
   pub only_sources_feed : (event : Event) → OnlySourcesFeed w event
   unfolding reply_to

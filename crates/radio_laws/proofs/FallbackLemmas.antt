@@ -1,5 +1,5 @@
 -- what was set for a mount stays set until a command sets another
-use Rattle.std.proofs.Common.{◌≡◌, ◌⊎◌, inl, inr, Option, Some, None, ℕ, List, refl, ap, subst}
+use Rattle.std.proofs.Common.{◌+◌, ◌≡◌, ◌⊎◌, inl, inr, Option, Some, None, ℕ, List, refl, ap, subst}
 use Rattle.radio_tables.proofs.KeyLaws.{by_name}
 use Rattle.radio_events.specs.declared.command.Command.{Command as TheCommand}
 use Rattle.radio_events.specs.declared.command.Command.TheVariants.{MoveClients, KillClient, KillSource, SetTitle as NewTitle, SetFallback}
@@ -7,14 +7,14 @@ use Rattle.radio_events.specs.declared.event.Event.{Event}
 use Rattle.radio_core.specs.declared.house.House.{House}
 use Rattle.radio_core.specs.declared.outcome.Change.TheVariants.{Obey}
 use Rattle.radio_core.specs.declared.outcome.Outcome.{Outcome}
-use Rattle.radio_core.specs.Changes.{answered, begun, changed, before_silence, silent_in, session_killed}
+use Rattle.radio_core.specs.Changes.{answered, begun, raised, changed, before_silence, silent_in, session_killed}
 use Rattle.radio_core.specs.CommandFacts.{IsCommanded}
 use Rattle.radio_core.specs.Fallbacks.{Fallback, set_for}
 use Rattle.radio_parts.specs.Sessions.{Session, session_of}
 use Rattle.radio_core.specs.Source.{shown_for}
 use Rattle.radio_core.specs.Step.{outcome, world_after}
-use Rattle.radio_core.specs.Ways.{Way, Misplaced, IsFinished, IsDenied, IsRefused, IsAdmitted, Begins, Receives, SetsTitle, TakesSeat, HandsOut, Ends}
-use Rattle.radio_core.specs.Ways.{EndsAndLeaves, Leaves, Obeys, Shows, HasPassed, Ticks}
+use Rattle.radio_core.specs.Ways.{Way, Misplaced, IsFinished, IsDenied, IsRefused, IsAdmitted, Begins, ComesUp, Receives, SetsTitle, TakesSeat, HandsOut, Ends}
+use Rattle.radio_core.specs.Ways.{EndsAndLeaves, Leaves, GoesDown, Obeys, Shows, HasPassed, Ticks}
 use Rattle.radio_core.specs.World.{World}
 use Rattle.radio_core.proofs.CalledHome.{house_called}
 use Rattle.radio_core.proofs.Lookups.{beside_set}
@@ -39,17 +39,21 @@ module _ (w : World) (mount : List ℕ) where
   stays_by event o (Begins asked undecided none allowed) =
       let up = record w { house = begun w.house asked.id asked.mount (shown_for w.house asked.mount asked.shown) } in
       inl (ap (λ (h : House). set_for h.fallbacks mount) (house_called up asked.mount))
+  stays_by event o (ComesUp there shown unfed allowed) =
+      let up = record w { house = raised w.house (w.house.last_id + 1) there (shown_for w.house there shown) } in
+      inl (ap (λ (h : House). set_for h.fallbacks mount) (house_called up there))
   stays_by event o (Receives id at block feeding) = inl refl
   stays_by event o (SetsTitle id at text feeding) = inl refl
   stays_by event o (TakesSeat asked peer session undecided lands live allowed) = inl refl
   stays_by event o (HandsOut id room seat session sits has live) = inl refl
-  stays_by event o (Ends id at feeding) = inl refl
-  stays_by event o (EndsAndLeaves id at feeding) = inl refl
-  stays_by event o (Leaves id other) = inl refl
+  stays_by event o (Ends id at feeding no_relay) = inl refl
+  stays_by event o (EndsAndLeaves _ id at closes feeding) = inl refl
+  stays_by event o (Leaves id no_relay other) = inl refl
+  stays_by event o (GoesDown id by_rule relay over) = inl refl
   stays_by event o (HasPassed ms e) = inl refl
   stays_by event o (Ticks ms e) =
       inl (ap (λ (fallbacks : List Fallback). set_for fallbacks mount) (silence_sets (silent_in (before_silence w ms)) (before_silence w ms)))
-  stays_by event o (Shows _ listing c) = inl refl
+  stays_by event o (Shows _ asker peer text its undecided what) = inl refl
   stays_by event o (Obeys _ command c) = by_command command c where
     by_command : (command : TheCommand) (c : IsCommanded w event command) → StaysSet (changed w (Obey c.asked.id command))
         ⊎ ((fallback : Option (List ℕ)) × IsCommanded w event (SetFallback mount fallback))

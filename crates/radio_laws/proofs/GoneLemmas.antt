@@ -1,29 +1,40 @@
 -- the law of those who have left
-use Rattle.std.proofs.Common.{◌≡◌, inl, inr, true, false, ℕ, ◌≤◌, Bool, Some, List, [], ◌∷◌, ◌++◌, refl, ap, sym, subst, ◌∙◌, arith}
+use Rattle.std.proofs.Common.{◌+◌, ◌≡◌, inl, inr, true, false, ℕ, ◌≤◌, Bool, Some, List, [], ◌∷◌, ◌++◌, refl, ap, sym, subst, ◌∙◌, arith, Option, None}
 use Rattle.std.specs.Prelude.{if◌then◌else◌}
 use Rattle.std.proofs.lemmas.List.{append-nil}
 use Rattle.radio_settings.specs.declared.settings.Settings.{Settings}
 use Rattle.radio_access.specs.Lists.{Lists}
 use Rattle.radio_events.specs.declared.event.Event.{Event}
-use Rattle.radio_events.specs.declared.event.Event.TheVariants.{Arrive, Source, Push, SourceEnd, Title, Listen, Draw, Command, Leave, Clock}
+use Rattle.radio_events.specs.declared.event.Event.TheVariants.{Arrive, Source, Push, SourceEnd, Title, Listen, Draw, Command, Leave}
+use Rattle.radio_events.specs.declared.event.Event.TheVariants.{RelayUp, RelayDown, Clock}
+use Rattle.radio_core.specs.declared.outcome.Change.TheVariants.{Nothing}
+use Rattle.radio_events.specs.declared.reply.Reply.TheVariants.{Noted, Stray}
+use Rattle.radio_core.specs.Outcomes.{says, unless_relayed}
+use Rattle.radio_core.specs.RelayDown.{goes_down_from}
 use Rattle.radio_core.specs.declared.outcome.Outcome.{Outcome}
 use Rattle.radio_core.specs.declared.standing.Standing.{Standing}
 use Rattle.radio_core.specs.declared.standing.Standing.TheVariants.{Unknown, Undecided, Feeds, Sits, Answered, Finished}
-use Rattle.radio_core.specs.World.{World, standing_of}
-use Rattle.radio_core.specs.Changes.{changed, session_ended, begun}
+use Rattle.radio_core.specs.World.{World, standing_of, has_relay}
+use Rattle.radio_core.specs.Changes.{changed, session_ended, begun, raised}
 use Rattle.radio_core.specs.Source.{shown_for}
 use Rattle.radio_core.specs.declared.house.House.{House}
 use Rattle.radio_core.proofs.CommandLemmas.{obeyed_last}
 use Rattle.radio_core.proofs.CalledHome.{house_called}
-use Rattle.radio_laws.specs.Gone.{HasLeft, IsOutOfPlace, StaysGone}
+use Rattle.radio_laws.specs.Gone.{Leaving, AsClient, AsRelay, HasLeft, IsOutOfPlace, StaysGone}
 use Rattle.radio_core.specs.Handing.{data_in, block_in, handed_at, handed, delivered_at, delivered}
 use Rattle.radio_core.specs.Leave.{leaves_from}
 use Rattle.radio_core.specs.Others.{StandsOn}
 use Rattle.radio_core.specs.Run.{world_after_all, run_after}
 use Rattle.radio_core.specs.Sound.{IsSound}
 use Rattle.radio_core.specs.Step.{outcome, reply_to, world_after}
-use Rattle.radio_core.specs.Ways.{Way, Misplaced, IsFinished, IsDenied, IsRefused, IsAdmitted, Begins, Receives, SetsTitle, TakesSeat, HandsOut, Ends}
-use Rattle.radio_core.specs.Ways.{EndsAndLeaves, Leaves, Obeys, Shows, HasPassed, Ticks}
+use Rattle.radio_core.specs.Ways.{Way, Misplaced, IsFinished, IsDenied, IsRefused, IsAdmitted, Begins, ComesUp, Receives, SetsTitle, TakesSeat, HandsOut, Ends, EndsAndLeaves, Leaves, GoesDown, Obeys, Shows, HasPassed, Ticks}
+use Rattle.radio_settings.specs.Web.{web_path}
+use Rattle.radio_settings.specs.declared.web.WebPath.{WebPath}
+use Rattle.radio_events.specs.declared.event.ListenRequest.{ListenRequest}
+use Rattle.radio_core.specs.declared.outcome.Change.TheVariants.{Nothing}
+use Rattle.radio_core.specs.Outcomes.{says}
+use Rattle.radio_core.specs.Pages.{asks_by}
+use Rattle.radio_events.specs.declared.reply.Reply.TheVariants.{Stray}
 use Rattle.radio_events.specs.Events.{client_in}
 use Rattle.radio_core.proofs.FinishLemmas.{others_hold, known_before}
 use Rattle.radio_core.proofs.ReplyLemmas.{replies_fit}
@@ -47,19 +58,53 @@ left_by w id given Sits e = (given, (turns_forgotten w id).his)
 left_by w id given Answered e = (given, (turns_forgotten w id).his)
 left_by w id given (Finished rule) e = (given, (turns_forgotten w id).his)
 
-left_at_once : (w : World) (id : ℕ) → id ≤ w.house.last_id → HasLeft (world_after w (Leave id)) id
-unfolding world_after outcome
-left_at_once w id given = left_by w id given (standing_of w id) refl
+-- and a relay that has gone down
+down_by : (w : World) (id : ℕ) → id ≤ w.house.last_id → (s : Standing) → standing_of w id ≡ s → (goes_down_from id s).reply ≡ Noted
+    → HasLeft (changed w (goes_down_from id s).change) id
+down_by w id given Unknown e noted = cc
+down_by w id given (Feeds mount) e noted = (given, (turns_forgotten (session_ended w mount) id).his)
+down_by w id given (Undecided peer) e noted = cc
+down_by w id given Sits e noted = cc
+down_by w id given Answered e noted = cc
+down_by w id given (Finished rule) e noted = (given, (turns_forgotten w id).his)
+
+module _ (w : World) (id : ℕ) (given : id ≤ w.house.last_id) where
+  client_at_once : (b : Bool) → b ≡ false → HasLeft (changed w (unless_relayed b (leaves_from id (standing_of w id))).change) id
+  client_at_once true e = cc
+  client_at_once false e = left_by w id given (standing_of w id) refl
+
+  relay_at_once : (b : Bool) → (if b then goes_down_from id (standing_of w id) else says Stray Nothing).reply ≡ Noted
+      → HasLeft (changed w (if b then goes_down_from id (standing_of w id) else says Stray Nothing).change) id
+  relay_at_once true noted = down_by w id given (standing_of w id) refl noted
+  relay_at_once false noted = cc
+
+left_at_once : (w : World) (id : ℕ) → id ≤ w.house.last_id → (event : Event) → Leaving w id event → HasLeft (world_after w event) id
+unfolding world_after reply_to outcome
+left_at_once w id given event (AsClient no_relay) = client_at_once w id given (has_relay w id) no_relay
+left_at_once w id given event (AsRelay noted) = relay_at_once w id given (has_relay w id) noted
 
 pub has_left : (settings : Settings) (lists : Lists) (events : List Event) (id : ℕ) → id ≤ (run_after settings lists events).house.last_id
-    → HasLeft (run_after settings lists (events ++ Leave id ∷ [])) id
-has_left settings lists events id given =
-    subst (λ (x : World). HasLeft x id) (sym (after_joined _ events (Leave id ∷ []))) (left_at_once (run_after settings lists events) id given)
+    → (event : Event) → Leaving (run_after settings lists events) id event → HasLeft (run_after settings lists (events ++ event ∷ [])) id
+has_left settings lists events id given event leaving =
+    subst (λ (x : World). HasLeft x id) (sym (after_joined _ events (event ∷ []))) (left_at_once (run_after settings lists events) id given event leaving)
 
 -- whatever happens in his name is out of place
 module _ (w : World) (id : ℕ) (unknown : standing_of w id ≡ Unknown) where
+  either_stray : (b : Bool) → unless_relayed b (says Stray Nothing) ≡ says Stray Nothing
+  either_stray true = refl
+  either_stray false = refl
+
+  neither_noted : (b : Bool) → (if b then says Stray Nothing else says Stray Nothing) ≡ says Stray Nothing
+  neither_noted true = refl
+  neither_noted false = refl
+
   his_standing : (him : ℕ) → Some him ≡ Some id → standing_of w him ≡ Unknown
   his_standing him e = let same : him ≡ id = cc in ap (standing_of w) same ∙ unknown
+
+  -- by whatever path he asks
+  asks_out_of_place : (asked : ListenRequest) → standing_of w asked.id ≡ Unknown → (path : Option WebPath) → asks_by w asked path ≡ says Stray Nothing
+  asks_out_of_place asked e None = rw e refl
+  asks_out_of_place asked e (Some path) = rw e refl
 
   pub strays : (event : Event) → client_in event ≡ Some id → IsOutOfPlace w event
   unfolding outcome
@@ -68,10 +113,12 @@ module _ (w : World) (id : ℕ) (unknown : standing_of w id ≡ Unknown) where
   strays (Push him block) e = rw (his_standing him e) refl
   strays (SourceEnd him) e = rw (his_standing him e) refl
   strays (Title him text) e = rw (his_standing him e) refl
-  strays (Listen asked) e = rw (his_standing asked.id e) refl
+  strays (Listen asked) e = asks_out_of_place asked (his_standing asked.id e) (web_path w.house.settings.web asked.mount)
   strays (Draw him room) e = rw (his_standing him e) refl
   strays (Command asked) e = rw (his_standing asked.id e) refl
-  strays (Leave him) e = rw (his_standing him e) refl
+  strays (Leave him) e = rw (his_standing him e) (either_stray (has_relay w him))
+  strays (RelayUp mount shown) e = cc
+  strays (RelayDown him) e = rw (his_standing him e) (neither_noted (has_relay w him))
   strays (Clock ms) e = cc
 
 -- numbers are not taken back
@@ -84,17 +131,21 @@ low_by w s event o (IsRefused _ him by v its undecided) = omega arith
 low_by w s event o (Begins asked undecided none allowed) =
     let up = record w { house = begun w.house asked.id asked.mount (shown_for w.house asked.mount asked.shown) } in
     let last = ap (λ (h : House). h.last_id) (house_called up asked.mount) in omega (arith, last)
+low_by w s event o (ComesUp mount shown unfed allowed) =
+    let up = record w { house = raised w.house (w.house.last_id + 1) mount (shown_for w.house mount shown) } in
+    let last = ap (λ (h : House). h.last_id) (house_called up mount) in omega (arith, last)
 low_by w s event o (Receives him mount block feeding) = omega arith
 low_by w s event o (SetsTitle him mount text feeding) = omega arith
-low_by w s event o (Shows _ listing c) = omega arith
+low_by w s event o (Shows _ asker peer text its undecided what) = omega arith
 low_by w s event o (Obeys _ command c) = let last = obeyed_last w c.asked.id command in omega (arith, last)
 low_by w s event o (HasPassed ms e) = omega arith
 low_by w s event o (Ticks ms e) = let last = (ticked_fates w s ms).last in omega (arith, last)
 low_by w s event o (TakesSeat asked peer session undecided lands live allowed) = omega arith
 low_by w s event o (HandsOut him room seat session sits has live) = omega arith
-low_by w s event o (Ends him mount feeding) = omega arith
-low_by w s event o (EndsAndLeaves him mount feeding) = omega arith
-low_by w s event o (Leaves him other) = omega arith
+low_by w s event o (Ends him mount feeding no_relay) = omega arith
+low_by w s event o (EndsAndLeaves _ him mount closes feeding) = omega arith
+low_by w s event o (Leaves him no_relay other) = omega arith
+low_by w s event o (GoesDown him by_rule relay over) = omega arith
 
 pub last_rises : (w : World) → IsSound w → (event : Event) → w.house.last_id ≤ (world_after w event).house.last_id
 unfolding world_after
@@ -118,7 +169,7 @@ module _ (w : World) (s : IsSound w) (event : Event) (id : ℕ) (left : HasLeft 
         beside : StandsOn w event id → HasLeft (world_after w event) id
         beside (inl same) = let low = last_rises w s event in (omega (arith, low, left.0), same ∙ left.1)
         beside (inr (inl (rule, finishes))) = absurd (known_before w s event id rule finishes left.1)
-        beside (inr (inr arrived)) = let above = ((replies_fit w s event).arrived id arrived).2 in absurd (omega (arith, above, left.0))
+        beside (inr (inr arrived)) = let above = ((replies_fit w s event).arrived id arrived).1 in absurd (omega (arith, above, left.0))
 
   nothing_handed : handed_at w event id ≡ []
   unfolding reply_to

@@ -6,7 +6,7 @@ use Rattle.radio_seats.specs.Seats.{seat_of}
 use Rattle.radio_events.specs.declared.event.Event.{Event}
 use Rattle.radio_core.specs.declared.standing.Standing.{Standing}
 use Rattle.radio_core.specs.declared.standing.Standing.TheVariants.{Unknown, Undecided, Feeds, Sits, Answered, Finished}
-use Rattle.radio_core.specs.ClientSteps.{ClientStep, Stays, Arrives, IsAnswered, IsObeyed, IsShown, BeginsToFeed, SitsDown, StopsFeeding, Leaves, IsFinished}
+use Rattle.radio_core.specs.ClientSteps.{ClientStep, Stays, Arrives, IsAnswered, IsObeyed, IsShown, BeginsToFeed, SitsDown, StopsFeeding, Leaves, IsFinished, ComesUp, GoesDown}
 use Rattle.radio_core.specs.Finishes.{Finishes}
 use Rattle.radio_core.specs.Handing.{handed_at, handed}
 use Rattle.radio_core.specs.SeatSteps.{SeatStep, Stays as SeatStays, IsHanded, SitsDown as SeatsDown, IsMoved, Leaves as SeatLeaves, IsEnded}
@@ -32,11 +32,15 @@ over_then w C event id before later (Arrives peer is passing new) given over = a
   above low high = omega (arith, low, high)
 over_then w C event id before later (IsAnswered peer rule his told) given over = absurd over
 over_then w C event id before later (IsObeyed peer command his c) given over = absurd over
-over_then w C event id before later (IsShown peer listing his c) given over = absurd over
+over_then w C event id before later (IsShown peer text his what) given over = absurd over
 over_then w C event id before later (BeginsToFeed peer asked is his allowed) given over = absurd over
 over_then w C event id before later (SitsDown peer asked is his allowed) given over = absurd over
-over_then w C event id before later (StopsFeeding mount is) given over = absurd over
-over_then w C event id before later (Leaves standing is) given over = tt
+over_then w C event id before later (StopsFeeding mount is no_relay) given over = absurd over
+over_then w C event id before later (Leaves standing is no_relay) given over = tt
+over_then w C event id before later (GoesDown standing is relay) given over = tt
+over_then w C event id before later (ComesUp mount shown is new allowed) given over = absurd (above given new) where
+  above : id ≤ w.house.last_id → w.house.last_id < id → ⊥
+  above low high = omega (arith, low, high)
 over_then w C event id before later (IsFinished standing rule why) given over = tt
 
 nothing_handed : (w : World) (C : Rule → Type 0) (event : Event) (id : ℕ) (before later : Option Seat) (bytes : List ℕ) → SeatStep w C event id before bytes later

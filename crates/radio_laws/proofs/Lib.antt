@@ -1,4 +1,5 @@
 mod AccessLemmas
+mod BegunLemmas
 mod CommandLaws
 mod CommandRows
 mod CommandService
@@ -22,4 +23,5 @@ mod TickOrder
 mod TitleLemmas
 mod ToldLemmas
 mod WalkLemmas
+mod WebLaws
 mod WalkingOnLemmas

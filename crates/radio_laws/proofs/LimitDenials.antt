@@ -5,12 +5,16 @@ use Rattle.std.proofs.lemmas.Bool.Decides.{nat_tests}
 use Rattle.radio_policy.specs.declared.judgement.Verdict.TheVariants.{Deny as Denied}
 use Rattle.radio_policy.specs.declared.rule.Rule.{Rule}
 use Rattle.radio_policy.specs.declared.rule.Rule.TheVariants.{TooManyClients, TooManySources, MountFull, UserTwice, NumbersSpent, FallbackDepth}
-use Rattle.radio_policy.specs.Table.{Row, arrive_rows, source_rows}
+use Rattle.radio_policy.specs.declared.rule.Rule.TheVariants.{BadMount, MountInUse, ContentType}
+use Rattle.radio_policy.specs.Table.{Row, arrive_rows, source_rows, relay_rows}
 use Rattle.radio_policy.specs.Verdicts.{verdict_in}
-use Rattle.radio_settings.specs.MountName.{is_mount_name}
 use Rattle.radio_tables.specs.Lists.{Each}
 use Rattle.radio_events.specs.declared.event.Event.{Event}
-use Rattle.radio_events.specs.declared.event.Event.TheVariants.{Arrive, Source, Push, SourceEnd, Title, Listen, Draw, Command, Leave, Clock}
+use Rattle.radio_events.specs.declared.event.Event.TheVariants.{Arrive, Source, Push, SourceEnd, Title, Listen, Draw, Command, Leave}
+use Rattle.radio_events.specs.declared.event.Event.TheVariants.{RelayUp, RelayDown, Clock}
+use Rattle.radio_addr.specs.declared.peer.Peer.{Peer}
+use Rattle.radio_settings.specs.declared.field.Shown.{Shown}
+use Rattle.radio_events.specs.declared.reply.Reply.{Reply}
 use Rattle.radio_events.specs.declared.event.SourceRequest.{SourceRequest}
 use Rattle.radio_events.specs.declared.event.ListenRequest.{ListenRequest}
 use Rattle.radio_core.specs.declared.outcome.Outcome.{Outcome}
@@ -18,15 +22,15 @@ use Rattle.radio_events.specs.declared.reply.Reply.TheVariants.{Arrived, Feeding
 use Rattle.radio_core.specs.declared.standing.Standing.{Standing}
 use Rattle.radio_core.specs.declared.standing.Standing.TheVariants.{Unknown, Undecided, Feeds, Sits, Answered, Finished}
 use Rattle.radio_core.specs.CommandFacts.{facts_asked, rows_to_command}
-use Rattle.radio_core.specs.Facts.{is_full as is_too_many, arrive_facts, source_facts_at}
+use Rattle.radio_core.specs.Facts.{is_full as is_too_many, arrive_facts, source_facts_at, relay_facts_at, rows_to_raise, names_mount}
 use Rattle.radio_laws.specs.Limits.{IsFullAt, AdmitsByLimits}
 use Rattle.radio_laws.specs.LimitDenials.{HasUserAt, ByAMount, DeniesByLimits}
 use Rattle.radio_laws.specs.Walks.{ComesBy}
 use Rattle.radio_core.specs.Step.{outcome, reply_to}
-use Rattle.radio_core.specs.Ways.{Way, Misplaced, IsFinished, IsDenied, IsRefused, IsAdmitted, Begins, Receives, SetsTitle, TakesSeat, HandsOut, Ends}
-use Rattle.radio_core.specs.Ways.{EndsAndLeaves, Leaves, Obeys, Shows, HasPassed, Ticks, rows_for, rows_from}
+use Rattle.radio_core.specs.Ways.{Way, Misplaced, IsFinished, IsDenied, IsRefused, IsAdmitted, Begins, ComesUp, Receives, SetsTitle, TakesSeat, HandsOut, Ends}
+use Rattle.radio_core.specs.Ways.{EndsAndLeaves, Leaves, GoesDown, Obeys, Shows, HasPassed, Ticks, rows_for, rows_from}
 use Rattle.radio_core.specs.World.{World, standing_of}
-use Rattle.radio_core.proofs.Ways.{way_of, may_feed, has_room_left}
+use Rattle.radio_core.proofs.Ways.{way_of, may_feed, may_come_up, has_room_left}
 use Rattle.radio_laws.proofs.CommandRows.{of_no_command}
 use Rattle.radio_core.proofs.NamedRules.{RuleNamed, DeniesIt, RefusesHim, TellsHisRule, NamesNoRule, rule_in, rule_named}
 use Rattle.radio_laws.proofs.ListenerDenials.{why_denied, denies_none, full_where, twice_where, deep_where}
@@ -88,6 +92,23 @@ sources_by true true false true refused v = cc
 sources_by true true false false true v = cc
 sources_by true true false false false v = cc
 
+-- what is admitted finds room
+record Admits (w : World) (event : Event) (reply : Reply) : Type 0 where
+  clients : (peer : Peer) (id : ℕ) → event ≡ Arrive peer → reply ≡ Arrived id → length w.house.clients < w.house.settings.limits.clients
+  sources : reply ≡ Feeding → length w.house.live < w.house.settings.limits.sources
+  relays : (mount : List ℕ) (shown : Shown) (id : ℕ) → event ≡ RelayUp mount shown → reply ≡ Arrived id
+      → length w.house.live < w.house.settings.limits.sources
+
+relays_by : (named full live refused spent : Bool)
+    → verdict_in (relay_rows (if named then Some (record { sources_are_full = full; mount_is_live = live; type_is_refused = refused; number_is_spent = spent })
+    else None)) ≡ Denied TooManySources → full ≡ true
+relays_by named true live refused spent v = refl
+relays_by false false live refused spent v = cc
+relays_by true false true refused spent v = cc
+relays_by true false false true spent v = cc
+relays_by true false false false true v = cc
+relays_by true false false false false v = cc
+
 module _ (w : World) where
   -- a source is denied its blocks by the rule of numbers alone
   only_numbers : (meant : Rule → Bool) → meant NumbersSpent ≡ false → (block : List ℕ) (s : Standing)
@@ -105,13 +126,20 @@ module _ (w : World) where
   no_limit_to_feed asked true = (refl, (refl, (refl, (refl, tt))))
   no_limit_to_feed asked false = (refl, tt)
 
+  -- nor a relay
+  no_limit_to_raise : (meant : Rule → Bool) → meant BadMount ≡ false → meant TooManySources ≡ false → meant MountInUse ≡ false → meant ContentType ≡ false
+      → meant NumbersSpent ≡ false → (mount : List ℕ) (shown : Shown) (named : Bool)
+      → Each (λ row. meant row.rule ≡ false) (relay_rows (if named then Some (relay_facts_at w.house mount shown) else None))
+  no_limit_to_raise meant bad many used type spent mount shown true = (many, (used, (type, (spent, tt))))
+  no_limit_to_raise meant bad many used type spent mount shown false = (bad, tt)
+
   -- the limits deny only who wants to hear a mount
   only_listeners : {A : Type 0} (rule : Rule) → is_limit rule ≡ true → (event : Event) → verdict_in (rows_for w event) ≡ Denied rule
       → ((asked : ListenRequest) → event ≡ Listen asked → verdict_in (rows_for w (Listen asked)) ≡ Denied rule → A) → A
   only_listeners rule limit (Listen asked) v goes = goes asked refl v
   only_listeners rule limit (Arrive peer) v goes = absurd (no_limit is_limit (rows_for w (Arrive peer)) (refl, (refl, (refl, (refl, tt)))) rule v limit)
   only_listeners rule limit (Source asked) v goes =
-      absurd (no_limit is_limit (rows_for w (Source asked)) (no_limit_to_feed asked (is_mount_name asked.mount)) rule v limit)
+      absurd (no_limit is_limit (rows_for w (Source asked)) (no_limit_to_feed asked (names_mount w.house.settings asked.mount)) rule v limit)
   only_listeners rule limit (Push id block) v goes =
       absurd (no_limit is_limit (rows_from w.house block (standing_of w id)) (only_numbers is_limit refl block (standing_of w id)) rule v limit)
   only_listeners rule limit (SourceEnd id) v goes = cc
@@ -120,6 +148,9 @@ module _ (w : World) where
   only_listeners rule limit (Command asked) v goes =
       absurd (no_limit is_limit (rows_to_command w asked) (of_no_command is_limit refl refl refl refl refl refl refl refl refl (facts_asked w asked.asked asked.pair)) rule v limit)
   only_listeners rule limit (Leave id) v goes = cc
+  only_listeners rule limit (RelayUp mount shown) v goes =
+      absurd (no_limit is_limit (rows_to_raise w.house mount shown) (no_limit_to_raise is_limit refl refl refl refl refl mount shown (names_mount w.house.settings mount)) rule v limit)
+  only_listeners rule limit (RelayDown id) v goes = cc
   only_listeners rule limit (Clock ms) v goes = cc
 
   full_there : (event : Event) → verdict_in (rows_for w event) ≡ Denied MountFull → ByAMount w event (λ asked mount. IsFullAt w mount)
@@ -144,7 +175,7 @@ module _ (w : World) where
       let facts = arrive_facts w.house peer in
       reached (length w.house.clients) w.house.settings.limits.clients
       (clients_by facts.address_is_denied facts.address_is_allowed facts.clients_are_full facts.number_is_spent v)
-  many_clients (Source asked) v = absurd (no_limit is_of_clients (rows_for w (Source asked)) (to_feed (is_mount_name asked.mount)) TooManyClients v refl) where
+  many_clients (Source asked) v = absurd (no_limit is_of_clients (rows_for w (Source asked)) (to_feed (names_mount w.house.settings asked.mount)) TooManyClients v refl) where
     to_feed : (named : Bool)
         → Each (λ row. is_of_clients row.rule ≡ false) (source_rows (if named then Some (source_facts_at w.house asked.mount asked) else None))
     to_feed true = (refl, (refl, (refl, (refl, tt))))
@@ -160,13 +191,17 @@ module _ (w : World) where
       absurd (no_limit is_of_clients (rows_to_command w asked) (of_no_command is_of_clients refl refl refl refl refl refl refl refl refl (facts_asked w asked.asked asked.pair))
       TooManyClients v refl)
   many_clients (Leave id) v = cc
+  many_clients (RelayUp mount shown) v =
+      absurd (no_limit is_of_clients (rows_to_raise w.house mount shown) (no_limit_to_raise is_of_clients refl refl refl refl refl mount shown (names_mount w.house.settings mount))
+      TooManyClients v refl)
+  many_clients (RelayDown id) v = cc
   many_clients (Clock ms) v = cc
 
   many_sources : (event : Event) → verdict_in (rows_for w event) ≡ Denied TooManySources → w.house.settings.limits.sources ≤ length w.house.live
   many_sources (Source asked) v =
       let facts = source_facts_at w.house asked.mount asked in
       reached (length w.house.live) w.house.settings.limits.sources
-      (sources_by (is_mount_name asked.mount) facts.is_source_pair facts.sources_are_full facts.mount_is_live facts.type_is_refused v)
+      (sources_by (names_mount w.house.settings asked.mount) facts.is_source_pair facts.sources_are_full facts.mount_is_live facts.type_is_refused v)
   many_sources (Arrive peer) v = absurd (no_limit is_of_sources (rows_for w (Arrive peer)) (refl, (refl, (refl, (refl, tt)))) TooManySources v refl)
   many_sources (Push id block) v =
       absurd (no_limit is_of_sources (rows_from w.house block (standing_of w id)) (only_numbers is_of_sources refl block (standing_of w id)) TooManySources v refl)
@@ -179,6 +214,11 @@ module _ (w : World) where
       absurd (no_limit is_of_sources (rows_to_command w asked) (of_no_command is_of_sources refl refl refl refl refl refl refl refl refl (facts_asked w asked.asked asked.pair))
       TooManySources v refl)
   many_sources (Leave id) v = cc
+  many_sources (RelayUp mount shown) v =
+      let facts = relay_facts_at w.house mount shown in
+      reached (length w.house.live) w.house.settings.limits.sources
+      (relays_by (names_mount w.house.settings mount) facts.sources_are_full facts.mount_is_live facts.type_is_refused facts.number_is_spent v)
+  many_sources (RelayDown id) v = cc
   many_sources (Clock ms) v = cc
 
   -- only a verdict of the policy denies
@@ -200,28 +240,42 @@ module _ (w : World) where
   }
 
   -- whoever arrives or feeds finds room
-  admits_by : (event : Event) (o : Outcome) → Way w event o → ((id : ℕ) → o.reply ≡ Arrived id → length w.house.clients < w.house.settings.limits.clients)
-      × (o.reply ≡ Feeding → length w.house.live < w.house.settings.limits.sources)
+  admits_by : (event : Event) (o : Outcome) → Way w event o → Admits w event o.reply
   admits_by event o (IsAdmitted peer allowed) =
-      (λ id d. below (length w.house.clients) w.house.settings.limits.clients (has_room_left w.house peer allowed), λ d. cc)
+      record {
+        clients = λ him id is d. below (length w.house.clients) w.house.settings.limits.clients (has_room_left w.house peer allowed);
+        sources = λ d. cc;
+        relays = λ mount shown id is d. cc;
+      }
   admits_by event o (Begins asked undecided none allowed) =
-      (λ id d. cc, λ d. below (length w.house.live) w.house.settings.limits.sources (may_feed w.house asked allowed).has_room)
-  admits_by event o (Misplaced _) = (λ id d. cc, λ d. cc)
-  admits_by event o (IsFinished _ him by his told) = (λ id d. cc, λ d. cc)
-  admits_by event o (IsDenied _ by v nobody) = (λ id d. cc, λ d. cc)
-  admits_by event o (IsRefused _ him by v his undecided) = (λ id d. cc, λ d. cc)
-  admits_by event o (Receives him mount block feeding) = (λ id d. cc, λ d. cc)
-  admits_by event o (SetsTitle him mount text feeding) = (λ id d. cc, λ d. cc)
-  admits_by event o (Shows _ listing c) = (λ id d. cc, λ d. cc)
-  admits_by event o (Obeys _ command c) = (λ id d. cc, λ d. cc)
-  admits_by event o (HasPassed ms e) = (λ id d. cc, λ d. cc)
-  admits_by event o (Ticks ms e) = (λ id d. cc, λ d. cc)
-  admits_by event o (TakesSeat asked peer session undecided lands live allowed) = (λ id d. cc, λ d. cc)
-  admits_by event o (HandsOut him room seat session sits has live) = (λ id d. cc, λ d. cc)
-  admits_by event o (Ends him mount feeding) = (λ id d. cc, λ d. cc)
-  admits_by event o (EndsAndLeaves him mount feeding) = (λ id d. cc, λ d. cc)
-  admits_by event o (Leaves him other) = (λ id d. cc, λ d. cc)
+      record {
+        clients = λ him id is d. cc;
+        sources = λ d. below (length w.house.live) w.house.settings.limits.sources (may_feed w.house asked allowed).has_room;
+        relays = λ mount shown id is d. cc;
+      }
+  admits_by event o (ComesUp mount shown unfed allowed) =
+      record {
+        clients = λ him id is d. cc;
+        sources = λ d. cc;
+        relays = λ at sees id is d. below (length w.house.live) w.house.settings.limits.sources (may_come_up w.house mount shown allowed).has_room;
+      }
+  admits_by event o (Misplaced _) = record { clients = λ him id is d. cc; sources = λ d. cc; relays = λ mount shown id is d. cc }
+  admits_by event o (IsFinished _ him by his told) = record { clients = λ him id is d. cc; sources = λ d. cc; relays = λ mount shown id is d. cc }
+  admits_by event o (IsDenied _ by v nobody) = record { clients = λ him id is d. cc; sources = λ d. cc; relays = λ mount shown id is d. cc }
+  admits_by event o (IsRefused _ him by v his undecided) = record { clients = λ him id is d. cc; sources = λ d. cc; relays = λ mount shown id is d. cc }
+  admits_by event o (Receives him mount block feeding) = record { clients = λ him id is d. cc; sources = λ d. cc; relays = λ mount shown id is d. cc }
+  admits_by event o (SetsTitle him mount text feeding) = record { clients = λ him id is d. cc; sources = λ d. cc; relays = λ mount shown id is d. cc }
+  admits_by event o (Shows _ asker peer text its undecided what) = record { clients = λ him id is d. cc; sources = λ d. cc; relays = λ mount shown id is d. cc }
+  admits_by event o (Obeys _ command c) = record { clients = λ him id is d. cc; sources = λ d. cc; relays = λ mount shown id is d. cc }
+  admits_by event o (HasPassed ms e) = record { clients = λ him id is d. cc; sources = λ d. cc; relays = λ mount shown id is d. cc }
+  admits_by event o (Ticks ms e) = record { clients = λ him id is d. cc; sources = λ d. cc; relays = λ mount shown id is d. cc }
+  admits_by event o (TakesSeat asked peer session undecided lands live allowed) = record { clients = λ him id is d. cc; sources = λ d. cc; relays = λ mount shown id is d. cc }
+  admits_by event o (HandsOut him room seat session sits has live) = record { clients = λ him id is d. cc; sources = λ d. cc; relays = λ mount shown id is d. cc }
+  admits_by event o (Ends him mount feeding no_relay) = record { clients = λ him id is d. cc; sources = λ d. cc; relays = λ mount shown id is d. cc }
+  admits_by event o (EndsAndLeaves _ him mount closes feeding) = record { clients = λ him id is d. cc; sources = λ d. cc; relays = λ mount shown id is d. cc }
+  admits_by event o (Leaves him no_relay other) = record { clients = λ him id is d. cc; sources = λ d. cc; relays = λ mount shown id is d. cc }
+  admits_by event o (GoesDown him by_rule relay over) = record { clients = λ him id is d. cc; sources = λ d. cc; relays = λ mount shown id is d. cc }
 
   pub limits_admit : (event : Event) → AdmitsByLimits w event
   unfolding reply_to
-  limits_admit event = let room = admits_by event (outcome w event) (way_of w event) in record { clients = room.0; sources = room.1 }
+  limits_admit event = let room = admits_by event (outcome w event) (way_of w event) in record { clients = room.clients; sources = room.sources; relays = room.relays }

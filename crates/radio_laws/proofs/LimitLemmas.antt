@@ -1,5 +1,5 @@
 -- in every state of a run, no more sit at a mount than may, and nobody sits twice where each may sit once
-use Rattle.std.proofs.Common.{◌≡◌, Bool, true, false, ℕ, ◌<◌, ◌≤◌, ◌==◌, ◌&&◌, not, Option, Some, None, List, [], ◌∷◌, length, refl, ap}
+use Rattle.std.proofs.Common.{◌+◌, ◌≡◌, Bool, true, false, ℕ, ◌<◌, ◌≤◌, ◌==◌, ◌&&◌, not, Option, Some, None, List, [], ◌∷◌, length, refl, ap}
 use Rattle.std.proofs.Common.{sym, subst, ◌∙◌, arith}
 use Rattle.std.proofs.lemmas.Bool.Decides.{nat_tests}
 use Rattle.std.proofs.lemmas.Slice.Eq.{bytes_eq-Decides}
@@ -30,15 +30,15 @@ use Rattle.radio_fallback.proofs.TurnLemmas.{lands_where_he_fits}
 use Rattle.radio_core.specs.Source.{shown_for}
 use Rattle.radio_events.specs.declared.command.Command.{Command as TheCommand}
 use Rattle.radio_events.specs.declared.command.Command.TheVariants.{MoveClients, KillClient, KillSource, SetTitle as NewTitle, SetFallback}
-use Rattle.radio_core.specs.Changes.{answered, session_killed, changed, begun, carried_along, session_over, session_ended, called_home, received, before_silence, session_silenced, silent_in}
+use Rattle.radio_core.specs.Changes.{answered, session_killed, changed, begun, raised, carried_along, session_over, session_ended, called_home, received, before_silence, session_silenced, silent_in}
 use Rattle.radio_laws.specs.Limits.{IsWithinLimits, SentUser, SitsThereAs, most_at, allows_duplicates_at}
 use Rattle.radio_core.specs.Listen.{first_seat}
 use Rattle.radio_core.specs.Run.{world_after_all, run_after}
 use Rattle.radio_parts.specs.Sessions.{Session, session_of}
 use Rattle.radio_core.specs.Sound.{IsSound}
 use Rattle.radio_core.specs.Step.{outcome, world_after}
-use Rattle.radio_core.specs.Ways.{Way, Misplaced, IsFinished, IsDenied, IsRefused, IsAdmitted, Begins, Receives, SetsTitle, TakesSeat, HandsOut, Ends}
-use Rattle.radio_core.specs.Ways.{EndsAndLeaves, Leaves, Obeys, Shows, HasPassed, Ticks}
+use Rattle.radio_core.specs.Ways.{Way, Misplaced, IsFinished, IsDenied, IsRefused, IsAdmitted, Begins, ComesUp, Receives, SetsTitle, TakesSeat, HandsOut, Ends}
+use Rattle.radio_core.specs.Ways.{EndsAndLeaves, Leaves, GoesDown, Obeys, Shows, HasPassed, Ticks}
 use Rattle.radio_core.specs.World.{World, opening, standing_of}
 use Rattle.radio_core.proofs.CarriedFates.{order_carried}
 use Rattle.radio_core.proofs.SoundRuns.{sound_after, sound_opening}
@@ -225,10 +225,13 @@ module _ (w : World) (s : IsSound w) (l : Within w) where
   within_by event o (Begins asked undecided none allowed) =
       let up = record w { house = begun w.house asked.id asked.mount (shown_for w.house asked.mount asked.shown) } in
       within_called up asked.mount s.by_number (other_house w up refl refl l)
+  within_by event o (ComesUp mount shown unfed allowed) =
+      let up = record w { house = raised w.house (w.house.last_id + 1) mount (shown_for w.house mount shown) } in
+      within_called up mount s.by_number (other_house w up refl refl l)
   within_by event o (Receives him mount block feeding) =
       within_still (changed w o.change) refl
       (nobody_came_ending (lags_behind mount (live_end (received w.house mount block) mount) w.house.settings.limits.queue_size) Lagged w.seats)
-  within_by event o (Shows _ listing c) = within_still (changed w o.change) refl (nobody_came w.seats)
+  within_by event o (Shows _ asker peer text its undecided what) = within_still (changed w o.change) refl (nobody_came w.seats)
   within_by event o (Obeys _ command c) = within_obeyed c.asked.id command
   within_by event o (HasPassed ms e) = l
   within_by event o (Ticks ms e) =
@@ -238,12 +241,13 @@ module _ (w : World) (s : IsSound w) (l : Within w) where
   within_by event o (TakesSeat asked peer session undecided lands live allowed) =
       within_seated asked peer session undecided live (lands_where_he_fits (sight_of w.house) w.seats asked.pair asked.mount session.mount lands)
   within_by event o (HandsOut him room old session sits has live) = within_still (changed w o.change) refl (nobody_came_hearing w.seats him _ old has)
-  within_by event o (Ends him mount feeding) =
+  within_by event o (Ends him mount feeding no_relay) =
       other_house (session_ended w mount) (changed w o.change) refl refl (within_ended w mount s.by_number l)
-  within_by event o (EndsAndLeaves him mount feeding) =
+  within_by event o (EndsAndLeaves _ him mount closes feeding) =
       within_kept (session_ended w mount) (changed w o.change) (within_ended w mount s.by_number l) refl
       (nobody_came_leaving (session_ended w mount).seats him)
-  within_by event o (Leaves him other) = within_still (changed w o.change) refl (nobody_came_leaving w.seats him)
+  within_by event o (Leaves him no_relay other) = within_still (changed w o.change) refl (nobody_came_leaving w.seats him)
+  within_by event o (GoesDown him by_rule relay over) = within_still (changed w o.change) refl (nobody_came_leaving w.seats him)
 
   pub within_after : (event : Event) → Within (world_after w event)
   unfolding world_after

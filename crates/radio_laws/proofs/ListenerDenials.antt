@@ -10,7 +10,6 @@ use Rattle.radio_policy.specs.declared.rule.Rule.{Rule}
 use Rattle.radio_policy.specs.declared.rule.Rule.TheVariants.{BadMount, NoMount, NotLive, ListenerPassword, MountFull, UserTwice, FallbackDepth}
 use Rattle.radio_policy.specs.Table.{listen_rows}
 use Rattle.radio_policy.specs.Verdicts.{verdict_in}
-use Rattle.radio_settings.specs.MountName.{is_mount_name}
 use Rattle.radio_tables.specs.Lists.{Has}
 use Rattle.radio_seats.specs.declared.seat.Listener.{Listener}
 use Rattle.radio_fallback.specs.declared.walking.Found.{Found}
@@ -22,7 +21,7 @@ use Rattle.radio_fallback.specs.declared.walking.Landing.{Landing}
 use Rattle.radio_fallback.specs.Walk.{found_at, stop_of, stop_in, sits_already}
 use Rattle.radio_events.specs.declared.event.Event.TheVariants.{Listen}
 use Rattle.radio_events.specs.declared.event.ListenRequest.{ListenRequest}
-use Rattle.radio_core.specs.Facts.{is_known, sight_of, walks_to, walk_stops}
+use Rattle.radio_core.specs.Facts.{is_known, names_mount, sight_of, walks_to, walk_stops}
 use Rattle.radio_laws.specs.Limits.{IsFullAt, SentUser, most_at, allows_duplicates_at}
 use Rattle.radio_laws.specs.LimitDenials.{HasUserAt}
 use Rattle.radio_laws.specs.Walks.{ComesBy, AtFirst}
@@ -142,7 +141,7 @@ module _ (w : World) (asked : ListenRequest) where
 
   pub why_denied : (rule : Rule) → verdict_in (rows_for w (Listen asked)) ≡ Denied rule → Why rule
   why_denied rule v =
-      denied_listener (is_mount_name asked.mount) (is_known w.house asked.mount) found_first.users_accept found_first.user_is_twice
+      denied_listener (names_mount w.house.settings asked.mount) (is_known w.house asked.mount) found_first.users_accept found_first.user_is_twice
       (walk_stops w.house w.seats asked.mount asked.pair) rule v
 
   -- a rule that stops neither a walk nor a listener denies none

@@ -1,14 +1,13 @@
 -- who is shown a listing, and what
-use Rattle.std.proofs.Common.{◌≡◌, ◌⊎◌, inl, inr, ◌||◌, ◌&&◌, Bool, true, false, ℕ, Option, Some, None, List, refl, ap, sym, subst, ◌∙◌, is_some, [], ◌∷◌}
+use Rattle.std.proofs.Common.{◌≡◌, ◌⊎◌, inl, inr, ◌||◌, ◌&&◌, Bool, true, false, ℕ, Option, Some, None, List, refl, ap, sym, subst, ◌∙◌, [], ◌∷◌}
 use Rattle.std.specs.Prelude.{not}
 use Rattle.std.specs.Option.{option_map_or}
 use Rattle.std.specs.Str.{bytes_eq}
 use Rattle.std.proofs.lemmas.Slice.Eq.{bytes_eq-Decides}
 use Rattle.radio_policy.specs.declared.judgement.Verdict.{Verdict}
 use Rattle.radio_policy.specs.declared.judgement.Verdict.TheVariants.{Allow}
-use Rattle.radio_policy.specs.declared.rule.Rule.{Rule}
 use Rattle.radio_policy.specs.declared.rule.Rule.TheVariants.{AdminPassword, RelayPassword, NoMount}
-use Rattle.radio_policy.specs.Table.{Row, row, command_rows}
+use Rattle.radio_policy.specs.Table.{row, command_rows}
 use Rattle.radio_policy.specs.Verdicts.{verdict_in}
 use Rattle.radio_addr.specs.declared.peer.Peer.{Peer}
 use Rattle.radio_creds.specs.Credentials.{Credentials}
@@ -33,18 +32,22 @@ use Rattle.radio_core.specs.Command.{does_asked, said_of, shows}
 use Rattle.radio_core.specs.CommandFacts.{IsListed, is_live, facts_asked, rows_to_command}
 use Rattle.radio_core.specs.Counts.{counts_by}
 use Rattle.radio_core.specs.Listings.{shown}
+use Rattle.radio_core.specs.Pages.{IsShownBy, IsListing, IsAtPath, page_at}
+use Rattle.radio_events.specs.Events.{client_in}
 use Rattle.radio_core.specs.Outcomes.{if_undecided, on_verdict}
-use Rattle.radio_parts.specs.Sessions.{Session, session_of}
 use Rattle.radio_core.specs.Step.{outcome, reply_to, world_after}
-use Rattle.radio_core.specs.Ways.{Way, Misplaced, IsFinished, IsDenied, IsRefused, IsAdmitted, Begins, Receives, SetsTitle, TakesSeat, HandsOut, Ends}
-use Rattle.radio_core.specs.Ways.{EndsAndLeaves, Leaves, Obeys, Shows, HasPassed, Ticks}
+use Rattle.radio_core.specs.Ways.{Way, Misplaced, IsFinished, IsDenied, IsRefused, IsAdmitted, Begins, ComesUp, Receives, SetsTitle, TakesSeat, HandsOut, Ends}
+use Rattle.radio_core.specs.Ways.{EndsAndLeaves, Leaves, GoesDown, Obeys, Shows, HasPassed, Ticks}
 use Rattle.radio_core.specs.World.{World, standing_of}
-use Rattle.radio_core.proofs.Standings.{turns_answered}
+use Rattle.radio_core.proofs.Standings.{asks, turns_answered}
+use Rattle.radio_core.proofs.AllowedCommands.{may_act, past_sent}
 use Rattle.radio_core.proofs.Ways.{way_of}
-use Rattle.radio_laws.specs.Shown.{IsTheRelays, MaySee, AsAnybody, AsARelay, AsTheAdmin, IsThereToSee, IsShownByRight, OnlyWhoMayIsShown, WhoMayIsShown, Tells}
-use Rattle.radio_laws.proofs.CommandLaws.{login_sent, one_of}
+use Rattle.radio_laws.specs.Shown.{IsTheRelays, MaySee, AsAnybody, AsARelay, AsTheAdmin, IsThereToSee, IsShownByRight, IsShownAtPath, OnlyWhoMayIsShown, WhoMayIsShown, Tells}
+use Rattle.radio_laws.proofs.CommandLaws.{lives_by, login_sent, one_of}
+use Rattle.radio_laws.proofs.WalkLemmas.{both}
 use Rattle.radio_laws.proofs.CommandService.{is_its, or_true, lives, with_mount, judged, said_short}
 use Rattle.radio_laws.proofs.ListingRows.{tells}
+use Rattle.radio_laws.proofs.WebLaws.{shown_there}
 
 -- a relay's pair that was sent
 record HasRelays (relays : RelayAccess) (sent : Option Credentials) : Type 0 where
@@ -52,11 +55,6 @@ record HasRelays (relays : RelayAccess) (sent : Option Credentials) : Type 0 whe
   pub is_sent : sent ≡ Some pair
   pub user : pair.user ≡ relays.username
   pub password : relays.password ≡ Some pair.password
-
-both : (a b : Bool) → (a && b) ≡ true → (a ≡ true) × (b ≡ true)
-both true true e = (refl, refl)
-both true false e = cc
-both false b e = cc
 
 relays_sent : (relays : RelayAccess) (sent : Option Credentials) → option_map_or (is_relays relays) sent false ≡ true → HasRelays relays sent
 relays_sent relays None e = cc
@@ -72,15 +70,6 @@ relays_sent relays (Some pair) e = by_password relays.password refl e where
         user = sym ((bytes_eq-Decides relays.username pair.user).0 parts.0);
         password = is ∙ ap (λ (p : List ℕ). Some p) ((bytes_eq-Decides password pair.password).0 parts.1);
       }
-
--- what the rows of an allowed listing say
-past : (rule : Rule) (sent : Bool) (rows : List Row) → verdict_in (row rule (not sent) ∷ rows) ≡ Allow → (sent ≡ true) × (verdict_in rows ≡ Allow)
-past rule true rows e = (refl, e)
-past rule false rows e = cc
-
-lives_by : (found : Option Session) → verdict_in (row NoMount (not (is_some found)) ∷ []) ≡ Allow → (session : Session) × (found ≡ Some session)
-lives_by None e = cc
-lives_by (Some session) e = (session, refl)
 
 module _ (w : World) where
   as_admin : (listing : Listing) (sent : Option Credentials) → is_admin_pair w.house.settings sent ≡ true → MaySee w listing sent
@@ -101,15 +90,15 @@ module _ (w : World) where
   may_see : (listing : Listing) (sent : Option Credentials) → verdict_in (command_rows (facts_asked w (AsksFor listing) sent)) ≡ Allow
       → MaySee w listing sent × IsThereToSee w listing
   may_see Status sent e = (AsAnybody sent, tt)
-  may_see Stats sent e = (as_admin Stats sent (past AdminPassword (is_admin_pair w.house.settings sent) [] e).0, tt)
-  may_see Mounts sent e = (as_admin Mounts sent (past AdminPassword (is_admin_pair w.house.settings sent) [] e).0, tt)
+  may_see Stats sent e = (as_admin Stats sent (past_sent AdminPassword (is_admin_pair w.house.settings sent) [] e).0, tt)
+  may_see Mounts sent e = (as_admin Mounts sent (past_sent AdminPassword (is_admin_pair w.house.settings sent) [] e).0, tt)
   may_see (Clients mount) sent e =
-      let parts = past AdminPassword (is_admin_pair w.house.settings sent) (row NoMount (not (is_live w.house mount)) ∷ []) e in
-      (as_admin (Clients mount) sent parts.0, lives_by (session_of w.house.live mount) parts.1)
+      let parts = past_sent AdminPassword (is_admin_pair w.house.settings sent) (row NoMount (not (is_live w.house mount)) ∷ []) e in
+      (as_admin (Clients mount) sent parts.0, lives_by w mount (may_act (is_live w.house mount) parts.1))
   may_see Streams sent e = (
     as_either sent
         (one_of (is_admin_pair w.house.settings sent) (is_relay_pair w.house.settings sent)
-        (past RelayPassword (is_admin_pair w.house.settings sent || is_relay_pair w.house.settings sent) [] e).0),
+        (past_sent RelayPassword (is_admin_pair w.house.settings sent || is_relay_pair w.house.settings sent) [] e).0),
     tt,
   )
 
@@ -179,13 +168,24 @@ module _ (w : World) (event : Event) (listing : Listing) (c : IsListed w event l
         tells = subst (Tells w listing) is (tells w listing);
         answered =
             subst (λ (later : World). standing_of later c.asked.id ≡ Answered) (sym later_so)
-            (turns_answered w c.asked.id (λ u. let at = c.undecided in cc)).his;
+            (turns_answered w c.asked.id (asks w c.asked.id c.peer c.undecided)).his;
         sessions = ap (λ (later : World). later.house.live) later_so;
         seats = ap (λ (later : World). later.seats) later_so;
       }
 
-shown_by : (w : World) (event : Event) (o : Outcome) → Way w event o → (text : Text) → o.reply ≡ SaysText text → (IsShort text → ⊥) → IsShownByRight w event text
-shown_by w event o (Shows _ listing c) text d long = by_right w event listing c text cc
+-- or what is at a path of the web site
+module _ (w : World) (event : Event) (asker : ℕ) (peer : Peer) (its : client_in event ≡ Some asker) (undecided : standing_of w asker ≡ Undecided peer) where
+  by_what : (text : Text) → IsShownBy w event text → IsShownByRight w event text ⊎ IsShownAtPath w event text
+  by_what text (IsListing listing c) = inl (by_right w event listing c (shown w listing) refl)
+  by_what text (IsAtPath asked path is on) =
+      let both : Some asked.id ≡ Some asker = sym (ap client_in is) ∙ its in
+      let same : asked.id ≡ asker = cc in
+      inr (shown_there w asked path on peer (ap (standing_of w) same ∙ undecided) event (page_at w path asked.host) is refl)
+
+shown_by : (w : World) (event : Event) (o : Outcome) → Way w event o → (text : Text) → o.reply ≡ SaysText text → (IsShort text → ⊥)
+    → IsShownByRight w event text ⊎ IsShownAtPath w event text
+shown_by w event o (Shows _ asker peer told its undecided what) text d long =
+    let same : told ≡ text = cc in subst (λ (t : Text). IsShownByRight w event t ⊎ IsShownAtPath w event t) same (by_what w event asker peer its undecided told what)
 shown_by w event o (Obeys _ command c) text d long =
     let same : said_of command (counts_by w command) ≡ text = cc in absurd (long (subst IsShort same (said_short command (counts_by w command))))
 shown_by w event o (Misplaced _) text d long = cc
@@ -194,15 +194,17 @@ shown_by w event o (IsDenied _ by v nobody) text d long = cc
 shown_by w event o (IsRefused _ him by v its undecided) text d long = cc
 shown_by w event o (IsAdmitted peer allowed) text d long = cc
 shown_by w event o (Begins asked undecided none allowed) text d long = cc
+shown_by w event o (ComesUp mount shown unfed allowed) text d long = cc
 shown_by w event o (Receives him mount block feeding) text d long = cc
 shown_by w event o (SetsTitle him mount title feeding) text d long = cc
 shown_by w event o (HasPassed ms e) text d long = cc
 shown_by w event o (Ticks ms e) text d long = cc
 shown_by w event o (TakesSeat asked peer session undecided lands live allowed) text d long = cc
 shown_by w event o (HandsOut him room seat session sits has live) text d long = cc
-shown_by w event o (Ends him mount feeding) text d long = cc
-shown_by w event o (EndsAndLeaves him mount feeding) text d long = cc
-shown_by w event o (Leaves him other) text d long = cc
+shown_by w event o (Ends him mount feeding no_relay) text d long = cc
+shown_by w event o (EndsAndLeaves _ him mount closes feeding) text d long = cc
+shown_by w event o (Leaves him no_relay other) text d long = cc
+shown_by w event o (GoesDown him by_rule relay over) text d long = cc
 
 pub only_who_may_is_shown : (w : World) (event : Event) → OnlyWhoMayIsShown w event
 unfolding reply_to

@@ -93,10 +93,13 @@ module _ (w : World) where
   tell_listeners mount [] = tt
   tell_listeners mount (listener ∷ seats) = tell_first mount listener seats (tell_listeners mount seats) listener.seating refl
 
+  pub rows_tell : TellOf w w.house.live (mount_rows w)
+  rows_tell = tell_of w.house.live
+
   -- what is shown tells what is there
   pub tells : (listing : Listing) → Tells w listing (shown w listing)
-  tells Status = (mount_rows w, tell_of w.house.live, refl)
-  tells Stats = (mount_rows w, tell_of w.house.live, refl)
-  tells Mounts = (mount_rows w, tell_of w.house.live, refl)
+  tells Status = (mount_rows w, rows_tell, refl)
+  tells Stats = (mount_rows w, rows_tell, refl)
+  tells Mounts = (mount_rows w, rows_tell, refl)
   tells (Clients mount) = (listener_rows w mount, tell_listeners mount w.seats, refl)
-  tells Streams = (mount_rows w, tell_of w.house.live, refl)
+  tells Streams = (mount_rows w, rows_tell, refl)

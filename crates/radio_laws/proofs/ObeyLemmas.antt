@@ -13,7 +13,7 @@ use Rattle.radio_core.specs.declared.outcome.Change.TheVariants.{Obey}
 use Rattle.radio_core.specs.Changes.{changed}
 use Rattle.radio_core.specs.CommandFacts.{IsCommanded}
 use Rattle.radio_parts.specs.Sessions.{Session, session_of}
-use Rattle.radio_core.specs.SessionSteps.{SessionStep, Stays, Begins, Grows, IsTitled, IsRetitled, Ends, IsKilled}
+use Rattle.radio_core.specs.SessionSteps.{SessionStep, Stays, Begins, BeginsForRelay, Grows, IsTitled, IsRetitled, Ends, IsKilled}
 use Rattle.radio_core.specs.Sound.{IsSound}
 use Rattle.radio_core.specs.World.{World}
 use Rattle.radio_core.proofs.KeptSeats.{seat_unless_lost}
@@ -30,6 +30,7 @@ module _ (w : World) (event : Event) (command : TheCommand) (c : IsCommanded w e
   live_by : (before after : Option Session) → SessionStep w event mount before after → (now : Session) → after ≡ Some now → WasLive before now
   live_by before after (Stays session) now e = record { old = now; was = e; number = refl; stream = refl }
   live_by before after (Begins asked session is named has) now e = let other = c.is_event in cc
+  live_by before after (BeginsForRelay shown session is has) now e = let other = c.is_event in cc
   live_by before after (Grows session block is) now e = let other = c.is_event in cc
   live_by before after (IsTitled session text is) now e = let other = c.is_event in cc
   live_by before after (IsRetitled session text by) now e =

@@ -1,6 +1,6 @@
 -- the law of service
-use Rattle.std.proofs.Common.{◌≡◌, ◌↔◌, true, ℕ, ◌+◌, ◌-◌, ◌==◌, Option, Some, None, is_some, List, length, drop, refl, ap, sym, subst, ◌∙◌, arith}
-use Rattle.std.specs.Prelude.{min}
+use Rattle.std.proofs.Common.{◌≡◌, ◌↔◌, Bool, true, false, ℕ, ◌+◌, ◌-◌, ◌==◌, Option, Some, None, is_some, List, length, drop, refl, ap, sym, subst, ◌∙◌, arith}
+use Rattle.std.specs.Prelude.{min, if◌then◌else◌}
 use Rattle.std.proofs.lemmas.Bool.Decides.{nat_tests}
 use Rattle.std.proofs.lemmas.List.{length-take, length-drop}
 use Rattle.radio_policy.specs.declared.rule.Rule.{Rule}
@@ -10,46 +10,50 @@ use Rattle.radio_policy.specs.Table.{Row}
 use Rattle.radio_policy.specs.Verdicts.{verdict_in, Allows}
 use Rattle.radio_addr.specs.declared.peer.Peer.{Peer}
 use Rattle.radio_events.specs.declared.event.Event.{Event}
-use Rattle.radio_events.specs.declared.event.Event.TheVariants.{Arrive, Source, Push, SourceEnd, Title, Listen, Draw}
+use Rattle.radio_events.specs.declared.event.Event.TheVariants.{Arrive, Source, Push, SourceEnd, Title, Listen, Draw, RelayUp, RelayDown}
 use Rattle.radio_events.specs.declared.event.SourceRequest.{SourceRequest}
 use Rattle.radio_events.specs.declared.event.ListenRequest.{ListenRequest}
 use Rattle.radio_core.specs.declared.clients.ClientState.TheVariants.{Undecided as IsNew}
 use Rattle.radio_core.specs.declared.outcome.Change.{Change}
-use Rattle.radio_core.specs.declared.outcome.Change.TheVariants.{SetTitle, End}
+use Rattle.radio_core.specs.declared.outcome.Change.TheVariants.{Nothing, SetTitle, End, EndAndLeave}
 use Rattle.radio_core.specs.declared.outcome.Outcome.{Outcome}
 use Rattle.radio_events.specs.declared.reply.Reply.TheVariants.{Noted, Finished, Stray}
 use Rattle.radio_seats.specs.declared.seat.Seat.{Seat}
 use Rattle.radio_core.specs.declared.standing.Standing.{Standing}
-use Rattle.radio_core.specs.declared.standing.Standing.TheVariants.{Undecided, Feeds, Sits, Answered}
-use Rattle.radio_core.specs.World.{World, standing_of}
+use Rattle.radio_core.specs.declared.standing.Standing.TheVariants.{Unknown, Undecided, Feeds, Sits, Answered}
+use Rattle.radio_core.specs.World.{World, standing_of, has_relay}
 use Rattle.radio_core.specs.Changes.{changed}
 use Rattle.radio_fallback.specs.declared.walking.Landing.TheVariants.{Lands}
-use Rattle.radio_core.specs.Facts.{rows_to_arrive, rows_to_feed, rows_to_push, rows_to_listen, walks_to}
+use Rattle.radio_core.specs.Facts.{rows_to_arrive, rows_to_feed, rows_to_raise, rows_to_push, rows_to_listen, walks_to}
 use Rattle.radio_laws.specs.Walks.{ComesBy}
 use Rattle.radio_laws.proofs.WalkLemmas.{lands_on_his_way}
-use Rattle.radio_core.specs.Outcomes.{says, on_verdict, if_undecided, if_feeding, if_sitting}
+use Rattle.radio_core.specs.Outcomes.{says, on_verdict, if_undecided, if_feeding, if_sitting, unless_relayed}
 use Rattle.radio_core.specs.Arrive.{admits_client}
 use Rattle.radio_core.specs.Source.{shown_for, begins}
 use Rattle.radio_core.specs.Push.{takes_in}
-use Rattle.radio_core.specs.Listen.{first_seat, takes_seat, sits_where}
+use Rattle.radio_core.specs.Listen.{first_seat, head_of, takes_seat, sits_where}
 use Rattle.radio_core.specs.Draw.{hands_out, hands_out_at}
 use Rattle.radio_seats.specs.Seats.{seat_of}
 use Rattle.radio_laws.specs.Service.{IsTakenIn, IsHanded, Serves, ChangesNothing}
 use Rattle.radio_parts.specs.Sessions.{Session, session_of}
 use Rattle.radio_core.specs.Sound.{IsSound}
 use Rattle.radio_core.specs.Step.{outcome, reply_to, world_after}
-use Rattle.radio_core.specs.Ways.{Way, Misplaced, IsFinished, IsDenied, IsRefused, IsAdmitted, Begins, Receives, SetsTitle, TakesSeat, HandsOut, Ends}
-use Rattle.radio_core.specs.Ways.{EndsAndLeaves, Leaves, Obeys, Shows, HasPassed, Ticks}
+use Rattle.radio_core.specs.Ways.{Way, Misplaced, IsFinished, IsDenied, IsRefused, IsAdmitted, Begins, ComesUp, Receives, SetsTitle, TakesSeat, HandsOut, Ends}
+use Rattle.radio_core.specs.Ways.{EndsAndLeaves, Leaves, GoesDown, Obeys, Shows, HasPassed, Ticks}
 use Rattle.radio_core.specs.Clients.{Client, client_of}
 use Rattle.radio_parts.specs.Stream.{WholeStream, end_of, data_at}
-use Rattle.radio_core.proofs.CalledHome.{turns_up}
+use Rattle.radio_core.proofs.CalledHome.{turns_up, turns_risen}
 use Rattle.radio_parts.proofs.SessionLookups.{found_named, is_longer, is_titled, is_over}
 use Rattle.radio_core.proofs.Lookups.{is_new_client}
-use Rattle.radio_core.proofs.SoundEnds.{turns_ended}
+use Rattle.radio_core.proofs.SoundEnds.{turns_ended, turns_ended_and_left}
 use Rattle.radio_core.proofs.SoundSessions.{has_advanced}
 use Rattle.radio_core.proofs.SeatedLemmas.{seat_of_sitting}
-use Rattle.radio_core.proofs.Standings.{turns_sitting, turns_admitted}
-use Rattle.radio_core.proofs.Ways.{way_of, may_begin, lands_at}
+use Rattle.radio_core.proofs.Standings.{asks, turns_sitting, turns_admitted}
+use Rattle.radio_core.proofs.Ways.{way_of, may_begin, lands_at, may_be_raised, no_path}
+use Rattle.radio_core.specs.RelayUp.{raises}
+use Rattle.radio_core.specs.RelayDown.{goes_down_from}
+use Rattle.radio_settings.specs.declared.field.Shown.{Shown}
+use Rattle.radio_core.specs.Pages.{asks_by}
 
 is_allowed : (v : Verdict) (denied : Change) (allowed : Outcome) → v ≡ Allow → on_verdict v denied allowed ≡ allowed
 is_allowed Allow denied allowed e = refl
@@ -96,16 +100,29 @@ module _ (allows : (rows : List Row) → (verdict_in rows ≡ Allow) ↔ Allows 
   unfolding outcome
   outcome_title id mount text e = goes_feeding (standing_of w id) mount _ e
 
-  outcome_end : (id : ℕ) (mount : List ℕ) → standing_of w id ≡ Feeds mount → outcome w (SourceEnd id) ≡ says Noted (End id mount)
+  outcome_end : (id : ℕ) (mount : List ℕ) → standing_of w id ≡ Feeds mount → has_relay w id ≡ false → outcome w (SourceEnd id) ≡ says Noted (End id mount)
   unfolding outcome
-  outcome_end id mount e = goes_feeding (standing_of w id) mount _ e
+  outcome_end id mount e no_relay =
+      goes_feeding (standing_of w id) mount _ e ∙ ap (λ (b : Bool). unless_relayed b (says Noted (End id mount))) no_relay
+
+  outcome_raise : (mount : List ℕ) (shown : Shown) → Allows (rows_to_raise w.house mount shown) → outcome w (RelayUp mount shown) ≡ raises w.house mount shown
+  unfolding outcome
+  outcome_raise mount shown a =
+      is_allowed (verdict_in (rows_to_raise w.house mount shown)) _ (raises w.house mount shown) ((allows (rows_to_raise w.house mount shown)).1 a)
+
+  outcome_down : (id : ℕ) (mount : List ℕ) → standing_of w id ≡ Feeds mount → has_relay w id ≡ true
+      → outcome w (RelayDown id) ≡ says Noted (EndAndLeave id mount)
+  unfolding outcome
+  outcome_down id mount e relay =
+      ap (λ (b : Bool). if b then goes_down_from id (standing_of w id) else says Stray Nothing) relay ∙ ap (goes_down_from id) e
 
   outcome_listen : (asked : ListenRequest) (peer : Peer) (session : Session) → standing_of w asked.id ≡ Undecided peer
       → verdict_in (rows_to_listen w asked) ≡ Allow → walks_to w.house w.seats asked.mount asked.pair ≡ Lands session.mount
       → session_of w.house.live session.mount ≡ Some session → outcome w (Listen asked) ≡ takes_seat w.house asked peer (Some session)
   unfolding outcome
   outcome_listen asked peer session e v lands found =
-      goes_undecided (standing_of w asked.id) peer _ e
+      ap (asks_by w asked) (no_path w asked v)
+      ∙ goes_undecided (standing_of w asked.id) peer _ e
       ∙ is_allowed (verdict_in (rows_to_listen w asked)) _ (sits_where w.house asked peer (walks_to w.house w.seats asked.mount asked.pair)) v
       ∙ ap (sits_where w.house asked peer) lands
       ∙ ap (takes_seat w.house asked peer) found
@@ -146,9 +163,11 @@ module _ (allows : (rows : List Row) → (verdict_in rows ≡ Allow) ↔ Allows 
         not_too_far = way.1;
         on_his_way = subst (λ (m : List ℕ). ComesBy w asked.mount way.0 m) (sym named) way.2;
         is_live = ap (session_of w.house.live) named ∙ there.1;
+        head = head_of w.house there.0.shown;
+        shows = refl;
         is_shown = reply_is (Listen asked) (takes_seat w.house asked peer (Some there.0)) o;
         sits = after_outcome (Listen asked) (takes_seat w.house asked peer (Some there.0)) asked.id Sits o
-            (turns_sitting w asked.id (first_seat w.house asked peer there.0) (λ u. cc)).his;
+            (turns_sitting w asked.id (first_seat w.house asked peer there.0) (asks w asked.id peer e)).his;
       }
 
   handed_out : (id room : ℕ) → standing_of w id ≡ Sits → IsHanded w id room
@@ -188,6 +207,19 @@ module _ (allows : (rows : List Row) → (verdict_in rows ≡ Allow) ↔ Allows 
               (turns_up w s asked.id asked.mount (shown_for w.house asked.mount asked.shown) peer e
               (may_begin w asked ((allows (rows_to_feed w.house asked)).1 a))).his,
         );
+    raises = λ mount shown a.
+        let o = outcome_raise mount shown a in
+        let free = may_be_raised w mount shown ((allows (rows_to_raise w.house mount shown)).1 a) in (
+          reply_is (RelayUp mount shown) (raises w.house mount shown) o,
+          after_outcome (RelayUp mount shown) (raises w.house mount shown) (w.house.last_id + 1) (Feeds mount) o
+              (turns_risen w s mount (shown_for w.house mount shown) free).his,
+        );
+    goes_down = λ id mount e relay.
+        let o = outcome_down id mount e relay in (
+          reply_is (RelayDown id) (says Noted (EndAndLeave id mount)) o,
+          found_after (λ (x : World). session_of x.house.live mount) (RelayDown id) (says Noted (EndAndLeave id mount)) o ∙ is_over w.house.live mount,
+          after_outcome (RelayDown id) (says Noted (EndAndLeave id mount)) id Unknown o (turns_ended_and_left w s id mount e).his,
+        );
     takes_in = λ id mount block session e live a.
         let o = outcome_push id mount block e a in (
           reply_is (Push id block) (takes_in mount block) o,
@@ -200,11 +232,11 @@ module _ (allows : (rows : List Row) → (verdict_in rows ≡ Allow) ↔ Allows 
           found_after (λ (x : World). session_of x.house.live mount) (Title id text) (says Noted (SetTitle mount text)) o
               ∙ is_titled w.house.live mount text session live,
         );
-    ends = λ id mount e.
-        let o = outcome_end id mount e in (
+    ends = λ id mount e no_relay.
+        let o = outcome_end id mount e no_relay in (
           reply_is (SourceEnd id) (says Noted (End id mount)) o,
           found_after (λ (x : World). session_of x.house.live mount) (SourceEnd id) (says Noted (End id mount)) o ∙ is_over w.house.live mount,
-          after_outcome (SourceEnd id) (says Noted (End id mount)) id Answered o (turns_ended w s id mount e).his,
+          after_outcome (SourceEnd id) (says Noted (End id mount)) id Answered o (turns_ended w s id mount e no_relay).his,
         );
     seats = received;
     hands_out = handed_out;
@@ -219,14 +251,16 @@ nothing_by w event o (IsDenied _ by v nobody) = (λ d. refl, λ rule d. refl)
 nothing_by w event o (IsRefused _ him by v its undecided) = (λ d. cc, λ rule d. cc)
 nothing_by w event o (IsAdmitted peer allowed) = (λ d. cc, λ rule d. cc)
 nothing_by w event o (Begins asked undecided none allowed) = (λ d. cc, λ rule d. cc)
+nothing_by w event o (ComesUp mount shown unfed allowed) = (λ d. cc, λ rule d. cc)
 nothing_by w event o (Receives him mount block feeding) = (λ d. cc, λ rule d. cc)
 nothing_by w event o (SetsTitle him mount text feeding) = (λ d. cc, λ rule d. cc)
 nothing_by w event o (TakesSeat asked peer session undecided lands live allowed) = (λ d. cc, λ rule d. cc)
 nothing_by w event o (HandsOut him room seat session sits has live) = (λ d. cc, λ rule d. cc)
-nothing_by w event o (Ends him mount feeding) = (λ d. cc, λ rule d. cc)
-nothing_by w event o (EndsAndLeaves him mount feeding) = (λ d. cc, λ rule d. cc)
-nothing_by w event o (Leaves him other) = (λ d. cc, λ rule d. cc)
-nothing_by w event o (Shows _ listing c) = (λ d. cc, λ rule d. cc)
+nothing_by w event o (Ends him mount feeding no_relay) = (λ d. cc, λ rule d. cc)
+nothing_by w event o (EndsAndLeaves _ him mount closes feeding) = (λ d. cc, λ rule d. cc)
+nothing_by w event o (Leaves him no_relay other) = (λ d. cc, λ rule d. cc)
+nothing_by w event o (GoesDown him by_rule relay over) = (λ d. cc, λ rule d. cc)
+nothing_by w event o (Shows _ asker peer text its undecided what) = (λ d. cc, λ rule d. cc)
 nothing_by w event o (Obeys _ command c) = (λ d. cc, λ rule d. cc)
 nothing_by w event o (HasPassed ms e) = (λ d. refl, λ rule d. refl)
 nothing_by w event o (Ticks ms e) = (λ d. cc, λ rule d. cc)

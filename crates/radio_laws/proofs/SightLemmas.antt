@@ -7,7 +7,7 @@ use Rattle.radio_listing.specs.declared.rows.MountRow.{MountRow}
 use Rattle.radio_listing.specs.declared.rows.ListenerRow.{ListenerRow}
 use Rattle.radio_listing.specs.declared.rows.PublicRow.{PublicRow}
 use Rattle.radio_listing.specs.Admin.{stats_text, mounts_text}
-use Rattle.radio_listing.specs.Laws.{LookAlike, mounts_named, shown_names}
+use Rattle.radio_listing.specs.Laws.{LookAlike, mounts_named, shown_names, shown_urls, urls_told}
 use Rattle.radio_listing.specs.Listeners.{listeners_text}
 use Rattle.radio_listing.specs.Public.{rows_shown, status_data, stream_line, stream_text}
 use Rattle.radio_events.specs.declared.command.Asked.TheVariants.{Listing as AsksFor}
@@ -15,30 +15,42 @@ use Rattle.radio_events.specs.declared.command.CommandRequest.{CommandRequest}
 use Rattle.radio_events.specs.declared.command.Listing.{Listing}
 use Rattle.radio_events.specs.declared.command.Listing.TheVariants.{Status, Stats, Mounts, Clients, Streams}
 use Rattle.radio_events.specs.declared.event.Event.{Event}
-use Rattle.radio_events.specs.declared.event.Event.TheVariants.{Command}
+use Rattle.radio_events.specs.declared.event.Event.TheVariants.{Listen, Command}
+use Rattle.radio_events.specs.declared.event.ListenRequest.{ListenRequest}
+use Rattle.radio_settings.specs.Web.{web_path}
+use Rattle.radio_settings.specs.declared.web.WebPath.{WebPath}
+use Rattle.radio_settings.specs.declared.web.WebPath.TheVariants.{IcecastStatus}
+use Rattle.radio_listing.specs.declared.rows.Server.{Server}
+use Rattle.radio_listing.specs.Icecast.{icecast_data, icecast_text}
+use Rattle.radio_core.specs.Pages.{IsShownBy, IsListing, IsAtPath, page_at, server_as}
 use Rattle.radio_events.specs.declared.reply.Reply.TheVariants.{Text as SaysText}
 use Rattle.radio_events.specs.declared.text.Text.{Text}
-use Rattle.radio_events.specs.declared.text.Text.TheVariants.{Json, Streams as StreamList}
+use Rattle.radio_events.specs.declared.text.Text.TheVariants.{Json, Streams as StreamList, Public}
 use Rattle.radio_core.specs.declared.outcome.Outcome.{Outcome}
 use Rattle.radio_core.specs.Listings.{shown, mount_row, mount_rows, public_row}
 use Rattle.radio_parts.specs.Sessions.{Session}
 use Rattle.radio_core.specs.Step.{outcome, reply_to}
-use Rattle.radio_core.specs.Ways.{Way, Misplaced, IsFinished, IsDenied, IsRefused, IsAdmitted, Begins, Receives, SetsTitle, TakesSeat, HandsOut, Ends}
-use Rattle.radio_core.specs.Ways.{EndsAndLeaves, Leaves, Obeys, Shows, HasPassed, Ticks}
+use Rattle.radio_core.specs.Ways.{Way, Misplaced, IsFinished, IsDenied, IsRefused, IsAdmitted, Begins, ComesUp, Receives, SetsTitle, TakesSeat, HandsOut, Ends}
+use Rattle.radio_core.specs.Ways.{EndsAndLeaves, Leaves, GoesDown, Obeys, Shows, HasPassed, Ticks}
 use Rattle.radio_core.specs.World.{World}
 use Rattle.radio_core.proofs.Ways.{way_of}
-use Rattle.radio_laws.specs.Shown.{Seen, seen, is_public, public_live, seen_by_all, AreAnsweredAlike, SightIsKept, HiddenAreLeftOut}
+use Rattle.radio_laws.specs.Shown.{Seen, seen, is_public, public_live, seen_by_all, LooksAlike, AreAnsweredAlike, AreVisitedAlike, SightIsKept}
+use Rattle.radio_laws.specs.Shown.{HiddenAreLeftOut, HiddenAreNotToldOnTheWeb}
+use Rattle.radio_laws.proofs.WebLaws.{is_on}
 
 -- a request for a listing that is answered by a text is answered by the listing
 module _ (w : World) (asked : CommandRequest) (listing : Listing) (text : Text) (is : asked.asked ≡ AsksFor listing) where
-  told_by : (event : Event) (o : Outcome) → Way w event o → event ≡ Command asked → o.reply ≡ SaysText text → shown w listing ≡ text
-  told_by event o (Shows _ other c) e d =
+  shown_so : (event : Event) (told : Text) → IsShownBy w event told → event ≡ Command asked → shown w listing ≡ told
+  shown_so event told (IsListing other c) e =
       let one : Command c.asked ≡ Command asked = sym c.is_event ∙ e in
       let same : c.asked ≡ asked = cc in
       let both : AsksFor other ≡ AsksFor listing = sym c.is_asked ∙ ap (λ (a : CommandRequest). a.asked) same ∙ is in
       let it : other ≡ listing = cc in
-      let told : shown w other ≡ text = cc in
-      ap (shown w) (sym it) ∙ told
+      ap (shown w) (sym it)
+  shown_so event told (IsAtPath request path is_event on) e = let other = sym is_event ∙ e in cc
+
+  told_by : (event : Event) (o : Outcome) → Way w event o → event ≡ Command asked → o.reply ≡ SaysText text → shown w listing ≡ text
+  told_by event o (Shows _ asker peer told its undecided what) e d = let same : told ≡ text = cc in shown_so event told what e ∙ same
   told_by event o (Obeys _ command c) e d =
       let one : Command c.asked ≡ Command asked = sym c.is_event ∙ e in
       let same : c.asked ≡ asked = cc in
@@ -50,19 +62,57 @@ module _ (w : World) (asked : CommandRequest) (listing : Listing) (text : Text) 
   told_by event o (IsRefused _ him by v its undecided) e d = cc
   told_by event o (IsAdmitted peer allowed) e d = cc
   told_by event o (Begins request undecided none allowed) e d = cc
+  told_by event o (ComesUp mount shown unfed allowed) e d = cc
   told_by event o (Receives him mount block feeding) e d = cc
   told_by event o (SetsTitle him mount title feeding) e d = cc
   told_by event o (HasPassed ms past) e d = cc
   told_by event o (Ticks ms past) e d = cc
   told_by event o (TakesSeat request peer session undecided lands live allowed) e d = cc
   told_by event o (HandsOut him room seat session sits has live) e d = cc
-  told_by event o (Ends him mount feeding) e d = cc
-  told_by event o (EndsAndLeaves him mount feeding) e d = cc
-  told_by event o (Leaves him other) e d = cc
+  told_by event o (Ends him mount feeding no_relay) e d = cc
+  told_by event o (EndsAndLeaves _ him mount closes feeding) e d = cc
+  told_by event o (Leaves him no_relay other) e d = cc
+  told_by event o (GoesDown him by_rule relay over) e d = cc
 
   is_told : reply_to w (Command asked) ≡ SaysText text → shown w listing ≡ text
   unfolding reply_to
   is_told d = told_by (Command asked) (outcome w (Command asked)) (way_of w (Command asked)) refl d
+
+-- and one for a path of the web site by what is there
+module _ (w : World) (asked : ListenRequest) (path : WebPath) (text : Text) (on : web_path w.house.settings.web asked.mount ≡ Some path) where
+  page_so : (event : Event) (told : Text) → IsShownBy w event told → event ≡ Listen asked → page_at w path asked.host ≡ told
+  page_so event told (IsListing other c) e = let other = sym c.is_event ∙ e in cc
+  page_so event told (IsAtPath request there is_event is_on) e =
+      let one : Listen request ≡ Listen asked = sym is_event ∙ e in
+      let same : request ≡ asked = cc in
+      let both : Some there ≡ Some path = sym is_on ∙ ap (λ (r : ListenRequest). web_path w.house.settings.web r.mount) same ∙ on in
+      let it : there ≡ path = cc in
+      ap (λ (p : WebPath). page_at w p asked.host) (sym it) ∙ ap (λ (r : ListenRequest). page_at w there r.host) (sym same)
+
+  visited_by : (event : Event) (o : Outcome) → Way w event o → event ≡ Listen asked → o.reply ≡ SaysText text → page_at w path asked.host ≡ text
+  visited_by event o (Shows _ asker peer told its undecided what) e d = let same : told ≡ text = cc in page_so event told what e ∙ same
+  visited_by event o (Obeys _ command c) e d = let other = sym c.is_event ∙ e in cc
+  visited_by event o (Misplaced _) e d = cc
+  visited_by event o (IsFinished _ him by its known) e d = cc
+  visited_by event o (IsDenied _ by v nobody) e d = cc
+  visited_by event o (IsRefused _ him by v its undecided) e d = cc
+  visited_by event o (IsAdmitted peer allowed) e d = cc
+  visited_by event o (Begins request undecided none allowed) e d = cc
+  visited_by event o (ComesUp mount shown unfed allowed) e d = cc
+  visited_by event o (Receives him mount block feeding) e d = cc
+  visited_by event o (SetsTitle him mount title feeding) e d = cc
+  visited_by event o (HasPassed ms past) e d = cc
+  visited_by event o (Ticks ms past) e d = cc
+  visited_by event o (TakesSeat request peer session undecided lands live allowed) e d = cc
+  visited_by event o (HandsOut him room seat session sits has live) e d = cc
+  visited_by event o (Ends him mount feeding no_relay) e d = cc
+  visited_by event o (EndsAndLeaves _ him mount closes feeding) e d = cc
+  visited_by event o (Leaves him no_relay other) e d = cc
+  visited_by event o (GoesDown him by_rule relay over) e d = cc
+
+  is_visited : reply_to w (Listen asked) ≡ SaysText text → page_at w path asked.host ≡ text
+  unfolding reply_to
+  is_visited d = visited_by (Listen asked) (outcome w (Listen asked)) (way_of w (Listen asked)) refl d
 
 answered : (w v : World) (listing : Listing) → shown w listing ≡ shown v listing → AreAnsweredAlike w v listing
 answered w v listing same asked other text said is its d e = sym (is_told w asked listing text is d) ∙ same ∙ is_told v other listing said its e
@@ -97,6 +147,11 @@ module _ (w : World) where
   names [] = refl
   names (session ∷ live) = ap (λ (all : List (Option (List ℕ))). name_shown session ∷ all) (names live)
 
+  heard_at : (base : List ℕ) (live : List Session) → map (λ (row : PublicRow). Some (utf8_lossy (base ++ row.mount))) (map row_seen (map (seen w) live))
+      ≡ map (λ (session : Session). Some (utf8_lossy (base ++ session.mount))) live
+  heard_at base [] = refl
+  heard_at base (session ∷ live) = ap (λ (all : List (Option (List ℕ))). Some (utf8_lossy (base ++ session.mount)) ∷ all) (heard_at base live)
+
   lines : (live : List Session) → flat_map stream_line (map row_seen (map (seen w) live)) ≡ flat_map (λ (session : Session). session.mount ++ 13 ∷ 10 ∷ []) live
   lines [] = refl
   lines (session ∷ live) = ap (λ (rest : List ℕ). (session.mount ++ 13 ∷ 10 ∷ []) ++ rest) (lines live)
@@ -118,13 +173,38 @@ module _ (w : World) where
       streams = λ is. sym (is_told w asked Streams text is d) ∙ ap (λ (bytes : List ℕ). StreamList bytes) all_lines;
     }
 
+  module _ (urls : (server : Server) (rows : List MountRow) → urls_told (icecast_data server rows) ≡ shown_urls server.base_url rows) where
+    pub hidden_are_not_told_on_the_web : HiddenAreNotToldOnTheWeb w
+    hidden_are_not_told_on_the_web asked text is d =
+        let server = server_as w.house.settings asked.host in (
+          server,
+          mount_rows w,
+          sym (is_visited w asked IcecastStatus text (is_on w asked.mount IcecastStatus is) d),
+          urls server (mount_rows w)
+              ∙ ap (λ (rows : List PublicRow). Some (map (λ (row : PublicRow). Some (utf8_lossy (server.base_url ++ row.mount))) rows)) (shown_rows w.house.live)
+              ∙ ap (λ (all : List (Option (List ℕ))). Some all) (heard_at server.base_url (public_live w)),
+        )
+
 module _ (alike : (rows others : List MountRow) → rows_shown rows ≡ rows_shown others → LookAlike rows others) (w v : World) where
   look_alike : seen_by_all w ≡ seen_by_all v → LookAlike (mount_rows w) (mount_rows v)
   look_alike same = alike (mount_rows w) (mount_rows v) (shown_rows w w.house.live ∙ ap (map row_seen) same ∙ sym (shown_rows v v.house.live))
 
+  public_alike : {a b : List ℕ} {o p : Option (List ℕ)} → a ≡ b → o ≡ p → Public a o ≡ Public b p
+  public_alike e f = cc
+
+  visited_alike : LooksAlike w v → AreVisitedAlike w v
+  visited_alike same asked other text said is its host address port d e =
+      let there = is_on w asked.mount IcecastStatus is in
+      let server : server_as w.house.settings asked.host ≡ server_as v.house.settings other.host = rw (host, address, port) refl in
+      sym (is_visited w asked IcecastStatus text there d)
+      ∙ public_alike ((look_alike same.mounts).icecast (server_as w.house.settings asked.host)
+      ∙ ap (λ (s : Server). icecast_text s (mount_rows v)) server) same.readers
+      ∙ is_visited v other IcecastStatus said (is_on v other.mount IcecastStatus its) e
+
   pub sight_is_kept : SightIsKept w v
   sight_is_kept = record {
-    status = λ same. answered w v Status (ap (λ (bytes : List ℕ). Json bytes) (look_alike same).status);
+    status = λ same. answered w v Status (public_alike (look_alike same.mounts).status same.readers);
+    icecast = visited_alike;
     streams = λ same. answered w v Streams (ap (λ (bytes : List ℕ). StreamList bytes) (look_alike same).streams);
     stats = λ rows count. answered w v Stats
         (ap (λ (n : ℕ). Json (stats_text n (mount_rows w))) count ∙ ap (λ (all : List MountRow). Json (stats_text (length v.house.clients) all)) rows);

@@ -13,28 +13,25 @@ use Rattle.radio_access.specs.Lists.{Lists, passes}
 use Rattle.radio_tables.proofs.KeyLaws.{by_number, by_name}
 use Rattle.radio_events.specs.declared.event.Event.{Event}
 use Rattle.radio_events.specs.declared.event.Event.TheVariants.{Push, Title}
-use Rattle.radio_core.specs.declared.outcome.Change.TheVariants.{Begin, Receive, SetTitle}
+use Rattle.radio_laws.proofs.BegunLemmas.{source_begins, relay_begins}
+use Rattle.radio_core.specs.declared.outcome.Change.TheVariants.{Receive, SetTitle}
 use Rattle.radio_core.specs.declared.outcome.Outcome.{Outcome}
 use Rattle.radio_seats.specs.declared.seat.Seat.{Seat}
 use Rattle.radio_core.specs.declared.standing.Standing.TheVariants.{Unknown, Undecided, Feeds}
 use Rattle.radio_core.specs.World.{World, opening, standing_of}
-use Rattle.radio_events.specs.declared.event.SourceRequest.{SourceRequest}
-use Rattle.radio_core.specs.declared.house.House.{House}
-use Rattle.radio_core.specs.Changes.{changed, begun}
+use Rattle.radio_core.specs.Changes.{changed}
 use Rattle.radio_core.specs.Handing.{block_in, of_client, handed_at, handed, delivered_at, delivered}
 use Rattle.radio_seats.specs.Seats.{seat_of}
 use Rattle.radio_parts.specs.Sessions.{Session, session_of, without_session}
 use Rattle.radio_core.specs.Sound.{IsSound}
-use Rattle.radio_core.specs.Source.{shown_for}
 use Rattle.radio_core.specs.Step.{outcome, world_after}
 use Rattle.radio_parts.specs.Stream.{WholeStream, data_at, end_of}
 use Rattle.radio_laws.specs.Stretches.{between, Sitting, sitting_in, begun_sittings, sittings, AreStretches, StretchesAreWhole}
-use Rattle.radio_core.specs.Ways.{Way, Misplaced, IsFinished, IsDenied, IsRefused, IsAdmitted, Begins, Receives, SetsTitle, TakesSeat, HandsOut, Ends}
-use Rattle.radio_core.specs.Ways.{EndsAndLeaves, Leaves, Obeys, Shows, HasPassed, Ticks}
+use Rattle.radio_core.specs.Ways.{Way, Misplaced, IsFinished, IsDenied, IsRefused, IsAdmitted, Begins, ComesUp, Receives, SetsTitle, TakesSeat, HandsOut, Ends}
+use Rattle.radio_core.specs.Ways.{EndsAndLeaves, Leaves, GoesDown, Obeys, Shows, HasPassed, Ticks}
 use Rattle.radio_core.proofs.FinishLemmas.{undecided_before}
 use Rattle.radio_core.proofs.OwnLemmas.{not_of, nothing_of}
 use Rattle.radio_laws.proofs.GoneLemmas.{his_own, with_nothing, last_rises}
-use Rattle.radio_core.proofs.CalledHome.{house_called}
 use Rattle.radio_parts.proofs.SessionLookups.{beside_ended, is_over}
 use Rattle.radio_core.specs.Moves.{moved_into}
 use Rattle.radio_core.proofs.SeatSteps.{seats_step}
@@ -43,7 +40,7 @@ use Rattle.radio_core.specs.Finishes.{Finishes}
 use Rattle.radio_core.specs.Listen.{first_seat, burst_of}
 use Rattle.radio_core.specs.SeatSteps.{SeatStep, Stays, IsHanded, SitsDown, IsMoved, Leaves as HeLeaves, IsEnded as HeIsEnded}
 use Rattle.radio_policy.specs.declared.rule.Rule.{Rule}
-use Rattle.radio_core.proofs.SoundSessions.{begun_cases, grown_cases}
+use Rattle.radio_core.proofs.SoundSessions.{grown_cases}
 use Rattle.radio_core.proofs.SoundTitles.{titled_cases}
 use Rattle.radio_core.proofs.TickLemmas.{ticked_fates}
 use Rattle.radio_laws.proofs.ObeyLemmas.{was_live_then}
@@ -235,18 +232,11 @@ record Sent (w : World) (sent : ℕ → List ℕ) : Type 0 where
   pub none_yet : (id : ℕ) (peer : Peer) → standing_of w id ≡ Undecided peer → sent id ≡ []
   pub none_above : (id : ℕ) → w.house.last_id < id → sent id ≡ []
 
--- who are called home change no session
-pub was_begun : (w : World) (asked : SourceRequest) (mount : List ℕ) (session : Session)
-    → session_of (changed w (Begin asked.id asked.mount (shown_for w.house asked.mount asked.shown))).house.live mount ≡ Some session
-    → session_of (begun w.house asked.id asked.mount (shown_for w.house asked.mount asked.shown)).live mount ≡ Some session
-was_begun w asked mount session e =
-    let up = record w { house = begun w.house asked.id asked.mount (shown_for w.house asked.mount asked.shown) } in
-    ap (λ (h : House). session_of h.live mount) (sym (house_called up asked.mount)) ∙ e
-
 module _ (w : World) (s : IsSound w) (sent : ℕ → List ℕ) (h : Sent w sent) where
   -- only a source brings something
   brings_nothing : (event : Event) (o : Outcome) → Way w event o → (id : ℕ) → ((mount : List ℕ) → standing_of w id ≡ Feeds mount → ⊥)
       → of_client event id (block_in o.change) ≡ []
+  brings_nothing event o (ComesUp mount shown unfed allowed) id not = refl
   brings_nothing event o (Receives him mount block feeding) id not =
       by_number him id (λ same. absurd (not mount (ap (standing_of w) (sym same) ∙ feeding))) (λ other. not_of (Push him block) id block other)
   brings_nothing event o (Misplaced _) id not = nothing_of event id [] refl
@@ -255,16 +245,17 @@ module _ (w : World) (s : IsSound w) (sent : ℕ → List ℕ) (h : Sent w sent)
   brings_nothing event o (IsRefused _ him by v its undecided) id not = nothing_of event id [] refl
   brings_nothing event o (IsAdmitted peer allowed) id not = refl
   brings_nothing event o (SetsTitle him mount text feeding) id not = nothing_of event id [] refl
-  brings_nothing event o (Shows _ listing c) id not = nothing_of event id [] refl
+  brings_nothing event o (Shows _ asker peer text its undecided what) id not = nothing_of event id [] refl
   brings_nothing event o (Obeys _ command c) id not = nothing_of event id [] refl
   brings_nothing event o (HasPassed ms e) id not = refl
   brings_nothing event o (Ticks ms e) id not = refl
   brings_nothing event o (Begins asked undecided none allowed) id not = nothing_of event id [] refl
   brings_nothing event o (TakesSeat asked peer session undecided lands live allowed) id not = nothing_of event id [] refl
   brings_nothing event o (HandsOut him room seat session sits has live) id not = nothing_of event id [] refl
-  brings_nothing event o (Ends him mount feeding) id not = nothing_of event id [] refl
-  brings_nothing event o (EndsAndLeaves him mount feeding) id not = nothing_of event id [] refl
-  brings_nothing event o (Leaves him other) id not = nothing_of event id [] refl
+  brings_nothing event o (Ends him mount feeding no_relay) id not = nothing_of event id [] refl
+  brings_nothing event o (EndsAndLeaves _ him mount closes feeding) id not = nothing_of event id [] refl
+  brings_nothing event o (Leaves him no_relay other) id not = nothing_of event id [] refl
+  brings_nothing event o (GoesDown him by_rule relay over) id not = nothing_of event id [] refl
 
   whole_now : Event → Outcome → Type 0
   whole_now event o = (mount : List ℕ) (session : Session) → session_of (changed w o.change).house.live mount ≡ Some session
@@ -317,25 +308,29 @@ module _ (w : World) (s : IsSound w) (sent : ℕ → List ℕ) (h : Sent w sent)
       (as_it_was (Title him text) other session found))
       (λ apart found. as_it_was (Title him text) other now found)
 
+  abbrev is_whole : Event → Session → Type 0
+  is_whole event session = session.stream.bytes ≡ sent session.number ++ of_client event session.number []
+
   whole_by : (event : Event) (o : Outcome) → Way w event o → whole_now event o
   unfolding whole_now
   whole_by event o (Receives him mount block feeding) = grown_whole him mount block feeding
   whole_by event o (SetsTitle him mount text feeding) = titled_whole him mount text feeding
-  whole_by event o (Shows _ listing c) = as_it_was event
+  whole_by event o (Shows _ asker peer text its undecided what) = as_it_was event
   whole_by event o (Obeys _ command c) = λ mount session e.
       let was = was_live_then w event command c mount s session e in
       subst (λ (x : WholeStream). x.bytes ≡ sent session.number ++ of_client event session.number []) was.stream
       (subst (λ (n : ℕ). was.old.stream.bytes ≡ sent n ++ of_client event n []) was.number (as_it_was event mount was.old was.was))
   whole_by event o (HasPassed ms e) = as_it_was event
   whole_by event o (Ticks ms e) = λ mount session h. as_it_was event mount session ((ticked_fates w s ms).live mount session h)
-  whole_by event o (Begins asked undecided none allowed) = λ mount session e.
-      begun_cases w s asked.id asked.mount (shown_for w.house asked.mount asked.shown) undecided.0 undecided.1 none mount session
-      (was_begun w asked mount session e)
-      (λ same one. subst (λ (x : Session). x.stream.bytes ≡ sent x.number ++ of_client event x.number []) one
-      (sym (h.none_yet asked.id undecided.0 undecided.1) ∙ with_nothing (sent asked.id) (of_client event asked.id []) (nothing_of event asked.id [] refl)))
-      (λ old. as_it_was event mount session old)
-  whole_by event o (Ends him mount feeding) = left_over event mount
-  whole_by event o (EndsAndLeaves him mount feeding) = left_over event mount
+  whole_by event o (Begins asked undecided none allowed) =
+      source_begins w s (is_whole event) (as_it_was event) asked undecided none
+      (sym (h.none_yet asked.id undecided.0 undecided.1) ∙ with_nothing (sent asked.id) (of_client event asked.id []) (nothing_of event asked.id [] refl))
+  whole_by event o (ComesUp there shown none allowed) =
+      let him = w.house.last_id + 1 in
+      relay_begins w s (is_whole event) (as_it_was event) there shown none
+      (sym (h.none_above him (omega arith)) ∙ with_nothing (sent him) (of_client event him []) (nothing_of event him [] refl))
+  whole_by event o (Ends him mount feeding no_relay) = left_over event mount
+  whole_by event o (EndsAndLeaves _ him mount closes feeding) = left_over event mount
   whole_by event o (Misplaced _) = as_it_was event
   whole_by event o (IsFinished _ him by its known) = as_it_was event
   whole_by event o (IsDenied _ by v nobody) = as_it_was event
@@ -343,7 +338,8 @@ module _ (w : World) (s : IsSound w) (sent : ℕ → List ℕ) (h : Sent w sent)
   whole_by event o (IsAdmitted peer allowed) = as_it_was event
   whole_by event o (TakesSeat asked peer session undecided lands live allowed) = as_it_was event
   whole_by event o (HandsOut him room seat session sits has live) = as_it_was event
-  whole_by event o (Leaves him other) = as_it_was event
+  whole_by event o (Leaves him no_relay other) = as_it_was event
+  whole_by event o (GoesDown him by_rule relay over) = as_it_was event
 
   sent_step : (event : Event) → Sent (world_after w event) (λ n. sent n ++ delivered_at w event n)
   unfolding world_after whole_now

@@ -34,6 +34,7 @@ use Rattle.radio_core.specs.declared.standing.Standing.{Standing}
 use Rattle.radio_core.specs.declared.standing.Standing.TheVariants.{Undecided, Feeds, Sits, Finished}
 use Rattle.radio_core.specs.Changes.{changed, session_over, session_ended, before_silence, session_silenced, silent_in, ticked}
 use Rattle.radio_core.specs.Clients.{Client, client_of, with_state}
+use Rattle.radio_core.specs.Relays.{Relay, relay_of}
 use Rattle.radio_core.specs.Facts.{sight_of, fallback_of}
 use Rattle.radio_core.specs.Finishes.{Cause, SessionIsOver, IsFarBehind, HasSatOut, HasAskedNothing, HasSentNothing, IsKilled, HisSessionIsKilled}
 use Rattle.radio_core.specs.Moves.{TakesTo, his_turn}
@@ -69,10 +70,10 @@ module _ (w : World) (s : IsSound w) (ms : ℕ) (from later : World) (f : ClockF
     by_fate (IsMoved old session carries left had has same live opens) = same ∙ e
 
 -- a client who has asked for nothing is undecided
-new_in : (listener : Option Listener) (found : Option Client) (client : Client) → found ≡ Some client → client.state ≡ IsNew
-    → standing_in listener found ≡ Undecided client.peer
-new_in listener found client there new = ap (standing_in listener) there ∙ by_state client new where
-  by_state : (x : Client) → x.state ≡ IsNew → standing_in listener (Some x) ≡ Undecided x.peer
+new_in : (relay : Option Relay) (listener : Option Listener) (found : Option Client) (client : Client) → found ≡ Some client → client.state ≡ IsNew
+    → standing_in relay listener found ≡ Undecided client.peer
+new_in relay listener found client there new = ap (standing_in relay listener) there ∙ by_state client new where
+  by_state : (x : Client) → x.state ≡ IsNew → standing_in relay listener (Some x) ≡ Undecided x.peer
   by_state x e = rw e refl
 
 module _ (w : World) (s : IsSound w) (ms : ℕ) where
@@ -80,17 +81,17 @@ module _ (w : World) (s : IsSound w) (ms : ℕ) where
       → standing_of (timed w s ms) id ≡ Finished HeaderTimeout
   too_late id client found late =
       let seconds = w.house.settings.limits.header_timeout in
-      ap (standing_in (listener_of w.seats id)) (clients_after seconds ms w.house.clients id ∙ ap (option_map (timed_out seconds ms)) found)
+      ap (standing_in (relay_of w.house.relays id) (listener_of w.seats id)) (clients_after seconds ms w.house.clients id ∙ ap (option_map (timed_out seconds ms)) found)
       ∙ ends (asks_too_late seconds ms client) late where
         ends : (b : Bool) → b ≡ true
-            → standing_in (listener_of w.seats id) (Some (with_state (if b then Ended HeaderTimeout else client.state) client)) ≡ Finished HeaderTimeout
+            → standing_in (relay_of w.house.relays id) (listener_of w.seats id) (Some (with_state (if b then Ended HeaderTimeout else client.state) client)) ≡ Finished HeaderTimeout
         ends b e = rw e refl
 
   -- a seat that ends when durations are looked at ends by them
   time_over : (id : ℕ) (seat : Seat) → seat_of w.seats id ≡ Some seat → has_sat_out w.house.settings ms seat ≡ true
       → standing_of (before_silence w ms) id ≡ Finished TimeOver
   time_over id seat has out =
-      ap (λ l. standing_in l client) (have_ended test TimeOver w.seats id ∙ ap (option_map (finished_if test TimeOver)) listener.1)
+      ap (λ l. standing_in relay l client) (have_ended test TimeOver w.seats id ∙ ap (option_map (finished_if test TimeOver)) listener.1)
       ∙ by_seating listener.0.seating listener.2
     where
       test : Seat → Bool
@@ -99,6 +100,9 @@ module _ (w : World) (s : IsSound w) (ms : ℕ) where
       client : Option Client
       client = client_of (timed w s ms).house.clients id
 
+      relay : Option Relay
+      relay = relay_of w.house.relays id
+
       listener : (him : Listener) × (listener_of w.seats id ≡ Some him) × (seat_held him.seating ≡ Some seat)
       listener = listener_seated w.seats id seat has
 
@@ -106,12 +110,12 @@ module _ (w : World) (s : IsSound w) (ms : ℕ) where
       sits = (sound_timed w s ms).sitting id seat has
 
       ends : (b : Bool) (him : ℕ) (other : Seating) → b ≡ true
-          → standing_in (Some (record { id = him; seating = (if b then HasLostIt TimeOver else other) })) client ≡ Finished TimeOver
-      ends true him other e = lost_in (listener_of w.seats id) him TimeOver client sits
+          → standing_in (relay_of w.house.relays id) (Some (record { id = him; seating = (if b then HasLostIt TimeOver else other) })) client ≡ Finished TimeOver
+      ends true him other e = lost_in (relay_of w.house.relays id) (listener_of w.seats id) him TimeOver client sits
       ends false him other e = cc
 
       by_seating : (seating : Seating) → seat_held seating ≡ Some seat
-          → standing_in (Some (record { id = listener.0.id; seating = ended_if test TimeOver seating })) client ≡ Finished TimeOver
+          → standing_in (relay_of w.house.relays id) (Some (record { id = listener.0.id; seating = ended_if test TimeOver seating })) client ≡ Finished TimeOver
       by_seating (HasSeat held) e =
           let same : held ≡ seat = cc in
           ends (test held) listener.0.id (HasSeat held) (ap test same ∙ out)
@@ -140,7 +144,7 @@ module _ (w : World) (s : IsSound w) (ms : ℕ) where
     by_cause (HasAskedNothing moment client e found late) =
         let new : client.state ≡ IsNew = asking_at w.house.settings.limits.header_timeout moment client.arrived client.state late in
         let undecided : standing_of w session.number ≡ Undecided client.peer =
-        new_in (listener_of w.seats session.number) (client_of w.house.clients session.number) client found new in
+        new_in (relay_of w.house.relays session.number) (listener_of w.seats session.number) (client_of w.house.clients session.number) client found new in
         let feeds : standing_of w session.number ≡ Feeds mount = feeding in
         cc
     by_cause (HasSentNothing moment other e feeds there is) = refl
@@ -210,8 +214,8 @@ module _ (w : World) (s : IsSound w) (ms : ℕ) where
     out_by_fare during mount sound same set has there (HasLost old rule turn had concerned now) =
         let both : IsOut NotLive ≡ IsOut rule = sym (out_by_turn during mount same set has there) ∙ turn in
         let one : NotLive ≡ rule = cc in
-        ap (λ l. standing_in l (client_of during.house.clients id)) now
-        ∙ lost_in (listener_of during.seats id) id rule (client_of during.house.clients id) (sound.sitting id seat has)
+        ap (λ l. standing_in (relay_of during.house.relays id) l (client_of during.house.clients id)) now
+        ∙ lost_in (relay_of during.house.relays id) (listener_of during.seats id) id rule (client_of during.house.clients id) (sound.sitting id seat has)
         ∙ ap (λ (r : Rule). Finished r) (sym one)
 
     still_there : (during : World) (mount : List ℕ) → IsSound during → seat_of during.seats id ≡ Some seat → bytes_eq seat.mount mount ≡ false

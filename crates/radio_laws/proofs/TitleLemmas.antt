@@ -1,5 +1,5 @@
 -- the law of titles
-use Rattle.std.proofs.Common.{◌≡◌, ◌⊎◌, inl, inr, Bool, true, false, ℕ, ◌<◌, ◌==◌, Option, Some, None, List, [], ◌∷◌, ◌++◌, refl, ap, sym, subst, ◌∙◌, arith, append_assoc}
+use Rattle.std.proofs.Common.{◌+◌, ◌≡◌, ◌⊎◌, inl, inr, Bool, true, false, ℕ, ◌<◌, ◌==◌, Option, Some, None, List, [], ◌∷◌, ◌++◌, refl, ap, sym, subst, ◌∙◌, arith, append_assoc}
 use Rattle.std.specs.Prelude.{if◌then◌else◌}
 use Rattle.std.specs.List.{last_or}
 use Rattle.std.specs.Option.{option_map}
@@ -17,39 +17,43 @@ use Rattle.radio_events.specs.declared.command.Command.{Command as TheCommand}
 use Rattle.radio_events.specs.declared.command.Command.TheVariants.{MoveClients, KillClient, KillSource, SetTitle as CommandsTitle, SetFallback}
 use Rattle.radio_events.specs.declared.event.Event.{Event}
 use Rattle.radio_events.specs.declared.event.Event.TheVariants.{Push, Title}
-use Rattle.radio_core.specs.declared.outcome.Change.TheVariants.{Receive, SetTitle}
+use Rattle.radio_laws.proofs.BegunLemmas.{source_begins, relay_begins}
+use Rattle.radio_core.specs.declared.outcome.Change.TheVariants.{Receive, SetTitle, Answer}
+use Rattle.radio_core.specs.Outcomes.{says}
+use Rattle.radio_events.specs.declared.reply.Reply.TheVariants.{Text as SaysText}
 use Rattle.radio_core.specs.declared.outcome.Outcome.{Outcome}
 use Rattle.radio_core.specs.declared.standing.Standing.TheVariants.{Unknown, Undecided, Feeds}
 use Rattle.radio_core.specs.World.{World, opening, standing_of}
 use Rattle.radio_core.specs.Changes.{answered, changed, session_killed}
 use Rattle.radio_core.specs.Command.{obeys as obeys_it}
-use Rattle.radio_events.specs.declared.command.Listing.{Listing}
-use Rattle.radio_events.specs.declared.command.Listing.TheVariants.{Status, Stats, Mounts, Clients, Streams}
-use Rattle.radio_core.specs.Command.{shows}
-use Rattle.radio_core.specs.CommandFacts.{IsListed, IsCommanded}
+use Rattle.radio_events.specs.declared.text.Text.{Text}
+use Rattle.radio_events.specs.declared.text.Text.TheVariants.{Done, Moved, Json, Streams, Public, Page}
+use Rattle.radio_events.specs.Texts.{IsShort}
+use Rattle.radio_core.specs.CommandFacts.{IsCommanded}
 use Rattle.radio_core.specs.Handing.{is_number, of_client}
 use Rattle.radio_core.specs.Run.{world_after_all, run_after}
 use Rattle.radio_parts.specs.Sessions.{Session, session_of, without_session}
 use Rattle.radio_core.specs.Sound.{IsSound}
-use Rattle.radio_core.specs.Source.{shown_for}
 use Rattle.radio_core.specs.Step.{outcome, reply_to, world_after}
-use Rattle.radio_laws.specs.TitlesTold.{commanded_at, commanded_in, set_by, set_at, titles_set, last_title, TitlesAreTold}
-use Rattle.radio_core.specs.Ways.{Way, Misplaced, IsFinished, IsDenied, IsRefused, IsAdmitted, Begins, Receives, SetsTitle, TakesSeat, HandsOut, Ends}
-use Rattle.radio_core.specs.Ways.{EndsAndLeaves, Leaves, Obeys, Shows, HasPassed, Ticks}
+use Rattle.radio_laws.specs.TitlesTold.{title_in, commanded_at, commanded_in, set_by, set_at, titles_set, last_title, TitlesAreTold}
+use Rattle.radio_core.specs.Ways.{Way, Misplaced, IsFinished, IsDenied, IsRefused, IsAdmitted, Begins, ComesUp, Receives, SetsTitle, TakesSeat, HandsOut, Ends}
+use Rattle.radio_core.specs.Ways.{EndsAndLeaves, Leaves, GoesDown, Obeys, Shows, HasPassed, Ticks}
 use Rattle.radio_laws.proofs.AccessLemmas.{access_holds}
 use Rattle.radio_core.proofs.FinishLemmas.{undecided_before}
+use Rattle.radio_core.proofs.ListingLemmas.{shown_long}
 use Rattle.radio_core.proofs.Obeyed.{title_live}
+use Rattle.radio_core.specs.Pages.{IsShownBy}
 use Rattle.radio_core.proofs.OwnLemmas.{not_of, nothing_of}
-use Rattle.radio_laws.proofs.StretchLemmas.{was_begun}
 use Rattle.radio_laws.proofs.GoneLemmas.{his_own, with_nothing, last_rises}
 use Rattle.radio_laws.proofs.ListsLemmas.{lists_run}
 use Rattle.radio_laws.proofs.LimitLemmas.{within_run}
 use Rattle.radio_parts.proofs.SessionLookups.{beside_ended, is_over}
 use Rattle.radio_core.proofs.SoundRuns.{sound_after, sound_opening, sound_run}
-use Rattle.radio_core.proofs.SoundSessions.{begun_cases, grown_cases}
+use Rattle.radio_core.proofs.SoundSessions.{grown_cases}
 use Rattle.radio_core.proofs.SoundTitles.{titled_cases}
 use Rattle.radio_core.proofs.TickLemmas.{ticked_fates}
 use Rattle.radio_core.proofs.Ways.{way_of}
+use Rattle.radio_core.specs.Closing.{Closes, OfClient, OfRelay}
 
 -- the last of a list with one more
 last_is : {A : Type 0} (o : Option A) (xs : List A) (x : A) → last_or o (xs ++ x ∷ []) ≡ Some x
@@ -72,6 +76,11 @@ told_as w told now same h = record {
 -- what an outcome sets for the source of this number
 abbrev sets : World → Event → Outcome → ℕ → List (List ℕ)
 sets w event o id = set_by w event o.reply id
+
+-- whose connection is closed sets no title by it
+closes_untitled : (w : World) (him : ℕ) (event : Event) → Closes w him event → title_in event ≡ []
+closes_untitled w him event (OfClient no_relay) = refl
+closes_untitled w him event (OfRelay relay) = refl
 
 module _ (w : World) (s : IsSound w) (told : ℕ → List (List ℕ)) (h : Told w told) where
   -- what a command sets
@@ -112,13 +121,17 @@ module _ (w : World) (s : IsSound w) (told : ℕ → List (List ℕ)) (h : Told 
       (λ same. absurd (not mount (ap (standing_of w) (sym same) ∙ s.fed mount there.0 there.1)))
       (λ apart. apart))
 
-  -- who is shown a listing sets none
-  listing_sets_none : (event : Event) (listing : Listing) (c : IsListed w event listing) (id : ℕ) → sets w event (shows w c.asked.id listing) id ≡ []
-  listing_sets_none event Status c id = nothing_of event id [] refl
-  listing_sets_none event Stats c id = nothing_of event id [] refl
-  listing_sets_none event Mounts c id = nothing_of event id [] refl
-  listing_sets_none event (Clients mount) c id = nothing_of event id [] refl
-  listing_sets_none event Streams c id = nothing_of event id [] refl
+  -- who is shown something of the station sets none
+  long_sets_none : (event : Event) (text : Text) → (IsShort text → ⊥) → (asker id : ℕ) → sets w event (says (SaysText text) (Answer asker)) id ≡ []
+  long_sets_none event Done long asker id = absurd (long tt)
+  long_sets_none event (Moved count) long asker id = nothing_of event id [] refl
+  long_sets_none event (Json bytes) long asker id = nothing_of event id [] refl
+  long_sets_none event (Streams bytes) long asker id = nothing_of event id [] refl
+  long_sets_none event (Public bytes origin) long asker id = nothing_of event id [] refl
+  long_sets_none event (Page origin) long asker id = nothing_of event id [] refl
+
+  shown_sets_none : (event : Event) (text : Text) → IsShownBy w event text → (asker id : ℕ) → sets w event (says (SaysText text) (Answer asker)) id ≡ []
+  shown_sets_none event text what = long_sets_none event text (shown_long w event text what)
 
   -- only a source and a command set a title
   sets_nothing : (event : Event) (o : Outcome) → Way w event o → (id : ℕ) → ((mount : List ℕ) → standing_of w id ≡ Feeds mount → ⊥)
@@ -130,17 +143,19 @@ module _ (w : World) (s : IsSound w) (told : ℕ → List (List ℕ)) (h : Told 
   sets_nothing event o (IsDenied _ by v nobody) id not = nothing_of event id [] refl
   sets_nothing event o (IsRefused _ him by v its undecided) id not = nothing_of event id [] refl
   sets_nothing event o (IsAdmitted peer allowed) id not = refl
-  sets_nothing event o (Shows _ listing c) id not = listing_sets_none event listing c id
+  sets_nothing event o (Shows _ asker peer text its undecided what) id not = shown_sets_none event text what asker id
   sets_nothing event o (Obeys _ command c) id not = commands_nothing event command c id not
   sets_nothing event o (HasPassed ms e) id not = refl
   sets_nothing event o (Ticks ms e) id not = refl
   sets_nothing event o (Begins asked undecided none allowed) id not = nothing_of event id [] refl
+  sets_nothing event o (ComesUp mount shown unfed allowed) id not = refl
   sets_nothing event o (Receives him mount block feeding) id not = nothing_of event id [] refl
   sets_nothing event o (TakesSeat asked peer session undecided lands live allowed) id not = nothing_of event id [] refl
   sets_nothing event o (HandsOut him room seat session sits has live) id not = nothing_of event id [] refl
-  sets_nothing event o (Ends him mount feeding) id not = nothing_of event id [] refl
-  sets_nothing event o (EndsAndLeaves him mount feeding) id not = nothing_of event id [] refl
-  sets_nothing event o (Leaves him other) id not = nothing_of event id [] refl
+  sets_nothing event o (Ends him mount feeding no_relay) id not = nothing_of event id [] refl
+  sets_nothing event o (EndsAndLeaves _ him mount closes feeding) id not = nothing_of event id (title_in event) (closes_untitled w him event closes)
+  sets_nothing event o (Leaves him no_relay other) id not = nothing_of event id [] refl
+  sets_nothing event o (GoesDown him by_rule relay over) id not = nothing_of event id [] refl
 
   last_now : Event → Outcome → Type 0
   last_now event o = (mount : List ℕ) (session : Session) → session_of (changed w o.change).house.live mount ≡ Some session
@@ -247,25 +262,32 @@ module _ (w : World) (s : IsSound w) (told : ℕ → List (List ℕ)) (h : Told 
   command_title event (SetFallback mount fallback) c = none_set event (SetFallback mount fallback) c (λ id. refl)
   command_title event (CommandsTitle mount text) c = command_sets event mount text c
 
+  abbrev has_last : Event → Session → Type 0
+  has_last event session = session.title ≡ last_or None (told session.number ++ of_client event session.number [])
+
+  -- of a number of which nothing was told
+  none_told : (event : Event) (him : ℕ) → told him ≡ [] → None ≡ last_or None (told him ++ of_client event him [])
+  none_told event him nothing = ap (λ xs. last_or None xs) (sym nothing ∙ with_nothing (told him) (of_client event him []) (nothing_of event him [] refl))
+
   last_by : (event : Event) (o : Outcome) → Way w event o → last_now event o
   unfolding last_now
   last_by event o (SetsTitle him mount text feeding) = new_title him mount text feeding
-  last_by event o (Shows _ listing c) = λ mount session live.
+  last_by event o (Shows _ asker peer text its undecided what) = λ mount session live.
       h.last mount session live
-      ∙ ap (λ xs. last_or None xs) (with_nothing (told session.number) (sets w event o session.number) (listing_sets_none event listing c session.number))
+      ∙ ap (λ xs. last_or None xs) (with_nothing (told session.number) (sets w event o session.number) (shown_sets_none event text what asker session.number))
   last_by event o (Obeys _ command c) = command_title event command c
   last_by event o (HasPassed ms e) = as_it_was event
   last_by event o (Ticks ms e) = λ mount session h. as_it_was event mount session ((ticked_fates w s ms).live mount session h)
   last_by event o (Receives him mount block feeding) = grown_title him mount block feeding
-  last_by event o (Begins asked undecided none allowed) = λ mount session e.
-      begun_cases w s asked.id asked.mount (shown_for w.house asked.mount asked.shown) undecided.0 undecided.1 none mount session
-      (was_begun w asked mount session e)
-      (λ same one. subst (λ (x : Session). x.title ≡ last_or None (told x.number ++ of_client event x.number [])) one
-      (ap (λ xs. last_or None xs) (sym (h.none_yet asked.id undecided.0 undecided.1)
-      ∙ with_nothing (told asked.id) (of_client event asked.id []) (nothing_of event asked.id [] refl))))
-      (λ old. as_it_was event mount session old)
-  last_by event o (Ends him mount feeding) = left_over event mount
-  last_by event o (EndsAndLeaves him mount feeding) = left_over event mount
+  last_by event o (Begins asked undecided none allowed) =
+      source_begins w s (has_last event) (as_it_was event) asked undecided none (none_told event asked.id (h.none_yet asked.id undecided.0 undecided.1))
+  last_by event o (ComesUp there shown none allowed) =
+      let him = w.house.last_id + 1 in
+      relay_begins w s (has_last event) (as_it_was event) there shown none (none_told event him (h.none_above him (omega arith)))
+  last_by event o (Ends him mount feeding no_relay) = left_over event mount
+  last_by event o (EndsAndLeaves _ him mount closes feeding) = λ other session e.
+      left_over event mount other session e
+      ∙ ap (λ xs. last_or None (told session.number ++ of_client event session.number xs)) (sym (closes_untitled w him event closes))
   last_by event o (Misplaced _) = as_it_was event
   last_by event o (IsFinished _ him by its known) = as_it_was event
   last_by event o (IsDenied _ by v nobody) = as_it_was event
@@ -273,7 +295,8 @@ module _ (w : World) (s : IsSound w) (told : ℕ → List (List ℕ)) (h : Told 
   last_by event o (IsAdmitted peer allowed) = as_it_was event
   last_by event o (TakesSeat asked peer session undecided lands live allowed) = as_it_was event
   last_by event o (HandsOut him room seat session sits has live) = as_it_was event
-  last_by event o (Leaves him other) = as_it_was event
+  last_by event o (Leaves him no_relay other) = as_it_was event
+  last_by event o (GoesDown him by_rule relay over) = as_it_was event
 
   told_step : (event : Event) → Told (world_after w event) (λ n. told n ++ set_at w event n)
   unfolding world_after reply_to last_now

@@ -1,6 +1,6 @@
 -- what a move makes of each listener
-use Rattle.std.proofs.Common.{◌≡◌, true, ℕ, Option, Some, None, is_some, List, [], ◌∷◌, refl, ap, sym, subst, ◌∙◌}
-use Rattle.std.specs.Prelude.{fold}
+use Rattle.std.proofs.Common.{◌≡◌, Bool, true, ℕ, Option, Some, None, is_some, List, [], ◌∷◌, refl, ap, sym, subst, ◌∙◌}
+use Rattle.std.specs.Prelude.{fold, if◌then◌else◌}
 use Rattle.std.specs.Option.{option_map_or}
 use Rattle.std.proofs.lemmas.Slice.Eq.{bytes_eq-Decides}
 use Rattle.radio_policy.specs.declared.rule.Rule.{Rule}
@@ -19,25 +19,31 @@ use Rattle.radio_seats.specs.declared.seat.Seat.{Seat}
 use Rattle.radio_seats.specs.Seats.{listener_of, seat_in, seat_of, AreByNumber}
 use Rattle.radio_seats.proofs.SeatLaws.{beside_left}
 use Rattle.radio_events.specs.declared.event.Event.{Event}
-use Rattle.radio_events.specs.declared.event.Event.TheVariants.{Source, SourceEnd, Leave}
+use Rattle.radio_events.specs.declared.event.Event.TheVariants.{Source, SourceEnd, Command, RelayUp, Clock}
+use Rattle.radio_events.specs.declared.command.CommandRequest.{CommandRequest}
+use Rattle.radio_settings.specs.declared.field.Shown.{Shown}
+use Rattle.radio_core.specs.Closing.{Closes, OfClient, OfRelay}
+use Rattle.radio_core.proofs.ClosingLemmas.{closes_his}
 use Rattle.radio_events.specs.declared.event.SourceRequest.{SourceRequest}
 use Rattle.radio_seats.specs.declared.seat.Seating.TheVariants.{Finished as HasFinished}
-use Rattle.radio_events.specs.declared.reply.Reply.TheVariants.{Noted}
-use Rattle.radio_core.specs.declared.outcome.Change.TheVariants.{Answer, End, EndAndLeave}
+use Rattle.radio_events.specs.declared.reply.Reply.TheVariants.{Noted, Stray}
+use Rattle.radio_core.specs.declared.outcome.Change.TheVariants.{Nothing, Answer, End, EndAndLeave}
 use Rattle.radio_core.specs.declared.outcome.Outcome.{Outcome}
 use Rattle.radio_core.specs.declared.standing.Standing.{Standing}
 use Rattle.radio_core.specs.declared.standing.Standing.TheVariants.{Undecided, Feeds}
 use Rattle.radio_core.specs.Changes.{changed, carried_along, called_home, session_over, before_silence, session_silenced}
-use Rattle.radio_core.specs.Facts.{sight_of, rows_to_feed, live_end}
-use Rattle.radio_core.specs.Moves.{Brings, ByItsEnd, ByItsLeaving, BySilence, ByComingUp, ByKilling, ByMoving, his_turn}
-use Rattle.radio_core.specs.Outcomes.{says, if_feeding, if_undecided, on_verdict}
+use Rattle.radio_core.specs.Facts.{sight_of, rows_to_feed, rows_to_raise, live_end}
+use Rattle.radio_core.specs.Moves.{Brings, ByItsEnd, ByItsLeaving, BySilence, ByComingUp, ByRelayUp, ByKilling, ByMoving, his_turn}
+use Rattle.radio_core.specs.Outcomes.{says, if_feeding, unless_relayed, if_undecided, on_verdict}
 use Rattle.radio_core.specs.Leave.{leaves_from}
+use Rattle.radio_core.specs.RelayDown.{goes_down_from}
+use Rattle.radio_core.specs.RelayUp.{raises}
 use Rattle.radio_parts.specs.Sessions.{Session, session_of}
 use Rattle.radio_core.specs.Sound.{IsSound}
 use Rattle.radio_core.specs.Source.{begins}
 use Rattle.radio_core.specs.Step.{outcome, world_after}
 use Rattle.radio_parts.specs.Stream.{end_of}
-use Rattle.radio_core.specs.World.{World, standing_of}
+use Rattle.radio_core.specs.World.{World, standing_of, has_relay}
 use Rattle.radio_laws.specs.WalkingOn.{FaresByHisTurn, ListenersWalkOn, MovesAreWhole}
 use Rattle.radio_laws.proofs.CommandLaws.{later_so}
 use Rattle.radio_core.proofs.Obeyed.{is_cut, named}
@@ -107,11 +113,12 @@ module _ (w : World) (s : IsSound w) where
       order_silenced sessions (session_silenced before session) (order_carried (session_over before session.mount) (Ended session.mount) order)
 
   walk_on_by : (event : Event) (move : Move) (before : World) → Brings w event move before → AreByNumber before.seats
-  walk_on_by event move before (ByItsEnd him mount feeding) = s.by_number
-  walk_on_by event move before (ByItsLeaving him mount feeding) = s.by_number
+  walk_on_by event move before (ByItsEnd him mount feeding no_relay) = s.by_number
+  walk_on_by event move before (ByItsLeaving _ him mount closes feeding) = s.by_number
   walk_on_by event move before (BySilence ms silent others session all) =
       order_silenced silent (before_silence w ms) (sound_sat_out w s ms).by_number
   walk_on_by event move before (ByComingUp asked peer stood allowed calls) = s.by_number
+  walk_on_by event move before (ByRelayUp mount shown allowed calls) = s.by_number
   walk_on_by event move before (ByKilling _ mount c) = s.by_number
   walk_on_by event move before (ByMoving _ mount destination c) = s.by_number
 
@@ -132,14 +139,51 @@ module _ (w : World) where
       → called_home before mount ≡ carried_along before (Up mount)
   calls_so before mount e = rw e refl
 
+  closes_no_source : (asked : SourceRequest) (event : Event) (him : ℕ) → event ≡ Source asked → Closes w him event → ⊥
+  closes_no_source asked event him e (OfClient no_relay) = cc
+  closes_no_source asked event him e (OfRelay relay) = cc
+
+  closes_no_end : (end : ℕ) (event : Event) (him : ℕ) → event ≡ SourceEnd end → Closes w him event → ⊥
+  closes_no_end end event him e (OfClient no_relay) = cc
+  closes_no_end end event him e (OfRelay relay) = cc
+
+  closes_no_rise : (at : List ℕ) (sees : Shown) (event : Event) (him : ℕ) → event ≡ RelayUp at sees → Closes w him event → ⊥
+  closes_no_rise at sees event him e (OfClient no_relay) = cc
+  closes_no_rise at sees event him e (OfRelay relay) = cc
+
+  closes_no_clock : (ms : ℕ) (event : Event) (him : ℕ) → event ≡ Clock ms → Closes w him event → ⊥
+  closes_no_clock ms event him e (OfClient no_relay) = cc
+  closes_no_clock ms event him e (OfRelay relay) = cc
+
+  closes_no_command : (asked : CommandRequest) (event : Event) (him : ℕ) → event ≡ Command asked → Closes w him event → ⊥
+  closes_no_command asked event him e (OfClient no_relay) = cc
+  closes_no_command asked event him e (OfRelay relay) = cc
+
+  raises_so : (verdict : Verdict) (up : Outcome) → verdict ≡ Allow → on_verdict verdict Nothing up ≡ up
+  raises_so verdict up v = rw v refl
+
+  rising : (at : List ℕ) (sees : Shown) (event : Event) (move : Move) (before : World) → event ≡ RelayUp at sees → Brings w event move before
+      → (world_after w event).seats ≡ (carried_along before move).seats
+  unfolding world_after outcome
+  rising at sees event move before e (ByRelayUp mount shown allowed calls) =
+      ap (λ (o : Outcome). (changed w o.change).seats) (raises_so (verdict_in (rows_to_raise w.house mount shown)) (raises w.house mount shown) allowed)
+      ∙ ap (λ (x : World). x.seats) (calls_so before mount calls)
+  rising at sees event move before e (ByComingUp asked peer stood allowed calls) = cc
+  rising at sees event move before e (ByItsEnd him mount feeding no_relay) = cc
+  rising at sees event move before e (ByItsLeaving _ him mount closes feeding) = absurd (closes_no_rise at sees event him e closes)
+  rising at sees event move before e (BySilence ms during session way found) = cc
+  rising at sees event move before e (ByKilling _ mount c) = let other = c.is_event in cc
+  rising at sees event move before e (ByMoving _ mount destination c) = let other = c.is_event in cc
+
   coming : (asked : SourceRequest) (event : Event) (move : Move) (before : World) → event ≡ Source asked → Brings w event move before
       → (world_after w event).seats ≡ (carried_along before move).seats
   unfolding world_after outcome
   coming asked event move before e (ByComingUp other peer stood allowed calls) =
       ap (λ (o : Outcome). (changed w o.change).seats) (asks_so (standing_of w other.id) peer (verdict_in (rows_to_feed w.house other)) other stood allowed)
       ∙ ap (λ (x : World). x.seats) (calls_so before other.mount calls)
-  coming asked event move before e (ByItsEnd him mount feeding) = cc
-  coming asked event move before e (ByItsLeaving him mount feeding) = cc
+  coming asked event move before e (ByItsEnd him mount feeding no_relay) = cc
+  coming asked event move before e (ByItsLeaving _ him mount closes feeding) = absurd (closes_no_source asked event him e closes)
+  coming asked event move before e (ByRelayUp mount shown allowed calls) = cc
   coming asked event move before e (BySilence ms during session way found) = cc
   coming asked event move before e (ByKilling _ mount c) = let other = c.is_event in cc
   coming asked event move before e (ByMoving _ mount destination c) = let other = c.is_event in cc
@@ -147,29 +191,42 @@ module _ (w : World) where
   ending : (him : ℕ) (event : Event) (move : Move) (before : World) → event ≡ SourceEnd him → Brings w event move before
       → (world_after w event).seats ≡ (carried_along before move).seats
   unfolding world_after outcome
-  ending him event move before e (ByItsEnd he mount feeding) =
-      feeds_so (standing_of w he) mount (λ m. says Noted (End he m)) (λ (o : Outcome). (changed w o.change).seats) feeding
-  ending him event move before e (ByItsLeaving he mount feeding) = cc
+  ending him event move before e (ByItsEnd he mount feeding no_relay) =
+      feeds_so (standing_of w he) mount (λ m. unless_relayed (has_relay w he) (says Noted (End he m))) (λ (o : Outcome). (changed w o.change).seats) feeding
+      ∙ ap (λ (b : Bool). (changed w (unless_relayed b (says Noted (End he mount))).change).seats) no_relay
+  ending him event move before e (ByItsLeaving _ he mount closes feeding) = absurd (closes_no_end him event he e closes)
+  ending him event move before e (ByRelayUp mount shown allowed calls) = cc
   ending him event move before e (BySilence ms during session way found) = cc
   ending him event move before e (ByKilling _ mount c) = let other = c.is_event in cc
   ending him event move before e (ByMoving _ mount destination c) = let other = c.is_event in cc
   ending him event move before e (ByComingUp asked peer stood allowed calls) = cc
 
-  leaves_so : (he : ℕ) (mount : List ℕ) (now : Standing) → now ≡ Feeds mount → leaves_from he now ≡ says Noted (EndAndLeave he mount)
-  leaves_so he mount now e = rw e refl
+  -- whoever feeds goes, whose connection is closed
+  goes_so : (he : ℕ) (mount : List ℕ) (event : Event) → Closes w he event → standing_of w he ≡ Feeds mount → outcome w event ≡ says Noted (EndAndLeave he mount)
+  unfolding outcome
+  goes_so he mount event (OfClient no_relay) feeding =
+      ap (λ (b : Bool). unless_relayed b (leaves_from he (standing_of w he))) no_relay ∙ ap (leaves_from he) feeding
+  goes_so he mount event (OfRelay relay) feeding =
+      ap (λ (b : Bool). if b then goes_down_from he (standing_of w he) else says Stray Nothing) relay ∙ ap (goes_down_from he) feeding
 
-  leaving : (him : ℕ) (event : Event) (move : Move) (before : World) → event ≡ Leave him → Brings w event move before → (id : ℕ) → (him ≡ id → ⊥)
+  -- and whose connection is closed is one
+  closes_one : (him he : ℕ) (event : Event) → Closes w him event → Closes w he event → he ≡ him
+  closes_one him he event closes others =
+      let both : Some he ≡ Some him = sym (closes_his w he event others) ∙ closes_his w him event closes in cc
+
+  leaving : (him : ℕ) (event : Event) (move : Move) (before : World) → Closes w him event → Brings w event move before → (id : ℕ) → (him ≡ id → ⊥)
       → listener_of (world_after w event).seats id ≡ listener_of (carried_along before move).seats id
-  unfolding world_after outcome
-  leaving him event move before e (ByItsLeaving he mount feeding) id apart =
-      let same : he ≡ him = cc in
-      ap (λ (o : Outcome). listener_of (changed w o.change).seats id) (leaves_so he mount (standing_of w he) feeding)
+  unfolding world_after
+  leaving him event move before closes (ByItsLeaving _ he mount others feeding) id apart =
+      let same : he ≡ him = closes_one him he event closes others in
+      ap (λ (o : Outcome). listener_of (changed w o.change).seats id) (goes_so he mount event others feeding)
       ∙ by_number he id (λ one. absurd (apart (sym same ∙ one))) (λ other. beside_left (carried_along (session_over w mount) (Ended mount)).seats he id other)
-  leaving him event move before e (ByItsEnd he mount feeding) id apart = cc
-  leaving him event move before e (BySilence ms during session way found) id apart = cc
-  leaving him event move before e (ByKilling _ mount c) id apart = let other = c.is_event in cc
-  leaving him event move before e (ByMoving _ mount destination c) id apart = let other = c.is_event in cc
-  leaving him event move before e (ByComingUp asked peer stood allowed calls) id apart = cc
+  leaving him event move before closes (ByItsEnd he mount feeding no_relay) id apart = absurd (closes_no_end he event him refl closes)
+  leaving him event move before closes (BySilence ms during session way found) id apart = absurd (closes_no_clock ms event him refl closes)
+  leaving him event move before closes (ByKilling _ mount c) id apart = absurd (closes_no_command c.asked event him c.is_event closes)
+  leaving him event move before closes (ByMoving _ mount destination c) id apart = absurd (closes_no_command c.asked event him c.is_event closes)
+  leaving him event move before closes (ByComingUp asked peer stood allowed calls) id apart = absurd (closes_no_source asked event him refl closes)
+  leaving him event move before closes (ByRelayUp mount shown allowed calls) id apart = absurd (closes_no_rise mount shown event him refl closes)
 
   pub moves_are_whole : IsSound w → (event : Event) → MovesAreWhole w event
   moves_are_whole s event = record {
@@ -178,6 +235,7 @@ module _ (w : World) where
         ap (λ (x : World). x.seats) (later_so w s event c ∙ is_cut w s event mount c)
         ∙ ap (λ (m : List ℕ). (carried_along (session_over w m) (Ended m)).seats) (named w s event mount c);
     at_its_coming = λ asked move before e brings. coming asked event move before e brings;
+    at_a_relays_coming = λ mount shown move before e brings. rising mount shown event move before e brings;
     at_its_end = λ him move before e brings. ending him event move before e brings;
-    at_its_leaving = λ him move before e brings. leaving him event move before e brings;
+    at_its_leaving = λ him move before closes brings. leaving him event move before closes brings;
   }

@@ -1,5 +1,5 @@
 use Rattle.std.specs.Prelude.{◌≡◌, ◌⊎◌, ℕ, ◌-◌, ◌<◌, ◌≤◌, true, false, Option, Some, None}
-use Rattle.radio_settings.specs.declared.field.Shown.{Shown}
+use Rattle.radio_events.specs.declared.reply.StreamHead.{StreamHead}
 use Rattle.radio_tables.specs.Lists.{Has}
 use Rattle.radio_events.specs.declared.event.Event.{Event}
 use Rattle.radio_events.specs.declared.event.Event.TheVariants.{Listen}
@@ -29,12 +29,14 @@ pub record IsEarliestStart (stream : WholeStream) (burst queue place : ℕ) : Ty
 
 -- the listener has a seat in the session of a mount by which his walk came, which was live when he asked and let him in, is shown what it shows, and begins at
 -- the earliest block start that this mount's `burst-size` and the `queue-size` allow
-pub record IsSeated (w : World) (event : Event) (interval : Option ℕ) (shown : Shown) : Type 0 where
+pub record IsSeated (w : World) (event : Event) (interval : Option ℕ) (head : StreamHead) : Type 0 where
   pub asked : ListenRequest
   pub listens : event ≡ Listen asked
   pub session : Session
   pub is_live : session_of w.house.live session.mount ≡ Some session
-  pub shows : shown ≡ session.shown
+  pub shows : head.shown ≡ session.shown
+  -- as those may read it whom the settings allow
+  pub readers : head.allow_origin ≡ w.house.settings.web.allow_origin
   pub seat : Seat
   pub has_the_seat : seat_of (world_after w event).seats asked.id ≡ Some seat
   -- at a mount by which a walk comes from the one that he asked for, among the first ten; the one that he asked for is his home
@@ -57,4 +59,4 @@ pub record IsSeated (w : World) (event : Event) (interval : Option ℕ) (shown :
 
 -- only who asks to hear a mount is seated, and he begins where his burst begins
 abbrev pub BeginsAtABlock : World → Event → Type 0
-BeginsAtABlock w event = (interval : Option ℕ) (shown : Shown) → reply_to w event ≡ Seated interval shown → IsSeated w event interval shown
+BeginsAtABlock w event = (interval : Option ℕ) (head : StreamHead) → reply_to w event ≡ Seated interval head → IsSeated w event interval head

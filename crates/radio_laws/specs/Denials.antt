@@ -31,6 +31,7 @@ pub record IsOnlyAnswered (w later : World) (client : Option ℕ) : Type 0 where
   pub lists : later.house.lists ≡ w.house.lists
   pub live : later.house.live ≡ w.house.live
   pub fallbacks : later.house.fallbacks ≡ w.house.fallbacks
+  pub relays : later.house.relays ≡ w.house.relays
   pub last : later.house.last_id ≡ w.house.last_id
   pub seats : later.seats ≡ w.seats
   pub answered : (id : ℕ) (him : Client) → client ≡ Some id → client_of w.house.clients id ≡ Some him → him.state ≡ Undecided

@@ -1,15 +1,21 @@
-use Rattle.std.specs.Prelude.{◌≡◌, ℕ, ◌≤◌, List, []}
+use Rattle.std.specs.Prelude.{◌≡◌, ℕ, ◌≤◌, false, List, []}
 use Rattle.radio_events.specs.declared.event.Event.{Event}
+use Rattle.radio_events.specs.declared.event.Event.TheVariants.{Leave, RelayDown}
 use Rattle.radio_core.specs.declared.outcome.Change.TheVariants.{Nothing}
-use Rattle.radio_events.specs.declared.reply.Reply.TheVariants.{Stray}
+use Rattle.radio_events.specs.declared.reply.Reply.TheVariants.{Noted, Stray}
 use Rattle.radio_core.specs.declared.standing.Standing.TheVariants.{Unknown}
 use Rattle.radio_core.specs.Handing.{handed, delivered}
 use Rattle.radio_core.specs.Outcomes.{says}
 use Rattle.radio_core.specs.Run.{world_after_all}
-use Rattle.radio_core.specs.Step.{outcome}
-use Rattle.radio_core.specs.World.{World, standing_of}
+use Rattle.radio_core.specs.Step.{outcome, reply_to}
+use Rattle.radio_core.specs.World.{World, standing_of, has_relay}
 
--- the number was given, and its client is not there any more (numbers are given from 1 on)
+-- by the event a client leaves, or a relay has gone down
+pub data Leaving (w : World) (id : ℕ) : Event → Type 0 where
+  AsClient : has_relay w id ≡ false → Leaving w id (Leave id)
+  AsRelay : reply_to w (RelayDown id) ≡ Noted → Leaving w id (RelayDown id)
+
+-- the number was given, and its client or relay is not there any more (numbers are given from 1 on)
 abbrev pub HasLeft : World → ℕ → Type 0
 HasLeft w id = (id ≤ w.house.last_id) × (standing_of w id ≡ Unknown)
 

@@ -4,7 +4,10 @@ use Rattle.radio_creds.specs.Credentials.{Credentials}
 use Rattle.radio_settings.specs.Options.{options_for}
 use Rattle.radio_seats.specs.declared.seat.Seat.{Seat}
 use Rattle.radio_seats.specs.Seats.{seats_at, seat_of}
+use Rattle.radio_addr.specs.declared.peer.Peer.{Peer}
+use Rattle.radio_settings.specs.declared.field.Shown.{Shown}
 use Rattle.radio_events.specs.declared.event.Event.{Event}
+use Rattle.radio_events.specs.declared.event.Event.TheVariants.{Arrive, RelayUp}
 use Rattle.radio_events.specs.declared.reply.Reply.TheVariants.{Arrived, Feeding}
 use Rattle.radio_core.specs.Step.{reply_to}
 use Rattle.radio_core.specs.World.{World}
@@ -40,7 +43,9 @@ pub record IsFullAt (w : World) (mount : List ℕ) : Type 0 where
   pub limited : most_at w mount ≡ Some most
   pub reached : most ≤ length (seats_at w.seats mount)
 
--- a client arrives only where fewer are there than may be, and a source feeds only where fewer sessions are live than may be
+-- a client arrives only where fewer are there than may be, and a source or a relay feeds only where fewer sessions are live than may be
 pub record AdmitsByLimits (w : World) (event : Event) : Type 0 where
-  pub clients : (id : ℕ) → reply_to w event ≡ Arrived id → length w.house.clients < w.house.settings.limits.clients
+  pub clients : (peer : Peer) (id : ℕ) → event ≡ Arrive peer → reply_to w event ≡ Arrived id → length w.house.clients < w.house.settings.limits.clients
   pub sources : reply_to w event ≡ Feeding → length w.house.live < w.house.settings.limits.sources
+  pub relays : (mount : List ℕ) (shown : Shown) (id : ℕ) → event ≡ RelayUp mount shown → reply_to w event ≡ Arrived id
+      → length w.house.live < w.house.settings.limits.sources

@@ -1,16 +1,17 @@
 -- What the policy allows happens, and who sits is handed what stands at his place.
-use Rattle.std.specs.Prelude.{◌≡◌, ℕ, ◌+◌, ◌-◌, ◌<◌, min, List, [], ◌∷◌, ◌++◌, length, Some, None}
+use Rattle.std.specs.Prelude.{◌≡◌, ℕ, ◌+◌, ◌-◌, ◌<◌, min, List, [], ◌∷◌, ◌++◌, true, false, length, Some, None}
 use Rattle.radio_policy.specs.declared.rule.Rule.{Rule}
 use Rattle.radio_policy.specs.Verdicts.{Allows}
 use Rattle.radio_addr.specs.declared.peer.Peer.{Peer}
 use Rattle.radio_events.specs.declared.event.Event.{Event}
-use Rattle.radio_events.specs.declared.event.Event.TheVariants.{Arrive, Source, Push, SourceEnd, Title, Listen, Draw}
+use Rattle.radio_events.specs.declared.event.Event.TheVariants.{Arrive, Source, Push, SourceEnd, Title, Listen, Draw, RelayUp, RelayDown}
 use Rattle.radio_events.specs.declared.event.SourceRequest.{SourceRequest}
 use Rattle.radio_events.specs.declared.event.ListenRequest.{ListenRequest}
+use Rattle.radio_events.specs.declared.reply.StreamHead.{StreamHead}
 use Rattle.radio_events.specs.declared.reply.Reply.TheVariants.{Arrived, Feeding, Noted, Seated, Drawn, Finished, Stray}
 use Rattle.radio_seats.specs.declared.seat.Seat.{Seat}
-use Rattle.radio_core.specs.declared.standing.Standing.TheVariants.{Undecided, Feeds, Sits, Answered}
-use Rattle.radio_core.specs.Facts.{rows_to_arrive, rows_to_feed, rows_to_push, rows_to_listen}
+use Rattle.radio_core.specs.declared.standing.Standing.TheVariants.{Unknown, Undecided, Feeds, Sits, Answered}
+use Rattle.radio_core.specs.Facts.{rows_to_arrive, rows_to_feed, rows_to_raise, rows_to_push, rows_to_listen}
 use Rattle.radio_core.specs.Listen.{interval_for}
 use Rattle.radio_seats.specs.Seats.{seat_of}
 use Rattle.radio_parts.specs.Sessions.{Session, session_of}
@@ -18,7 +19,8 @@ use Rattle.radio_core.specs.Step.{reply_to, world_after}
 use Rattle.radio_parts.specs.Stream.{end_of, data_at}
 use Rattle.radio_core.specs.Clients.{client_of}
 use Rattle.radio_core.specs.declared.clients.ClientState.TheVariants.{Undecided as IsNew}
-use Rattle.radio_core.specs.World.{World, standing_of}
+use Rattle.radio_core.specs.World.{World, standing_of, has_relay}
+use Rattle.radio_settings.specs.declared.field.Shown.{Shown}
 use Rattle.radio_laws.specs.Walks.{ComesBy}
 
 -- a listener was seated in the session of a mount by which a walk comes from the one that he asked for, and shown what it shows
@@ -28,7 +30,9 @@ pub record IsTakenIn (w : World) (asked : ListenRequest) : Type 0 where
   pub not_too_far : steps < 10
   pub on_his_way : ComesBy w asked.mount steps session.mount
   pub is_live : session_of w.house.live session.mount ≡ Some session
-  pub is_shown : reply_to w (Listen asked) ≡ Seated (interval_for w.house asked.mount asked.wants_metadata) session.shown
+  pub head : StreamHead
+  pub is_shown : reply_to w (Listen asked) ≡ Seated (interval_for w.house asked.mount asked.wants_metadata) head
+  pub shows : head.shown ≡ session.shown
   pub sits : standing_of (world_after w (Listen asked)) asked.id ≡ Sits
 
 -- a listener was handed what stands at his place in the stream of his mount, as much of it as is there and as he has room for, and the title that it has;
@@ -50,6 +54,10 @@ pub record Serves (w : World) : Type 0 where
       × (standing_of (world_after w (Arrive peer)) (w.house.last_id + 1) ≡ Undecided peer)
   pub begins : (asked : SourceRequest) (peer : Peer) → standing_of w asked.id ≡ Undecided peer → Allows (rows_to_feed w.house asked)
       → (reply_to w (Source asked) ≡ Feeding) × (standing_of (world_after w (Source asked)) asked.id ≡ Feeds asked.mount)
+  -- a relay comes up with the next number, and feeds the mount
+  pub raises : (mount : List ℕ) (shown : Shown) → Allows (rows_to_raise w.house mount shown)
+      → (reply_to w (RelayUp mount shown) ≡ Arrived (w.house.last_id + 1))
+      × (standing_of (world_after w (RelayUp mount shown)) (w.house.last_id + 1) ≡ Feeds mount)
   -- a block is noted at the end of the stream, and as its last one from now on
   pub takes_in : (id : ℕ) (mount block : List ℕ) (session : Session) → standing_of w id ≡ Feeds mount → session_of w.house.live mount ≡ Some session
       → Allows (rows_to_push w.house mount block) → (reply_to w (Push id block) ≡ Noted)
@@ -62,8 +70,11 @@ pub record Serves (w : World) : Type 0 where
       → (reply_to w (Title id text) ≡ Noted)
       × (session_of (world_after w (Title id text)).house.live mount ≡ Some (record session { title = Some text }))
   -- the end of the data ends the session, and its source has had its answer
-  pub ends : (id : ℕ) (mount : List ℕ) → standing_of w id ≡ Feeds mount → (reply_to w (SourceEnd id) ≡ Noted)
+  pub ends : (id : ℕ) (mount : List ℕ) → standing_of w id ≡ Feeds mount → has_relay w id ≡ false → (reply_to w (SourceEnd id) ≡ Noted)
       × (session_of (world_after w (SourceEnd id)).house.live mount ≡ None) × (standing_of (world_after w (SourceEnd id)) id ≡ Answered)
+  -- a relay that goes down ends it, and is gone
+  pub goes_down : (id : ℕ) (mount : List ℕ) → standing_of w id ≡ Feeds mount → has_relay w id ≡ true → (reply_to w (RelayDown id) ≡ Noted)
+      × (session_of (world_after w (RelayDown id)).house.live mount ≡ None) × (standing_of (world_after w (RelayDown id)) id ≡ Unknown)
   pub seats : (asked : ListenRequest) (peer : Peer) → standing_of w asked.id ≡ Undecided peer → Allows (rows_to_listen w asked)
       → IsTakenIn w asked
   pub hands_out : (id room : ℕ) → standing_of w id ≡ Sits → IsHanded w id room

@@ -1,18 +1,23 @@
 -- What of the station a client is shown, and to whom it is shown.
-use Rattle.std.specs.Prelude.{◌≡◌, ◌↔◌, ◌≤◌, ◌<◌, ℕ, ◌+◌, ◌-◌, ◌*◌, Bool, not, List, [], ◌∷◌, ◌++◌, length, map, filter, flat_map, Option, Some, None, unwrap_or}
+use Rattle.std.specs.Prelude.{◌≡◌, ◌⊎◌, true, codes, ◌↔◌, ◌≤◌, ◌<◌, ℕ, ◌+◌, ◌-◌, ◌*◌, Bool, not, List, [], ◌∷◌, ◌++◌, length, map, filter, flat_map, Option, Some, None, unwrap_or}
 use Rattle.std.specs.Str.Lossy.{utf8_lossy}
 use Rattle.radio_addr.specs.declared.peer.Peer.{Peer}
 use Rattle.radio_creds.specs.Credentials.{Credentials}
 use Rattle.radio_settings.specs.declared.field.Shown.{Shown}
+use Rattle.radio_settings.specs.declared.web.WebPath.{WebPath}
+use Rattle.radio_settings.specs.declared.web.WebPath.TheVariants.{IcecastStatus, Page as AtPage}
 use Rattle.radio_settings.specs.Options.{options_for}
 use Rattle.radio_seats.specs.declared.seat.Seat.{Seat}
 use Rattle.radio_seats.specs.declared.seat.Listener.{Listener}
 use Rattle.radio_seats.specs.declared.seat.Seating.TheVariants.{Sits}
 use Rattle.radio_seats.specs.Seats.{seats_at, count_at}
 use Rattle.radio_listing.specs.declared.rows.MountRow.{MountRow}
+use Rattle.radio_listing.specs.declared.rows.Server.{Server}
+use Rattle.radio_listing.specs.Icecast.{icecast_data, icecast_text}
+use Rattle.radio_listing.specs.Reached.{base_url}
 use Rattle.radio_listing.specs.declared.rows.ListenerRow.{ListenerRow}
 use Rattle.radio_listing.specs.Admin.{stats_text, mounts_text}
-use Rattle.radio_listing.specs.Laws.{mounts_named}
+use Rattle.radio_listing.specs.Laws.{mounts_named, urls_told}
 use Rattle.radio_listing.specs.Listeners.{listeners_text}
 use Rattle.radio_listing.specs.Public.{status_data, status_text, stream_text}
 use Rattle.radio_events.specs.declared.command.Asked.TheVariants.{Listing as AsksFor}
@@ -20,10 +25,13 @@ use Rattle.radio_events.specs.declared.command.CommandRequest.{CommandRequest}
 use Rattle.radio_events.specs.declared.command.Listing.{Listing}
 use Rattle.radio_events.specs.declared.command.Listing.TheVariants.{Status, Stats, Mounts, Clients, Streams}
 use Rattle.radio_events.specs.declared.event.Event.{Event}
-use Rattle.radio_events.specs.declared.event.Event.TheVariants.{Command}
-use Rattle.radio_events.specs.declared.reply.Reply.TheVariants.{Text as SaysText}
+use Rattle.radio_events.specs.declared.event.Event.TheVariants.{Source, Listen, Command}
+use Rattle.radio_events.specs.declared.event.SourceRequest.{SourceRequest}
+use Rattle.radio_events.specs.declared.event.ListenRequest.{ListenRequest}
+use Rattle.radio_events.specs.declared.reply.Reply.TheVariants.{Text as SaysText, Deny}
+use Rattle.radio_policy.specs.declared.rule.Rule.TheVariants.{BadMount}
 use Rattle.radio_events.specs.declared.text.Text.{Text}
-use Rattle.radio_events.specs.declared.text.Text.TheVariants.{Json, Streams as StreamList}
+use Rattle.radio_events.specs.declared.text.Text.TheVariants.{Json, Streams as StreamList, Public, Page}
 use Rattle.radio_events.specs.Texts.{IsShort}
 use Rattle.radio_core.specs.declared.standing.Standing.TheVariants.{Undecided, Answered}
 use Rattle.radio_core.specs.Listings.{mount_rows, listener_rows}
@@ -90,7 +98,8 @@ TellOfListeners w (listener ∷ them) [] = ⊥
 
 -- the text tells what is there; who asks is counted among the clients
 abbrev pub Tells : World → Listing → Text → Type 0
-Tells w Status text = (rows : List MountRow) × TellOf w w.house.live rows × (text ≡ Json (status_text rows))
+Tells w Status text =
+    (rows : List MountRow) × TellOf w w.house.live rows × (text ≡ Public (status_text rows) w.house.settings.web.allow_origin)
 Tells w Stats text = (rows : List MountRow) × TellOf w w.house.live rows × (text ≡ Json (stats_text (length w.house.clients) rows))
 Tells w Mounts text = (rows : List MountRow) × TellOf w w.house.live rows × (text ≡ Json (mounts_text rows))
 Tells w (Clients mount) text = (rows : List ListenerRow) × TellOfListeners w (seats_at w.seats mount) rows × (text ≡ Json (listeners_text mount rows))
@@ -109,14 +118,54 @@ pub record IsShownByRight (w : World) (event : Event) (text : Text) : Type 0 whe
   pub sessions : (world_after w event).house.live ≡ w.house.live
   pub seats : (world_after w event).seats ≡ w.seats
 
--- what is no short text is a listing
+-- the path is one of the web site's, and the settings put it on
+pub data IsPath (w : World) (path : List ℕ) : WebPath → Type 0 where
+  StatusIsOn : path ≡ codes "/status-json.xsl" → w.house.settings.web.icecast_status ≡ true → IsPath w path IcecastStatus
+  PageIsOn : path ≡ codes "/" → w.house.settings.web.page ≡ true → IsPath w path AtPage
+
+-- the text tells what is there in Icecast's words, to one who calls the server by this host
+pub record TellsAsIcecast (w : World) (host : List ℕ) (text : Text) : Type 0 where
+  pub rows : List MountRow
+  pub of_the_live : TellOf w w.house.live rows
+  pub server : Server
+  pub name : server.name ≡ codes "radiod"
+  pub base : server.base_url ≡ base_url host w.house.settings.listen.address w.house.settings.listen.port
+  pub says : text ≡ Public (icecast_text server rows) w.house.settings.web.allow_origin
+
+abbrev pub TellsAt : World → WebPath → List ℕ → Text → Type 0
+TellsAt w IcecastStatus host text = TellsAsIcecast w host text
+TellsAt w AtPage host text = text ≡ Page w.house.settings.web.allow_origin
+
+-- what is at a path of the web site is shown to one who asks for it, who has had his answer then, and nothing changes but that
+pub record IsShownAtPath (w : World) (event : Event) (text : Text) : Type 0 where
+  pub asked : ListenRequest
+  pub is_event : event ≡ Listen asked
+  pub path : WebPath
+  pub is_path : IsPath w asked.mount path
+  pub tells : TellsAt w path asked.host text
+  pub answered : standing_of (world_after w event) asked.id ≡ Answered
+  pub sessions : (world_after w event).house.live ≡ w.house.live
+  pub seats : (world_after w event).seats ≡ w.seats
+
+-- what is no short text is a listing, or is at a path of the web site
 abbrev pub OnlyWhoMayIsShown : World → Event → Type 0
-OnlyWhoMayIsShown w event = (text : Text) → reply_to w event ≡ SaysText text → (IsShort text → ⊥) → IsShownByRight w event text
+OnlyWhoMayIsShown w event =
+    (text : Text) → reply_to w event ≡ SaysText text → (IsShort text → ⊥) → IsShownByRight w event text ⊎ IsShownAtPath w event text
 
 -- one who has asked for nothing yet, and may see the listing, is shown it where what it needs is there
 abbrev pub WhoMayIsShown : World → Type 0
 WhoMayIsShown w = (asked : CommandRequest) (peer : Peer) (listing : Listing) → standing_of w asked.id ≡ Undecided peer → asked.asked ≡ AsksFor listing
     → MaySee w listing asked.pair → IsThereToSee w listing → (text : Text) × (reply_to w (Command asked) ≡ SaysText text) × Tells w listing text
+
+-- one who has asked for nothing yet, and asks for a path of the web site, is shown what is there
+abbrev pub WhoVisitsIsShown : World → Type 0
+WhoVisitsIsShown w = (asked : ListenRequest) (peer : Peer) (path : WebPath) → standing_of w asked.id ≡ Undecided peer → IsPath w asked.mount path
+    → (text : Text) × (reply_to w (Listen asked) ≡ SaysText text) × TellsAt w path asked.host text
+
+-- and nobody feeds a mount of that name
+abbrev pub NobodyFeedsAPath : World → Type 0
+NobodyFeedsAPath w = (asked : SourceRequest) (peer : Peer) (path : WebPath) → standing_of w asked.id ≡ Undecided peer → IsPath w asked.mount path
+    → reply_to w (Source asked) ≡ Deny BadMount
 
 -- what everybody may see of a live mount
 pub record Seen : Type 0 where
@@ -144,10 +193,22 @@ abbrev pub AreAnsweredAlike : World → World → Listing → Type 0
 AreAnsweredAlike w v listing = (asked other : CommandRequest) (text said : Text) → asked.asked ≡ AsksFor listing → other.asked ≡ AsksFor listing
     → reply_to w (Command asked) ≡ SaysText text → reply_to v (Command other) ≡ SaysText said → text ≡ said
 
+-- in two states those who ask for Icecast's status and call the server by one host are answered by one text, where the servers have one address
+abbrev pub AreVisitedAlike : World → World → Type 0
+AreVisitedAlike w v = (asked other : ListenRequest) (text said : Text) → IsPath w asked.mount IcecastStatus → IsPath v other.mount IcecastStatus → asked.host ≡ other.host
+    → w.house.settings.listen.address ≡ v.house.settings.listen.address → w.house.settings.listen.port ≡ v.house.settings.listen.port
+    → reply_to w (Listen asked) ≡ SaysText text → reply_to v (Listen other) ≡ SaysText said → text ≡ said
+
+-- what everybody may see, and whose pages may read it
+pub record LooksAlike (w v : World) : Type 0 where
+  pub mounts : seen_by_all w ≡ seen_by_all v
+  pub readers : w.house.settings.web.allow_origin ≡ v.house.settings.web.allow_origin
+
 -- two states that agree on what everybody may see show everybody and every relay the same, whatever else they hold; and those with equal rows
 -- for a viewer show him the same
 pub record SightIsKept (w v : World) : Type 0 where
-  pub status : seen_by_all w ≡ seen_by_all v → AreAnsweredAlike w v Status
+  pub status : LooksAlike w v → AreAnsweredAlike w v Status
+  pub icecast : LooksAlike w v → AreVisitedAlike w v
   pub streams : seen_by_all w ≡ seen_by_all v → AreAnsweredAlike w v Streams
   pub stats : mount_rows w ≡ mount_rows v → length w.house.clients ≡ length v.house.clients → AreAnsweredAlike w v Stats
   pub mounts : mount_rows w ≡ mount_rows v → AreAnsweredAlike w v Mounts
@@ -155,9 +216,16 @@ pub record SightIsKept (w v : World) : Type 0 where
 
 -- no hidden mount is in the status or in the list of streams: they name the live mounts that are not hidden, in their order
 pub record NoHiddenIsNamed (w : World) (asked : CommandRequest) (text : Text) : Type 0 where
-  pub status : asked.asked ≡ AsksFor Status → (rows : List MountRow) × (text ≡ Json (status_text rows))
+  pub status : asked.asked ≡ AsksFor Status → (rows : List MountRow) × (text ≡ Public (status_text rows) w.house.settings.web.allow_origin)
       × (mounts_named (status_data rows) ≡ Some (map (λ (session : Session). Some (utf8_lossy session.mount)) (public_live w)))
   pub streams : asked.asked ≡ AsksFor Streams → text ≡ StreamList (flat_map (λ session. session.mount ++ 13 ∷ 10 ∷ []) (public_live w))
 
 abbrev pub HiddenAreLeftOut : World → Type 0
 HiddenAreLeftOut w = (asked : CommandRequest) (text : Text) → reply_to w (Command asked) ≡ SaysText text → NoHiddenIsNamed w asked text
+
+-- nor in Icecast's words, which tell where those mounts are heard
+abbrev pub HiddenAreNotToldOnTheWeb : World → Type 0
+HiddenAreNotToldOnTheWeb w = (asked : ListenRequest) (text : Text) → IsPath w asked.mount IcecastStatus → reply_to w (Listen asked) ≡ SaysText text
+    → (server : Server) × (rows : List MountRow) × (text ≡ Public (icecast_text server rows) w.house.settings.web.allow_origin)
+    × (urls_told (icecast_data server rows)
+    ≡ Some (map (λ (session : Session). Some (utf8_lossy (server.base_url ++ session.mount))) (public_live w)))

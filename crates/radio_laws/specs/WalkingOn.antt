@@ -4,14 +4,16 @@ use Rattle.radio_policy.specs.declared.rule.Rule.{Rule}
 use Rattle.radio_fallback.specs.declared.moves.Move.{Move}
 use Rattle.radio_fallback.specs.declared.moves.Move.TheVariants.{Ended, To}
 use Rattle.radio_fallback.specs.declared.moves.Turn.TheVariants.{Stays, GoesTo, IsOut}
+use Rattle.radio_settings.specs.declared.field.Shown.{Shown}
 use Rattle.radio_seats.specs.declared.seat.Seat.{Seat}
 use Rattle.radio_seats.specs.declared.seat.Seating.TheVariants.{Finished}
 use Rattle.radio_seats.specs.Seats.{listener_of, seat_of}
 use Rattle.radio_events.specs.declared.event.Event.{Event}
-use Rattle.radio_events.specs.declared.event.Event.TheVariants.{Source, SourceEnd, Leave}
+use Rattle.radio_events.specs.declared.event.Event.TheVariants.{Source, SourceEnd, RelayUp}
 use Rattle.radio_events.specs.declared.event.SourceRequest.{SourceRequest}
 use Rattle.radio_events.specs.declared.command.Command.TheVariants.{MoveClients, KillSource}
 use Rattle.radio_core.specs.Changes.{carried_along, session_over}
+use Rattle.radio_core.specs.Closing.{Closes}
 use Rattle.radio_core.specs.CommandFacts.{IsCommanded}
 use Rattle.radio_core.specs.Moves.{Brings, his_turn}
 use Rattle.radio_parts.specs.Sessions.{Session, session_of}
@@ -34,9 +36,11 @@ abbrev pub ListenersWalkOn : World → Event → Type 0
 ListenersWalkOn w event = (move : Move) (before : World) → Brings w event move before → (id : ℕ) (seat : Seat) → seat_of before.seats id ≡ Some seat
     → FaresByHisTurn before move id seat
 
--- and at a source's coming, end or leaving, and at a command that moves listeners or ends a session, that is the whole of what becomes of the seats
+-- and at a source's or a relay's coming, end or leaving, and at a command that moves listeners or ends a session, that is the whole of what becomes of the seats
 pub record MovesAreWhole (w : World) (event : Event) : Type 0 where
   pub at_its_coming : (asked : SourceRequest) (move : Move) (before : World) → event ≡ Source asked → Brings w event move before
+      → (world_after w event).seats ≡ (carried_along before move).seats
+  pub at_a_relays_coming : (mount : List ℕ) (shown : Shown) (move : Move) (before : World) → event ≡ RelayUp mount shown → Brings w event move before
       → (world_after w event).seats ≡ (carried_along before move).seats
   pub at_its_end : (him : ℕ) (move : Move) (before : World) → event ≡ SourceEnd him → Brings w event move before
       → (world_after w event).seats ≡ (carried_along before move).seats
@@ -44,5 +48,5 @@ pub record MovesAreWhole (w : World) (event : Event) : Type 0 where
       → (world_after w event).seats ≡ (carried_along w (To mount destination)).seats
   pub at_a_kill : (mount : List ℕ) → IsCommanded w event (KillSource mount)
       → (world_after w event).seats ≡ (carried_along (session_over w mount) (Ended mount)).seats
-  pub at_its_leaving : (him : ℕ) (move : Move) (before : World) → event ≡ Leave him → Brings w event move before → (id : ℕ) → (him ≡ id → ⊥)
+  pub at_its_leaving : (him : ℕ) (move : Move) (before : World) → Closes w him event → Brings w event move before → (id : ℕ) → (him ≡ id → ⊥)
       → listener_of (world_after w event).seats id ≡ listener_of (carried_along before move).seats id

@@ -3,10 +3,9 @@
 
 ghost use Rattle.std.specs.Prelude.{◌≡◌, ◌≤◌, ℕ, List, [], ◌∷◌, ◌++◌, Some};
 ghost use Rattle.radio_settings.specs.declared.settings.Settings.{Settings};
-ghost use Rattle.radio_laws.specs.Shown.{OnlyWhoMayIsShown, WhoMayIsShown, HiddenAreLeftOut, SightIsKept};
+ghost use Rattle.radio_laws.specs.Shown.{OnlyWhoMayIsShown, WhoMayIsShown, WhoVisitsIsShown, NobodyFeedsAPath, HiddenAreLeftOut, HiddenAreNotToldOnTheWeb, SightIsKept};
 ghost use Rattle.radio_access.specs.Lists.{Lists};
 ghost use Rattle.radio_events.specs.declared.event.Event.{Event};
-ghost use Rattle.radio_events.specs.declared.event.Event.TheVariants.{Leave};
 ghost use Rattle.radio_events.specs.declared.event.ListenRequest.{ListenRequest};
 ghost use Rattle.radio_core.specs.Run.{run_after};
 ghost use Rattle.radio_events.specs.Events.{client_in};
@@ -23,7 +22,7 @@ ghost use Rattle.radio_laws.specs.Commanded.{OnlyWhoMayCommands, WhoMayIsServed,
 ghost use Rattle.radio_laws.specs.TitlesTold.{TitlesAreTold};
 ghost use Rattle.radio_core.specs.Timeouts.{TestsAreInNumbers};
 ghost use Rattle.radio_laws.specs.Outstaying.{NobodyOutstays};
-ghost use Rattle.radio_laws.specs.Gone.{HasLeft, IsOutOfPlace, StaysGone};
+ghost use Rattle.radio_laws.specs.Gone.{Leaving, HasLeft, IsOutOfPlace, StaysGone};
 
 use radio_policy::denials_name_the_first_rule;
 
@@ -131,13 +130,19 @@ pub fn commands_are_done()
 /// The law of sight.
 pub fn sight_is_kept()
     // whatever has happened, what is shown of the station tells what is there, and nothing of it changes; it is shown
-    // only to one who may see it: the status to everybody, the list of streams to who sent the user and the password
-    // that are set for relays, all of it to who sent those of the admin
+    // only to one who may see it: the status and the paths of the web site to everybody, the list of streams to who sent
+    // the user and the password that are set for relays, all of it to who sent those of the admin
     ensures may { (settings : Settings) (lists : Lists) (events : List Event) (event : Event) → OnlyWhoMayIsShown (run_after settings lists events) event }
     // and whoever may see it is shown it, where the mount is live whose listeners he asks for
     ensures served { (settings : Settings) (lists : Lists) (events : List Event) → WhoMayIsShown (run_after settings lists events) }
+    // one who asks for a path that `[web]` puts on is shown what is there: what is on air in Icecast's words, or the page
+    ensures visited { (settings : Settings) (lists : Lists) (events : List Event) → WhoVisitsIsShown (run_after settings lists events) }
+    // and no source feeds a mount of such a name
+    ensures unfed { (settings : Settings) (lists : Lists) (events : List Event) → NobodyFeedsAPath (run_after settings lists events) }
     // and no hidden mount is in the status, or in the list of streams
     ensures hidden { (settings : Settings) (lists : Lists) (events : List Event) → HiddenAreLeftOut (run_after settings lists events) }
+    // nor in Icecast's words
+    ensures untold { (settings : Settings) (lists : Lists) (events : List Event) → HiddenAreNotToldOnTheWeb (run_after settings lists events) }
     // of any two stations, after whatever has happened to each: where they agree on what everybody may see of the live
     // mounts that are not hidden, they show everybody and every relay the same bytes, whatever else they hold
     ensures alike { (settings others : Settings) (lists files : Lists) (events more : List Event)
@@ -168,9 +173,9 @@ pub fn nobody_outstays()
 
 /// The law of those who have left.
 pub fn who_left_is_gone()
-    // whoever was given a number and leaves is no client then
+    // whoever was given a number and leaves is no client then, and a relay that has gone down is none
     ensures left { (settings : Settings) (lists : Lists) (events : List Event) (id : ℕ) → id ≤ (run_after settings lists events).house.last_id
-        → HasLeft (run_after settings lists (events ++ Leave id ∷ [])) id }
+        → (event : Event) → Leaving (run_after settings lists events) id event → HasLeft (run_after settings lists (events ++ event ∷ [])) id }
     // whatever happens in the name of one who has left is out of place, and changes nothing
     ensures strays { (settings : Settings) (lists : Lists) (events : List Event) (event : Event) (id : ℕ) → HasLeft (run_after settings lists events) id
         → client_in event ≡ Some id → IsOutOfPlace (run_after settings lists events) event }

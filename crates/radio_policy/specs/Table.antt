@@ -5,6 +5,7 @@ use Rattle.radio_policy.specs.declared.rule.Rule.TheVariants.{TooManySources, Mo
 use Rattle.radio_policy.specs.declared.rule.Rule.TheVariants.{ContentType, NoMount, ListenerPassword, UserTwice, NumbersSpent}
 use Rattle.radio_policy.specs.declared.facts.ArriveFacts.{ArriveFacts}
 use Rattle.radio_policy.specs.declared.facts.SourceFacts.{SourceFacts}
+use Rattle.radio_policy.specs.declared.facts.RelayFacts.{RelayFacts}
 use Rattle.radio_policy.specs.declared.facts.PushFacts.{PushFacts}
 use Rattle.radio_policy.specs.declared.facts.ListenFacts.{ListenFacts}
 use Rattle.radio_policy.specs.declared.rule.Rule.TheVariants.{NoCommand, AdminPassword, RelayPassword, MissingArgument, NoDestination, SameMount, NoClient}
@@ -16,7 +17,7 @@ use Rattle.radio_policy.specs.declared.facts.CommandAccess.TheVariants.{Everybod
 use Rattle.radio_policy.specs.declared.facts.Opener.{Opener}
 use Rattle.radio_policy.specs.declared.facts.Opener.TheVariants.{Admin as AdminAlone, Source as ItsSource, Relay as Relays}
 use Rattle.radio_policy.specs.declared.facts.Action.{Action}
-use Rattle.radio_policy.specs.declared.facts.Action.TheVariants.{Arrive, Source, Push, Listen, Command}
+use Rattle.radio_policy.specs.declared.facts.Action.TheVariants.{Arrive, Source, Push, Listen, Command, RelayUp}
 
 -- one row of the table: a rule, and whether its condition holds
 pub record Row : Type 0 where
@@ -47,6 +48,16 @@ source_rows (Some facts) =
     row TooManySources facts.sources_are_full ∷
     row MountInUse facts.mount_is_live ∷
     row ContentType facts.type_is_refused ∷
+    []
+
+-- a relay wants to feed the mount of a path; who it is nobody asks
+abbrev pub relay_rows : Option RelayFacts → List Row
+relay_rows None = bad_mount_rows
+relay_rows (Some facts) =
+    row TooManySources facts.sources_are_full ∷
+    row MountInUse facts.mount_is_live ∷
+    row ContentType facts.type_is_refused ∷
+    row NumbersSpent facts.number_is_spent ∷
     []
 
 -- a source delivers a block
@@ -107,3 +118,4 @@ table (Source facts) = source_rows facts
 table (Push facts) = push_rows facts
 table (Listen facts) = listen_rows facts
 table (Command facts) = command_rows facts
+table (RelayUp facts) = relay_rows facts

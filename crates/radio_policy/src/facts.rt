@@ -14,6 +14,9 @@ pub enum Action {
     Listen(Option<ListenFacts>),
     /// A client gives the command of a path; `None` where the path names no command.
     Command(Option<CommandFacts>),
+    /// A relay has been answered by its master, and wants to feed the mount of a path; `None` where
+    /// the path names no mount.
+    RelayUp(Option<RelayFacts>),
 }
 
 /// What is looked up for a connection that arrives.
@@ -40,6 +43,19 @@ pub struct SourceFacts {
     pub mount_is_live: bool,
     /// The content type is one that the server does not carry.
     pub type_is_refused: bool,
+}
+
+/// What is looked up for a relay that wants to feed a mount. It sends no pair.
+#[derive(Clone, Copy)]
+pub struct RelayFacts {
+    /// As many sources are live as may be.
+    pub sources_are_full: bool,
+    /// The mount has a live source.
+    pub mount_is_live: bool,
+    /// The content type is one that the server does not carry.
+    pub type_is_refused: bool,
+    /// The next number of a relay or client would pass the largest of 64 bits.
+    pub number_is_spent: bool,
 }
 
 /// What is looked up for a source that delivers a block.

@@ -1,11 +1,11 @@
 ghost use Rattle.std.specs.Prelude.{◌≡◌};
-ghost use Rattle.radio_policy.specs.Table.{arrive_rows, source_rows, push_rows, listen_rows, table};
+ghost use Rattle.radio_policy.specs.Table.{arrive_rows, source_rows, relay_rows, push_rows, listen_rows, table};
 ghost use Rattle.radio_policy.specs.Table.{password_rule, needs_rows, command_rows};
 ghost use Rattle.radio_policy.specs.Verdicts.{verdict_in};
 
 use crate::{
     Action, ArriveFacts, CommandAccess, CommandFacts, CommandNeeds, DestinationFacts, ListenFacts,
-    Opener, PushFacts, Rule, SourceFacts,
+    Opener, PushFacts, RelayFacts, Rule, SourceFacts,
 };
 
 /// What the policy says to something that is asked for.
@@ -27,6 +27,7 @@ pub fn judge(action: &Action) -> Verdict
         Action::Push(facts) => judge_push(facts),
         Action::Listen(facts) => judge_listen(facts),
         Action::Command(facts) => judge_command(facts),
+        Action::RelayUp(facts) => judge_relay(facts),
     }
 }
 
@@ -60,6 +61,25 @@ fn judge_source(facts: &Option<SourceFacts>) -> Verdict
         Verdict::Deny(Rule::MountInUse)
     } else if facts.type_is_refused {
         Verdict::Deny(Rule::ContentType)
+    } else {
+        Verdict::Allow
+    }
+}
+
+fn judge_relay(facts: &Option<RelayFacts>) -> Verdict
+    ensures { result ≡ verdict_in (relay_rows facts.now) }
+{
+    let Some(facts) = facts else {
+        return Verdict::Deny(Rule::BadMount);
+    };
+    if facts.sources_are_full {
+        Verdict::Deny(Rule::TooManySources)
+    } else if facts.mount_is_live {
+        Verdict::Deny(Rule::MountInUse)
+    } else if facts.type_is_refused {
+        Verdict::Deny(Rule::ContentType)
+    } else if facts.number_is_spent {
+        Verdict::Deny(Rule::NumbersSpent)
     } else {
         Verdict::Allow
     }

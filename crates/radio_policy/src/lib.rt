@@ -9,7 +9,7 @@ mod rule;
 
 pub use facts::{
     Action, ArriveFacts, CommandAccess, CommandFacts, CommandNeeds, DestinationFacts, ListenFacts,
-    Opener, PushFacts, SourceFacts,
+    Opener, PushFacts, RelayFacts, SourceFacts,
 };
 pub use judgement::{Verdict, judge};
 pub use laws::denials_name_the_first_rule;

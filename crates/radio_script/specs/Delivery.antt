@@ -3,7 +3,7 @@ use Rattle.std.specs.Prelude.{ℕ, nat_lt, List, Option, Some, None, if◌then�
 use Rattle.std.specs.Str.{bytes_eq}
 use Rattle.std.specs.Prelude.{codes}
 use Rattle.radio_script.specs.declared.delivery.Delivery.{Delivery}
-use Rattle.radio_script.specs.declared.delivery.Delivery.TheVariants.{Open, To, Clock}
+use Rattle.radio_script.specs.declared.delivery.Delivery.TheVariants.{Open, Pull, To, Clock}
 use Rattle.radio_script.specs.declared.delivery.Input.TheVariants.{Data, Room, Title, End}
 use Rattle.radio_script.specs.Steps.{◌>>=◌}
 use Rattle.radio_texts.specs.Cuts.{cut}
@@ -28,6 +28,13 @@ open_of fields = do
   label ← label_of field.0
   peer ← peer_of field.1
   Some (Open label peer)
+
+-- `pull C MOUNT`: the name stands as it is, without escapes
+unfoldable pub pull_of : List ℕ → Option Delivery
+pull_of fields = do
+  field ← cut 32 fields
+  label ← label_of field.0
+  Some (Pull label field.1)
 
 -- a label, and the bytes that a text writes
 unfoldable pub text_fields : List ℕ → Option (ℕ × List ℕ)
@@ -77,7 +84,8 @@ fields_of word fields =
     (if bytes_eq word (codes "room") then room_of fields else
     (if bytes_eq word (codes "title") then title_of fields else
     (if bytes_eq word (codes "end") then end_of fields else
-    (if bytes_eq word (codes "clock") then clock_of fields else None)))))
+    (if bytes_eq word (codes "pull") then pull_of fields else
+    (if bytes_eq word (codes "clock") then clock_of fields else None))))))
 
 -- the delivery that a line stands for, if it is one
 unfoldable pub delivery_of : List ℕ → Option Delivery

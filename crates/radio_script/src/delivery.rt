@@ -1,7 +1,7 @@
 //! What a script delivers, a line each.
 
 ghost use Rattle.std.specs.Prelude.{◌≡◌, IfOk};
-ghost use Rattle.radio_script.specs.Delivery.{clock_of, decimal_of, delivery_of, end_of, fields_of, in_of, label_of, open_of, room_of, text_fields, title_of};
+ghost use Rattle.radio_script.specs.Delivery.{clock_of, decimal_of, delivery_of, end_of, fields_of, in_of, label_of, open_of, pull_of, room_of, text_fields, title_of};
 
 use crate::OutOfMemory;
 use crate::escapes::unescape;
@@ -28,6 +28,8 @@ pub enum Input {
 pub enum Delivery {
     /// The connection arrives.
     Open { label: u32, peer: Peer },
+    /// The relay of this local mount connects to its master: the connection is its pull.
+    Pull { label: u32, mount: Bytes },
     /// Something comes to a connection.
     To { label: u32, input: Input },
     /// It is so many milliseconds since the server's start.
@@ -64,6 +66,9 @@ fn read_fields(alloc: Global, word: &[u8], fields: &[u8]) -> Result<Option<Deliv
     if word == b"end".as_slice() {
         return Ok(read_end(fields));
     }
+    if word == b"pull".as_slice() {
+        return read_pull(alloc, fields);
+    }
     if word == b"clock".as_slice() {
         return Ok(read_clock(fields));
     }
@@ -78,6 +83,20 @@ fn read_open(fields: &[u8]) -> Option<Delivery>
     let label = read_label(label)?;
     let peer = read_peer(peer)?;
     Some(Delivery::Open { label, peer })
+}
+
+#[tactic(auto, unfolding(crate::specs::Delivery::pull_of))]
+fn read_pull(alloc: Global, fields: &[u8]) -> Result<Option<Delivery>, OutOfMemory>
+    ensures { IfOk result (λ delivery. delivery ≡ pull_of fields.now) }
+{
+    let Some((label, mount)) = cut(fields, b' ') else {
+        return Ok(None);
+    };
+    let Some(label) = read_label(label) else {
+        return Ok(None);
+    };
+    let mount = Bytes::copy_from_slice(alloc, mount)?;
+    Ok(Some(Delivery::Pull { label, mount }))
 }
 
 #[tactic(auto, unfolding(crate::specs::Delivery::in_of))]

@@ -6,7 +6,6 @@ use Rattle.radio_icy.specs.Stream.{IsWoven, sound_of_calls, titles_sent, parts_o
 use Rattle.radio_icy.specs.Block.{title_text}
 use Rattle.radio_icy.specs.Unweaving.{new_unweaving, heard}
 use Rattle.radio_icy.specs.Bare.{bare, block_texts, sound_in, texts_in}
-use Rattle.radio_heads.specs.Answer.{listener_head}
 use Rattle.radio_events.specs.declared.event.Event.{Event}
 use Rattle.radio_events.specs.declared.reply.Reply.{Reply}
 use Rattle.radio_events.specs.declared.reply.Reply.TheVariants.{Arrived, Feeding, Seated, Drawn, Noted, Text, Deny, Finished, Stray}
@@ -20,7 +19,7 @@ use Rattle.radio_session.specs.declared.state.State.{State}
 use Rattle.radio_session.specs.declared.state.State.TheVariants.{Running, Shut}
 use Rattle.radio_session.specs.Draws.{draw, drawn, after_draw, drawn_by, interval_told, joined_draws}
 use Rattle.radio_session.specs.Exchanges.{WorldExchange, exchanged, then_exchanged}
-use Rattle.radio_session.specs.Saying.{Said, said, denied, noted, one_less, seated, texted}
+use Rattle.radio_session.specs.Saying.{Said, head_text, said, denied, noted, one_less, seated, texted}
 use Rattle.radio_session.specs.Told.{told, while_open, draws_of, AdmitNobody, DrawsFollowTheHead, PlainDrawsAreTheirData, JoinedDrawsAreWoven}
 use Rattle.radio_session.specs.Told.{DrawsAreTakenOutAgain, replies_to, ExchangesTellReplies}
 
@@ -62,8 +61,8 @@ draws_follow says (Finished rule ∷ replies) a c n = sym (no_draws says.weaver)
 draws_follow says (Stray ∷ replies) a c n = draws_follow (said says Stray).says replies a (none_less says.closing c) n
 
 pub draws_follow_the_head : DrawsFollowTheHead
-draws_follow_the_head says interval shown replies c n =
-    ap (λ (later : List ℕ). listener_head shown.content_type shown.name shown.genre (interval_told interval) ++ later)
+draws_follow_the_head says interval head replies c n =
+    ap (λ (later : List ℕ). head_text interval head ++ later)
     (draws_follow (seated says interval) replies refl (none_less says.closing c) n)
 
 pub plain_draws : PlainDrawsAreTheirData

@@ -1,6 +1,7 @@
 -- What a request asks of the server.
 use Rattle.std.specs.Prelude.{ℕ, nat_eq, Bool, ◌||◌, if◌then◌else◌, List, [], codes, Option, unwrap_or}
 use Rattle.std.specs.List.{starts_with}
+use Rattle.std.specs.Str.{bytes_eq}
 use Rattle.std.specs.Option.{option_and_then}
 use Rattle.percent_encoding.specs.Percent.{percent_decode}
 use Rattle.radio_creds.specs.Authorization.{basic_pair}
@@ -49,9 +50,14 @@ is_for_commands path = starts_with nat_eq path (codes "/admin/") || is_status pa
 abbrev pub asks_to_feed : ℕ → RequestParts → Event
 asks_to_feed id request = Source (record { id = id; mount = path_in request; pair = pair_of request; shown = shown_by request })
 
+-- the host by which the client calls the server, where he asks for what is told in full addresses
+abbrev pub host_for : List ℕ → RequestParts → List ℕ
+host_for path request = if bytes_eq path (codes "/status-json.xsl") then value_or [] (codes "Host") request else []
+
 -- a client asks to hear the mount of this path
 abbrev pub asks_to_hear : ℕ → RequestParts → List ℕ → Event
-asks_to_hear id request path = Listen (record { id = id; mount = path; pair = pair_of request; wants_metadata = wants_metadata request })
+asks_to_hear id request path =
+    Listen (record { id = id; mount = path; pair = pair_of request; wants_metadata = wants_metadata request; host = host_for path request })
 
 -- a client gives the command of this path
 abbrev pub gives_command : ℕ → RequestParts → List ℕ → Event

@@ -8,7 +8,7 @@ use Rattle.radio_session.specs.declared.session.Hears.TheVariants.{Head, Body, N
 use Rattle.radio_session.specs.declared.session.Says.{Says}
 use Rattle.radio_session.specs.declared.session.Greeting.TheVariants.{Welcome}
 use Rattle.radio_session.specs.declared.state.Ending.{Ending}
-use Rattle.radio_session.specs.declared.state.Ending.TheVariants.{Done, By, BadBody}
+use Rattle.radio_session.specs.declared.state.Ending.TheVariants.{Done, By, BadBody, BadPull}
 
 -- the number of its client and its peer, the bytes of an unfinished head, how it goes on in both directions, and whether a call was refused for want of memory
 pub record Conversation : Type 0 where
@@ -42,3 +42,4 @@ abbrev pub ending_word : Ending → List ℕ
 ending_word Done = codes "done"
 ending_word (By rule) = word_of rule
 ending_word BadBody = codes "bad-body"
+ending_word BadPull = codes "bad-pull"

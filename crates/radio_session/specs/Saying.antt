@@ -6,11 +6,13 @@ use Rattle.radio_policy.specs.Words.{word_of, status_of}
 use Rattle.radio_events.specs.declared.reply.Reply.{Reply}
 use Rattle.radio_events.specs.declared.reply.Reply.TheVariants.{Arrived, Feeding, Seated, Drawn, Noted, Text, Deny, Finished, Stray}
 use Rattle.radio_events.specs.declared.text.Text.{Text as CommandText}
-use Rattle.radio_events.specs.declared.text.Text.TheVariants.{Json}
-use Rattle.radio_events.specs.Texts.{bytes_of}
-use Rattle.radio_heads.specs.Answer.{listener_head, source_text, continue_text, denial_text, sized_text, content_type}
-use Rattle.radio_heads.specs.declared.answer.TextKind.{TextKind}
+use Rattle.radio_events.specs.declared.text.Text.TheVariants.{Done as CommandDone, Moved, Json, Streams, Public, Page}
+use Rattle.radio_events.specs.Texts.{done_line, moved_line}
+use Rattle.radio_events.specs.declared.reply.StreamHead.{StreamHead}
+use Rattle.radio_heads.specs.Answer.{source_text, continue_text, denial_text, sized_text, content_type}
 use Rattle.radio_heads.specs.declared.answer.TextKind.TheVariants.{Plain, Json as InJson}
+use Rattle.radio_heads.specs.WebAnswer.{shared_text, stream_text}
+use Rattle.radio_page.specs.Page.{page_answer}
 use Rattle.radio_icy.specs.Weaving.{Call}
 use Rattle.radio_session.specs.Draws.{draw, interval_told, weaver_at, drawn, after_draw}
 use Rattle.radio_session.specs.declared.session.Says.{Says}
@@ -79,13 +81,25 @@ body_text Continue = source_text
 abbrev pub denied : Says → Rule → Said
 denied says rule = ends (if says.is_admitted then [] else denial rule) says (By rule)
 
-abbrev pub kind_of : CommandText → TextKind
-kind_of (Json bytes) = InJson
-kind_of text = Plain
+-- the head of a stream, with metadata blocks at this interval
+abbrev pub head_text : Option ℕ → StreamHead → List ℕ
+head_text interval head = stream_text head.allow_origin (record {
+  content_type = head.shown.content_type;
+  name = head.shown.name;
+  genre = head.shown.genre;
+  interval = interval_told interval;
+})
 
--- a command was done, or something is shown: it is said in an answer where nothing was admitted, else by closing alone
+-- what is said of a command that was done, or shown of the station
 abbrev pub text_answer : CommandText → List ℕ
-text_answer text = sized_text 200 (content_type (kind_of text)) (bytes_of text)
+text_answer CommandDone = sized_text 200 (content_type Plain) done_line
+text_answer (Moved count) = sized_text 200 (content_type Plain) (moved_line count)
+text_answer (Json bytes) = sized_text 200 (content_type InJson) bytes
+text_answer (Streams bytes) = sized_text 200 (content_type Plain) bytes
+text_answer (Public bytes origin) = shared_text origin (content_type InJson) bytes
+text_answer (Page origin) = page_answer origin
+
+-- it is said in an answer where nothing was admitted, else by closing alone
 
 abbrev pub texted : Says → CommandText → Said
 texted says text = ends (if says.is_admitted then [] else text_answer text) says Done
@@ -110,7 +124,7 @@ noted says (Some closing) = if closing.awaits == 0 then ends (last_text says.gre
 abbrev pub said : Says → Reply → Said
 said says (Arrived id) = tells [] (counted says)
 said says Feeding = tells (greeting_text says.greeting) (admitted says)
-said says (Seated interval shown) = tells (listener_head shown.content_type shown.name shown.genre (interval_told interval)) (seated says interval)
+said says (Seated interval head) = tells (head_text interval head) (seated says interval)
 said says (Drawn bytes title) = tells (drawn says.weaver (draw bytes title)) (drew says (draw bytes title))
 said says Noted = noted says says.closing
 said says (Text text) = texted says text

@@ -5,8 +5,7 @@ use Rattle.radio_icy.specs.Weaving.{Call}
 use Rattle.radio_icy.specs.Stream.{IsWoven, sound_of_calls, titles_sent, parts_of}
 use Rattle.radio_icy.specs.Unweaving.{Atom, new_unweaving, heard}
 use Rattle.radio_icy.specs.Bare.{sound_in, texts_in}
-use Rattle.radio_settings.specs.declared.field.Shown.{Shown}
-use Rattle.radio_heads.specs.Answer.{listener_head}
+use Rattle.radio_events.specs.declared.reply.StreamHead.{StreamHead}
 use Rattle.radio_events.specs.declared.event.Event.{Event}
 use Rattle.radio_events.specs.declared.reply.Reply.{Reply}
 use Rattle.radio_events.specs.declared.reply.Reply.TheVariants.{Feeding, Seated, Drawn, Text, Deny, Finished}
@@ -17,7 +16,7 @@ use Rattle.radio_session.specs.declared.state.State.{State}
 use Rattle.radio_session.specs.declared.state.State.TheVariants.{Running, Shut}
 use Rattle.radio_session.specs.Draws.{draw, interval_told, joined_draws}
 use Rattle.radio_session.specs.Exchanges.{exchanged}
-use Rattle.radio_session.specs.Saying.{said}
+use Rattle.radio_session.specs.Saying.{head_text, said}
 
 -- what is told later, while the connection goes on
 abbrev pub while_open : State → List ℕ → List ℕ
@@ -42,15 +41,15 @@ draws_of (reply ∷ replies) = draws_of replies
 abbrev pub AdmitNobody : List Reply → Type 0
 AdmitNobody [] = Unit {0}
 AdmitNobody (Feeding ∷ replies) = ⊥
-AdmitNobody (Seated interval shown ∷ replies) = ⊥
+AdmitNobody (Seated interval head ∷ replies) = ⊥
 AdmitNobody (reply ∷ replies) = AdmitNobody replies
 
 -- What follows a listener's head on his connection are the joined data of his draws, woven at the interval that the head tells.
 abbrev pub DrawsFollowTheHead : Type 0
-DrawsFollowTheHead = (says : Says) (interval : Option ℕ) (shown : Shown) (replies : List Reply) →
+DrawsFollowTheHead = (says : Says) (interval : Option ℕ) (head : StreamHead) (replies : List Reply) →
     says.closing ≡ None → AdmitNobody replies →
-    told says (Seated interval shown ∷ replies)
-    ≡ listener_head shown.content_type shown.name shown.genre (interval_told interval) ++ joined_draws interval (draws_of replies)
+    told says (Seated interval head ∷ replies)
+    ≡ head_text interval head ++ joined_draws interval (draws_of replies)
 
 -- where it tells none, they are the data alone
 abbrev pub PlainDrawsAreTheirData : Type 0

@@ -23,6 +23,8 @@ pub enum Ending {
     By(Rule),
     /// The body of its request is not framed as it should be (RFC 9112, section 7.1).
     BadBody,
+    /// What a relay's master answers cannot be pulled.
+    BadPull,
 }
 
 impl Ending {
@@ -34,6 +36,7 @@ impl Ending {
             Ending::Done => "done",
             Ending::By(rule) => rule.word(),
             Ending::BadBody => "bad-body",
+            Ending::BadPull => "bad-pull",
         }
     }
 }

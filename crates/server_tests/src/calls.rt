@@ -216,6 +216,14 @@ pub fn source_event(alloc: Global, id: u64, path: &str) -> Result<Event, OutOfMe
     }))
 }
 
+/// A relay's master has answered, with a stream of this type.
+pub fn relay_event(alloc: Global, path: &str, content_type: &str) -> Result<Event, OutOfMemory> {
+    Ok(Event::RelayUp {
+        mount: Bytes::copy_from_slice(alloc, path.as_bytes())?,
+        shown: Shown::clean(alloc, content_type.as_bytes(), b"Night", b"")?,
+    })
+}
+
 /// This client would be a listener.
 pub fn listen_event(alloc: Global, id: u64, path: &str) -> Result<Event, OutOfMemory> {
     Ok(Event::Listen(ListenRequest {
@@ -223,6 +231,7 @@ pub fn listen_event(alloc: Global, id: u64, path: &str) -> Result<Event, OutOfMe
         mount: Bytes::copy_from_slice(alloc, path.as_bytes())?,
         pair: None,
         wants_metadata: false,
+        host: Bytes::from_static(b""),
     }))
 }
 

@@ -1,4 +1,5 @@
 //! Events and replies of a core, in tables: among them what no connection asks for.
 
+mod relays;
 mod standings;
 mod words;

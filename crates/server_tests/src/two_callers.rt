@@ -131,7 +131,7 @@ fn count(history: &[Entry], wanted: Wanted) -> usize {
 /// Whether a client is shown a listing in which the last title stands.
 fn is_status(reply: &Reply) -> bool {
     match reply {
-        Reply::Text(Text::Json(bytes)) => has_night(bytes.as_slice()),
+        Reply::Text(Text::Public { bytes, .. }) => has_night(bytes.as_slice()),
         _ => false,
     }
 }

@@ -37,6 +37,7 @@ impl State {
                 Ok(NOBODY)
             }
             Change::Begin { id, mount, shown } => self.begin(id, mount, shown),
+            Change::Raise { id, mount, shown } => self.raise(id, mount, shown),
             Change::Receive { mount, block } => {
                 self.take_in(mount, block)?;
                 Ok(NOBODY)
@@ -153,7 +154,7 @@ impl State {
 
     /// A mount that is not live, and where nobody sits, is not prepared any more. It takes no
     /// memory.
-    fn release_idle(&mut self, mount: &MountName)
+    pub(super) fn release_idle(&mut self, mount: &MountName)
         ensures { self.new ≡ self.old }
     {
         if self.house.session(mount).is_none() {
@@ -163,7 +164,7 @@ impl State {
 
     /// Where the mount calls its listeners home, those come who had asked for it and sit elsewhere.
     /// It takes no memory.
-    fn call_home(&mut self, mount: MountName) -> Carried
+    pub(super) fn call_home(&mut self, mount: MountName) -> Carried
         ensures state { self.new ≡ called_home self.old mount }
         ensures counts { result ≡ counts_home self.old mount }
     {
@@ -187,13 +188,14 @@ impl State {
         counts
     }
 
-    /// Nothing is left of the client. It takes no memory.
+    /// Nothing is left of the client or relay. It takes no memory.
     fn forget(&mut self, id: u64)
         ensures { self.new ≡ client_gone self.old id }
     {
         let mount = self.mount_of(id);
         self.seats.remove(id);
         self.house.clients.remove(&id);
+        self.house.relays.remove(&id);
         if let Some(mount) = mount {
             self.release_idle(&mount);
         }

@@ -1,5 +1,6 @@
 ghost use Rattle.std.specs.Prelude.{◌≡◌};
-ghost use Rattle.radio_core.specs.Leave.{leaves};
+ghost use Rattle.radio_core.specs.Leave.{leaves, leaves_from};
+ghost use Rattle.radio_core.specs.World.{standing_of};
 
 use super::state::State;
 use crate::outcome::{Change, Outcome};
@@ -10,6 +11,17 @@ impl State {
     /// A client's connection is closed.
     pub(super) fn leave(&self, id: u64) -> Outcome
         ensures { result ≡ leaves self.now id }
+    {
+        if self.has_relay(id) {
+            Outcome::stray()
+        } else {
+            self.leave_as_standing(id)
+        }
+    }
+
+    /// The connection is closed of a client, as he stands: a source's session ends first.
+    fn leave_as_standing(&self, id: u64) -> Outcome
+        ensures { result ≡ leaves_from id (standing_of self.now id) }
     {
         match self.standing(id) {
             Standing::Unknown => Outcome::stray(),

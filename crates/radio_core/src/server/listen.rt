@@ -1,6 +1,6 @@
 ghost use Rattle.std.specs.Prelude.{◌≡◌, Some, IfOk, MatchResult};
 ghost use Rattle.radio_parts.specs.Sessions.{session_of};
-ghost use Rattle.radio_core.specs.Listen.{asks_to_hear, sits_where, takes_seat, burst_of, interval_for, first_seat};
+ghost use Rattle.radio_core.specs.Listen.{asks_to_hear, sits_where, takes_seat, burst_of, head_of, interval_for, first_seat};
 
 use super::state::State;
 use crate::OutOfMemory;
@@ -8,12 +8,12 @@ use crate::house::House;
 use crate::outcome::{Change, Outcome};
 use crate::standing::Standing;
 use radio_addr::Peer;
-use radio_events::{ListenRequest, Reply};
+use radio_events::{ListenRequest, Reply, StreamHead};
 use radio_fallback::Landing;
 use radio_parts::Session;
 use radio_policy::{Action, Rule, Verdict, judge};
 use radio_seats::{KeptName, Seat};
-use radio_settings::MountName;
+use radio_settings::{MountName, Shown};
 use std::alloc::Global;
 
 /// One who may hear the mount that he asked for.
@@ -49,7 +49,7 @@ impl State {
             Standing::Finished(rule) => return Err(Outcome::finished(rule)),
             _ => return Err(Outcome::stray()),
         };
-        let Some(home) = MountName::read(asked.mount.as_slice()) else {
+        let Some(home) = self.house.mount_named(asked.mount.as_slice()) else {
             return Err(Outcome::refused(Rule::BadMount, asked.id));
         };
         let (facts, landing) = self
@@ -106,15 +106,25 @@ impl House {
         requires { welcome.home ≡ asked.mount }
         ensures { IfOk result (λ o. o ≡ takes_seat self.now asked welcome.peer (Some session.now)) }
     {
-        let shown = session.shown.clone()?;
+        let head = self.head_of(&session.shown)?;
         let id = asked.id;
         let seat = self.first_seat(alloc, asked, welcome, session)?;
         Ok(Outcome {
             reply: Reply::Seated {
                 interval: seat.interval,
-                shown,
+                head,
             },
             change: Change::TakeSeat { id, seat },
+        })
+    }
+
+    /// What the head of a stream says that shows this. `OutOfMemory` where memory was refused.
+    fn head_of(&self, shown: &Shown) -> Result<StreamHead, OutOfMemory>
+        ensures { IfOk result (λ head. head ≡ head_of self.now shown.now) }
+    {
+        Ok(StreamHead {
+            shown: shown.clone()?,
+            allow_origin: self.settings.web.allow_origin.clone()?,
         })
     }
 

@@ -5,6 +5,7 @@ ghost use Rattle.std.specs.Option.{option_copied, option_map};
 ghost use Rattle.radio_listing.specs.Listeners.{listeners_text};
 ghost use Rattle.radio_seats.specs.Listed.{lent_guest};
 ghost use Rattle.radio_core.specs.Listings.{shown, public_row, mount_row, mount_rows, listener_row, listener_rows, seconds_since, user_of};
+ghost use Rattle.radio_events.specs.declared.command.Listing.TheVariants.{Status};
 ghost use Rattle.radio_events.specs.declared.text.Text.{Text as TextOf};
 
 use super::state::State;
@@ -32,7 +33,7 @@ impl State {
         ensures { IfOk result (λ text. text ≡ shown self.now listing.now) }
     {
         match listing {
-            Listing::Status => json(status(self.alloc, self.mount_rows()?.as_slice())?),
+            Listing::Status => self.status_shown(),
             Listing::Stats => {
                 let clients = self.house.clients.len() as u64;
                 json(stats(self.alloc, clients, self.mount_rows()?.as_slice())?)
@@ -43,8 +44,19 @@ impl State {
         }
     }
 
+    /// What everybody may see. `OutOfMemory` where memory was refused.
+    fn status_shown(&self) -> Result<Text, OutOfMemory>
+        ensures { IfOk result (λ text. text ≡ shown self.now Status) }
+    {
+        let rows = self.mount_rows()?;
+        Ok(Text::Public {
+            bytes: Bytes::from_vec(status(self.alloc, rows.as_slice())?)?,
+            allow_origin: self.house.settings.web.allow_origin.clone()?,
+        })
+    }
+
     /// The live mounts, in the order of their names. `OutOfMemory` where memory was refused.
-    fn mount_rows(&self) -> Result<Vec<MountRow<'_>>, OutOfMemory>
+    pub(super) fn mount_rows(&self) -> Result<Vec<MountRow<'_>>, OutOfMemory>
         ensures { IfOk result (λ rows. rows.items ≡ mount_rows self.now) }
     {
         let mut rows = Vec::new(self.alloc);

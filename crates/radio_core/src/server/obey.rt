@@ -75,7 +75,6 @@ impl State {
         };
         let number = session.number;
         let _counts = self.end_session(mount);
-        self.house
-            .set_state(number, ClientState::Ended(Rule::SourceKilled));
+        self.house.finish(number, Rule::SourceKilled);
     }
 }

@@ -49,7 +49,7 @@ impl State {
             Standing::Finished(rule) => return Err(Outcome::finished(rule)),
             _ => return Err(Outcome::stray()),
         }
-        let Some(mount) = MountName::read(asked.mount.as_slice()) else {
+        let Some(mount) = self.house.mount_named(asked.mount.as_slice()) else {
             return Err(Outcome::refused(Rule::BadMount, asked.id));
         };
         let facts = self.house.source_facts(&mount, asked);

@@ -1,10 +1,13 @@
 ghost use Rattle.std.specs.Prelude.{◌≡◌};
+ghost use Rattle.radio_core.specs.Outcomes.{says, unless_relayed};
 ghost use Rattle.radio_core.specs.SourceEnd.{stops_feeding};
+ghost use Rattle.radio_core.specs.World.{has_relay};
 
 use super::state::State;
 use crate::outcome::{Change, Outcome};
 use crate::standing::Standing;
 use radio_events::Reply;
+use radio_settings::MountName;
 
 impl State {
     /// A source has come to the end of its data.
@@ -12,12 +15,22 @@ impl State {
         ensures { result ≡ stops_feeding self.now id }
     {
         match self.standing(id) {
-            Standing::Feeds(mount) => Outcome {
-                reply: Reply::Noted,
-                change: Change::End { id, mount },
-            },
+            Standing::Feeds(mount) => self.end_unless_relayed(id, mount),
             Standing::Finished(rule) => Outcome::finished(rule),
             _ => Outcome::stray(),
+        }
+    }
+
+    /// The session of who feeds the mount ends, unless it is a relay.
+    fn end_unless_relayed(&self, id: u64, mount: MountName) -> Outcome
+        ensures { result ≡ unless_relayed (has_relay self.now id) (says Reply.Noted (Change.End id mount)) }
+    {
+        if self.has_relay(id) {
+            return Outcome::stray();
+        }
+        Outcome {
+            reply: Reply::Noted,
+            change: Change::End { id, mount },
         }
     }
 }

@@ -2,7 +2,8 @@
 
 ghost use Rattle.std.specs.Prelude.{◌≡◌, IsOk, IfOk};
 ghost use Rattle.radio_seats.specs.Seats.{listener_of};
-ghost use Rattle.radio_core.specs.World.{opening, standing_of, standing_of_listener};
+ghost use Rattle.radio_core.specs.World.{opening, standing_of, standing_of_listener, standing_of_relay, has_relay};
+ghost use Rattle.radio_core.specs.Relays.{relay_of};
 ghost use Rattle.radio_core.specs.Planned.{planned};
 ghost use Rattle.radio_core.specs.Step.{StandsForSome};
 ghost use Rattle.radio_events.specs.Events.{TakesNoMemory};
@@ -11,6 +12,7 @@ use crate::OutOfMemory;
 use crate::clients::ClientState;
 use crate::house::House;
 use crate::outcome::Outcome;
+use crate::relays::RelayState;
 use crate::standing::Standing;
 use radio_access::Lists;
 use radio_events::Event;
@@ -56,6 +58,7 @@ impl State {
             live: Table::new(alloc),
             fallbacks: Table::new(alloc),
             clients: Table::new(alloc),
+            relays: Table::new(alloc),
             last_id: 0,
         };
         State {
@@ -78,20 +81,22 @@ impl State {
             Event::Push { id, block } => Ok(self.push(id, block)),
             Event::SourceEnd { id } => Ok(self.source_end(id)),
             Event::Title { id, text } => Ok(self.title(id, text)),
-            Event::Listen(asked) => self.listen(asked),
+            Event::Listen(asked) => self.get(asked),
             Event::Draw { id, room } => self.draw(id, room),
             Event::Command(asked) => self.command(asked),
             Event::Leave { id } => Ok(self.leave(id)),
+            Event::RelayUp { mount, shown } => self.relay_up(mount.as_slice(), &shown),
+            Event::RelayDown { id } => Ok(self.relay_down(id)),
             Event::Clock { ms } => Ok(self.clock(ms)),
         }
     }
 
-    /// How the client of this number stands.
+    /// How the client, or the relay, of this number stands.
     pub(super) fn standing(&self, id: u64) -> Standing
         ensures { result ≡ standing_of self.now id }
     {
         let Some(client) = self.house.clients.get(&id) else {
-            return Standing::Unknown;
+            return self.relay_standing(id);
         };
         let state = client.state;
         match state {
@@ -101,6 +106,27 @@ impl State {
             ClientState::Answered => Standing::Answered,
             ClientState::Ended(rule) => Standing::Finished(rule),
         }
+    }
+
+    /// How the relay of this number stands.
+    fn relay_standing(&self, id: u64) -> Standing
+        ensures { result ≡ standing_of_relay (relay_of self.now.house.relays id) }
+    {
+        let Some(relay) = self.house.relays.get(&id) else {
+            return Standing::Unknown;
+        };
+        let state = relay.state;
+        match state {
+            RelayState::Feeds(mount) => Standing::Feeds(mount),
+            RelayState::Ended(rule) => Standing::Finished(rule),
+        }
+    }
+
+    /// Whether there is a relay of this number.
+    pub(super) fn has_relay(&self, id: u64) -> bool
+        ensures { result ≡ has_relay self.now id }
+    {
+        self.house.relays.get(&id).is_some()
     }
 
     /// How the listener of this number stands.

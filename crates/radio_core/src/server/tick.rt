@@ -4,7 +4,6 @@ ghost use Rattle.std.specs.Prelude.{◌≡◌, fold};
 ghost use Rattle.radio_core.specs.Changes.{ticked, durations_over, session_silenced, silent_in};
 
 use super::state::State;
-use crate::clients::ClientState;
 use radio_parts::HasSatOut;
 use radio_policy::Rule;
 
@@ -38,8 +37,7 @@ impl State {
             let mount = *session.mount.get();
             let number = session.number;
             let _counts = self.end_session(mount);
-            self.house
-                .set_state(number, ClientState::Ended(Rule::SourceSilent));
+            self.house.finish(number, Rule::SourceSilent);
         }
     }
 }

@@ -62,6 +62,13 @@ impl TimedState {
         }
     }
 
+    /// The settings.
+    pub(super) fn settings(&self) -> &Settings
+        ensures { result.now ≡ self.now.house.settings }
+    {
+        &self.state.house.settings
+    }
+
     /// What comes of an event, before its change is made. `OutOfMemory` where memory was refused.
     pub(super) fn outcome(&self, event: Event) -> Result<Outcome, OutOfMemory>
         requires { StandsForSome self.now }
@@ -166,7 +173,7 @@ impl State {
         let limits = &self.house.settings.limits;
         match change {
             Change::Admit { .. } => due_at(limits.header_timeout.get(), self.house.time),
-            Change::Begin { .. } | Change::Receive { .. } => {
+            Change::Begin { .. } | Change::Raise { .. } | Change::Receive { .. } => {
                 due_at(limits.source_timeout.get(), self.house.time)
             }
             Change::TakeSeat { seat, .. } => seat_due(&self.house.settings, seat),

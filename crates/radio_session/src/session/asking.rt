@@ -2,7 +2,7 @@
 
 ghost use Rattle.std.specs.Prelude.{◌≡◌, IfOk};
 ghost use Rattle.radio_session.specs.Asking.{pair_of, value_or, shown_by, wants_metadata, path_in, query_in};
-ghost use Rattle.radio_session.specs.Asking.{asks_to_feed, asks_by_get, asks_to_hear, gives_command, is_for_commands};
+ghost use Rattle.radio_session.specs.Asking.{asks_to_feed, asks_by_get, asks_to_hear, gives_command, host_for, is_for_commands};
 
 use crate::OutOfMemory;
 use crate::session::commands::{STATUS, asked_in};
@@ -17,6 +17,9 @@ use std::alloc::Global;
 
 /// What a session shows whose source names no content type (Icecast 2.4 documentation).
 const DEFAULT_CONTENT_TYPE: &[u8] = b"audio/mpeg";
+
+/// The path of what Icecast answers of the mounts that everybody may see.
+const ICECAST_STATUS: &[u8] = b"/status-json.xsl";
 
 /// What the paths of commands begin with.
 const COMMANDS: &[u8] = b"/admin/";
@@ -63,12 +66,25 @@ fn asks_to_hear(alloc: Global, id: u64, head: &Head, path: Bytes) -> Result<Even
     ensures { IfOk result (λ event. event ≡ asks_to_hear id head.now path) }
 {
     let pair = pair_of(alloc, head)?;
+    let host = Bytes::copy_from_slice(alloc, host_for(path.as_slice(), head))?;
     Ok(Event::Listen(ListenRequest {
         id,
         mount: path,
         pair,
         wants_metadata: wants_metadata(head),
+        host,
     }))
+}
+
+/// The host by which the client calls the server, where he asks for what is told in full addresses.
+fn host_for<'b>(path: &[u8], head: &Head<'b>) -> &'b [u8]
+    ensures { result.now ≡ host_for path.now head.now }
+{
+    if path == ICECAST_STATUS {
+        value_or(b"", "Host", head)
+    } else {
+        b""
+    }
 }
 
 /// The event of a client who gives the command of this path. `OutOfMemory` where memory was refused.

@@ -1,11 +1,14 @@
 ghost use Rattle.std.specs.Prelude.{◌≡◌, ◌≤◌, ◌++◌, length, true, Some, option_copied, option_map, IfOk, IfSome, IsErr, OnOk, OnErr};
-ghost use Rattle.radio_heads.specs.Answer.{answer_text, listener_head, sized_text, content_type};
+ghost use Rattle.radio_heads.specs.Answer.{answer_text, sized_text, content_type};
+ghost use Rattle.radio_heads.specs.WebAnswer.{shared_text, web_answer_text};
+ghost use Rattle.radio_heads.specs.declared.answer.TextKind.{TextKind};
+ghost use Rattle.radio_page.specs.Page.{page_answer};
 ghost use Rattle.radio_events.specs.declared.text.Text.{Text as TextOf};
-ghost use Rattle.radio_events.specs.Texts.{bytes_of};
+ghost use Rattle.radio_events.specs.Texts.{moved_line};
 ghost use Rattle.std.specs.String.{string_bytes};
 ghost use Rattle.radio_session.specs.Conversation.{saying_now};
-ghost use Rattle.radio_session.specs.Saying.{said, texted, denied, noted, counted, one_less, admitted, seated, drew, last_text, last_ending, greeting_text, text_answer, denial};
-ghost use Rattle.radio_session.specs.Draws.{draw, drawn, interval_told, weaver_at};
+ghost use Rattle.radio_session.specs.Saying.{said, texted, denied, noted, counted, one_less, admitted, seated, drew, last_text, last_ending, greeting_text, text_answer, head_text, denial};
+ghost use Rattle.radio_session.specs.Draws.{draw, drawn, weaver_at};
 ghost use Rattle.radio_icy.specs.Limits.{max_title};
 ghost use Rattle.radio_session.specs.declared.state.State.TheVariants.{Running, Shut};
 
@@ -14,10 +17,13 @@ use crate::session::weaving::{interval_told, tell_draw, text_of, weaver_at};
 use crate::session::{Closing, Greeting, LastWord, Session};
 use crate::state::{Ending, State};
 use radio_blocks::Pieces;
-use radio_events::{Reply, Text};
-use radio_heads::{Answer, FieldValue, TextKind, Welcome, write_answer};
+use radio_events::{Reply, StreamHead, Text};
+use radio_heads::{
+    Answer, FieldValue, TextKind, WebAnswer, Welcome, write_answer, write_web_answer,
+};
+use radio_page::page;
 use radio_policy::Rule;
-use radio_settings::Shown;
+use radio_settings::AllowedOrigin;
 use std::alloc::{AllocError, Global};
 
 impl Session {
@@ -67,7 +73,7 @@ impl Session {
     {
         match reply {
             Reply::Feeding => self.admit_source(out),
-            Reply::Seated { interval, shown } => self.admit_listener(*interval, shown, out),
+            Reply::Seated { interval, head } => self.admit_listener(*interval, head, out),
             Reply::Drawn { pieces, title } => self.tell_pieces(pieces, text_of(title), out),
             Reply::Noted => self.note(out),
             Reply::Text(text) => self.tell_text(text, out),
@@ -96,16 +102,15 @@ impl Session {
     fn admit_listener(
         &mut self,
         interval: Option<u32>,
-        shown: &Shown,
+        head: &StreamHead,
         out: &mut Vec<u8>,
     ) -> Result<State, OutOfMemory>
-        ensures bytes { IfOk result
-            (λ _. out.new.items ≡ out.old.items ++ listener_head shown.now.content_type shown.now.name shown.now.genre (interval_told interval)) }
+        ensures bytes { IfOk result (λ _. out.new.items ≡ out.old.items ++ head_text interval head.now) }
         ensures state { IfOk result (λ state. state ≡ Running) }
         ensures says { IfOk result (λ _. self.new ≡ saying_now self.old (seated self.old.says interval)) }
         ensures silent { OnErr result (out.new.items ≡ out.old.items) }
     {
-        welcome(self.alloc, interval_told(interval), shown, out)?;
+        welcome(self.alloc, interval, head, out)?;
         self.says.weaver = weaver_at(self.alloc, interval);
         self.admit();
         Ok(State::Running)
@@ -253,24 +258,51 @@ fn tell(alloc: Global, answer: &Answer, out: &mut Vec<u8>) -> Result<(), OutOfMe
     out.extend_from_slice(text.as_slice())
 }
 
-/// Appends the head that a listener gets who is admitted, and is sent metadata at this interval.
+/// Appends an answer that the pages of web sites read, of the origin where one is given.
+/// `OutOfMemory` where memory was refused: nothing was appended then.
+fn tell_pages(
+    alloc: Global,
+    answer: &WebAnswer,
+    allow_origin: &Option<AllowedOrigin>,
+    out: &mut Vec<u8>,
+) -> Result<(), OutOfMemory>
+    ensures ok { OnOk result (out.new.items ≡ out.old.items ++ web_answer_text allow_origin.now answer.now) }
+    ensures err { OnErr result (out.new.items ≡ out.old.items) }
+{
+    let text = write_web_answer(alloc, answer, &readers(allow_origin))?;
+    out.extend_from_slice(text.as_slice())
+}
+
+/// Whose pages may read an answer, as its header has it.
+#[tactic(auto, using(crate::proofs::FieldLemmas::visible_is_field_text))]
+fn readers(allow_origin: &Option<AllowedOrigin>) -> Option<FieldValue<'_>>
+    ensures { result ≡ allow_origin.now }
+{
+    match allow_origin {
+        Some(origin) => Some(FieldValue::new(origin.as_bytes())),
+        None => None,
+    }
+}
+
+/// Appends the head that a listener gets who is admitted, with metadata blocks at this interval.
 #[tactic(auto, using(crate::proofs::FieldLemmas::shown_is_field_text))]
 fn welcome(
     alloc: Global,
     interval: Option<u32>,
-    shown: &Shown,
+    head: &StreamHead,
     out: &mut Vec<u8>,
 ) -> Result<(), OutOfMemory>
-    ensures ok { OnOk result (out.new.items ≡ out.old.items ++ listener_head shown.now.content_type shown.now.name shown.now.genre interval) }
+    ensures ok { OnOk result (out.new.items ≡ out.old.items ++ head_text interval head.now) }
     ensures err { OnErr result (out.new.items ≡ out.old.items) }
 {
-    let answer = Answer::Listener(Welcome {
+    let shown = &head.shown;
+    let answer = WebAnswer::Stream(Welcome {
         content_type: FieldValue::new(shown.content_type.as_bytes()),
         name: FieldValue::new(shown.name.as_bytes()),
         genre: FieldValue::new(shown.genre.as_bytes()),
-        interval,
+        interval: interval_told(interval),
     });
-    tell(alloc, &answer, out)
+    tell_pages(alloc, &answer, &head.allow_origin, out)
 }
 
 /// Appends the answer to a command, or to one who is shown something of the station.
@@ -283,7 +315,38 @@ fn tell_answer(alloc: Global, text: &Text, out: &mut Vec<u8>) -> Result<(), OutO
         Text::Moved(count) => tell_moved(alloc, *count, out),
         Text::Json(bytes) => tell_body(alloc, TextKind::Json, bytes.as_slice(), out),
         Text::Streams(bytes) => tell_body(alloc, TextKind::Plain, bytes.as_slice(), out),
+        Text::Public {
+            bytes,
+            allow_origin,
+        } => tell_everybody(alloc, bytes.as_slice(), allow_origin, out),
+        Text::Page { allow_origin } => tell_page(alloc, allow_origin, out),
     }
+}
+
+/// Appends what everybody may see of the station.
+fn tell_everybody(
+    alloc: Global,
+    body: &[u8],
+    allow_origin: &Option<AllowedOrigin>,
+    out: &mut Vec<u8>,
+) -> Result<(), OutOfMemory>
+    ensures ok { OnOk result (out.new.items ≡ out.old.items ++ shared_text allow_origin.now (content_type TextKind.Json) body.now) }
+    ensures err { OnErr result (out.new.items ≡ out.old.items) }
+{
+    let kind = TextKind::Json;
+    tell_pages(alloc, &WebAnswer::Text { kind, body }, allow_origin, out)
+}
+
+/// Appends the page of what is on air.
+fn tell_page(
+    alloc: Global,
+    allow_origin: &Option<AllowedOrigin>,
+    out: &mut Vec<u8>,
+) -> Result<(), OutOfMemory>
+    ensures ok { OnOk result (out.new.items ≡ out.old.items ++ page_answer allow_origin.now) }
+    ensures err { OnErr result (out.new.items ≡ out.old.items) }
+{
+    tell_pages(alloc, &page(), allow_origin, out)
 }
 
 /// Appends how many listeners went to another mount.
@@ -296,7 +359,7 @@ fn tell_moved(alloc: Global, count: u64, out: &mut Vec<u8>) -> Result<(), OutOfM
 }
 
 fn moved_line(alloc: Global, count: u64) -> Result<String, OutOfMemory>
-    ensures { IfOk result (λ line. string_bytes line ≡ bytes_of (TextOf.Moved count)) }
+    ensures { IfOk result (λ line. string_bytes line ≡ moved_line count) }
 {
     format!(in alloc; "moved: {count}\n")
 }

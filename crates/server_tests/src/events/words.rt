@@ -1,16 +1,18 @@
 //! Events in tables, and replies in words.
 
-use crate::calls::{arrival, command_event, killing, listen_event, push_event, source_event};
+use crate::calls::{
+    arrival, command_event, killing, listen_event, push_event, relay_event, source_event,
+};
 use radio_access::Lists;
 use radio_blocks::Pieces;
 use radio_core::{Core, OutOfMemory};
-use radio_events::{Asked, Command, Event, OpenedBy, Reply, Text};
+use radio_events::{Asked, Command, Event, Listing, OpenedBy, Reply, Text};
 use radio_settings::{MountName, Settings, SettingsFault, Shown};
 use std::alloc::Global;
 
 /// The settings of a station.
 const STATION: &str =
-    "source-password = \"hackme\"\nadmin-password = \"letmein\"\n[limits]\nburst-size = 8\n";
+    "source-password = \"hackme\"\nadmin-password = \"letmein\"\n[limits]\nburst-size = 8\n[[mount]]\nmount-name = \"/home\"\nfallback-mount = \"/a\"\nfallback-override = true\n";
 
 /// An event of a table, by its client's number, and the mount, the data or the room.
 #[derive(Clone, Copy)]
@@ -26,7 +28,13 @@ pub enum Call {
     KillClient(u64, &'static str, u64),
     /// The admin's command that ends the mount's session.
     KillSource(u64, &'static str),
+    /// The admin asks what the server does as a whole.
+    Stats(u64),
     Leave(u64),
+    /// A relay whose master tells of its stream: this content type, the name `Night`.
+    RelayUp(&'static str, &'static str),
+    RelayDown(u64),
+    Clock(u64),
 }
 
 impl Call {
@@ -45,7 +53,11 @@ impl Call {
                 command_event(alloc, *id, killing(path, *listener))
             }
             Call::KillSource(id, path) => command_event(alloc, *id, kill_source(path)),
+            Call::Stats(id) => command_event(alloc, *id, Asked::Listing(Listing::Stats)),
             Call::Leave(id) => Ok(Event::Leave { id: *id }),
+            Call::RelayUp(path, content_type) => relay_event(alloc, path, content_type),
+            Call::RelayDown(id) => Ok(Event::RelayDown { id: *id }),
+            Call::Clock(ms) => Ok(Event::Clock { ms: *ms }),
         }
     }
 }
@@ -164,7 +176,7 @@ fn told(alloc: Global, reply: &Reply) -> Result<String, OutOfMemory> {
     match reply {
         Reply::Arrived(id) => format!(in alloc; "arrived {id}"),
         Reply::Feeding => "feeding".to_string(alloc),
-        Reply::Seated { shown, .. } => told_shown(alloc, shown),
+        Reply::Seated { head, .. } => told_shown(alloc, &head.shown),
         Reply::Drawn { pieces, .. } => told_drawn(alloc, pieces),
         Reply::Noted => "noted".to_string(alloc),
         Reply::Text(text) => told_text(alloc, text),
@@ -178,7 +190,10 @@ fn told_text(alloc: Global, answer: &Text) -> Result<String, OutOfMemory> {
     match answer {
         Text::Done => "done".to_string(alloc),
         Text::Moved(count) => format!(in alloc; "moved {count}"),
-        Text::Json(bytes) | Text::Streams(bytes) => text(bytes.as_slice()).to_string(alloc),
+        Text::Json(bytes) | Text::Streams(bytes) | Text::Public { bytes, .. } => {
+            text(bytes.as_slice()).to_string(alloc)
+        }
+        Text::Page { .. } => "page".to_string(alloc),
     }
 }
 

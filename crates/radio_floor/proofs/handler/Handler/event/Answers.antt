@@ -1,5 +1,6 @@
 use Rattle.std.proofs.Common.{◌≡◌, List, [], ◌∷◌, ◌++◌, IfOk, ap, subst, ◌∙◌}
 use Rattle.radio_events.specs.declared.event.Event.{Event}
+use Rattle.radio_floor.specs.declared.labelled.Connection.TheVariants.{Client}
 use Rattle.radio_floor.specs.ScriptState.{exchanges}
 use Rattle.radio_floor.specs.ScriptServer.{AnswersAs}
 use Rattle.radio_floor.proofs.handler.Handler.event.Goals as goal
@@ -8,5 +9,5 @@ pub returns : goal.returns
 returns c =
     let events : c.push.new.self.items ≡ c.args.event ∷ [] =
     c.in_ok-push.ensures.items ∙ ap (λ (xs : List Event). xs ++ c.args.event ∷ []) c.new-events.ensures.items in
-    subst (λ (xs : List Event). IfOk c.exchange.result (λ told. AnswersAs c.args.self.now.core c.exchange.new.self.core told c.exchange.new.connection
+    subst (λ (xs : List Event). IfOk c.exchange.result (λ told. AnswersAs c.args.self.now.core c.exchange.new.self.core told (Client c.exchange.new.connection)
     (λ state label done. exchanges state label c.args.connection.now xs ≡ done))) events c.exchange.ensures

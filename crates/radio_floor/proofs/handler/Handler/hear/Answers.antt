@@ -1,6 +1,7 @@
 use Rattle.std.proofs.Common.{◌≡◌}
 use Rattle.std.proofs.lemmas.Result.{IfOk-weaker}
 use Rattle.radio_session.specs.Hearing.{Heard, IsHeard}
+use Rattle.radio_floor.specs.declared.labelled.Connection.TheVariants.{Client}
 use Rattle.radio_floor.specs.ScriptState.{exchanges}
 use Rattle.radio_floor.specs.ScriptServer.{AnswersAs}
 use Rattle.radio_floor.proofs.handler.Handler.hear.Goals as goal
@@ -11,8 +12,8 @@ returns c =
     let old = c.args.self.now.core in
     let new = c.exchange.new.self.core in
     IfOk-weaker c.exchange.result
-    (λ told. AnswersAs old new told c.exchange.new.connection (λ state label done. exchanges state label heard.conversation heard.events ≡ done))
-    (λ told. AnswersAs old new told c.exchange.new.connection
+    (λ told. AnswersAs old new told (Client c.exchange.new.connection) (λ state label done. exchanges state label heard.conversation heard.events ≡ done))
+    (λ told. AnswersAs old new told (Client c.exchange.new.connection)
     (λ state label done. (h : Heard) × IsHeard c.args.connection.now c.args.bytes.now h × (exchanges state label h.conversation h.events ≡ done)))
     (λ told answers w stands.
     let a = answers w stands in

@@ -5,7 +5,8 @@ use Rattle.radio_tables.specs.Lists.{placed}
 use Rattle.radio_session.specs.declared.state.State.{State}
 use Rattle.radio_floor.specs.declared.labelled.Labelled.{Labelled}
 use Rattle.radio_session.specs.Saying.{said}
-use Rattle.radio_session.specs.Conversation.{asking, Conversation}
+use Rattle.radio_session.specs.Conversation.{asking}
+use Rattle.radio_floor.specs.declared.labelled.Connection.{Connection}
 use Rattle.radio_floor.specs.ScriptState.{taken_in, told_lines, by_label}
 use Rattle.radio_floor.specs.ScriptServer.{performed_as}
 use Rattle.radio_floor.proofs.script_server.ScriptServer.open.Goals as goal
@@ -23,9 +24,9 @@ returns c =
           let later = world_after w (Arrive c.args.peer) in
           let out : bytes ≡ (said asking reply).bytes =
           c.as_slice.ensures.value ∙ a.1 ∙ ap (λ (xs : List ℕ). xs ++ (said asking reply).bytes) c.new-told.ensures.items in
-          let row = λ (conversation : Option Conversation). let r : Labelled = record { label = c.args.label; connection = conversation } in r in
+          let row = λ (connection : Option Connection). let r : Labelled = record { label = c.args.label; connection = connection } in r in
           let listed : c.insert.new.self ≡ placed by_label (row (taken_in c.args.peer reply)) before =
-          c.in_ok-insert.ensures.ok ∙ ap (λ (conversation : Option Conversation). placed by_label (row conversation) before) a.2 in
+          c.in_ok-insert.ensures.ok ∙ ap (λ (connection : Option Connection). placed by_label (row connection) before) a.2 in
           let after = placed by_label (row (taken_in c.args.peer reply)) before in (
             later,
             a.0,

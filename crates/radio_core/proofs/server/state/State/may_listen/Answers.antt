@@ -5,7 +5,6 @@ use Rattle.radio_policy.specs.declared.judgement.Verdict.{Verdict}
 use Rattle.radio_policy.specs.declared.judgement.Verdict.TheVariants.{Allow, Deny as Denied}
 use Rattle.radio_policy.specs.Table.{listen_rows}
 use Rattle.radio_policy.specs.Verdicts.{verdict_in}
-use Rattle.radio_settings.specs.MountName.{is_mount_name}
 use Rattle.radio_events.specs.declared.event.ListenRequest.{ListenRequest}
 use Rattle.radio_core.specs.declared.outcome.Change.{Change}
 use Rattle.radio_core.specs.declared.outcome.Change.TheVariants.{Answer}
@@ -13,14 +12,14 @@ use Rattle.radio_core.specs.declared.outcome.Outcome.{Outcome}
 use Rattle.radio_core.specs.declared.standing.Standing.{Standing}
 use Rattle.radio_core.specs.declared.standing.Standing.TheVariants.{Undecided}
 use Rattle.radio_fallback.specs.declared.walking.Landing.{Landing}
-use Rattle.radio_core.specs.Facts.{listen_facts_at, rows_to_listen, walks_to}
+use Rattle.radio_core.specs.Facts.{listen_facts_at, names_mount, rows_to_listen, walks_to}
 use Rattle.radio_core.specs.Listen.{sits_where}
 use Rattle.radio_core.specs.Outcomes.{on_verdict, if_undecided}
 use Rattle.radio_core.specs.World.{World, standing_of}
 use Rattle.radio_core.proofs.server.state.State.may_listen.Goals as goal
 
 -- the policy judges by the facts of the mount that the path names
-judged : (w : World) (asked : ListenRequest) (mount : List ℕ) (facts : ListenFacts) (verdict : Verdict) → is_mount_name asked.mount ≡ true
+judged : (w : World) (asked : ListenRequest) (mount : List ℕ) (facts : ListenFacts) (verdict : Verdict) → names_mount w.house.settings asked.mount ≡ true
     → mount ≡ asked.mount → facts ≡ listen_facts_at w.house w.seats mount asked.pair → verdict ≡ verdict_in (listen_rows (Some facts))
     → verdict_in (rows_to_listen w asked) ≡ verdict
 judged w asked mount facts verdict named same looked_up said =
@@ -46,7 +45,8 @@ pub returns-in-Deny : goal.returns-in-Deny
 returns-in-Deny c =
     let w = c.args.self.now in
     let asked = c.args.asked.now in
-    let named : is_mount_name asked.mount ≡ true = ap is_mount_name (sym c.as_slice.ensures) ∙ c.in-Some.ensures.0 in
+    let named : names_mount w.house.settings asked.mount ≡ true =
+    subst (λ (x : World). names_mount x.house.settings asked.mount ≡ true) c.self.view_is (rw (← c.as_slice.ensures) c.in-Some.ensures.0) in
     let looked_up =
     subst (λ (x : World). c.listen_facts-landing.result.0 ≡ listen_facts_at x.house x.seats c.in-Some.home c.args.asked.now.pair) c.self.view_is
     (rw (← c.as_ref.ensures.value) c.listen_facts-landing.ensures.facts) in
@@ -59,7 +59,8 @@ pub returns-in-Allow : goal.returns-in-Allow
 returns-in-Allow c =
     let w = c.args.self.now in
     let asked = c.args.asked.now in
-    let named : is_mount_name asked.mount ≡ true = ap is_mount_name (sym c.as_slice.ensures) ∙ c.in-Some.ensures.0 in
+    let named : names_mount w.house.settings asked.mount ≡ true =
+    subst (λ (x : World). names_mount x.house.settings asked.mount ≡ true) c.self.view_is (rw (← c.as_slice.ensures) c.in-Some.ensures.0) in
     let looked_up =
     subst (λ (x : World). c.listen_facts-landing.result.0 ≡ listen_facts_at x.house x.seats c.in-Some.home c.args.asked.now.pair) c.self.view_is
     (rw (← c.as_ref.ensures.value) c.listen_facts-landing.ensures.facts) in

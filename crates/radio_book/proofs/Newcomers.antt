@@ -1,0 +1,70 @@
+-- Who is there after a call.
+use Rattle.std.proofs.Common.{◌≡◌, ◌==◌, ◌≤◌, ◌<◌, ◌+◌, ℕ, Bool, true, false, List, [], ◌∷◌, ◌++◌, Option, None, Some, length, refl, sym, ap, ◌∙◌}
+use Rattle.std.proofs.Common.{arith, length-append}
+use Rattle.std.specs.List.{remove}
+use Rattle.std.proofs.lemmas.Bool.{false≢true}
+use Rattle.std.proofs.lemmas.Grind.{common_steps}
+use Rattle.std.proofs.lemmas.List.Quantifiers.{position-Some}
+use Rattle.radio_events.specs.declared.event.Event.{Event}
+use Rattle.radio_events.specs.declared.event.Event.TheVariants.{Arrive, RelayUp}
+use Rattle.radio_events.specs.declared.reply.Reply.{Reply}
+use Rattle.radio_events.specs.declared.reply.Reply.TheVariants.{Arrived}
+use Rattle.radio_book.specs.Stamp.{Stamp}
+use Rattle.radio_book.specs.declared.newcomer.Newcomer.{Newcomer}
+use Rattle.radio_book.specs.declared.newcomer.Newcomer.TheVariants.{Client, Relay}
+use Rattle.radio_book.specs.Newcomers.{present_after, present_from, present_of, present_by, is_arrival, is_same, leaver_of, newcomer_by, with_newcomer}
+use Rattle.radio_book.specs.Newcomers.{without_at, place_of, room_by, room_for}
+
+present_from_more : (ids : List Newcomer) (stamps : List Stamp) (s : Stamp)
+    → present_from ids (stamps ++ s ∷ []) ≡ present_after (present_from ids stamps) s.event s.reply
+present_from_more ids [] s = refl
+present_from_more ids (x ∷ stamps) s = present_from_more (present_after ids x.event x.reply) stamps s
+
+pub present_of_more : (stamps : List Stamp) (s : Stamp) → present_of (stamps ++ s ∷ []) ≡ present_after (present_of stamps) s.event s.reply
+present_of_more stamps s = present_from_more [] stamps s
+
+pub length-remove : (ids : List Newcomer) (i : ℕ) → i < length ids → length (remove ids i) + 1 ≡ length ids
+length-remove ids i is = grind (arith, common_steps)
+
+enough_for_newcomer : (event : Event) (reply : Reply) (ids : List Newcomer)
+    → length (with_newcomer (newcomer_by event reply) ids) + 1 ≤ length ids + room_by None (is_arrival event) ids
+enough_for_newcomer (Arrive peer) (Arrived id) ids = omega (arith, length-append ids (Client id ∷ []))
+enough_for_newcomer (Arrive peer) reply ids = omega arith
+enough_for_newcomer (RelayUp mount shown) (Arrived id) ids = omega (arith, length-append ids (Relay id ∷ []))
+enough_for_newcomer (RelayUp mount shown) reply ids = omega arith
+enough_for_newcomer event reply ids = omega arith
+
+enough_for_leaver : (gone : Newcomer) (came : Bool) (ids : List Newcomer) (place : Option ℕ) → place_of gone ids ≡ place
+    → length (without_at (place_of gone ids) ids) + 1 ≤ length ids + room_by (Some gone) came ids
+enough_for_leaver gone came ids None at = rw at (omega arith)
+enough_for_leaver gone came ids (Some i) at =
+    let here = position-Some (λ other. is_same gone other) ids i gone at in rw at (omega (arith, length-remove ids i here.0))
+
+-- room for the event and for the end of who may be let in is room for who is there then
+pub enough : (leaver : Option Newcomer) (event : Event) (reply : Reply) (ids : List Newcomer)
+    → length (present_by leaver (newcomer_by event reply) ids) + 1 ≤ length ids + room_by leaver (is_arrival event) ids
+enough None event reply ids = enough_for_newcomer event reply ids
+enough (Some gone) event reply ids = enough_for_leaver gone (is_arrival event) ids (place_of gone ids) refl
+
+-- who is there after a call whose receipt is added
+pub noted : (stamps stamps' : List Stamp) (s : Stamp) (ids ids' : List Newcomer) (leaver newcomer : Option Newcomer)
+    → ids ≡ present_of stamps → stamps' ≡ stamps ++ s ∷ []
+    → leaver ≡ leaver_of s.event → newcomer ≡ newcomer_by s.event s.reply → ids' ≡ present_by leaver newcomer ids → ids' ≡ present_of stamps'
+noted stamps stamps' s ids ids' leaver newcomer here more leaves comes are =
+    are ∙ ap (λ (x : Option Newcomer). present_by x newcomer ids) leaves ∙ ap (λ (x : Option Newcomer). present_by (leaver_of s.event) x ids) comes
+    ∙ ap (λ (x : List Newcomer). present_by (leaver_of s.event) (newcomer_by s.event s.reply) x) here
+    ∙ sym (ap present_of more ∙ present_of_more stamps s)
+
+pub enough_noted : (s : Stamp) (ids ids' : List Newcomer) (leaver newcomer : Option Newcomer)
+    → leaver ≡ leaver_of s.event → newcomer ≡ newcomer_by s.event s.reply → ids' ≡ present_by leaver newcomer ids
+    → length ids' + 1 ≤ length ids + room_for ids s.event
+enough_noted s ids ids' leaver newcomer leaves comes are = rw (are, leaves, comes) (enough (leaver_of s.event) s.event s.reply ids)
+
+arrival_room_by : (ids : List Newcomer) (event : Event) → is_arrival event ≡ true → room_for ids event ≡ 2
+arrival_room_by ids (Arrive peer) is = refl
+arrival_room_by ids (RelayUp mount shown) is = refl
+arrival_room_by ids event is = absurd (false≢true is)
+
+-- who comes needs room for the end too
+pub arrival_room : (ids : List Newcomer) (event same : Event) → same ≡ event → is_arrival same ≡ true → room_for ids event ≡ 2
+arrival_room ids event same eq is = arrival_room_by ids event (sym (ap is_arrival eq) ∙ is)

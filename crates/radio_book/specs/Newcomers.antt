@@ -1,0 +1,74 @@
+-- Who came by a caller's calls, and what is owed for each: an entry for its end.
+use Rattle.std.specs.Prelude.{ℕ, Bool, true, false, List, [], ◌∷◌, ◌++◌, ◌==◌, Option, None, Some, if◌then◌else◌}
+use Rattle.std.specs.List.{position, remove}
+use Rattle.std.specs.Option.{is_some}
+use Rattle.radio_events.specs.declared.event.Event.{Event}
+use Rattle.radio_events.specs.declared.event.Event.TheVariants.{Arrive, Leave, RelayUp, RelayDown}
+use Rattle.radio_events.specs.declared.reply.Reply.{Reply}
+use Rattle.radio_events.specs.declared.reply.Reply.TheVariants.{Arrived}
+use Rattle.radio_book.specs.declared.newcomer.Newcomer.{Newcomer}
+use Rattle.radio_book.specs.declared.newcomer.Newcomer.TheVariants.{Client, Relay}
+use Rattle.radio_book.specs.Stamp.{Stamp}
+
+abbrev pub is_same : Newcomer → Newcomer → Bool
+is_same (Client a) (Client b) = b == a
+is_same (Relay a) (Relay b) = b == a
+is_same one other = false
+
+-- whose end this is: a client leaves, or a relay goes down
+abbrev pub leaver_of : Event → Option Newcomer
+leaver_of (Leave id) = Some (Client id)
+leaver_of (RelayDown id) = Some (Relay id)
+leaver_of event = None
+
+-- somebody comes: a connection, or a relay that comes up
+abbrev pub is_arrival : Event → Bool
+is_arrival (Arrive peer) = true
+is_arrival (RelayUp mount shown) = true
+is_arrival event = false
+
+-- who has come, if the reply lets him in
+abbrev pub newcomer_by : Event → Reply → Option Newcomer
+newcomer_by (Arrive peer) (Arrived id) = Some (Client id)
+newcomer_by (RelayUp mount shown) (Arrived id) = Some (Relay id)
+newcomer_by event reply = None
+
+-- where he stands among these
+abbrev pub place_of : Newcomer → List Newcomer → Option ℕ
+place_of one present = position (λ other. is_same one other) present
+
+abbrev pub without_at : Option ℕ → List Newcomer → List Newcomer
+without_at None present = present
+without_at (Some i) present = remove present i
+
+abbrev pub with_newcomer : Option Newcomer → List Newcomer → List Newcomer
+with_newcomer None present = present
+with_newcomer (Some newcomer) present = present ++ newcomer ∷ []
+
+abbrev pub present_by : Option Newcomer → Option Newcomer → List Newcomer → List Newcomer
+present_by None newcomer present = with_newcomer newcomer present
+present_by (Some gone) newcomer present = without_at (place_of gone present) present
+
+-- who is there after a call, of those who were there before it: who was let in has come, and whose end it was has gone
+abbrev pub present_after : List Newcomer → Event → Reply → List Newcomer
+present_after present event reply = present_by (leaver_of event) (newcomer_by event reply) present
+
+abbrev pub present_from : List Newcomer → List Stamp → List Newcomer
+present_from present [] = present
+present_from present (s ∷ stamps) = present_from (present_after present s.event s.reply) stamps
+
+-- who was let in by these calls, and has not gone by them
+abbrev pub present_of : List Stamp → List Newcomer
+present_of stamps = present_from [] stamps
+
+-- it was let in by these calls, and has not gone by them
+abbrev pub is_here : Newcomer → List Stamp → Bool
+is_here one stamps = is_some (place_of one (present_of stamps))
+
+-- for how many entries room must be found before an event: its own, and that of the end of who may be let in; the end of who is here has its room
+abbrev pub room_by : Option Newcomer → Bool → List Newcomer → ℕ
+room_by None came present = if came then 2 else 1
+room_by (Some gone) came present = if is_some (place_of gone present) then 0 else 1
+
+abbrev pub room_for : List Newcomer → Event → ℕ
+room_for present event = room_by (leaver_of event) (is_arrival event) present

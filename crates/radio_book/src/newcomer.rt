@@ -1,0 +1,26 @@
+//! Who has come.
+
+ghost use Rattle.std.specs.Prelude.{◌≡◌};
+ghost use Rattle.radio_book.specs.Newcomers.{is_same};
+
+/// Who has come, by its number.
+#[derive(Clone, Copy, Debug, PartialEq, Eq)]
+pub enum Newcomer {
+    /// A client, whose end is that he leaves.
+    Client(u64),
+    /// A relay, whose end is that it goes down.
+    Relay(u64),
+}
+
+impl Newcomer {
+    /// Whether it is the other.
+    pub(crate) fn is(self, other: Newcomer) -> bool
+        ensures { result ≡ is_same other self }
+    {
+        match (self, other) {
+            (Newcomer::Client(a), Newcomer::Client(b)) => a == b,
+            (Newcomer::Relay(a), Newcomer::Relay(b)) => a == b,
+            _ => false,
+        }
+    }
+}

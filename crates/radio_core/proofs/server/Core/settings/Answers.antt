@@ -1,0 +1,9 @@
+use Rattle.std.proofs.Common.{ap, subst, sym, ◌∙◌}
+use Rattle.radio_core.specs.Step.{Represents}
+use Rattle.radio_core.specs.World.{World}
+use Rattle.radio_core.proofs.StepLemmas.{keeps_settings}
+use Rattle.radio_core.proofs.server.Core.settings.Goals as goal
+
+pub returns : goal.returns
+returns c w stands =
+    c.settings.ensures ∙ keeps_settings c.self.inside.state w (subst (λ (core : World). Represents core w) (sym c.self.view_is) stands)

@@ -1,0 +1,102 @@
+//! Relays: what comes of their coming and going, and a relay that comes up.
+
+ghost use Rattle.std.specs.Prelude.{◌≡◌, ◌==◌, false, MatchResult, IfOk, OnOk, OnErr};
+ghost use Rattle.radio_policy.specs.Verdicts.{verdict_in};
+ghost use Rattle.radio_core.specs.Changes.{changed};
+ghost use Rattle.radio_core.specs.Counts.{counted};
+ghost use Rattle.radio_core.specs.Facts.{largest_number, rows_to_raise};
+ghost use Rattle.radio_core.specs.RelayUp.{comes_up, raises};
+ghost use Rattle.radio_core.specs.RelayDown.{goes_down};
+
+use super::state::State;
+use crate::OutOfMemory;
+use crate::outcome::{Change, Outcome};
+use crate::standing::Standing;
+use radio_events::Reply;
+use radio_fallback::Carried;
+use radio_policy::{Action, Rule, Verdict, judge};
+use radio_settings::{MountName, Shown};
+
+impl State {
+    /// A relay wants to feed the mount of this name. `OutOfMemory` where memory was refused.
+    pub(super) fn relay_up(&self, mount: &[u8], shown: &Shown) -> Result<Outcome, OutOfMemory>
+        ensures { IfOk result (λ o. o ≡ comes_up self.now mount.now shown.now) }
+    {
+        match self.may_come_up(mount, shown) {
+            Ok(mount) => self.raise_on(mount, shown),
+            Err(rule) => Ok(Outcome::denied(rule)),
+        }
+    }
+
+    /// The mount that the relay may feed, or the rule that denies it.
+    fn may_come_up(&self, mount: &[u8], shown: &Shown) -> Result<MountName, Rule>
+        ensures { MatchResult result
+            (λ name. (name ≡ mount.now) × (verdict_in (rows_to_raise self.now.house mount.now shown.now) ≡ Verdict.Allow))
+            (λ rule. verdict_in (rows_to_raise self.now.house mount.now shown.now) ≡ Verdict.Deny rule) }
+    {
+        let Some(name) = self.house.mount_named(mount) else {
+            return Err(Rule::BadMount);
+        };
+        let facts = self.house.relay_facts(&name, shown);
+        match judge(&Action::RelayUp(Some(facts))) {
+            Verdict::Deny(rule) => Err(rule),
+            Verdict::Allow => Ok(name),
+        }
+    }
+
+    /// The next number is given to the relay, and a session begins on the mount.
+    fn raise_on(&self, mount: MountName, shown: &Shown) -> Result<Outcome, OutOfMemory>
+        requires { (self.now.house.last_id == largest_number) ≡ false }
+        ensures { IfOk result (λ o. o ≡ raises self.now.house mount shown.now) }
+    {
+        let shown = self.house.shown_for(&mount, shown)?;
+        let id = self.house.last_id + 1;
+        Ok(Outcome {
+            reply: Reply::Arrived(id),
+            change: Change::Raise { id, mount, shown },
+        })
+    }
+
+    /// A relay's connection to its master is closed.
+    pub(super) fn relay_down(&self, id: u64) -> Outcome
+        ensures { result ≡ goes_down self.now id }
+    {
+        if !self.has_relay(id) {
+            return Outcome::stray();
+        }
+        match self.standing(id) {
+            Standing::Feeds(mount) => Outcome {
+                reply: Reply::Noted,
+                change: Change::EndAndLeave { id, mount },
+            },
+            Standing::Finished(_) => Outcome {
+                reply: Reply::Noted,
+                change: Change::Forget { id },
+            },
+            _ => Outcome::stray(),
+        }
+    }
+
+    /// A relay has come up and feeds the mount from now on, listeners can be seated there, and
+    /// those come home whom it calls. `OutOfMemory` where memory was refused; nothing has changed
+    /// then.
+    pub(super) fn raise(
+        &mut self,
+        id: u64,
+        mount: MountName,
+        shown: Shown,
+    ) -> Result<Carried, OutOfMemory>
+        ensures ok { OnOk result (self.new ≡ changed self.old (Change.Raise id mount shown)) }
+        ensures counts { IfOk result (λ counts. counts ≡ counted self.old (Change.Raise id mount shown)) }
+        ensures err { OnErr result (self.new ≡ self.old) }
+    {
+        self.seats.prepare(&mount)?;
+        match self.house.raise(self.alloc, id, mount, shown) {
+            Ok(()) => Ok(self.call_home(mount)),
+            Err(refused) => {
+                self.release_idle(&mount);
+                Err(refused)
+            }
+        }
+    }
+}

@@ -1,0 +1,18 @@
+use Rattle.std.proofs.Common.{ℕ, List, Some, ap, sym, subst}
+use Rattle.radio_floor.specs.declared.labelled.Connection.TheVariants.{Relay}
+use Rattle.radio_floor.specs.ScriptServer.{performed_as, script_state_of}
+use Rattle.radio_floor.specs.ScriptState.{ComesToRelay, Performed, kept_unless, told_lines, with_connection}
+use Rattle.radio_floor.proofs.handler.Handler.answer_relay.Goals as goal
+
+pub returns : goal.returns
+returns c w stands =
+    let ends = c.in_ok-state.state in
+    let a = c.in_ok-state.ensures w stands in (
+      a.0,
+      a.1,
+      λ connections label.
+          let told = λ (bytes : List ℕ). performed_as (Some (told_lines label bytes ends)) a.0
+          (with_connection connections label (kept_unless (Relay c.pull.new.pull) ends)) in
+          subst (λ (done : Performed). ComesToRelay (script_state_of w connections) label c.args.pull.now c.args.input.now done)
+          (ap told (sym c.new.ensures.items)) (a.2 connections label),
+    )

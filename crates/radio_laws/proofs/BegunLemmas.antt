@@ -1,0 +1,45 @@
+-- what holds of each session where one has begun
+use Rattle.std.proofs.Common.{◌≡◌, ℕ, ◌+◌, Some, None, List, refl, ap, sym, subst, ◌∙◌, arith}
+use Rattle.radio_settings.specs.declared.field.Shown.{Shown}
+use Rattle.radio_events.specs.declared.event.SourceRequest.{SourceRequest}
+use Rattle.radio_core.specs.declared.house.House.{House}
+use Rattle.radio_core.specs.declared.standing.Standing.TheVariants.{Feeds}
+use Rattle.radio_core.specs.Changes.{changed, begun, raised, called_home}
+use Rattle.radio_core.specs.RelayUp.{raises}
+use Rattle.radio_core.specs.Sound.{IsSound}
+use Rattle.radio_core.specs.Source.{begins, shown_for}
+use Rattle.radio_core.specs.Ways.{IsUndecided}
+use Rattle.radio_core.specs.World.{World}
+use Rattle.radio_parts.specs.Sessions.{Session, session_of, opened, with_session}
+use Rattle.radio_core.proofs.CalledHome.{house_called}
+use Rattle.radio_core.proofs.SoundSessions.{begun_cases}
+use Rattle.radio_core.proofs.Standings.{Turns, asks, turns_feeding, turns_raised}
+
+module _ (w : World) (s : IsSound w) (P : Session → Type 0)
+    (old : (mount : List ℕ) (session : Session) → session_of w.house.live mount ≡ Some session → P session) where
+  -- those who are called home change no session
+  begins_so : (him : ℕ) (there : List ℕ) (shown : Shown) (house : House) → house.live ≡ with_session w.house.live (opened there him shown w.house.time)
+      → Turns w (record w { house = house }) him (Feeds there) → session_of w.house.live there ≡ None → P (opened there him shown w.house.time)
+      → (mount : List ℕ) (session : Session) → session_of (called_home (record w { house = house }) there).house.live mount ≡ Some session → P session
+  begins_so him there shown house live t none fresh mount session e =
+      begun_cases w s him there shown house live t none mount session
+      (ap (λ (h : House). session_of h.live mount) (sym (house_called (record w { house = house }) there)) ∙ e)
+      (λ same one. subst P one fresh) (λ was. old mount session was)
+
+  -- that of a source
+  pub source_begins : (asked : SourceRequest) → IsUndecided w asked.id → session_of w.house.live asked.mount ≡ None
+      → P (opened asked.mount asked.id (shown_for w.house asked.mount asked.shown) w.house.time) → (mount : List ℕ) (session : Session)
+      → session_of (changed w (begins w.house asked).change).house.live mount ≡ Some session → P session
+  source_begins asked undecided none fresh =
+      let shown = shown_for w.house asked.mount asked.shown in
+      begins_so asked.id asked.mount shown (begun w.house asked.id asked.mount shown) refl
+      (turns_feeding w asked.id asked.mount shown (asks w asked.id undecided.0 undecided.1)) none fresh
+
+  -- and that of a relay
+  pub relay_begins : (there : List ℕ) (shows : Shown) → session_of w.house.live there ≡ None
+      → P (opened there (w.house.last_id + 1) (shown_for w.house there shows) w.house.time) → (mount : List ℕ) (session : Session)
+      → session_of (changed w (raises w.house there shows).change).house.live mount ≡ Some session → P session
+  relay_begins there shows none fresh =
+      let him = w.house.last_id + 1 in
+      let shown = shown_for w.house there shows in
+      begins_so him there shown (raised w.house him there shown) refl (turns_raised w him there shown (s.numbered him (omega arith))) none fresh

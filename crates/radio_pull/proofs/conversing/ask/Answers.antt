@@ -1,0 +1,15 @@
+use Rattle.std.proofs.Common.{Option, refl, subst, sym}
+use Rattle.radio_events.specs.declared.event.Event.{Event}
+use Rattle.radio_pull.specs.Pulling.{going_on}
+use Rattle.radio_pull.specs.Course.{AsksIf}
+use Rattle.radio_pull.proofs.conversing.ask.Goals as goal
+
+pub returns-in-None : goal.returns-in-None
+returns-in-None g c =
+    let number = c.args.relay.now.number in
+    let server = c.args.server.now in (
+      going_on number,
+      subst (λ (e : Option Event). AsksIf g.S.Applies.steps number e server (going_on number) server) (sym c.in-None.is) (refl, refl),
+      refl,
+      refl,
+    )

@@ -1,0 +1,14 @@
+use Rattle.std.proofs.Common.{◌≡◌}
+use Rattle.std.specs.Vec.Iter.{into_iter_items}
+use Rattle.radio_pull.specs.Pulling.{Standing}
+use Rattle.radio_pull.specs.Course.{Brings}
+use Rattle.radio_pull.proofs.conversing.bring.Given as goal
+
+-- whatever the items that are left come to from here, all items come to from the start
+abbrev pub invariant-loop-item : goal.invariant-loop-item
+invariant-loop-item g l = record {
+  same : l.relay ≡ record l.initial.relay { number = l.relay.number };
+  all : (after : Standing) (to : g.row.S.Denot)
+      → Brings g.S.Applies.steps l.initial.relay.mount l.relay.number (into_iter_items l.item-iterator) l.server after to
+      → Brings g.S.Applies.steps l.initial.relay.mount l.initial.relay.number l.fn.items.items l.initial.server after to;
+}

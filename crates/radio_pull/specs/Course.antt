@@ -1,0 +1,69 @@
+-- What comes of a pull, whoever applies its events.
+use Rattle.std.specs.Prelude.{◌≡◌, ℕ, List, [], ◌∷◌, Option, None, Some}
+use Rattle.radio_events.specs.declared.event.Event.{Event}
+use Rattle.radio_events.specs.declared.event.Event.TheVariants.{RelayDown}
+use Rattle.radio_events.specs.declared.reply.Reply.{Reply}
+use Rattle.radio_relay.specs.declared.items.PullItem.{PullItem}
+use Rattle.radio_relay.specs.declared.pull.Stage.TheVariants.{Over}
+use Rattle.radio_relay.specs.Items.{items_of}
+use Rattle.radio_relay.specs.Pulled.{GoesOn, IsPulledAt, Pulled, Standing as AnswerStanding, Stops}
+use Rattle.radio_session.specs.declared.state.State.{State}
+use Rattle.radio_session.specs.declared.state.State.TheVariants.{Running, Shut}
+use Rattle.radio_session.specs.declared.state.Ending.TheVariants.{BadPull}
+use Rattle.radio_session.specs.Exchanges.{Steps}
+use Rattle.radio_pull.specs.Pulling.{Pulling, Standing, answered, event_for, going_on}
+
+-- the rest comes about where the pull goes on
+abbrev pub Follows : State → Type 0 → Type 0 → Type 0
+Follows Running rest last = rest
+Follows (Shut ending) rest last = last
+
+module _ {S : Type 0} (steps : Steps S) where
+  -- a relay that is up goes down
+  abbrev pub GoesDown : Option ℕ → S → S → Type 0
+  GoesDown None from to = to ≡ from
+  GoesDown (Some id) from to = (reply : Reply) × steps from (RelayDown id) reply to
+
+  -- so it does where its pull is shut
+  abbrev pub GoesDownIfShut : State → Option ℕ → S → S → Type 0
+  GoesDownIfShut Running number from to = to ≡ from
+  GoesDownIfShut (Shut ending) number from to = GoesDown number from to
+
+  -- an event is applied
+  pub record Asks (number : Option ℕ) (event : Event) (from : S) (after : Standing) (to : S) : Type 0 where
+    pub reply : Reply
+    pub mid : S
+    pub step : steps from event reply mid
+    pub is_answered : after ≡ answered number reply
+    pub goes : GoesDownIfShut after.state after.number mid to
+
+  -- an event is applied, if the relay asks for one
+  abbrev pub AsksIf : Option ℕ → Option Event → S → Standing → S → Type 0
+  AsksIf number None from after to = (after ≡ going_on number) × (to ≡ from)
+  AsksIf number (Some event) from after to = Asks number event from after to
+
+  -- an event is applied and then the rest, if one is asked for
+  abbrev pub Onwards : Option ℕ → Option Event → S → (Standing → S → Type 0) → Standing → S → Type 0
+  Onwards number None from Rest after to = (after ≡ going_on number) × (to ≡ from)
+  Onwards number (Some event) from Rest after to =
+      (now : Standing) × (mid : S) × Asks number event from now mid × Follows now.state (Rest now mid) ((after ≡ now) × (to ≡ mid))
+
+  -- what items ask for is applied, one after another, until the pull is shut
+  abbrev pub Brings : List ℕ → Option ℕ → List PullItem → S → Standing → S → Type 0
+  Brings mount number [] from after to = (after ≡ going_on number) × (to ≡ from)
+  Brings mount number (item ∷ items) from after to =
+      Onwards number (event_for mount number item) from (λ now mid. Brings mount now.number items mid after to) after to
+
+  -- what is pulled in is brought; at a fault of the answer the pull is shut
+  abbrev pub ComesOf : Pulling → List PullItem → AnswerStanding → S → Pulling → State → S → Type 0
+  ComesOf pulling items (GoesOn stage) from pulling' state to =
+      (after : Standing) × Brings pulling.mount pulling.number items from after to × (state ≡ after.state)
+      × (pulling' ≡ record { mount = pulling.mount; number = after.number; stage = stage })
+  ComesOf pulling items (Stops fault) from pulling' state to =
+      GoesDown pulling.number from to × (state ≡ Shut BadPull) × (pulling' ≡ record pulling { stage = Over })
+
+  -- the next bytes of the master's answer come
+  abbrev pub Takes : Pulling → List ℕ → S → Pulling → State → S → Type 0
+  Takes pulling bytes from pulling' state to =
+      (pulled : Pulled) × IsPulledAt pulling.stage bytes pulled
+      × ComesOf pulling (items_of pulled.parts) pulled.standing from pulling' state to

@@ -1,0 +1,3 @@
+pub mod Pulling
+pub mod Course
+pub mod Laws

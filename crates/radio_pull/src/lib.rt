@@ -1,0 +1,20 @@
+//! The pull of a relay as a conversation with the server: from the bytes of its master's answer to
+//! events, and from replies to its end.
+//!
+//! - [`RelayPull`]: how far the answer has come, and the number of the relay once it is up.
+//! - [`take`]: the next bytes of the answer; [`ask`]: another event of the relay; [`close`]: the
+//!   connection is closed. Their events are applied by whoever [`Applies`](radio_session::Applies)
+//!   them.
+//! - Laws, which run no code: [`cores_pull_as_their_states`], [`pulling_is_one`].
+#![tactic(auto)]
+
+mod conversing;
+mod laws;
+mod relay_pull;
+
+pub use conversing::{ask, close, take};
+pub use laws::{cores_pull_as_their_states, pulling_is_one};
+pub use relay_pull::RelayPull;
+
+/// What a call answers where memory was refused.
+pub type OutOfMemory = std::alloc::AllocError;
