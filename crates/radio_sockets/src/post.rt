@@ -5,7 +5,7 @@ use crate::board::Board;
 use crate::desk::Desk;
 use crate::doors::Coming;
 use crate::served::ServedTime;
-use crate::sockets::{Sockets, moment};
+use crate::sockets::{Heard, Sockets, moment};
 use mio::net::TcpStream;
 use radio_addr::Peer;
 use radio_hall::Turn;
@@ -14,9 +14,16 @@ use radio_workers::{Call, Post, Seen};
 use std::sync::Wait;
 use std::time::Clock;
 
-/// How long a worker waits until there is something to do, at most, in milliseconds. What comes after
+/// How long a worker waits at once until there is something to do, at most, in milliseconds. What comes after
 /// such a wait is noted at the moment before it.
 const WAIT_MS: u64 = 50;
+
+/// After how many milliseconds a turn is made, whether there is something to do or not: as often clients are asked for
+/// who have nothing to do.
+const TURN_AFTER_MS: u64 = 500;
+
+/// After how many such waits a turn is made, even where the moment has stood still.
+const MOST_WAITS: usize = 16;
 
 /// After how long the log is told the moment again, in milliseconds.
 const TELL_AFTER_MS: u64 = 100;
@@ -37,6 +44,10 @@ pub(crate) struct SocketPost<'a, R: Clock + Wait> {
     time: ServedTime,
     /// The moment at which he began.
     since_ms: u64,
+    /// The moment of the last turn.
+    turn_ms: u64,
+    /// Whether those who come wait for the next turn, so that the server is told the moment before.
+    puts_off: bool,
     /// When the log was last told the moment, by the clock.
     told_ms: u64,
     has_begun: bool,
@@ -63,6 +74,8 @@ impl<'a, R: Clock + Wait> SocketPost<'a, R> {
             sockets,
             time: ServedTime::new(0),
             since_ms: 0,
+            turn_ms: 0,
+            puts_off: false,
             told_ms: 0,
             has_begun: false,
             has_more: false,
@@ -80,25 +93,48 @@ impl<'a, R: Clock + Wait> SocketPost<'a, R> {
         self.board.wake_acceptor();
     }
 
-    /// Hears what the system has to tell, and waits for it, if there is nothing to do. The clock's moment; `None` where the
-    /// system tells nothing any more.
-    fn hear(&mut self) -> Option<u64> {
+    /// Waits until there is something to do, or a turn is due. What was heard then; `None` where he is to stop.
+    fn wait(&mut self) -> Option<Heard> {
+        let mut heard = self.hear()?;
+        for _ in 1..MOST_WAITS {
+            if heard.is_ready || self.is_due() || self.board.is_over() {
+                return Some(heard);
+            }
+            heard = self.hear()?;
+        }
+        Some(heard)
+    }
+
+    /// Hears what the system has to tell, and waits for it, if there is nothing to do. `None` where the system tells
+    /// nothing any more.
+    fn hear(&mut self) -> Option<Heard> {
         let wait_ms = self.wait_ms();
-        let is_busy = wait_ms == 0;
+        let is_busy = wait_ms < WAIT_MS;
         let is_called = !is_busy && (self.desk.lies_down() || self.board.is_over());
-        let heard = self
+        let told = self
             .sockets
             .hear(self.rt, if is_called { 0 } else { wait_ms });
         if !is_busy {
             self.desk.gets_up();
         }
-        match heard {
-            Ok(clock_ms) => Some(clock_ms),
+        match told {
+            Ok(heard) => {
+                self.advance(heard.ms);
+                Some(Heard {
+                    ms: heard.ms,
+                    is_ready: heard.is_ready || is_busy || is_called,
+                })
+            }
             Err(_) => {
                 self.board.stop();
                 None
             }
         }
+    }
+
+    /// Whether the last turn was so long ago that another is due.
+    fn is_due(&self) -> bool {
+        self.board.moment().saturating_sub(self.turn_ms) >= TURN_AFTER_MS
     }
 
     /// Whether the acceptor has not begun for so long that he can't.
@@ -119,15 +155,23 @@ impl<'a, R: Clock + Wait> SocketPost<'a, R> {
         }
     }
 
-    /// It is this moment by the clock: the one up to which all workers have read their sockets.
-    fn advance(&mut self, clock_ms: u64) -> u64 {
+    /// It is this moment by the clock. All that had come when it was heard before was read.
+    fn advance(&mut self, clock_ms: u64) {
         let read_ms = self.time.advance(clock_ms);
         self.desk.set_read(self.since_ms.saturating_add(read_ms));
         let now_ms = self.since_ms.saturating_add(self.time.served_ms());
         self.sockets
             .activity()
             .begin_turn(now_ms, self.board.pace());
-        self.board.moment()
+    }
+
+    /// How many are taken in before a turn at this moment: none where the last turn was long ago, and this one tells the
+    /// server the moment first.
+    fn comings(&mut self, ms: u64) -> usize {
+        let waiting = self.desk.comings().min(MOST_AT_ONCE);
+        let is_late = ms.saturating_sub(self.turn_ms) > WAIT_MS;
+        self.puts_off = waiting > 0 && is_late && !self.puts_off;
+        if self.puts_off { 0 } else { waiting }
     }
 
     /// Tells the log the moment, if the clock tells it, and some time has passed.
@@ -157,20 +201,22 @@ impl<'a, R: Clock + Wait> Post<Coming, SocketLine<TcpStream>> for SocketPost<'a,
         if !self.has_begun {
             self.begin();
         }
-        let clock_ms = self.hear()?;
+        let heard = self.wait()?;
         if self.is_alone() {
             self.board.stop();
         }
         if self.board.is_over() {
             return None;
         }
-        self.tell_moment(log, clock_ms);
-        let ms = self.advance(clock_ms);
+        self.tell_moment(log, heard.ms);
+        let ms = self.board.moment();
+        let comings = self.comings(ms);
+        self.turn_ms = ms;
         self.received = self.board.received();
         let news = self.desk.take_news();
         Some(Call {
             turn: Turn { ms, news },
-            comings: self.desk.comings().min(MOST_AT_ONCE),
+            comings,
         })
     }
 

@@ -17,6 +17,15 @@ const WAKER: Token = Token(usize::MAX);
 /// Of how many sockets the system tells at once.
 const EVENTS: usize = 1024;
 
+/// What was heard of the system.
+#[derive(Clone, Copy)]
+pub(crate) struct Heard {
+    /// The clock's moment then, in milliseconds.
+    pub(crate) ms: u64,
+    /// Whether there is something to do.
+    pub(crate) is_ready: bool,
+}
+
 /// What the system has told of a worker's lines.
 #[derive(Drop)]
 pub(crate) struct Sockets {
@@ -63,18 +72,21 @@ impl Sockets {
     }
 
     /// Hears from the system what is ready, and waits until there is something to do, so many
-    /// milliseconds at most. The clock's moment then.
-    pub(crate) fn hear<C: Clock>(&mut self, clock: &C, wait_ms: u64) -> Result<u64, ServeFault> {
-        let mut now_ms = moment(clock);
-        let ends_ms = now_ms.saturating_add(wait_ms);
+    /// milliseconds at most.
+    pub(crate) fn hear<C: Clock>(&mut self, clock: &C, wait_ms: u64) -> Result<Heard, ServeFault> {
+        let mut ms = moment(clock);
+        let ends_ms = ms.saturating_add(wait_ms);
         for _ in 0..EVENTS {
-            let is_done = self.poll(ends_ms.saturating_sub(now_ms))?;
-            now_ms = moment(clock);
-            if is_done || now_ms >= ends_ms {
-                return Ok(now_ms);
+            let is_ready = self.poll(ends_ms.saturating_sub(ms))?;
+            ms = moment(clock);
+            if is_ready || ms >= ends_ms {
+                return Ok(Heard { ms, is_ready });
             }
         }
-        Ok(now_ms)
+        Ok(Heard {
+            ms,
+            is_ready: false,
+        })
     }
 
     /// Notes what the system tells within so many milliseconds. Whether there is something to do.
