@@ -60,6 +60,8 @@ impl Receipt {
     pub fn into_reply(self) -> Reply
         ensures { result ≡ self.reply }
     {
-        self.reply
+        let Receipt { event, reply, .. } = self;
+        drop(event);
+        reply
     }
 }

@@ -12,7 +12,7 @@ use Rattle.radio_parts.proofs.SessionLookups.{chosen, passed}
 use Rattle.radio_core.specs.declared.clients.ClientState.{ClientState}
 use Rattle.radio_core.specs.Clients.{Client, is_client, client_of, with_client, with_state, in_state, without_client}
 use Rattle.radio_policy.specs.declared.rule.Rule.{Rule}
-use Rattle.radio_core.specs.Relays.{Relay, is_relay, relay_of, with_relay, ended, with_ended, without_relay}
+use Rattle.radio_core.specs.Relays.{Relay, is_relay, relay_of, with_relay, ended, with_relay_ended, without_relay}
 use Rattle.radio_core.specs.Fallbacks.{Fallback, is_set_for, set_for, with_fallback}
 
 -- clients
@@ -62,14 +62,14 @@ module _ (relays : List Relay) (him id : ℕ) (other : (him == id) ≡ false) wh
   not_its : (x : Relay) → is_relay him x ≡ true → is_relay id x ≡ false
   not_its x e = ap (λ n. n == id) (eqb-true x.id him e) ∙ other
 
-  pub relay_beside_ended : (rule : Rule) → relay_of (with_ended relays him rule) id ≡ relay_of relays id
+  pub relay_beside_ended : (rule : Rule) → relay_of (with_relay_ended relays him rule) id ≡ relay_of relays id
   relay_beside_ended rule = find_apart (is_relay id) (is_relay him) (ended rule) (λ x e. (not_its x e, not_its x e)) relays
 
   pub relay_beside_gone : relay_of (without_relay relays him) id ≡ relay_of relays id
   relay_beside_gone = find_others (is_relay id) (is_relay him) not_its relays
 
 pub is_ended_relay : (relays : List Relay) (id : ℕ) (rule : Rule) (relay : Relay) → relay_of relays id ≡ Some relay
-    → relay_of (with_ended relays id rule) id ≡ Some (ended rule relay)
+    → relay_of (with_relay_ended relays id rule) id ≡ Some (ended rule relay)
 is_ended_relay relays id rule relay e = find_same (is_relay id) (ended rule) (λ x. refl) relays relay e
 
 pub is_no_relay : (relays : List Relay) (id : ℕ) → relay_of (without_relay relays id) id ≡ None

@@ -13,7 +13,7 @@ use Rattle.radio_events.specs.declared.command.Command.{Command}
 use Rattle.radio_events.specs.declared.command.Command.TheVariants.{MoveClients, KillClient, KillSource, SetTitle, SetFallback}
 use Rattle.radio_core.specs.declared.outcome.Change.TheVariants.{Begin, Obey}
 use Rattle.radio_core.specs.Clients.{Client, is_client, in_state, with_state}
-use Rattle.radio_core.specs.Relays.{Relay, is_relay, ended, with_ended as with_relay_ended}
+use Rattle.radio_core.specs.Relays.{Relay, is_relay, ended, with_relay_ended}
 use Rattle.radio_settings.specs.Options.{options_for}
 use Rattle.radio_settings.specs.declared.field.Shown.{Shown}
 use Rattle.radio_fallback.specs.declared.moves.Move.{Move}

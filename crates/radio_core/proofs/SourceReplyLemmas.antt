@@ -46,27 +46,6 @@ find-updated p f same (x ∷ xs) = by_test (find-updated p f same xs) (p x) refl
   by_test ih false e = rw (e, e) ih
 
 -- a source feeds its mount as long as the table of clients stays as it is
-seated_feeds : (seating : Seating) (mount : List ℕ) → standing_seated seating ≡ IsFeeding mount → ⊥
-seated_feeds (HasSeat seat) mount e = cc
-seated_feeds (HasFinished rule) mount e = cc
-
-listener_feeds : (listener : Option Listener) (mount : List ℕ) → standing_of_listener listener ≡ IsFeeding mount → ⊥
-listener_feeds None mount e = cc
-listener_feeds (Some listener) mount e = seated_feeds listener.seating mount e
-
-feeds_by : (listener other : Option Listener) (peer : Peer) (state : ClientState) (mount : List ℕ) → standing_by listener peer state ≡ IsFeeding mount
-    → standing_by other peer state ≡ IsFeeding mount
-feeds_by listener other peer Undecided mount e = cc
-feeds_by listener other peer (Feeds name) mount e = e
-feeds_by listener other peer Listens mount e = absurd (listener_feeds listener mount e)
-feeds_by listener other peer Answered mount e = cc
-feeds_by listener other peer (Ended rule) mount e = cc
-
-feeds_in : (relay : Option Relay) (listener other : Option Listener) (client : Option Client) (mount : List ℕ)
-    → standing_in relay listener client ≡ IsFeeding mount → standing_in relay other client ≡ IsFeeding mount
-feeds_in relay listener other None mount e = e
-feeds_in relay listener other (Some client) mount e = feeds_by listener other client.peer client.state mount e
-
 feeds_on : (w w' : World) (id : ℕ) (mount : List ℕ) → w'.house.clients ≡ w.house.clients → w'.house.relays ≡ w.house.relays
     → standing_of w id ≡ IsFeeding mount → standing_of w' id ≡ IsFeeding mount
 feeds_on w w' id mount same same_relays e =

@@ -245,7 +245,7 @@ feeds_by (Some listener) other peer Listens mount e = absurd (no_source listener
 feeds_by listener other peer Answered mount e = cc
 feeds_by listener other peer (Ended rule) mount e = cc
 
-feeds_in : (relay : Option Relay) (listener other : Option Listener) (client : Option Client) (mount : List ℕ)
+pub feeds_in : (relay : Option Relay) (listener other : Option Listener) (client : Option Client) (mount : List ℕ)
     → standing_in relay listener client ≡ IsFeeding mount → standing_in relay other client ≡ IsFeeding mount
 feeds_in relay listener other None mount e = e
 feeds_in relay listener other (Some client) mount e = feeds_by listener other client.peer client.state mount e

@@ -17,7 +17,7 @@ use Rattle.radio_core.specs.declared.outcome.Change.{Change}
 use Rattle.radio_core.specs.declared.outcome.Change.TheVariants.{Nothing, Answer, Admit, Begin, Raise, Receive, SetTitle, TakeSeat, Advance, End}
 use Rattle.radio_core.specs.declared.outcome.Change.TheVariants.{EndAndLeave, Forget, Tick, Obey}
 use Rattle.radio_core.specs.Clients.{newcomer, with_client, in_state, without_client}
-use Rattle.radio_core.specs.Relays.{risen, with_relay, with_ended as with_relay_ended, without_relay}
+use Rattle.radio_core.specs.Relays.{risen, with_relay, with_relay_ended, without_relay}
 use Rattle.radio_core.specs.Fallbacks.{with_fallback}
 use Rattle.radio_parts.specs.Sessions.{Session, session_of, opened, with_session, fed, titled, without_session}
 use Rattle.radio_seats.specs.Seats.{with_seat, with_place, with_end, with_ended, without_listener}

@@ -25,12 +25,12 @@ abbrev pub relay_of : List Relay → ℕ → Option Relay
 relay_of relays id = find (is_relay id) relays
 
 -- relays stand in the order of their numbers
-abbrev pub by_number : Relay → Relay → Ordering
-by_number a b = nat_cmp a.id b.id
+abbrev pub in_order_of_number : Relay → Relay → Ordering
+in_order_of_number a b = nat_cmp a.id b.id
 
 -- one relay more
 abbrev pub with_relay : List Relay → Relay → List Relay
-with_relay relays relay = placed by_number relay relays
+with_relay relays relay = placed in_order_of_number relay relays
 
 abbrev pub doing : RelayState → Relay → Relay
 doing state relay = record relay { state = state }
@@ -39,8 +39,8 @@ abbrev pub ended : Rule → Relay → Relay
 ended rule relay = doing (Ended rule) relay
 
 -- the rule has finished the relay of this number
-abbrev pub with_ended : List Relay → ℕ → Rule → List Relay
-with_ended relays id rule = update_first (is_relay id) (ended rule) relays
+abbrev pub with_relay_ended : List Relay → ℕ → Rule → List Relay
+with_relay_ended relays id rule = update_first (is_relay id) (ended rule) relays
 
 -- the relay of this number is gone
 abbrev pub without_relay : List Relay → ℕ → List Relay

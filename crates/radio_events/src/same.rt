@@ -19,25 +19,99 @@ impl Event {
     pub fn same(&self, other: &Event) -> bool
         ensures { IsTrue result ↔ self.now ≡ other.now }
     {
-        match (self, other) {
-            (Event::Arrive { peer: a }, Event::Arrive { peer: b }) => is_same_peer(*a, *b),
-            (Event::Source(a), Event::Source(b)) => is_same_source(a, b),
-            (Event::Push { id: a, block: x }, Event::Push { id: b, block: y }) => {
-                are_same(*a, x.as_bytes(), *b, y.as_bytes())
-            }
-            (Event::Title { id: a, text: x }, Event::Title { id: b, text: y }) => {
-                are_same(*a, x.as_slice(), *b, y.as_slice())
-            }
-            (Event::Listen(a), Event::Listen(b)) => is_same_listener(a, b),
-            (Event::Draw { id: a, room: x }, Event::Draw { id: b, room: y }) => {
-                *a == *b && *x == *y
-            }
-            (Event::Command(a), Event::Command(b)) => is_same_request(a, b),
-            (Event::RelayUp { mount: a, shown: x }, Event::RelayUp { mount: b, shown: y }) => {
-                is_same_bytes(a.as_slice(), b.as_slice()) && is_same_shown(x, y)
-            }
+        match self {
+            Event::Arrive { peer } => is_arrival(other, *peer),
+            Event::Source(asked) => is_source(other, asked),
+            Event::Push { id, block } => is_push(other, *id, block.as_bytes()),
+            Event::Title { id, text } => is_title(other, *id, text.as_slice()),
+            Event::Listen(asked) => is_listener(other, asked),
+            Event::Draw { id, room } => is_draw(other, *id, *room),
+            Event::Command(asked) => is_command(other, asked),
+            Event::RelayUp { mount, shown } => is_relay(other, mount.as_slice(), shown),
             _ => is_same_end_or_clock(self, other),
         }
+    }
+}
+
+/// Whether it is an arrival from this address.
+fn is_arrival(event: &Event, from: Peer) -> bool
+    ensures { IsTrue result ↔ Event.Arrive from ≡ event.now }
+{
+    match event {
+        Event::Arrive { peer } => is_same_peer(from, *peer),
+        _ => false,
+    }
+}
+
+/// Whether it is this request to feed a mount.
+fn is_source(event: &Event, wanted: &SourceRequest) -> bool
+    ensures { IsTrue result ↔ Event.Source wanted.now ≡ event.now }
+{
+    match event {
+        Event::Source(asked) => is_same_source(wanted, asked),
+        _ => false,
+    }
+}
+
+/// Whether it is this source's block of these bytes.
+fn is_push(event: &Event, source: u64, bytes: &[u8]) -> bool
+    ensures { IsTrue result ↔ Event.Push source bytes.now ≡ event.now }
+{
+    match event {
+        Event::Push { id, block } => are_same(source, bytes, *id, block.as_bytes()),
+        _ => false,
+    }
+}
+
+/// Whether it is this source's title of these bytes.
+fn is_title(event: &Event, source: u64, bytes: &[u8]) -> bool
+    ensures { IsTrue result ↔ Event.Title source bytes.now ≡ event.now }
+{
+    match event {
+        Event::Title { id, text } => are_same(source, bytes, *id, text.as_slice()),
+        _ => false,
+    }
+}
+
+/// Whether it is this request to hear a mount.
+fn is_listener(event: &Event, wanted: &ListenRequest) -> bool
+    ensures { IsTrue result ↔ Event.Listen wanted.now ≡ event.now }
+{
+    match event {
+        Event::Listen(asked) => is_same_listener(wanted, asked),
+        _ => false,
+    }
+}
+
+/// Whether it is this listener's draw, for so many bytes.
+fn is_draw(event: &Event, listener: u64, bytes: u32) -> bool
+    ensures { IsTrue result ↔ Event.Draw listener bytes ≡ event.now }
+{
+    match event {
+        Event::Draw { id, room } => listener == *id && bytes == *room,
+        _ => false,
+    }
+}
+
+/// Whether it is this request for a command.
+fn is_command(event: &Event, wanted: &CommandRequest) -> bool
+    ensures { IsTrue result ↔ Event.Command wanted.now ≡ event.now }
+{
+    match event {
+        Event::Command(asked) => is_same_request(wanted, asked),
+        _ => false,
+    }
+}
+
+/// Whether it is a relay that wants to feed the mount of this name, and shows this.
+fn is_relay(event: &Event, name: &[u8], wanted: &Shown) -> bool
+    ensures { IsTrue result ↔ Event.RelayUp name.now wanted.now ≡ event.now }
+{
+    match event {
+        Event::RelayUp { mount, shown } => {
+            is_same_bytes(name, mount.as_slice()) && is_same_shown(wanted, shown)
+        }
+        _ => false,
     }
 }
 

@@ -163,7 +163,7 @@ fn close_if_shut(connection: &mut Option<Connection>, state: State)
 fn leave(core: &mut Core, id: u64) -> Result<(), OutOfMemory>
     ensures { OnOk result ((w : World) → Represents core.old w → Represents core.new (world_after w (Leave id))) }
 {
-    core.step(Event::Leave { id })?;
+    drop(core.step(Event::Leave { id })?);
     Ok(())
 }
 
@@ -171,6 +171,6 @@ fn leave(core: &mut Core, id: u64) -> Result<(), OutOfMemory>
 pub(crate) fn tick(core: &mut Core, ms: u64) -> Result<(), OutOfMemory>
     ensures { OnOk result ((w : World) → Represents core.old w → Represents core.new (world_after w (Clock ms))) }
 {
-    core.step(Event::Clock { ms })?;
+    drop(core.step(Event::Clock { ms })?);
     Ok(())
 }

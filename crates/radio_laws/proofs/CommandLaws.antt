@@ -50,6 +50,7 @@ use Rattle.radio_parts.proofs.SessionLookups.{is_over, is_titled, beside_titled,
 use Rattle.radio_core.proofs.AllowedCommands.{is_opened, may_act, needs_hold}
 use Rattle.radio_core.proofs.ListingLemmas.{shown_long}
 use Rattle.radio_core.proofs.Lookups.{is_set, beside_set}
+use Rattle.radio_laws.proofs.ToldTexts.{IsToldFor, ByShowing, ByDoing, told_for}
 use Rattle.radio_laws.specs.Walks.{FallsBack, ByTheSettings, ByACommand}
 use Rattle.radio_core.specs.Outcomes.{on_verdict, if_undecided}
 use Rattle.radio_core.specs.Sound.{IsSound}
@@ -169,34 +170,13 @@ module _ (w : World) (s : IsSound w) (event : Event) where
       given command c w.house.settings.access.admin has (AsTheAdmin command (record { user = has.user; password = has.password }))
   by_right command c (inr source) = by_source command c source
 
-given_by : (w : World) → IsSound w → (event : Event) (o : Outcome) → Way w event o → (text : Text) → o.reply ≡ SaysText text → IsShort text
-    → IsGivenByRight w event
-given_by w s event o (Shows _ asker peer shown its undecided what) text d short =
-    let same : shown ≡ text = cc in absurd (shown_long w event shown what (subst IsShort (sym same) short))
-given_by w s event o (Obeys _ command c) text d short =
-    by_right w s event command c (one_of (is_admin_pair w.house.settings c.asked.pair) (opens_as_source w.house.settings (opened_by command) c.asked.pair)
-    (is_opened w event c))
-given_by w s event o (Misplaced _) text d short = cc
-given_by w s event o (IsFinished _ him by its known) text d short = cc
-given_by w s event o (IsDenied _ by v nobody) text d short = cc
-given_by w s event o (IsRefused _ him by v its undecided) text d short = cc
-given_by w s event o (IsAdmitted peer allowed) text d short = cc
-given_by w s event o (Begins asked undecided none allowed) text d short = cc
-given_by w s event o (ComesUp mount shown unfed allowed) text d short = cc
-given_by w s event o (Receives him mount block feeding) text d short = cc
-given_by w s event o (SetsTitle him mount title feeding) text d short = cc
-given_by w s event o (HasPassed ms e) text d short = cc
-given_by w s event o (Ticks ms e) text d short = cc
-given_by w s event o (TakesSeat asked peer session undecided lands live allowed) text d short = cc
-given_by w s event o (HandsOut him room seat session sits has live) text d short = cc
-given_by w s event o (Ends him mount feeding no_relay) text d short = cc
-given_by w s event o (EndsAndLeaves _ him mount closes feeding) text d short = cc
-given_by w s event o (Leaves him no_relay other) text d short = cc
-given_by w s event o (GoesDown him by_rule relay over) text d short = cc
-
 pub only_who_may : (w : World) → IsSound w → (event : Event) → OnlyWhoMayCommands w event
-unfolding reply_to
-only_who_may w s event text d short = given_by w s event (outcome w event) (way_of w event) text d short
+only_who_may w s event text d short = by_cause (told_for w event text d) where
+  by_cause : IsToldFor w event text → IsGivenByRight w event
+  by_cause (ByShowing asker peer its undecided what) = absurd (shown_long w event text what short)
+  by_cause (ByDoing command c said) =
+      by_right w s event command c (one_of (is_admin_pair w.house.settings c.asked.pair) (opens_as_source w.house.settings (opened_by command) c.asked.pair)
+      (is_opened w event c))
 
 -- what comes of a command that the policy allows
 does_so : (w : World) (id : ℕ) (command : TheCommand) (now : Standing) (peer : Peer) (verdict : Verdict) (asked : Asked) → now ≡ Undecided peer → verdict ≡ Allow

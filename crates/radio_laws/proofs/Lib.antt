@@ -22,6 +22,7 @@ mod StretchLemmas
 mod TickOrder
 mod TitleLemmas
 mod ToldLemmas
+mod ToldTexts
 mod WalkLemmas
 mod WebLaws
 mod WalkingOnLemmas

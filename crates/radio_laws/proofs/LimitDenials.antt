@@ -133,25 +133,38 @@ module _ (w : World) where
   no_limit_to_raise meant bad many used type spent mount shown true = (many, (used, (type, (spent, tt))))
   no_limit_to_raise meant bad many used type spent mount shown false = (bad, tt)
 
+  -- such a rule denies who asks for something, where it is none of a command's and not that of numbers
+  by_asking : {A : Type 0} (meant : Rule → Bool) (rule : Rule) → meant rule ≡ true → meant NumbersSpent ≡ false
+      → ((facts : Option CommandFacts) → Each (λ row. meant row.rule ≡ false) (command_rows facts)) → (event : Event) → verdict_in (rows_for w event) ≡ Denied rule
+      → ((peer : Peer) → verdict_in (rows_for w (Arrive peer)) ≡ Denied rule → A) → ((asked : SourceRequest) → verdict_in (rows_for w (Source asked)) ≡ Denied rule → A)
+      → ((asked : ListenRequest) → event ≡ Listen asked → verdict_in (rows_for w (Listen asked)) ≡ Denied rule → A)
+      → ((mount : List ℕ) (shown : Shown) → verdict_in (rows_for w (RelayUp mount shown)) ≡ Denied rule → A) → A
+  by_asking meant rule is no_number no_command (Arrive peer) v arrives feeds hears rises = arrives peer v
+  by_asking meant rule is no_number no_command (Source asked) v arrives feeds hears rises = feeds asked v
+  by_asking meant rule is no_number no_command (Listen asked) v arrives feeds hears rises = hears asked refl v
+  by_asking meant rule is no_number no_command (RelayUp mount shown) v arrives feeds hears rises = rises mount shown v
+  by_asking meant rule is no_number no_command (Push id block) v arrives feeds hears rises =
+      absurd (no_limit meant (rows_from w.house block (standing_of w id)) (only_numbers meant no_number block (standing_of w id)) rule v is)
+  by_asking meant rule is no_number no_command (Command asked) v arrives feeds hears rises =
+      absurd (no_limit meant (rows_to_command w asked) (no_command (facts_asked w asked.asked asked.pair)) rule v is)
+  by_asking meant rule is no_number no_command (SourceEnd id) v arrives feeds hears rises = cc
+  by_asking meant rule is no_number no_command (Title id text) v arrives feeds hears rises = cc
+  by_asking meant rule is no_number no_command (Draw id room) v arrives feeds hears rises = cc
+  by_asking meant rule is no_number no_command (Leave id) v arrives feeds hears rises = cc
+  by_asking meant rule is no_number no_command (RelayDown id) v arrives feeds hears rises = cc
+  by_asking meant rule is no_number no_command (Clock ms) v arrives feeds hears rises = cc
+
   -- the limits deny only who wants to hear a mount
   only_listeners : {A : Type 0} (rule : Rule) → is_limit rule ≡ true → (event : Event) → verdict_in (rows_for w event) ≡ Denied rule
       → ((asked : ListenRequest) → event ≡ Listen asked → verdict_in (rows_for w (Listen asked)) ≡ Denied rule → A) → A
-  only_listeners rule limit (Listen asked) v goes = goes asked refl v
-  only_listeners rule limit (Arrive peer) v goes = absurd (no_limit is_limit (rows_for w (Arrive peer)) (refl, (refl, (refl, (refl, tt)))) rule v limit)
-  only_listeners rule limit (Source asked) v goes =
-      absurd (no_limit is_limit (rows_for w (Source asked)) (no_limit_to_feed asked (names_mount w.house.settings asked.mount)) rule v limit)
-  only_listeners rule limit (Push id block) v goes =
-      absurd (no_limit is_limit (rows_from w.house block (standing_of w id)) (only_numbers is_limit refl block (standing_of w id)) rule v limit)
-  only_listeners rule limit (SourceEnd id) v goes = cc
-  only_listeners rule limit (Title id text) v goes = cc
-  only_listeners rule limit (Draw id room) v goes = cc
-  only_listeners rule limit (Command asked) v goes =
-      absurd (no_limit is_limit (rows_to_command w asked) (of_no_command is_limit refl refl refl refl refl refl refl refl refl (facts_asked w asked.asked asked.pair)) rule v limit)
-  only_listeners rule limit (Leave id) v goes = cc
-  only_listeners rule limit (RelayUp mount shown) v goes =
-      absurd (no_limit is_limit (rows_to_raise w.house mount shown) (no_limit_to_raise is_limit refl refl refl refl refl mount shown (names_mount w.house.settings mount)) rule v limit)
-  only_listeners rule limit (RelayDown id) v goes = cc
-  only_listeners rule limit (Clock ms) v goes = cc
+  only_listeners rule limit event v goes =
+      by_asking is_limit rule limit refl (of_no_command is_limit refl refl refl refl refl refl refl refl refl) event v
+      (λ peer denied. absurd (no_limit is_limit (rows_for w (Arrive peer)) (refl, (refl, (refl, (refl, tt)))) rule denied limit))
+      (λ asked denied.
+      absurd (no_limit is_limit (rows_for w (Source asked)) (no_limit_to_feed asked (names_mount w.house.settings asked.mount)) rule denied limit))
+      goes
+      (λ mount shown denied. absurd (no_limit is_limit (rows_to_raise w.house mount shown)
+      (no_limit_to_raise is_limit refl refl refl refl refl mount shown (names_mount w.house.settings mount)) rule denied limit))
 
   full_there : (event : Event) → verdict_in (rows_for w event) ≡ Denied MountFull → ByAMount w event (λ asked mount. IsFullAt w mount)
   full_there event v =
@@ -171,55 +184,34 @@ module _ (w : World) where
 
   -- whoever may not arrive since there are as many clients as may be, or not feed since there are as many sources
   many_clients : (event : Event) → verdict_in (rows_for w event) ≡ Denied TooManyClients → w.house.settings.limits.clients ≤ length w.house.clients
-  many_clients (Arrive peer) v =
-      let facts = arrive_facts w.house peer in
+  many_clients event v =
+      by_asking is_of_clients TooManyClients refl refl (of_no_command is_of_clients refl refl refl refl refl refl refl refl refl) event v
+      (λ peer denied. let facts = arrive_facts w.house peer in
       reached (length w.house.clients) w.house.settings.limits.clients
-      (clients_by facts.address_is_denied facts.address_is_allowed facts.clients_are_full facts.number_is_spent v)
-  many_clients (Source asked) v = absurd (no_limit is_of_clients (rows_for w (Source asked)) (to_feed (names_mount w.house.settings asked.mount)) TooManyClients v refl) where
-    to_feed : (named : Bool)
-        → Each (λ row. is_of_clients row.rule ≡ false) (source_rows (if named then Some (source_facts_at w.house asked.mount asked) else None))
-    to_feed true = (refl, (refl, (refl, (refl, tt))))
-    to_feed false = (refl, tt)
-  many_clients (Push id block) v =
-      absurd (no_limit is_of_clients (rows_from w.house block (standing_of w id)) (only_numbers is_of_clients refl block (standing_of w id)) TooManyClients v refl)
-  many_clients (Listen asked) v =
-      absurd (denies_none w asked TooManyClients (why_denied w asked TooManyClients v) is_of_clients refl refl refl refl refl refl refl refl)
-  many_clients (SourceEnd id) v = cc
-  many_clients (Title id text) v = cc
-  many_clients (Draw id room) v = cc
-  many_clients (Command asked) v =
-      absurd (no_limit is_of_clients (rows_to_command w asked) (of_no_command is_of_clients refl refl refl refl refl refl refl refl refl (facts_asked w asked.asked asked.pair))
-      TooManyClients v refl)
-  many_clients (Leave id) v = cc
-  many_clients (RelayUp mount shown) v =
-      absurd (no_limit is_of_clients (rows_to_raise w.house mount shown) (no_limit_to_raise is_of_clients refl refl refl refl refl mount shown (names_mount w.house.settings mount))
-      TooManyClients v refl)
-  many_clients (RelayDown id) v = cc
-  many_clients (Clock ms) v = cc
+      (clients_by facts.address_is_denied facts.address_is_allowed facts.clients_are_full facts.number_is_spent denied))
+      (λ asked denied.
+      absurd (no_limit is_of_clients (rows_for w (Source asked)) (to_feed asked (names_mount w.house.settings asked.mount)) TooManyClients denied refl))
+      (λ asked same denied.
+      absurd (denies_none w asked TooManyClients (why_denied w asked TooManyClients denied) is_of_clients refl refl refl refl refl refl refl refl))
+      (λ mount shown denied. absurd (no_limit is_of_clients (rows_to_raise w.house mount shown)
+      (no_limit_to_raise is_of_clients refl refl refl refl refl mount shown (names_mount w.house.settings mount)) TooManyClients denied refl)) where
+        to_feed : (asked : SourceRequest) (named : Bool)
+            → Each (λ row. is_of_clients row.rule ≡ false) (source_rows (if named then Some (source_facts_at w.house asked.mount asked) else None))
+        to_feed asked true = (refl, (refl, (refl, (refl, tt))))
+        to_feed asked false = (refl, tt)
 
   many_sources : (event : Event) → verdict_in (rows_for w event) ≡ Denied TooManySources → w.house.settings.limits.sources ≤ length w.house.live
-  many_sources (Source asked) v =
-      let facts = source_facts_at w.house asked.mount asked in
+  many_sources event v =
+      by_asking is_of_sources TooManySources refl refl (of_no_command is_of_sources refl refl refl refl refl refl refl refl refl) event v
+      (λ peer denied. absurd (no_limit is_of_sources (rows_for w (Arrive peer)) (refl, (refl, (refl, (refl, tt)))) TooManySources denied refl))
+      (λ asked denied. let facts = source_facts_at w.house asked.mount asked in
       reached (length w.house.live) w.house.settings.limits.sources
-      (sources_by (names_mount w.house.settings asked.mount) facts.is_source_pair facts.sources_are_full facts.mount_is_live facts.type_is_refused v)
-  many_sources (Arrive peer) v = absurd (no_limit is_of_sources (rows_for w (Arrive peer)) (refl, (refl, (refl, (refl, tt)))) TooManySources v refl)
-  many_sources (Push id block) v =
-      absurd (no_limit is_of_sources (rows_from w.house block (standing_of w id)) (only_numbers is_of_sources refl block (standing_of w id)) TooManySources v refl)
-  many_sources (Listen asked) v =
-      absurd (denies_none w asked TooManySources (why_denied w asked TooManySources v) is_of_sources refl refl refl refl refl refl refl refl)
-  many_sources (SourceEnd id) v = cc
-  many_sources (Title id text) v = cc
-  many_sources (Draw id room) v = cc
-  many_sources (Command asked) v =
-      absurd (no_limit is_of_sources (rows_to_command w asked) (of_no_command is_of_sources refl refl refl refl refl refl refl refl refl (facts_asked w asked.asked asked.pair))
-      TooManySources v refl)
-  many_sources (Leave id) v = cc
-  many_sources (RelayUp mount shown) v =
-      let facts = relay_facts_at w.house mount shown in
+      (sources_by (names_mount w.house.settings asked.mount) facts.is_source_pair facts.sources_are_full facts.mount_is_live facts.type_is_refused denied))
+      (λ asked same denied.
+      absurd (denies_none w asked TooManySources (why_denied w asked TooManySources denied) is_of_sources refl refl refl refl refl refl refl refl))
+      (λ mount shown denied. let facts = relay_facts_at w.house mount shown in
       reached (length w.house.live) w.house.settings.limits.sources
-      (relays_by (names_mount w.house.settings mount) facts.sources_are_full facts.mount_is_live facts.type_is_refused facts.number_is_spent v)
-  many_sources (RelayDown id) v = cc
-  many_sources (Clock ms) v = cc
+      (relays_by (names_mount w.house.settings mount) facts.sources_are_full facts.mount_is_live facts.type_is_refused facts.number_is_spent denied))
 
   -- only a verdict of the policy denies
   pub denied_by : {A : Type 0} (rule : Rule) (event : Event) (o : Outcome) → RuleNamed w event o → o.reply ≡ Deny rule

@@ -42,6 +42,7 @@ use Rattle.radio_core.specs.World.{World, standing_of}
 use Rattle.radio_core.proofs.Standings.{asks, turns_answered}
 use Rattle.radio_core.proofs.AllowedCommands.{may_act, past_sent}
 use Rattle.radio_core.proofs.Ways.{way_of}
+use Rattle.radio_laws.proofs.ToldTexts.{IsToldFor, ByShowing, ByDoing, told_for}
 use Rattle.radio_laws.specs.Shown.{IsTheRelays, MaySee, AsAnybody, AsARelay, AsTheAdmin, IsThereToSee, IsShownByRight, IsShownAtPath, OnlyWhoMayIsShown, WhoMayIsShown, Tells}
 use Rattle.radio_laws.proofs.CommandLaws.{lives_by, login_sent, one_of}
 use Rattle.radio_laws.proofs.WalkLemmas.{both}
@@ -182,33 +183,11 @@ module _ (w : World) (event : Event) (asker : ℕ) (peer : Peer) (its : client_i
       let same : asked.id ≡ asker = cc in
       inr (shown_there w asked path on peer (ap (standing_of w) same ∙ undecided) event (page_at w path asked.host) is refl)
 
-shown_by : (w : World) (event : Event) (o : Outcome) → Way w event o → (text : Text) → o.reply ≡ SaysText text → (IsShort text → ⊥)
-    → IsShownByRight w event text ⊎ IsShownAtPath w event text
-shown_by w event o (Shows _ asker peer told its undecided what) text d long =
-    let same : told ≡ text = cc in subst (λ (t : Text). IsShownByRight w event t ⊎ IsShownAtPath w event t) same (by_what w event asker peer its undecided told what)
-shown_by w event o (Obeys _ command c) text d long =
-    let same : said_of command (counts_by w command) ≡ text = cc in absurd (long (subst IsShort same (said_short command (counts_by w command))))
-shown_by w event o (Misplaced _) text d long = cc
-shown_by w event o (IsFinished _ him by its known) text d long = cc
-shown_by w event o (IsDenied _ by v nobody) text d long = cc
-shown_by w event o (IsRefused _ him by v its undecided) text d long = cc
-shown_by w event o (IsAdmitted peer allowed) text d long = cc
-shown_by w event o (Begins asked undecided none allowed) text d long = cc
-shown_by w event o (ComesUp mount shown unfed allowed) text d long = cc
-shown_by w event o (Receives him mount block feeding) text d long = cc
-shown_by w event o (SetsTitle him mount title feeding) text d long = cc
-shown_by w event o (HasPassed ms e) text d long = cc
-shown_by w event o (Ticks ms e) text d long = cc
-shown_by w event o (TakesSeat asked peer session undecided lands live allowed) text d long = cc
-shown_by w event o (HandsOut him room seat session sits has live) text d long = cc
-shown_by w event o (Ends him mount feeding no_relay) text d long = cc
-shown_by w event o (EndsAndLeaves _ him mount closes feeding) text d long = cc
-shown_by w event o (Leaves him no_relay other) text d long = cc
-shown_by w event o (GoesDown him by_rule relay over) text d long = cc
-
 pub only_who_may_is_shown : (w : World) (event : Event) → OnlyWhoMayIsShown w event
-unfolding reply_to
-only_who_may_is_shown w event text d long = shown_by w event (outcome w event) (way_of w event) text d long
+only_who_may_is_shown w event text d long = by_cause (told_for w event text d) where
+  by_cause : IsToldFor w event text → IsShownByRight w event text ⊎ IsShownAtPath w event text
+  by_cause (ByShowing asker peer its undecided what) = by_what w event asker peer its undecided text what
+  by_cause (ByDoing command c said) = absurd (long (subst IsShort said (said_short command (counts_by w command))))
 
 pub who_may_is_shown : (w : World) → WhoMayIsShown w
 who_may_is_shown w asked peer listing undecided is_asked may there = (

@@ -34,6 +34,7 @@ use Rattle.radio_core.specs.Ways.{Way, Misplaced, IsFinished, IsDenied, IsRefuse
 use Rattle.radio_core.specs.Ways.{EndsAndLeaves, Leaves, GoesDown, Obeys, Shows, HasPassed, Ticks}
 use Rattle.radio_core.specs.World.{World}
 use Rattle.radio_core.proofs.Ways.{way_of}
+use Rattle.radio_laws.proofs.ToldTexts.{IsToldFor, ByShowing, ByDoing, told_for}
 use Rattle.radio_laws.specs.Shown.{Seen, seen, is_public, public_live, seen_by_all, LooksAlike, AreAnsweredAlike, AreVisitedAlike, SightIsKept}
 use Rattle.radio_laws.specs.Shown.{HiddenAreLeftOut, HiddenAreNotToldOnTheWeb}
 use Rattle.radio_laws.proofs.WebLaws.{is_on}
@@ -49,34 +50,15 @@ module _ (w : World) (asked : CommandRequest) (listing : Listing) (text : Text) 
       ap (shown w) (sym it)
   shown_so event told (IsAtPath request path is_event on) e = let other = sym is_event ∙ e in cc
 
-  told_by : (event : Event) (o : Outcome) → Way w event o → event ≡ Command asked → o.reply ≡ SaysText text → shown w listing ≡ text
-  told_by event o (Shows _ asker peer told its undecided what) e d = let same : told ≡ text = cc in shown_so event told what e ∙ same
-  told_by event o (Obeys _ command c) e d =
-      let one : Command c.asked ≡ Command asked = sym c.is_event ∙ e in
-      let same : c.asked ≡ asked = cc in
-      let other = sym c.is_asked ∙ ap (λ (a : CommandRequest). a.asked) same ∙ is in
-      cc
-  told_by event o (Misplaced _) e d = cc
-  told_by event o (IsFinished _ him by its known) e d = cc
-  told_by event o (IsDenied _ by v nobody) e d = cc
-  told_by event o (IsRefused _ him by v its undecided) e d = cc
-  told_by event o (IsAdmitted peer allowed) e d = cc
-  told_by event o (Begins request undecided none allowed) e d = cc
-  told_by event o (ComesUp mount shown unfed allowed) e d = cc
-  told_by event o (Receives him mount block feeding) e d = cc
-  told_by event o (SetsTitle him mount title feeding) e d = cc
-  told_by event o (HasPassed ms past) e d = cc
-  told_by event o (Ticks ms past) e d = cc
-  told_by event o (TakesSeat request peer session undecided lands live allowed) e d = cc
-  told_by event o (HandsOut him room seat session sits has live) e d = cc
-  told_by event o (Ends him mount feeding no_relay) e d = cc
-  told_by event o (EndsAndLeaves _ him mount closes feeding) e d = cc
-  told_by event o (Leaves him no_relay other) e d = cc
-  told_by event o (GoesDown him by_rule relay over) e d = cc
-
   is_told : reply_to w (Command asked) ≡ SaysText text → shown w listing ≡ text
-  unfolding reply_to
-  is_told d = told_by (Command asked) (outcome w (Command asked)) (way_of w (Command asked)) refl d
+  is_told d = by_cause (told_for w (Command asked) text d) where
+    by_cause : IsToldFor w (Command asked) text → shown w listing ≡ text
+    by_cause (ByShowing asker peer its undecided what) = shown_so (Command asked) text what refl
+    by_cause (ByDoing command c said) =
+        let one : Command c.asked ≡ Command asked = sym c.is_event in
+        let same : c.asked ≡ asked = cc in
+        let other = sym c.is_asked ∙ ap (λ (a : CommandRequest). a.asked) same ∙ is in
+        cc
 
 -- and one for a path of the web site by what is there
 module _ (w : World) (asked : ListenRequest) (path : WebPath) (text : Text) (on : web_path w.house.settings.web asked.mount ≡ Some path) where
@@ -89,30 +71,11 @@ module _ (w : World) (asked : ListenRequest) (path : WebPath) (text : Text) (on 
       let it : there ≡ path = cc in
       ap (λ (p : WebPath). page_at w p asked.host) (sym it) ∙ ap (λ (r : ListenRequest). page_at w there r.host) (sym same)
 
-  visited_by : (event : Event) (o : Outcome) → Way w event o → event ≡ Listen asked → o.reply ≡ SaysText text → page_at w path asked.host ≡ text
-  visited_by event o (Shows _ asker peer told its undecided what) e d = let same : told ≡ text = cc in page_so event told what e ∙ same
-  visited_by event o (Obeys _ command c) e d = let other = sym c.is_event ∙ e in cc
-  visited_by event o (Misplaced _) e d = cc
-  visited_by event o (IsFinished _ him by its known) e d = cc
-  visited_by event o (IsDenied _ by v nobody) e d = cc
-  visited_by event o (IsRefused _ him by v its undecided) e d = cc
-  visited_by event o (IsAdmitted peer allowed) e d = cc
-  visited_by event o (Begins request undecided none allowed) e d = cc
-  visited_by event o (ComesUp mount shown unfed allowed) e d = cc
-  visited_by event o (Receives him mount block feeding) e d = cc
-  visited_by event o (SetsTitle him mount title feeding) e d = cc
-  visited_by event o (HasPassed ms past) e d = cc
-  visited_by event o (Ticks ms past) e d = cc
-  visited_by event o (TakesSeat request peer session undecided lands live allowed) e d = cc
-  visited_by event o (HandsOut him room seat session sits has live) e d = cc
-  visited_by event o (Ends him mount feeding no_relay) e d = cc
-  visited_by event o (EndsAndLeaves _ him mount closes feeding) e d = cc
-  visited_by event o (Leaves him no_relay other) e d = cc
-  visited_by event o (GoesDown him by_rule relay over) e d = cc
-
   is_visited : reply_to w (Listen asked) ≡ SaysText text → page_at w path asked.host ≡ text
-  unfolding reply_to
-  is_visited d = visited_by (Listen asked) (outcome w (Listen asked)) (way_of w (Listen asked)) refl d
+  is_visited d = by_cause (told_for w (Listen asked) text d) where
+    by_cause : IsToldFor w (Listen asked) text → page_at w path asked.host ≡ text
+    by_cause (ByShowing asker peer its undecided what) = page_so (Listen asked) text what refl
+    by_cause (ByDoing command c said) = let other = sym c.is_event in cc
 
 answered : (w v : World) (listing : Listing) → shown w listing ≡ shown v listing → AreAnsweredAlike w v listing
 answered w v listing same asked other text said is its d e = sym (is_told w asked listing text is d) ∙ same ∙ is_told v other listing said its e

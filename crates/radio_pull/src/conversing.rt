@@ -103,7 +103,8 @@ fn ask_for<S: Applies>(
         × (state ≡ after.state) × (relay.new ≡ record relay.old { number = after.number })) }
 {
     let reply = server.apply(event)?;
-    let state = relay.answer(reply);
+    let state = relay.answer(&reply);
+    drop(reply);
     if let State::Shut(_) = state {
         close(server, relay)?;
     }
@@ -116,7 +117,7 @@ pub fn close<S: Applies>(server: &mut S, relay: &RelayPull) -> Result<(), OutOfM
     ensures { OnOk result (GoesDown S.steps relay.now.number server.old server.new) }
 {
     if let Some(id) = relay.number() {
-        server.apply(Event::RelayDown { id })?;
+        drop(server.apply(Event::RelayDown { id })?);
     }
     Ok(())
 }

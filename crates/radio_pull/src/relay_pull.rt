@@ -117,16 +117,16 @@ impl RelayPull {
     }
 
     /// What the reply to its event makes of it: whether its pull goes on.
-    pub(crate) fn answer(&mut self, reply: Reply) -> State
-        ensures state { result ≡ (answered self.old.number reply).state }
-        ensures number { self.new ≡ record self.old { number = (answered self.old.number reply).number } }
+    pub(crate) fn answer(&mut self, reply: &Reply) -> State
+        ensures state { result ≡ (answered self.old.number reply.now).state }
+        ensures number { self.new ≡ record self.old { number = (answered self.old.number reply.now).number } }
     {
         match reply {
             Reply::Arrived(id) => {
-                self.number = self.number.or(Some(id));
+                self.number = self.number.or(Some(*id));
                 State::Running
             }
-            Reply::Deny(rule) | Reply::Finished(rule) => State::Shut(Ending::By(rule)),
+            Reply::Deny(rule) | Reply::Finished(rule) => State::Shut(Ending::By(*rule)),
             _ => State::Running,
         }
     }

@@ -82,7 +82,7 @@ fn leave_after<S: Applies>(server: &mut S, id: u64, has_left: bool) -> Result<()
     ensures { IfOk result (λ _. LeavesAfter S.steps id has_left server.old server.new) }
 {
     if !has_left {
-        server.apply(Event::Leave { id })?;
+        drop(server.apply(Event::Leave { id })?);
     }
     Ok(())
 }

@@ -5,7 +5,7 @@ ghost use Rattle.std.specs.Option.{option_copied, option_map};
 ghost use Rattle.radio_listing.specs.Listeners.{listeners_text};
 ghost use Rattle.radio_seats.specs.Listed.{lent_guest};
 ghost use Rattle.radio_core.specs.Listings.{shown, public_row, mount_row, mount_rows, listener_row, listener_rows, seconds_since, user_of};
-ghost use Rattle.radio_events.specs.declared.command.Listing.TheVariants.{Status};
+ghost use Rattle.radio_events.specs.declared.command.Listing.TheVariants.{Status, Stats, Mounts, Streams};
 ghost use Rattle.radio_events.specs.declared.text.Text.{Text as TextOf};
 
 use super::state::State;
@@ -34,14 +34,36 @@ impl State {
     {
         match listing {
             Listing::Status => self.status_shown(),
-            Listing::Stats => {
-                let clients = self.house.clients.len() as u64;
-                json(stats(self.alloc, clients, self.mount_rows()?.as_slice())?)
-            }
-            Listing::Mounts => json(list_mounts(self.alloc, self.mount_rows()?.as_slice())?),
+            Listing::Stats => self.stats_shown(),
+            Listing::Mounts => self.mounts_shown(),
             Listing::Clients(mount) => json(self.listeners_shown(mount)?),
-            Listing::Streams => streams(stream_list(self.alloc, self.mount_rows()?.as_slice())?),
+            Listing::Streams => self.streams_shown(),
         }
+    }
+
+    /// What the server does as a whole. `OutOfMemory` where memory was refused.
+    fn stats_shown(&self) -> Result<Text, OutOfMemory>
+        ensures { IfOk result (λ text. text ≡ shown self.now Stats) }
+    {
+        let clients = self.house.clients.len() as u64;
+        let rows = self.mount_rows()?;
+        json(stats(self.alloc, clients, rows.as_slice())?)
+    }
+
+    /// All live mounts. `OutOfMemory` where memory was refused.
+    fn mounts_shown(&self) -> Result<Text, OutOfMemory>
+        ensures { IfOk result (λ text. text ≡ shown self.now Mounts) }
+    {
+        let rows = self.mount_rows()?;
+        json(list_mounts(self.alloc, rows.as_slice())?)
+    }
+
+    /// The mounts that a relay may pull. `OutOfMemory` where memory was refused.
+    fn streams_shown(&self) -> Result<Text, OutOfMemory>
+        ensures { IfOk result (λ text. text ≡ shown self.now Streams) }
+    {
+        let rows = self.mount_rows()?;
+        streams(stream_list(self.alloc, rows.as_slice())?)
     }
 
     /// What everybody may see. `OutOfMemory` where memory was refused.

@@ -1,6 +1,6 @@
 //! What a client is shown whose path is one of the web site's.
 
-ghost use Rattle.std.specs.Prelude.{◌≡◌, IfOk};
+ghost use Rattle.std.specs.Prelude.{◌≡◌, codes, IfOk};
 ghost use Rattle.radio_listing.specs.Icecast.{icecast_text};
 ghost use Rattle.radio_core.specs.Listings.{mount_rows};
 ghost use Rattle.radio_core.specs.Outcomes.{if_undecided};
@@ -23,14 +23,18 @@ impl State {
         ensures { IfOk result (λ o. o ≡ asks_by_path self.now asked) }
     {
         match self.house.settings.web.path(asked.mount.as_slice()) {
-            Some(path) => self.visit(asked, path),
+            Some(path) => {
+                let outcome = self.visit(&asked, path);
+                drop(asked);
+                outcome
+            }
             None => self.listen(asked),
         }
     }
 
     /// A client asks for a path of the web site.
-    fn visit(&self, asked: ListenRequest, path: WebPath) -> Result<Outcome, OutOfMemory>
-        ensures { IfOk result (λ o. o ≡ if_undecided (standing_of self.now asked.id) (λ _. shows_page self.now asked path)) }
+    fn visit(&self, asked: &ListenRequest, path: WebPath) -> Result<Outcome, OutOfMemory>
+        ensures { IfOk result (λ o. o ≡ if_undecided (standing_of self.now asked.now.id) (λ _. shows_page self.now asked.now path)) }
     {
         match self.standing(asked.id) {
             Standing::Undecided(_) => Ok(Outcome {
@@ -69,11 +73,19 @@ impl State {
             listen.address.as_bytes(),
             listen.port.get(),
         )?;
+        Ok(Bytes::from_vec(self.status_at(base.as_slice())?)?)
+    }
+
+    /// What Icecast answers at its status, where this stands before the names of mounts.
+    /// `OutOfMemory` where memory was refused.
+    fn status_at(&self, base: &[u8]) -> Result<Vec<u8>, OutOfMemory>
+        ensures { IfOk result (λ bytes. bytes.items ≡ icecast_text (record { name = codes "radiod"; base_url = base.now }) (mount_rows self.now)) }
+    {
         let server = Server {
             name: Shown::of(b"radiod"),
-            base_url: Shown::of(base.as_slice()),
+            base_url: Shown::of(base),
         };
         let rows = self.mount_rows()?;
-        Ok(Bytes::from_vec(icecast_status(self.alloc, &server, rows.as_slice())?)?)
+        icecast_status(self.alloc, &server, rows.as_slice())
     }
 }

@@ -41,7 +41,9 @@ impl Session {
         ensures fails { OnErr result (self.new.has_failed ≡ true) }
         ensures failed { self.old.has_failed ≡ true → IsErr result }
     {
-        self.tell_reply(&reply, out)
+        let told = self.tell_reply(&reply, out);
+        drop(reply);
+        told
     }
 
     fn tell_reply(&mut self, reply: &Reply, out: &mut Vec<u8>) -> Result<State, OutOfMemory>
