@@ -12,18 +12,19 @@ use Rattle.radio_seats.specs.declared.seat.Seating.{Seating}
 use Rattle.radio_seats.specs.declared.seat.Seating.TheVariants.{Sits as HasSeat, Finished as HasFinished}
 use Rattle.radio_seats.specs.Seats.{listener_of}
 use Rattle.radio_addr.specs.declared.peer.Peer.{Peer}
-use Rattle.radio_core.specs.declared.clients.ClientState.{ClientState}
-use Rattle.radio_core.specs.declared.clients.ClientState.TheVariants.{Undecided, Feeds, Listens, Answered, Ended}
-use Rattle.radio_core.specs.declared.house.House.{House}
+use Rattle.radio_house.specs.declared.clients.ClientState.{ClientState}
+use Rattle.radio_house.specs.declared.clients.ClientState.TheVariants.{Undecided, Feeds, Listens, Answered, Ended}
+use Rattle.radio_house.specs.House.{House}
 use Rattle.radio_events.specs.declared.reply.Reply.{Reply}
 use Rattle.radio_events.specs.declared.reply.Reply.TheVariants.{Noted, Deny, Finished, Stray}
-use Rattle.radio_core.specs.declared.standing.Standing.{Standing}
-use Rattle.radio_core.specs.declared.standing.Standing.TheVariants.{Unknown, Undecided as IsUndecided, Feeds as IsFeeding, Sits}
-use Rattle.radio_core.specs.declared.standing.Standing.TheVariants.{Answered as IsAnswered, Finished as IsFinished}
-use Rattle.radio_core.specs.Changes.{changed, received}
-use Rattle.radio_core.specs.Clients.{Client, client_of}
-use Rattle.radio_core.specs.Relays.{Relay, relay_of}
-use Rattle.radio_core.specs.Facts.{largest_number, live_end, rows_to_push}
+use Rattle.radio_house.specs.declared.standing.Standing.{Standing}
+use Rattle.radio_house.specs.declared.standing.Standing.TheVariants.{Unknown, Undecided as IsUndecided, Feeds as IsFeeding, Sits}
+use Rattle.radio_house.specs.declared.standing.Standing.TheVariants.{Answered as IsAnswered, Finished as IsFinished}
+use Rattle.radio_core.specs.Changes.{changed}
+use Rattle.radio_house.specs.HouseChanges.{received}
+use Rattle.radio_house.specs.Clients.{Client, client_of}
+use Rattle.radio_house.specs.Relays.{Relay, relay_of}
+use Rattle.radio_house.specs.Facts.{largest_number, live_end, rows_to_push}
 use Rattle.radio_core.specs.Outcomes.{says, on_verdict, if_feeding, unless_relayed}
 use Rattle.radio_core.specs.Push.{delivers, takes_in}
 use Rattle.radio_core.specs.declared.outcome.Change.TheVariants.{Nothing, End}
@@ -35,7 +36,7 @@ use Rattle.radio_core.specs.SourceReplies.{unless_spent, to_session, to_data_fro
 use Rattle.radio_core.specs.SourceReplies.{SourcesAreToldByTheirData, EndsAreTold}
 use Rattle.radio_core.specs.Step.{outcome, reply_to, world_after}
 use Rattle.radio_parts.specs.Stream.{end_of}
-use Rattle.radio_core.specs.World.{World, standing_of, has_relay, standing_in, standing_by, standing_seated, standing_of_listener}
+use Rattle.radio_house.specs.World.{World, standing_of, has_relay, standing_in, standing_by, standing_seated, standing_of_listener}
 
 -- the first that is sought, after a change of it
 find-updated : {X : Type 0} (p : X → Bool) (f : X → X) → ((x : X) → p (f x) ≡ p x) → (xs : List X) → find p (update_first p f xs) ≡ option_map f (find p xs)
