@@ -19,7 +19,7 @@ use std::marker::Model;
 /// The house, and the table of those who listen in it. Contracts see it as a `World` in which of
 /// each stream the last blocks are kept. Each live mount is prepared for listeners.
 #[derive(Drop)]
-pub(crate) struct State {
+pub(super) struct State {
     pub(super) alloc: Global,
     pub(super) house: House,
     pub(super) seats: Seats,
