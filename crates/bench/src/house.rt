@@ -4,7 +4,7 @@
 
 ghost use Rattle.std.specs.Prelude.{◌≡◌, ◌^◌};
 ghost use Rattle.radio_access.specs.Lists.{no_lists};
-ghost use Rattle.radio_core.specs.World.{opening};
+ghost use Rattle.radio_house.specs.World.{opening};
 
 use crate::lines::{write_line, write_named};
 use crate::times::{Measured, Work, nanos_each, time_turns, write_ratio};

@@ -5,7 +5,7 @@
 
 ghost use Rattle.std.specs.Prelude.{◌≡◌, ◌^◌};
 ghost use Rattle.radio_access.specs.Lists.{no_lists};
-ghost use Rattle.radio_core.specs.World.{opening};
+ghost use Rattle.radio_house.specs.World.{opening};
 
 use crate::house::{Answers, Caller, draw_all, open_station, push, station_settings};
 use crate::lines::write_line;

@@ -1,6 +1,6 @@
 -- A book, as its callers see it.
 use Rattle.std.specs.Prelude.{List}
-use Rattle.radio_core.specs.World.{World}
+use Rattle.radio_house.specs.World.{World}
 use Rattle.radio_book.specs.declared.entry.Entry.{Entry}
 
 -- the core, and the entries that are stored

@@ -1,6 +1,6 @@
 -- What a history counts up to.
 use Rattle.std.specs.Prelude.{◌≡◌, ℕ, ◌+◌, List, [], ◌∷◌, sum_by}
-use Rattle.radio_core.specs.World.{World}
+use Rattle.radio_house.specs.World.{World}
 use Rattle.radio_core.specs.Step.{world_after}
 use Rattle.radio_core.specs.Totals.{arrivals, departures, relays_up, relays_down, seatings, listeners_leaving, clients_there, relays_there, seats_there, seats_lost}
 use Rattle.radio_book.specs.declared.entry.Entry.{Entry}

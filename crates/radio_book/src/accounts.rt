@@ -1,7 +1,7 @@
 //! What happened, and what is owed.
 
 ghost use Rattle.std.specs.Prelude.{◌≡◌, ◌+◌, ◌≤◌, ◌<◌, ◌^◌, ◌∷◌, [], ◌++◌, ℕ, length, true, false, IsOk, IfOk, IfSome, OnOk, OnErr, vec_len, vec_capacity};
-ghost use Rattle.radio_core.specs.World.{World};
+ghost use Rattle.radio_house.specs.World.{World};
 ghost use Rattle.radio_core.specs.Step.{Represents, reply_to, world_after};
 ghost use Rattle.radio_events.specs.Events.{TakesNoMemory};
 ghost use Rattle.radio_book.specs.History.{entry_of};

@@ -1,7 +1,7 @@
 //! A core whose events are noted.
 
 ghost use Rattle.std.specs.Prelude.{◌≡◌, ◌<◌, ◌^◌, ◌∷◌, [], ◌++◌, ℕ, length, true, false, IsOk, IfOk, IfSome, OnErr};
-ghost use Rattle.radio_core.specs.World.{World, opening};
+ghost use Rattle.radio_house.specs.World.{World, opening};
 ghost use Rattle.radio_core.specs.Step.{Represents, reply_to, world_after};
 ghost use Rattle.radio_events.specs.Events.{TakesNoMemory};
 ghost use Rattle.radio_book.specs.History.{IsLegal, IsTold, entry_of};

@@ -7,7 +7,7 @@ use std::sync::ledger::Ledger;
 /// of the ends that it owes to those who let clients in. It stands in contracts alone; a call at
 /// `Brand` picks one.
 pub trait House: Ledger {
-    ghost use Rattle.radio_core.specs.World.{World};
+    ghost use Rattle.radio_house.specs.World.{World};
 
     ghost opening: { World };
 }
@@ -15,7 +15,7 @@ pub trait House: Ledger {
 impl House for Brand {
     ghost use Rattle.toml.specs.Data.{no_members};
     ghost use Rattle.radio_access.specs.Lists.{no_lists};
-    ghost use Rattle.radio_core.specs.World.{opening as opening_of};
+    ghost use Rattle.radio_house.specs.World.{opening as opening_of};
     ghost use Rattle.radio_settings.specs.Document.{settings_of};
 
     ghost opening = { opening_of (settings_of no_members) no_lists };

@@ -1,7 +1,7 @@
 //! A core, and what happened to it.
 
 ghost use Rattle.std.specs.Prelude.{◌≡◌, ◌+◌, ◌≤◌, ◌<◌, ◌∷◌, [], ◌++◌, ℕ, true, false, IsOk, IfOk, OnErr};
-ghost use Rattle.radio_core.specs.World.{World};
+ghost use Rattle.radio_house.specs.World.{World};
 ghost use Rattle.radio_core.specs.Step.{Represents, reply_to, world_after};
 ghost use Rattle.radio_events.specs.Events.{TakesNoMemory};
 ghost use Rattle.radio_book.specs.History.{IsTold, entry};

@@ -9,8 +9,9 @@ use Rattle.radio_policy.specs.Verdicts.{verdict_in}
 use Rattle.radio_events.specs.declared.command.Asked.{Asked}
 use Rattle.radio_events.specs.declared.command.Command.{Command}
 use Rattle.radio_events.specs.declared.event.Event.{Event}
-use Rattle.radio_core.specs.CommandFacts.{IsCommanded, facts_asked, needs_of, opened_by, opener_in, opens}
-use Rattle.radio_core.specs.World.{World}
+use Rattle.radio_core.specs.Allowed.{IsCommanded}
+use Rattle.radio_house.specs.CommandFacts.{facts_asked, needs_of, opened_by, opener_in, opens}
+use Rattle.radio_house.specs.World.{World}
 
 -- a pair that opens it was sent, and the rows behind allow it
 pub past_sent : (rule : Rule) (sent : Bool) (rows : List Row) → verdict_in (row rule (not sent) ∷ rows) ≡ Allow → (sent ≡ true) × (verdict_in rows ≡ Allow)

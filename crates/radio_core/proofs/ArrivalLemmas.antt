@@ -8,25 +8,26 @@ use Rattle.radio_tables.proofs.KeyLaws.{by_number}
 use Rattle.radio_events.specs.declared.command.Command.{Command}
 use Rattle.radio_events.specs.declared.command.Command.TheVariants.{MoveClients, KillClient, KillSource, SetTitle, SetFallback}
 use Rattle.radio_events.specs.declared.event.Event.{Event}
-use Rattle.radio_core.specs.declared.clients.ClientState.{ClientState}
-use Rattle.radio_core.specs.declared.clients.ClientState.TheVariants.{Undecided as IsNew, Feeds as IsSource, Listens, Answered as HasHisAnswer}
+use Rattle.radio_house.specs.declared.clients.ClientState.{ClientState}
+use Rattle.radio_house.specs.declared.clients.ClientState.TheVariants.{Undecided as IsNew, Feeds as IsSource, Listens, Answered as HasHisAnswer}
 use Rattle.radio_core.specs.declared.outcome.Outcome.{Outcome}
 use Rattle.radio_core.specs.declared.outcome.Change.TheVariants.{Admit, Obey}
-use Rattle.radio_core.specs.declared.standing.Standing.TheVariants.{Unknown}
-use Rattle.radio_core.specs.declared.house.House.{House}
-use Rattle.radio_core.specs.Source.{shown_for}
-use Rattle.radio_core.specs.Changes.{answered, session_killed, changed, begun, raised, before_silence, session_silenced, silent_in, ticked}
+use Rattle.radio_house.specs.declared.standing.Standing.TheVariants.{Unknown}
+use Rattle.radio_house.specs.House.{House}
+use Rattle.radio_house.specs.Streams.{shown_for}
+use Rattle.radio_core.specs.Changes.{answered, session_killed, changed, before_silence, session_silenced, silent_in, ticked}
+use Rattle.radio_house.specs.HouseChanges.{begun, raised}
 use Rattle.radio_core.specs.ClientSteps.{ArrivalsStay}
-use Rattle.radio_core.specs.Clients.{Client, client_of, with_state, in_state, without_client}
+use Rattle.radio_house.specs.Clients.{Client, client_of, with_state, in_state, without_client}
 use Rattle.radio_parts.specs.Sessions.{Session, session_of}
 use Rattle.radio_core.specs.Sound.{IsSound}
 use Rattle.radio_core.specs.Step.{outcome, world_after}
-use Rattle.radio_core.specs.Timeouts.{timed_out}
+use Rattle.radio_house.specs.Timeouts.{timed_out}
 use Rattle.radio_core.specs.Ways.{Way, Misplaced, IsFinished, IsDenied, IsRefused, IsAdmitted, Begins, ComesUp, Receives, SetsTitle, TakesSeat, HandsOut, Ends}
 use Rattle.radio_core.specs.Ways.{EndsAndLeaves, Leaves, GoesDown, Obeys, Shows, HasPassed, Ticks}
-use Rattle.radio_core.specs.World.{World, standing_of}
+use Rattle.radio_house.specs.World.{World, standing_of}
 use Rattle.radio_core.proofs.CalledHome.{house_called}
-use Rattle.radio_core.proofs.Lookups.{does, still_none, beside_state, is_no_client, beside_forgotten, beside_new}
+use Rattle.radio_house.proofs.Lookups.{does, still_none, beside_state, is_no_client, beside_forgotten, beside_new}
 use Rattle.radio_core.proofs.TickLemmas.{clients_after}
 use Rattle.radio_core.proofs.Standings.{no_client_there}
 use Rattle.radio_core.proofs.Ways.{way_of}

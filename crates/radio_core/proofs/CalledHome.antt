@@ -15,15 +15,16 @@ use Rattle.radio_fallback.specs.declared.moves.Turn.TheVariants.{GoesTo}
 use Rattle.radio_fallback.specs.Carry.{at_his_turn}
 use Rattle.radio_fallback.proofs.Faring.{comes_home, never_out}
 use Rattle.radio_core.specs.declared.outcome.Change.TheVariants.{Begin, Raise}
-use Rattle.radio_core.specs.declared.standing.Standing.TheVariants.{Undecided, Feeds}
+use Rattle.radio_house.specs.declared.standing.Standing.TheVariants.{Undecided, Feeds}
 use Rattle.radio_addr.specs.declared.peer.Peer.{Peer}
 use Rattle.radio_settings.specs.declared.field.Shown.{Shown}
-use Rattle.radio_core.specs.Changes.{changed, begun, raised, carried_along, called_home}
-use Rattle.radio_core.specs.Facts.{sight_of}
+use Rattle.radio_core.specs.Changes.{changed, carried_along, called_home}
+use Rattle.radio_house.specs.HouseChanges.{begun, raised}
+use Rattle.radio_house.specs.Facts.{sight_of}
 use Rattle.radio_core.specs.Moves.{his_turn, moved_into}
 use Rattle.radio_parts.specs.Sessions.{Session, session_of}
 use Rattle.radio_core.specs.Sound.{IsSound}
-use Rattle.radio_core.specs.World.{World, standing_of}
+use Rattle.radio_house.specs.World.{World, standing_of}
 use Rattle.radio_core.proofs.CarriedFates.{order_carried, carried_fate}
 use Rattle.radio_core.proofs.SoundSessions.{sound_begun, sound_raised}
 use Rattle.radio_core.proofs.Standings.{Turns, asks, turns_feeding, turns_raised}

@@ -15,17 +15,17 @@ use Rattle.radio_fallback.specs.Carry.{concerns}
 use Rattle.radio_fallback.specs.Fares.{seat_at_end}
 use Rattle.radio_fallback.proofs.FaresLemmas.{numbers_kept}
 use Rattle.radio_fallback.proofs.Faring.{Faring, HasStayed, HasGone, HasLost, fares}
-use Rattle.radio_core.specs.declared.house.House.{House}
-use Rattle.radio_core.specs.declared.standing.Standing.TheVariants.{Sits}
+use Rattle.radio_house.specs.House.{House}
+use Rattle.radio_house.specs.declared.standing.Standing.TheVariants.{Sits}
 use Rattle.radio_core.specs.Changes.{carried_along}
-use Rattle.radio_core.specs.Clients.{Client, client_of}
-use Rattle.radio_core.specs.Relays.{Relay, relay_of}
-use Rattle.radio_core.specs.Facts.{sight_of, live_end}
+use Rattle.radio_house.specs.Clients.{Client, client_of}
+use Rattle.radio_house.specs.Relays.{Relay, relay_of}
+use Rattle.radio_house.specs.Facts.{sight_of, live_end}
 use Rattle.radio_core.specs.Moves.{his_turn, moved_into}
 use Rattle.radio_parts.specs.Sessions.{Session, session_of}
 use Rattle.radio_core.specs.Sound.{IsSound}
 use Rattle.radio_parts.specs.Stream.{end_of}
-use Rattle.radio_core.specs.World.{World, standing_of, standing_in}
+use Rattle.radio_house.specs.World.{World, standing_of, standing_in}
 use Rattle.radio_core.proofs.Fates.{Fate, IsEnded, IsMoved, lost_in, active_sitter}
 use Rattle.radio_parts.proofs.SessionLookups.{found_named}
 use Rattle.radio_parts.proofs.NumberOrder.{same_order}

@@ -8,14 +8,14 @@ use Rattle.radio_events.specs.declared.event.Event.TheVariants.{Arrive, Push, So
 use Rattle.radio_events.specs.declared.reply.Reply.TheVariants.{Arrived, Deny}
 use Rattle.radio_events.specs.Events.{client_in}
 use Rattle.radio_core.specs.declared.outcome.Outcome.{Outcome}
-use Rattle.radio_core.specs.declared.standing.Standing.{Standing}
-use Rattle.radio_core.specs.declared.standing.Standing.TheVariants.{Unknown, Undecided, Feeds, Finished as HasFinished}
+use Rattle.radio_house.specs.declared.standing.Standing.{Standing}
+use Rattle.radio_house.specs.declared.standing.Standing.TheVariants.{Unknown, Undecided, Feeds, Finished as HasFinished}
 use Rattle.radio_core.specs.Changes.{changed, taken_in}
 use Rattle.radio_core.specs.ClientSteps.{ClientStep, Stays, Arrives, IsAnswered, IsObeyed, IsShown, BeginsToFeed, SitsDown, StopsFeeding, ClientsStep}
 use Rattle.radio_core.specs.ClientSteps.{Leaves as HeLeaves, ComesUp as ItComesUp, GoesDown as ItGoesDown, IsFinished as HeIsFinished}
 use Rattle.radio_core.specs.Finishes.{Cause, Finishes}
 use Rattle.radio_core.specs.Listen.{first_seat}
-use Rattle.radio_core.specs.Facts.{rows_to_raise}
+use Rattle.radio_house.specs.Facts.{rows_to_raise}
 use Rattle.radio_core.specs.Others.{StandsOn, HasCome, AsClient, AsRelay}
 use Rattle.radio_core.specs.Outcomes.{on_verdict}
 use Rattle.radio_core.specs.RelayUp.{raises}
@@ -24,11 +24,11 @@ use Rattle.radio_policy.specs.declared.judgement.Verdict.{Verdict}
 use Rattle.radio_policy.specs.declared.judgement.Verdict.TheVariants.{Allow, Deny as Denied}
 use Rattle.radio_policy.specs.Verdicts.{verdict_in}
 use Rattle.radio_core.specs.Sound.{IsSound}
-use Rattle.radio_core.specs.Source.{shown_for}
+use Rattle.radio_house.specs.Streams.{shown_for}
 use Rattle.radio_core.specs.Step.{outcome, reply_to, world_after}
 use Rattle.radio_core.specs.Ways.{Way, Misplaced, IsFinished, IsDenied, IsRefused, IsAdmitted, Begins, ComesUp, Receives, SetsTitle, TakesSeat, HandsOut, Ends}
 use Rattle.radio_core.specs.Ways.{EndsAndLeaves, Leaves, GoesDown, Obeys, Shows, HasPassed, Ticks}
-use Rattle.radio_core.specs.World.{World, standing_of, has_relay}
+use Rattle.radio_house.specs.World.{World, standing_of, has_relay}
 use Rattle.radio_seats.proofs.SeatLaws.{listener_seated}
 use Rattle.radio_core.proofs.CalledHome.{turns_up}
 use Rattle.radio_core.proofs.ClosingLemmas.{closes_his, leaves_or_goes_down}

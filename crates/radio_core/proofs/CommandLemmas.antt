@@ -3,11 +3,12 @@ use Rattle.std.proofs.Common.{◌≡◌, ℕ, Option, None, Some, List, refl, ap
 use Rattle.radio_policy.specs.declared.rule.Rule.TheVariants.{SourceKilled}
 use Rattle.radio_events.specs.declared.command.Command.{Command}
 use Rattle.radio_events.specs.declared.command.Command.TheVariants.{MoveClients, KillClient, KillSource, SetTitle, SetFallback}
-use Rattle.radio_core.specs.declared.house.House.{House}
+use Rattle.radio_house.specs.House.{House}
 use Rattle.radio_core.specs.declared.outcome.Change.TheVariants.{Obey}
-use Rattle.radio_core.specs.Changes.{answered, changed, finished_in, session_ended, session_killed}
+use Rattle.radio_core.specs.Changes.{answered, changed, session_ended, session_killed}
+use Rattle.radio_house.specs.HouseChanges.{finished_in}
 use Rattle.radio_parts.specs.Sessions.{Session, session_of}
-use Rattle.radio_core.specs.World.{World}
+use Rattle.radio_house.specs.World.{World}
 use Rattle.radio_parts.proofs.SessionLookups.{found_named}
 
 -- its source has the number that it has, and its mount the name

@@ -4,16 +4,16 @@ use Rattle.std.specs.Prelude.{nat_lt}
 use Rattle.std.specs.Option.{option_map}
 use Rattle.radio_tables.specs.Lists.{Each}
 use Rattle.radio_tables.proofs.FindLaws.{found_has}
-use Rattle.radio_core.specs.declared.standing.Standing.{Standing}
-use Rattle.radio_core.specs.declared.standing.Standing.TheVariants.{Unknown, Undecided, Feeds, Sits, Answered, Finished}
+use Rattle.radio_house.specs.declared.standing.Standing.{Standing}
+use Rattle.radio_house.specs.declared.standing.Standing.TheVariants.{Unknown, Undecided, Feeds, Sits, Answered, Finished}
 use Rattle.radio_core.specs.CoreReplies.{CoresGoByTheirStates}
-use Rattle.radio_core.specs.Facts.{largest_number}
+use Rattle.radio_house.specs.Facts.{largest_number}
 use Rattle.radio_parts.specs.Kept.{kept_session}
 use Rattle.radio_core.specs.Kept.{kept_of}
 use Rattle.radio_parts.specs.Sessions.{Session, is_of, session_of, HasRisingStarts}
 use Rattle.radio_core.specs.SourceReplies.{to_data, to_data_from, to_session, to_end, unless_spent}
 use Rattle.radio_core.specs.Step.{Represents}
-use Rattle.radio_core.specs.World.{World, standing_of}
+use Rattle.radio_house.specs.World.{World, standing_of}
 use Rattle.radio_parts.proofs.KeptLists.{kept_found}
 use Rattle.radio_parts.proofs.KeptStreams.{kept_end}
 

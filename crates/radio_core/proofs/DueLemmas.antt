@@ -12,28 +12,31 @@ use Rattle.radio_seats.specs.declared.seat.Listener.{Listener}
 use Rattle.radio_seats.specs.Seats.{is_listener, by_listener, seated, advanced, loses, holds_of, finished_if, with_ended}
 use Rattle.radio_events.specs.declared.command.Command.{Command}
 use Rattle.radio_events.specs.declared.command.Command.TheVariants.{MoveClients, KillClient, KillSource, SetTitle as NewTitle, SetFallback}
-use Rattle.radio_core.specs.declared.clients.ClientState.{ClientState}
-use Rattle.radio_core.specs.declared.clients.ClientState.TheVariants.{Undecided, Feeds, Listens, Answered, Ended}
+use Rattle.radio_house.specs.declared.clients.ClientState.{ClientState}
+use Rattle.radio_house.specs.declared.clients.ClientState.TheVariants.{Undecided, Feeds, Listens, Answered, Ended}
 use Rattle.radio_core.specs.declared.outcome.Change.{Change}
 use Rattle.radio_core.specs.declared.outcome.Change.TheVariants.{Nothing, Answer, Admit, Begin, Raise, Receive, SetTitle, TakeSeat, Advance, End}
 use Rattle.radio_core.specs.declared.outcome.Change.TheVariants.{EndAndLeave, Forget, Tick, Obey}
 use Rattle.radio_fallback.specs.declared.moves.Move.{Move}
 use Rattle.radio_fallback.specs.declared.moves.Move.TheVariants.{Ended as SessionEnds, Up, To}
 use Rattle.radio_fallback.proofs.Faring.{each_carried}
-use Rattle.radio_core.specs.Changes.{answered, done, session_ended_by, session_killed, begun, raised, carried_along, session_over, session_ended, called_home, client_gone, before_silence}
+use Rattle.radio_core.specs.Changes.{answered, done, session_ended_by, session_killed, carried_along, session_over, session_ended, called_home, client_gone, before_silence}
+use Rattle.radio_house.specs.HouseChanges.{begun, raised}
 use Rattle.radio_core.specs.Changes.{session_silenced, silent_in, ticked}
-use Rattle.radio_core.specs.Clients.{Client, newcomer, is_client, by_number, with_state, in_state}
+use Rattle.radio_house.specs.Clients.{Client, newcomer, is_client, by_number, with_state, in_state}
 use Rattle.radio_parts.specs.Due.{last_moment, due_at, listener_due, session_due, earliest}
-use Rattle.radio_core.specs.Due.{due_in_state, client_due, IsDueFrom, first_due, due_by, at_moment}
-use Rattle.radio_core.specs.Facts.{live_end, sight_of}
+use Rattle.radio_house.specs.Due.{due_in_state, client_due, first_due}
+use Rattle.radio_core.specs.Due.{IsDueFrom, due_by, at_moment}
+use Rattle.radio_house.specs.Facts.{live_end, sight_of}
 use Rattle.radio_parts.specs.Kept.{longer_kept}
-use Rattle.radio_core.specs.KeptChanges.{kept_changed, kept_received}
+use Rattle.radio_core.specs.KeptChanges.{kept_changed}
+use Rattle.radio_house.specs.HouseChanges.{kept_received}
 use Rattle.radio_parts.specs.Sessions.{Session, session_of, is_of, by_mount, opened, with_title}
 use Rattle.radio_parts.specs.Timeouts.{lags_behind, has_sat_out, is_silent}
-use Rattle.radio_core.specs.Timeouts.{asks_nothing, asks_too_late, timed_out}
+use Rattle.radio_house.specs.Timeouts.{asks_nothing, asks_too_late, timed_out}
 use Rattle.radio_parts.proofs.DueLemmas.{not_yet, has_not_sat_out, from_earliest, due_by_last, duration_by_last, ended_due, heard_due, moved_due, lost_due}
 use Rattle.radio_parts.proofs.SilentSessions.{none_pass}
-use Rattle.radio_core.specs.World.{World}
+use Rattle.radio_house.specs.World.{World}
 
 -- before it is due, nothing has had its time
 

@@ -6,15 +6,15 @@ use Rattle.radio_events.specs.declared.event.Event.{Event}
 use Rattle.radio_events.specs.declared.event.Event.TheVariants.{Push, SourceEnd, Clock}
 use Rattle.radio_tables.proofs.KeyLaws.{by_number}
 use Rattle.radio_events.specs.declared.command.Command.{Command}
-use Rattle.radio_core.specs.CommandFacts.{IsCommanded}
+use Rattle.radio_core.specs.Allowed.{IsCommanded}
 use Rattle.radio_core.specs.declared.outcome.Change.TheVariants.{End, EndAndLeave, Obey}
 use Rattle.radio_core.specs.declared.outcome.Outcome.{Outcome}
 use Rattle.radio_events.specs.declared.reply.Reply.{Reply}
 use Rattle.radio_events.specs.declared.reply.Reply.TheVariants.{Arrived}
-use Rattle.radio_core.specs.declared.standing.Standing.{Standing}
-use Rattle.radio_core.specs.declared.standing.Standing.TheVariants.{Unknown, Undecided, Feeds, Sits, Answered, Finished}
+use Rattle.radio_house.specs.declared.standing.Standing.{Standing}
+use Rattle.radio_house.specs.declared.standing.Standing.TheVariants.{Unknown, Undecided, Feeds, Sits, Answered, Finished}
 use Rattle.radio_access.specs.Lists.{passes}
-use Rattle.radio_core.specs.World.{World, standing_of}
+use Rattle.radio_house.specs.World.{World, standing_of}
 use Rattle.radio_core.specs.Changes.{changed, taken_in, ticked}
 use Rattle.radio_core.specs.Finishes.{Cause}
 use Rattle.radio_core.specs.Moves.{TakesTo}
@@ -23,7 +23,7 @@ use Rattle.radio_seats.specs.declared.seat.Seat.{Seat}
 use Rattle.radio_seats.specs.Seats.{seat_of}
 use Rattle.radio_parts.specs.Sessions.{Session}
 use Rattle.radio_core.specs.Sound.{IsSound}
-use Rattle.radio_core.specs.Source.{shown_for}
+use Rattle.radio_house.specs.Streams.{shown_for}
 use Rattle.radio_core.specs.Step.{outcome, reply_to, world_after}
 use Rattle.radio_core.specs.Ways.{Way, Misplaced, IsFinished, IsDenied, IsRefused, IsAdmitted, Begins, ComesUp, Receives, SetsTitle, TakesSeat, HandsOut, Ends}
 use Rattle.radio_core.specs.Ways.{EndsAndLeaves, Leaves, GoesDown, Obeys, Shows, HasPassed, Ticks}

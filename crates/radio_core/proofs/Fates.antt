@@ -7,17 +7,17 @@ use Rattle.radio_seats.specs.declared.seat.Seat.{Seat}
 use Rattle.radio_seats.specs.declared.seat.Seating.TheVariants.{Finished as HasLostIt}
 use Rattle.radio_seats.proofs.EndLaws.{LosesSeat, same_or_loses}
 use Rattle.radio_seats.specs.Seats.{listener_of, seat_of, seat_in, with_ended, AreByNumber}
-use Rattle.radio_core.specs.declared.clients.ClientState.{ClientState}
-use Rattle.radio_core.specs.declared.clients.ClientState.TheVariants.{Undecided as IsNew, Feeds as IsSource, Listens, Answered as HasHisAnswer, Ended}
-use Rattle.radio_core.specs.declared.standing.Standing.{Standing}
-use Rattle.radio_core.specs.declared.standing.Standing.TheVariants.{Unknown, Undecided, Feeds, Sits, Answered, Finished}
-use Rattle.radio_core.specs.Clients.{Client, client_of}
-use Rattle.radio_core.specs.Relays.{Relay, relay_of}
+use Rattle.radio_house.specs.declared.clients.ClientState.{ClientState}
+use Rattle.radio_house.specs.declared.clients.ClientState.TheVariants.{Undecided as IsNew, Feeds as IsSource, Listens, Answered as HasHisAnswer, Ended}
+use Rattle.radio_house.specs.declared.standing.Standing.{Standing}
+use Rattle.radio_house.specs.declared.standing.Standing.TheVariants.{Unknown, Undecided, Feeds, Sits, Answered, Finished}
+use Rattle.radio_house.specs.Clients.{Client, client_of}
+use Rattle.radio_house.specs.Relays.{Relay, relay_of}
 use Rattle.radio_core.specs.Moves.{moved_into}
 use Rattle.radio_parts.specs.Sessions.{Session, session_of, AreApart}
 use Rattle.radio_core.specs.Sound.{IsSeatedIn, IsSound}
-use Rattle.radio_core.specs.Timeouts.{asks_too_late}
-use Rattle.radio_core.specs.World.{World, standing_of, standing_in, standing_by}
+use Rattle.radio_house.specs.Timeouts.{asks_too_late}
+use Rattle.radio_house.specs.World.{World, standing_of, standing_in, standing_by}
 use Rattle.radio_parts.proofs.NumberOrder.{order_ended}
 use Rattle.radio_core.proofs.Standings.{no_relay_sits}
 

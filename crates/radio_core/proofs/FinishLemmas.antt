@@ -4,17 +4,17 @@ use Rattle.radio_policy.specs.declared.rule.Rule.{Rule}
 use Rattle.radio_addr.specs.declared.peer.Peer.{Peer}
 use Rattle.radio_access.specs.Lists.{passes}
 use Rattle.radio_tables.proofs.KeyLaws.{by_number}
-use Rattle.radio_core.specs.Clients.{Client}
-use Rattle.radio_core.specs.Relays.{Relay, relay_of}
-use Rattle.radio_core.specs.declared.clients.ClientState.TheVariants.{Undecided as IsNew}
+use Rattle.radio_house.specs.Clients.{Client}
+use Rattle.radio_house.specs.Relays.{Relay, relay_of}
+use Rattle.radio_house.specs.declared.clients.ClientState.TheVariants.{Undecided as IsNew}
 use Rattle.radio_seats.specs.declared.seat.Listener.{Listener}
 use Rattle.radio_seats.specs.declared.seat.Seat.{Seat}
 use Rattle.radio_events.specs.declared.event.Event.{Event}
 use Rattle.radio_core.specs.declared.outcome.Outcome.{Outcome}
 use Rattle.radio_events.specs.declared.reply.Reply.TheVariants.{Arrived, Finished}
-use Rattle.radio_core.specs.declared.standing.Standing.{Standing}
-use Rattle.radio_core.specs.declared.standing.Standing.TheVariants.{Unknown, Undecided, Feeds, Sits, Answered, Finished as HasFinished}
-use Rattle.radio_core.specs.World.{World, standing_of, standing_in}
+use Rattle.radio_house.specs.declared.standing.Standing.{Standing}
+use Rattle.radio_house.specs.declared.standing.Standing.TheVariants.{Unknown, Undecided, Feeds, Sits, Answered, Finished as HasFinished}
+use Rattle.radio_house.specs.World.{World, standing_of, standing_in}
 use Rattle.radio_core.specs.Finishes.{Cause, SessionIsOver, IsFarBehind, HasSatOut, HasAskedNothing, HasSentNothing, IsKilled, HisSessionIsKilled, Finishes}
 use Rattle.radio_core.specs.Others.{StandsOn, OthersStandOn}
 use Rattle.radio_seats.specs.Seats.{listener_of, seat_of}

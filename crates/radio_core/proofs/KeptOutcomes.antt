@@ -27,7 +27,7 @@ use Rattle.radio_events.specs.declared.event.Event.{Event}
 use Rattle.radio_events.specs.declared.event.Event.TheVariants.{Arrive, Source, Push, SourceEnd, Title, Listen, Draw, Command, Leave}
 use Rattle.radio_events.specs.declared.event.Event.TheVariants.{RelayUp, RelayDown, Clock}
 use Rattle.radio_settings.specs.declared.field.Shown.{Shown}
-use Rattle.radio_core.specs.declared.house.House.{House}
+use Rattle.radio_house.specs.House.{House}
 use Rattle.radio_core.specs.declared.outcome.Change.TheVariants.{Nothing, Answer, TakeSeat, Advance, Obey}
 use Rattle.radio_core.specs.declared.outcome.Outcome.{Outcome}
 use Rattle.radio_events.specs.declared.reply.Reply.TheVariants.{Seated, Drawn, Text as SaysText}
@@ -44,15 +44,16 @@ use Rattle.radio_fallback.specs.declared.moves.Carried.{Carried}
 use Rattle.radio_fallback.specs.declared.moves.Move.TheVariants.{To}
 use Rattle.radio_fallback.specs.Carry.{carried}
 use Rattle.radio_core.specs.Command.{said_of, does_asked, gives_command}
-use Rattle.radio_core.specs.CommandFacts.{sits_at, needs_of, facts_for, facts_asked, access_to, needs_to_list, opened_by, rows_to_command}
+use Rattle.radio_house.specs.CommandFacts.{sits_at, needs_of, facts_for, facts_asked, access_to, needs_to_list, opened_by, rows_to_command}
 use Rattle.radio_core.specs.Counts.{counts_by}
 use Rattle.radio_core.specs.Draw.{hands_out, hands_out_at}
 use Rattle.radio_fallback.specs.declared.walking.Landing.{Landing}
 use Rattle.radio_fallback.specs.declared.walking.Landing.TheVariants.{Lands, Stops}
-use Rattle.radio_core.specs.Facts.{largest_number, is_full, is_in_settings, sight_of, walks_to, source_facts, relay_facts, listen_facts, names_mount}
+use Rattle.radio_house.specs.Facts.{largest_number, is_full, is_in_settings, sight_of, walks_to, source_facts, relay_facts, listen_facts, names_mount}
 use Rattle.radio_parts.specs.Kept.{kept_session}
 use Rattle.radio_core.specs.Kept.{kept_of}
-use Rattle.radio_core.specs.Listen.{burst_of, head_of, interval_for, first_seat, takes_seat, sits_where}
+use Rattle.radio_house.specs.Streams.{burst_of, head_of, interval_for}
+use Rattle.radio_core.specs.Listen.{first_seat, takes_seat, sits_where}
 use Rattle.radio_core.specs.Outcomes.{says, on_verdict, if_undecided, if_feeding, if_sitting}
 use Rattle.radio_core.specs.Push.{takes_in}
 use Rattle.radio_parts.specs.Sessions.{Session, is_of, session_of, HasRisingStarts}
@@ -60,7 +61,7 @@ use Rattle.radio_core.specs.Source.{begins}
 use Rattle.radio_core.specs.RelayUp.{raises}
 use Rattle.radio_core.specs.StandsFor.{SeatsAreKept}
 use Rattle.radio_core.specs.Step.{outcome}
-use Rattle.radio_core.specs.World.{World, standing_of}
+use Rattle.radio_house.specs.World.{World, standing_of}
 use Rattle.radio_parts.proofs.KeptStreams.{kept_data, kept_burst}
 use Rattle.radio_parts.proofs.KeptLists.{kept_found, kept_ends}
 use Rattle.radio_core.proofs.KeptSights.{has_session, same_sight}

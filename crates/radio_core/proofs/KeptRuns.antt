@@ -17,7 +17,7 @@ use Rattle.radio_core.specs.Sound.{IsSound}
 use Rattle.radio_core.specs.StandsFor.{SeatsAreKept}
 use Rattle.radio_core.specs.Step.{outcome, world_after}
 use Rattle.radio_parts.specs.Stream.{end_of}
-use Rattle.radio_core.specs.World.{World, opening}
+use Rattle.radio_house.specs.World.{World, opening}
 use Rattle.radio_parts.proofs.KeptLists.{kept_found}
 use Rattle.radio_core.proofs.KeptSeats.{HoldsOn, each_after, settings_stay}
 use Rattle.radio_parts.proofs.KeptStreams.{kept_end, kept_within, kept_still, burst_is_kept, burst_is_near}

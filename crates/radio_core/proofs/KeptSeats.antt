@@ -31,20 +31,22 @@ use Rattle.radio_fallback.specs.declared.moves.Move.{Move}
 use Rattle.radio_fallback.specs.declared.moves.Move.TheVariants.{Ended as SessionEnds, Up, To}
 use Rattle.radio_fallback.specs.Fares.{seat_at_end}
 use Rattle.radio_fallback.proofs.Faring.{Faring, HasStayed, HasGone, HasLost, fares}
-use Rattle.radio_core.specs.declared.house.House.{House}
-use Rattle.radio_core.specs.Changes.{answered, session_killed, changed, begun, raised, received, carried_along, session_over, session_ended, called_home}
+use Rattle.radio_house.specs.House.{House}
+use Rattle.radio_core.specs.Changes.{answered, session_killed, changed, carried_along, session_over, session_ended, called_home}
+use Rattle.radio_house.specs.HouseChanges.{begun, raised, received}
 use Rattle.radio_core.specs.Changes.{before_silence, session_silenced, silent_in, ticked}
-use Rattle.radio_core.specs.Facts.{live_end, sight_of}
+use Rattle.radio_house.specs.Facts.{live_end, sight_of}
 use Rattle.radio_core.specs.Lagging.{EachSeat}
-use Rattle.radio_core.specs.Listen.{burst_of, first_seat}
+use Rattle.radio_house.specs.Streams.{burst_of}
+use Rattle.radio_core.specs.Listen.{first_seat}
 use Rattle.radio_parts.specs.Sessions.{Session, session_of, opened, with_session, longer, with_title}
-use Rattle.radio_core.specs.Source.{shown_for}
+use Rattle.radio_house.specs.Streams.{shown_for}
 use Rattle.radio_core.specs.Step.{outcome}
 use Rattle.radio_parts.specs.Stream.{WholeStream, no_data, end_of, with_block, burst_start, data_at}
 use Rattle.radio_parts.specs.Timeouts.{lags_behind, has_sat_out}
 use Rattle.radio_core.specs.Ways.{Way, Misplaced, IsFinished, IsDenied, IsRefused, IsAdmitted, Begins, ComesUp, Receives, SetsTitle, TakesSeat, HandsOut, Ends}
 use Rattle.radio_core.specs.Ways.{EndsAndLeaves, Leaves, GoesDown, Obeys, Shows, HasPassed, Ticks}
-use Rattle.radio_core.specs.World.{World}
+use Rattle.radio_house.specs.World.{World}
 use Rattle.radio_core.proofs.CalledHome.{house_called}
 use Rattle.radio_core.proofs.CommandLemmas.{obeyed_keeps}
 use Rattle.radio_core.proofs.CarriedFates.{order_carried}

@@ -10,13 +10,13 @@ use Rattle.radio_fallback.specs.declared.moves.Move.{Move}
 use Rattle.radio_fallback.specs.declared.moves.Move.TheVariants.{Up}
 use Rattle.radio_fallback.specs.Walk.{Sight}
 use Rattle.radio_fallback.specs.Carry.{carried}
-use Rattle.radio_core.specs.declared.house.House.{House}
+use Rattle.radio_house.specs.House.{House}
 use Rattle.radio_core.specs.Changes.{carried_along, called_home}
-use Rattle.radio_core.specs.Facts.{sight_of, live_number, live_end, fallback_of}
+use Rattle.radio_house.specs.Facts.{sight_of, live_number, live_end, fallback_of}
 use Rattle.radio_parts.specs.Kept.{kept_session}
 use Rattle.radio_core.specs.Kept.{kept_of}
 use Rattle.radio_parts.specs.Sessions.{Session, session_of, HasRisingStarts}
-use Rattle.radio_core.specs.World.{World}
+use Rattle.radio_house.specs.World.{World}
 use Rattle.radio_parts.proofs.KeptLists.{kept_found, kept_ends}
 
 is_some_mapped : {A B : Type 0} (f : A → B) (found : Option A) → is_some (option_map f found) ≡ is_some found

@@ -19,13 +19,11 @@ pub mod ClientSteps
 pub mod Effects
 pub mod Fates
 pub mod FinishLemmas
-pub mod Lookups
 pub mod LostSeats
 pub mod NamedRules
 mod NumbersRise
 mod NumbersStay
 pub mod OwnLemmas
-mod RelayRows
 pub mod ReplyLemmas
 pub mod SeatSteps
 pub mod SeatedLemmas
@@ -39,7 +37,6 @@ pub mod Soundness
 pub mod Standings
 pub mod StepLemmas
 pub mod TickLemmas
-pub mod TimeoutLemmas
 pub mod TotalLemmas
 mod UpdatedSessions
 pub mod Ways

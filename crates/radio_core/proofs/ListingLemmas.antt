@@ -10,8 +10,9 @@ use Rattle.radio_listing.specs.Admin.{stats_text, mounts_text}
 use Rattle.radio_listing.specs.Public.{status_text, stream_text}
 use Rattle.radio_parts.specs.Kept.{kept_live}
 use Rattle.radio_core.specs.Kept.{kept_of}
-use Rattle.radio_core.specs.Listings.{shown, mount_row, mount_rows}
-use Rattle.radio_core.specs.Pages.{IsShownBy, IsListing, IsAtPath, page_at, server_as}
+use Rattle.radio_house.specs.Listings.{shown, mount_row, mount_rows}
+use Rattle.radio_core.specs.Pages.{IsShownBy, IsListing, IsAtPath}
+use Rattle.radio_house.specs.Pages.{page_at, server_as}
 use Rattle.radio_core.specs.Planned.{told_moved}
 use Rattle.radio_settings.specs.declared.web.WebPath.{WebPath}
 use Rattle.radio_settings.specs.declared.web.WebPath.TheVariants.{IcecastStatus, Page as AtPage}
@@ -19,7 +20,7 @@ use Rattle.radio_listing.specs.Icecast.{icecast_text}
 use Rattle.radio_events.specs.declared.event.Event.{Event}
 use Rattle.radio_events.specs.Texts.{IsShort}
 use Rattle.radio_parts.specs.Sessions.{Session}
-use Rattle.radio_core.specs.World.{World}
+use Rattle.radio_house.specs.World.{World}
 
 module _ (w : World) where
   rows_of : (live : List Session) → map (mount_row (kept_of w)) (kept_live w.house.settings.limits.queue_size live) ≡ map (mount_row w) live

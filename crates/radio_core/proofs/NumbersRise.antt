@@ -12,31 +12,31 @@ use Rattle.radio_seats.specs.declared.seat.Seat.{Seat}
 use Rattle.radio_seats.specs.declared.seat.Seating.{Seating}
 use Rattle.radio_seats.specs.declared.seat.Seating.TheVariants.{Sits as HasSeat, Finished as HasFinished}
 use Rattle.radio_seats.specs.Seats.{is_listener, listener_of, advanced, seated}
-use Rattle.radio_core.specs.declared.clients.ClientState.{ClientState}
-use Rattle.radio_core.specs.declared.clients.ClientState.TheVariants.{Undecided as IsNew, Feeds as IsSource, Listens, Answered as HasHisAnswer, Ended}
+use Rattle.radio_house.specs.declared.clients.ClientState.{ClientState}
+use Rattle.radio_house.specs.declared.clients.ClientState.TheVariants.{Undecided as IsNew, Feeds as IsSource, Listens, Answered as HasHisAnswer, Ended}
 use Rattle.radio_events.specs.declared.event.Event.{Event}
 use Rattle.radio_events.specs.declared.event.Event.TheVariants.{Push}
 use Rattle.radio_core.specs.declared.outcome.Change.TheVariants.{TakeSeat, Forget}
 use Rattle.radio_core.specs.declared.outcome.Outcome.{Outcome}
 use Rattle.radio_events.specs.Events.{client_in}
-use Rattle.radio_core.specs.declared.standing.Standing.{Standing}
-use Rattle.radio_core.specs.declared.standing.Standing.TheVariants.{Unknown, Undecided, Feeds, Answered}
+use Rattle.radio_house.specs.declared.standing.Standing.{Standing}
+use Rattle.radio_house.specs.declared.standing.Standing.TheVariants.{Unknown, Undecided, Feeds, Answered}
 use Rattle.radio_settings.specs.declared.field.Shown.{Shown}
 use Rattle.radio_tables.specs.Lists.{placed, Each}
 use Rattle.radio_tables.proofs.EachLaws.{Each_each, Each_kept, Each_placed}
-use Rattle.radio_core.specs.Clients.{Client, client_of, newcomer}
-use Rattle.radio_core.specs.Relays.{Relay, relay_of, risen}
+use Rattle.radio_house.specs.Clients.{Client, client_of, newcomer}
+use Rattle.radio_house.specs.Relays.{Relay, relay_of, risen}
 use Rattle.radio_parts.specs.Sessions.{session_of}
 use Rattle.radio_core.specs.Finishes.{Cause}
 use Rattle.radio_core.specs.Changes.{changed, session_ended, taken_in}
 use Rattle.radio_core.specs.Changes.{ticked}
 use Rattle.radio_core.specs.Listen.{first_seat}
 use Rattle.radio_core.specs.Sound.{IsSound}
-use Rattle.radio_core.specs.Source.{shown_for}
+use Rattle.radio_house.specs.Streams.{shown_for}
 use Rattle.radio_core.specs.Step.{outcome, world_after}
 use Rattle.radio_core.specs.Ways.{Way, Misplaced, IsFinished, IsDenied, IsRefused, IsAdmitted, Begins, ComesUp, Receives, SetsTitle, TakesSeat, HandsOut, Ends}
 use Rattle.radio_core.specs.Ways.{EndsAndLeaves, Leaves, GoesDown, Obeys, Shows, HasPassed, Ticks}
-use Rattle.radio_core.specs.World.{World, opening, standing_of, standing_in, standing_by, standing_seated, standing_of_listener}
+use Rattle.radio_house.specs.World.{World, opening, standing_of, standing_in, standing_by, standing_seated, standing_of_listener}
 use Rattle.radio_core.proofs.CalledHome.{turns_up, just_raised, sound_just_raised, stands_called}
 use Rattle.radio_core.proofs.Effects.{IsSwept, GoesOnAs, IsOut, HasDone, tick_swept, obeyed_swept, his_event}
 use Rattle.radio_core.proofs.Fates.{Fate, GoesOn, IsEnded, HasStopped, IsMoved, HasEnded, Nobody}

@@ -7,25 +7,26 @@ use Rattle.radio_policy.specs.declared.rule.Rule.TheVariants.{Lagged, TimeOver, 
 use Rattle.radio_seats.specs.declared.seat.Listener.{Listener}
 use Rattle.radio_seats.specs.declared.seat.Seat.{Seat}
 use Rattle.radio_seats.specs.Seats.{is_listener, finished_if, loses, with_ended}
-use Rattle.radio_core.specs.declared.clients.ClientState.{ClientState}
-use Rattle.radio_core.specs.declared.clients.ClientState.TheVariants.{Feeds as IsSource, Answered as HasHisAnswer, Ended}
+use Rattle.radio_house.specs.declared.clients.ClientState.{ClientState}
+use Rattle.radio_house.specs.declared.clients.ClientState.TheVariants.{Feeds as IsSource, Answered as HasHisAnswer, Ended}
 use Rattle.radio_events.specs.declared.command.Command.{Command}
 use Rattle.radio_events.specs.declared.command.Command.TheVariants.{MoveClients, KillClient, KillSource, SetTitle, SetFallback}
 use Rattle.radio_core.specs.declared.outcome.Change.TheVariants.{Begin, Obey}
-use Rattle.radio_core.specs.Clients.{Client, is_client, in_state, with_state}
-use Rattle.radio_core.specs.Relays.{Relay, is_relay, ended, with_relay_ended}
+use Rattle.radio_house.specs.Clients.{Client, is_client, in_state, with_state}
+use Rattle.radio_house.specs.Relays.{Relay, is_relay, ended, with_relay_ended}
 use Rattle.radio_settings.specs.Options.{options_for}
 use Rattle.radio_settings.specs.declared.field.Shown.{Shown}
 use Rattle.radio_fallback.specs.declared.moves.Move.{Move}
 use Rattle.radio_fallback.specs.declared.moves.Move.TheVariants.{Ended as SessionEnds, Up, To}
 use Rattle.radio_fallback.proofs.FaresLemmas.{numbers_kept}
-use Rattle.radio_core.specs.Changes.{answered, session_killed, changed, begun, carried_along, session_over, session_ended, called_home, received, taken_in}
+use Rattle.radio_core.specs.Changes.{answered, session_killed, changed, carried_along, session_over, session_ended, called_home, taken_in}
+use Rattle.radio_house.specs.HouseChanges.{begun, received}
 use Rattle.radio_core.specs.Changes.{before_silence, session_silenced, silent_in, ticked}
-use Rattle.radio_core.specs.Facts.{live_end, sight_of}
+use Rattle.radio_house.specs.Facts.{live_end, sight_of}
 use Rattle.radio_parts.specs.Sessions.{Session, session_of}
 use Rattle.radio_parts.specs.Timeouts.{lags_behind, has_sat_out}
-use Rattle.radio_core.specs.Timeouts.{timed_out}
-use Rattle.radio_core.specs.World.{World}
+use Rattle.radio_house.specs.Timeouts.{timed_out}
+use Rattle.radio_house.specs.World.{World}
 use Rattle.radio_parts.proofs.NumberLists.{numbers_updated, numbers_mapped}
 
 -- the numbers of the clients, those of the relays, and those of the listeners

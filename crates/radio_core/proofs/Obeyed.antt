@@ -19,21 +19,22 @@ use Rattle.radio_fallback.proofs.Faring.{goes_there, never_out_there}
 use Rattle.radio_events.specs.declared.command.Command.{Command}
 use Rattle.radio_events.specs.declared.command.Command.TheVariants.{MoveClients, KillClient, KillSource, SetTitle, SetFallback}
 use Rattle.radio_events.specs.declared.event.Event.{Event}
-use Rattle.radio_core.specs.declared.clients.ClientState.TheVariants.{Ended}
+use Rattle.radio_house.specs.declared.clients.ClientState.TheVariants.{Ended}
 use Rattle.radio_core.specs.declared.outcome.Change.TheVariants.{Obey}
-use Rattle.radio_core.specs.declared.standing.Standing.{Standing}
-use Rattle.radio_core.specs.declared.standing.Standing.TheVariants.{Unknown, Undecided, Feeds, Sits, Answered, Finished}
+use Rattle.radio_house.specs.declared.standing.Standing.{Standing}
+use Rattle.radio_house.specs.declared.standing.Standing.TheVariants.{Unknown, Undecided, Feeds, Sits, Answered, Finished}
 use Rattle.radio_core.specs.Changes.{answered, changed, session_over, session_ended, session_ended_by, session_killed}
-use Rattle.radio_core.specs.Clients.{client_of}
-use Rattle.radio_core.specs.Relays.{relay_of}
-use Rattle.radio_core.specs.CommandFacts.{IsCommanded, is_live, sits_at, opens}
-use Rattle.radio_core.specs.Facts.{sight_of}
+use Rattle.radio_house.specs.Clients.{client_of}
+use Rattle.radio_house.specs.Relays.{relay_of}
+use Rattle.radio_core.specs.Allowed.{IsCommanded}
+use Rattle.radio_house.specs.CommandFacts.{is_live, sits_at, opens}
+use Rattle.radio_house.specs.Facts.{sight_of}
 use Rattle.radio_core.specs.Finishes.{Cause, SessionIsOver, IsKilled, HisSessionIsKilled}
 use Rattle.radio_core.specs.Moves.{TakesTo, ByKilling, ByMoving}
 use Rattle.radio_core.specs.SeatSteps.{IsSent, HisSessionIsOver, IsCommandedThere}
 use Rattle.radio_parts.specs.Sessions.{Session, session_of}
 use Rattle.radio_core.specs.Sound.{IsSound}
-use Rattle.radio_core.specs.World.{World, standing_of, standing_in}
+use Rattle.radio_house.specs.World.{World, standing_of, standing_in}
 use Rattle.radio_core.proofs.AllowedCommands.{may_act, may_kill, may_move, needs_hold}
 use Rattle.radio_core.proofs.CarriedFates.{order_carried, carried_fate}
 use Rattle.radio_core.proofs.Fates.{IsActive, Fate, GoesOn, IsEnded, HasStopped, IsMoved, Fates, HasEnded, Nobody, sound_fates, fates_none, lost_in, active_sitter}

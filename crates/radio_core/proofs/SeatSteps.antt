@@ -14,18 +14,19 @@ use Rattle.radio_events.specs.declared.event.ListenRequest.{ListenRequest}
 use Rattle.radio_core.specs.declared.outcome.Change.TheVariants.{TakeSeat, Advance, End, EndAndLeave, Forget, Obey}
 use Rattle.radio_core.specs.declared.outcome.Outcome.{Outcome}
 use Rattle.radio_seats.specs.declared.seat.Seat.{Seat}
-use Rattle.radio_core.specs.declared.standing.Standing.TheVariants.{Undecided, Feeds, Sits}
-use Rattle.radio_core.specs.World.{World, standing_of}
-use Rattle.radio_core.specs.Changes.{changed, begun, raised, called_home, taken_in, ticked}
+use Rattle.radio_house.specs.declared.standing.Standing.TheVariants.{Undecided, Feeds, Sits}
+use Rattle.radio_house.specs.World.{World, standing_of}
+use Rattle.radio_core.specs.Changes.{changed, called_home, taken_in, ticked}
+use Rattle.radio_house.specs.HouseChanges.{begun, raised}
 use Rattle.radio_core.specs.Handing.{data_in, of_client, handed_at}
-use Rattle.radio_core.specs.Facts.{sight_of, rows_to_listen, walks_to}
+use Rattle.radio_house.specs.Facts.{sight_of, rows_to_listen, walks_to}
 use Rattle.radio_core.specs.Finishes.{Cause, Finishes}
 use Rattle.radio_core.specs.Moves.{Brings, TakesTo, ByComingUp, ByRelayUp, moved_into}
-use Rattle.radio_core.specs.Source.{shown_for}
-use Rattle.radio_core.specs.declared.house.House.{House}
+use Rattle.radio_house.specs.Streams.{shown_for}
+use Rattle.radio_house.specs.House.{House}
 use Rattle.radio_access.specs.Lists.{Lists, lets_in}
 use Rattle.radio_events.specs.declared.command.Command.{Command}
-use Rattle.radio_core.specs.CommandFacts.{IsCommanded}
+use Rattle.radio_core.specs.Allowed.{IsCommanded}
 use Rattle.radio_events.specs.Events.{client_in}
 use Rattle.radio_fallback.specs.declared.moves.Move.TheVariants.{Up}
 use Rattle.radio_fallback.specs.Carry.{at_his_turn}

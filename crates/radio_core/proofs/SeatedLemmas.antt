@@ -6,13 +6,13 @@ use Rattle.radio_seats.specs.declared.seat.Seat.{Seat}
 use Rattle.radio_seats.specs.declared.seat.Seating.{Seating}
 use Rattle.radio_seats.specs.declared.seat.Seating.TheVariants.{Sits as HasSeat, Finished as HasFinished}
 use Rattle.radio_seats.specs.Seats.{listener_of, seat_of, seat_in, seat_held}
-use Rattle.radio_core.specs.declared.clients.ClientState.{ClientState}
-use Rattle.radio_core.specs.declared.clients.ClientState.TheVariants.{Undecided as IsNew, Feeds as IsSource, Listens, Answered, Ended}
-use Rattle.radio_core.specs.declared.standing.Standing.TheVariants.{Sits}
-use Rattle.radio_core.specs.Clients.{Client, client_of}
-use Rattle.radio_core.specs.Relays.{Relay, relay_of}
+use Rattle.radio_house.specs.declared.clients.ClientState.{ClientState}
+use Rattle.radio_house.specs.declared.clients.ClientState.TheVariants.{Undecided as IsNew, Feeds as IsSource, Listens, Answered, Ended}
+use Rattle.radio_house.specs.declared.standing.Standing.TheVariants.{Sits}
+use Rattle.radio_house.specs.Clients.{Client, client_of}
+use Rattle.radio_house.specs.Relays.{Relay, relay_of}
 use Rattle.radio_core.proofs.Standings.{no_relay_sits}
-use Rattle.radio_core.specs.World.{World, standing_of, standing_in, standing_by, standing_of_listener, standing_seated}
+use Rattle.radio_house.specs.World.{World, standing_of, standing_in, standing_by, standing_of_listener, standing_seated}
 
 -- who sits has a seat
 held_seat : (seating : Seating) → standing_seated seating ≡ Sits → (seat : Seat) × (seat_held seating ≡ Some seat)

@@ -9,15 +9,16 @@ use Rattle.radio_seats.specs.Seats.{listener_of}
 use Rattle.radio_events.specs.declared.event.Event.{Event}
 use Rattle.radio_events.specs.declared.event.Event.TheVariants.{Source, Push, SourceEnd, Title, Leave, RelayUp, RelayDown, Clock}
 use Rattle.radio_settings.specs.declared.field.Shown.{Shown}
-use Rattle.radio_core.specs.Clients.{Client}
+use Rattle.radio_house.specs.Clients.{Client}
 use Rattle.radio_core.specs.Closing.{Closes, OfClient, OfRelay}
-use Rattle.radio_core.specs.Relays.{relay_of}
-use Rattle.radio_core.specs.declared.clients.ClientState.TheVariants.{Undecided as IsNew}
+use Rattle.radio_house.specs.Relays.{relay_of}
+use Rattle.radio_house.specs.declared.clients.ClientState.TheVariants.{Undecided as IsNew}
 use Rattle.radio_core.specs.declared.outcome.Change.TheVariants.{Receive, SetTitle, Obey}
 use Rattle.radio_core.specs.declared.outcome.Outcome.{Outcome}
-use Rattle.radio_core.specs.declared.standing.Standing.TheVariants.{Undecided, Feeds, Sits}
-use Rattle.radio_core.specs.declared.house.House.{House}
-use Rattle.radio_core.specs.Changes.{answered, changed, begun, raised, called_home, session_ended, session_killed, ticked}
+use Rattle.radio_house.specs.declared.standing.Standing.TheVariants.{Undecided, Feeds, Sits}
+use Rattle.radio_house.specs.House.{House}
+use Rattle.radio_core.specs.Changes.{answered, changed, called_home, session_ended, session_killed, ticked}
+use Rattle.radio_house.specs.HouseChanges.{begun, raised}
 use Rattle.radio_core.specs.Moves.{TakesTo}
 use Rattle.radio_core.specs.Finishes.{Cause, SessionIsOver, IsFarBehind, HasSatOut, HasAskedNothing, HasSentNothing, IsKilled, HisSessionIsKilled}
 use Rattle.radio_parts.specs.Sessions.{Session, session_of, opened, with_session, titled, without_session}
@@ -25,20 +26,20 @@ use Rattle.radio_core.specs.SessionSteps.{IsShownAs, OfTheSettings, OfTheSource,
 use Rattle.radio_core.specs.SessionSteps.{Ends as ItEnds, IsRetitled, IsKilled as ItIsKilled, SessionsStep, KeepsSettings}
 use Rattle.radio_events.specs.declared.command.Command.{Command}
 use Rattle.radio_events.specs.declared.command.Command.TheVariants.{MoveClients, KillClient, KillSource, SetTitle as SetTitleOf, SetFallback}
-use Rattle.radio_core.specs.CommandFacts.{IsCommanded}
+use Rattle.radio_core.specs.Allowed.{IsCommanded}
 use Rattle.radio_core.specs.Sound.{IsSound}
-use Rattle.radio_core.specs.Source.{shown_for}
+use Rattle.radio_house.specs.Streams.{shown_for}
 use Rattle.radio_core.specs.Step.{outcome, world_after}
 use Rattle.radio_core.specs.Ways.{Way, Misplaced, IsFinished, IsDenied, IsRefused, IsAdmitted, Begins, ComesUp, Receives, SetsTitle, TakesSeat, HandsOut, Ends}
 use Rattle.radio_core.specs.Ways.{EndsAndLeaves, Leaves, GoesDown, Obeys, Shows, HasPassed, Ticks}
-use Rattle.radio_core.specs.World.{World, standing_of, standing_in}
+use Rattle.radio_house.specs.World.{World, standing_of, standing_in}
 use Rattle.radio_core.proofs.CalledHome.{house_called}
 use Rattle.radio_core.proofs.Fates.{Fate, GoesOn, IsEnded, HasStopped, IsMoved, HasEnded, Nobody}
 use Rattle.radio_core.proofs.CommandLemmas.{obeyed_keeps}
 use Rattle.radio_core.proofs.Obeyed.{title_live as command_finds}
 use Rattle.radio_parts.proofs.SessionLookups.{found_named, is_new_session, beside_begun, is_longer, beside_fed, is_titled, beside_titled, is_over, beside_ended}
 use Rattle.radio_core.proofs.TickLemmas.{asking_at, ticked_fates}
-use Rattle.radio_core.proofs.TimeoutLemmas.{tests_are_in_numbers}
+use Rattle.radio_house.proofs.TimeoutLemmas.{tests_are_in_numbers}
 use Rattle.radio_core.proofs.Ways.{way_of}
 
 is_shown : (given : Option (List ℕ)) (own : List ℕ) → IsShownAs given own (unwrap_or given own)

@@ -9,9 +9,10 @@ use Rattle.radio_tables.proofs.FindLaws.{passes_none}
 use Rattle.radio_parts.specs.Sessions.{Session, AreApart}
 use Rattle.radio_parts.specs.Timeouts.{is_silent}
 use Rattle.radio_parts.proofs.SilentSessions.{rising_apart, found_first, none_pass, others_left}
-use Rattle.radio_core.specs.declared.house.House.{House}
-use Rattle.radio_core.specs.Changes.{finished_in, session_ended, session_silenced, silent_in}
-use Rattle.radio_core.specs.World.{World}
+use Rattle.radio_house.specs.House.{House}
+use Rattle.radio_house.specs.HouseChanges.{finished_in}
+use Rattle.radio_core.specs.Changes.{session_ended, session_silenced, silent_in}
+use Rattle.radio_house.specs.World.{World}
 
 module _ (w : World) (session : Session) (apart : AreApart w.house.live) where
   abbrev silent : Session → Bool

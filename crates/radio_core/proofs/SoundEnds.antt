@@ -13,29 +13,29 @@ use Rattle.radio_fallback.proofs.Faring.{Faring, HasStayed, HasGone, HasLost, fa
 use Rattle.radio_events.specs.declared.event.Event.{Event}
 use Rattle.radio_events.specs.declared.event.Event.TheVariants.{SourceEnd}
 use Rattle.radio_events.specs.Events.{client_in}
-use Rattle.radio_core.specs.declared.clients.ClientState.{ClientState}
-use Rattle.radio_core.specs.declared.clients.ClientState.TheVariants.{Answered as HasHisAnswer}
+use Rattle.radio_house.specs.declared.clients.ClientState.{ClientState}
+use Rattle.radio_house.specs.declared.clients.ClientState.TheVariants.{Answered as HasHisAnswer}
 use Rattle.radio_core.specs.declared.outcome.Change.TheVariants.{End, EndAndLeave}
 use Rattle.radio_seats.specs.declared.seat.Seat.{Seat}
-use Rattle.radio_core.specs.declared.standing.Standing.{Standing}
-use Rattle.radio_core.specs.declared.standing.Standing.TheVariants.{Unknown, Feeds, Sits, Answered}
-use Rattle.radio_core.specs.World.{World, standing_of, has_relay}
+use Rattle.radio_house.specs.declared.standing.Standing.{Standing}
+use Rattle.radio_house.specs.declared.standing.Standing.TheVariants.{Unknown, Feeds, Sits, Answered}
+use Rattle.radio_house.specs.World.{World, standing_of, has_relay}
 use Rattle.radio_core.specs.Changes.{changed, carried_along, session_over, session_ended}
-use Rattle.radio_core.specs.Clients.{Client, client_of, with_state, in_state}
+use Rattle.radio_house.specs.Clients.{Client, client_of, with_state, in_state}
 use Rattle.radio_core.specs.Closing.{Closes}
-use Rattle.radio_core.specs.Facts.{sight_of}
+use Rattle.radio_house.specs.Facts.{sight_of}
 use Rattle.radio_core.specs.Finishes.{Cause, SessionIsOver}
 use Rattle.radio_core.specs.Moves.{his_turn, ByItsEnd, ByItsLeaving, TakesTo}
 use Rattle.radio_seats.specs.Seats.{seat_of, seat_in, AreByNumber}
 use Rattle.radio_parts.specs.Sessions.{Session, is_of, session_of, without_session, AreApart}
 use Rattle.radio_core.specs.Sound.{IsSound}
-use Rattle.radio_core.specs.Timeouts.{asks_too_late}
+use Rattle.radio_house.specs.Timeouts.{asks_too_late}
 use Rattle.radio_seats.proofs.SeatLaws.{beside_left, is_no_listener}
 use Rattle.radio_parts.proofs.ApartLemmas.{kept_apart, bytes_apart}
 use Rattle.radio_core.proofs.CarriedFates.{order_carried, carried_fate}
 use Rattle.radio_core.proofs.Fates.{IsDone, Fate, GoesOn, HasStopped, Fates, HasEnded, sound_fates}
 use Rattle.radio_parts.proofs.SessionLookups.{beside_ended, is_over}
-use Rattle.radio_core.proofs.Lookups.{beside_state, beside_forgotten, does, still_none, is_no_client}
+use Rattle.radio_house.proofs.Lookups.{beside_state, beside_forgotten, does, still_none, is_no_client}
 use Rattle.radio_core.proofs.ClosingLemmas.{closes_his}
 use Rattle.radio_parts.proofs.NumberOrder.{order_left}
 use Rattle.radio_core.proofs.Standings.{Turns, is_client_there, turns_answered, turns_forgotten, feeds_whoever_sits}

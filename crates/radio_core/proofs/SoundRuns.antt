@@ -8,17 +8,18 @@ use Rattle.radio_settings.specs.declared.settings.Settings.{Settings}
 use Rattle.radio_access.specs.Lists.{Lists}
 use Rattle.radio_events.specs.declared.event.Event.{Event}
 use Rattle.radio_events.specs.declared.event.Event.TheVariants.{Push}
-use Rattle.radio_core.specs.declared.standing.Standing.TheVariants.{Feeds}
+use Rattle.radio_house.specs.declared.standing.Standing.TheVariants.{Feeds}
 use Rattle.radio_core.specs.declared.outcome.Outcome.{Outcome}
-use Rattle.radio_core.specs.World.{World, opening, standing_of}
-use Rattle.radio_core.specs.Changes.{changed, received, taken_in, ticked}
-use Rattle.radio_core.specs.Facts.{live_end}
+use Rattle.radio_house.specs.World.{World, opening, standing_of}
+use Rattle.radio_core.specs.Changes.{changed, taken_in, ticked}
+use Rattle.radio_house.specs.HouseChanges.{received}
+use Rattle.radio_house.specs.Facts.{live_end}
 use Rattle.radio_core.specs.Finishes.{Cause, IsFarBehind}
 use Rattle.radio_parts.specs.Sessions.{Session}
 use Rattle.radio_parts.specs.Timeouts.{lags_behind}
 use Rattle.radio_core.specs.Run.{world_after_all, run_after}
 use Rattle.radio_core.specs.Sound.{IsSound}
-use Rattle.radio_core.specs.Source.{shown_for}
+use Rattle.radio_house.specs.Streams.{shown_for}
 use Rattle.radio_core.specs.Step.{outcome, world_after}
 use Rattle.radio_core.specs.Ways.{Way, Misplaced, IsFinished, IsDenied, IsRefused, IsAdmitted, Begins, ComesUp, Receives, SetsTitle, TakesSeat, HandsOut, Ends}
 use Rattle.radio_core.specs.Ways.{EndsAndLeaves, Leaves, GoesDown, Obeys, Shows, HasPassed, Ticks}

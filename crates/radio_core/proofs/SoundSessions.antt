@@ -11,10 +11,11 @@ use Rattle.radio_core.specs.declared.outcome.Change.TheVariants.{Advance}
 use Rattle.radio_seats.specs.declared.seat.Seat.{Seat}
 use Rattle.radio_seats.specs.declared.seat.Seating.{Seating}
 use Rattle.radio_seats.specs.declared.seat.Seating.TheVariants.{Sits as HasSeat, Finished as HasFinished}
-use Rattle.radio_core.specs.declared.standing.Standing.TheVariants.{Unknown, Undecided, Feeds, Sits}
-use Rattle.radio_core.specs.declared.house.House.{House}
-use Rattle.radio_core.specs.World.{World, standing_of}
-use Rattle.radio_core.specs.Changes.{changed, begun, raised, received}
+use Rattle.radio_house.specs.declared.standing.Standing.TheVariants.{Unknown, Undecided, Feeds, Sits}
+use Rattle.radio_house.specs.House.{House}
+use Rattle.radio_house.specs.World.{World, standing_of}
+use Rattle.radio_core.specs.Changes.{changed}
+use Rattle.radio_house.specs.HouseChanges.{begun, raised, received}
 use Rattle.radio_seats.specs.Seats.{seat_of, seat_in, seat_held, heard_to}
 use Rattle.radio_parts.specs.Sessions.{Session, AreApart, is_of, session_of, opened, with_session, longer}
 use Rattle.radio_parts.specs.Stream.{AreRising, end_of, data_at}

@@ -6,11 +6,12 @@ use Rattle.radio_tables.proofs.KeyLaws.{by_number}
 use Rattle.radio_events.specs.declared.event.ListenRequest.{ListenRequest}
 use Rattle.radio_core.specs.declared.outcome.Change.TheVariants.{Answer, Admit, TakeSeat, Forget}
 use Rattle.radio_seats.specs.declared.seat.Seat.{Seat}
-use Rattle.radio_core.specs.declared.standing.Standing.{Standing}
-use Rattle.radio_core.specs.declared.standing.Standing.TheVariants.{Unknown, Undecided, Feeds, Sits, Answered}
-use Rattle.radio_core.specs.World.{World, standing_of}
+use Rattle.radio_house.specs.declared.standing.Standing.{Standing}
+use Rattle.radio_house.specs.declared.standing.Standing.TheVariants.{Unknown, Undecided, Feeds, Sits, Answered}
+use Rattle.radio_house.specs.World.{World, standing_of}
 use Rattle.radio_core.specs.Changes.{changed}
-use Rattle.radio_core.specs.Listen.{first_seat, burst_of}
+use Rattle.radio_core.specs.Listen.{first_seat}
+use Rattle.radio_house.specs.Streams.{burst_of}
 use Rattle.radio_seats.specs.Seats.{seat_of, seat_in, without_listener, AreByNumber}
 use Rattle.radio_parts.specs.Sessions.{Session, session_of, AreApart}
 use Rattle.radio_core.specs.Sound.{IsSeatedIn, IsSound}

@@ -8,16 +8,17 @@ use Rattle.radio_blocks.specs.Block.{IsBlock}
 use Rattle.radio_policy.specs.declared.rule.Rule.TheVariants.{NumbersSpent}
 use Rattle.radio_tables.specs.Lists.{update_first}
 use Rattle.radio_seats.specs.Seats.{listener_of}
-use Rattle.radio_core.specs.declared.house.House.{House}
+use Rattle.radio_house.specs.House.{House}
 use Rattle.radio_events.specs.declared.reply.Reply.{Reply}
 use Rattle.radio_events.specs.declared.reply.Reply.TheVariants.{Noted, Deny, Finished, Stray}
-use Rattle.radio_core.specs.declared.standing.Standing.{Standing}
-use Rattle.radio_core.specs.declared.standing.Standing.TheVariants.{Unknown, Undecided as IsUndecided, Feeds as IsFeeding, Sits}
-use Rattle.radio_core.specs.declared.standing.Standing.TheVariants.{Answered as IsAnswered, Finished as IsFinished}
-use Rattle.radio_core.specs.Changes.{changed, received}
-use Rattle.radio_core.specs.Clients.{Client, client_of}
-use Rattle.radio_core.specs.Relays.{Relay, relay_of}
-use Rattle.radio_core.specs.Facts.{largest_number, live_end, rows_to_push}
+use Rattle.radio_house.specs.declared.standing.Standing.{Standing}
+use Rattle.radio_house.specs.declared.standing.Standing.TheVariants.{Unknown, Undecided as IsUndecided, Feeds as IsFeeding, Sits}
+use Rattle.radio_house.specs.declared.standing.Standing.TheVariants.{Answered as IsAnswered, Finished as IsFinished}
+use Rattle.radio_core.specs.Changes.{changed}
+use Rattle.radio_house.specs.HouseChanges.{received}
+use Rattle.radio_house.specs.Clients.{Client, client_of}
+use Rattle.radio_house.specs.Relays.{Relay, relay_of}
+use Rattle.radio_house.specs.Facts.{largest_number, live_end, rows_to_push}
 use Rattle.radio_core.specs.Outcomes.{says, on_verdict, if_feeding, unless_relayed}
 use Rattle.radio_core.specs.Push.{delivers, takes_in}
 use Rattle.radio_core.specs.declared.outcome.Change.TheVariants.{Nothing, End}
@@ -29,7 +30,7 @@ use Rattle.radio_core.specs.SourceReplies.{unless_spent, to_session, to_data_fro
 use Rattle.radio_core.specs.SourceReplies.{SourcesAreToldByTheirData, EndsAreTold}
 use Rattle.radio_core.specs.Step.{outcome, reply_to, world_after}
 use Rattle.radio_parts.specs.Stream.{end_of}
-use Rattle.radio_core.specs.World.{World, standing_of, has_relay, standing_in}
+use Rattle.radio_house.specs.World.{World, standing_of, has_relay, standing_in}
 use Rattle.radio_core.proofs.Standings.{feeds_in}
 
 -- the first that is sought, after a change of it

@@ -5,26 +5,27 @@ use Rattle.radio_policy.specs.declared.rule.Rule.{Rule}
 use Rattle.radio_addr.specs.declared.peer.Peer.{Peer}
 use Rattle.radio_settings.specs.declared.field.Shown.{Shown}
 use Rattle.radio_tables.proofs.KeyLaws.{by_number}
-use Rattle.radio_core.specs.declared.clients.ClientState.{ClientState}
-use Rattle.radio_core.specs.declared.clients.ClientState.TheVariants.{Undecided, Feeds, Listens, Answered, Ended}
+use Rattle.radio_house.specs.declared.clients.ClientState.{ClientState}
+use Rattle.radio_house.specs.declared.clients.ClientState.TheVariants.{Undecided, Feeds, Listens, Answered, Ended}
 use Rattle.radio_core.specs.declared.outcome.Change.TheVariants.{Answer, Admit, TakeSeat, Advance, Forget}
 use Rattle.radio_seats.specs.declared.seat.Listener.{Listener}
 use Rattle.radio_seats.specs.declared.seat.Seat.{Seat}
 use Rattle.radio_seats.specs.declared.seat.Seating.{Seating}
 use Rattle.radio_seats.specs.declared.seat.Seating.TheVariants.{Sits as HasSeat, Finished as HasFinished}
-use Rattle.radio_core.specs.declared.standing.Standing.{Standing}
-use Rattle.radio_core.specs.declared.standing.Standing.TheVariants.{Unknown, Undecided as IsUndecided, Feeds as IsFeeding, Sits}
-use Rattle.radio_core.specs.declared.standing.Standing.TheVariants.{Answered as IsAnswered, Finished}
-use Rattle.radio_core.specs.declared.relays.RelayState.{RelayState}
-use Rattle.radio_core.specs.declared.relays.RelayState.TheVariants.{Feeds as RelayFeeds, Ended as RelayEnded}
-use Rattle.radio_core.specs.Clients.{Client, client_of, in_state, with_state}
-use Rattle.radio_core.specs.Relays.{Relay, relay_of, risen, ended}
+use Rattle.radio_house.specs.declared.standing.Standing.{Standing}
+use Rattle.radio_house.specs.declared.standing.Standing.TheVariants.{Unknown, Undecided as IsUndecided, Feeds as IsFeeding, Sits}
+use Rattle.radio_house.specs.declared.standing.Standing.TheVariants.{Answered as IsAnswered, Finished}
+use Rattle.radio_house.specs.declared.relays.RelayState.{RelayState}
+use Rattle.radio_house.specs.declared.relays.RelayState.TheVariants.{Feeds as RelayFeeds, Ended as RelayEnded}
+use Rattle.radio_house.specs.Clients.{Client, client_of, in_state, with_state}
+use Rattle.radio_house.specs.Relays.{Relay, relay_of, risen, ended}
 use Rattle.radio_seats.specs.Seats.{listener_of, advanced, heard_to}
-use Rattle.radio_core.specs.World.{World, standing_of, standing_in, standing_by, standing_seated, standing_of_listener, standing_relayed, standing_of_relay, has_relay}
-use Rattle.radio_core.specs.Changes.{changed, begun, raised, finished_in}
+use Rattle.radio_house.specs.World.{World, standing_of, standing_in, standing_by, standing_seated, standing_of_listener, standing_relayed, standing_of_relay, has_relay}
+use Rattle.radio_core.specs.Changes.{changed}
+use Rattle.radio_house.specs.HouseChanges.{begun, raised, finished_in}
 use Rattle.radio_seats.proofs.SeatLaws.{beside_moved, beside_left, beside_seated, has_moved, is_no_listener, has_sat_down}
-use Rattle.radio_core.proofs.Lookups.{beside_state, beside_forgotten, does, still_none, is_no_client, is_new_client, beside_new}
-use Rattle.radio_core.proofs.Lookups.{relay_beside_ended, relay_beside_gone, is_ended_relay, is_no_relay, is_new_relay, beside_new_relay}
+use Rattle.radio_house.proofs.Lookups.{beside_state, beside_forgotten, does, still_none, is_no_client, is_new_client, beside_new}
+use Rattle.radio_house.proofs.Lookups.{relay_beside_ended, relay_beside_gone, is_ended_relay, is_no_relay, is_new_relay, beside_new_relay}
 
 -- one client stands so from now on, and the others as before
 pub record Turns (w later : World) (him : ℕ) (now : Standing) : Type 0 where

@@ -10,14 +10,15 @@ use Rattle.radio_tables.proofs.FindLaws.{find_mapped, found_passes}
 use Rattle.radio_seats.specs.declared.seat.Listener.{Listener}
 use Rattle.radio_seats.specs.declared.seat.Seat.{Seat}
 use Rattle.radio_seats.specs.Seats.{listener_of, seat_of}
-use Rattle.radio_core.specs.declared.clients.ClientState.{ClientState}
-use Rattle.radio_core.specs.declared.clients.ClientState.TheVariants.{Undecided as IsNew, Feeds as IsSource, Listens, Answered as HasHisAnswer, Ended}
+use Rattle.radio_house.specs.declared.clients.ClientState.{ClientState}
+use Rattle.radio_house.specs.declared.clients.ClientState.TheVariants.{Undecided as IsNew, Feeds as IsSource, Listens, Answered as HasHisAnswer, Ended}
 use Rattle.radio_events.specs.declared.event.Event.TheVariants.{Clock}
-use Rattle.radio_core.specs.declared.standing.Standing.{Standing}
-use Rattle.radio_core.specs.declared.standing.Standing.TheVariants.{Undecided, Feeds, Sits, Finished}
-use Rattle.radio_core.specs.Changes.{session_over, session_ended, timed_out_by, before_silence, silent_in, session_silenced, ticked}
-use Rattle.radio_core.specs.Clients.{Client, is_client, client_of, with_state}
-use Rattle.radio_core.specs.Relays.{Relay, relay_of}
+use Rattle.radio_house.specs.declared.standing.Standing.{Standing}
+use Rattle.radio_house.specs.declared.standing.Standing.TheVariants.{Undecided, Feeds, Sits, Finished}
+use Rattle.radio_core.specs.Changes.{session_over, session_ended, before_silence, silent_in, session_silenced, ticked}
+use Rattle.radio_house.specs.HouseChanges.{timed_out_by}
+use Rattle.radio_house.specs.Clients.{Client, is_client, client_of, with_state}
+use Rattle.radio_house.specs.Relays.{Relay, relay_of}
 use Rattle.radio_core.specs.Finishes.{Cause, SessionIsOver, HasSatOut, HasAskedNothing, HasSentNothing}
 use Rattle.radio_core.specs.Moves.{Brings, BySilence, TakesTo}
 use Rattle.radio_fallback.specs.declared.moves.Move.TheVariants.{Ended as SessionEnds}
@@ -26,8 +27,8 @@ use Rattle.radio_settings.specs.declared.settings.Settings.{Settings}
 use Rattle.radio_parts.specs.Sessions.{Session, session_of}
 use Rattle.radio_core.specs.Sound.{IsSound}
 use Rattle.radio_parts.specs.Timeouts.{has_sat_out, is_silent}
-use Rattle.radio_core.specs.Timeouts.{asks_nothing, asks_too_late, timed_out}
-use Rattle.radio_core.specs.World.{World, standing_of, standing_in}
+use Rattle.radio_house.specs.Timeouts.{asks_nothing, asks_too_late, timed_out}
+use Rattle.radio_house.specs.World.{World, standing_of, standing_in}
 use Rattle.radio_parts.proofs.ApartLemmas.{found_own}
 use Rattle.radio_core.proofs.Fates.{IsActive, Fate, GoesOn, IsEnded, HasStopped, IsMoved, Fates, HasEnded, Nobody, feeds_on, sound_fates, fates_none, fates_then, seats_fates}
 use Rattle.radio_parts.proofs.SessionLookups.{is_over}

@@ -9,16 +9,16 @@ use Rattle.std.proofs.lemmas.List.Filters.{length-filter_both}
 use Rattle.radio_settings.specs.declared.settings.Settings.{Settings}
 use Rattle.radio_access.specs.Lists.{Lists}
 use Rattle.radio_seats.specs.Seats.{is_listener, listener_of, advanced, seated}
-use Rattle.radio_core.specs.declared.clients.ClientState.TheVariants.{Listens, Answered as HasHisAnswer}
+use Rattle.radio_house.specs.declared.clients.ClientState.TheVariants.{Listens, Answered as HasHisAnswer}
 use Rattle.radio_events.specs.declared.event.Event.{Event}
 use Rattle.radio_events.specs.declared.event.Event.TheVariants.{Leave, RelayDown}
 use Rattle.radio_core.specs.declared.outcome.Outcome.{Outcome}
 use Rattle.radio_events.specs.declared.reply.Reply.{Reply}
 use Rattle.radio_events.specs.declared.reply.Reply.TheVariants.{Noted, Stray}
-use Rattle.radio_core.specs.declared.standing.Standing.TheVariants.{Unknown, Feeds}
+use Rattle.radio_house.specs.declared.standing.Standing.TheVariants.{Unknown, Feeds}
 use Rattle.radio_core.specs.declared.outcome.Change.TheVariants.{Nothing, EndAndLeave, Forget}
-use Rattle.radio_core.specs.Clients.{Client, client_of, newcomer, without_client}
-use Rattle.radio_core.specs.Relays.{Relay, risen, without_relay}
+use Rattle.radio_house.specs.Clients.{Client, client_of, newcomer, without_client}
+use Rattle.radio_house.specs.Relays.{Relay, risen, without_relay}
 use Rattle.radio_core.specs.Closing.{Closes, OfClient, OfRelay}
 use Rattle.radio_core.specs.Outcomes.{says, unless_relayed}
 use Rattle.radio_core.specs.Changes.{changed, session_ended}
@@ -26,12 +26,12 @@ use Rattle.radio_core.specs.Leave.{leaves_from}
 use Rattle.radio_core.specs.Listen.{first_seat}
 use Rattle.radio_core.specs.Run.{world_after_all, run_after}
 use Rattle.radio_core.specs.Sound.{IsSound}
-use Rattle.radio_core.specs.Source.{shown_for}
+use Rattle.radio_house.specs.Streams.{shown_for}
 use Rattle.radio_core.specs.Step.{outcome, reply_to, world_after}
 use Rattle.radio_core.specs.Totals.{numbers_given, arrivals, relays_up, relays_down, relays_there, departures, seatings, listeners_leaving, has_seat, clients_there, seats_there, seats_lost, AddsUp}
 use Rattle.radio_core.specs.Ways.{Way, Misplaced, IsFinished, IsDenied, IsRefused, IsAdmitted, Begins, ComesUp, Receives, SetsTitle, TakesSeat, HandsOut, Ends}
 use Rattle.radio_core.specs.Ways.{EndsAndLeaves, Leaves, GoesDown, Obeys, Shows, HasPassed, Ticks}
-use Rattle.radio_core.specs.World.{World, opening, standing_of, has_relay}
+use Rattle.radio_house.specs.World.{World, opening, standing_of, has_relay}
 use Rattle.radio_parts.proofs.NumberLists.{IsFree, has, without, placed_length, one_less}
 use Rattle.radio_parts.proofs.NumberLists.{numbers_updated, numbers_placed, numbers_without, number_found, number_free}
 use Rattle.radio_core.proofs.SoundRuns.{sound_after, sound_opening}

@@ -18,7 +18,7 @@ use Rattle.radio_events.specs.declared.event.Event.{Event}
 use Rattle.radio_events.specs.declared.event.Event.TheVariants.{Arrive, Source, Push, SourceEnd, Title, Listen, Draw, Command, Leave}
 use Rattle.radio_events.specs.declared.event.Event.TheVariants.{RelayUp, RelayDown, Clock}
 use Rattle.radio_settings.specs.declared.field.Shown.{Shown}
-use Rattle.radio_core.specs.declared.house.House.{House}
+use Rattle.radio_house.specs.House.{House}
 use Rattle.radio_core.specs.declared.outcome.Change.{Change}
 use Rattle.radio_core.specs.declared.outcome.Change.TheVariants.{Nothing, Answer, End, Tick}
 use Rattle.radio_core.specs.declared.outcome.Outcome.{Outcome}
@@ -29,18 +29,19 @@ use Rattle.radio_fallback.specs.declared.walking.Landing.{Landing}
 use Rattle.radio_fallback.specs.declared.walking.Landing.TheVariants.{Lands, Stops}
 use Rattle.radio_fallback.specs.Walk.{MaySit, found_at, stop_in}
 use Rattle.radio_fallback.proofs.TurnLemmas.{lands_where_he_fits}
-use Rattle.radio_core.specs.declared.standing.Standing.{Standing}
-use Rattle.radio_core.specs.declared.standing.Standing.TheVariants.{Unknown, Undecided, Feeds, Sits, Answered, Finished}
-use Rattle.radio_core.specs.World.{World, standing_of, has_relay}
-use Rattle.radio_core.specs.Facts.{largest_number, is_full, is_known, sight_of, arrive_facts, source_facts_at, relay_facts_at, rows_to_arrive, rows_to_feed, rows_to_raise, names_mount}
-use Rattle.radio_core.specs.Facts.{rows_to_push, rows_to_listen, walks_to, walk_stops}
+use Rattle.radio_house.specs.declared.standing.Standing.{Standing}
+use Rattle.radio_house.specs.declared.standing.Standing.TheVariants.{Unknown, Undecided, Feeds, Sits, Answered, Finished}
+use Rattle.radio_house.specs.World.{World, standing_of, has_relay}
+use Rattle.radio_house.specs.Facts.{largest_number, is_full, is_known, sight_of, arrive_facts, source_facts_at, relay_facts_at, rows_to_arrive, rows_to_feed, rows_to_raise, names_mount}
+use Rattle.radio_house.specs.Facts.{rows_to_push, rows_to_listen, walks_to, walk_stops}
 use Rattle.radio_core.specs.Outcomes.{says, on_verdict, out_of_place, if_undecided, if_feeding, unless_relayed, if_sitting}
 use Rattle.radio_core.specs.Arrive.{admits_client}
 use Rattle.radio_core.specs.Source.{begins}
 use Rattle.radio_core.specs.Push.{takes_in}
 use Rattle.radio_core.specs.Listen.{takes_seat, sits_where}
-use Rattle.radio_core.specs.Listings.{shown}
-use Rattle.radio_core.specs.Pages.{IsListing, IsAtPath, asks_by, page_at}
+use Rattle.radio_house.specs.Listings.{shown}
+use Rattle.radio_core.specs.Pages.{IsListing, IsAtPath, asks_by}
+use Rattle.radio_house.specs.Pages.{page_at}
 use Rattle.radio_core.specs.Draw.{hands_out, hands_out_at}
 use Rattle.radio_core.specs.Closing.{OfClient, OfRelay}
 use Rattle.radio_core.specs.Leave.{leaves_from}
@@ -50,7 +51,7 @@ use Rattle.radio_events.specs.declared.command.Asked.{Asked}
 use Rattle.radio_events.specs.declared.command.Asked.TheVariants.{NoCommand, MissingArgument, Listing as AsksFor, Command as Asks}
 use Rattle.radio_events.specs.declared.command.CommandRequest.{CommandRequest}
 use Rattle.radio_core.specs.Command.{does_asked}
-use Rattle.radio_core.specs.CommandFacts.{rows_to_command}
+use Rattle.radio_house.specs.CommandFacts.{rows_to_command}
 use Rattle.radio_seats.specs.Seats.{seat_of}
 use Rattle.radio_parts.specs.Sessions.{Session, session_of}
 use Rattle.radio_core.specs.Step.{outcome}

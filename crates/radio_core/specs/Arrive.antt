@@ -4,8 +4,8 @@ use Rattle.radio_addr.specs.declared.peer.Peer.{Peer}
 use Rattle.radio_events.specs.declared.reply.Reply.TheVariants.{Arrived}
 use Rattle.radio_core.specs.declared.outcome.Change.TheVariants.{Nothing, Admit}
 use Rattle.radio_core.specs.declared.outcome.Outcome.{Outcome}
-use Rattle.radio_core.specs.World.{World}
-use Rattle.radio_core.specs.Facts.{rows_to_arrive}
+use Rattle.radio_house.specs.World.{World}
+use Rattle.radio_house.specs.Facts.{rows_to_arrive}
 use Rattle.radio_core.specs.Outcomes.{says, on_verdict}
 
 -- the next number is given to a client who has asked for nothing yet

@@ -1,70 +1,25 @@
 -- What each change makes of the state.
-use Rattle.std.specs.Prelude.{ℕ, if◌then◌else◌, List, Option, None, Some, map, filter, fold}
+use Rattle.std.specs.Prelude.{ℕ, if◌then◌else◌, List, Option, None, Some, filter, fold}
 use Rattle.radio_policy.specs.declared.rule.Rule.{Rule}
 use Rattle.radio_policy.specs.declared.rule.Rule.TheVariants.{Lagged, TimeOver, SourceSilent, Killed, SourceKilled}
-use Rattle.radio_addr.specs.declared.peer.Peer.{Peer}
-use Rattle.radio_settings.specs.declared.field.Shown.{Shown}
 use Rattle.radio_settings.specs.Options.{options_for}
 use Rattle.radio_fallback.specs.declared.moves.Move.{Move}
 use Rattle.radio_fallback.specs.declared.moves.Move.TheVariants.{Ended as HasEnded, Up, To}
 use Rattle.radio_fallback.specs.Carry.{carried}
 use Rattle.radio_events.specs.declared.command.Command.{Command}
 use Rattle.radio_events.specs.declared.command.Command.TheVariants.{MoveClients, KillClient, KillSource, SetTitle as NewTitle, SetFallback}
-use Rattle.radio_core.specs.declared.clients.ClientState.{ClientState}
-use Rattle.radio_core.specs.declared.clients.ClientState.TheVariants.{Feeds, Listens, Answered, Ended}
-use Rattle.radio_core.specs.declared.house.House.{House}
+use Rattle.radio_house.specs.declared.clients.ClientState.TheVariants.{Listens, Answered}
 use Rattle.radio_core.specs.declared.outcome.Change.{Change}
 use Rattle.radio_core.specs.declared.outcome.Change.TheVariants.{Nothing, Answer, Admit, Begin, Raise, Receive, SetTitle, TakeSeat, Advance, End}
 use Rattle.radio_core.specs.declared.outcome.Change.TheVariants.{EndAndLeave, Forget, Tick, Obey}
-use Rattle.radio_core.specs.Clients.{newcomer, with_client, in_state, without_client}
-use Rattle.radio_core.specs.Relays.{risen, with_relay, with_relay_ended, without_relay}
-use Rattle.radio_core.specs.Fallbacks.{with_fallback}
-use Rattle.radio_parts.specs.Sessions.{Session, session_of, opened, with_session, fed, titled, without_session}
+use Rattle.radio_house.specs.Clients.{without_client}
+use Rattle.radio_house.specs.Relays.{without_relay}
+use Rattle.radio_house.specs.HouseChanges.{now_in_state, admitted, begun, raised, finished_in, received, retitled, falling_back, timed_out_by}
+use Rattle.radio_parts.specs.Sessions.{Session, session_of, without_session}
 use Rattle.radio_seats.specs.Seats.{with_seat, with_place, with_end, with_ended, without_listener}
-use Rattle.radio_core.specs.Facts.{live_end, sight_of}
+use Rattle.radio_house.specs.Facts.{live_end, sight_of}
 use Rattle.radio_parts.specs.Timeouts.{lags_behind, has_sat_out, is_silent}
-use Rattle.radio_core.specs.Timeouts.{timed_out}
-use Rattle.radio_core.specs.World.{World}
-
--- the client of this number does something else from now on
-abbrev pub now_in_state : House → ℕ → ClientState → House
-now_in_state house id state = record house { clients = in_state house.clients id state }
-
--- one client more, who has asked for nothing
-abbrev pub admitted : House → ℕ → Peer → House
-admitted house id peer = record house { clients = with_client house.clients (newcomer id peer house.time); last_id = id }
-
--- a session has begun on the mount, which this client feeds
-abbrev pub begun : House → ℕ → List ℕ → Shown → House
-begun house id mount shown = record house {
-  live = with_session house.live (opened mount id shown house.time);
-  clients =
-      in_state house.clients id (Feeds mount);
-}
-
--- a relay has come up with this number, and a session has begun on the mount, which it feeds
-abbrev pub raised : House → ℕ → List ℕ → Shown → House
-raised house id mount shown = record house {
-  live = with_session house.live (opened mount id shown house.time);
-  relays = with_relay house.relays (risen id mount);
-  last_id = id;
-}
-
--- the rule has finished the client, or the relay, of this number
-abbrev pub finished_in : House → ℕ → Rule → House
-finished_in house id rule = record (now_in_state house id (Ended rule)) { relays = with_relay_ended house.relays id rule }
-
--- the block has come at the end of the mount's stream
-abbrev pub received : House → List ℕ → List ℕ → House
-received house mount block = record house { live = fed house.live mount block house.time }
-
--- the mount's session has this title
-abbrev pub retitled : House → List ℕ → List ℕ → House
-retitled house mount title = record house { live = titled house.live mount title }
-
--- the listeners of the mount fall back to this one, or to none
-abbrev pub falling_back : House → List ℕ → Option (List ℕ) → House
-falling_back house mount fallback = record house { fallbacks = with_fallback house.fallbacks mount fallback }
+use Rattle.radio_house.specs.World.{World}
 
 -- a move has carried listeners along
 abbrev pub carried_along : World → Move → World
@@ -97,10 +52,6 @@ laggards_ended w mount =
 -- the block has come, and the listeners who are too far behind then have lost their seats
 abbrev pub taken_in : World → List ℕ → List ℕ → World
 taken_in w mount block = laggards_ended (record w { house = received w.house mount block }) mount
-
--- it is this moment, and the clients who have asked for nothing in their time are finished
-abbrev pub timed_out_by : House → ℕ → House
-timed_out_by house ms = record house { time = ms; clients = map (timed_out house.settings.limits.header_timeout ms) house.clients }
 
 -- the listeners who have had their time have lost their seats
 abbrev pub durations_over : World → World

@@ -2,7 +2,7 @@
 use Rattle.std.specs.Prelude.{◌≡◌, ℕ, true, false}
 use Rattle.radio_events.specs.declared.event.Event.{Event}
 use Rattle.radio_events.specs.declared.event.Event.TheVariants.{Leave, RelayDown}
-use Rattle.radio_core.specs.World.{World, has_relay}
+use Rattle.radio_house.specs.World.{World, has_relay}
 
 -- the event closes the connection of the client, or of the relay, of this number
 pub data Closes (w : World) (id : ℕ) : Event → Type 0 where

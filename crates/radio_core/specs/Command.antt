@@ -12,10 +12,10 @@ use Rattle.radio_events.specs.declared.text.Text.{Text}
 use Rattle.radio_events.specs.declared.text.Text.TheVariants.{Done, Moved}
 use Rattle.radio_core.specs.declared.outcome.Change.TheVariants.{Nothing, Answer, Obey}
 use Rattle.radio_core.specs.declared.outcome.Outcome.{Outcome}
-use Rattle.radio_core.specs.CommandFacts.{rows_to_command}
+use Rattle.radio_house.specs.CommandFacts.{rows_to_command}
 use Rattle.radio_core.specs.Counts.{counts_by}
-use Rattle.radio_core.specs.Listings.{shown}
-use Rattle.radio_core.specs.World.{World, standing_of}
+use Rattle.radio_house.specs.Listings.{shown}
+use Rattle.radio_house.specs.World.{World, standing_of}
 use Rattle.radio_core.specs.Outcomes.{says, on_verdict, if_undecided}
 
 -- what is said of a command that was done: how many it has moved, or that it was done

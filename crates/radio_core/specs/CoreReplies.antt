@@ -2,7 +2,7 @@
 use Rattle.std.specs.Prelude.{◌≡◌, ℕ, List}
 use Rattle.radio_core.specs.SourceReplies.{to_data, to_end}
 use Rattle.radio_core.specs.Step.{Represents}
-use Rattle.radio_core.specs.World.{World}
+use Rattle.radio_house.specs.World.{World}
 
 pub record CoresGoByTheirStates : Type 0 where
   -- two cores that stand for one state are the same

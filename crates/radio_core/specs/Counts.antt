@@ -9,9 +9,10 @@ use Rattle.radio_events.specs.declared.command.Command.{Command}
 use Rattle.radio_events.specs.declared.command.Command.TheVariants.{MoveClients}
 use Rattle.radio_core.specs.declared.outcome.Change.{Change}
 use Rattle.radio_core.specs.declared.outcome.Change.TheVariants.{Begin, Raise, End, EndAndLeave, Obey}
-use Rattle.radio_core.specs.Changes.{begun, raised, session_over}
-use Rattle.radio_core.specs.Facts.{sight_of}
-use Rattle.radio_core.specs.World.{World}
+use Rattle.radio_house.specs.HouseChanges.{begun, raised}
+use Rattle.radio_core.specs.Changes.{session_over}
+use Rattle.radio_house.specs.Facts.{sight_of}
+use Rattle.radio_house.specs.World.{World}
 
 abbrev pub nobody : Carried
 nobody = record { moved = 0; ended = 0 }

@@ -1,6 +1,6 @@
 -- What is kept of a state: of each session's stream the last whole blocks, as far as a queue is long.
 use Rattle.radio_parts.specs.Kept.{kept_live}
-use Rattle.radio_core.specs.World.{World}
+use Rattle.radio_house.specs.World.{World}
 
 -- the state, with what is kept of each session's stream
 abbrev pub kept_of : World → World

@@ -4,7 +4,7 @@ use Rattle.radio_seats.specs.declared.seat.Seat.{Seat}
 use Rattle.radio_seats.specs.Seats.{seat_of}
 use Rattle.radio_parts.specs.Sessions.{Session, session_of}
 use Rattle.radio_parts.specs.Stream.{WholeStream, end_of}
-use Rattle.radio_core.specs.World.{World}
+use Rattle.radio_house.specs.World.{World}
 
 -- it holds of each seat's place in the stream of its mount's session
 abbrev pub EachSeat : (WholeStream → ℕ → Type 0) → World → Type 0

@@ -2,9 +2,9 @@ use Rattle.std.specs.Prelude.{ℕ}
 use Rattle.radio_events.specs.declared.reply.Reply.TheVariants.{Noted, Stray}
 use Rattle.radio_core.specs.declared.outcome.Change.TheVariants.{Nothing, EndAndLeave, Forget}
 use Rattle.radio_core.specs.declared.outcome.Outcome.{Outcome}
-use Rattle.radio_core.specs.declared.standing.Standing.{Standing}
-use Rattle.radio_core.specs.declared.standing.Standing.TheVariants.{Unknown, Feeds}
-use Rattle.radio_core.specs.World.{World, standing_of, has_relay}
+use Rattle.radio_house.specs.declared.standing.Standing.{Standing}
+use Rattle.radio_house.specs.declared.standing.Standing.TheVariants.{Unknown, Feeds}
+use Rattle.radio_house.specs.World.{World, standing_of, has_relay}
 use Rattle.radio_core.specs.Outcomes.{says, unless_relayed}
 
 -- the connection is closed of a client who stands so; a source's session ends first

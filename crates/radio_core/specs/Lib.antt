@@ -1,8 +1,3 @@
-pub mod Clients
-pub mod Relays
-pub mod World
-pub mod Facts
-pub mod Timeouts
 pub mod Closing
 pub mod Outcomes
 pub mod Pages
@@ -17,8 +12,7 @@ pub mod Leave
 pub mod RelayUp
 pub mod RelayDown
 pub mod Clock
-pub mod Fallbacks
-pub mod CommandFacts
+pub mod Allowed
 pub mod Command
 pub mod Planned
 pub mod Changes
@@ -42,4 +36,3 @@ pub mod Others
 pub mod SourceReplies
 pub mod CoreReplies
 pub mod Totals
-pub mod Listings

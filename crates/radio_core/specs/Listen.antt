@@ -1,30 +1,20 @@
-use Rattle.std.specs.Prelude.{ℕ, min, Bool, if◌then◌else◌, List, Option, Some, None}
+use Rattle.std.specs.Prelude.{Option, Some, None}
 use Rattle.radio_policy.specs.Verdicts.{verdict_in}
 use Rattle.radio_addr.specs.declared.peer.Peer.{Peer}
-use Rattle.radio_settings.specs.Options.{options_for}
 use Rattle.radio_events.specs.declared.event.ListenRequest.{ListenRequest}
-use Rattle.radio_core.specs.declared.house.House.{House}
+use Rattle.radio_house.specs.House.{House}
 use Rattle.radio_events.specs.declared.reply.Reply.TheVariants.{Seated, Stray}
-use Rattle.radio_events.specs.declared.reply.StreamHead.{StreamHead}
-use Rattle.radio_settings.specs.declared.field.Shown.{Shown}
 use Rattle.radio_core.specs.declared.outcome.Change.TheVariants.{Nothing, Answer, TakeSeat}
 use Rattle.radio_core.specs.declared.outcome.Outcome.{Outcome}
 use Rattle.radio_seats.specs.declared.seat.Seat.{Seat}
 use Rattle.radio_parts.specs.Sessions.{Session, session_of}
 use Rattle.radio_parts.specs.Stream.{burst_start}
-use Rattle.radio_core.specs.World.{World, standing_of}
+use Rattle.radio_house.specs.World.{World, standing_of}
 use Rattle.radio_fallback.specs.declared.walking.Landing.{Landing}
 use Rattle.radio_fallback.specs.declared.walking.Landing.TheVariants.{Lands, Stops}
-use Rattle.radio_core.specs.Facts.{rows_to_listen, walks_to}
+use Rattle.radio_house.specs.Facts.{rows_to_listen, walks_to}
+use Rattle.radio_house.specs.Streams.{burst_of, head_of, interval_for}
 use Rattle.radio_core.specs.Outcomes.{says, on_verdict, if_undecided}
-
--- how many bytes a new listener of the mount may be sent at once
-abbrev pub burst_of : House → List ℕ → ℕ
-burst_of house mount = min (options_for house.settings mount).stream.burst_size house.settings.limits.queue_size
-
--- after how many bytes a listener of the mount is sent a metadata block, if he asked for metadata
-abbrev pub interval_for : House → List ℕ → Bool → Option ℕ
-interval_for house mount wants_metadata = (if wants_metadata then Some (options_for house.settings mount).stream.mp3_metadata_interval else None)
 
 -- the seat of a new listener in the session where his walk landed: the mount that he asked for is his home, and he begins at the start of a block
 abbrev pub first_seat : House → ListenRequest → Peer → Session → Seat
@@ -38,10 +28,6 @@ first_seat house asked peer session = record {
   interval = interval_for house asked.mount asked.wants_metadata;
   since = house.time;
 }
-
--- what the head of a stream says that shows this
-abbrev pub head_of : House → Shown → StreamHead
-head_of house shown = record { shown = shown; allow_origin = house.settings.web.allow_origin }
 
 -- the listener sits down; where the mount is not live, at which no walk lands, nothing happens
 abbrev pub takes_seat : House → ListenRequest → Peer → Option Session → Outcome

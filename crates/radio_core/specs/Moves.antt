@@ -15,16 +15,17 @@ use Rattle.radio_seats.specs.declared.seat.Seat.{Seat}
 use Rattle.radio_events.specs.declared.event.Event.{Event}
 use Rattle.radio_events.specs.declared.event.Event.TheVariants.{Source, SourceEnd, RelayUp, Clock}
 use Rattle.radio_events.specs.declared.event.SourceRequest.{SourceRequest}
-use Rattle.radio_core.specs.declared.standing.Standing.TheVariants.{Undecided, Feeds}
-use Rattle.radio_core.specs.Changes.{begun, raised, session_over, before_silence, silent_in, session_silenced}
+use Rattle.radio_house.specs.declared.standing.Standing.TheVariants.{Undecided, Feeds}
+use Rattle.radio_house.specs.HouseChanges.{begun, raised}
+use Rattle.radio_core.specs.Changes.{session_over, before_silence, silent_in, session_silenced}
 use Rattle.radio_events.specs.declared.command.Command.TheVariants.{MoveClients, KillSource}
 use Rattle.radio_core.specs.Closing.{Closes}
-use Rattle.radio_core.specs.CommandFacts.{IsCommanded}
-use Rattle.radio_core.specs.Facts.{sight_of, rows_to_feed, rows_to_raise}
+use Rattle.radio_core.specs.Allowed.{IsCommanded}
+use Rattle.radio_house.specs.Facts.{sight_of, rows_to_feed, rows_to_raise}
 use Rattle.radio_parts.specs.Sessions.{Session}
-use Rattle.radio_core.specs.Source.{shown_for}
+use Rattle.radio_house.specs.Streams.{shown_for}
 use Rattle.radio_parts.specs.Stream.{end_of}
-use Rattle.radio_core.specs.World.{World, standing_of, has_relay}
+use Rattle.radio_house.specs.World.{World, standing_of, has_relay}
 
 -- what the move has in store for the listener at his turn, where the state before the first turn is w: those of lower numbers have had theirs
 abbrev pub his_turn : World → Move → ℕ → Turn

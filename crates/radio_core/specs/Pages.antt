@@ -1,35 +1,21 @@
 -- What a client is shown whose path is one of the web site's.
-use Rattle.std.specs.Prelude.{◌≡◌, ℕ, List, codes, Option, Some, None}
-use Rattle.radio_settings.specs.declared.settings.Settings.{Settings}
+use Rattle.std.specs.Prelude.{◌≡◌, Option, Some, None}
 use Rattle.radio_settings.specs.declared.web.WebPath.{WebPath}
-use Rattle.radio_settings.specs.declared.web.WebPath.TheVariants.{IcecastStatus, Page as AtPage}
 use Rattle.radio_settings.specs.Web.{web_path}
-use Rattle.radio_listing.specs.declared.rows.Server.{Server}
-use Rattle.radio_listing.specs.Icecast.{icecast_text}
-use Rattle.radio_listing.specs.Reached.{base_url}
 use Rattle.radio_events.specs.declared.command.Listing.{Listing}
 use Rattle.radio_events.specs.declared.event.Event.{Event}
 use Rattle.radio_events.specs.declared.event.Event.TheVariants.{Listen}
 use Rattle.radio_events.specs.declared.event.ListenRequest.{ListenRequest}
 use Rattle.radio_events.specs.declared.reply.Reply.TheVariants.{Text as SaysText}
 use Rattle.radio_events.specs.declared.text.Text.{Text}
-use Rattle.radio_events.specs.declared.text.Text.TheVariants.{Public, Page}
 use Rattle.radio_core.specs.declared.outcome.Change.TheVariants.{Answer}
 use Rattle.radio_core.specs.declared.outcome.Outcome.{Outcome}
-use Rattle.radio_core.specs.CommandFacts.{IsListed}
+use Rattle.radio_core.specs.Allowed.{IsListed}
 use Rattle.radio_core.specs.Listen.{asks_to_hear}
-use Rattle.radio_core.specs.Listings.{mount_rows, shown}
+use Rattle.radio_house.specs.Listings.{shown}
+use Rattle.radio_house.specs.Pages.{page_at}
 use Rattle.radio_core.specs.Outcomes.{says, if_undecided}
-use Rattle.radio_core.specs.World.{World, standing_of}
-
--- the server, as it tells of itself to one who calls it by this host
-abbrev pub server_as : Settings → List ℕ → Server
-server_as settings host = record { name = codes "radiod"; base_url = base_url host settings.listen.address settings.listen.port }
-
--- what is shown at a path of the web site, to one who calls the server by this host
-abbrev pub page_at : World → WebPath → List ℕ → Text
-page_at w IcecastStatus host = Public (icecast_text (server_as w.house.settings host) (mount_rows w)) w.house.settings.web.allow_origin
-page_at w AtPage host = Page w.house.settings.web.allow_origin
+use Rattle.radio_house.specs.World.{World, standing_of}
 
 -- the client is shown it, and has had his answer
 abbrev pub shows_page : World → ListenRequest → WebPath → Outcome

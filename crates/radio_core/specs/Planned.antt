@@ -9,7 +9,7 @@ use Rattle.radio_events.specs.declared.text.Text.TheVariants.{Moved}
 use Rattle.radio_core.specs.declared.outcome.Outcome.{Outcome}
 use Rattle.radio_core.specs.Command.{gives_command}
 use Rattle.radio_core.specs.Step.{outcome}
-use Rattle.radio_core.specs.World.{World}
+use Rattle.radio_house.specs.World.{World}
 
 abbrev pub told_moved : Text → ℕ → Text
 told_moved (Moved other) count = Moved count

@@ -3,8 +3,8 @@ use Rattle.radio_policy.specs.Verdicts.{verdict_in}
 use Rattle.radio_events.specs.declared.reply.Reply.TheVariants.{Noted}
 use Rattle.radio_core.specs.declared.outcome.Change.TheVariants.{Nothing, Receive}
 use Rattle.radio_core.specs.declared.outcome.Outcome.{Outcome}
-use Rattle.radio_core.specs.World.{World, standing_of}
-use Rattle.radio_core.specs.Facts.{rows_to_push}
+use Rattle.radio_house.specs.World.{World, standing_of}
+use Rattle.radio_house.specs.Facts.{rows_to_push}
 use Rattle.radio_core.specs.Outcomes.{says, on_verdict, if_feeding}
 
 -- the block comes at the end of the mount's stream

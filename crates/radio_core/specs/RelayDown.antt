@@ -2,10 +2,10 @@ use Rattle.std.specs.Prelude.{ℕ, if◌then◌else◌}
 use Rattle.radio_events.specs.declared.reply.Reply.TheVariants.{Noted, Stray}
 use Rattle.radio_core.specs.declared.outcome.Change.TheVariants.{Nothing, EndAndLeave, Forget}
 use Rattle.radio_core.specs.declared.outcome.Outcome.{Outcome}
-use Rattle.radio_core.specs.declared.standing.Standing.{Standing}
-use Rattle.radio_core.specs.declared.standing.Standing.TheVariants.{Feeds, Finished}
+use Rattle.radio_house.specs.declared.standing.Standing.{Standing}
+use Rattle.radio_house.specs.declared.standing.Standing.TheVariants.{Feeds, Finished}
 use Rattle.radio_core.specs.Outcomes.{says}
-use Rattle.radio_core.specs.World.{World, standing_of, has_relay}
+use Rattle.radio_house.specs.World.{World, standing_of, has_relay}
 
 -- the connection of a relay to its master is closed, which stands so: its session ends first, if it has not ended before
 abbrev pub goes_down_from : ℕ → Standing → Outcome

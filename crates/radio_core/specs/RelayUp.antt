@@ -2,13 +2,13 @@ use Rattle.std.specs.Prelude.{ℕ, ◌+◌, List}
 use Rattle.radio_policy.specs.Verdicts.{verdict_in}
 use Rattle.radio_settings.specs.declared.field.Shown.{Shown}
 use Rattle.radio_events.specs.declared.reply.Reply.TheVariants.{Arrived}
-use Rattle.radio_core.specs.declared.house.House.{House}
+use Rattle.radio_house.specs.House.{House}
 use Rattle.radio_core.specs.declared.outcome.Change.TheVariants.{Nothing, Raise}
 use Rattle.radio_core.specs.declared.outcome.Outcome.{Outcome}
-use Rattle.radio_core.specs.World.{World}
-use Rattle.radio_core.specs.Facts.{rows_to_raise}
+use Rattle.radio_house.specs.World.{World}
+use Rattle.radio_house.specs.Facts.{rows_to_raise}
 use Rattle.radio_core.specs.Outcomes.{says, on_verdict}
-use Rattle.radio_core.specs.Source.{shown_for}
+use Rattle.radio_house.specs.Streams.{shown_for}
 
 -- the next number is given to the relay, and a session of that number begins on the mount
 abbrev pub raises : House → List ℕ → Shown → Outcome

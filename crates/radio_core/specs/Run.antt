@@ -3,7 +3,7 @@ use Rattle.std.specs.Prelude.{List, [], ◌∷◌}
 use Rattle.radio_settings.specs.declared.settings.Settings.{Settings}
 use Rattle.radio_access.specs.Lists.{Lists}
 use Rattle.radio_events.specs.declared.event.Event.{Event}
-use Rattle.radio_core.specs.World.{World, opening}
+use Rattle.radio_house.specs.World.{World, opening}
 use Rattle.radio_core.specs.Step.{world_after}
 
 -- the state after events, in their order

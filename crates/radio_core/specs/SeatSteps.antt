@@ -12,12 +12,12 @@ use Rattle.radio_events.specs.declared.event.Event.{Event}
 use Rattle.radio_events.specs.declared.event.Event.TheVariants.{Source, Listen, Draw, Leave, RelayUp}
 use Rattle.radio_events.specs.declared.event.SourceRequest.{SourceRequest}
 use Rattle.radio_events.specs.declared.event.ListenRequest.{ListenRequest}
-use Rattle.radio_core.specs.declared.standing.Standing.TheVariants.{Undecided}
+use Rattle.radio_house.specs.declared.standing.Standing.TheVariants.{Undecided}
 use Rattle.radio_access.specs.Lists.{lets_in}
 use Rattle.radio_fallback.specs.declared.walking.Landing.TheVariants.{Lands}
 use Rattle.radio_events.specs.declared.command.Command.TheVariants.{MoveClients}
-use Rattle.radio_core.specs.CommandFacts.{IsCommanded}
-use Rattle.radio_core.specs.Facts.{rows_to_listen, walks_to}
+use Rattle.radio_core.specs.Allowed.{IsCommanded}
+use Rattle.radio_house.specs.Facts.{rows_to_listen, walks_to}
 use Rattle.radio_core.specs.Moves.{TakesTo, moved_into}
 use Rattle.radio_core.specs.Finishes.{Finishes}
 use Rattle.radio_core.specs.Handing.{handed_at}
@@ -25,7 +25,7 @@ use Rattle.radio_core.specs.Listen.{first_seat}
 use Rattle.radio_parts.specs.Sessions.{Session, session_of}
 use Rattle.radio_core.specs.Step.{world_after}
 use Rattle.radio_parts.specs.Stream.{data_at, end_of}
-use Rattle.radio_core.specs.World.{World, standing_of}
+use Rattle.radio_house.specs.World.{World, standing_of}
 
 -- a source, or a relay, comes up on the mount by the event
 pub data ComesUpOn : Event → List ℕ → Type 0 where

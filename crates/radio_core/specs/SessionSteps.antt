@@ -6,10 +6,10 @@ use Rattle.radio_events.specs.declared.event.Event.{Event}
 use Rattle.radio_events.specs.declared.event.Event.TheVariants.{Source, Push, SourceEnd, Title, Leave, RelayUp, RelayDown, Clock}
 use Rattle.radio_events.specs.declared.event.SourceRequest.{SourceRequest}
 use Rattle.radio_events.specs.declared.command.Command.TheVariants.{KillSource, SetTitle}
-use Rattle.radio_core.specs.CommandFacts.{IsCommanded}
+use Rattle.radio_core.specs.Allowed.{IsCommanded}
 use Rattle.radio_parts.specs.Sessions.{Session, session_of}
 use Rattle.radio_core.specs.Step.{world_after}
-use Rattle.radio_core.specs.World.{World}
+use Rattle.radio_house.specs.World.{World}
 
 -- one text of what a stream shows: that of the settings, where they give one, else the source's
 pub data IsShownAs (given : Option (List ℕ)) (own : List ℕ) : List ℕ → Type 0 where

@@ -2,7 +2,7 @@ use Rattle.std.specs.Prelude.{ℕ}
 use Rattle.radio_events.specs.declared.reply.Reply.TheVariants.{Noted}
 use Rattle.radio_core.specs.declared.outcome.Change.TheVariants.{End}
 use Rattle.radio_core.specs.declared.outcome.Outcome.{Outcome}
-use Rattle.radio_core.specs.World.{World, standing_of, has_relay}
+use Rattle.radio_house.specs.World.{World, standing_of, has_relay}
 use Rattle.radio_core.specs.Outcomes.{says, if_feeding, unless_relayed}
 
 -- a source has come to the end of its data; a relay's end with its connection

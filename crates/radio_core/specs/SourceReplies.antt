@@ -3,17 +3,17 @@ use Rattle.std.specs.Prelude.{◌≡◌, ◌⊎◌, ℕ, ◌+◌, nat_lt, Bool, 
 use Rattle.radio_blocks.specs.Block.{IsBlock}
 use Rattle.radio_policy.specs.declared.rule.Rule.TheVariants.{NumbersSpent}
 use Rattle.radio_events.specs.declared.event.Event.TheVariants.{Push, SourceEnd}
-use Rattle.radio_core.specs.declared.house.House.{House}
+use Rattle.radio_house.specs.House.{House}
 use Rattle.radio_events.specs.declared.reply.Reply.{Reply}
 use Rattle.radio_events.specs.declared.reply.Reply.TheVariants.{Noted, Deny, Finished, Stray}
-use Rattle.radio_core.specs.declared.standing.Standing.{Standing}
-use Rattle.radio_core.specs.declared.standing.Standing.TheVariants.{Feeds}
-use Rattle.radio_core.specs.Facts.{largest_number}
+use Rattle.radio_house.specs.declared.standing.Standing.{Standing}
+use Rattle.radio_house.specs.declared.standing.Standing.TheVariants.{Feeds}
+use Rattle.radio_house.specs.Facts.{largest_number}
 use Rattle.radio_core.specs.Outcomes.{out_of_place}
 use Rattle.radio_parts.specs.Sessions.{Session, session_of}
 use Rattle.radio_core.specs.Step.{reply_to, world_after}
 use Rattle.radio_parts.specs.Stream.{end_of}
-use Rattle.radio_core.specs.World.{World, standing_of, has_relay}
+use Rattle.radio_house.specs.World.{World, standing_of, has_relay}
 
 -- whether there are too many for the numbers of a stream
 abbrev pub unless_spent : Bool → Reply

@@ -6,7 +6,7 @@ use Rattle.radio_core.specs.Kept.{kept_of}
 use Rattle.radio_core.specs.Lagging.{EachSeat}
 use Rattle.radio_parts.specs.Sessions.{HasRisingStarts}
 use Rattle.radio_core.specs.Sound.{IsSound}
-use Rattle.radio_core.specs.World.{World}
+use Rattle.radio_house.specs.World.{World}
 
 -- no seat's place is forgotten
 abbrev pub SeatsAreKept : World → Type 0

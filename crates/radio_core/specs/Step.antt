@@ -7,7 +7,7 @@ use Rattle.radio_events.specs.declared.reply.Reply.{Reply}
 use Rattle.radio_core.specs.declared.outcome.Change.{Change}
 use Rattle.radio_core.specs.declared.outcome.Change.TheVariants.{Nothing, Answer, SetTitle, Advance, End, EndAndLeave, Forget, Tick}
 use Rattle.radio_core.specs.declared.outcome.Outcome.{Outcome}
-use Rattle.radio_core.specs.World.{World}
+use Rattle.radio_house.specs.World.{World}
 use Rattle.radio_core.specs.Arrive.{arrives}
 use Rattle.radio_core.specs.Source.{asks_to_feed}
 use Rattle.radio_core.specs.Push.{delivers}

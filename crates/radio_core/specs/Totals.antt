@@ -8,7 +8,7 @@ use Rattle.radio_events.specs.declared.event.Event.TheVariants.{Arrive, Leave, R
 use Rattle.radio_events.specs.declared.reply.Reply.{Reply}
 use Rattle.radio_events.specs.declared.reply.Reply.TheVariants.{Arrived, Seated, Noted}
 use Rattle.radio_core.specs.Step.{reply_to, world_after}
-use Rattle.radio_core.specs.World.{World}
+use Rattle.radio_house.specs.World.{World}
 
 -- a number was given
 abbrev pub numbers_given : Reply → ℕ

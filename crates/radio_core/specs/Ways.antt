@@ -10,20 +10,22 @@ use Rattle.radio_events.specs.declared.event.SourceRequest.{SourceRequest}
 use Rattle.radio_events.specs.declared.event.ListenRequest.{ListenRequest}
 use Rattle.radio_events.specs.declared.event.Event.{Event}
 use Rattle.radio_events.specs.declared.event.Event.TheVariants.{Arrive, Source, Push, SourceEnd, Title, Listen, Draw, Command, Leave, RelayUp, RelayDown, Clock}
-use Rattle.radio_core.specs.declared.house.House.{House}
+use Rattle.radio_house.specs.House.{House}
 use Rattle.radio_core.specs.declared.outcome.Change.TheVariants.{Nothing, Answer, Admit, Receive, SetTitle, TakeSeat, Advance, End, EndAndLeave, Forget, Tick}
 use Rattle.radio_core.specs.declared.outcome.Outcome.{Outcome}
 use Rattle.radio_events.specs.declared.reply.Reply.TheVariants.{Arrived, Seated, Drawn, Noted, Text as SaysText, Deny, Finished, Stray}
 use Rattle.radio_seats.specs.declared.seat.Seat.{Seat}
-use Rattle.radio_core.specs.declared.standing.Standing.{Standing}
-use Rattle.radio_core.specs.declared.standing.Standing.TheVariants.{Undecided, Feeds, Sits, Finished as HasFinished}
+use Rattle.radio_house.specs.declared.standing.Standing.{Standing}
+use Rattle.radio_house.specs.declared.standing.Standing.TheVariants.{Undecided, Feeds, Sits, Finished as HasFinished}
 use Rattle.radio_fallback.specs.declared.walking.Landing.TheVariants.{Lands}
 use Rattle.radio_events.specs.declared.command.Command.{Command as TheCommand}
 use Rattle.radio_core.specs.Closing.{Closes}
 use Rattle.radio_core.specs.Command.{obeys}
-use Rattle.radio_core.specs.CommandFacts.{IsCommanded, rows_to_command}
-use Rattle.radio_core.specs.Facts.{rows_to_arrive, rows_to_feed, rows_to_raise, rows_to_push, rows_to_listen, walks_to}
-use Rattle.radio_core.specs.Listen.{first_seat, interval_for, head_of}
+use Rattle.radio_core.specs.Allowed.{IsCommanded}
+use Rattle.radio_house.specs.CommandFacts.{rows_to_command}
+use Rattle.radio_house.specs.Facts.{rows_to_arrive, rows_to_feed, rows_to_raise, rows_to_push, rows_to_listen, walks_to}
+use Rattle.radio_core.specs.Listen.{first_seat}
+use Rattle.radio_house.specs.Streams.{interval_for, head_of}
 use Rattle.radio_core.specs.Pages.{IsShownBy}
 use Rattle.radio_events.specs.declared.text.Text.{Text}
 use Rattle.radio_core.specs.Outcomes.{says}
@@ -32,7 +34,7 @@ use Rattle.radio_seats.specs.Seats.{seat_of}
 use Rattle.radio_parts.specs.Sessions.{Session, session_of}
 use Rattle.radio_core.specs.Source.{begins}
 use Rattle.radio_parts.specs.Stream.{data_at}
-use Rattle.radio_core.specs.World.{World, standing_of, has_relay}
+use Rattle.radio_house.specs.World.{World, standing_of, has_relay}
 use Rattle.radio_events.specs.Events.{client_in}
 
 -- the client has asked for nothing yet

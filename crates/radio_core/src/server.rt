@@ -3,7 +3,7 @@
 
 ghost use Rattle.std.specs.Prelude.{◌≡◌, [], ◌∷◌, IsOk, IfOk, OnOk, OnErr};
 ghost use Rattle.radio_events.specs.declared.reply.Reply.{Reply as ReplyOf};
-ghost use Rattle.radio_core.specs.World.{World, opening};
+ghost use Rattle.radio_house.specs.World.{World, opening};
 ghost use Rattle.radio_events.specs.Replies.{HoldsNoText};
 ghost use Rattle.radio_core.specs.Step.{Step, Represents, StandsForSome};
 ghost use Rattle.radio_events.specs.Events.{TakesNoMemory};
@@ -13,7 +13,6 @@ use crate::outcome::Outcome;
 use radio_access::Lists;
 use radio_events::{Event, Reply};
 use radio_settings::Settings;
-pub(crate) use state::State;
 use std::alloc::Global;
 use std::marker::Model;
 use timed_state::TimedState;
@@ -25,7 +24,6 @@ mod commit;
 mod draw;
 mod leave;
 mod listen;
-mod listings;
 mod obey;
 mod pages;
 mod push;
@@ -46,7 +44,7 @@ pub struct Core {
 }
 
 impl Model for Core {
-    ghost use Rattle.radio_core.specs.World.{World};
+    ghost use Rattle.radio_house.specs.World.{World};
     ghost use Rattle.radio_core.specs.Step.{StandsForSome};
     ghost use Rattle.std.specs.Coded.{codes};
     ghost use Rattle.radio_creds.specs.contracts.user_list.Users as creds_users;

@@ -10,7 +10,7 @@ use Rattle.radio_core.specs.Handing.{data_in, is_number, of_client, handed, deli
 use Rattle.radio_core.specs.Step.{reply_to, world_after}
 use Rattle.radio_laws.specs.Stretches.{sittings, AreStretches, StretchesAreWhole}
 use Rattle.radio_events.specs.Events.{client_in}
-use Rattle.radio_core.specs.World.{World, opening}
+use Rattle.radio_house.specs.World.{World, opening}
 use Rattle.radio_icy.specs.Weaving.{Call}
 use Rattle.radio_icy.specs.Stream.{sound_of_calls}
 use Rattle.radio_session.specs.Told.{draws_of}

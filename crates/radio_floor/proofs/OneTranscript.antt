@@ -10,7 +10,7 @@ use Rattle.radio_session.specs.Laws.{HearingIsOne}
 use Rattle.radio_session.specs.declared.state.State.{State}
 use Rattle.radio_session.specs.declared.state.State.TheVariants.{Shut}
 use Rattle.radio_session.specs.declared.state.Ending.TheVariants.{Done}
-use Rattle.radio_core.specs.World.{World}
+use Rattle.radio_house.specs.World.{World}
 use Rattle.radio_events.specs.declared.event.Event.{Event}
 use Rattle.radio_pull.specs.Pulling.{Pulling, Standing}
 use Rattle.radio_pull.specs.Laws.{AskingIsOne, GoingDownIsOne, TakingIsOne}

@@ -1,6 +1,6 @@
 -- The server does what the state does, whatever state its core stands for.
 use Rattle.std.proofs.Common.{◌≡◌, ℕ, List, [], Option, None, Some, Result, refl, sym, ap, subst}
-use Rattle.radio_core.specs.World.{World, opening}
+use Rattle.radio_house.specs.World.{World, opening}
 use Rattle.radio_core.specs.Step.{Represents}
 use Rattle.radio_settings.specs.declared.settings.Settings.{Settings}
 use Rattle.radio_access.specs.Lists.{Lists}

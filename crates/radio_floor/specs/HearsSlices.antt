@@ -16,13 +16,13 @@ use Rattle.radio_events.specs.declared.event.Event.TheVariants.{Source, Listen, 
 use Rattle.radio_events.specs.declared.event.SourceRequest.{SourceRequest}
 use Rattle.radio_events.specs.declared.event.ListenRequest.{ListenRequest}
 use Rattle.radio_core.specs.Handing.{of_client, delivered}
-use Rattle.radio_core.specs.Listen.{head_of, interval_for}
-use Rattle.radio_core.specs.Source.{shown_for}
+use Rattle.radio_house.specs.Streams.{head_of, interval_for}
+use Rattle.radio_house.specs.Streams.{shown_for}
 use Rattle.radio_core.specs.Step.{reply_to, world_after}
 use Rattle.radio_core.specs.Run.{run_after}
 use Rattle.radio_laws.specs.Stretches.{Sitting, sittings, AreStretches}
 use Rattle.radio_laws.specs.Walks.{ComesBy}
-use Rattle.radio_core.specs.World.{World, opening}
+use Rattle.radio_house.specs.World.{World, opening}
 use Rattle.radio_settings.specs.declared.field.Shown.{Shown}
 use Rattle.radio_relay.specs.Laws.{sound_in}
 use Rattle.radio_relay.specs.Pulled.{IsPulled, Part, Pulled, ShownPart}

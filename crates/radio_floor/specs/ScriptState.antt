@@ -16,7 +16,7 @@ use Rattle.radio_relay.specs.Request.{request_text}
 use Rattle.radio_pull.specs.Pulling.{Pulling, Standing, begun}
 use Rattle.radio_pull.specs.Course.{AsksIf, GoesDown, Takes}
 use Rattle.radio_access.specs.Lists.{Lists}
-use Rattle.radio_core.specs.World.{World, opening}
+use Rattle.radio_house.specs.World.{World, opening}
 use Rattle.radio_tables.specs.Lists.{update_first, placed}
 use Rattle.std.specs.declared.cmp.Ordering.{Ordering}
 use Rattle.std.specs.Ordering.{nat_cmp}

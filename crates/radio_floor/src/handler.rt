@@ -3,7 +3,7 @@
 ghost use Rattle.std.specs.Prelude.{◌≡◌, ℕ, List, [], ◌∷◌, ◌++◌, IfOk, OnOk};
 ghost use Rattle.radio_icy.specs.Cleaning.{cleaned};
 ghost use Rattle.radio_icy.specs.Limits.{max_title};
-ghost use Rattle.radio_core.specs.World.{World};
+ghost use Rattle.radio_house.specs.World.{World};
 ghost use Rattle.radio_events.specs.declared.event.Event.TheVariants.{Leave, Clock};
 ghost use Rattle.radio_core.specs.Step.{Represents, world_after};
 ghost use Rattle.radio_session.specs.Hearing.{Heard, IsHeard};

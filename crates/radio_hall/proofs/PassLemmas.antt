@@ -3,7 +3,7 @@ use Rattle.std.proofs.Common.{◌≡◌, Bool, true, List, [], ◌∷◌, ◌++�
 use Rattle.std.proofs.Math.Logic.{∥∥₁_map}
 use Rattle.radio_events.specs.declared.event.Event.{Event}
 use Rattle.radio_events.specs.declared.reply.Reply.{Reply}
-use Rattle.radio_core.specs.World.{World}
+use Rattle.radio_house.specs.World.{World}
 use Rattle.radio_book.specs.History.{IsLegal}
 use Rattle.radio_book.specs.declared.entry.Entry.{Entry}
 use Rattle.radio_book.specs.Stamp.{Stamp, stamped}

@@ -4,7 +4,7 @@ use Rattle.radio_events.specs.declared.event.Event.{Event}
 use Rattle.radio_events.specs.declared.reply.Reply.{Reply}
 use Rattle.radio_events.specs.Events.{TakesNoMemory}
 use Rattle.radio_core.specs.Step.{reply_to}
-use Rattle.radio_core.specs.World.{World}
+use Rattle.radio_house.specs.World.{World}
 use Rattle.radio_book.specs.declared.newcomer.Newcomer.{Newcomer}
 use Rattle.radio_book.specs.Newcomers.{is_here, leaver_of}
 use Rattle.radio_book.specs.declared.entry.Entry.{Entry}

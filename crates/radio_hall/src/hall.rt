@@ -3,7 +3,7 @@
 ghost use Rattle.std.specs.Prelude.{◌≡◌, ◌^◌, ◌∷◌, [], ◌++◌, ℕ, length, true, false, IsOk, IfOk, IfErr, IfSome, List, OnErr, All, IsPermutation, sum_by};
 ghost use Rattle.std.specs.List.{range_with_len};
 ghost use Rattle.radio_events.specs.Events.{TakesNoMemory};
-ghost use Rattle.radio_core.specs.World.{opening};
+ghost use Rattle.radio_house.specs.World.{opening};
 ghost use Rattle.radio_book.specs.declared.entry.Entry.{Entry as EntryOf};
 ghost use Rattle.radio_book.specs.declared.newcomer.Newcomer.{Newcomer};
 ghost use Rattle.radio_book.specs.Newcomers.{is_here, leaver_of};

@@ -8,13 +8,14 @@ use Rattle.radio_tables.proofs.FindLaws.{find_here, find_later}
 use Rattle.radio_events.specs.declared.event.Event.{Event}
 use Rattle.radio_core.specs.declared.outcome.Outcome.{Outcome}
 use Rattle.radio_events.specs.declared.reply.Reply.TheVariants.{Drawn, Seated}
-use Rattle.radio_core.specs.World.{World}
+use Rattle.radio_house.specs.World.{World}
 use Rattle.radio_laws.specs.Access.{IsHis, AccessIsKept}
 use Rattle.radio_laws.specs.Admission.{IsBlockStart, IsEarliestStart, IsSeated, BeginsAtABlock}
 use Rattle.radio_core.specs.Changes.{changed}
-use Rattle.radio_core.specs.declared.house.House.{House}
+use Rattle.radio_house.specs.House.{House}
 use Rattle.radio_settings.specs.Options.{options_for}
-use Rattle.radio_core.specs.Listen.{first_seat, burst_of, interval_for}
+use Rattle.radio_core.specs.Listen.{first_seat}
+use Rattle.radio_house.specs.Streams.{burst_of, interval_for}
 use Rattle.radio_seats.specs.Seats.{seat_of, seat_in}
 use Rattle.radio_parts.specs.Sessions.{Session}
 use Rattle.radio_parts.specs.Stream.{AreRising, WholeStream, end_of, burst_start}
@@ -26,7 +27,7 @@ use Rattle.radio_seats.proofs.SeatLaws.{has_sat_down}
 use Rattle.std.proofs.lemmas.Bool.{and_parts}
 use Rattle.radio_access.specs.Lists.{lets_in}
 use Rattle.radio_fallback.proofs.TurnLemmas.{lands_where_he_fits}
-use Rattle.radio_core.specs.Facts.{sight_of}
+use Rattle.radio_house.specs.Facts.{sight_of}
 use Rattle.radio_laws.proofs.WalkLemmas.{lands_on_his_way}
 use Rattle.radio_parts.proofs.RisingLemmas.{burst_within}
 use Rattle.radio_laws.proofs.LimitLemmas.{Within, sits_as, sent_as}

@@ -25,23 +25,23 @@ use Rattle.radio_events.specs.declared.event.Event.{Event}
 use Rattle.radio_events.specs.declared.event.Event.TheVariants.{Arrive, Source, Push, SourceEnd, Title, Listen, Draw, Command, Leave}
 use Rattle.radio_events.specs.declared.event.Event.TheVariants.{RelayUp, RelayDown, Clock}
 use Rattle.radio_events.specs.declared.event.ListenRequest.{ListenRequest}
-use Rattle.radio_core.specs.declared.clients.ClientState.{ClientState}
-use Rattle.radio_core.specs.declared.clients.ClientState.TheVariants.{Undecided, Feeds, Listens, Answered, Ended}
+use Rattle.radio_house.specs.declared.clients.ClientState.{ClientState}
+use Rattle.radio_house.specs.declared.clients.ClientState.TheVariants.{Undecided, Feeds, Listens, Answered, Ended}
 use Rattle.radio_core.specs.declared.outcome.Change.TheVariants.{Nothing, Answer}
-use Rattle.radio_core.specs.declared.standing.Standing.{Standing}
-use Rattle.radio_core.specs.declared.standing.Standing.TheVariants.{Unknown, Undecided as IsUndecided, Feeds as IsFeeding, Sits, Answered as IsAnswered, Finished}
-use Rattle.radio_core.specs.Clients.{Client, client_of}
+use Rattle.radio_house.specs.declared.standing.Standing.{Standing}
+use Rattle.radio_house.specs.declared.standing.Standing.TheVariants.{Unknown, Undecided as IsUndecided, Feeds as IsFeeding, Sits, Answered as IsAnswered, Finished}
+use Rattle.radio_house.specs.Clients.{Client, client_of}
 use Rattle.radio_core.specs.Command.{does_asked}
-use Rattle.radio_core.specs.CommandFacts.{facts_asked, needs_of, sits_at}
+use Rattle.radio_house.specs.CommandFacts.{facts_asked, needs_of, sits_at}
 use Rattle.radio_core.specs.Draw.{hands_out_at}
-use Rattle.radio_core.specs.Facts.{rows_to_push, rows_to_listen, walks_to}
+use Rattle.radio_house.specs.Facts.{rows_to_push, rows_to_listen, walks_to}
 use Rattle.radio_core.specs.Listen.{asks_to_hear, sits_where}
 use Rattle.radio_core.specs.Outcomes.{if_undecided, if_feeding, if_sitting, on_verdict}
 use Rattle.radio_core.specs.Pages.{asks_by, asks_by_path}
 use Rattle.radio_core.specs.Push.{takes_in}
-use Rattle.radio_core.specs.Relays.{relay_of}
+use Rattle.radio_house.specs.Relays.{relay_of}
 use Rattle.radio_core.specs.Step.{outcome}
-use Rattle.radio_core.specs.World.{World, standing_of, standing_of_listener, standing_in, standing_seated}
+use Rattle.radio_house.specs.World.{World, standing_of, standing_of_listener, standing_in, standing_seated}
 use Rattle.radio_laws.specs.Locality.{ListenersAgree, SameListener, SitsBeyond, IsAll, IsWithin, AsksWithin, HearsWithin, FallBackWithin, WalksWithin}
 use Rattle.radio_laws.proofs.AgreeingLists.{FoundAgree, NoneFound, BothFound}
 use Rattle.radio_laws.proofs.Agreeing.{beyond, SessionsDo, as_many_live, live_alike, session_alike, all_sessions, ListenersDo, SeatsAgree, SameSeat, BothBeyond}

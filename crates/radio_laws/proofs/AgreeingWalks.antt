@@ -18,8 +18,8 @@ use Rattle.radio_fallback.specs.declared.moves.Turn.TheVariants.{Stays, GoesTo, 
 use Rattle.radio_fallback.specs.Walk.{Sight, is_full, sits_already, is_full_for, found_at, stop_of, landing_at, landing_here, hands_on, next_mount, onward, walk, landing}
 use Rattle.radio_fallback.specs.Carry.{concerns, walks_on, is_asked, turn_by, turn_in, turn_of, Carry, after_turn, turns, numbers_of, at_first, carried}
 use Rattle.radio_fallback.proofs.WalkLaws.{walks_ten}
-use Rattle.radio_core.specs.Facts.{sight_of, fallback_of}
-use Rattle.radio_core.specs.World.{World}
+use Rattle.radio_house.specs.Facts.{sight_of, fallback_of}
+use Rattle.radio_house.specs.World.{World}
 use Rattle.radio_laws.specs.Locality.{ListenersAgree, SameListener}
 use Rattle.radio_laws.proofs.AgreeingLists.{agree_all}
 use Rattle.radio_laws.proofs.Agreeing.{beyond, SessionsDo, live_alike, session_alike, ListenersDo, SeatsAgree, SameSeat, BothBeyond, numbers_alike, seat_alike, count_alike, sits_alike}

@@ -2,14 +2,16 @@
 use Rattle.std.proofs.Common.{◌≡◌, ℕ, ◌+◌, Some, None, List, refl, ap, sym, subst, ◌∙◌, arith}
 use Rattle.radio_settings.specs.declared.field.Shown.{Shown}
 use Rattle.radio_events.specs.declared.event.SourceRequest.{SourceRequest}
-use Rattle.radio_core.specs.declared.house.House.{House}
-use Rattle.radio_core.specs.declared.standing.Standing.TheVariants.{Feeds}
-use Rattle.radio_core.specs.Changes.{changed, begun, raised, called_home}
+use Rattle.radio_house.specs.House.{House}
+use Rattle.radio_house.specs.declared.standing.Standing.TheVariants.{Feeds}
+use Rattle.radio_core.specs.Changes.{changed, called_home}
+use Rattle.radio_house.specs.HouseChanges.{begun, raised}
 use Rattle.radio_core.specs.RelayUp.{raises}
 use Rattle.radio_core.specs.Sound.{IsSound}
-use Rattle.radio_core.specs.Source.{begins, shown_for}
+use Rattle.radio_core.specs.Source.{begins}
+use Rattle.radio_house.specs.Streams.{shown_for}
 use Rattle.radio_core.specs.Ways.{IsUndecided}
-use Rattle.radio_core.specs.World.{World}
+use Rattle.radio_house.specs.World.{World}
 use Rattle.radio_parts.specs.Sessions.{Session, session_of, opened, with_session}
 use Rattle.radio_core.proofs.CalledHome.{house_called}
 use Rattle.radio_core.proofs.SoundSessions.{begun_cases}

@@ -25,11 +25,12 @@ use Rattle.radio_events.specs.declared.event.Event.{Event}
 use Rattle.radio_events.specs.declared.reply.Reply.TheVariants.{Text as SaysText}
 use Rattle.radio_core.specs.declared.outcome.Change.TheVariants.{Answer, Obey}
 use Rattle.radio_core.specs.declared.outcome.Outcome.{Outcome}
-use Rattle.radio_core.specs.declared.standing.Standing.{Standing}
-use Rattle.radio_core.specs.declared.standing.Standing.TheVariants.{Unknown, Undecided, Sits, Answered, Finished}
+use Rattle.radio_house.specs.declared.standing.Standing.{Standing}
+use Rattle.radio_house.specs.declared.standing.Standing.TheVariants.{Unknown, Undecided, Sits, Answered, Finished}
 use Rattle.radio_core.specs.Changes.{answered, carried_along, changed, session_over}
 use Rattle.radio_core.specs.Command.{obeys, does_asked}
-use Rattle.radio_core.specs.CommandFacts.{IsCommanded, opened_by, opens_as_source, rows_to_command, is_live, sits_at}
+use Rattle.radio_core.specs.Allowed.{IsCommanded}
+use Rattle.radio_house.specs.CommandFacts.{opened_by, opens_as_source, rows_to_command, is_live, sits_at}
 use Rattle.radio_policy.specs.declared.rule.Rule.TheVariants.{NoMount, NoDestination, SameMount, NoClient, Killed}
 use Rattle.radio_seats.specs.declared.seat.Seat.{Seat}
 use Rattle.radio_seats.specs.Seats.{seat_in, seat_of, count_at, AreByNumber}
@@ -40,20 +41,20 @@ use Rattle.radio_fallback.specs.Carry.{concerns}
 use Rattle.radio_fallback.proofs.Faring.{Faring, HasStayed, HasGone, HasLost, fares}
 use Rattle.radio_core.specs.Command.{said_of}
 use Rattle.radio_core.specs.Counts.{counts_by}
-use Rattle.radio_core.specs.Facts.{sight_of}
-use Rattle.radio_core.specs.Fallbacks.{Fallback, set_for}
+use Rattle.radio_house.specs.Facts.{sight_of}
+use Rattle.radio_house.specs.Fallbacks.{Fallback, set_for}
 use Rattle.radio_parts.specs.Sessions.{Session, session_of, without_session}
 use Rattle.radio_parts.proofs.ApartLemmas.{bytes_apart}
 use Rattle.radio_parts.proofs.SessionLookups.{is_over, is_titled, beside_titled, beside_ended}
 use Rattle.radio_core.proofs.AllowedCommands.{is_opened, may_act, needs_hold}
 use Rattle.radio_core.proofs.ListingLemmas.{shown_long}
-use Rattle.radio_core.proofs.Lookups.{is_set, beside_set}
+use Rattle.radio_house.proofs.Lookups.{is_set, beside_set}
 use Rattle.radio_laws.proofs.ToldTexts.{IsToldFor, ByShowing, ByDoing, told_for}
 use Rattle.radio_laws.specs.Walks.{FallsBack, ByTheSettings, ByACommand}
 use Rattle.radio_core.specs.Outcomes.{on_verdict, if_undecided}
 use Rattle.radio_core.specs.Sound.{IsSound}
 use Rattle.radio_core.specs.Step.{outcome, reply_to, world_after}
-use Rattle.radio_core.specs.World.{World, standing_of}
+use Rattle.radio_house.specs.World.{World, standing_of}
 use Rattle.radio_core.proofs.Obeyed.{is_another, his_seat, has_been_killed, sits_no_more, beside_him, live, is_cut, named, turned, title_live, is_answered}
 use Rattle.radio_core.proofs.SoundRuns.{sound_after}
 use Rattle.radio_laws.proofs.GoneLemmas.{last_rises}

@@ -4,20 +4,21 @@ use Rattle.radio_tables.proofs.KeyLaws.{by_name}
 use Rattle.radio_events.specs.declared.command.Command.{Command as TheCommand}
 use Rattle.radio_events.specs.declared.command.Command.TheVariants.{MoveClients, KillClient, KillSource, SetTitle as NewTitle, SetFallback}
 use Rattle.radio_events.specs.declared.event.Event.{Event}
-use Rattle.radio_core.specs.declared.house.House.{House}
+use Rattle.radio_house.specs.House.{House}
 use Rattle.radio_core.specs.declared.outcome.Change.TheVariants.{Obey}
 use Rattle.radio_core.specs.declared.outcome.Outcome.{Outcome}
-use Rattle.radio_core.specs.Changes.{answered, begun, raised, changed, before_silence, silent_in, session_killed}
-use Rattle.radio_core.specs.CommandFacts.{IsCommanded}
-use Rattle.radio_core.specs.Fallbacks.{Fallback, set_for}
+use Rattle.radio_core.specs.Changes.{answered, changed, before_silence, silent_in, session_killed}
+use Rattle.radio_house.specs.HouseChanges.{begun, raised}
+use Rattle.radio_core.specs.Allowed.{IsCommanded}
+use Rattle.radio_house.specs.Fallbacks.{Fallback, set_for}
 use Rattle.radio_parts.specs.Sessions.{Session, session_of}
-use Rattle.radio_core.specs.Source.{shown_for}
+use Rattle.radio_house.specs.Streams.{shown_for}
 use Rattle.radio_core.specs.Step.{outcome, world_after}
 use Rattle.radio_core.specs.Ways.{Way, Misplaced, IsFinished, IsDenied, IsRefused, IsAdmitted, Begins, ComesUp, Receives, SetsTitle, TakesSeat, HandsOut, Ends}
 use Rattle.radio_core.specs.Ways.{EndsAndLeaves, Leaves, GoesDown, Obeys, Shows, HasPassed, Ticks}
-use Rattle.radio_core.specs.World.{World}
+use Rattle.radio_house.specs.World.{World}
 use Rattle.radio_core.proofs.CalledHome.{house_called}
-use Rattle.radio_core.proofs.Lookups.{beside_set}
+use Rattle.radio_house.proofs.Lookups.{beside_set}
 use Rattle.radio_core.proofs.Ways.{way_of}
 use Rattle.radio_laws.specs.Commanded.{FallbacksStay}
 use Rattle.radio_laws.proofs.TickOrder.{silence_sets}

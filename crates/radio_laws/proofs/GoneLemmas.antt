@@ -12,12 +12,13 @@ use Rattle.radio_events.specs.declared.reply.Reply.TheVariants.{Noted, Stray}
 use Rattle.radio_core.specs.Outcomes.{says, unless_relayed}
 use Rattle.radio_core.specs.RelayDown.{goes_down_from}
 use Rattle.radio_core.specs.declared.outcome.Outcome.{Outcome}
-use Rattle.radio_core.specs.declared.standing.Standing.{Standing}
-use Rattle.radio_core.specs.declared.standing.Standing.TheVariants.{Unknown, Undecided, Feeds, Sits, Answered, Finished}
-use Rattle.radio_core.specs.World.{World, standing_of, has_relay}
-use Rattle.radio_core.specs.Changes.{changed, session_ended, begun, raised}
-use Rattle.radio_core.specs.Source.{shown_for}
-use Rattle.radio_core.specs.declared.house.House.{House}
+use Rattle.radio_house.specs.declared.standing.Standing.{Standing}
+use Rattle.radio_house.specs.declared.standing.Standing.TheVariants.{Unknown, Undecided, Feeds, Sits, Answered, Finished}
+use Rattle.radio_house.specs.World.{World, standing_of, has_relay}
+use Rattle.radio_core.specs.Changes.{changed, session_ended}
+use Rattle.radio_house.specs.HouseChanges.{begun, raised}
+use Rattle.radio_house.specs.Streams.{shown_for}
+use Rattle.radio_house.specs.House.{House}
 use Rattle.radio_core.proofs.CommandLemmas.{obeyed_last}
 use Rattle.radio_core.proofs.CalledHome.{house_called}
 use Rattle.radio_laws.specs.Gone.{Leaving, AsClient, AsRelay, HasLeft, IsOutOfPlace, StaysGone}

@@ -6,15 +6,15 @@ use Rattle.std.specs.Option.{option_map}
 use Rattle.radio_policy.specs.declared.rule.Rule.TheVariants.{TimeOver, HeaderTimeout}
 use Rattle.radio_tables.proofs.FindLaws.{found_has}
 use Rattle.radio_seats.proofs.EndLaws.{kept_seat}
-use Rattle.radio_core.specs.declared.clients.ClientState.TheVariants.{Ended}
+use Rattle.radio_house.specs.declared.clients.ClientState.TheVariants.{Ended}
 use Rattle.radio_core.specs.Changes.{before_silence, session_silenced, silent_in, ticked}
-use Rattle.radio_core.specs.Clients.{Client, client_of, with_state}
+use Rattle.radio_house.specs.Clients.{Client, client_of, with_state}
 use Rattle.radio_laws.specs.Outstaying.{IsInTime}
 use Rattle.radio_parts.specs.Sessions.{Session, is_of, session_of, AreApart}
 use Rattle.radio_core.specs.Sound.{IsSound}
 use Rattle.radio_parts.specs.Timeouts.{has_sat_out, is_silent}
-use Rattle.radio_core.specs.Timeouts.{asks_too_late, timed_out}
-use Rattle.radio_core.specs.World.{World}
+use Rattle.radio_house.specs.Timeouts.{asks_too_late, timed_out}
+use Rattle.radio_house.specs.World.{World}
 use Rattle.radio_parts.proofs.ApartLemmas.{kept_apart}
 use Rattle.radio_parts.proofs.SilentSessions.{no_pass}
 use Rattle.radio_core.proofs.SilentLemmas.{silent_then}

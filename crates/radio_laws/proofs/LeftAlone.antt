@@ -10,7 +10,7 @@ use Rattle.radio_fallback.specs.declared.moves.Move.{Move}
 use Rattle.radio_events.specs.declared.command.Command.TheVariants.{MoveClients, KillClient, KillSource, SetTitle}
 use Rattle.radio_events.specs.declared.event.Event.{Event}
 use Rattle.radio_events.specs.declared.event.Event.TheVariants.{Source, Push, SourceEnd, Title, Listen, Draw, Leave, RelayUp, RelayDown, Clock}
-use Rattle.radio_core.specs.declared.standing.Standing.TheVariants.{Feeds}
+use Rattle.radio_house.specs.declared.standing.Standing.TheVariants.{Feeds}
 use Rattle.radio_core.specs.Finishes.{Cause, Finishes, SessionIsOver, IsFarBehind, HasSatOut, HasAskedNothing, HasSentNothing, IsKilled as ByACommand, HisSessionIsKilled}
 use Rattle.radio_core.specs.Moves.{Brings, ByItsEnd, ByItsLeaving, BySilence, ByComingUp, ByRelayUp, ByKilling, ByMoving, TakesTo, LeavesOut}
 use Rattle.radio_core.specs.SeatSteps.{SeatStep, Stays as SeatStays, IsHanded, SitsDown, IsMoved, Leaves, IsEnded, ComesUpOn, ASource, ARelay}
@@ -18,7 +18,7 @@ use Rattle.radio_core.specs.SeatSteps.{IsSent, HisSessionIsOver, HeIsCalledHome,
 use Rattle.radio_core.specs.SessionSteps.{SessionStep, Stays, Begins, BeginsForRelay, Grows, IsTitled, IsRetitled, Ends, IsKilled}
 use Rattle.radio_core.specs.Sound.{IsSound}
 use Rattle.radio_core.specs.Step.{world_after}
-use Rattle.radio_core.specs.World.{World, standing_of}
+use Rattle.radio_house.specs.World.{World, standing_of}
 use Rattle.radio_core.proofs.SeatSteps.{seats_step}
 use Rattle.radio_core.proofs.SessionSteps.{sessions_step}
 use Rattle.std.specs.Prelude.{◌+◌, length}
@@ -26,7 +26,7 @@ use Rattle.radio_parts.specs.Stream.{data_at}
 use Rattle.radio_fallback.specs.Carry.{at_his_turn}
 use Rattle.radio_fallback.proofs.Faring.{sits_as_before}
 use Rattle.radio_core.specs.Closing.{Closes, OfClient, OfRelay}
-use Rattle.radio_core.specs.Facts.{sight_of}
+use Rattle.radio_house.specs.Facts.{sight_of}
 use Rattle.radio_core.specs.Handing.{handed_at}
 use Rattle.radio_core.specs.Listen.{first_seat}
 use Rattle.radio_core.specs.Moves.{moved_into}

@@ -21,12 +21,12 @@ use Rattle.radio_fallback.specs.declared.walking.Landing.{Landing}
 use Rattle.radio_fallback.specs.Walk.{found_at, stop_of, stop_in, sits_already}
 use Rattle.radio_events.specs.declared.event.Event.TheVariants.{Listen}
 use Rattle.radio_events.specs.declared.event.ListenRequest.{ListenRequest}
-use Rattle.radio_core.specs.Facts.{is_known, names_mount, sight_of, walks_to, walk_stops}
+use Rattle.radio_house.specs.Facts.{is_known, names_mount, sight_of, walks_to, walk_stops}
 use Rattle.radio_laws.specs.Limits.{IsFullAt, SentUser, most_at, allows_duplicates_at}
 use Rattle.radio_laws.specs.LimitDenials.{HasUserAt}
 use Rattle.radio_laws.specs.Walks.{ComesBy, AtFirst}
 use Rattle.radio_core.specs.Ways.{rows_for}
-use Rattle.radio_core.specs.World.{World}
+use Rattle.radio_house.specs.World.{World}
 use Rattle.radio_core.proofs.Ways.{found_by}
 use Rattle.radio_laws.proofs.WalkLemmas.{full_at, both, WalkEnds, LandsThere, StopsThere, GoesTooFar, walk_ends}
 

@@ -25,18 +25,20 @@ use Rattle.radio_events.specs.declared.text.Text.{Text}
 use Rattle.radio_events.specs.Texts.{IsShort}
 use Rattle.radio_core.specs.declared.outcome.Change.TheVariants.{Answer}
 use Rattle.radio_core.specs.declared.outcome.Outcome.{Outcome}
-use Rattle.radio_core.specs.declared.standing.Standing.{Standing}
-use Rattle.radio_core.specs.declared.standing.Standing.TheVariants.{Undecided, Answered}
+use Rattle.radio_house.specs.declared.standing.Standing.{Standing}
+use Rattle.radio_house.specs.declared.standing.Standing.TheVariants.{Undecided, Answered}
 use Rattle.radio_core.specs.Changes.{changed}
 use Rattle.radio_core.specs.Command.{does_asked, shows}
-use Rattle.radio_core.specs.CommandFacts.{IsListed, is_live, facts_asked, rows_to_command}
+use Rattle.radio_core.specs.Allowed.{IsListed}
+use Rattle.radio_house.specs.CommandFacts.{is_live, facts_asked, rows_to_command}
 use Rattle.radio_core.specs.Counts.{counts_by}
-use Rattle.radio_core.specs.Listings.{shown}
-use Rattle.radio_core.specs.Pages.{IsShownBy, IsListing, IsAtPath, page_at}
+use Rattle.radio_house.specs.Listings.{shown}
+use Rattle.radio_core.specs.Pages.{IsShownBy, IsListing, IsAtPath}
+use Rattle.radio_house.specs.Pages.{page_at}
 use Rattle.radio_events.specs.Events.{client_in}
 use Rattle.radio_core.specs.Outcomes.{if_undecided, on_verdict}
 use Rattle.radio_core.specs.Step.{outcome, reply_to, world_after}
-use Rattle.radio_core.specs.World.{World, standing_of}
+use Rattle.radio_house.specs.World.{World, standing_of}
 use Rattle.radio_core.proofs.Standings.{asks, turns_answered}
 use Rattle.radio_core.proofs.AllowedCommands.{may_act, past_sent}
 use Rattle.radio_laws.proofs.ToldTexts.{IsToldFor, ByShowing, ByDoing, told_for}

@@ -7,7 +7,7 @@ use Rattle.radio_access.specs.Lists.{Lists, passes, lets_in}
 use Rattle.radio_events.specs.declared.event.Event.{Event}
 use Rattle.radio_seats.specs.declared.seat.Seat.{Seat}
 use Rattle.radio_seats.specs.Seats.{seat_of}
-use Rattle.radio_core.specs.declared.standing.Standing.TheVariants.{Undecided}
+use Rattle.radio_house.specs.declared.standing.Standing.TheVariants.{Undecided}
 use Rattle.radio_core.specs.Finishes.{Finishes}
 use Rattle.radio_core.specs.Handing.{handed_at}
 use Rattle.radio_core.specs.Listen.{first_seat}
@@ -16,11 +16,11 @@ use Rattle.radio_core.specs.SeatSteps.{SeatStep, Stays, IsHanded, SitsDown, IsMo
 use Rattle.radio_core.specs.Sound.{IsSound}
 use Rattle.radio_core.specs.Step.{world_after}
 use Rattle.radio_parts.specs.Stream.{data_at}
-use Rattle.radio_core.specs.World.{World, opening, standing_of}
+use Rattle.radio_house.specs.World.{World, opening, standing_of}
 use Rattle.radio_core.proofs.FinishLemmas.{undecided_before}
 use Rattle.std.proofs.lemmas.Bool.{and_parts}
 use Rattle.radio_fallback.proofs.TurnLemmas.{lands_where_he_fits}
-use Rattle.radio_core.specs.Facts.{sight_of}
+use Rattle.radio_house.specs.Facts.{sight_of}
 use Rattle.radio_core.specs.Moves.{moved_into}
 use Rattle.radio_core.proofs.SeatSteps.{seats_step}
 use Rattle.radio_core.proofs.SessionSteps.{keeps_settings}

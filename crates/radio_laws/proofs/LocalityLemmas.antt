@@ -20,19 +20,20 @@ use Rattle.radio_core.specs.declared.outcome.Change.{Change}
 use Rattle.radio_core.specs.declared.outcome.Change.TheVariants.{Nothing, Begin, Raise, Receive, End}
 use Rattle.radio_core.specs.declared.outcome.Change.TheVariants.{EndAndLeave, Tick, Obey}
 use Rattle.radio_core.specs.declared.outcome.Outcome.{Outcome}
-use Rattle.radio_core.specs.declared.standing.Standing.TheVariants.{Feeds}
-use Rattle.radio_core.specs.Changes.{changed, session_over, session_ended, received, session_killed, answered}
+use Rattle.radio_house.specs.declared.standing.Standing.TheVariants.{Feeds}
+use Rattle.radio_core.specs.Changes.{changed, session_over, session_ended, session_killed, answered}
+use Rattle.radio_house.specs.HouseChanges.{received}
 use Rattle.radio_core.specs.Closing.{Closes, OfClient, OfRelay}
-use Rattle.radio_core.specs.CommandFacts.{IsCommanded}
-use Rattle.radio_core.specs.Facts.{live_end}
+use Rattle.radio_core.specs.Allowed.{IsCommanded}
+use Rattle.radio_house.specs.Facts.{live_end}
 use Rattle.radio_core.specs.Listen.{first_seat}
-use Rattle.radio_core.specs.Source.{shown_for}
+use Rattle.radio_house.specs.Streams.{shown_for}
 use Rattle.radio_parts.specs.Stream.{data_at}
-use Rattle.radio_core.specs.declared.house.House.{House}
+use Rattle.radio_house.specs.House.{House}
 use Rattle.radio_core.specs.Step.{outcome, reply_to, world_after}
 use Rattle.radio_core.specs.Ways.{Way, Misplaced, IsFinished, IsDenied, IsRefused, IsAdmitted, Begins, ComesUp, Receives, SetsTitle, TakesSeat, HandsOut, Ends}
 use Rattle.radio_core.specs.Ways.{EndsAndLeaves, Leaves, GoesDown, Obeys, Shows, HasPassed, Ticks}
-use Rattle.radio_core.specs.World.{World, standing_of}
+use Rattle.radio_house.specs.World.{World, standing_of}
 use Rattle.radio_core.proofs.Ways.{way_of}
 use Rattle.radio_laws.specs.Locality.{AgreeWithin, SessionsAgree, SameSession, ListenersAgree, SameListener, IsAll, IsWithin, AsksWithin, ComesUpWithin, WalksWithin}
 use Rattle.radio_laws.specs.Locality.{AnswersAlike}

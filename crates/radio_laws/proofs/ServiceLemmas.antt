@@ -13,25 +13,27 @@ use Rattle.radio_events.specs.declared.event.Event.{Event}
 use Rattle.radio_events.specs.declared.event.Event.TheVariants.{Arrive, Source, Push, SourceEnd, Title, Listen, Draw, RelayUp, RelayDown}
 use Rattle.radio_events.specs.declared.event.SourceRequest.{SourceRequest}
 use Rattle.radio_events.specs.declared.event.ListenRequest.{ListenRequest}
-use Rattle.radio_core.specs.declared.clients.ClientState.TheVariants.{Undecided as IsNew}
+use Rattle.radio_house.specs.declared.clients.ClientState.TheVariants.{Undecided as IsNew}
 use Rattle.radio_core.specs.declared.outcome.Change.{Change}
 use Rattle.radio_core.specs.declared.outcome.Change.TheVariants.{Nothing, SetTitle, End, EndAndLeave}
 use Rattle.radio_core.specs.declared.outcome.Outcome.{Outcome}
 use Rattle.radio_events.specs.declared.reply.Reply.TheVariants.{Noted, Finished, Stray}
 use Rattle.radio_seats.specs.declared.seat.Seat.{Seat}
-use Rattle.radio_core.specs.declared.standing.Standing.{Standing}
-use Rattle.radio_core.specs.declared.standing.Standing.TheVariants.{Unknown, Undecided, Feeds, Sits, Answered}
-use Rattle.radio_core.specs.World.{World, standing_of, has_relay}
+use Rattle.radio_house.specs.declared.standing.Standing.{Standing}
+use Rattle.radio_house.specs.declared.standing.Standing.TheVariants.{Unknown, Undecided, Feeds, Sits, Answered}
+use Rattle.radio_house.specs.World.{World, standing_of, has_relay}
 use Rattle.radio_core.specs.Changes.{changed}
 use Rattle.radio_fallback.specs.declared.walking.Landing.TheVariants.{Lands}
-use Rattle.radio_core.specs.Facts.{rows_to_arrive, rows_to_feed, rows_to_raise, rows_to_push, rows_to_listen, walks_to}
+use Rattle.radio_house.specs.Facts.{rows_to_arrive, rows_to_feed, rows_to_raise, rows_to_push, rows_to_listen, walks_to}
 use Rattle.radio_laws.specs.Walks.{ComesBy}
 use Rattle.radio_laws.proofs.WalkLemmas.{lands_on_his_way}
 use Rattle.radio_core.specs.Outcomes.{says, on_verdict, if_undecided, if_feeding, if_sitting, unless_relayed}
 use Rattle.radio_core.specs.Arrive.{admits_client}
-use Rattle.radio_core.specs.Source.{shown_for, begins}
+use Rattle.radio_house.specs.Streams.{shown_for}
+use Rattle.radio_core.specs.Source.{begins}
 use Rattle.radio_core.specs.Push.{takes_in}
-use Rattle.radio_core.specs.Listen.{first_seat, head_of, takes_seat, sits_where}
+use Rattle.radio_core.specs.Listen.{first_seat, takes_seat, sits_where}
+use Rattle.radio_house.specs.Streams.{head_of}
 use Rattle.radio_core.specs.Draw.{hands_out, hands_out_at}
 use Rattle.radio_seats.specs.Seats.{seat_of}
 use Rattle.radio_laws.specs.Service.{IsTakenIn, IsHanded, Serves, ChangesNothing}
@@ -40,11 +42,11 @@ use Rattle.radio_core.specs.Sound.{IsSound}
 use Rattle.radio_core.specs.Step.{outcome, reply_to, world_after}
 use Rattle.radio_core.specs.Ways.{Way, Misplaced, IsFinished, IsDenied, IsRefused, IsAdmitted, Begins, ComesUp, Receives, SetsTitle, TakesSeat, HandsOut, Ends}
 use Rattle.radio_core.specs.Ways.{EndsAndLeaves, Leaves, GoesDown, Obeys, Shows, HasPassed, Ticks}
-use Rattle.radio_core.specs.Clients.{Client, client_of}
+use Rattle.radio_house.specs.Clients.{Client, client_of}
 use Rattle.radio_parts.specs.Stream.{WholeStream, end_of, data_at}
 use Rattle.radio_core.proofs.CalledHome.{turns_up, turns_risen}
 use Rattle.radio_parts.proofs.SessionLookups.{found_named, is_longer, is_titled, is_over}
-use Rattle.radio_core.proofs.Lookups.{is_new_client}
+use Rattle.radio_house.proofs.Lookups.{is_new_client}
 use Rattle.radio_core.proofs.SoundEnds.{turns_ended, turns_ended_and_left}
 use Rattle.radio_core.proofs.SoundSessions.{has_advanced}
 use Rattle.radio_core.proofs.SeatedLemmas.{seat_of_sitting}

@@ -17,8 +17,8 @@ use Rattle.radio_laws.proofs.BegunLemmas.{source_begins, relay_begins}
 use Rattle.radio_core.specs.declared.outcome.Change.TheVariants.{Receive, SetTitle}
 use Rattle.radio_core.specs.declared.outcome.Outcome.{Outcome}
 use Rattle.radio_seats.specs.declared.seat.Seat.{Seat}
-use Rattle.radio_core.specs.declared.standing.Standing.TheVariants.{Unknown, Undecided, Feeds}
-use Rattle.radio_core.specs.World.{World, opening, standing_of}
+use Rattle.radio_house.specs.declared.standing.Standing.TheVariants.{Unknown, Undecided, Feeds}
+use Rattle.radio_house.specs.World.{World, opening, standing_of}
 use Rattle.radio_core.specs.Changes.{changed}
 use Rattle.radio_core.specs.Handing.{block_in, of_client, handed_at, handed, delivered_at, delivered}
 use Rattle.radio_seats.specs.Seats.{seat_of}
@@ -37,7 +37,8 @@ use Rattle.radio_core.specs.Moves.{moved_into}
 use Rattle.radio_core.proofs.SeatSteps.{seats_step}
 use Rattle.radio_parts.proofs.RisingLemmas.{burst_within}
 use Rattle.radio_core.specs.Finishes.{Finishes}
-use Rattle.radio_core.specs.Listen.{first_seat, burst_of}
+use Rattle.radio_core.specs.Listen.{first_seat}
+use Rattle.radio_house.specs.Streams.{burst_of}
 use Rattle.radio_core.specs.SeatSteps.{SeatStep, Stays, IsHanded, SitsDown, IsMoved, Leaves as HeLeaves, IsEnded as HeIsEnded}
 use Rattle.radio_policy.specs.declared.rule.Rule.{Rule}
 use Rattle.radio_core.proofs.SoundSessions.{grown_cases}

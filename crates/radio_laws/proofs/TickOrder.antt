@@ -8,7 +8,7 @@ use Rattle.radio_policy.specs.declared.rule.Rule.{Rule}
 use Rattle.radio_policy.specs.declared.rule.Rule.TheVariants.{HeaderTimeout, TimeOver, SourceSilent, NotLive}
 use Rattle.radio_settings.specs.declared.settings.Settings.{Settings}
 use Rattle.radio_settings.specs.Options.{options_for}
-use Rattle.radio_core.specs.Fallbacks.{Fallback, set_for}
+use Rattle.radio_house.specs.Fallbacks.{Fallback, set_for}
 use Rattle.radio_tables.proofs.KeyLaws.{by_number, by_name}
 use Rattle.radio_seats.specs.declared.seat.Listener.{Listener}
 use Rattle.radio_seats.specs.declared.seat.Seat.{Seat}
@@ -28,14 +28,14 @@ use Rattle.radio_fallback.specs.Carry.{walks_on, turn_in, at_his_turn}
 use Rattle.radio_fallback.proofs.Faring.{Faring, HasStayed, HasGone, HasLost, fares, sits_as_before}
 use Rattle.radio_fallback.proofs.WalkLaws.{stopped_where_it_begins}
 use Rattle.radio_events.specs.declared.event.Event.TheVariants.{Clock}
-use Rattle.radio_core.specs.declared.clients.ClientState.TheVariants.{Undecided as IsNew, Ended}
+use Rattle.radio_house.specs.declared.clients.ClientState.TheVariants.{Undecided as IsNew, Ended}
 use Rattle.radio_core.specs.declared.outcome.Change.TheVariants.{Nothing, Tick}
-use Rattle.radio_core.specs.declared.standing.Standing.{Standing}
-use Rattle.radio_core.specs.declared.standing.Standing.TheVariants.{Undecided, Feeds, Sits, Finished}
+use Rattle.radio_house.specs.declared.standing.Standing.{Standing}
+use Rattle.radio_house.specs.declared.standing.Standing.TheVariants.{Undecided, Feeds, Sits, Finished}
 use Rattle.radio_core.specs.Changes.{changed, session_over, session_ended, before_silence, session_silenced, silent_in, ticked}
-use Rattle.radio_core.specs.Clients.{Client, client_of, with_state}
-use Rattle.radio_core.specs.Relays.{Relay, relay_of}
-use Rattle.radio_core.specs.Facts.{sight_of, fallback_of}
+use Rattle.radio_house.specs.Clients.{Client, client_of, with_state}
+use Rattle.radio_house.specs.Relays.{Relay, relay_of}
+use Rattle.radio_house.specs.Facts.{sight_of, fallback_of}
 use Rattle.radio_core.specs.Finishes.{Cause, SessionIsOver, IsFarBehind, HasSatOut, HasAskedNothing, HasSentNothing, IsKilled, HisSessionIsKilled}
 use Rattle.radio_core.specs.Moves.{TakesTo, his_turn}
 use Rattle.radio_laws.specs.Outstaying.{IsInTime, IsEndedInOrder, NobodyOutstays}
@@ -43,8 +43,8 @@ use Rattle.radio_parts.specs.Sessions.{Session, session_of}
 use Rattle.radio_core.specs.Sound.{IsSound}
 use Rattle.radio_core.specs.Step.{outcome, world_after}
 use Rattle.radio_parts.specs.Timeouts.{has_sat_out, is_silent}
-use Rattle.radio_core.specs.Timeouts.{asks_too_late, timed_out}
-use Rattle.radio_core.specs.World.{World, standing_of, standing_in}
+use Rattle.radio_house.specs.Timeouts.{asks_too_late, timed_out}
+use Rattle.radio_house.specs.World.{World, standing_of, standing_in}
 use Rattle.radio_core.proofs.Fates.{Fate, GoesOn, IsEnded, HasStopped, IsMoved, HasEnded, Nobody, IsActive, sound_fates, lost_in}
 use Rattle.radio_parts.proofs.SessionLookups.{is_over}
 use Rattle.radio_core.proofs.TickLemmas.{ClockCause, ClockCarries, ClockFates, asking_at, clients_after, timed, sound_timed}

@@ -4,8 +4,8 @@ use Rattle.radio_policy.specs.declared.rule.Rule.{Rule}
 use Rattle.radio_settings.specs.declared.settings.Settings.{Settings}
 use Rattle.radio_access.specs.Lists.{Lists}
 use Rattle.radio_events.specs.declared.event.Event.{Event}
-use Rattle.radio_core.specs.declared.standing.Standing.TheVariants.{Finished as HasFinished}
-use Rattle.radio_core.specs.World.{World, opening, standing_of}
+use Rattle.radio_house.specs.declared.standing.Standing.TheVariants.{Finished as HasFinished}
+use Rattle.radio_house.specs.World.{World, opening, standing_of}
 use Rattle.radio_core.specs.Finishes.{Finishes}
 use Rattle.radio_core.specs.Run.{world_after_all, run_after}
 use Rattle.radio_core.specs.Sound.{IsSound}

@@ -7,15 +7,15 @@ use Rattle.radio_events.specs.declared.reply.Reply.TheVariants.{Text as SaysText
 use Rattle.radio_events.specs.declared.text.Text.{Text}
 use Rattle.radio_events.specs.Events.{client_in}
 use Rattle.radio_core.specs.declared.outcome.Outcome.{Outcome}
-use Rattle.radio_core.specs.declared.standing.Standing.TheVariants.{Undecided}
+use Rattle.radio_house.specs.declared.standing.Standing.TheVariants.{Undecided}
 use Rattle.radio_core.specs.Command.{said_of}
-use Rattle.radio_core.specs.CommandFacts.{IsCommanded}
+use Rattle.radio_core.specs.Allowed.{IsCommanded}
 use Rattle.radio_core.specs.Counts.{counts_by}
 use Rattle.radio_core.specs.Pages.{IsShownBy}
 use Rattle.radio_core.specs.Step.{outcome, reply_to}
 use Rattle.radio_core.specs.Ways.{Way, Misplaced, IsFinished, IsDenied, IsRefused, IsAdmitted, Begins, ComesUp, Receives, SetsTitle, TakesSeat, HandsOut, Ends}
 use Rattle.radio_core.specs.Ways.{EndsAndLeaves, Leaves, GoesDown, Obeys, Shows, HasPassed, Ticks}
-use Rattle.radio_core.specs.World.{World, standing_of}
+use Rattle.radio_house.specs.World.{World, standing_of}
 use Rattle.radio_core.proofs.Ways.{way_of}
 
 -- whoever is told it has asked to be shown something of the station, or has given a command

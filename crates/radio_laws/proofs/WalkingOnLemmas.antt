@@ -29,10 +29,10 @@ use Rattle.radio_seats.specs.declared.seat.Seating.TheVariants.{Finished as HasF
 use Rattle.radio_events.specs.declared.reply.Reply.TheVariants.{Noted, Stray}
 use Rattle.radio_core.specs.declared.outcome.Change.TheVariants.{Nothing, Answer, End, EndAndLeave}
 use Rattle.radio_core.specs.declared.outcome.Outcome.{Outcome}
-use Rattle.radio_core.specs.declared.standing.Standing.{Standing}
-use Rattle.radio_core.specs.declared.standing.Standing.TheVariants.{Undecided, Feeds}
+use Rattle.radio_house.specs.declared.standing.Standing.{Standing}
+use Rattle.radio_house.specs.declared.standing.Standing.TheVariants.{Undecided, Feeds}
 use Rattle.radio_core.specs.Changes.{changed, carried_along, called_home, session_over, before_silence, session_silenced}
-use Rattle.radio_core.specs.Facts.{sight_of, rows_to_feed, rows_to_raise, live_end}
+use Rattle.radio_house.specs.Facts.{sight_of, rows_to_feed, rows_to_raise, live_end}
 use Rattle.radio_core.specs.Moves.{Brings, ByItsEnd, ByItsLeaving, BySilence, ByComingUp, ByRelayUp, ByKilling, ByMoving, his_turn}
 use Rattle.radio_core.specs.Outcomes.{says, if_feeding, unless_relayed, if_undecided, on_verdict}
 use Rattle.radio_core.specs.Leave.{leaves_from}
@@ -43,7 +43,7 @@ use Rattle.radio_core.specs.Sound.{IsSound}
 use Rattle.radio_core.specs.Source.{begins}
 use Rattle.radio_core.specs.Step.{outcome, world_after}
 use Rattle.radio_parts.specs.Stream.{end_of}
-use Rattle.radio_core.specs.World.{World, standing_of, has_relay}
+use Rattle.radio_house.specs.World.{World, standing_of, has_relay}
 use Rattle.radio_laws.specs.WalkingOn.{FaresByHisTurn, ListenersWalkOn, MovesAreWhole}
 use Rattle.radio_laws.proofs.CommandLaws.{later_so}
 use Rattle.radio_core.proofs.Obeyed.{is_cut, named}

@@ -20,16 +20,17 @@ use Rattle.radio_events.specs.declared.reply.Reply.TheVariants.{Text as SaysText
 use Rattle.radio_events.specs.declared.text.Text.{Text}
 use Rattle.radio_core.specs.declared.outcome.Change.TheVariants.{Answer}
 use Rattle.radio_core.specs.declared.outcome.Outcome.{Outcome}
-use Rattle.radio_core.specs.declared.standing.Standing.{Standing}
-use Rattle.radio_core.specs.declared.standing.Standing.TheVariants.{Undecided, Answered}
+use Rattle.radio_house.specs.declared.standing.Standing.{Standing}
+use Rattle.radio_house.specs.declared.standing.Standing.TheVariants.{Undecided, Answered}
 use Rattle.radio_core.specs.Changes.{changed}
-use Rattle.radio_core.specs.Facts.{names_mount, source_facts_at}
-use Rattle.radio_core.specs.Listings.{mount_rows}
+use Rattle.radio_house.specs.Facts.{names_mount, source_facts_at}
+use Rattle.radio_house.specs.Listings.{mount_rows}
 use Rattle.radio_core.specs.Outcomes.{says, if_undecided, on_verdict}
-use Rattle.radio_core.specs.Pages.{asks_by, page_at, server_as, shows_page}
+use Rattle.radio_core.specs.Pages.{asks_by, shows_page}
+use Rattle.radio_house.specs.Pages.{page_at, server_as}
 use Rattle.radio_core.specs.Source.{begins}
 use Rattle.radio_core.specs.Step.{outcome, reply_to, world_after}
-use Rattle.radio_core.specs.World.{World, standing_of}
+use Rattle.radio_house.specs.World.{World, standing_of}
 use Rattle.radio_core.proofs.Standings.{asks, turns_answered}
 use Rattle.radio_laws.specs.Shown.{IsPath, StatusIsOn, PageIsOn, TellsAt, IsShownAtPath, WhoVisitsIsShown, NobodyFeedsAPath}
 use Rattle.radio_laws.proofs.ListingRows.{rows_tell}

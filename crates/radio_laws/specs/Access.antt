@@ -3,13 +3,13 @@ use Rattle.radio_events.specs.declared.event.Event.{Event}
 use Rattle.radio_events.specs.declared.event.Event.TheVariants.{Draw}
 use Rattle.radio_events.specs.declared.reply.Reply.TheVariants.{Drawn}
 use Rattle.radio_seats.specs.declared.seat.Seat.{Seat}
-use Rattle.radio_core.specs.declared.standing.Standing.TheVariants.{Sits}
+use Rattle.radio_house.specs.declared.standing.Standing.TheVariants.{Sits}
 use Rattle.radio_laws.specs.Open.{IsOpenTo}
 use Rattle.radio_seats.specs.Seats.{seat_of}
 use Rattle.radio_parts.specs.Sessions.{Session, session_of}
 use Rattle.radio_core.specs.Step.{reply_to}
 use Rattle.radio_parts.specs.Stream.{data_at}
-use Rattle.radio_core.specs.World.{World, standing_of}
+use Rattle.radio_house.specs.World.{World, standing_of}
 
 -- these bytes are the listener's to hear, who draws: they stand at his place in the stream of the mount where he sits, that mount is open to him, and the
 -- title is the one it has

@@ -6,13 +6,13 @@ use Rattle.radio_events.specs.declared.event.Event.TheVariants.{Listen}
 use Rattle.radio_events.specs.declared.event.ListenRequest.{ListenRequest}
 use Rattle.radio_events.specs.declared.reply.Reply.TheVariants.{Seated}
 use Rattle.radio_seats.specs.declared.seat.Seat.{Seat}
-use Rattle.radio_core.specs.declared.standing.Standing.TheVariants.{Undecided}
+use Rattle.radio_house.specs.declared.standing.Standing.TheVariants.{Undecided}
 use Rattle.radio_settings.specs.Options.{options_for}
 use Rattle.radio_seats.specs.Seats.{seat_of}
 use Rattle.radio_parts.specs.Sessions.{Session, session_of}
 use Rattle.radio_core.specs.Step.{reply_to, world_after}
 use Rattle.radio_parts.specs.Stream.{WholeStream, end_of}
-use Rattle.radio_core.specs.World.{World, standing_of}
+use Rattle.radio_house.specs.World.{World, standing_of}
 use Rattle.radio_access.specs.Lists.{lets_in}
 use Rattle.radio_laws.specs.Walks.{ComesBy}
 

@@ -17,13 +17,13 @@ use Rattle.radio_events.specs.declared.reply.Reply.TheVariants.{Text as SaysText
 use Rattle.radio_events.specs.declared.text.Text.{Text}
 use Rattle.radio_events.specs.declared.text.Text.TheVariants.{Done, Moved}
 use Rattle.radio_events.specs.Texts.{IsShort}
-use Rattle.radio_core.specs.declared.standing.Standing.TheVariants.{Undecided, Answered, Finished}
-use Rattle.radio_core.specs.CommandFacts.{IsCommanded}
-use Rattle.radio_core.specs.Fallbacks.{set_for}
+use Rattle.radio_house.specs.declared.standing.Standing.TheVariants.{Undecided, Answered, Finished}
+use Rattle.radio_core.specs.Allowed.{IsCommanded}
+use Rattle.radio_house.specs.Fallbacks.{set_for}
 use Rattle.radio_core.specs.Handing.{handed}
 use Rattle.radio_parts.specs.Sessions.{Session, session_of}
 use Rattle.radio_core.specs.Step.{reply_to, world_after}
-use Rattle.radio_core.specs.World.{World, standing_of}
+use Rattle.radio_house.specs.World.{World, standing_of}
 use Rattle.radio_laws.specs.Walks.{FallsBack}
 
 -- the user and the password of the admin, byte for byte

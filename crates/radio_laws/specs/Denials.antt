@@ -17,12 +17,12 @@ use Rattle.radio_events.specs.declared.event.SourceRequest.{SourceRequest}
 use Rattle.radio_events.specs.declared.event.ListenRequest.{ListenRequest}
 use Rattle.radio_events.specs.declared.reply.Reply.TheVariants.{Feeding, Deny}
 use Rattle.radio_events.specs.Events.{client_in}
-use Rattle.radio_core.specs.declared.clients.ClientState.TheVariants.{Undecided, Answered}
-use Rattle.radio_core.specs.Clients.{Client, client_of}
+use Rattle.radio_house.specs.declared.clients.ClientState.TheVariants.{Undecided, Answered}
+use Rattle.radio_house.specs.Clients.{Client, client_of}
 use Rattle.radio_parts.specs.Sessions.{Session, session_of}
 use Rattle.radio_core.specs.Step.{reply_to, world_after}
 use Rattle.radio_core.specs.Ways.{rows_for, IsUndecided}
-use Rattle.radio_core.specs.World.{World}
+use Rattle.radio_house.specs.World.{World}
 
 -- the state as it was, but that the client who asked, if he had asked for nothing before, has had his answer
 pub record IsOnlyAnswered (w later : World) (client : Option ℕ) : Type 0 where

@@ -3,12 +3,12 @@ use Rattle.radio_events.specs.declared.event.Event.{Event}
 use Rattle.radio_events.specs.declared.event.Event.TheVariants.{Leave, RelayDown}
 use Rattle.radio_core.specs.declared.outcome.Change.TheVariants.{Nothing}
 use Rattle.radio_events.specs.declared.reply.Reply.TheVariants.{Noted, Stray}
-use Rattle.radio_core.specs.declared.standing.Standing.TheVariants.{Unknown}
+use Rattle.radio_house.specs.declared.standing.Standing.TheVariants.{Unknown}
 use Rattle.radio_core.specs.Handing.{handed, delivered}
 use Rattle.radio_core.specs.Outcomes.{says}
 use Rattle.radio_core.specs.Run.{world_after_all}
 use Rattle.radio_core.specs.Step.{outcome, reply_to}
-use Rattle.radio_core.specs.World.{World, standing_of, has_relay}
+use Rattle.radio_house.specs.World.{World, standing_of, has_relay}
 
 -- by the event a client leaves, or a relay has gone down
 pub data Leaving (w : World) (id : ℕ) : Event → Type 0 where

@@ -11,7 +11,7 @@ use Rattle.radio_events.specs.declared.event.Event.TheVariants.{Listen}
 use Rattle.radio_events.specs.declared.event.ListenRequest.{ListenRequest}
 use Rattle.radio_events.specs.declared.reply.Reply.TheVariants.{Deny}
 use Rattle.radio_core.specs.Step.{reply_to}
-use Rattle.radio_core.specs.World.{World}
+use Rattle.radio_house.specs.World.{World}
 use Rattle.radio_laws.specs.Limits.{SentUser, IsFullAt, allows_duplicates_at}
 use Rattle.radio_laws.specs.Walks.{ComesBy}
 

@@ -10,7 +10,7 @@ use Rattle.radio_events.specs.declared.event.Event.{Event}
 use Rattle.radio_events.specs.declared.event.Event.TheVariants.{Arrive, RelayUp}
 use Rattle.radio_events.specs.declared.reply.Reply.TheVariants.{Arrived, Feeding}
 use Rattle.radio_core.specs.Step.{reply_to}
-use Rattle.radio_core.specs.World.{World}
+use Rattle.radio_house.specs.World.{World}
 
 -- how many may sit at the mount, if the settings limit it
 abbrev pub most_at : World → List ℕ → Option ℕ

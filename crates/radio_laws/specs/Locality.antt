@@ -13,9 +13,9 @@ use Rattle.radio_events.specs.declared.command.Asked.{Asked}
 use Rattle.radio_events.specs.declared.command.Asked.TheVariants.{NoCommand, MissingArgument, Listing as AsksFor, Command as Asks}
 use Rattle.radio_events.specs.declared.command.Command.TheVariants.{MoveClients, KillClient, KillSource, SetTitle, SetFallback}
 use Rattle.radio_events.specs.declared.command.Listing.TheVariants.{Clients}
-use Rattle.radio_core.specs.declared.standing.Standing.TheVariants.{Feeds}
+use Rattle.radio_house.specs.declared.standing.Standing.TheVariants.{Feeds}
 use Rattle.radio_core.specs.Step.{reply_to, world_after}
-use Rattle.radio_core.specs.World.{World, standing_of}
+use Rattle.radio_house.specs.World.{World, standing_of}
 use Rattle.radio_laws.specs.Shown.{IsPath}
 use Rattle.radio_laws.specs.Walks.{FallsBack}
 use Rattle.radio_settings.specs.declared.web.WebPath.TheVariants.{IcecastStatus}

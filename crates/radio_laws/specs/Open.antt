@@ -3,7 +3,7 @@ use Rattle.radio_access.specs.Lists.{passes, lets_in}
 use Rattle.radio_seats.specs.declared.seat.Seat.{Seat}
 use Rattle.radio_laws.specs.Limits.{SentUser, SitsThereAs, allows_duplicates_at}
 use Rattle.radio_parts.specs.Sessions.{Session, session_of}
-use Rattle.radio_core.specs.World.{World}
+use Rattle.radio_house.specs.World.{World}
 
 -- the mount where the listener of this number sits is open to him: it is live, in the session in which he was seated; his address
 -- passes the address lists; the mount has no users, or they accept the pair that he sent; and where each user may sit once, nobody

@@ -4,14 +4,14 @@ use Rattle.radio_events.specs.declared.event.Event.TheVariants.{Clock}
 use Rattle.radio_seats.specs.declared.seat.Seat.{Seat}
 use Rattle.radio_seats.specs.Seats.{seat_of}
 use Rattle.radio_laws.specs.Walks.{FallsBack}
-use Rattle.radio_core.specs.Clients.{Client, client_of}
+use Rattle.radio_house.specs.Clients.{Client, client_of}
 use Rattle.radio_parts.specs.Sessions.{Session, session_of}
 use Rattle.radio_core.specs.Step.{world_after}
 use Rattle.radio_parts.specs.Timeouts.{has_sat_out, is_silent}
-use Rattle.radio_core.specs.Timeouts.{asks_too_late}
-use Rattle.radio_core.specs.declared.standing.Standing.TheVariants.{Finished}
+use Rattle.radio_house.specs.Timeouts.{asks_too_late}
+use Rattle.radio_house.specs.declared.standing.Standing.TheVariants.{Finished}
 use Rattle.radio_policy.specs.declared.rule.Rule.TheVariants.{HeaderTimeout, TimeOver, SourceSilent, NotLive}
-use Rattle.radio_core.specs.World.{World, standing_of}
+use Rattle.radio_house.specs.World.{World, standing_of}
 
 -- at this moment no seat has had its time, no client who has asked for nothing, and no source that has sent nothing
 pub record IsInTime (w : World) (ms : ℕ) : Type 0 where

@@ -10,16 +10,16 @@ use Rattle.radio_events.specs.declared.event.ListenRequest.{ListenRequest}
 use Rattle.radio_events.specs.declared.reply.StreamHead.{StreamHead}
 use Rattle.radio_events.specs.declared.reply.Reply.TheVariants.{Arrived, Feeding, Noted, Seated, Drawn, Finished, Stray}
 use Rattle.radio_seats.specs.declared.seat.Seat.{Seat}
-use Rattle.radio_core.specs.declared.standing.Standing.TheVariants.{Unknown, Undecided, Feeds, Sits, Answered}
-use Rattle.radio_core.specs.Facts.{rows_to_arrive, rows_to_feed, rows_to_raise, rows_to_push, rows_to_listen}
-use Rattle.radio_core.specs.Listen.{interval_for}
+use Rattle.radio_house.specs.declared.standing.Standing.TheVariants.{Unknown, Undecided, Feeds, Sits, Answered}
+use Rattle.radio_house.specs.Facts.{rows_to_arrive, rows_to_feed, rows_to_raise, rows_to_push, rows_to_listen}
+use Rattle.radio_house.specs.Streams.{interval_for}
 use Rattle.radio_seats.specs.Seats.{seat_of}
 use Rattle.radio_parts.specs.Sessions.{Session, session_of}
 use Rattle.radio_core.specs.Step.{reply_to, world_after}
 use Rattle.radio_parts.specs.Stream.{end_of, data_at}
-use Rattle.radio_core.specs.Clients.{client_of}
-use Rattle.radio_core.specs.declared.clients.ClientState.TheVariants.{Undecided as IsNew}
-use Rattle.radio_core.specs.World.{World, standing_of, has_relay}
+use Rattle.radio_house.specs.Clients.{client_of}
+use Rattle.radio_house.specs.declared.clients.ClientState.TheVariants.{Undecided as IsNew}
+use Rattle.radio_house.specs.World.{World, standing_of, has_relay}
 use Rattle.radio_settings.specs.declared.field.Shown.{Shown}
 use Rattle.radio_laws.specs.Walks.{ComesBy}
 

@@ -11,7 +11,7 @@ use Rattle.radio_core.specs.Step.{world_after}
 use Rattle.radio_core.specs.Moves.{TakesTo}
 use Rattle.radio_core.specs.SeatSteps.{IsSent}
 use Rattle.radio_parts.specs.Stream.{end_of}
-use Rattle.radio_core.specs.World.{World, opening}
+use Rattle.radio_house.specs.World.{World, opening}
 
 -- what stands between two places of some data
 abbrev pub between : ℕ → ℕ → List ℕ → List ℕ

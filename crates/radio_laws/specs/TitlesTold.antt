@@ -18,7 +18,7 @@ use Rattle.radio_parts.specs.Sessions.{session_of}
 use Rattle.radio_core.specs.Run.{run_after}
 use Rattle.radio_seats.specs.Seats.{seat_of}
 use Rattle.radio_core.specs.Step.{reply_to, world_after}
-use Rattle.radio_core.specs.World.{World, opening}
+use Rattle.radio_house.specs.World.{World, opening}
 
 -- the title in an event
 abbrev pub title_in : Event → List (List ℕ)

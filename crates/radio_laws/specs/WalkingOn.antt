@@ -14,12 +14,12 @@ use Rattle.radio_events.specs.declared.event.SourceRequest.{SourceRequest}
 use Rattle.radio_events.specs.declared.command.Command.TheVariants.{MoveClients, KillSource}
 use Rattle.radio_core.specs.Changes.{carried_along, session_over}
 use Rattle.radio_core.specs.Closing.{Closes}
-use Rattle.radio_core.specs.CommandFacts.{IsCommanded}
+use Rattle.radio_core.specs.Allowed.{IsCommanded}
 use Rattle.radio_core.specs.Moves.{Brings, his_turn}
 use Rattle.radio_parts.specs.Sessions.{Session, session_of}
 use Rattle.radio_core.specs.Step.{world_after}
 use Rattle.radio_parts.specs.Stream.{end_of}
-use Rattle.radio_core.specs.World.{World}
+use Rattle.radio_house.specs.World.{World}
 
 -- one who had this seat before the move: he goes on at the end of the stream of the mount to which his turn takes him, or has finished by the rule that leaves
 -- him out, or keeps his seat; and where the session of his mount has ended he does not stay

@@ -1,9 +1,9 @@
 -- By which mounts a walk comes, in the words of the settings and of what commands have set.
 use Rattle.std.specs.Prelude.{◌≡◌, ℕ, suc, true, List, Some, None}
 use Rattle.radio_settings.specs.Options.{options_for}
-use Rattle.radio_core.specs.Fallbacks.{Fallback, set_for}
+use Rattle.radio_house.specs.Fallbacks.{Fallback, set_for}
 use Rattle.radio_parts.specs.Sessions.{session_of}
-use Rattle.radio_core.specs.World.{World}
+use Rattle.radio_house.specs.World.{World}
 use Rattle.radio_laws.specs.Limits.{IsFullAt}
 
 -- the listeners of the mount fall back to the next one: `fallback-mount` names it and no command has said otherwise, or a command has said so

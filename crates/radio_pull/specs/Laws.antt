@@ -1,7 +1,7 @@
 -- Laws on pulls, for callers.
 use Rattle.std.specs.Prelude.{◌≡◌, ℕ, List, Option}
 use Rattle.radio_events.specs.declared.event.Event.{Event}
-use Rattle.radio_core.specs.World.{World}
+use Rattle.radio_house.specs.World.{World}
 use Rattle.radio_core.specs.Step.{Represents, Step}
 use Rattle.radio_session.specs.declared.state.State.{State}
 use Rattle.radio_session.specs.Exchanges.{core_steps}

@@ -6,7 +6,7 @@ use Rattle.radio_events.specs.declared.reply.Reply.{Reply}
 use Rattle.radio_core.specs.CoreReplies.{CoresGoByTheirStates}
 use Rattle.radio_core.specs.SourceReplies.{to_data, to_end, IsQuiet, EndsByRule, SourcesAreToldByTheirData, EndsAreTold}
 use Rattle.radio_core.specs.Step.{Represents, StandsForSome, reply_to, world_after}
-use Rattle.radio_core.specs.World.{World}
+use Rattle.radio_house.specs.World.{World}
 use Rattle.radio_session.specs.Exchanges.{core_steps}
 use Rattle.radio_session.specs.DataServers.{HasOneReply}
 use Rattle.radio_session.specs.Laws.{CoresGoByData}

@@ -10,7 +10,7 @@ use Rattle.radio_events.specs.declared.event.Event.{Event}
 use Rattle.radio_events.specs.declared.reply.Reply.{Reply}
 use Rattle.radio_events.specs.declared.reply.Reply.TheVariants.{Arrived, Feeding, Seated, Drawn, Noted, Text, Deny, Finished, Stray}
 use Rattle.radio_events.specs.declared.text.Text.{Text as CommandText}
-use Rattle.radio_core.specs.World.{World}
+use Rattle.radio_house.specs.World.{World}
 use Rattle.radio_core.specs.Step.{reply_to, world_after}
 use Rattle.radio_policy.specs.declared.rule.Rule.{Rule}
 use Rattle.radio_session.specs.declared.session.Says.{Says}

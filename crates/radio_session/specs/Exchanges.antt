@@ -3,7 +3,7 @@ use Rattle.std.specs.Prelude.{◌≡◌, ℕ, Bool, true, false, if◌then◌els
 use Rattle.radio_events.specs.declared.event.Event.{Event}
 use Rattle.radio_events.specs.declared.event.Event.TheVariants.{Leave}
 use Rattle.radio_events.specs.declared.reply.Reply.{Reply}
-use Rattle.radio_core.specs.World.{World}
+use Rattle.radio_house.specs.World.{World}
 use Rattle.radio_core.specs.Step.{Step, Represents, StandsForSome, reply_to, world_after}
 use Rattle.radio_session.specs.declared.session.Says.{Says}
 use Rattle.radio_session.specs.declared.state.State.{State}

@@ -1,7 +1,7 @@
 //! A station on the air.
 
 ghost use Rattle.std.specs.Prelude.{◌≡◌, ◌^◌};
-ghost use Rattle.radio_core.specs.World.{opening};
+ghost use Rattle.radio_house.specs.World.{opening};
 
 use crate::fault::{Fault, NotBound};
 use crate::log::{tell_end, tell_fault, tell_start};

@@ -1,5 +1,5 @@
 ghost use Rattle.std.specs.Prelude.{◌≡◌, ◌==◌, false};
-ghost use Rattle.radio_core.specs.Facts.{largest_number};
+ghost use Rattle.radio_house.specs.Facts.{largest_number};
 ghost use Rattle.radio_core.specs.Arrive.{arrives, admits_client};
 
 use super::state::State;
@@ -27,7 +27,7 @@ impl State {
         requires { (self.now.house.last_id == largest_number) ≡ false }
         ensures { result ≡ admits_client self.now peer }
     {
-        let id = self.house.last_id + 1;
+        let id = self.house.last_number() + 1;
         Outcome {
             reply: Reply::Arrived(id),
             change: Change::Admit { id, peer },

@@ -12,7 +12,7 @@ impl State {
     {
         Outcome {
             reply: Reply::Noted,
-            change: if ms < self.house.time {
+            change: if ms < self.house.time() {
                 Change::Nothing
             } else {
                 Change::Tick { ms }

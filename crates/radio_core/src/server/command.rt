@@ -1,6 +1,6 @@
 ghost use Rattle.std.specs.Prelude.{◌≡◌, IfOk};
 ghost use Rattle.radio_core.specs.Command.{gives_command, does_asked, said_of};
-ghost use Rattle.radio_core.specs.CommandFacts.{rows_to_command};
+ghost use Rattle.radio_house.specs.CommandFacts.{rows_to_command};
 ghost use Rattle.radio_core.specs.Outcomes.{on_verdict};
 ghost use Rattle.radio_core.specs.Planned.{uncounted, told_moved};
 ghost use Rattle.radio_fallback.specs.declared.moves.Carried.{Carried as CarriedOf};
@@ -9,8 +9,8 @@ ghost use Rattle.radio_policy.specs.Verdicts.{verdict_in};
 use super::state::State;
 use crate::OutOfMemory;
 use crate::outcome::{Change, Outcome};
-use crate::standing::Standing;
 use radio_events::{Asked, Command, CommandRequest, Reply, Text};
+use radio_house::Standing;
 use radio_policy::{Action, Verdict, judge};
 
 impl State {
@@ -31,7 +31,9 @@ impl State {
         ensures { IfOk result (λ o. o ≡ uncounted
             (on_verdict (verdict_in (rows_to_command self.now asked)) (Change.Answer asked.id) (does_asked self.now asked.id asked.asked))) }
     {
-        let facts = self.command_facts(&asked.asked, asked.pair.as_ref());
+        let facts = self
+            .house
+            .command_facts(&self.seats, &asked.asked, asked.pair.as_ref());
         match judge(&Action::Command(facts)) {
             Verdict::Deny(rule) => Ok(Outcome::refused(rule, asked.id)),
             Verdict::Allow => self.allowed(asked),
@@ -46,7 +48,7 @@ impl State {
         let CommandRequest { id, asked, .. } = asked;
         match asked {
             Asked::Listing(listing) => Ok(Outcome {
-                reply: Reply::Text(self.shown(&listing)?),
+                reply: Reply::Text(self.house.shown(self.alloc, &self.seats, &listing)?),
                 change: Change::Answer { id },
             }),
             Asked::Command(command) => Ok(Outcome {

@@ -9,10 +9,10 @@ ghost use Rattle.radio_core.specs.Step.{NeedsNoMemory};
 
 use super::state::State;
 use crate::OutOfMemory;
-use crate::clients::ClientState;
 use crate::outcome::Change;
 use radio_blocks::{Block, Place};
 use radio_fallback::{Carried, Move, carry};
+use radio_house::ClientState;
 use radio_icy::Title;
 use radio_parts::LagsBehind;
 use radio_policy::Rule;
@@ -118,7 +118,7 @@ impl State {
         ensures { self.new ≡ laggards_ended self.old mount }
     {
         let end = Place::new(self.house.live_end(&mount));
-        let queue = self.house.settings.limits.queue_size.get() as u64;
+        let queue = self.house.settings().limits.queue_size.get() as u64;
         self.seats
             .finish_at_if(&mount, &LagsBehind { end, queue }, Rule::Lagged);
     }
@@ -168,7 +168,7 @@ impl State {
         ensures state { self.new ≡ called_home self.old mount }
         ensures counts { result ≡ counts_home self.old mount }
     {
-        let options = self.house.settings.options(&mount);
+        let options = self.house.settings().options(&mount);
         if options.listeners.fallback_override {
             carry(&self.house, &mut self.seats, &Move::Up(mount))
         } else {
@@ -182,7 +182,7 @@ impl State {
         ensures state { self.new ≡ session_ended self.old mount }
         ensures counts { result ≡ counts_ended self.old mount }
     {
-        drop(self.house.live.remove(&mount));
+        self.house.close(&mount);
         let counts = carry(&self.house, &mut self.seats, &Move::Ended(mount));
         self.seats.release(&mount);
         counts
@@ -194,8 +194,7 @@ impl State {
     {
         let mount = self.mount_of(id);
         self.seats.remove(id);
-        self.house.clients.remove(&id);
-        self.house.relays.remove(&id);
+        self.house.forget(id);
         if let Some(mount) = mount {
             self.release_idle(&mount);
         }

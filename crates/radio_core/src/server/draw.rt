@@ -5,14 +5,14 @@ ghost use Rattle.radio_seats.specs.Seats.{seat_of};
 ghost use Rattle.radio_seats.specs.Lent.{lent_seat};
 ghost use Rattle.radio_parts.specs.Sessions.{session_of};
 ghost use Rattle.radio_core.specs.Step.{StandsForSome};
-ghost use Rattle.radio_core.specs.World.{standing_of};
+ghost use Rattle.radio_house.specs.World.{standing_of};
 
 use super::state::State;
 use crate::OutOfMemory;
 use crate::outcome::{Change, Outcome};
-use crate::standing::Standing;
 use radio_blocks::Pieces;
 use radio_events::Reply;
+use radio_house::Standing;
 use radio_seats::LentSeat;
 
 impl State {

@@ -1,11 +1,11 @@
 ghost use Rattle.std.specs.Prelude.{◌≡◌};
 ghost use Rattle.radio_core.specs.Leave.{leaves, leaves_from};
-ghost use Rattle.radio_core.specs.World.{standing_of};
+ghost use Rattle.radio_house.specs.World.{standing_of};
 
 use super::state::State;
 use crate::outcome::{Change, Outcome};
-use crate::standing::Standing;
 use radio_events::Reply;
+use radio_house::Standing;
 
 impl State {
     /// A client's connection is closed.

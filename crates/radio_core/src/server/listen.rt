@@ -1,20 +1,18 @@
 ghost use Rattle.std.specs.Prelude.{◌≡◌, Some, IfOk, MatchResult};
 ghost use Rattle.radio_parts.specs.Sessions.{session_of};
-ghost use Rattle.radio_core.specs.Listen.{asks_to_hear, sits_where, takes_seat, burst_of, head_of, interval_for, first_seat};
+ghost use Rattle.radio_core.specs.Listen.{asks_to_hear, sits_where, takes_seat, first_seat};
 
 use super::state::State;
 use crate::OutOfMemory;
-use crate::house::House;
 use crate::outcome::{Change, Outcome};
-use crate::standing::Standing;
 use radio_addr::Peer;
-use radio_events::{ListenRequest, Reply, StreamHead};
+use radio_events::{ListenRequest, Reply};
 use radio_fallback::Landing;
+use radio_house::Standing;
 use radio_parts::Session;
 use radio_policy::{Action, Rule, Verdict, judge};
-use radio_seats::{KeptName, Seat};
-use radio_settings::{MountName, Shown};
-use std::alloc::Global;
+use radio_seats::Seat;
+use radio_settings::MountName;
 
 /// One who may hear the mount that he asked for.
 #[derive(Clone, Copy)]
@@ -88,27 +86,24 @@ impl State {
         ensures { IfOk result (λ o. o ≡ takes_seat self.now.house asked welcome.peer (session_of self.now.house.live mount.now)) }
     {
         match self.house.session(mount) {
-            Some(session) => self.house.welcome(self.alloc, asked, welcome, session),
+            Some(session) => self.welcome(asked, welcome, session),
             None => Ok(Outcome::stray()),
         }
     }
-}
 
-impl House {
     /// A listener is welcome in the session. `OutOfMemory` where memory was refused.
     fn welcome(
         &self,
-        alloc: Global,
         asked: ListenRequest,
         welcome: Welcome,
         session: &Session,
     ) -> Result<Outcome, OutOfMemory>
         requires { welcome.home ≡ asked.mount }
-        ensures { IfOk result (λ o. o ≡ takes_seat self.now asked welcome.peer (Some session.now)) }
+        ensures { IfOk result (λ o. o ≡ takes_seat self.now.house asked welcome.peer (Some session.now)) }
     {
-        let head = self.head_of(&session.shown)?;
+        let head = self.house.head_of(&session.shown)?;
         let id = asked.id;
-        let seat = self.first_seat(alloc, asked, welcome, session)?;
+        let seat = self.first_seat(asked, welcome, session)?;
         Ok(Outcome {
             reply: Reply::Seated {
                 interval: seat.interval,
@@ -118,73 +113,25 @@ impl House {
         })
     }
 
-    /// What the head of a stream says that shows this. `OutOfMemory` where memory was refused.
-    fn head_of(&self, shown: &Shown) -> Result<StreamHead, OutOfMemory>
-        ensures { IfOk result (λ head. head ≡ head_of self.now shown.now) }
-    {
-        Ok(StreamHead {
-            shown: shown.clone()?,
-            allow_origin: self.settings.web.allow_origin.clone()?,
-        })
-    }
-
-    /// How many bytes a new listener of the mount may be sent at once.
-    fn burst_of(&self, mount: &MountName) -> u64
-        ensures { result ≡ burst_of self.now mount.now }
-    {
-        let burst = self.settings.options(mount).stream.burst_size.get();
-        burst.min(self.settings.limits.queue_size.get()) as u64
-    }
-
-    /// After how many bytes of data a listener of the mount is sent a metadata block, if he asked
-    /// for metadata.
-    fn interval_for(&self, mount: &MountName, wants_metadata: bool) -> Option<u32>
-        ensures { result ≡ interval_for self.now mount.now wants_metadata }
-    {
-        if wants_metadata {
-            Some(
-                self.settings
-                    .options(mount)
-                    .stream
-                    .mp3_metadata_interval
-                    .get(),
-            )
-        } else {
-            None
-        }
-    }
-
-    /// The name of the mount, shared with its session where it is live. `OutOfMemory` where memory
-    /// was refused.
-    fn shared_name(&self, alloc: Global, mount: MountName) -> Result<KeptName, OutOfMemory>
-        ensures { IfOk result (λ name. name ≡ mount) }
-    {
-        match self.session(&mount) {
-            Some(session) => session.mount.clone(),
-            None => KeptName::new(alloc, mount),
-        }
-    }
-
     /// The seat of a new listener in the session. `OutOfMemory` where memory was refused.
     fn first_seat(
         &self,
-        alloc: Global,
         asked: ListenRequest,
         welcome: Welcome,
         session: &Session,
     ) -> Result<Seat, OutOfMemory>
         requires { welcome.home ≡ asked.mount }
-        ensures { IfOk result (λ seat. seat ≡ first_seat self.now asked welcome.peer session.now) }
+        ensures { IfOk result (λ seat. seat ≡ first_seat self.now.house asked welcome.peer session.now) }
     {
         let Welcome {
             peer,
             home: asked_for,
             ..
         } = welcome;
-        let home = self.shared_name(alloc, asked_for)?;
+        let home = self.house.shared_name(self.alloc, asked_for)?;
         let mount = session.mount.get();
-        let burst = self.burst_of(mount);
-        let interval = self.interval_for(&asked_for, asked.wants_metadata);
+        let burst = self.house.burst_of(mount);
+        let interval = self.house.interval_for(&asked_for, asked.wants_metadata);
         Ok(Seat {
             home,
             mount: *mount,
@@ -193,7 +140,7 @@ impl House {
             peer,
             pair: asked.pair,
             interval,
-            since: self.time,
+            since: self.house.time(),
         })
     }
 }

@@ -9,9 +9,9 @@ ghost use Rattle.radio_core.specs.declared.outcome.Change.{Change};
 use super::commit::NOBODY;
 use super::state::State;
 use crate::OutOfMemory;
-use crate::clients::ClientState;
 use radio_events::Command;
 use radio_fallback::{Carried, Move, carry};
+use radio_house::ClientState;
 use radio_policy::Rule;
 use radio_settings::MountName;
 

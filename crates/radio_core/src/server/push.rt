@@ -3,9 +3,9 @@ ghost use Rattle.radio_core.specs.Push.{delivers};
 
 use super::state::State;
 use crate::outcome::{Change, Outcome};
-use crate::standing::Standing;
 use radio_blocks::Block;
 use radio_events::Reply;
+use radio_house::Standing;
 use radio_policy::{Action, PushFacts, Verdict, judge};
 
 impl State {

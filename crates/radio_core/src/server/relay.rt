@@ -4,16 +4,16 @@ ghost use Rattle.std.specs.Prelude.{◌≡◌, ◌==◌, false, MatchResult, IfO
 ghost use Rattle.radio_policy.specs.Verdicts.{verdict_in};
 ghost use Rattle.radio_core.specs.Changes.{changed};
 ghost use Rattle.radio_core.specs.Counts.{counted};
-ghost use Rattle.radio_core.specs.Facts.{largest_number, rows_to_raise};
+ghost use Rattle.radio_house.specs.Facts.{largest_number, rows_to_raise};
 ghost use Rattle.radio_core.specs.RelayUp.{comes_up, raises};
 ghost use Rattle.radio_core.specs.RelayDown.{goes_down};
 
 use super::state::State;
 use crate::OutOfMemory;
 use crate::outcome::{Change, Outcome};
-use crate::standing::Standing;
 use radio_events::Reply;
 use radio_fallback::Carried;
+use radio_house::Standing;
 use radio_policy::{Action, Rule, Verdict, judge};
 use radio_settings::{MountName, Shown};
 
@@ -50,7 +50,7 @@ impl State {
         ensures { IfOk result (λ o. o ≡ raises self.now.house mount shown.now) }
     {
         let shown = self.house.shown_for(&mount, shown)?;
-        let id = self.house.last_id + 1;
+        let id = self.house.last_number() + 1;
         Ok(Outcome {
             reply: Reply::Arrived(id),
             change: Change::Raise { id, mount, shown },

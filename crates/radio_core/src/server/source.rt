@@ -2,13 +2,14 @@ ghost use Rattle.std.specs.Prelude.{◌≡◌, MatchResult, IfOk};
 ghost use Rattle.radio_core.specs.declared.outcome.Change.TheVariants.{Begin};
 ghost use Rattle.radio_events.specs.declared.reply.Reply.TheVariants.{Feeding};
 ghost use Rattle.radio_core.specs.Outcomes.{says};
-ghost use Rattle.radio_core.specs.Source.{asks_to_feed, begins, shown_for};
+ghost use Rattle.radio_core.specs.Source.{asks_to_feed, begins};
+ghost use Rattle.radio_house.specs.Streams.{shown_for};
 
 use super::state::State;
 use crate::OutOfMemory;
 use crate::outcome::{Change, Outcome};
-use crate::standing::Standing;
 use radio_events::{Reply, SourceRequest};
+use radio_house::Standing;
 use radio_policy::{Action, Rule, Verdict, judge};
 use radio_settings::{MountName, Shown};
 

@@ -1,12 +1,12 @@
 ghost use Rattle.std.specs.Prelude.{◌≡◌};
 ghost use Rattle.radio_core.specs.Outcomes.{says, unless_relayed};
 ghost use Rattle.radio_core.specs.SourceEnd.{stops_feeding};
-ghost use Rattle.radio_core.specs.World.{has_relay};
+ghost use Rattle.radio_house.specs.World.{has_relay};
 
 use super::state::State;
 use crate::outcome::{Change, Outcome};
-use crate::standing::Standing;
 use radio_events::Reply;
+use radio_house::Standing;
 use radio_settings::MountName;
 
 impl State {

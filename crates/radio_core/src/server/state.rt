@@ -1,38 +1,32 @@
 //! All of the server's state, and what an event does to it.
 
 ghost use Rattle.std.specs.Prelude.{◌≡◌, IsOk, IfOk};
-ghost use Rattle.radio_seats.specs.Seats.{listener_of};
-ghost use Rattle.radio_core.specs.World.{opening, standing_of, standing_of_listener, standing_of_relay, has_relay};
-ghost use Rattle.radio_core.specs.Relays.{relay_of};
+ghost use Rattle.radio_house.specs.World.{opening, standing_of, has_relay};
 ghost use Rattle.radio_core.specs.Planned.{planned};
 ghost use Rattle.radio_core.specs.Step.{StandsForSome};
 ghost use Rattle.radio_events.specs.Events.{TakesNoMemory};
 
 use crate::OutOfMemory;
-use crate::clients::ClientState;
-use crate::house::House;
 use crate::outcome::Outcome;
-use crate::relays::RelayState;
-use crate::standing::Standing;
 use radio_access::Lists;
 use radio_events::Event;
-use radio_seats::{ListenerStanding, Seats};
+use radio_house::{House, Standing};
+use radio_seats::Seats;
 use radio_settings::Settings;
-use radio_tables::Table;
 use std::alloc::Global;
 use std::marker::Model;
 
 /// The house, and the table of those who listen in it. Contracts see it as a `World` in which of
 /// each stream the last blocks are kept. Each live mount is prepared for listeners.
 #[derive(Drop)]
-pub(crate) struct State {
+pub(super) struct State {
     pub(super) alloc: Global,
-    pub(crate) house: House,
-    pub(crate) seats: Seats,
+    pub(super) house: House,
+    pub(super) seats: Seats,
 }
 
 impl Model for State {
-    ghost use Rattle.radio_core.specs.World.{World};
+    ghost use Rattle.radio_house.specs.World.{World};
     ghost use Rattle.radio_parts.specs.Prepared.{LiveArePrepared};
     ghost use Rattle.std.specs.Coded.{codes};
     ghost use Rattle.radio_creds.specs.contracts.user_list.Users as creds_users;
@@ -51,19 +45,9 @@ impl State {
     pub(super) fn new(alloc: Global, settings: Settings, lists: Lists) -> State
         ensures { result ≡ opening settings lists }
     {
-        let house = House {
-            time: 0,
-            settings,
-            lists,
-            live: Table::new(alloc),
-            fallbacks: Table::new(alloc),
-            clients: Table::new(alloc),
-            relays: Table::new(alloc),
-            last_id: 0,
-        };
         State {
             alloc,
-            house,
+            house: House::new(alloc, settings, lists),
             seats: Seats::new(alloc),
         }
     }
@@ -95,48 +79,13 @@ impl State {
     pub(super) fn standing(&self, id: u64) -> Standing
         ensures { result ≡ standing_of self.now id }
     {
-        let Some(client) = self.house.clients.get(&id) else {
-            return self.relay_standing(id);
-        };
-        let state = client.state;
-        match state {
-            ClientState::Undecided => Standing::Undecided(client.peer),
-            ClientState::Feeds(mount) => Standing::Feeds(mount),
-            ClientState::Listens => self.listener_standing(id),
-            ClientState::Answered => Standing::Answered,
-            ClientState::Ended(rule) => Standing::Finished(rule),
-        }
-    }
-
-    /// How the relay of this number stands.
-    fn relay_standing(&self, id: u64) -> Standing
-        ensures { result ≡ standing_of_relay (relay_of self.now.house.relays id) }
-    {
-        let Some(relay) = self.house.relays.get(&id) else {
-            return Standing::Unknown;
-        };
-        let state = relay.state;
-        match state {
-            RelayState::Feeds(mount) => Standing::Feeds(mount),
-            RelayState::Ended(rule) => Standing::Finished(rule),
-        }
+        self.house.standing(&self.seats, id)
     }
 
     /// Whether there is a relay of this number.
     pub(super) fn has_relay(&self, id: u64) -> bool
         ensures { result ≡ has_relay self.now id }
     {
-        self.house.relays.get(&id).is_some()
-    }
-
-    /// How the listener of this number stands.
-    fn listener_standing(&self, id: u64) -> Standing
-        ensures { result ≡ standing_of_listener (listener_of self.now.seats id) }
-    {
-        match self.seats.standing(id) {
-            None => Standing::Answered,
-            Some(ListenerStanding::HasSeat) => Standing::Sits,
-            Some(ListenerStanding::HasLost(rule)) => Standing::Finished(rule),
-        }
+        self.house.has_relay(id)
     }
 }

@@ -23,8 +23,8 @@ impl State {
     fn end_durations(&mut self)
         ensures { self.new ≡ durations_over self.old }
     {
-        let settings = &self.house.settings;
-        let now = self.house.time;
+        let settings = self.house.settings();
+        let now = self.house.time();
         self.seats
             .finish_if(&HasSatOut { settings, now }, Rule::TimeOver);
     }

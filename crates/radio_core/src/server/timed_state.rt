@@ -3,26 +3,24 @@
 ghost use Rattle.std.specs.Prelude.{◌≡◌, map, IsOk, IfOk, OnOk, OnErr};
 ghost use Rattle.radio_core.specs.Changes.{ticked};
 ghost use Rattle.radio_core.specs.Counts.{counted};
-ghost use Rattle.radio_parts.specs.Due.{earliest, guest_due, last_moment};
-ghost use Rattle.radio_core.specs.Due.{at_moment, due_by, client_due, first_due};
+ghost use Rattle.radio_core.specs.Due.{at_moment, due_by};
+ghost use Rattle.radio_house.specs.Due.{client_due, first_due};
 ghost use Rattle.radio_core.specs.KeptChanges.{kept_changed};
-ghost use Rattle.radio_seats.specs.Guests.{first_moment};
 ghost use Rattle.radio_core.specs.Planned.{planned, with_count};
 ghost use Rattle.radio_events.specs.declared.reply.Reply.{Reply as ReplyOf};
 ghost use Rattle.radio_core.specs.Step.{StandsForSome, NeedsNoMemory};
-ghost use Rattle.radio_core.specs.World.{opening};
+ghost use Rattle.radio_house.specs.World.{opening};
 ghost use Rattle.radio_events.specs.Events.{TakesNoMemory};
 
 use super::commit::NOBODY;
 use super::state::State;
 use super::telling::{all_with_count, with_count};
 use crate::OutOfMemory;
-use crate::due::client_due;
 use crate::outcome::{Change, Outcome};
 use radio_access::Lists;
 use radio_events::{Event, Reply};
 use radio_fallback::Carried;
-use radio_parts::{GuestDue, LAST_MOMENT, due_at, first_session_due, seat_due};
+use radio_parts::{LAST_MOMENT, due_at, seat_due};
 use radio_settings::Settings;
 use std::alloc::Global;
 use std::marker::Model;
@@ -37,7 +35,7 @@ pub(super) struct TimedState {
 }
 
 impl Model for TimedState {
-    ghost use Rattle.radio_core.specs.World.{World};
+    ghost use Rattle.radio_house.specs.World.{World};
     ghost use Rattle.radio_core.specs.Due.{IsDueFrom};
     ghost use Rattle.std.specs.Coded.{codes};
     ghost use Rattle.radio_creds.specs.contracts.user_list.Users as creds_users;
@@ -66,7 +64,7 @@ impl TimedState {
     pub(super) fn settings(&self) -> &Settings
         ensures { result.now ≡ self.now.house.settings }
     {
-        &self.state.house.settings
+        self.state.house.settings()
     }
 
     /// What comes of an event, before its change is made. `OutOfMemory` where memory was refused.
@@ -163,20 +161,20 @@ impl State {
     fn set_time(&mut self, ms: u64)
         ensures { self.new ≡ at_moment self.old ms }
     {
-        self.house.time = ms;
+        self.house.set_time(ms);
     }
 
     /// When what the change brings is due.
     fn due_by(&self, change: &Change) -> u64
         ensures { result ≡ due_by self.now change.now }
     {
-        let limits = &self.house.settings.limits;
+        let limits = &self.house.settings().limits;
         match change {
-            Change::Admit { .. } => due_at(limits.header_timeout.get(), self.house.time),
+            Change::Admit { .. } => due_at(limits.header_timeout.get(), self.house.time()),
             Change::Begin { .. } | Change::Raise { .. } | Change::Receive { .. } => {
-                due_at(limits.source_timeout.get(), self.house.time)
+                due_at(limits.source_timeout.get(), self.house.time())
             }
-            Change::TakeSeat { seat, .. } => seat_due(&self.house.settings, seat),
+            Change::TakeSeat { seat, .. } => seat_due(self.house.settings(), seat),
             _ => LAST_MOMENT,
         }
     }
@@ -186,26 +184,6 @@ impl State {
     fn first_due(&self) -> u64
         ensures { result ≡ first_due self.now }
     {
-        let seconds = self.house.settings.limits.source_timeout.get();
-        let sessions = first_session_due(&self.house.live, seconds);
-        let others = self.first_listener_due().min(sessions);
-        self.first_client_due().min(others)
-    }
-
-    fn first_client_due(&self) -> u64
-        ensures { result ≡ earliest (client_due self.now.house.settings.limits.header_timeout) self.now.house.clients }
-    {
-        let seconds = self.house.settings.limits.header_timeout.get();
-        self.house.clients.iter().fold(
-            LAST_MOMENT,
-            |first, client| first.min(client_due(seconds, client)),
-        )
-    }
-
-    fn first_listener_due(&self) -> u64
-        ensures { result ≡ first_moment (guest_due self.now.house.settings) last_moment self.now.seats }
-    {
-        let settings = &self.house.settings;
-        self.seats.first_moment(&GuestDue { settings }, LAST_MOMENT)
+        self.house.first_due(&self.seats)
     }
 }

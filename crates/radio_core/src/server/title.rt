@@ -3,8 +3,8 @@ ghost use Rattle.radio_core.specs.Title.{sets_title};
 
 use super::state::State;
 use crate::outcome::{Change, Outcome};
-use crate::standing::Standing;
 use radio_events::Reply;
+use radio_house::Standing;
 use radio_icy::Title;
 
 impl State {

@@ -1,5 +1,5 @@
 use Rattle.std.proofs.Common.{subst}
-use Rattle.radio_core.specs.World.{World}
+use Rattle.radio_house.specs.World.{World}
 use Rattle.radio_core.specs.Step.{Represents}
 use Rattle.radio_floor.proofs.handler.leave.Goals as goal
 

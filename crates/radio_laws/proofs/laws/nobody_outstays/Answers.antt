@@ -1,7 +1,7 @@
 use Rattle.radio_core.specs.Run.{run_after}
 use Rattle.radio_core.proofs.SoundRuns.{sound_run}
 use Rattle.radio_laws.proofs.TickOrder.{nobody_outstays}
-use Rattle.radio_core.proofs.TimeoutLemmas.{tests_are_in_numbers}
+use Rattle.radio_house.proofs.TimeoutLemmas.{tests_are_in_numbers}
 use Rattle.radio_laws.proofs.laws.nobody_outstays.Goals as goal
 
 pub returns : goal.returns

@@ -1,4 +1,4 @@
-use Rattle.radio_core.specs.World.{opening}
+use Rattle.radio_house.specs.World.{opening}
 use Rattle.radiod.proofs.serving.serve_station.Given as goal
 
 -- the house that is opened here

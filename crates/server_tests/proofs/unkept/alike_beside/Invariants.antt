@@ -1,5 +1,5 @@
 use Rattle.radio_access.specs.Lists.{no_lists}
-use Rattle.radio_core.specs.World.{opening}
+use Rattle.radio_house.specs.World.{opening}
 use Rattle.server_tests.proofs.unkept.alike_beside.Given as goal
 
 -- the house that is opened here

@@ -1,6 +1,6 @@
 use Rattle.std.proofs.Common.{sym, subst}
 use Rattle.radio_core.specs.Step.{Represents}
-use Rattle.radio_core.specs.World.{World}
+use Rattle.radio_house.specs.World.{World}
 use Rattle.radio_core.proofs.StepLemmas.{step_done, small_change, still_stands}
 use Rattle.radio_core.proofs.server.Core.step.Goals as goal
 

@@ -5,7 +5,7 @@ use Rattle.radio_core.specs.Counts.{counted}
 use Rattle.radio_core.specs.Planned.{with_count}
 use Rattle.std.proofs.lemmas.Result.{IfOk-weaker}
 use Rattle.radio_core.specs.Step.{Represents}
-use Rattle.radio_core.specs.World.{World}
+use Rattle.radio_house.specs.World.{World}
 use Rattle.radio_core.proofs.StepLemmas.{steps_done, small_reply, small_change, still_stands}
 use Rattle.radio_core.proofs.server.Core.step3.Goals as goal
 

@@ -2,8 +2,8 @@ use Rattle.std.proofs.Common.{◌≡◌, ◌==◌, false, ap, sym, subst, ◌∙
 use Rattle.radio_policy.specs.declared.facts.ArriveFacts.{ArriveFacts}
 use Rattle.radio_policy.specs.Table.{arrive_rows}
 use Rattle.radio_policy.specs.Verdicts.{verdict_in}
-use Rattle.radio_core.specs.Facts.{largest_number}
-use Rattle.radio_core.specs.World.{World}
+use Rattle.radio_house.specs.Facts.{largest_number}
+use Rattle.radio_house.specs.World.{World}
 use Rattle.radio_core.proofs.Ways.{has_number_left}
 use Rattle.radio_core.proofs.server.state.State.arrive.Goals as goal
 

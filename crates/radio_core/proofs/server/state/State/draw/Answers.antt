@@ -1,13 +1,13 @@
 use Rattle.std.proofs.Common.{◌≡◌, ℕ, Option, None, Some, IfOk, refl, ap, sym, subst, ◌∙◌}
 use Rattle.std.specs.Option.{option_map}
-use Rattle.radio_core.specs.declared.house.House.{House}
+use Rattle.radio_house.specs.House.{House}
 use Rattle.radio_core.specs.declared.outcome.Outcome.{Outcome}
-use Rattle.radio_core.specs.declared.standing.Standing.{Standing}
-use Rattle.radio_core.specs.declared.standing.Standing.TheVariants.{Unknown, Undecided, Feeds, Sits, Answered, Finished}
+use Rattle.radio_house.specs.declared.standing.Standing.{Standing}
+use Rattle.radio_house.specs.declared.standing.Standing.TheVariants.{Unknown, Undecided, Feeds, Sits, Answered, Finished}
 use Rattle.radio_core.specs.Draw.{hands_out, hands_out_at}
 use Rattle.radio_core.specs.Outcomes.{if_sitting, out_of_place}
 use Rattle.radio_parts.specs.Sessions.{session_of}
-use Rattle.radio_core.specs.World.{World, standing_of}
+use Rattle.radio_house.specs.World.{World, standing_of}
 use Rattle.radio_core.proofs.StepLemmas.{seat_sits}
 use Rattle.radio_core.proofs.server.state.State.draw.Goals as goal
 use Rattle.radio_seats.specs.declared.seat.Seat.{Seat}

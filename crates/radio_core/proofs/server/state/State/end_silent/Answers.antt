@@ -1,6 +1,6 @@
 use Rattle.std.proofs.Common.{ap, ◌∙◌}
 use Rattle.radio_parts.specs.Sessions.{Session}
-use Rattle.radio_core.specs.World.{World}
+use Rattle.radio_house.specs.World.{World}
 use Rattle.radio_core.proofs.SilentLemmas.{one_fewer, still_to_end, all_have_ended}
 use Rattle.radio_core.proofs.server.state.State.end_silent.Goals as goal
 

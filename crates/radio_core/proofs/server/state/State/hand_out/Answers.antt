@@ -4,7 +4,7 @@ use Rattle.radio_seats.specs.Lent.{lent_seat}
 use Rattle.radio_parts.specs.Kept.{first_start}
 use Rattle.radio_parts.specs.Sessions.{Session, session_of}
 use Rattle.radio_parts.specs.Stream.{end_of}
-use Rattle.radio_core.specs.World.{World}
+use Rattle.radio_house.specs.World.{World}
 use Rattle.radio_core.proofs.StepLemmas.{place_is_kept}
 use Rattle.radio_core.proofs.server.state.State.hand_out.Goals as goal
 

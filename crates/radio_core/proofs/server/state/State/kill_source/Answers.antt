@@ -1,6 +1,6 @@
 use Rattle.std.proofs.Common.{ap, sym, ◌∙◌}
 use Rattle.radio_parts.specs.Sessions.{Session, session_of}
-use Rattle.radio_core.specs.World.{World}
+use Rattle.radio_house.specs.World.{World}
 use Rattle.radio_core.proofs.CommandLemmas.{killed_so}
 use Rattle.radio_core.proofs.server.state.State.kill_source.Goals as goal
 

@@ -9,13 +9,13 @@ use Rattle.radio_events.specs.declared.event.ListenRequest.{ListenRequest}
 use Rattle.radio_core.specs.declared.outcome.Change.{Change}
 use Rattle.radio_core.specs.declared.outcome.Change.TheVariants.{Answer}
 use Rattle.radio_core.specs.declared.outcome.Outcome.{Outcome}
-use Rattle.radio_core.specs.declared.standing.Standing.{Standing}
-use Rattle.radio_core.specs.declared.standing.Standing.TheVariants.{Undecided}
+use Rattle.radio_house.specs.declared.standing.Standing.{Standing}
+use Rattle.radio_house.specs.declared.standing.Standing.TheVariants.{Undecided}
 use Rattle.radio_fallback.specs.declared.walking.Landing.{Landing}
-use Rattle.radio_core.specs.Facts.{listen_facts_at, names_mount, rows_to_listen, walks_to}
+use Rattle.radio_house.specs.Facts.{listen_facts_at, names_mount, rows_to_listen, walks_to}
 use Rattle.radio_core.specs.Listen.{sits_where}
 use Rattle.radio_core.specs.Outcomes.{on_verdict, if_undecided}
-use Rattle.radio_core.specs.World.{World, standing_of}
+use Rattle.radio_house.specs.World.{World, standing_of}
 use Rattle.radio_core.proofs.server.state.State.may_listen.Goals as goal
 
 -- the policy judges by the facts of the mount that the path names

@@ -3,7 +3,7 @@ use Rattle.std.specs.Option.{option_map}
 use Rattle.radio_seats.specs.declared.seat.Seat.{Seat}
 use Rattle.radio_seats.specs.Lent.{lent_seat}
 use Rattle.radio_seats.specs.Seats.{seat_of}
-use Rattle.radio_core.specs.World.{World}
+use Rattle.radio_house.specs.World.{World}
 use Rattle.radio_core.proofs.server.state.State.mount_of.Goals as goal
 
 pub returns-in-Some : goal.returns-in-Some

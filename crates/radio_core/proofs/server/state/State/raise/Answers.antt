@@ -1,5 +1,5 @@
 use Rattle.std.proofs.Common.{ap}
-use Rattle.radio_core.specs.declared.house.House.{House}
+use Rattle.radio_house.specs.House.{House}
 use Rattle.radio_parts.specs.Sessions.{opened}
 use Rattle.radio_parts.proofs.PreparedLemmas.{begun_prepared}
 use Rattle.radio_core.proofs.server.state.State.raise.Goals as goal

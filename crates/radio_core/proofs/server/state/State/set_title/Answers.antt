@@ -1,5 +1,5 @@
 use Rattle.std.proofs.Common.{Some, refl, ap}
-use Rattle.radio_core.specs.declared.house.House.{House}
+use Rattle.radio_house.specs.House.{House}
 use Rattle.radio_parts.specs.Sessions.{with_title}
 use Rattle.radio_parts.proofs.PreparedLemmas.{changed_prepared}
 use Rattle.radio_core.proofs.server.state.State.set_title.Goals as goal

@@ -1,5 +1,5 @@
 use Rattle.std.proofs.Common.{refl, ap}
-use Rattle.radio_core.specs.declared.house.House.{House}
+use Rattle.radio_house.specs.House.{House}
 use Rattle.radio_parts.specs.Kept.{longer_kept}
 use Rattle.radio_parts.proofs.PreparedLemmas.{changed_prepared}
 use Rattle.radio_core.proofs.server.state.State.take_in.Goals as goal

@@ -1,6 +1,6 @@
 use Rattle.std.proofs.Common.{ap, ◌∙◌}
 use Rattle.radio_core.specs.Changes.{ticked}
-use Rattle.radio_core.specs.World.{World}
+use Rattle.radio_house.specs.World.{World}
 use Rattle.radio_core.proofs.DueLemmas.{only_time_changes, due_from_first}
 use Rattle.radio_core.proofs.server.timed_state.TimedState.tick.Goals as goal
 

@@ -1,0 +1,3 @@
+pub mod Lookups
+mod RelayRows
+pub mod TimeoutLemmas

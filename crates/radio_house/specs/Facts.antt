@@ -1,0 +1,146 @@
+-- What is looked up in the server for the policy.
+use Rattle.std.specs.Prelude.{ℕ, ◌+◌, ◌-◌, ◌^◌, ◌==◌, nat_lt, Bool, not, ◌&&◌, ◌||◌, if◌then◌else◌, List, length, Option, None, Some, is_some, find}
+use Rattle.std.specs.Option.{option_map_or}
+use Rattle.std.specs.Str.{bytes_eq}
+use Rattle.radio_policy.specs.declared.rule.Rule.{Rule}
+use Rattle.radio_policy.specs.declared.facts.ArriveFacts.{ArriveFacts}
+use Rattle.radio_policy.specs.declared.facts.SourceFacts.{SourceFacts}
+use Rattle.radio_policy.specs.declared.facts.RelayFacts.{RelayFacts}
+use Rattle.radio_policy.specs.declared.facts.PushFacts.{PushFacts}
+use Rattle.radio_policy.specs.declared.facts.ListenFacts.{ListenFacts}
+use Rattle.radio_policy.specs.Table.{Row, arrive_rows, source_rows, relay_rows, push_rows, listen_rows}
+use Rattle.radio_addr.specs.declared.peer.Peer.{Peer}
+use Rattle.radio_creds.specs.Credentials.{Credentials}
+use Rattle.radio_settings.specs.declared.field.Shown.{Shown}
+use Rattle.radio_settings.specs.declared.settings.Settings.{Settings}
+use Rattle.radio_settings.specs.MountName.{is_mount_name}
+use Rattle.radio_settings.specs.Web.{is_web_path}
+use Rattle.radio_settings.specs.Options.{options_for}
+use Rattle.radio_access.specs.Lists.{is_denied, is_allowed, lets_in}
+use Rattle.radio_access.specs.SourcePair.{is_source_pair}
+use Rattle.radio_access.specs.ContentTypes.{is_refused_type}
+use Rattle.radio_seats.specs.declared.seat.Listener.{Listener}
+use Rattle.radio_fallback.specs.declared.walking.Landing.{Landing}
+use Rattle.radio_fallback.specs.Walk.{Sight, found_at, landing, stop_in}
+use Rattle.radio_events.specs.declared.event.SourceRequest.{SourceRequest}
+use Rattle.radio_events.specs.declared.event.ListenRequest.{ListenRequest}
+use Rattle.radio_house.specs.House.{House}
+use Rattle.radio_house.specs.Fallbacks.{set_for}
+use Rattle.radio_parts.specs.Stream.{end_of}
+use Rattle.radio_parts.specs.Sessions.{session_of}
+use Rattle.radio_house.specs.World.{World}
+
+-- the largest number that the number of a client or relay, or a place in a stream, can be
+abbrev pub largest_number : ℕ
+largest_number = 2 ^ 64 - 1
+
+-- there are as many as there may be
+abbrev pub is_full : ℕ → ℕ → Bool
+is_full count limit = not (nat_lt count limit)
+
+-- the path names a mount: it has the form of a name, and is none of the web site's
+abbrev pub names_mount : Settings → List ℕ → Bool
+names_mount settings path = is_mount_name path && not (is_web_path settings.web path)
+
+-- the settings have a table for the mount, or a relay that feeds it
+abbrev pub is_in_settings : Settings → List ℕ → Bool
+is_in_settings settings mount =
+    is_some (find (λ set. bytes_eq set.name mount) settings.mounts) || is_some (find (λ relay. bytes_eq relay.local_mount mount) settings.relays)
+
+-- the settings know the mount, or it is live
+abbrev pub is_known : House → List ℕ → Bool
+is_known house mount = is_in_settings house.settings mount || is_some (session_of house.live mount)
+
+-- how far the stream of the mount's session goes
+abbrev pub live_end : House → List ℕ → ℕ
+live_end house mount = option_map_or (λ session. end_of session.stream) (session_of house.live mount) 0
+
+-- the number of the mount's session
+abbrev pub live_number : House → List ℕ → ℕ
+live_number house mount = option_map_or (λ session. session.number) (session_of house.live mount) 0
+
+-- to which mount the listeners of this one fall back, if to any: what a command has set, else what the settings say
+abbrev pub fallback_of : House → List ℕ → Option (List ℕ)
+fallback_of house mount =
+    option_map_or (λ set. set.fallback) (set_for house.fallbacks mount) (options_for house.settings mount).listeners.fallback_mount
+
+-- what a walk sees of the house
+abbrev pub sight_of : House → Sight
+sight_of house = record {
+  is_live = λ mount. is_some (session_of house.live mount);
+  limit = λ mount. (options_for house.settings mount).listeners.max_listeners;
+  lets_in = lets_in house.lists;
+  allows_duplicates = λ mount. (options_for house.settings mount).users.allow_duplicate_users;
+  fallback = fallback_of house;
+  hands_on_when_full = λ mount. (options_for house.settings mount).listeners.fallback_when_full;
+  stream_end = λ mount. record { session = live_number house mount; place = live_end house mount };
+}
+
+-- where a walk from the mount ends, of one who does not sit yet
+abbrev pub walks_to : House → List Listener → List ℕ → Option Credentials → Landing
+walks_to house seats mount pair = landing (sight_of house) seats pair mount
+
+-- the rule that stops it, if one does
+abbrev pub walk_stops : House → List Listener → List ℕ → Option Credentials → Option Rule
+walk_stops house seats mount pair = stop_in (walks_to house seats mount pair)
+
+-- what is looked up for each action; nothing is where the path names no mount
+abbrev pub arrive_facts : House → Peer → ArriveFacts
+arrive_facts house peer = record {
+  address_is_denied = is_denied house.lists peer;
+  address_is_allowed = is_allowed house.lists peer;
+  clients_are_full = is_full (length house.clients) house.settings.limits.clients;
+  number_is_spent = house.last_id == largest_number;
+}
+
+abbrev pub source_facts_at : House → List ℕ → SourceRequest → SourceFacts
+source_facts_at house mount asked = record {
+  is_source_pair = is_source_pair house.settings mount asked.pair;
+  sources_are_full = is_full (length house.live) house.settings.limits.sources;
+  mount_is_live = is_some (session_of house.live mount);
+  type_is_refused = is_refused_type asked.shown.content_type;
+}
+
+abbrev pub source_facts : House → SourceRequest → Option SourceFacts
+source_facts house asked = (if names_mount house.settings asked.mount then Some (source_facts_at house asked.mount asked) else None)
+
+abbrev pub relay_facts_at : House → List ℕ → Shown → RelayFacts
+relay_facts_at house mount shown = record {
+  sources_are_full = is_full (length house.live) house.settings.limits.sources;
+  mount_is_live = is_some (session_of house.live mount);
+  type_is_refused = is_refused_type shown.content_type;
+  number_is_spent = house.last_id == largest_number;
+}
+
+abbrev pub relay_facts : House → List ℕ → Shown → Option RelayFacts
+relay_facts house mount shown = (if names_mount house.settings mount then Some (relay_facts_at house mount shown) else None)
+
+abbrev pub push_facts : House → List ℕ → List ℕ → PushFacts
+push_facts house mount block = record { number_is_spent = nat_lt largest_number (live_end house mount + length block) }
+
+abbrev pub listen_facts_at : House → List Listener → List ℕ → Option Credentials → ListenFacts
+listen_facts_at house seats mount pair = let found = found_at (sight_of house) seats mount pair in record {
+  mount_is_known = is_known house mount;
+  users_accept = found.users_accept;
+  user_is_twice = found.user_is_twice;
+  walk_stops = walk_stops house seats mount pair;
+}
+
+abbrev pub listen_facts : House → List Listener → ListenRequest → Option ListenFacts
+listen_facts house seats asked = (if names_mount house.settings asked.mount then Some (listen_facts_at house seats asked.mount asked.pair) else None)
+
+-- the policy's rows for each action, as things stand
+abbrev pub rows_to_arrive : House → Peer → List Row
+rows_to_arrive house peer = arrive_rows (arrive_facts house peer)
+
+abbrev pub rows_to_feed : House → SourceRequest → List Row
+rows_to_feed house asked = source_rows (source_facts house asked)
+
+abbrev pub rows_to_raise : House → List ℕ → Shown → List Row
+rows_to_raise house mount shown = relay_rows (relay_facts house mount shown)
+
+abbrev pub rows_to_push : House → List ℕ → List ℕ → List Row
+rows_to_push house mount block = push_rows (push_facts house mount block)
+
+abbrev pub rows_to_listen : World → ListenRequest → List Row
+rows_to_listen w asked = listen_rows (listen_facts w.house w.seats asked)

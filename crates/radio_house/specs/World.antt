@@ -1,0 +1,75 @@
+-- The server's state.
+use Rattle.std.specs.Prelude.{ℕ, Bool, List, [], Option, Some, None, is_some}
+use Rattle.radio_addr.specs.declared.peer.Peer.{Peer}
+use Rattle.radio_settings.specs.declared.settings.Settings.{Settings}
+use Rattle.radio_access.specs.Lists.{Lists}
+use Rattle.radio_house.specs.House.{House}
+use Rattle.radio_house.specs.declared.clients.ClientState.{ClientState}
+use Rattle.radio_house.specs.declared.clients.ClientState.TheVariants.{Undecided, Feeds, Listens, Answered, Ended}
+use Rattle.radio_seats.specs.declared.seat.Listener.{Listener}
+use Rattle.radio_seats.specs.declared.seat.Seating.{Seating}
+use Rattle.radio_seats.specs.declared.seat.Seating.TheVariants.{Sits as HasSeat, Finished as HasFinished}
+use Rattle.radio_house.specs.declared.standing.Standing.{Standing}
+use Rattle.radio_house.specs.declared.standing.Standing.TheVariants.{Unknown, Undecided as IsUndecided, Feeds as IsFeeding, Sits}
+use Rattle.radio_house.specs.declared.standing.Standing.TheVariants.{Answered as IsAnswered, Finished}
+use Rattle.radio_house.specs.declared.relays.RelayState.{RelayState}
+use Rattle.radio_house.specs.declared.relays.RelayState.TheVariants.{Feeds as RelayFeeds, Ended as RelayEnded}
+use Rattle.radio_house.specs.Clients.{Client, client_of}
+use Rattle.radio_house.specs.Relays.{Relay, relay_of}
+use Rattle.radio_seats.specs.Seats.{listener_of}
+
+-- the house, and the table of those who listen in it
+pub record World : Type 0 where
+  -- the moment, the settings and their lists, the live sessions, the fallbacks that were set, the clients, the relays, and the number that was given last
+  pub house : House
+  -- the listeners, in order of their numbers
+  pub seats : List Listener
+
+-- the house, and these listeners in it
+abbrev pub world : House → List Listener → World
+world house seats = record { house = house; seats = seats }
+
+-- nothing has happened yet
+abbrev pub opening : Settings → Lists → World
+opening settings lists = record {
+  house = record { time = 0; settings = settings; lists = lists; live = []; fallbacks = []; clients = []; relays = []; last_id = 0 };
+  seats = [];
+}
+
+-- one who was admitted as a listener sits, or has finished by a rule
+abbrev pub standing_seated : Seating → Standing
+standing_seated (HasSeat seat) = Sits
+standing_seated (HasFinished rule) = Finished rule
+
+abbrev pub standing_of_listener : Option Listener → Standing
+standing_of_listener None = IsAnswered
+standing_of_listener (Some listener) = standing_seated listener.seating
+
+-- how a client from this address stands who does this, and is this listener if he is one
+abbrev pub standing_by : Option Listener → Peer → ClientState → Standing
+standing_by listener peer Undecided = IsUndecided peer
+standing_by listener peer (Feeds mount) = IsFeeding mount
+standing_by listener peer Listens = standing_of_listener listener
+standing_by listener peer Answered = IsAnswered
+standing_by listener peer (Ended rule) = Finished rule
+
+-- and how a relay stands that does this
+abbrev pub standing_relayed : RelayState → Standing
+standing_relayed (RelayFeeds mount) = IsFeeding mount
+standing_relayed (RelayEnded rule) = Finished rule
+
+abbrev pub standing_of_relay : Option Relay → Standing
+standing_of_relay None = Unknown
+standing_of_relay (Some relay) = standing_relayed relay.state
+
+abbrev pub standing_in : Option Relay → Option Listener → Option Client → Standing
+standing_in relay listener None = standing_of_relay relay
+standing_in relay listener (Some client) = standing_by listener client.peer client.state
+
+-- how the client, or the relay, of this number stands
+abbrev pub standing_of : World → ℕ → Standing
+standing_of w id = standing_in (relay_of w.house.relays id) (listener_of w.seats id) (client_of w.house.clients id)
+
+-- there is a relay of this number
+abbrev pub has_relay : World → ℕ → Bool
+has_relay w id = is_some (relay_of w.house.relays id)

@@ -1,0 +1,52 @@
+//! From which moment on the time of somebody is over.
+
+ghost use Rattle.std.specs.Prelude.{◌≡◌};
+ghost use Rattle.radio_parts.specs.Due.{earliest, guest_due, last_moment};
+ghost use Rattle.radio_seats.specs.Guests.{first_moment};
+ghost use Rattle.radio_house.specs.Due.{client_due, first_due};
+ghost use Rattle.radio_house.specs.World.{world};
+
+use crate::clients::{Client, ClientState};
+use crate::house::House;
+use radio_parts::{GuestDue, LAST_MOMENT, due_at, first_session_due};
+use radio_seats::Seats;
+
+impl House {
+    /// The earliest moment at which a client, one of these listeners, or a session is due, in
+    /// milliseconds. The time grows as their number.
+    pub fn first_due(&self, seats: &Seats) -> u64
+        ensures { result ≡ first_due (world self.now seats.now.seats) }
+    {
+        let seconds = self.settings.limits.source_timeout.get();
+        let sessions = first_session_due(&self.live, seconds);
+        let others = self.first_listener_due(seats).min(sessions);
+        self.first_client_due().min(others)
+    }
+
+    fn first_client_due(&self) -> u64
+        ensures { result ≡ earliest (client_due self.now.settings.limits.header_timeout) self.now.clients }
+    {
+        let seconds = self.settings.limits.header_timeout.get();
+        self.clients.iter().fold(
+            LAST_MOMENT,
+            |first, client| first.min(client_due(seconds, client)),
+        )
+    }
+
+    fn first_listener_due(&self, seats: &Seats) -> u64
+        ensures { result ≡ first_moment (guest_due self.now.settings) last_moment seats.now.seats }
+    {
+        let settings = &self.settings;
+        seats.first_moment(&GuestDue { settings }, LAST_MOMENT)
+    }
+}
+
+/// When a client is due who may ask for nothing for so many seconds.
+fn client_due(seconds: u32, client: &Client) -> u64
+    ensures { result ≡ client_due seconds client.now }
+{
+    match client.state {
+        ClientState::Undecided => due_at(seconds, client.arrived),
+        _ => LAST_MOMENT,
+    }
+}

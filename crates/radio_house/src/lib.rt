@@ -1,0 +1,31 @@
+//! The house, which is the server's state without its listeners: who is there beside them, what is
+//! looked up in it and shown of it, and what can be changed in it.
+//!
+//! - [`House`]: the moment, the settings and their lists, the live mounts' sessions, the fallbacks
+//!   that were set, clients and relays. It is looked at by [`House::standing`], `*_facts`,
+//!   [`House::shown`] and others, beside the listeners where these are asked for, and is what a
+//!   walk sees (`View` of `radio_fallback`). Each other call makes one change.
+//! - [`ClientState`], [`RelayState`], [`Standing`]: what clients and relays do, and how they stand.
+#![tactic(auto)]
+
+mod changes;
+mod clients;
+mod command_facts;
+mod due;
+mod facts;
+mod fallbacks;
+mod house;
+mod listings;
+mod pages;
+mod relays;
+mod standing;
+mod streams;
+mod timeouts;
+
+pub use clients::ClientState;
+pub use house::House;
+pub use relays::RelayState;
+pub use standing::Standing;
+
+/// What a call answers where memory was refused. Nothing has changed then, unless it is said.
+pub type OutOfMemory = std::alloc::AllocError;

@@ -1,0 +1,207 @@
+//! What of the station a client is shown.
+
+ghost use Rattle.std.specs.Prelude.{◌≡◌, [], map, unwrap_or, IfOk};
+ghost use Rattle.std.specs.Option.{option_copied, option_map};
+ghost use Rattle.radio_listing.specs.Listeners.{listeners_text};
+ghost use Rattle.radio_seats.specs.Listed.{lent_guest};
+ghost use Rattle.radio_house.specs.Listings.{shown, public_row, mount_row, mount_rows, listener_row, listener_rows, seconds_since, user_of};
+ghost use Rattle.radio_house.specs.World.{world};
+ghost use Rattle.radio_events.specs.declared.command.Listing.TheVariants.{Status, Stats, Mounts, Streams};
+ghost use Rattle.radio_events.specs.declared.text.Text.{Text as TextOf};
+
+use crate::OutOfMemory;
+use crate::house::House;
+use bytes::Bytes;
+use radio_creds::Pair;
+use radio_events::{Listing, Text};
+use radio_icy::Title;
+use radio_listing::{
+    ListenerRow, MountRow, PublicRow, Text as Shown, list_clients, list_mounts, stats, status,
+    stream_list,
+};
+use radio_parts::Session;
+use radio_seats::{LentListener, Seats};
+use radio_settings::MountName;
+use std::alloc::Global;
+
+/// How many milliseconds a second has.
+const SECOND: u64 = 1000;
+
+impl House {
+    /// What is shown of the station, where these listen. The time grows as the number of live mounts, or of listeners where these are
+    /// listed. `OutOfMemory` where memory was refused.
+    pub fn shown(
+        &self,
+        alloc: Global,
+        seats: &Seats,
+        listing: &Listing,
+    ) -> Result<Text, OutOfMemory>
+        ensures { IfOk result (λ text. text ≡ shown (world self.now seats.now.seats) listing.now) }
+    {
+        match listing {
+            Listing::Status => self.status_shown(alloc, seats),
+            Listing::Stats => self.stats_shown(alloc, seats),
+            Listing::Mounts => self.mounts_shown(alloc, seats),
+            Listing::Clients(mount) => json(self.listeners_shown(alloc, seats, mount)?),
+            Listing::Streams => self.streams_shown(alloc, seats),
+        }
+    }
+
+    /// What the server does as a whole. `OutOfMemory` where memory was refused.
+    fn stats_shown(&self, alloc: Global, seats: &Seats) -> Result<Text, OutOfMemory>
+        ensures { IfOk result (λ text. text ≡ shown (world self.now seats.now.seats) Stats) }
+    {
+        let clients = self.clients.len() as u64;
+        let rows = self.mount_rows(alloc, seats)?;
+        json(stats(alloc, clients, rows.as_slice())?)
+    }
+
+    /// All live mounts. `OutOfMemory` where memory was refused.
+    fn mounts_shown(&self, alloc: Global, seats: &Seats) -> Result<Text, OutOfMemory>
+        ensures { IfOk result (λ text. text ≡ shown (world self.now seats.now.seats) Mounts) }
+    {
+        let rows = self.mount_rows(alloc, seats)?;
+        json(list_mounts(alloc, rows.as_slice())?)
+    }
+
+    /// The mounts that a relay may pull. `OutOfMemory` where memory was refused.
+    fn streams_shown(&self, alloc: Global, seats: &Seats) -> Result<Text, OutOfMemory>
+        ensures { IfOk result (λ text. text ≡ shown (world self.now seats.now.seats) Streams) }
+    {
+        let rows = self.mount_rows(alloc, seats)?;
+        streams(stream_list(alloc, rows.as_slice())?)
+    }
+
+    /// What everybody may see. `OutOfMemory` where memory was refused.
+    fn status_shown(&self, alloc: Global, seats: &Seats) -> Result<Text, OutOfMemory>
+        ensures { IfOk result (λ text. text ≡ shown (world self.now seats.now.seats) Status) }
+    {
+        let rows = self.mount_rows(alloc, seats)?;
+        Ok(Text::Public {
+            bytes: Bytes::from_vec(status(alloc, rows.as_slice())?)?,
+            allow_origin: self.settings.web.allow_origin.clone()?,
+        })
+    }
+
+    /// The live mounts, in the order of their names. `OutOfMemory` where memory was refused.
+    pub(crate) fn mount_rows(
+        &self,
+        alloc: Global,
+        seats: &Seats,
+    ) -> Result<Vec<MountRow<'_>>, OutOfMemory>
+        ensures { IfOk result (λ rows. rows.items ≡ mount_rows (world self.now seats.now.seats)) }
+    {
+        let mut rows = Vec::new(alloc);
+        for session in self.live.iter() {
+            rows.push(self.mount_row(seats, session))?;
+        }
+        Ok(rows)
+    }
+
+    /// What listings tell of a live mount.
+    fn mount_row<'a>(&'a self, seats: &Seats, session: &'a Session) -> MountRow<'a>
+        ensures { result ≡ mount_row (world self.now seats.now.seats) session.now }
+    {
+        let mount = session.mount.get();
+        MountRow {
+            public: self.public_row(seats, session),
+            hidden: self.settings.options(mount).stream.hidden,
+            session: session.number,
+            fallback: match self.fallback_name(mount) {
+                Some(fallback) => Some(Shown::of(fallback.as_bytes())),
+                None => None,
+            },
+        }
+    }
+
+    /// What everybody may see of a live mount.
+    fn public_row<'a>(&self, seats: &Seats, session: &'a Session) -> PublicRow<'a>
+        ensures { result ≡ public_row (world self.now seats.now.seats) session.now }
+    {
+        let mount = session.mount.get();
+        PublicRow {
+            mount: Shown::of(mount.as_bytes()),
+            name: Shown::of(session.shown.name.as_bytes()),
+            genre: Shown::of(session.shown.genre.as_bytes()),
+            content_type: Shown::of(session.shown.content_type.as_bytes()),
+            title: title_shown(&session.title),
+            listeners: seats.count(mount),
+        }
+    }
+
+    /// The listeners of the mount. `OutOfMemory` where memory was refused.
+    fn listeners_shown(
+        &self,
+        alloc: Global,
+        seats: &Seats,
+        mount: &MountName,
+    ) -> Result<Vec<u8>, OutOfMemory>
+        ensures { IfOk result (λ bytes. bytes.items ≡ listeners_text mount.now (listener_rows (world self.now seats.now.seats) mount.now)) }
+    {
+        let listeners = seats.guests_at(alloc, mount)?;
+        let rows = listener_rows(alloc, self.time, listeners.as_slice())?;
+        list_clients(alloc, &Shown::of(mount.as_bytes()), rows.as_slice())
+    }
+}
+
+fn listener_rows<'a>(
+    alloc: Global,
+    now: u64,
+    listeners: &[LentListener<'a>],
+) -> Result<Vec<ListenerRow<'a>>, OutOfMemory>
+    ensures { IfOk result (λ rows. rows.items ≡ map (listener_row now) (map lent_guest listeners.now)) }
+{
+    let mut rows = Vec::new(alloc);
+    for listener in listeners {
+        rows.push(listener_row(now, listener))?;
+    }
+    Ok(rows)
+}
+
+/// A listener, and how long he has listened.
+fn listener_row<'a>(now: u64, listener: &LentListener<'a>) -> ListenerRow<'a>
+    ensures { result ≡ listener_row now (lent_guest listener.now) }
+{
+    let guest = listener.guest;
+    ListenerRow {
+        home: Shown::of(guest.home.get().as_bytes()),
+        id: listener.id,
+        peer: guest.peer,
+        seconds: now.saturating_sub(guest.since) / SECOND,
+        user: user_shown(&guest.pair),
+    }
+}
+
+/// The user of a pair.
+fn user_shown(pair: &Option<Pair>) -> Option<Shown<'_>>
+    ensures { result ≡ option_map user_of pair.now }
+{
+    match pair {
+        Some(pair) => Some(Shown::of(pair.user())),
+        None => None,
+    }
+}
+
+/// A title, which is empty where none was set.
+fn title_shown(title: &Option<Title>) -> Shown<'_>
+    ensures { result ≡ unwrap_or title.now [] }
+{
+    match title {
+        Some(title) => Shown::of(title.as_slice()),
+        None => Shown::of(b""),
+    }
+}
+
+/// A listing in JSON.
+fn json(bytes: Vec<u8>) -> Result<Text, OutOfMemory>
+    ensures { IfOk result (λ text. text ≡ TextOf.Json bytes.items) }
+{
+    Ok(Text::Json(Bytes::from_vec(bytes)?))
+}
+
+/// A list of streams.
+fn streams(bytes: Vec<u8>) -> Result<Text, OutOfMemory>
+    ensures { IfOk result (λ text. text ≡ TextOf.Streams bytes.items) }
+{
+    Ok(Text::Streams(Bytes::from_vec(bytes)?))
+}

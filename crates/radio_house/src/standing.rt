@@ -1,0 +1,83 @@
+//! How clients and relays stand.
+
+ghost use Rattle.std.specs.Prelude.{◌≡◌, is_some};
+ghost use Rattle.radio_seats.specs.Seats.{listener_of};
+ghost use Rattle.radio_house.specs.Relays.{relay_of};
+ghost use Rattle.radio_house.specs.World.{world, standing_of, standing_of_listener, standing_of_relay};
+
+use crate::clients::ClientState;
+use crate::house::House;
+use crate::relays::RelayState;
+use radio_addr::Peer;
+use radio_policy::Rule;
+use radio_seats::{ListenerStanding, Seats};
+use radio_settings::MountName;
+
+/// How a client or a relay stands: what decides which of his events count.
+#[derive(Clone, Copy)]
+pub enum Standing {
+    /// There is neither a client nor a relay of that number.
+    Unknown,
+    /// He has asked for nothing yet.
+    Undecided(Peer),
+    /// He is the source of the mount, or it is the relay that feeds it.
+    Feeds(MountName),
+    /// He is a listener who has a seat.
+    Sits,
+    /// He has had his answer, and nothing more is to come.
+    Answered,
+    /// He was finished by the rule.
+    Finished(Rule),
+}
+
+impl House {
+    /// How the client, or the relay, of this number stands, who has his place among these listeners
+    /// if he is one.
+    pub fn standing(&self, seats: &Seats, id: u64) -> Standing
+        ensures { result ≡ standing_of (world self.now seats.now.seats) id }
+    {
+        let Some(client) = self.clients.get(&id) else {
+            return self.relay_standing(id);
+        };
+        let state = client.state;
+        match state {
+            ClientState::Undecided => Standing::Undecided(client.peer),
+            ClientState::Feeds(mount) => Standing::Feeds(mount),
+            ClientState::Listens => listener_standing(seats, id),
+            ClientState::Answered => Standing::Answered,
+            ClientState::Ended(rule) => Standing::Finished(rule),
+        }
+    }
+
+    /// How the relay of this number stands.
+    fn relay_standing(&self, id: u64) -> Standing
+        ensures { result ≡ standing_of_relay (relay_of self.now.relays id) }
+    {
+        let Some(relay) = self.relays.get(&id) else {
+            return Standing::Unknown;
+        };
+        let state = relay.state;
+        match state {
+            RelayState::Feeds(mount) => Standing::Feeds(mount),
+            RelayState::Ended(rule) => Standing::Finished(rule),
+        }
+    }
+
+    /// Whether there is a relay of this number.
+    pub fn has_relay(&self, id: u64) -> bool
+        ensures { result ≡ is_some (relay_of self.now.relays id) }
+    {
+        self.relays.get(&id).is_some()
+    }
+}
+
+/// How the listener of this number stands.
+fn listener_standing(seats: &Seats, id: u64) -> Standing
+    ensures { result ≡ standing_of_listener (listener_of seats.now.seats id) }
+{
+    match seats.standing(id) {
+        None => Standing::Answered,
+        Some(ListenerStanding::HasSeat) => Standing::Sits,
+        Some(ListenerStanding::HasLost(rule)) => Standing::Finished(rule),
+    }
+}
