@@ -1,6 +1,8 @@
 //! A connection, as its worker has it.
 
 ghost use Rattle.std.specs.Prelude.{◌≡◌, IfOk};
+ghost use Rattle.radio_session.specs.Conversation.{saying_now};
+ghost use Rattle.radio_session.specs.Saying.{said};
 
 use crate::owed::Owed;
 use crate::refusals::Refusals;
@@ -8,7 +10,7 @@ use crate::{Line, OutOfMemory};
 use radio_addr::Peer;
 use radio_events::Reply;
 use radio_notes::{Account, Told};
-use radio_session::Session;
+use radio_session::{Session, State};
 use std::alloc::Global;
 use std::marker::Model;
 
@@ -145,11 +147,10 @@ impl<L: Line> Conn<L> {
     ) -> Result<Conn<L>, OutOfMemory>
         ensures { IfOk result (λ c. IsTurnedAway denial (L.given line) (L.taken line) ms c) }
     {
-        let mut session = Session::new(alloc, 0, peer);
-        let mut owed = Owed::new(alloc);
         let account = Account::new(alloc, ms);
         account.note_reply(Told::of(&denial));
-        let state = owed.tell(&mut session, denial)?;
+        let mut session = Session::new(alloc, 0, peer);
+        let (owed, state) = told_first(alloc, &mut session, denial)?;
         account.note_state(state);
         Ok(Conn {
             id: 0,
@@ -221,5 +222,22 @@ impl<L: Line> Conn<L> {
         ensures calls { L.calls result.now ≡ self.now.calls }
     {
         &self.line
+    }
+}
+
+/// What a connection is owed that is told this reply first, and whether it goes on. `OutOfMemory` where memory was refused.
+fn told_first(
+    alloc: Global,
+    session: &mut Session,
+    reply: Reply,
+) -> Result<(Owed, State), OutOfMemory>
+    ensures bytes { IfOk result (λ told. told.0 ≡ (said session.old.says reply).bytes) }
+    ensures state { IfOk result (λ told. told.1 ≡ (said session.old.says reply).state) }
+    ensures says { IfOk result (λ told. session.new ≡ saying_now session.old (said session.old.says reply).says) }
+{
+    let mut owed = Owed::new(alloc);
+    match owed.tell(session, reply) {
+        Ok(state) => Ok((owed, state)),
+        Err(refused) => Err(refused),
     }
 }

@@ -29,7 +29,10 @@ fn asks_to_leave<S: Server>(server: &mut S, refusals: &mut Refusals, id: u64) ->
     ensures { HasAskedToLeave S.steps result id server.old refusals.old server.new refusals.new }
 {
     match refusals.apply(server, Event::Leave { id }) {
-        Ok(_) => true,
+        Ok(reply) => {
+            drop(reply);
+            true
+        }
         Err(_) => false,
     }
 }
@@ -39,7 +42,10 @@ pub(crate) fn apply_quietly<S: Server>(server: &mut S, event: Event) -> bool
     ensures { HasApplied S.steps S.refuses result server.old event server.new }
 {
     match server.apply(event) {
-        Ok(_) => true,
+        Ok(reply) => {
+            drop(reply);
+            true
+        }
         Err(_) => false,
     }
 }
