@@ -22,8 +22,11 @@ use radio_access::Lists;
 use radio_floor::{Tally, play};
 use radio_settings::Settings;
 use std::io::BufReader;
+use std::net::Net;
 use std::process::ExitCode;
 use std::sync::Wait;
+use std::thread::Threads;
+use std::time::Clock;
 
 fn main(rt: HostRuntime) -> ExitCode {
     match run(&rt, &rt) {
@@ -33,7 +36,7 @@ fn main(rt: HostRuntime) -> ExitCode {
 }
 
 /// Does what the words ask for. A fault was said on standard error.
-fn run<W: Wait>(rt: &HostRuntime, waits: &W) -> Result<(), Fault> {
+fn run<W: Clock + Net + Threads + Wait + Sync>(rt: &HostRuntime, waits: &W) -> Result<(), Fault> {
     match read_words(rt) {
         Ok(Call::Play(path)) => said(rt, play_script(rt, path.as_str())),
         Ok(Call::Serve(path)) => serve_file(rt, waits, path.as_str()),
@@ -50,7 +53,11 @@ fn said(rt: &HostRuntime, done: Result<(), Fault>) -> Result<(), Fault> {
 }
 
 /// Serves connections, with the settings of this file, until a fault.
-fn serve_file<W: Wait>(rt: &HostRuntime, waits: &W, path: &str) -> Result<(), Fault> {
+fn serve_file<W: Clock + Net + Threads + Wait + Sync>(
+    rt: &HostRuntime,
+    waits: &W,
+    path: &str,
+) -> Result<(), Fault> {
     match read_station(rt, path) {
         Ok((settings, lists)) => Err(serve_station(rt, waits, path, settings, lists)),
         Err(fault) => {

@@ -11,6 +11,7 @@
 //! - `calls`: events, and the calls of a caller who feeds a mount and listens to it.
 //! - `halls`: a hall, what is done there, and all passes settled then.
 //! - `two_callers`: two threads, with a pass each, over one hall; and what settles no history.
+//! - `workers`: workers in threads of their own, who take lines from an intake.
 //! - `unkept`: the same calls over a hall that stores nothing, beside a core.
 //!
 //! Of a worker's turn:
@@ -58,3 +59,5 @@ mod told;
 mod two_callers;
 #[cfg(test)]
 mod unkept;
+#[cfg(test)]
+mod workers;
