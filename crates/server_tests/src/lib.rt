@@ -24,6 +24,7 @@
 //! - `slow`: lines that take little or nothing.
 //! - `moments`: from when patience and lingering count, to the millisecond.
 //! - `faults`: lines that fail, at each call; and memory that is refused.
+//! - `masters`: relays and a slave over such lines, turn after turn.
 //! - `told`: what the log tells of all that, line by line.
 #![tactic(auto)]
 
@@ -39,6 +40,8 @@ mod halls;
 mod house;
 #[cfg(test)]
 mod kept_rows;
+#[cfg(test)]
+mod masters;
 #[cfg(test)]
 mod memory_line;
 #[cfg(test)]

@@ -113,7 +113,7 @@ impl Rush {
         ensures own { pass.new.intake ≡ intake.now }
         ensures parts { pass.new.parts ≡ pass.old.parts }
     {
-        for _ in 0..self.times {
+        'times: for _ in 0..self.times {
             if !put_all(rt, intake, pass, self.comers) {
                 return false;
             }
@@ -139,7 +139,7 @@ fn put_all<R: Wait>(
     ensures own { pass.new.intake ≡ intake.now }
     ensures parts { pass.new.parts ≡ pass.old.parts }
 {
-    for comer in comers {
+    'comers: for comer in comers {
         if intake.put(rt, pass, *comer).is_err() {
             return false;
         }
