@@ -1,15 +1,21 @@
-//! A server, as relays ask it.
+//! A server, as a relay asks it.
+
+ghost use Rattle.std.specs.Prelude.{◌≡◌, IfOk};
 
 use crate::OutOfMemory;
+use crate::relay_log::{RelayEnd, RelayLog};
 use radio_events::{Event, Reply};
 use radio_hall::Server;
 use radio_session::Applies;
+use radio_settings::RelaySetting;
+use std::alloc::Global;
 use std::marker::Model;
 
-/// A server of a hall, as relays ask it. In contracts it is that server.
+/// A server, as a relay asks it; what is done is told in the log. In contracts it is that server.
 #[derive(Drop)]
 pub struct Asked<S: Server + Drop> {
     server: S,
+    log: RelayLog,
 }
 
 impl<S: Server + Drop> Model for Asked<S> {
@@ -19,13 +25,16 @@ impl<S: Server + Drop> Model for Asked<S> {
 }
 
 impl<S: Server + Drop> Asked<S> {
-    ghost use Rattle.std.specs.Prelude.{◌≡◌};
-
-    /// This server.
-    pub fn new(server: S) -> Asked<S>
-        ensures { result ≡ server }
+    /// This server, as this relay asks it. `OutOfMemory` where memory was refused; the server is gone then.
+    pub fn new(
+        alloc: Global,
+        server: S,
+        relay: &RelaySetting,
+    ) -> Result<Asked<S>, OutOfMemory>
+        ensures { IfOk result (λ asked. asked ≡ server) }
     {
-        Asked { server }
+        let log = RelayLog::new(alloc, relay)?;
+        Ok(Asked { server, log })
     }
 
     /// The server.
@@ -35,7 +44,19 @@ impl<S: Server + Drop> Asked<S> {
         &self.server
     }
 
-    /// The server, when no relay asks it any more.
+    /// What the log tells of the relay.
+    pub fn log(&self) -> &RelayLog {
+        &self.log
+    }
+
+    /// Tells in the log that the relay has ended, so many seconds after it began, or could not be started.
+    pub fn tell_end(&mut self, why: RelayEnd, seconds: u64)
+        ensures { self.new ≡ self.old }
+    {
+        self.log.end(why, seconds);
+    }
+
+    /// The server, when the relay asks it no more.
     pub fn into_server(self) -> S
         ensures { result ≡ self }
     {
@@ -47,6 +68,13 @@ impl<S: Server + Drop> Applies for Asked<S> {
     ghost steps = { S.steps };
 
     fn apply(&mut self, event: Event) -> Result<Reply, OutOfMemory> {
-        self.server.apply(event)
+        let saying = self.log.saying(&event);
+        match self.server.apply(event) {
+            Ok(reply) => {
+                self.log.note(saying, &reply);
+                Ok(reply)
+            }
+            Err(refused) => Err(refused),
+        }
     }
 }

@@ -8,6 +8,7 @@ use crate::board::Board;
 use crate::doors::{Coming, Doors};
 use crate::outlet::{LogOutput, Outlet};
 use crate::post::SocketPost;
+use crate::relays::{has_relays, keep_relays};
 use crate::seats::{open_desks, seats_of};
 use crate::sockets::Sockets;
 use crate::{BindFault, ServeFault, SocketLine};
@@ -15,6 +16,7 @@ use mio::net::TcpStream;
 use radio_book::{Chronicle, House};
 use radio_hall::{Hall, OpenGate};
 use radio_intake::{Intake, IntakePass};
+use radio_settings::Settings;
 use radio_workers::{Workplace, run_workers};
 use std::alloc::Global;
 use std::io;
@@ -67,12 +69,16 @@ impl Listening {
     /// Accepts connections, and serves them in this hall, until a fault. A worker that can't be started is left out;
     /// `OutOfMemory` where none can be, or where memory was refused before one began.
     ///
+    /// Of the settings, which are those of the hall, its relays and its slave are read: each relay is pulled in a thread of
+    /// its own.
+    ///
     /// The log is written to standard output, by this stream of it, where that does not wait; what can't be written so is
     /// lost.
     pub fn serve<R, C, H, O>(
         self,
         rt: &R,
         hall: &Hall<C, H>,
+        settings: &Settings,
         service: Service,
         output: LogOutput<O>,
     ) -> ServeFault
@@ -87,7 +93,13 @@ impl Listening {
         match open_board(rt, alloc, &doors, service) {
             Ok((board, sockets)) => {
                 let mut acceptor = Acceptor::new(doors, outlet);
-                let fault = serve_at(rt, hall, service, &board, sockets, &mut acceptor);
+                let station = Station {
+                    hall,
+                    settings,
+                    service,
+                    board: &board,
+                };
+                let fault = serve_at(rt, station, sockets, &mut acceptor);
                 acceptor.write_rest(rt, &board);
                 drop(acceptor);
                 drop(board);
@@ -124,12 +136,19 @@ fn open_board<R: Net>(
     }
 }
 
+/// What is served, how, and by what all threads tell each other.
+#[derive(Drop)]
+struct Station<'a, C: Chronicle, H: House> {
+    hall: &'a Hall<C, H>,
+    settings: &'a Settings,
+    service: Service,
+    board: &'a Board,
+}
+
 /// Serves connections by workers with these sockets, whom this acceptor hands them.
 fn serve_at<R, C, H, O>(
     rt: &R,
-    hall: &Hall<C, H>,
-    service: Service,
-    board: &Board,
+    station: Station<'_, C, H>,
     mut sockets: Vec<Sockets>,
     acceptor: &mut Acceptor<O>,
 ) -> ServeFault
@@ -139,6 +158,7 @@ where
     H: House + Send + Sync,
     O: Write + Drop + Send,
 {
+    let board = station.board;
     let Ok((intake, mut pass)) = Intake::new(board.alloc()) else {
         drop(sockets);
         return ServeFault::OutOfMemory;
@@ -151,7 +171,7 @@ where
         { acceptor.work(rt, board, &intake, &mut hand) },
         &mut || -> bool
             requires { (pass.intake ≡ intake) × (all_parts ≤ pass.parts + 1) }
-        { work_at(rt, hall, service, board, &intake, &mut pass, &mut sockets) },
+        { work_beside_relays(rt, &station, &intake, &mut pass, &mut sockets) },
     );
     drop(sockets);
     drop(pass);
@@ -164,12 +184,11 @@ where
     }
 }
 
-/// The workers with these sockets work, until all are to stop. Whether there was memory for their seats.
-fn work_at<R, C, H>(
+/// The workers with these sockets work, and relays are kept running beside them, if the settings wish some. Whether there
+/// was memory for the workers' seats.
+fn work_beside_relays<R, C, H>(
     rt: &R,
-    hall: &Hall<C, H>,
-    service: Service,
-    board: &Board,
+    station: &Station<'_, C, H>,
     intake: &Intake<Coming>,
     pass: &mut IntakePass<Coming>,
     sockets: &mut Vec<Sockets>,
@@ -181,15 +200,44 @@ where
     requires own { pass.old.intake ≡ intake.now }
     requires parts { all_parts ≤ pass.old.parts + 1 }
 {
-    let Ok(mut seats) = seats_of(rt, hall, board, intake, pass, sockets) else {
+    if !has_relays(station.settings) {
+        return work_at(rt, station, intake, pass, sockets);
+    }
+    let (_, are_seated) = join_mut(
+        rt,
+        &mut || keep_relays(rt, station.hall, station.board, station.settings),
+        &mut || -> bool
+            requires { (pass.intake ≡ intake.now) × (all_parts ≤ pass.parts + 1) }
+        { work_at(rt, station, intake, pass, sockets) },
+    );
+    are_seated
+}
+
+/// The workers with these sockets work, until all are to stop. Whether there was memory for their seats.
+fn work_at<R, C, H>(
+    rt: &R,
+    station: &Station<'_, C, H>,
+    intake: &Intake<Coming>,
+    pass: &mut IntakePass<Coming>,
+    sockets: &mut Vec<Sockets>,
+) -> bool
+where
+    R: Clock + Net + Threads + Wait + Sync,
+    C: Chronicle + Send + Sync,
+    H: House + Send + Sync,
+    requires own { pass.old.intake ≡ intake.now }
+    requires parts { all_parts ≤ pass.old.parts + 1 }
+{
+    let board = station.board;
+    let Ok(mut seats) = seats_of(rt, station.hall, board, intake, pass, sockets) else {
         board.stop();
         return false;
     };
     let place = Workplace {
-        hall,
+        hall: station.hall,
         intake,
         gate: &OpenGate,
-        patience_s: service.patience_s,
+        patience_s: station.service.patience_s,
         turns: u64::MAX,
     };
     run_workers::<R, C, H, Coming, SocketLine<TcpStream>, SocketPost<'_, R>, OpenGate>(

@@ -5,7 +5,7 @@ use crate::readiness::Readiness;
 use crate::{OutOfMemory, ServeFault, SocketLine};
 use mio::net::TcpStream;
 use mio::{Events, Interest, Poll, Token, Waker};
-use std::alloc::Global;
+use std::alloc::{AllocError, Global};
 use std::io;
 use std::net::Net;
 use std::sync::Arc;
@@ -64,6 +64,14 @@ impl Sockets {
             activity,
         };
         Ok(Ok((sockets, waker)))
+    }
+
+    /// Those of one who is woken by nobody. `OutOfMemory` where memory was refused, or the system tells nothing of sockets.
+    pub(crate) fn alone<R: Net>(rt: &R, alloc: Global) -> Result<Sockets, OutOfMemory> {
+        match Sockets::new(rt, alloc)? {
+            Ok((sockets, _)) => Ok(sockets),
+            Err(_) => Err(AllocError),
+        }
     }
 
     /// What the lines share.

@@ -14,7 +14,7 @@ mod warnings;
 mod words;
 
 use crate::fault::Fault;
-use crate::files::{read_lists, read_settings};
+use crate::files::{read_lists, read_settings, read_settings_twice};
 use crate::log::{say, tell_fault};
 use crate::serving::serve_station;
 use crate::words::{Call, read_words};
@@ -58,11 +58,34 @@ fn serve_file<W: Clock + Net + Threads + Wait + Sync>(
     waits: &W,
     path: &str,
 ) -> Result<(), Fault> {
-    match read_station(rt, path) {
-        Ok((settings, lists)) => Err(serve_station(rt, waits, path, settings, lists)),
+    match read_settings_twice(rt, path) {
+        Ok((settings, again)) => Err(serve_settings(rt, waits, path, settings, again)),
         Err(fault) => {
             tell_fault(rt, path, &fault);
             Err(fault)
+        }
+    }
+}
+
+/// Serves connections with these settings, of which there are two copies, until the fault.
+fn serve_settings<W: Clock + Net + Threads + Wait + Sync>(
+    rt: &HostRuntime,
+    waits: &W,
+    path: &str,
+    settings: Settings,
+    again: Settings,
+) -> Fault {
+    match read_lists(rt, &settings) {
+        Ok(lists) => {
+            let fault = serve_station(rt, waits, path, settings, lists, &again);
+            drop(again);
+            fault
+        }
+        Err(fault) => {
+            drop(settings);
+            drop(again);
+            tell_fault(rt, path, &fault);
+            fault
         }
     }
 }

@@ -20,13 +20,15 @@ use std::thread::Threads;
 use std::time::Clock;
 
 /// Binds the address and the port of the settings, says so on standard output, and serves
-/// connections by so many workers as they say, until a fault. `path` is that of the settings.
+/// connections by so many workers as they say, until a fault. `path` is that of the settings, and `again` a
+/// second copy of them, by which relays are pulled in.
 pub fn serve_station<W: Clock + Net + Threads + Wait + Sync>(
     rt: &HostRuntime,
     waits: &W,
     path: &str,
     settings: Settings,
     lists: Lists,
+    again: &Settings,
 ) -> Fault {
     match bind(rt, &settings) {
         Ok(listening) => {
@@ -36,6 +38,7 @@ pub fn serve_station<W: Clock + Net + Threads + Wait + Sync>(
                 waits,
                 settings,
                 lists,
+                again,
                 listening,
                 Blank::new(PASSES),
             ));
@@ -90,15 +93,15 @@ fn serve_in<W: Clock + Net + Threads + Wait + Sync, H: House + Send + Sync>(
     waits: &W,
     settings: Settings,
     lists: Lists,
+    again: &Settings,
     listening: Listening,
     blank: Blank,
 ) -> ServeFault
     requires opening { H.opening ≡ opening settings lists }
     requires ledger { (blank.name ≡ H.name) × (blank.parts ≡ H.parts) × (blank.parts ≡ 2 ^ 32) }
 {
-    let service = service_of(&settings);
     let hall: Hall<Unkept, H> = Hall::new(rt.alloc(), settings, lists, blank);
-    let fault = serve_through(rt, waits, &hall, listening, service);
+    let fault = serve_through(rt, waits, &hall, again, listening);
     drop(hall);
     fault
 }
@@ -108,16 +111,17 @@ fn serve_through<W: Clock + Net + Threads + Wait + Sync, H: House + Send + Sync>
     rt: &HostRuntime,
     waits: &W,
     hall: &Hall<Unkept, H>,
+    settings: &Settings,
     listening: Listening,
-    service: Service,
 ) -> ServeFault {
+    let service = service_of(settings);
     match terminal(rt) {
         Some(stream) => {
             let output = LogOutput {
                 stream,
                 may_wait: false,
             };
-            listening.serve(waits, hall, service, output)
+            listening.serve(waits, hall, settings, service, output)
         }
         None => {
             let stream = rt.stdout();
@@ -125,7 +129,7 @@ fn serve_through<W: Clock + Net + Threads + Wait + Sync, H: House + Send + Sync>
                 stream,
                 may_wait: true,
             };
-            listening.serve(waits, hall, service, output)
+            listening.serve(waits, hall, settings, service, output)
         }
     }
 }

@@ -38,7 +38,8 @@ fn begun(
     let relay = settings.relays.as_slice().first()?;
     let pull = MountPull::new(alloc, relay, MemoryLine::new(alloc, manners)).ok()?;
     let core = core(alloc, RELAYED).ok()?;
-    Some((pull, Asked::new(core)))
+    let server = Asked::new(alloc, core, relay).ok()?;
+    Some((pull, server))
 }
 
 /// What comes of the last of so many turns.
