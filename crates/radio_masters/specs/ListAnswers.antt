@@ -1,9 +1,10 @@
 -- What a master answers to the request for its list of streams.
-use Rattle.std.specs.Prelude.{◌≡◌, ℕ, Bool, not, ◌==◌, nat_lt, List, ◌++◌, codes, drop, take, length, Option, None, Some, is_some, Result, Ok, Err, if◌then◌else◌}
+use Rattle.std.specs.Prelude.{◌≡◌, ◌⊎◌, ◌+◌, ◌<◌, ℕ, suc, Bool, true, not, ◌==◌, nat_lt, List, ◌++◌, codes, drop, take, length, Option, None, Some, is_some, Result, Ok, Err, if◌then◌else◌}
 use Rattle.radio_texts.specs.Numbers.{number_of}
 use Rattle.radio_heads.specs.declared.outcome.Progress.{Progress}
 use Rattle.radio_heads.specs.declared.outcome.Progress.TheVariants.{More, Whole}
 use Rattle.radio_heads.specs.declared.outcome.HeadFault.{HeadFault}
+use Rattle.radio_hall.specs.Lines.{Calls}
 use Rattle.radio_heads.specs.Headers.{value_of}
 use Rattle.radio_heads.specs.Reading.{IsReading}
 use Rattle.radio_heads.specs.Response.{ResponseParts, ShowsResponse}
@@ -42,9 +43,22 @@ abbrev pub IsListBody : List ℕ → Bool → Result (List ℕ) ListFault → Ty
 IsListBody bytes has_closed body =
     (reading : Result (Progress ResponseParts) HeadFault) × IsReading ShowsResponse bytes reading × (body ≡ body_as has_closed bytes reading)
 
--- a slave's connection to its master: what is still owed of the request, what the line gave and took, and what is kept of the answer
+-- a slave's connection to its master: what is still owed of the request, what the line gave and took and how often it was called, and what is
+-- kept of the answer
 pub record ListOver : Type 0 where
   pub owed : List ℕ
   pub given : List ℕ
   pub taken : List ℕ
+  pub calls : Calls
   pub came : List ℕ
+
+-- how much is kept of an answer: a list and its head
+abbrev pub most_held : ℕ
+most_held = 1064960
+
+-- why no list comes of a turn: the line has failed; more has come than is kept; or what has come whole has no list
+abbrev pub WhyNoList : ListFault → ListOver → ListOver → Type 0
+WhyNoList fault pull pull' =
+    ((fault ≡ Cut) × (pull'.calls.faults ≡ suc pull.calls.faults))
+    ⊎ ((fault ≡ TooLong) × ((bytes : List ℕ) × (pull'.given ≡ pull.given ++ bytes) × (most_held < length pull.came + length bytes)))
+    ⊎ IsListBody pull'.came true (Err fault)

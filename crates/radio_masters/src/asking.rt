@@ -1,7 +1,7 @@
 //! A request, as far as its line has not taken it.
 
 ghost use Rattle.std.specs.Prelude.{◌≡◌, ◌≤◌, ◌<◌, drop, length};
-ghost use Rattle.radio_masters.specs.Pulls.{IsWritten};
+ghost use Rattle.radio_masters.specs.Pulls.{HasBorne, IsWritten};
 
 use radio_hall::{Line, Sent};
 use std::marker::Model;
@@ -51,6 +51,7 @@ impl Asking {
     pub(crate) fn write<L: Line>(&mut self, line: &mut L) -> bool
         ensures written { IsWritten self.old (L.taken line.old) self.new (L.taken line.new) }
         ensures given { L.given line.new ≡ L.given line.old }
+        ensures borne { HasBorne result (L.calls line.old) (L.calls line.new) }
     {
         if self.rest().is_empty() {
             return true;
@@ -62,6 +63,7 @@ impl Asking {
         requires { 0 < length self.old }
         ensures written { IsWritten self.old (L.taken line.old) self.new (L.taken line.new) }
         ensures given { L.given line.new ≡ L.given line.old }
+        ensures borne { HasBorne result (L.calls line.old) (L.calls line.new) }
     {
         match line.write(self.rest()) {
             Sent::Took(count) => {

@@ -1,9 +1,10 @@
 //! A slave's connection to its master, by which it asks for the list of streams.
 
-ghost use Rattle.std.specs.Prelude.{◌≡◌, ◌≢◌, ◌++◌, [], List, ℕ, true, Ok, Err, IfOk, IfErr, IfSome, OnOk};
+ghost use Rattle.std.specs.Prelude.{◌≡◌, ◌≢◌, ◌⊎◌, ◌+◌, ◌<◌, ◌++◌, [], List, ℕ, length, true, Ok, IfOk, IfErr, IfSome, OnOk};
 ghost use Rattle.radio_relay.specs.Request.{list_request};
 ghost use Rattle.radio_relay.specs.StreamList.{names_listed};
-ghost use Rattle.radio_masters.specs.ListAnswers.{IsListBody};
+ghost use Rattle.radio_masters.specs.declared.list_answer.ListFault.TheVariants.{OutOfMemory as NoMemory, TooLong};
+ghost use Rattle.radio_masters.specs.ListAnswers.{IsListBody, WhyNoList, most_held};
 ghost use Rattle.radio_masters.specs.Pulls.{IsWritten};
 
 use crate::asking::Asking;
@@ -17,7 +18,7 @@ use std::collections::BTreeSet;
 use std::marker::Model;
 
 /// How many bytes of an answer are kept at most: a list and its head.
-const MOST_HELD: u64 = MAX_LIST + 16_384;
+const MOST_HELD: usize = MAX_LIST as usize + 16_384;
 
 /// A slave's connection to its master: the line, what it has not taken of the request, and the answer as far as it has
 /// come.
@@ -36,14 +37,14 @@ impl<L: Line> Model for ListPull<L> {
 
     ghost Value = { ListOver };
 
-    ghost view = { λ p. record { owed = p.asking; given = L.given p.line; taken = L.taken p.line; came = p.held.items } };
+    ghost view = { λ p. record { owed = p.asking; given = L.given p.line; taken = L.taken p.line; calls = L.calls p.line; came = p.held.items } };
 }
 
 impl<L: Line> ListPull<L> {
     /// Asks the master of this slave over this line. Nothing was written. `OutOfMemory` where memory was refused; the line
     /// is closed then.
     pub fn new(alloc: Global, slave: &SlaveSetting, line: L) -> Result<ListPull<L>, OutOfMemory>
-        ensures { IfOk result (λ pull. pull ≡ record { owed = list_request slave.now; given = L.given line; taken = L.taken line; came = [] }) }
+        ensures { IfOk result (λ pull. pull ≡ record { owed = list_request slave.now; given = L.given line; taken = L.taken line; calls = L.calls line; came = [] }) }
     {
         let text = list_request(alloc, slave)?;
         Ok(ListPull {
@@ -61,34 +62,37 @@ impl<L: Line> ListPull<L> {
         ensures written { IsWritten self.old.owed self.old.taken self.new.owed self.new.taken }
         ensures came { OnOk result ((bytes : List ℕ) × (self.new.given ≡ self.old.given ++ bytes) × (self.new.came ≡ self.old.came ++ bytes)) }
         ensures list { IfOk result (λ list. IfSome list (λ names. (body : List ℕ) × IsListBody self.new.came true (Ok body) × (names.keys ≡ names_listed body))) }
+        ensures fault { IfErr result (λ fault. fault ≢ NoMemory → WhyNoList fault self.old self.new) }
     {
         if !self.asking.write(&mut self.line) {
             return Err(ListFault::Cut);
         }
         match self.line.read(buffer) {
-            Received::Bytes(count) => {
-                self.hold(&buffer[..count])?;
-                Ok(None)
-            }
+            Received::Bytes(count) => match hold(&mut self.held, &buffer[..count]) {
+                Ok(()) => Ok(None),
+                Err(fault) => Err(fault),
+            },
             Received::Nothing => Ok(None),
-            Received::Closed => {
-                let names = read_list_answer(self.alloc, self.held.as_slice(), true)?;
-                Ok(Some(names))
-            }
+            Received::Closed => match read_list_answer(self.alloc, self.held.as_slice(), true) {
+                Ok(names) => Ok(Some(names)),
+                Err(fault) => Err(fault),
+            },
             Received::Fault => Err(ListFault::Cut),
         }
     }
 
-    /// These bytes have come behind the others.
-    fn hold(&mut self, bytes: &[u8]) -> Result<(), ListFault>
-        ensures came { OnOk result (self.new.came ≡ self.old.came ++ bytes.now) }
-        ensures same { (self.new.given ≡ self.old.given) × (self.new.taken ≡ self.old.taken) × (self.new.owed ≡ self.old.owed) }
-    {
-        let length = self.held.len() as u64;
-        if length.saturating_add(bytes.len() as u64) > MOST_HELD {
-            return Err(ListFault::TooLong);
-        }
-        self.held.extend_from_slice(bytes)?;
-        Ok(())
+}
+
+/// These bytes have come behind those that are held.
+fn hold(held: &mut Vec<u8>, bytes: &[u8]) -> Result<(), ListFault>
+    ensures held { OnOk result (held.new.items ≡ held.old.items ++ bytes.now) }
+    ensures fault { IfErr result (λ fault. (fault ≡ NoMemory) ⊎ ((fault ≡ TooLong) × (most_held < length held.old.items + length bytes.now))) }
+{
+    if bytes.len() > MOST_HELD.saturating_sub(held.len()) {
+        return Err(ListFault::TooLong);
+    }
+    match held.extend_from_slice(bytes) {
+        Ok(()) => Ok(()),
+        Err(_) => Err(ListFault::OutOfMemory),
     }
 }

@@ -1,10 +1,10 @@
 //! A relay's connection to its master.
 
-ghost use Rattle.std.specs.Prelude.{◌≡◌, [], IfOk, OnOk};
+ghost use Rattle.std.specs.Prelude.{◌≡◌, ◌<◌, [], length, IfOk, OnOk};
 ghost use Rattle.radio_relay.specs.Request.{request_text};
 ghost use Rattle.radio_pull.specs.Pulling.{begun};
 ghost use Rattle.radio_pull.specs.Course.{GoesDown};
-ghost use Rattle.radio_masters.specs.Pulls.{Comes, IsTurn, turn_of};
+ghost use Rattle.radio_masters.specs.Pulls.{Comes, GoesOnHere, IsTurn, turn_of};
 
 use crate::OutOfMemory;
 use crate::asking::Asking;
@@ -33,7 +33,7 @@ pub enum PullTurn {
 
 /// A relay's connection to its master: the line, what it has not taken of the request, and the pull.
 ///
-/// In contracts it is a `PullOver`: the pull, what is owed, and what the line gave and took.
+/// In contracts it is a `PullOver`: the pull, what is owed, what the line gave and took, and how often it was called.
 #[derive(Drop)]
 pub struct MountPull<L: Line> {
     relay: RelayPull,
@@ -46,7 +46,7 @@ impl<L: Line> Model for MountPull<L> {
 
     ghost Value = { PullOver };
 
-    ghost view = { λ p. record { relay = p.relay; owed = p.asking; given = L.given p.line; taken = L.taken p.line } };
+    ghost view = { λ p. record { relay = p.relay; owed = p.asking; given = L.given p.line; taken = L.taken p.line; calls = L.calls p.line } };
 }
 
 impl<L: Line> MountPull<L> {
@@ -58,7 +58,7 @@ impl<L: Line> MountPull<L> {
         line: L,
     ) -> Result<MountPull<L>, OutOfMemory>
         ensures { IfOk result (λ pull. pull ≡ record { relay = begun relay.now.local_mount; owed = request_text relay.now;
-            given = L.given line; taken = L.taken line }) }
+            given = L.given line; taken = L.taken line; calls = L.calls line }) }
     {
         let text = request_text(alloc, relay)?;
         Ok(MountPull {
@@ -99,9 +99,21 @@ impl<L: Line> MountPull<L> {
     }
 }
 
-/// The next bytes of the master's answer.
+/// The next bytes of the master's answer, if there are some.
 fn hear<S: Applies>(server: &mut S, relay: &mut RelayPull, bytes: &[u8]) -> PullTurn
-    ensures { Comes S.steps relay.old bytes.now server.old result relay.new server.new }
+    ensures comes { Comes S.steps relay.old bytes.now server.old result relay.new server.new }
+    ensures goes { GoesOnHere result }
+{
+    if bytes.is_empty() {
+        return probe(server, relay);
+    }
+    hear_some(server, relay, bytes)
+}
+
+fn hear_some<S: Applies>(server: &mut S, relay: &mut RelayPull, bytes: &[u8]) -> PullTurn
+    requires { 0 < length bytes.now }
+    ensures comes { Comes S.steps relay.old bytes.now server.old result relay.new server.new }
+    ensures goes { GoesOnHere result }
 {
     match take(server, relay, bytes) {
         Ok(state) => turn_of(state),
@@ -111,7 +123,8 @@ fn hear<S: Applies>(server: &mut S, relay: &mut RelayPull, bytes: &[u8]) -> Pull
 
 /// A draw without room, which tells whether the relay has finished.
 fn probe<S: Applies>(server: &mut S, relay: &mut RelayPull) -> PullTurn
-    ensures { Comes S.steps relay.old [] server.old result relay.new server.new }
+    ensures comes { Comes S.steps relay.old [] server.old result relay.new server.new }
+    ensures goes { GoesOnHere result }
 {
     let draw = relay.room(0);
     match ask(server, relay, draw) {

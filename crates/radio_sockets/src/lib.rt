@@ -4,6 +4,7 @@
 //!   workers, until a fault; [`Service`] says how.
 //! - [`Accepts`]: when connections are accepted, and how many in a row could not be.
 //! - [`ServedTime`]: a clock that counts what was served.
+//! - [`Reach`], [`SystemNet`]: the net, as relays reach their masters on it.
 //! - [`SocketLine`]: a connection's socket, which is asked only where the system has told that it is ready.
 //!
 //! No clause says what a socket gives or takes, since the system holds it: what is proved is that a
@@ -28,6 +29,7 @@ mod outlet;
 mod pace;
 mod post;
 mod puller;
+mod reach;
 mod readiness;
 mod relays;
 mod roster;
@@ -42,6 +44,7 @@ pub use fault::{BindFault, ServeFault};
 pub use line::SocketLine;
 pub use listening::{Listening, Service};
 pub use outlet::{LogOutput, write_at_once};
+pub use reach::{Reach, SystemNet};
 pub use served::ServedTime;
 pub use stream::Shut;
 

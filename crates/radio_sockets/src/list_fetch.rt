@@ -3,13 +3,14 @@
 use crate::SocketLine;
 use crate::board::Board;
 use crate::master::{MOST_SILENT_MS, addresses_of, line_to};
+use crate::reach::Reach;
 use crate::sockets::{Sockets, moment};
 use mio::net::TcpStream;
 use radio_masters::ListPull;
 use radio_settings::{MountName, SlaveSetting};
 use std::alloc::Global;
 use std::collections::BTreeSet;
-use std::net::{Net, SocketAddr};
+use std::net::SocketAddr;
 use std::sync::Wait;
 use std::time::Clock;
 
@@ -40,9 +41,10 @@ impl Listed {
     }
 
     /// Asks the master, if it is time. A list that does not come whole leaves the last one in force.
-    pub(crate) fn refresh<R: Clock + Net + Wait>(
+    pub(crate) fn refresh<R: Clock + Wait, N: Reach>(
         &mut self,
         rt: &R,
+        net: &N,
         board: &Board,
         slave: &SlaveSetting,
     ) {
@@ -52,43 +54,45 @@ impl Listed {
         }
         let interval_ms = slave.master_update_interval.get() as u64 * 1000;
         self.next_ms = ms.saturating_add(interval_ms);
-        if let Some(names) = self.fetch(rt, board, slave) {
+        if let Some(names) = self.fetch(rt, net, board, slave) {
             self.names = names;
         }
     }
 
     /// The list of the first address of the master that answers.
-    fn fetch<R: Clock + Net + Wait>(
+    fn fetch<R: Clock + Wait, N: Reach>(
         &self,
         rt: &R,
+        net: &N,
         board: &Board,
         slave: &SlaveSetting,
     ) -> Option<BTreeSet<MountName>> {
-        let mut sockets = Sockets::alone(rt, self.alloc).ok()?;
-        'addresses: for address in addresses_of(rt, self.alloc, &slave.master) {
-            if let Some(names) = self.fetch_at(rt, board, slave, &mut sockets, address) {
+        let mut sockets = Sockets::alone(net, self.alloc).ok()?;
+        'addresses: for address in addresses_of(net, self.alloc, &slave.master) {
+            if let Some(names) = self.fetch_at(rt, net, board, slave, &mut sockets, address) {
                 return Some(names);
             }
         }
         None
     }
 
-    fn fetch_at<R: Clock + Net + Wait>(
+    fn fetch_at<R: Clock + Wait, N: Reach>(
         &self,
         rt: &R,
+        net: &N,
         board: &Board,
         slave: &SlaveSetting,
         sockets: &mut Sockets,
         address: SocketAddr,
     ) -> Option<BTreeSet<MountName>> {
-        let line = line_to(rt, sockets, address).ok()?;
+        let line = line_to(net, sockets, address).ok()?;
         let mut pull = ListPull::new(self.alloc, slave, line).ok()?;
         list_in(rt, board, sockets, &mut pull)
     }
 }
 
 /// The list, if it comes whole and in time.
-fn list_in<R: Clock + Net + Wait>(
+fn list_in<R: Clock + Wait>(
     rt: &R,
     board: &Board,
     sockets: &mut Sockets,

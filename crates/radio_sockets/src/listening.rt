@@ -8,6 +8,7 @@ use crate::board::Board;
 use crate::doors::{Coming, Doors};
 use crate::outlet::{LogOutput, Outlet};
 use crate::post::SocketPost;
+use crate::reach::Reach;
 use crate::relays::{has_relays, keep_relays};
 use crate::seats::{open_desks, seats_of};
 use crate::sockets::Sockets;
@@ -69,37 +70,41 @@ impl Listening {
     /// Accepts connections, and serves them in this hall, until a fault. A worker that can't be started is left out;
     /// `OutOfMemory` where none can be, or where memory was refused before one began.
     ///
-    /// Of the settings, which are those of the hall, its relays and its slave are read: each relay is pulled in a thread of
-    /// its own.
+    /// Of the settings, which are those of the hall, its relays and its slave are read: each relay is pulled over `net` in a
+    /// thread of its own.
     ///
     /// The log is written to standard output, by this stream of it, where that does not wait; what can't be written so is
     /// lost.
-    pub fn serve<R, C, H, O>(
+    pub fn serve<R, N, C, H, O>(
         self,
         rt: &R,
+        net: &N,
         hall: &Hall<C, H>,
         settings: &Settings,
         service: Service,
         output: LogOutput<O>,
     ) -> ServeFault
     where
-        R: Clock + Net + Threads + Wait + Sync,
+        R: Clock + Threads + Wait + Sync,
+        N: Reach + Sync,
         C: Chronicle + Send + Sync,
         H: House + Send + Sync,
         O: Write + Drop + Send,
     {
         let Listening { alloc, doors } = self;
         let outlet = Outlet::new(alloc, doors.registry(), output);
-        match open_board(rt, alloc, &doors, service) {
+        match open_board(net, alloc, &doors, service) {
             Ok((board, sockets)) => {
                 let mut acceptor = Acceptor::new(doors, outlet);
                 let station = Station {
+                    net,
                     hall,
                     settings,
                     service,
                     board: &board,
                 };
-                let fault = serve_at(rt, station, sockets, &mut acceptor);
+                let fault = serve_at(rt, &station, sockets, &mut acceptor);
+                drop(station);
                 acceptor.write_rest(rt, &board);
                 drop(acceptor);
                 drop(board);
@@ -115,8 +120,8 @@ impl Listening {
 }
 
 /// What the workers and the acceptor tell each other by, and the sockets of the workers.
-fn open_board<R: Net>(
-    rt: &R,
+fn open_board<N: Reach>(
+    net: &N,
     alloc: Global,
     doors: &Doors,
     service: Service,
@@ -124,7 +129,7 @@ fn open_board<R: Net>(
     let Ok(waker) = doors.waker() else {
         return Err(ServeFault::Accept);
     };
-    match open_desks(rt, alloc, service.workers) {
+    match open_desks(net, alloc, service.workers) {
         Ok((sockets, desks)) => {
             let board = Board::new(alloc, desks, waker, service);
             Ok((board, sockets))
@@ -138,7 +143,8 @@ fn open_board<R: Net>(
 
 /// What is served, how, and by what all threads tell each other.
 #[derive(Drop)]
-struct Station<'a, C: Chronicle, H: House> {
+struct Station<'a, N: Reach, C: Chronicle, H: House> {
+    net: &'a N,
     hall: &'a Hall<C, H>,
     settings: &'a Settings,
     service: Service,
@@ -146,14 +152,15 @@ struct Station<'a, C: Chronicle, H: House> {
 }
 
 /// Serves connections by workers with these sockets, whom this acceptor hands them.
-fn serve_at<R, C, H, O>(
+fn serve_at<R, N, C, H, O>(
     rt: &R,
-    station: Station<'_, C, H>,
+    station: &Station<'_, N, C, H>,
     mut sockets: Vec<Sockets>,
     acceptor: &mut Acceptor<O>,
 ) -> ServeFault
 where
-    R: Clock + Net + Threads + Wait + Sync,
+    R: Clock + Threads + Wait + Sync,
+    N: Reach + Sync,
     C: Chronicle + Send + Sync,
     H: House + Send + Sync,
     O: Write + Drop + Send,
@@ -171,7 +178,7 @@ where
         { acceptor.work(rt, board, &intake, &mut hand) },
         &mut || -> bool
             requires { (pass.intake ≡ intake) × (all_parts ≤ pass.parts + 1) }
-        { work_beside_relays(rt, &station, &intake, &mut pass, &mut sockets) },
+        { work_beside_relays(rt, station, &intake, &mut pass, &mut sockets) },
     );
     drop(sockets);
     drop(pass);
@@ -186,15 +193,16 @@ where
 
 /// The workers with these sockets work, and relays are kept running beside them, if the settings wish some. Whether there
 /// was memory for the workers' seats.
-fn work_beside_relays<R, C, H>(
+fn work_beside_relays<R, N, C, H>(
     rt: &R,
-    station: &Station<'_, C, H>,
+    station: &Station<'_, N, C, H>,
     intake: &Intake<Coming>,
     pass: &mut IntakePass<Coming>,
     sockets: &mut Vec<Sockets>,
 ) -> bool
 where
-    R: Clock + Net + Threads + Wait + Sync,
+    R: Clock + Threads + Wait + Sync,
+    N: Reach + Sync,
     C: Chronicle + Send + Sync,
     H: House + Send + Sync,
     requires own { pass.old.intake ≡ intake.now }
@@ -205,7 +213,7 @@ where
     }
     let (_, are_seated) = join_mut(
         rt,
-        &mut || keep_relays(rt, station.hall, station.board, station.settings),
+        &mut || keep_relays(rt, station.net, station.hall, station.board, station.settings),
         &mut || -> bool
             requires { (pass.intake ≡ intake.now) × (all_parts ≤ pass.parts + 1) }
         { work_at(rt, station, intake, pass, sockets) },
@@ -214,15 +222,16 @@ where
 }
 
 /// The workers with these sockets work, until all are to stop. Whether there was memory for their seats.
-fn work_at<R, C, H>(
+fn work_at<R, N, C, H>(
     rt: &R,
-    station: &Station<'_, C, H>,
+    station: &Station<'_, N, C, H>,
     intake: &Intake<Coming>,
     pass: &mut IntakePass<Coming>,
     sockets: &mut Vec<Sockets>,
 ) -> bool
 where
-    R: Clock + Net + Threads + Wait + Sync,
+    R: Clock + Threads + Wait + Sync,
+    N: Reach + Sync,
     C: Chronicle + Send + Sync,
     H: House + Send + Sync,
     requires own { pass.old.intake ≡ intake.now }

@@ -2,6 +2,7 @@
 
 use crate::board::Board;
 use crate::master::{MOST_SILENT_MS, addresses_of, line_to};
+use crate::reach::Reach;
 use crate::sign::Sign;
 use crate::sockets::{Sockets, moment};
 use crate::{OutOfMemory, SocketLine};
@@ -10,7 +11,7 @@ use radio_book::{Chronicle, House};
 use radio_hall::{Caller, Hall, Server, Watched};
 use radio_masters::{Asked, MountPull, PullTurn, RelayEnd};
 use radio_settings::RelaySetting;
-use std::net::{Net, SocketAddr};
+use std::net::SocketAddr;
 use std::sync::Wait;
 use std::thread::sleep;
 use std::time::{Clock, Duration};
@@ -27,8 +28,9 @@ const RESTS: u32 = 10;
 
 /// A relay's thread.
 #[derive(Drop)]
-struct Puller<'a, R: Clock + Net + Wait, S: Server + Drop> {
+struct Puller<'a, R: Clock + Wait, N: Reach, S: Server + Drop> {
     rt: &'a R,
+    net: &'a N,
     board: &'a Board,
     sign: &'a Sign,
     sockets: Sockets,
@@ -41,8 +43,9 @@ struct Puller<'a, R: Clock + Net + Wait, S: Server + Drop> {
 
 /// Pulls this relay in, with a pass of its own, until it is to stop. A pull that has ended is begun again after five
 /// seconds.
-pub(crate) fn pull_relay<R: Clock + Net + Wait, C: Chronicle, H: House>(
+pub(crate) fn pull_relay<R: Clock + Wait, N: Reach, C: Chronicle, H: House>(
     rt: &R,
+    net: &N,
     hall: &Hall<C, H>,
     board: &Board,
     relay: &RelaySetting,
@@ -50,28 +53,30 @@ pub(crate) fn pull_relay<R: Clock + Net + Wait, C: Chronicle, H: House>(
 ) {
     if let Some(pass) = hall.pass(rt) {
         let caller = Caller::new(rt, hall, pass);
-        if let Ok(mut puller) = Puller::new(rt, board, sign, caller, relay) {
+        if let Ok(mut puller) = Puller::new(rt, net, board, sign, caller, relay) {
             puller.work(relay);
         }
     }
     sign.note_end();
 }
 
-impl<'a, R: Clock + Net + Wait, S: Server + Drop> Puller<'a, R, S> {
+impl<'a, R: Clock + Wait, N: Reach, S: Server + Drop> Puller<'a, R, N, S> {
     /// That of this relay, who asks this server. `OutOfMemory` where memory was refused, or the system tells nothing of
     /// sockets.
     fn new(
         rt: &'a R,
+        net: &'a N,
         board: &'a Board,
         sign: &'a Sign,
         server: S,
         relay: &RelaySetting,
-    ) -> Result<Puller<'a, R, S>, OutOfMemory> {
+    ) -> Result<Puller<'a, R, N, S>, OutOfMemory> {
         let alloc = board.alloc();
         let asked = Asked::new(alloc, Watched::new(alloc, server), relay)?;
-        let sockets = Sockets::alone(rt, alloc)?;
+        let sockets = Sockets::alone(net, alloc)?;
         Ok(Puller {
             rt,
+            net,
             board,
             sign,
             sockets,
@@ -94,7 +99,7 @@ impl<'a, R: Clock + Net + Wait, S: Server + Drop> Puller<'a, R, S> {
 
     /// Pulls from the first address of the master that answers. Why the pull has ended.
     fn pull(&mut self, relay: &RelaySetting) -> RelayEnd {
-        let addresses = addresses_of(self.rt, self.board.alloc(), &relay.master);
+        let addresses = addresses_of(self.net, self.board.alloc(), &relay.master);
         let mut why = RelayEnd::NoAddress;
         'addresses: for address in addresses {
             why = self.pull_at(relay, address);
@@ -107,7 +112,7 @@ impl<'a, R: Clock + Net + Wait, S: Server + Drop> Puller<'a, R, S> {
 
     fn pull_at(&mut self, relay: &RelaySetting, address: SocketAddr) -> RelayEnd {
         self.began_ms = moment(self.rt);
-        let Ok(line) = line_to(self.rt, &mut self.sockets, address) else {
+        let Ok(line) = line_to(self.net, &mut self.sockets, address) else {
             return RelayEnd::NoAnswer;
         };
         let Ok(mut pull) = MountPull::new(self.board.alloc(), relay, line) else {

@@ -7,6 +7,7 @@ use crate::board::Board;
 use crate::desk::Desk;
 use crate::doors::Coming;
 use crate::post::SocketPost;
+use crate::reach::Reach;
 use crate::sockets::Sockets;
 use crate::{OutOfMemory, ServeFault};
 use radio_book::{Chronicle, House};
@@ -14,7 +15,6 @@ use radio_hall::Hall;
 use radio_intake::{Intake, IntakePass};
 use radio_workers::{Seat, add_seat};
 use std::alloc::Global;
-use std::net::Net;
 use std::sync::Wait;
 use std::time::Clock;
 
@@ -23,15 +23,15 @@ const MOST_WORKERS: u32 = 64;
 
 /// The sockets and the desks of so many workers. One to whom the system tells nothing of sockets is left out; `Accept`
 /// where all are.
-pub(crate) fn open_desks<R: Net>(
-    rt: &R,
+pub(crate) fn open_desks<N: Reach>(
+    net: &N,
     alloc: Global,
     workers: u32,
 ) -> Result<(Vec<Sockets>, Vec<Desk>), ServeFault> {
     let mut sockets = Vec::new(alloc);
     let mut desks = Vec::new(alloc);
     for _ in 0..workers {
-        if add_desk(rt, alloc, &mut sockets, &mut desks).is_err() {
+        if add_desk(net, alloc, &mut sockets, &mut desks).is_err() {
             return Err(ServeFault::OutOfMemory);
         }
     }
@@ -41,13 +41,13 @@ pub(crate) fn open_desks<R: Net>(
     Ok((sockets, desks))
 }
 
-fn add_desk<R: Net>(
-    rt: &R,
+fn add_desk<N: Reach>(
+    net: &N,
     alloc: Global,
     sockets: &mut Vec<Sockets>,
     desks: &mut Vec<Desk>,
 ) -> Result<(), OutOfMemory> {
-    if let Ok((own, waker)) = Sockets::new(rt, alloc)? {
+    if let Ok((own, waker)) = Sockets::new(net, alloc)? {
         sockets.push(own)?;
         desks.push(Desk::new(waker))?;
     }
@@ -69,7 +69,7 @@ pub(crate) fn seats_of<'a, R: Clock + Wait, C: Chronicle, H: House>(
     ensures seats { IfOk result (λ seats. All (λ seat. seat.hand.intake ≡ intake.now) seats.items) }
 {
     let mut seats = Vec::new(board.alloc());
-    for _taken in 0..MOST_WORKERS {
+    'seats: for taken in 0..MOST_WORKERS {
         let Some(own) = sockets.pop() else {
             break;
         };

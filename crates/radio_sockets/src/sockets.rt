@@ -1,13 +1,13 @@
 //! A worker's sockets, as the system tells of them.
 
 use crate::activity::Activity;
+use crate::reach::Reach;
 use crate::readiness::Readiness;
 use crate::{OutOfMemory, ServeFault, SocketLine};
 use mio::net::TcpStream;
 use mio::{Events, Interest, Poll, Token, Waker};
 use std::alloc::{AllocError, Global};
 use std::io;
-use std::net::Net;
 use std::sync::Arc;
 use std::time::{Clock, Duration};
 
@@ -16,6 +16,9 @@ const WAKER: Token = Token(usize::MAX);
 
 /// Of how many sockets the system tells at once.
 const EVENTS: usize = 1024;
+
+/// The same of one who has a socket or two.
+const FEW_EVENTS: usize = 8;
 
 /// What was heard of the system.
 #[derive(Clone, Copy)]
@@ -41,13 +44,13 @@ pub(crate) struct Sockets {
 
 impl Sockets {
     /// Those of a worker who has none yet, and his waker; the system's fault where it tells nothing of sockets.
-    pub(crate) fn new<R: Net>(
-        rt: &R,
+    pub(crate) fn new<N: Reach>(
+        net: &N,
         alloc: Global,
     ) -> Result<io::Result<(Sockets, Waker)>, OutOfMemory> {
         let events = Events::with_capacity(alloc, EVENTS)?;
         let activity = Arc::new(alloc, Activity::new())?;
-        let poll = match Poll::new(rt) {
+        let poll = match net.poll() {
             Ok(poll) => poll,
             Err(error) => return Ok(Err(error)),
         };
@@ -67,9 +70,18 @@ impl Sockets {
     }
 
     /// Those of one who is woken by nobody. `OutOfMemory` where memory was refused, or the system tells nothing of sockets.
-    pub(crate) fn alone<R: Net>(rt: &R, alloc: Global) -> Result<Sockets, OutOfMemory> {
-        match Sockets::new(rt, alloc)? {
-            Ok((sockets, _)) => Ok(sockets),
+    pub(crate) fn alone<N: Reach>(net: &N, alloc: Global) -> Result<Sockets, OutOfMemory> {
+        let events = Events::with_capacity(alloc, FEW_EVENTS)?;
+        let activity = Arc::new(alloc, Activity::new())?;
+        match net.poll() {
+            Ok(poll) => Ok(Sockets {
+                alloc,
+                poll,
+                events,
+                readiness: Vec::new(alloc),
+                next: 0,
+                activity,
+            }),
             Err(_) => Err(AllocError),
         }
     }

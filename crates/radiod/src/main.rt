@@ -22,7 +22,6 @@ use radio_access::Lists;
 use radio_floor::{Tally, play};
 use radio_settings::Settings;
 use std::io::BufReader;
-use std::net::Net;
 use std::process::ExitCode;
 use std::sync::Wait;
 use std::thread::Threads;
@@ -36,7 +35,7 @@ fn main(rt: HostRuntime) -> ExitCode {
 }
 
 /// Does what the words ask for. A fault was said on standard error.
-fn run<W: Clock + Net + Threads + Wait + Sync>(rt: &HostRuntime, waits: &W) -> Result<(), Fault> {
+fn run<W: Clock + Threads + Wait + Sync>(rt: &HostRuntime, waits: &W) -> Result<(), Fault> {
     match read_words(rt) {
         Ok(Call::Play(path)) => said(rt, play_script(rt, path.as_str())),
         Ok(Call::Serve(path)) => serve_file(rt, waits, path.as_str()),
@@ -53,7 +52,7 @@ fn said(rt: &HostRuntime, done: Result<(), Fault>) -> Result<(), Fault> {
 }
 
 /// Serves connections, with the settings of this file, until a fault.
-fn serve_file<W: Clock + Net + Threads + Wait + Sync>(
+fn serve_file<W: Clock + Threads + Wait + Sync>(
     rt: &HostRuntime,
     waits: &W,
     path: &str,
@@ -68,7 +67,7 @@ fn serve_file<W: Clock + Net + Threads + Wait + Sync>(
 }
 
 /// Serves connections with these settings, of which there are two copies, until the fault.
-fn serve_settings<W: Clock + Net + Threads + Wait + Sync>(
+fn serve_settings<W: Clock + Threads + Wait + Sync>(
     rt: &HostRuntime,
     waits: &W,
     path: &str,

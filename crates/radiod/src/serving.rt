@@ -11,9 +11,8 @@ use radio_access::Lists;
 use radio_book::{House, PASSES, Unkept};
 use radio_hall::Hall;
 use radio_settings::Settings;
-use radio_sockets::{BindFault, Listening, LogOutput, ServeFault, Service};
+use radio_sockets::{BindFault, Listening, LogOutput, ServeFault, Service, SystemNet};
 use std::marker::Brand;
-use std::net::Net;
 use std::sync::Wait;
 use std::sync::ledger::Blank;
 use std::thread::Threads;
@@ -22,7 +21,7 @@ use std::time::Clock;
 /// Binds the address and the port of the settings, says so on standard output, and serves
 /// connections by so many workers as they say, until a fault. `path` is that of the settings, and `again` a
 /// second copy of them, by which relays are pulled in.
-pub fn serve_station<W: Clock + Net + Threads + Wait + Sync>(
+pub fn serve_station<W: Clock + Threads + Wait + Sync>(
     rt: &HostRuntime,
     waits: &W,
     path: &str,
@@ -88,7 +87,7 @@ fn cannot_bind(rt: &HostRuntime, settings: &Settings, reason: NotBound) -> Fault
 }
 
 /// Serves connections in a house of these settings and lists.
-fn serve_in<W: Clock + Net + Threads + Wait + Sync, H: House + Send + Sync>(
+fn serve_in<W: Clock + Threads + Wait + Sync, H: House + Send + Sync>(
     rt: &HostRuntime,
     waits: &W,
     settings: Settings,
@@ -107,7 +106,7 @@ fn serve_in<W: Clock + Net + Threads + Wait + Sync, H: House + Send + Sync>(
 }
 
 /// Serves connections in this hall, and writes the log to standard output.
-fn serve_through<W: Clock + Net + Threads + Wait + Sync, H: House + Send + Sync>(
+fn serve_through<W: Clock + Threads + Wait + Sync, H: House + Send + Sync>(
     rt: &HostRuntime,
     waits: &W,
     hall: &Hall<Unkept, H>,
@@ -115,13 +114,14 @@ fn serve_through<W: Clock + Net + Threads + Wait + Sync, H: House + Send + Sync>
     listening: Listening,
 ) -> ServeFault {
     let service = service_of(settings);
+    let net = SystemNet::new(rt);
     match terminal(rt) {
         Some(stream) => {
             let output = LogOutput {
                 stream,
                 may_wait: false,
             };
-            listening.serve(waits, hall, settings, service, output)
+            listening.serve(waits, &net, hall, settings, service, output)
         }
         None => {
             let stream = rt.stdout();
@@ -129,7 +129,7 @@ fn serve_through<W: Clock + Net + Threads + Wait + Sync, H: House + Send + Sync>
                 stream,
                 may_wait: true,
             };
-            listening.serve(waits, hall, settings, service, output)
+            listening.serve(waits, &net, hall, settings, service, output)
         }
     }
 }
