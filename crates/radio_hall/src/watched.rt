@@ -58,7 +58,7 @@ impl<S: Server + Drop> Watched<S> {
     }
 
     /// Whether listeners may have news since this was asked the last time: a block or a title came, a
-    /// source has ended, or a command was done.
+    /// source has ended, a relay has come up or gone down, or a command was done.
     pub fn take_news(&self) -> bool {
         self.has_news.replace(false)
     }
@@ -138,6 +138,7 @@ fn place_of(numbers: &[u64], id: u64) -> Option<usize> {
 fn kind_of(event: &Event) -> Kind {
     match event {
         Event::Push { .. } | Event::SourceEnd { .. } | Event::Title { .. } => Kind::News,
+        Event::RelayUp { .. } | Event::RelayDown { .. } => Kind::News,
         Event::Command(_) => Kind::Command,
         Event::Source(request) => Kind::Feeds(request.id),
         Event::Leave { id } => Kind::Leaves(*id),

@@ -62,6 +62,13 @@ impl Accepts {
         ms >= self.not_before_ms
     }
 
+    /// Whether no descriptor was left when one was tried last.
+    pub fn is_short(&self) -> bool
+        ensures { result ≡ self.now.is_short }
+    {
+        self.is_short
+    }
+
     /// One was tried at this moment. Whether the server goes on: it does not from the hundredth
     /// failure in a row on. Where no descriptor is left, that is no failure.
     pub fn note(&mut self, tried: Tried, ms: u64) -> bool

@@ -5,21 +5,31 @@ ghost use Rattle.radio_hall.specs.Lines.{HasGiven, HasTaken};
 ghost use Rattle.radio_sockets.specs.Streams.{IsGivenBy, IsTakenBy};
 
 use crate::activity::Activity;
+use crate::pace::Pace;
 use crate::readiness::Readiness;
 use crate::stream::{Shut, read_once, write_once};
 use radio_hall::{CallCount, History, Line, Received, Sent};
 use std::alloc::Global;
 use std::io::{Read, Write};
-use std::rc::Rc;
+use std::sync::Arc;
+
+/// How many bytes no line gives but that of a source: a head has fewer.
+const MOST_OF_OTHERS: u64 = 16_384;
 
 /// A connection's socket. It is asked only where the system has told that it is ready: `Nothing`
 /// takes no call of the system then. Where nothing is wanted of what comes, it is read from at most
-/// each tenth of a second, and where it took nothing it is asked again after a second.
+/// each tenth of a second, and where it took nothing it is asked again after a second. Where sources are
+/// read slowly, it gives something once in a millisecond at most if it has given as much as only sources do. It may go from
+/// thread to thread.
 #[derive(Drop)]
 pub struct SocketLine<S: Read + Write + Shut + Drop> {
     stream: S,
-    readiness: Rc<Readiness>,
-    activity: Rc<Activity>,
+    readiness: Arc<Readiness>,
+    activity: Arc<Activity>,
+    /// When it last gave something, in milliseconds.
+    gave_ms: u64,
+    /// How many bytes it gave.
+    gave: u64,
     given: History,
     taken: History,
     calls: CallCount,
@@ -29,13 +39,15 @@ impl<S: Read + Write + Shut + Drop> SocketLine<S> {
     /// The line of a socket that does not wait.
     pub(crate) fn new(
         stream: S,
-        readiness: Rc<Readiness>,
-        activity: Rc<Activity>,
+        readiness: Arc<Readiness>,
+        activity: Arc<Activity>,
     ) -> SocketLine<S> {
         SocketLine {
             stream,
             readiness,
             activity,
+            gave_ms: 0,
+            gave: 0,
             given: History::new(),
             taken: History::new(),
             calls: CallCount::new(),
@@ -53,8 +65,12 @@ impl<S: Read + Write + Shut + Drop> SocketLine<S> {
         if !self.readiness.is_readable(ms) {
             return Received::Nothing;
         }
+        if self.is_held(ms) {
+            return Received::Nothing;
+        }
         let received = read_once(&mut self.stream, buffer, &self.readiness);
         if let Received::Bytes(count) = received {
+            self.count_given(count, ms);
             self.note_received(count == buffer.len(), ms);
             self.given.note(&buffer[..count]);
         }
@@ -79,6 +95,39 @@ impl<S: Read + Write + Shut + Drop> SocketLine<S> {
             self.taken.note(&bytes[..count]);
         }
         sent
+    }
+
+    /// Whether it has given as much as only sources do, and what it gives is wanted.
+    fn is_source(&self) -> bool {
+        self.gave >= MOST_OF_OTHERS && !self.readiness.is_passed_over()
+    }
+
+    /// Whether it gives nothing more at this moment, so that listeners can follow.
+    fn is_held(&self, ms: u64) -> bool {
+        let is_held = self.is_source()
+            && match self.activity.pace() {
+                Pace::Free => false,
+                Pace::Slow => self.gave_ms == ms,
+                Pace::Stopped => true,
+            };
+        if is_held {
+            self.activity.note_held();
+        }
+        is_held
+    }
+
+    /// It gave so many bytes at this moment.
+    fn count_given(&mut self, count: usize, ms: u64)
+        ensures stream { self.new.stream ≡ self.old.stream }
+        ensures given { self.new.given ≡ self.old.given }
+        ensures taken { self.new.taken ≡ self.old.taken }
+        ensures calls { self.new.calls ≡ self.old.calls }
+    {
+        self.gave_ms = ms;
+        self.gave = self.gave.saturating_add(count as u64);
+        if self.is_source() {
+            self.activity.note_received(count);
+        }
     }
 
     /// The socket gave bytes, and filled the buffer or not.

@@ -1,52 +1,50 @@
-//! A bound socket, and the loop that accepts and serves.
+//! A bound socket, and the service behind it.
 
-use crate::accepts::Accepts;
-use crate::entrance::next_of;
-use crate::line::SocketLine;
+ghost use Rattle.std.specs.Prelude.{◌≡◌, ◌+◌, ◌≤◌};
+ghost use Rattle.radio_intake.specs.Passes.{all_parts};
+
+use crate::acceptor::Acceptor;
+use crate::board::Board;
+use crate::doors::{Coming, Doors};
 use crate::outlet::{LogOutput, Outlet};
-use crate::served::ServedTime;
-use crate::sockets::{Sockets, moment};
-use crate::{BindFault, ServeFault};
+use crate::post::SocketPost;
+use crate::reach::Reach;
+use crate::relays::{has_relays, keep_relays};
+use crate::seats::{open_desks, seats_of};
+use crate::sockets::Sockets;
+use crate::{BindFault, ServeFault, SocketLine};
 use mio::net::TcpStream;
-use radio_hall::{
-    Conn, OpenGate, Server, Turn, Watched, Worker, close_first_lingering, count_lingering,
-};
+use radio_book::{Chronicle, House};
+use radio_hall::{Hall, OpenGate};
+use radio_intake::{Intake, IntakePass};
+use radio_settings::Settings;
+use radio_workers::{Workplace, run_workers};
 use std::alloc::Global;
 use std::io;
 use std::io::Write;
 use std::net::{Net, SocketAddr};
 use std::sync::Wait;
+use std::thread::{Threads, join_mut};
 use std::time::Clock;
 
-/// How long a turn waits until there is something to do, at most, in milliseconds. What comes after
-/// such a wait is noted at the moment before it.
-const WAIT_MS: u64 = 50;
+/// How connections are served.
+#[derive(Clone, Copy)]
+pub struct Service {
+    /// By how many workers, each in a thread of its own.
+    pub workers: u32,
+    /// For how many seconds a connection may take nothing of what waits for it.
+    pub patience_s: u32,
+    /// How many may linger, whose conversation has ended and whose peer has not closed: of more, the oldest are closed.
+    pub most_lingering: usize,
+    /// How many bytes of a stream are kept at least.
+    pub queue_size: u64,
+}
 
-/// After how long the log is told the moment again, in milliseconds.
-const TELL_AFTER_MS: u64 = 100;
-
-/// How often the log is written at the end: what is being written and what waits are 65,536 bytes each at most, of which
-/// 4096 are written at once.
-const MOST_LAST_WRITES: usize = 36;
-
-/// How many connections are accepted in a turn at most.
-const MOST_AT_ONCE: usize = 1024;
-
-/// A bound socket, and the lines that it has accepted.
+/// A bound socket.
 #[derive(Drop)]
 pub struct Listening {
     alloc: Global,
-    sockets: Sockets,
-    accepts: Accepts,
-    time: ServedTime,
-    /// When the log was last told the moment, by the clock.
-    told_ms: u64,
-    /// So many connections may linger; the oldest goes first.
-    most_lingering: usize,
-    /// Whether listeners may have news.
-    news: bool,
-    /// Whether somebody has drawn all that he had room for.
-    has_more: bool,
+    doors: Doors,
 }
 
 impl Listening {
@@ -60,187 +58,204 @@ impl Listening {
         address: &str,
         port: u16,
     ) -> Result<Listening, BindFault> {
-        let sockets = Sockets::bind(rt, alloc, address, port)?;
-        Ok(Listening {
-            alloc,
-            sockets,
-            accepts: Accepts::new(),
-            time: ServedTime::new(0),
-            told_ms: 0,
-            most_lingering: usize::MAX,
-            news: false,
-            has_more: false,
-        })
+        let doors = Doors::bind(rt, alloc, address, port)?;
+        Ok(Listening { alloc, doors })
     }
 
     /// The address and port that were bound.
     pub fn address(&self) -> io::Result<SocketAddr> {
-        self.sockets.address()
+        self.doors.address()
     }
 
-    /// Accepts and serves connections, turn after turn, until a fault. So many may linger, whose
-    /// conversation has ended and whose peer has not closed: of more, the oldest are closed.
+    /// Accepts connections, and serves them in this hall, until a fault. A worker that can't be started is left out;
+    /// `OutOfMemory` where none can be, or where memory was refused before one began.
     ///
-    /// The worker's log is written to standard output, by this stream of it, where that does not wait; what
-    /// can't be written so is lost.
-    pub fn serve<C: Clock, W: Wait, S: Server + Drop, O: Write + Drop>(
-        mut self,
-        clock: &C,
-        waits: &W,
-        worker: &mut Worker<Watched<S>>,
-        most_lingering: usize,
+    /// Of the settings, which are those of the hall, its relays and its slave are read: each relay is pulled over `net` in a
+    /// thread of its own.
+    ///
+    /// The log is written to standard output, by this stream of it, where that does not wait; what can't be written so is
+    /// lost.
+    pub fn serve<R, N, C, H, O>(
+        self,
+        rt: &R,
+        net: &N,
+        hall: &Hall<C, H>,
+        settings: &Settings,
+        service: Service,
         output: LogOutput<O>,
-    ) -> ServeFault {
-        self.most_lingering = most_lingering;
-        let mut conns = Vec::new(self.alloc);
-        self.time = ServedTime::new(moment(clock));
-        let mut outlet = Outlet::new(self.alloc, self.sockets.registry(), output);
-        tell_moment(clock, worker);
-        let fault = self.serve_turns(clock, waits, worker, &mut conns, &mut outlet);
-        self.write_rest(worker, &mut outlet);
-        drop(outlet);
-        drop(conns);
-        drop(self);
-        fault
-    }
-
-    fn serve_turns<C: Clock, W: Wait, S: Server + Drop, O: Write + Drop>(
-        &mut self,
-        clock: &C,
-        waits: &W,
-        worker: &mut Worker<Watched<S>>,
-        conns: &mut Vec<Conn<SocketLine<TcpStream>>>,
-        outlet: &mut Outlet<O>,
-    ) -> ServeFault {
-        for _ in waits.forever() {
-            if let Err(fault) = self.turn(clock, worker, conns) {
-                return fault;
+    ) -> ServeFault
+    where
+        R: Clock + Threads + Wait + Sync,
+        N: Reach + Sync,
+        C: Chronicle + Send + Sync,
+        H: House + Send + Sync,
+        O: Write + Drop + Send,
+    {
+        let Listening { alloc, doors } = self;
+        let outlet = Outlet::new(alloc, doors.registry(), output);
+        match open_board(net, alloc, &doors, service) {
+            Ok((board, sockets)) => {
+                let mut acceptor = Acceptor::new(doors, outlet);
+                let station = Station {
+                    net,
+                    hall,
+                    settings,
+                    service,
+                    board: &board,
+                };
+                let fault = serve_at(rt, &station, sockets, &mut acceptor);
+                drop(station);
+                acceptor.write_rest(rt, &board);
+                drop(acceptor);
+                drop(board);
+                fault
             }
-            self.write_log(worker, outlet);
-        }
-        ServeFault::Accept
-    }
-
-    /// One turn: what the system has to tell, the connections that wait, and each connection once.
-    /// It is told a moment up to which all that had come was read in the turns before.
-    fn turn<C: Clock, S: Server + Drop>(
-        &mut self,
-        clock: &C,
-        worker: &mut Worker<Watched<S>>,
-        conns: &mut Vec<Conn<SocketLine<TcpStream>>>,
-    ) -> Result<(), ServeFault> {
-        let read_ms = self.hear(clock, worker)?;
-        self.admit_all(worker, conns, read_ms)?;
-        self.serve_all(worker, conns, read_ms);
-        Ok(())
-    }
-
-    /// Hears what the system has to tell, and waits for it, if there is nothing to do. The moment up to
-    /// which all that had come was read in the turns before.
-    fn hear<C: Clock, S: Server + Drop>(
-        &mut self,
-        clock: &C,
-        worker: &Worker<Watched<S>>,
-    ) -> Result<u64, ServeFault> {
-        let wait_ms = self.wait_ms();
-        let clock_ms = self.sockets.hear(clock, wait_ms)?;
-        let read_ms = self.time.advance(clock_ms);
-        self.sockets.set_now(self.time.served_ms());
-        if clock_ms.saturating_sub(self.told_ms) >= TELL_AFTER_MS {
-            self.told_ms = clock_ms;
-            tell_moment(clock, worker);
-        }
-        Ok(read_ms)
-    }
-
-    /// Serves each connection once, and closes those who linger too long.
-    fn serve_all<S: Server + Drop>(
-        &mut self,
-        worker: &mut Worker<Watched<S>>,
-        conns: &mut Vec<Conn<SocketLine<TcpStream>>>,
-        ms: u64,
-    ) {
-        let before = conns.len();
-        let news = self.news;
-        worker.serve_turn(conns, &OpenGate, Turn { ms, news });
-        self.close_oldest(conns);
-        self.news = worker.server().take_news();
-        self.has_more = worker.server().take_more();
-        if conns.len() < before {
-            self.accepts.note_closed();
-        }
-    }
-
-    /// Writes of the log what can be written without waiting.
-    fn write_log<S: Server + Drop, O: Write + Drop>(
-        &mut self,
-        worker: &Worker<Watched<S>>,
-        outlet: &mut Outlet<O>,
-    ) {
-        if self.sockets.take_room() {
-            outlet.note_room();
-        }
-        if outlet.is_empty() {
-            outlet.set_lines(worker.log().take());
-        }
-        outlet.write(self.sockets.registry());
-    }
-
-    /// Writes of the log, at the end, what can be written without waiting, so that no line is left cut off but where there
-    /// is no room.
-    fn write_rest<S: Server + Drop, O: Write + Drop>(
-        &mut self,
-        worker: &Worker<Watched<S>>,
-        outlet: &mut Outlet<O>,
-    ) {
-        for _ in 0..MOST_LAST_WRITES {
-            if self.sockets.hear_now().is_err() {
-                return;
-            }
-            self.write_log(worker, outlet);
-        }
-    }
-
-    /// How long the next turn waits at most: not at all where there is something to do.
-    fn wait_ms(&self) -> u64 {
-        if self.sockets.take_more() || self.news || self.has_more {
-            0
-        } else {
-            WAIT_MS
-        }
-    }
-
-    /// Closes the oldest of those who linger, if they are too many.
-    fn close_oldest(&self, conns: &mut Vec<Conn<SocketLine<TcpStream>>>) {
-        let count = count_lingering(conns.as_slice());
-        for _ in self.most_lingering..count {
-            close_first_lingering(conns);
-        }
-    }
-
-    /// Takes in all connections that wait.
-    fn admit_all<S: Server + Drop>(
-        &mut self,
-        worker: &mut Worker<Watched<S>>,
-        conns: &mut Vec<Conn<SocketLine<TcpStream>>>,
-        ms: u64,
-    ) -> Result<(), ServeFault> {
-        for _ in 0..MOST_AT_ONCE {
-            match next_of(&mut self.sockets, &mut self.accepts, self.time.served_ms())? {
-                // One who is refused memory has had his line closed.
-                Some((line, peer)) => {
-                    let _ = worker.admit(conns, line, peer, ms);
-                }
-                None => return Ok(()),
+            Err(fault) => {
+                drop(outlet);
+                drop(doors);
+                fault
             }
         }
-        Ok(())
     }
 }
 
-/// Tells the worker's log the moment, if the clock tells it.
-fn tell_moment<C: Clock, S: Server + Drop>(clock: &C, worker: &Worker<Watched<S>>) {
-    if let Ok(since) = clock.since_1970() {
-        worker.log().set_moment(since.as_secs());
+/// What the workers and the acceptor tell each other by, and the sockets of the workers.
+fn open_board<N: Reach>(
+    net: &N,
+    alloc: Global,
+    doors: &Doors,
+    service: Service,
+) -> Result<(Board, Vec<Sockets>), ServeFault> {
+    let Ok(waker) = doors.waker() else {
+        return Err(ServeFault::Accept);
+    };
+    match open_desks(net, alloc, service.workers) {
+        Ok((sockets, desks)) => {
+            let board = Board::new(alloc, desks, waker, service);
+            Ok((board, sockets))
+        }
+        Err(fault) => {
+            drop(waker);
+            Err(fault)
+        }
     }
+}
+
+/// What is served, how, and by what all threads tell each other.
+#[derive(Drop)]
+struct Station<'a, N: Reach, C: Chronicle, H: House> {
+    net: &'a N,
+    hall: &'a Hall<C, H>,
+    settings: &'a Settings,
+    service: Service,
+    board: &'a Board,
+}
+
+/// Serves connections by workers with these sockets, whom this acceptor hands them.
+fn serve_at<R, N, C, H, O>(
+    rt: &R,
+    station: &Station<'_, N, C, H>,
+    mut sockets: Vec<Sockets>,
+    acceptor: &mut Acceptor<O>,
+) -> ServeFault
+where
+    R: Clock + Threads + Wait + Sync,
+    N: Reach + Sync,
+    C: Chronicle + Send + Sync,
+    H: House + Send + Sync,
+    O: Write + Drop + Send,
+{
+    let board = station.board;
+    let Ok((intake, mut pass)) = Intake::new(board.alloc()) else {
+        drop(sockets);
+        return ServeFault::OutOfMemory;
+    };
+    let mut hand = intake.split(&mut pass);
+    let (fault, are_seated) = join_mut(
+        rt,
+        &mut || -> ServeFault
+            requires { hand.intake ≡ intake }
+        { acceptor.work(rt, board, &intake, &mut hand) },
+        &mut || -> bool
+            requires { (pass.intake ≡ intake) × (all_parts ≤ pass.parts + 1) }
+        { work_beside_relays(rt, station, &intake, &mut pass, &mut sockets) },
+    );
+    drop(sockets);
+    drop(pass);
+    drop(hand);
+    drop(intake);
+    if are_seated {
+        fault
+    } else {
+        ServeFault::OutOfMemory
+    }
+}
+
+/// The workers with these sockets work, and relays are kept running beside them, if the settings wish some. Whether there
+/// was memory for the workers' seats.
+fn work_beside_relays<R, N, C, H>(
+    rt: &R,
+    station: &Station<'_, N, C, H>,
+    intake: &Intake<Coming>,
+    pass: &mut IntakePass<Coming>,
+    sockets: &mut Vec<Sockets>,
+) -> bool
+where
+    R: Clock + Threads + Wait + Sync,
+    N: Reach + Sync,
+    C: Chronicle + Send + Sync,
+    H: House + Send + Sync,
+    requires own { pass.old.intake ≡ intake.now }
+    requires parts { all_parts ≤ pass.old.parts + 1 }
+{
+    if !has_relays(station.settings) {
+        return work_at(rt, station, intake, pass, sockets);
+    }
+    let (_, are_seated) = join_mut(
+        rt,
+        &mut || keep_relays(rt, station.net, station.hall, station.board, station.settings),
+        &mut || -> bool
+            requires { (pass.intake ≡ intake.now) × (all_parts ≤ pass.parts + 1) }
+        { work_at(rt, station, intake, pass, sockets) },
+    );
+    are_seated
+}
+
+/// The workers with these sockets work, until all are to stop. Whether there was memory for their seats.
+fn work_at<R, N, C, H>(
+    rt: &R,
+    station: &Station<'_, N, C, H>,
+    intake: &Intake<Coming>,
+    pass: &mut IntakePass<Coming>,
+    sockets: &mut Vec<Sockets>,
+) -> bool
+where
+    R: Clock + Threads + Wait + Sync,
+    N: Reach + Sync,
+    C: Chronicle + Send + Sync,
+    H: House + Send + Sync,
+    requires own { pass.old.intake ≡ intake.now }
+    requires parts { all_parts ≤ pass.old.parts + 1 }
+{
+    let board = station.board;
+    let Ok(mut seats) = seats_of(rt, station.hall, board, intake, pass, sockets) else {
+        board.stop();
+        return false;
+    };
+    let place = Workplace {
+        hall: station.hall,
+        intake,
+        gate: &OpenGate,
+        patience_s: station.service.patience_s,
+        turns: u64::MAX,
+    };
+    run_workers::<R, C, H, Coming, SocketLine<TcpStream>, SocketPost<'_, R>, OpenGate>(
+        rt,
+        board.alloc(),
+        &place,
+        seats.as_mut_slice(),
+    );
+    drop(place);
+    drop(seats);
+    true
 }

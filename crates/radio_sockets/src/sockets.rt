@@ -1,147 +1,112 @@
-//! The bound socket and those that it has accepted, as the system tells of them.
+//! A worker's sockets, as the system tells of them.
 
 use crate::activity::Activity;
-use crate::address::{address_of, peer_at};
-use crate::entrance::{Accepted, Entrance};
-use crate::outlet::OUTLET;
+use crate::reach::Reach;
 use crate::readiness::Readiness;
-use crate::{BindFault, OutOfMemory, ServeFault, SocketLine};
-use mio::net::{TcpListener, TcpStream};
-use mio::{Events, Interest, Poll, Registry, Token};
-use radio_addr::Peer;
-use std::alloc::Global;
+use crate::{OutOfMemory, ServeFault, SocketLine};
+use mio::net::TcpStream;
+use mio::{Events, Interest, Poll, Token, Waker};
+use std::alloc::{AllocError, Global};
 use std::io;
-use std::io::ErrorKind;
-use std::net::{Net, SocketAddr};
-use std::rc::Rc;
+use std::sync::Arc;
 use std::time::{Clock, Duration};
 
-/// The name of the bound socket among what the system tells of; but for that of standard output, any other is the
-/// number of a line.
-const LISTENER: Token = Token(usize::MAX);
+/// The name of the worker's waker among what the system tells of; any other is the number of a line.
+const WAKER: Token = Token(usize::MAX);
 
 /// Of how many sockets the system tells at once.
 const EVENTS: usize = 1024;
 
-/// What the system answers where there is no descriptor left, for the process or at all.
-const NO_DESCRIPTORS: [i32; 2] = [24, 23];
+/// The same of one who has a socket or two.
+const FEW_EVENTS: usize = 8;
 
-/// A bound socket, and what the system has told of the lines that it has accepted.
+/// What was heard of the system.
+#[derive(Clone, Copy)]
+pub(crate) struct Heard {
+    /// The clock's moment then, in milliseconds.
+    pub(crate) ms: u64,
+    /// Whether there is something to do.
+    pub(crate) is_ready: bool,
+}
+
+/// What the system has told of a worker's lines.
 #[derive(Drop)]
 pub(crate) struct Sockets {
     alloc: Global,
     poll: Poll,
     events: Events<Global>,
-    listener: TcpListener,
     /// Of each line by its number. One that no line has any more is free for the next.
-    readiness: Vec<Rc<Readiness>>,
+    readiness: Vec<Arc<Readiness>>,
     /// Where the last free one was looked for.
     next: usize,
-    activity: Rc<Activity>,
-    /// Whether a connection may wait to be accepted.
-    is_asked: bool,
-    /// Whether standard output has room.
-    has_room: bool,
+    activity: Arc<Activity>,
 }
 
 impl Sockets {
-    /// Binds this address and port, as [`Listening::bind`](crate::Listening::bind).
-    pub(crate) fn bind<R: Net>(
-        rt: &R,
+    /// Those of a worker who has none yet, and his waker; the system's fault where it tells nothing of sockets.
+    pub(crate) fn new<N: Reach>(
+        net: &N,
         alloc: Global,
-        address: &str,
-        port: u16,
-    ) -> Result<Sockets, BindFault> {
-        let Some(address) = address_of(address, port) else {
-            return Err(BindFault::NoAddress);
-        };
-        let listener = match TcpListener::bind(rt, address) {
-            Ok(listener) => listener,
-            Err(error) => return Err(BindFault::Refused(error)),
-        };
-        let poll = match Poll::new(rt) {
-            Ok(poll) => poll,
-            Err(error) => return Err(BindFault::Refused(error)),
-        };
-        match Sockets::new(alloc, poll, listener) {
-            Ok(Ok(sockets)) => Ok(sockets),
-            Ok(Err(error)) => Err(BindFault::Refused(error)),
-            Err(_) => Err(BindFault::OutOfMemory),
-        }
-    }
-
-    fn new(
-        alloc: Global,
-        poll: Poll,
-        mut listener: TcpListener,
-    ) -> Result<io::Result<Sockets>, OutOfMemory> {
+    ) -> Result<io::Result<(Sockets, Waker)>, OutOfMemory> {
         let events = Events::with_capacity(alloc, EVENTS)?;
-        let activity = Rc::new(alloc, Activity::new())?;
-        let registered = poll
-            .registry()
-            .register(&mut listener, LISTENER, Interest::READABLE);
-        if let Err(error) = registered {
-            return Ok(Err(error));
-        }
-        Ok(Ok(Sockets {
+        let activity = Arc::new(alloc, Activity::new())?;
+        let poll = match net.poll() {
+            Ok(poll) => poll,
+            Err(error) => return Ok(Err(error)),
+        };
+        let waker = match Waker::new(poll.registry(), WAKER) {
+            Ok(waker) => waker,
+            Err(error) => return Ok(Err(error)),
+        };
+        let sockets = Sockets {
             alloc,
             poll,
             events,
-            listener,
             readiness: Vec::new(alloc),
             next: 0,
             activity,
-            is_asked: true,
-            has_room: false,
-        }))
+        };
+        Ok(Ok((sockets, waker)))
     }
 
-    /// The address and port that were bound.
-    pub(crate) fn address(&self) -> io::Result<SocketAddr> {
-        self.listener.local_addr()
+    /// Those of one who is woken by nobody. `OutOfMemory` where memory was refused, or the system tells nothing of sockets.
+    pub(crate) fn alone<N: Reach>(net: &N, alloc: Global) -> Result<Sockets, OutOfMemory> {
+        let events = Events::with_capacity(alloc, FEW_EVENTS)?;
+        let activity = Arc::new(alloc, Activity::new())?;
+        match net.poll() {
+            Ok(poll) => Ok(Sockets {
+                alloc,
+                poll,
+                events,
+                readiness: Vec::new(alloc),
+                next: 0,
+                activity,
+            }),
+            Err(_) => Err(AllocError),
+        }
     }
 
-    /// Whether a line had something to do in the next turn since this was asked the last time.
-    pub(crate) fn take_more(&self) -> bool {
-        self.activity.take_more()
-    }
-
-    /// Whether the system has told that standard output has room since this was asked the last time.
-    pub(crate) fn take_room(&mut self) -> bool {
-        let has_room = self.has_room;
-        self.has_room = false;
-        has_room
-    }
-
-    /// Whom the system tells of.
-    pub(crate) fn registry(&self) -> &Registry {
-        self.poll.registry()
-    }
-
-    /// It is this moment for the lines.
-    pub(crate) fn set_now(&self, ms: u64) {
-        self.activity.set_now(ms);
+    /// What the lines share.
+    pub(crate) fn activity(&self) -> &Activity {
+        &self.activity
     }
 
     /// Hears from the system what is ready, and waits until there is something to do, so many
-    /// milliseconds at most. The clock's moment then.
-    pub(crate) fn hear<C: Clock>(&mut self, clock: &C, wait_ms: u64) -> Result<u64, ServeFault> {
-        let mut now_ms = moment(clock);
-        let ends_ms = now_ms.saturating_add(wait_ms);
+    /// milliseconds at most.
+    pub(crate) fn hear<C: Clock>(&mut self, clock: &C, wait_ms: u64) -> Result<Heard, ServeFault> {
+        let mut ms = moment(clock);
+        let ends_ms = ms.saturating_add(wait_ms);
         for _ in 0..EVENTS {
-            let is_done = self.poll(ends_ms.saturating_sub(now_ms))?;
-            now_ms = moment(clock);
-            if is_done || now_ms >= ends_ms {
-                return Ok(now_ms);
+            let is_ready = self.poll(ends_ms.saturating_sub(ms))?;
+            ms = moment(clock);
+            if is_ready || ms >= ends_ms {
+                return Ok(Heard { ms, is_ready });
             }
         }
-        Ok(now_ms)
-    }
-
-    /// Hears from the system what is ready by now.
-    pub(crate) fn hear_now(&mut self) -> Result<(), ServeFault> {
-        self.poll(0)?;
-        Ok(())
+        Ok(Heard {
+            ms,
+            is_ready: false,
+        })
     }
 
     /// Notes what the system tells within so many milliseconds. Whether there is something to do.
@@ -152,11 +117,7 @@ impl Sockets {
         }
         let mut is_woken = false;
         for event in &self.events {
-            if event.token() == LISTENER {
-                self.is_asked = true;
-                is_woken = true;
-            } else if event.token() == OUTLET {
-                self.has_room = true;
+            if event.token() == WAKER {
                 is_woken = true;
             } else if let Some(readiness) = self.readiness.get(event.token().0) {
                 if readiness.mark(event) {
@@ -168,7 +129,7 @@ impl Sockets {
     }
 
     /// The line of a socket that was accepted. Its bytes are sent as they come.
-    fn line_of(&mut self, mut stream: TcpStream) -> io::Result<SocketLine<TcpStream>> {
+    pub(crate) fn line_of(&mut self, mut stream: TcpStream) -> io::Result<SocketLine<TcpStream>> {
         stream.set_nodelay(true)?;
         let (number, readiness) = self.free_readiness()?;
         self.register(&mut stream, number)?;
@@ -184,7 +145,7 @@ impl Sockets {
     }
 
     /// A number that no line has, behind the one that was given last, and what is told of it.
-    fn free_readiness(&mut self) -> Result<(usize, Rc<Readiness>), OutOfMemory> {
+    fn free_readiness(&mut self) -> Result<(usize, Arc<Readiness>), OutOfMemory> {
         match self.unused_readiness()? {
             Some(unused) => Ok(unused),
             None => self.new_readiness(),
@@ -192,12 +153,12 @@ impl Sockets {
     }
 
     /// The same among those that a line has had, if one is free.
-    fn unused_readiness(&mut self) -> Result<Option<(usize, Rc<Readiness>)>, OutOfMemory> {
+    fn unused_readiness(&mut self) -> Result<Option<(usize, Arc<Readiness>)>, OutOfMemory> {
         let count = self.readiness.len();
         for _ in 0..count {
             self.next = if self.next < count { self.next + 1 } else { 0 };
             if let Some(readiness) = self.readiness.get(self.next) {
-                if Rc::strong_count(readiness) == 1 {
+                if Arc::strong_count(readiness) == 1 {
                     return Ok(Some((self.next, readiness.clone()?)));
                 }
             }
@@ -206,32 +167,12 @@ impl Sockets {
     }
 
     /// One more.
-    fn new_readiness(&mut self) -> Result<(usize, Rc<Readiness>), OutOfMemory> {
-        let readiness = Rc::new(self.alloc, Readiness::new())?;
+    fn new_readiness(&mut self) -> Result<(usize, Arc<Readiness>), OutOfMemory> {
+        let readiness = Arc::new(self.alloc, Readiness::new())?;
         let shared = readiness.clone()?;
         let number = self.readiness.len();
         self.readiness.push(readiness)?;
         Ok((number, shared))
-    }
-}
-
-impl Entrance<(SocketLine<TcpStream>, Peer)> for Sockets {
-    fn accept(&mut self) -> Accepted<(SocketLine<TcpStream>, Peer)> {
-        if !self.is_asked {
-            return Accepted::Nothing;
-        }
-        match self.listener.accept() {
-            Ok((stream, address)) => match self.line_of(stream) {
-                Ok(line) => Accepted::One((line, peer_at(address))),
-                Err(_) => Accepted::Failed,
-            },
-            Err(error) if error.kind() == ErrorKind::WouldBlock => {
-                self.is_asked = false;
-                Accepted::Nothing
-            }
-            Err(error) if is_out_of_descriptors(&error) => Accepted::NoDescriptor,
-            Err(_) => Accepted::Failed,
-        }
     }
 }
 
@@ -240,13 +181,5 @@ pub(crate) fn moment<C: Clock>(clock: &C) -> u64 {
     match clock.monotonic() {
         Ok(since) => u64::try_from(since.as_millis()).unwrap_or(u64::MAX),
         Err(_) => 0,
-    }
-}
-
-/// Whether there is no descriptor left. Those who are there go on, and may leave some.
-fn is_out_of_descriptors(error: &io::Error) -> bool {
-    match error.raw_os_error() {
-        Some(code) => NO_DESCRIPTORS.contains(&code),
-        None => false,
     }
 }

@@ -12,14 +12,27 @@ use std::{fs, io};
 /// The settings of a file.
 pub fn read_settings(rt: &HostRuntime, path: &str) -> Result<Settings, Fault> {
     let bytes = read_file(rt, path)?;
-    match str::from_utf8(bytes.as_slice()) {
-        Ok(text) => settings_in(rt.alloc(), text),
-        Err(error) => Err(misread(
-            rt.alloc(),
-            bytes.as_slice(),
-            error.valid_up_to(),
-            "not UTF-8",
-        )),
+    settings_of(rt.alloc(), bytes.as_slice())
+}
+
+/// The settings of a file, twice: the house takes one copy, and who pulls relays in beside it reads the other.
+pub fn read_settings_twice(rt: &HostRuntime, path: &str) -> Result<(Settings, Settings), Fault> {
+    let bytes = read_file(rt, path)?;
+    let settings = settings_of(rt.alloc(), bytes.as_slice())?;
+    match settings_of(rt.alloc(), bytes.as_slice()) {
+        Ok(again) => Ok((settings, again)),
+        Err(fault) => {
+            drop(settings);
+            Err(fault)
+        }
+    }
+}
+
+/// The settings of these bytes.
+fn settings_of(alloc: Global, bytes: &[u8]) -> Result<Settings, Fault> {
+    match str::from_utf8(bytes) {
+        Ok(text) => settings_in(alloc, text),
+        Err(error) => Err(misread(alloc, bytes, error.valid_up_to(), "not UTF-8")),
     }
 }
 

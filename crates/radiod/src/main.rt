@@ -14,7 +14,7 @@ mod warnings;
 mod words;
 
 use crate::fault::Fault;
-use crate::files::{read_lists, read_settings};
+use crate::files::{read_lists, read_settings, read_settings_twice};
 use crate::log::{say, tell_fault};
 use crate::serving::serve_station;
 use crate::words::{Call, read_words};
@@ -24,6 +24,8 @@ use radio_settings::Settings;
 use std::io::BufReader;
 use std::process::ExitCode;
 use std::sync::Wait;
+use std::thread::Threads;
+use std::time::Clock;
 
 fn main(rt: HostRuntime) -> ExitCode {
     match run(&rt, &rt) {
@@ -33,7 +35,7 @@ fn main(rt: HostRuntime) -> ExitCode {
 }
 
 /// Does what the words ask for. A fault was said on standard error.
-fn run<W: Wait>(rt: &HostRuntime, waits: &W) -> Result<(), Fault> {
+fn run<W: Clock + Threads + Wait + Sync>(rt: &HostRuntime, waits: &W) -> Result<(), Fault> {
     match read_words(rt) {
         Ok(Call::Play(path)) => said(rt, play_script(rt, path.as_str())),
         Ok(Call::Serve(path)) => serve_file(rt, waits, path.as_str()),
@@ -50,12 +52,39 @@ fn said(rt: &HostRuntime, done: Result<(), Fault>) -> Result<(), Fault> {
 }
 
 /// Serves connections, with the settings of this file, until a fault.
-fn serve_file<W: Wait>(rt: &HostRuntime, waits: &W, path: &str) -> Result<(), Fault> {
-    match read_station(rt, path) {
-        Ok((settings, lists)) => Err(serve_station(rt, waits, path, settings, lists)),
+fn serve_file<W: Clock + Threads + Wait + Sync>(
+    rt: &HostRuntime,
+    waits: &W,
+    path: &str,
+) -> Result<(), Fault> {
+    match read_settings_twice(rt, path) {
+        Ok((settings, again)) => Err(serve_settings(rt, waits, path, settings, again)),
         Err(fault) => {
             tell_fault(rt, path, &fault);
             Err(fault)
+        }
+    }
+}
+
+/// Serves connections with these settings, of which there are two copies, until the fault.
+fn serve_settings<W: Clock + Threads + Wait + Sync>(
+    rt: &HostRuntime,
+    waits: &W,
+    path: &str,
+    settings: Settings,
+    again: Settings,
+) -> Fault {
+    match read_lists(rt, &settings) {
+        Ok(lists) => {
+            let fault = serve_station(rt, waits, path, settings, lists, &again);
+            drop(again);
+            fault
+        }
+        Err(fault) => {
+            drop(settings);
+            drop(again);
+            tell_fault(rt, path, &fault);
+            fault
         }
     }
 }

@@ -9,21 +9,25 @@ use crate::output::terminal;
 use crate::warnings::warn;
 use radio_access::Lists;
 use radio_book::{House, PASSES, Unkept};
-use radio_hall::{Caller, Hall, Watched, Worker};
+use radio_hall::Hall;
 use radio_settings::Settings;
-use radio_sockets::{BindFault, Listening, LogOutput, ServeFault};
+use radio_sockets::{BindFault, Listening, LogOutput, ServeFault, Service, SystemNet};
 use std::marker::Brand;
 use std::sync::Wait;
 use std::sync::ledger::Blank;
+use std::thread::Threads;
+use std::time::Clock;
 
 /// Binds the address and the port of the settings, says so on standard output, and serves
-/// connections until a fault. `path` is that of the settings.
-pub fn serve_station<W: Wait>(
+/// connections by so many workers as they say, until a fault. `path` is that of the settings, and `again` a
+/// second copy of them, by which relays are pulled in.
+pub fn serve_station<W: Clock + Threads + Wait + Sync>(
     rt: &HostRuntime,
     waits: &W,
     path: &str,
     settings: Settings,
     lists: Lists,
+    again: &Settings,
 ) -> Fault {
     match bind(rt, &settings) {
         Ok(listening) => {
@@ -33,6 +37,7 @@ pub fn serve_station<W: Wait>(
                 waits,
                 settings,
                 lists,
+                again,
                 listening,
                 Blank::new(PASSES),
             ));
@@ -82,73 +87,59 @@ fn cannot_bind(rt: &HostRuntime, settings: &Settings, reason: NotBound) -> Fault
 }
 
 /// Serves connections in a house of these settings and lists.
-fn serve_in<W: Wait, H: House>(
+fn serve_in<W: Clock + Threads + Wait + Sync, H: House + Send + Sync>(
     rt: &HostRuntime,
     waits: &W,
     settings: Settings,
     lists: Lists,
+    again: &Settings,
     listening: Listening,
     blank: Blank,
 ) -> ServeFault
     requires opening { H.opening ≡ opening settings lists }
     requires ledger { (blank.name ≡ H.name) × (blank.parts ≡ H.parts) × (blank.parts ≡ 2 ^ 32) }
 {
-    let bounds = bounds_of(&settings);
     let hall: Hall<Unkept, H> = Hall::new(rt.alloc(), settings, lists, blank);
-    let fault = serve_through(rt, waits, &hall, listening, bounds);
+    let fault = serve_through(rt, waits, &hall, again, listening);
     drop(hall);
     fault
 }
 
-/// Serves connections by a worker who asks this hall.
-fn serve_through<'a, W: Wait, H: House>(
+/// Serves connections in this hall, and writes the log to standard output.
+fn serve_through<W: Clock + Threads + Wait + Sync, H: House + Send + Sync>(
     rt: &HostRuntime,
-    waits: &'a W,
-    hall: &'a Hall<Unkept, H>,
+    waits: &W,
+    hall: &Hall<Unkept, H>,
+    settings: &Settings,
     listening: Listening,
-    bounds: Bounds,
 ) -> ServeFault {
-    match hall.pass(waits) {
-        Some(pass) => {
-            let server = Watched::new(rt.alloc(), Caller::new(waits, hall, pass));
-            let mut worker = Worker::new(rt.alloc(), server, bounds.patience_s);
-            let most = bounds.most_lingering;
-            let fault = match terminal(rt) {
-                Some(stream) => {
-                    let output = LogOutput {
-                        stream,
-                        may_wait: false,
-                    };
-                    listening.serve(rt, waits, &mut worker, most, output)
-                }
-                None => {
-                    let stream = rt.stdout();
-                    let output = LogOutput {
-                        stream,
-                        may_wait: true,
-                    };
-                    listening.serve(rt, waits, &mut worker, most, output)
-                }
+    let service = service_of(settings);
+    let net = SystemNet::new(rt);
+    match terminal(rt) {
+        Some(stream) => {
+            let output = LogOutput {
+                stream,
+                may_wait: false,
             };
-            drop(worker);
-            fault
+            listening.serve(waits, &net, hall, settings, service, output)
         }
-        None => ServeFault::OutOfMemory,
+        None => {
+            let stream = rt.stdout();
+            let output = LogOutput {
+                stream,
+                may_wait: true,
+            };
+            listening.serve(waits, &net, hall, settings, service, output)
+        }
     }
 }
 
-/// What the settings say of all connections.
-#[derive(Clone, Copy)]
-struct Bounds {
-    /// For how many seconds a connection may take nothing of what waits for it.
-    patience_s: u32,
-    /// How many may linger, whose conversation has ended: as many as may be clients.
-    most_lingering: usize,
-}
-
-fn bounds_of(settings: &Settings) -> Bounds {
-    Bounds {
+/// What the settings say of the service: as many may linger as may be clients.
+fn service_of(settings: &Settings) -> Service {
+    Service {
+        workers: settings.listen.workers.get(),
         patience_s: settings.limits.source_timeout.get(),
         most_lingering: settings.limits.clients.get() as usize,
+        queue_size: settings.limits.queue_size.get() as u64,
     }
 }

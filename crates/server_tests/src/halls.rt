@@ -9,6 +9,8 @@ use crate::house::{is_lock_free, is_title_heard};
 use crate::kept_rows::{KeptRow, is_row_played};
 use crate::stations::settings;
 use crate::two_callers::{are_served, is_of_two};
+use crate::workers;
+use crate::workers::Rush;
 use radio_access::Lists;
 use radio_book::{Entry, House, Kept, PASSES, Pass, SettleFault};
 use radio_events::Event;
@@ -58,6 +60,8 @@ pub enum Visit {
     Knocking,
     /// Connections that are slow or fail are served.
     Row(KeptRow),
+    /// Workers in threads of their own serve all who come.
+    Rush(Rush),
 }
 
 impl Visit {
@@ -79,6 +83,7 @@ impl Visit {
             Visit::Titling => history.len() == 7,
             Visit::Knocking => true,
             Visit::Row(kept) => kept.leaves(history),
+            Visit::Rush(rush) => rush.leaves(history),
         }
     }
 
@@ -112,6 +117,7 @@ fn visit_with<H: House + Send + Sync, R: Threads + Wait + Sync>(
         Visit::Titling => is_title_heard(rt, alloc, hall, passes),
         Visit::Knocking => is_lock_free(rt, alloc, hall, passes),
         Visit::Row(kept) => is_row_played(rt, alloc, hall, passes, kept),
+        Visit::Rush(rush) => workers::are_served(rt, alloc, hall, passes, rush),
     }
 }
 

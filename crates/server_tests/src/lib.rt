@@ -11,6 +11,7 @@
 //! - `calls`: events, and the calls of a caller who feeds a mount and listens to it.
 //! - `halls`: a hall, what is done there, and all passes settled then.
 //! - `two_callers`: two threads, with a pass each, over one hall; and what settles no history.
+//! - `workers`: workers in threads of their own, who take lines from an intake.
 //! - `unkept`: the same calls over a hall that stores nothing, beside a core.
 //!
 //! Of a worker's turn:
@@ -23,6 +24,7 @@
 //! - `slow`: lines that take little or nothing.
 //! - `moments`: from when patience and lingering count, to the millisecond.
 //! - `faults`: lines that fail, at each call; and memory that is refused.
+//! - `masters`: relays and a slave over such lines, turn after turn.
 //! - `told`: what the log tells of all that, line by line.
 #![tactic(auto)]
 
@@ -38,6 +40,8 @@ mod halls;
 mod house;
 #[cfg(test)]
 mod kept_rows;
+#[cfg(test)]
+mod masters;
 #[cfg(test)]
 mod memory_line;
 #[cfg(test)]
@@ -58,3 +62,5 @@ mod told;
 mod two_callers;
 #[cfg(test)]
 mod unkept;
+#[cfg(test)]
+mod workers;

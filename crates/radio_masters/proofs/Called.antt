@@ -1,0 +1,29 @@
+-- What a turn over a line came to.
+use Rattle.std.proofs.Common.{◌≡◌, subst, ℕ, suc, List, ◌++◌}
+use Rattle.radio_hall.specs.Lines.{Calls}
+use Rattle.radio_pull.specs.Pulling.{Pulling}
+use Rattle.radio_session.specs.Exchanges.{Steps}
+use Rattle.radio_masters.specs.declared.mount_pull.PullTurn.{PullTurn}
+use Rattle.radio_masters.specs.declared.mount_pull.PullTurn.TheVariants.{Running, Shut, Closed, Failed, OutOfMemory}
+use Rattle.radio_masters.specs.ListAnswers.{ListOver}
+use Rattle.radio_masters.specs.Pulls.{Comes, GoesOnHere, IsCalled, IsTurn, IsWritten, PullOver}
+
+-- a turn that does not end by its line, and has read from it once
+pub called_on : (turn : PullTurn) (before now : Calls) → GoesOnHere turn → now.reads ≡ suc before.reads → IsCalled turn before now
+called_on Running before now goes e = e
+called_on (Shut ending) before now goes e = e
+called_on Closed before now goes e = absurd goes
+called_on Failed before now goes e = absurd goes
+called_on OutOfMemory before now goes e = e
+
+-- a turn in which bytes came, told of how the pull stands within
+pub turn_heard : {S : Type 0} (steps : Steps S) (pull before after : PullOver) (bytes : List ℕ) (from to : S) (turn : PullTurn) → before ≡ pull
+    → IsWritten before.owed before.taken after.owed after.taken → after.given ≡ before.given ++ bytes
+    → Comes steps before.relay bytes from turn after.relay to → IsCalled turn before.calls after.calls → IsTurn steps pull from turn after to
+turn_heard steps pull before after bytes from to turn e written given comes called =
+    subst (λ (p : PullOver). IsTurn steps p from turn after to) e
+    (record { bytes = bytes; written = written; given = given; comes = comes; called = called })
+
+-- bytes that a line gave stand behind what came
+abbrev pub Came : List ℕ → List ℕ → ListOver → Type 0
+Came given came pull = (bytes : List ℕ) × (given ≡ pull.given ++ bytes) × (came ≡ pull.came ++ bytes)

@@ -1,0 +1,30 @@
+use Rattle.std.proofs.Common.{◌≡◌, ◌∙◌, ap, ℕ, suc, List, ◌++◌, take}
+use Rattle.radio_hall.specs.Lines.{Calls}
+use Rattle.radio_masters.specs.Pulls.{IsWritten, PullOver}
+use Rattle.radio_masters.proofs.Called.{called_on, turn_heard}
+use Rattle.radio_masters.proofs.mount_pull.MountPull.turn.Goals as goal
+
+pub returns-in-Bytes : goal.returns-in-Bytes
+returns-in-Bytes g c =
+    let bytes : List ℕ = take c.in-Bytes.count c.read.new.buffer in
+    let inside = c.self.inside in
+    let before : PullOver = record {
+      relay = inside.relay;
+      owed = inside.asking;
+      given = g.L.Line.given inside.line;
+      taken = g.L.Line.taken inside.line;
+      calls = g.L.Line.calls inside.line;
+    } in
+    let after : PullOver = record {
+      relay = c.hear.new.relay;
+      owed = c.write.new.self;
+      given = g.L.Line.given c.read.new.self;
+      taken = g.L.Line.taken c.read.new.self;
+      calls = g.L.Line.calls c.read.new.self;
+    } in
+    let written = c.write.ensures.written in
+    turn_heard g.S.Applies.steps c.args.self.now before after bytes c.args.server.now c.hear.new.server c.hear.result c.self.view_is
+        (record { part = written.part; front = written.front; took = c.read.ensures.taken ∙ written.took })
+        (c.in-Bytes.ensures.given.1 ∙ ap (λ (xs : List ℕ). xs ++ bytes) c.write.ensures.given) c.hear.ensures.comes
+        (called_on c.hear.result before.calls after.calls c.hear.ensures.goes
+        (ap (λ (k : Calls). k.reads) c.in-Bytes.ensures.calls ∙ ap (λ (n : ℕ). suc n) c.if-not-write.ensures.borne.0))

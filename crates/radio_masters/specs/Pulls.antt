@@ -1,0 +1,82 @@
+-- A relay's connection to its master, turn after turn.
+use Rattle.std.specs.Prelude.{◌≡◌, ℕ, suc, Bool, true, false, List, [], ◌∷◌, ◌++◌, Option}
+use Rattle.std.specs.Option.{option_map}
+use Rattle.radio_events.specs.declared.event.Event.{Event}
+use Rattle.radio_events.specs.declared.event.Event.TheVariants.{Draw}
+use Rattle.radio_session.specs.declared.state.State.{State}
+use Rattle.radio_session.specs.declared.state.State.TheVariants.{Running, Shut}
+use Rattle.radio_session.specs.Exchanges.{Steps}
+use Rattle.radio_hall.specs.Lines.{Calls}
+use Rattle.radio_pull.specs.Pulling.{Pulling, Standing}
+use Rattle.radio_pull.specs.Course.{AsksIf, Takes}
+use Rattle.radio_masters.specs.declared.mount_pull.PullTurn.{PullTurn}
+use Rattle.radio_masters.specs.declared.mount_pull.PullTurn.TheVariants.{Running as GoesOn, Shut as IsShut, Closed, Failed, OutOfMemory}
+
+-- what was owed to a line and what it took became these: it took the front of what was owed
+pub record IsWritten (owed taken owed' taken' : List ℕ) : Type 0 where
+  pub part : List ℕ
+  pub front : owed ≡ part ++ owed'
+  pub took : taken' ≡ taken ++ part
+
+-- a line that was written to has failed by that, or has not
+abbrev pub HasBorne : Bool → Calls → Calls → Type 0
+HasBorne true before now = (now.reads ≡ before.reads) × (now.faults ≡ before.faults) × (now.closings ≡ before.closings)
+HasBorne false before now = now.faults ≡ suc before.faults
+
+-- a pull over a line: what is still owed of the request, all that the line gave and took, and how often it was called
+pub record PullOver : Type 0 where
+  pub relay : Pulling
+  pub owed : List ℕ
+  pub given : List ℕ
+  pub taken : List ℕ
+  pub calls : Calls
+
+-- what a turn comes to where the pull stands so
+abbrev pub turn_of : State → PullTurn
+turn_of Running = GoesOn
+turn_of (Shut ending) = IsShut ending
+
+-- a draw without room, where the relay is up
+abbrev pub probe_of : Option ℕ → Option Event
+probe_of number = option_map (λ id. Draw id 0) number
+
+-- a turn that does not end by its line
+abbrev pub GoesOnHere : PullTurn → Type 0
+GoesOnHere Closed = ⊥
+GoesOnHere Failed = ⊥
+GoesOnHere turn = Unit {0}
+
+-- by a turn's end the line has told that its master has closed, or that it has failed; else it was read from once
+abbrev pub IsCalled : PullTurn → Calls → Calls → Type 0
+IsCalled Closed before now = now.closings ≡ suc before.closings
+IsCalled Failed before now = now.faults ≡ suc before.faults
+IsCalled turn before now = now.reads ≡ suc before.reads
+
+module _ {S : Type 0} (steps : Steps S) where
+  -- the server is asked whether the relay goes on
+  pub record IsProbed (relay : Pulling) (from : S) (relay' : Pulling) (state : State) (to : S) : Type 0 where
+    pub after : Standing
+    pub asks : AsksIf steps relay.number (probe_of relay.number) from after to
+    pub stands : state ≡ after.state
+    pub numbered : relay' ≡ record relay { number = after.number }
+
+  -- the bytes that came are pulled in; where nothing came, the server is asked
+  abbrev pub Hears : Pulling → List ℕ → S → Pulling → State → S → Type 0
+  Hears relay [] from relay' state to = IsProbed relay from relay' state to
+  Hears relay (byte ∷ bytes) from relay' state to = Takes steps relay (byte ∷ bytes) from relay' state to
+
+  -- what comes of it by the turn's end: where the line is over nothing came, and where memory was refused nothing is said
+  abbrev pub Comes : Pulling → List ℕ → S → PullTurn → Pulling → S → Type 0
+  Comes relay bytes from GoesOn relay' to = Hears relay bytes from relay' Running to
+  Comes relay bytes from (IsShut ending) relay' to = Hears relay bytes from relay' (Shut ending) to
+  Comes relay bytes from Closed relay' to = (bytes ≡ []) × (relay' ≡ relay) × (to ≡ from)
+  Comes relay bytes from Failed relay' to = (bytes ≡ []) × (relay' ≡ relay) × (to ≡ from)
+  Comes relay bytes from OutOfMemory relay' to = Unit {0}
+
+  -- a turn: the line takes the front of what is owed and is read from once, unless it has failed by then, and what comes of what it gave
+  pub record IsTurn (pull : PullOver) (from : S) (turn : PullTurn) (pull' : PullOver) (to : S) : Type 0 where
+    pub bytes : List ℕ
+    pub written : IsWritten pull.owed pull.taken pull'.owed pull'.taken
+    pub given : pull'.given ≡ pull.given ++ bytes
+    pub comes : Comes pull.relay bytes from turn pull'.relay to
+    pub called : IsCalled turn pull.calls pull'.calls

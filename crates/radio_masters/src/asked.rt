@@ -1,0 +1,80 @@
+//! A server, as a relay asks it.
+
+ghost use Rattle.std.specs.Prelude.{◌≡◌, IfOk};
+
+use crate::OutOfMemory;
+use crate::relay_log::{RelayEnd, RelayLog};
+use radio_events::{Event, Reply};
+use radio_hall::Server;
+use radio_session::Applies;
+use radio_settings::RelaySetting;
+use std::alloc::Global;
+use std::marker::Model;
+
+/// A server, as a relay asks it; what is done is told in the log. In contracts it is that server.
+#[derive(Drop)]
+pub struct Asked<S: Server + Drop> {
+    server: S,
+    log: RelayLog,
+}
+
+impl<S: Server + Drop> Model for Asked<S> {
+    ghost Value = { S };
+
+    ghost view = { λ a. a.server };
+}
+
+impl<S: Server + Drop> Asked<S> {
+    /// This server, as this relay asks it. `OutOfMemory` where memory was refused; the server is gone then.
+    pub fn new(
+        alloc: Global,
+        server: S,
+        relay: &RelaySetting,
+    ) -> Result<Asked<S>, OutOfMemory>
+        ensures { IfOk result (λ asked. asked ≡ server) }
+    {
+        let log = RelayLog::new(alloc, relay)?;
+        Ok(Asked { server, log })
+    }
+
+    /// The server.
+    pub fn server(&self) -> &S
+        ensures { result.now ≡ self.now }
+    {
+        &self.server
+    }
+
+    /// What the log tells of the relay.
+    pub fn log(&self) -> &RelayLog {
+        &self.log
+    }
+
+    /// Tells in the log that the relay has ended, so many seconds after it began, or could not be started.
+    pub fn tell_end(&mut self, why: RelayEnd, seconds: u64)
+        ensures { self.new ≡ self.old }
+    {
+        self.log.end(why, seconds);
+    }
+
+    /// The server, when the relay asks it no more.
+    pub fn into_server(self) -> S
+        ensures { result ≡ self }
+    {
+        self.server
+    }
+}
+
+impl<S: Server + Drop> Applies for Asked<S> {
+    ghost steps = { S.steps };
+
+    fn apply(&mut self, event: Event) -> Result<Reply, OutOfMemory> {
+        let saying = self.log.saying(&event);
+        match self.server.apply(event) {
+            Ok(reply) => {
+                self.log.note(saying, &reply);
+                Ok(reply)
+            }
+            Err(refused) => Err(refused),
+        }
+    }
+}

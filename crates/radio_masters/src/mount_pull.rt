@@ -1,0 +1,143 @@
+//! A relay's connection to its master.
+
+ghost use Rattle.std.specs.Prelude.{◌≡◌, ◌<◌, [], length, IfOk, OnOk};
+ghost use Rattle.radio_relay.specs.Request.{request_text};
+ghost use Rattle.radio_pull.specs.Pulling.{begun};
+ghost use Rattle.radio_pull.specs.Course.{GoesDown};
+ghost use Rattle.radio_masters.specs.Pulls.{Comes, GoesOnHere, IsTurn, turn_of};
+
+use crate::OutOfMemory;
+use crate::asking::Asking;
+use radio_hall::{Line, Received};
+use radio_pull::{RelayPull, ask, close, take};
+use radio_relay::request_text;
+use radio_session::{Applies, Ending, State};
+use radio_settings::RelaySetting;
+use std::alloc::Global;
+use std::marker::Model;
+
+/// What has come of a turn of a pull.
+#[derive(Clone, Copy, Debug, PartialEq, Eq)]
+pub enum PullTurn {
+    /// It goes on.
+    Running,
+    /// It is shut, and the relay has gone down if it was up.
+    Shut(Ending),
+    /// The master has closed; the relay is to go down.
+    Closed,
+    /// The line has failed; the relay is to go down.
+    Failed,
+    /// Memory was refused, and what came is lost; the relay is to go down.
+    OutOfMemory,
+}
+
+/// A relay's connection to its master: the line, what it has not taken of the request, and the pull.
+///
+/// In contracts it is a `PullOver`: the pull, what is owed, what the line gave and took, and how often it was called.
+#[derive(Drop)]
+pub struct MountPull<L: Line> {
+    relay: RelayPull,
+    asking: Asking,
+    line: L,
+}
+
+impl<L: Line> Model for MountPull<L> {
+    ghost use Rattle.radio_masters.specs.Pulls.{PullOver};
+
+    ghost Value = { PullOver };
+
+    ghost view = { λ p. record { relay = p.relay; owed = p.asking; given = L.given p.line; taken = L.taken p.line; calls = L.calls p.line } };
+}
+
+impl<L: Line> MountPull<L> {
+    /// The pull of this relay over this line, which is connected to its master. Nothing was written.
+    /// `OutOfMemory` where memory was refused; the line is closed then.
+    pub fn new(
+        alloc: Global,
+        relay: &RelaySetting,
+        line: L,
+    ) -> Result<MountPull<L>, OutOfMemory>
+        ensures { IfOk result (λ pull. pull ≡ record { relay = begun relay.now.local_mount; owed = request_text relay.now;
+            given = L.given line; taken = L.taken line; calls = L.calls line }) }
+    {
+        let text = request_text(alloc, relay)?;
+        Ok(MountPull {
+            relay: RelayPull::new(alloc, relay.local_mount),
+            asking: Asking::new(text),
+            line,
+        })
+    }
+
+    /// The number of the relay; `None` until it is up.
+    pub fn number(&self) -> Option<u64>
+        ensures { result ≡ self.now.relay.number }
+    {
+        self.relay.number()
+    }
+
+    /// Writes once what the line takes of the request, and reads once into the buffer. What came is pulled in; where
+    /// nothing has come, the server is asked whether the relay goes on.
+    pub fn turn<S: Applies>(&mut self, server: &mut S, buffer: &mut [u8]) -> PullTurn
+        ensures { IsTurn S.steps self.old server.old result self.new server.new }
+    {
+        if !self.asking.write(&mut self.line) {
+            return PullTurn::Failed;
+        }
+        match self.line.read(buffer) {
+            Received::Bytes(count) => hear(server, &mut self.relay, &buffer[..count]),
+            Received::Nothing => probe(server, &mut self.relay),
+            Received::Closed => PullTurn::Closed,
+            Received::Fault => PullTurn::Failed,
+        }
+    }
+
+    /// The relay goes down, if it is up. `OutOfMemory` where memory was refused for that.
+    pub fn close<S: Applies>(&self, server: &mut S) -> Result<(), OutOfMemory>
+        ensures { OnOk result (GoesDown S.steps self.now.relay.number server.old server.new) }
+    {
+        close(server, &self.relay)
+    }
+}
+
+/// The next bytes of the master's answer, if there are some.
+fn hear<S: Applies>(server: &mut S, relay: &mut RelayPull, bytes: &[u8]) -> PullTurn
+    ensures comes { Comes S.steps relay.old bytes.now server.old result relay.new server.new }
+    ensures goes { GoesOnHere result }
+{
+    if bytes.is_empty() {
+        return probe(server, relay);
+    }
+    hear_some(server, relay, bytes)
+}
+
+fn hear_some<S: Applies>(server: &mut S, relay: &mut RelayPull, bytes: &[u8]) -> PullTurn
+    requires { 0 < length bytes.now }
+    ensures comes { Comes S.steps relay.old bytes.now server.old result relay.new server.new }
+    ensures goes { GoesOnHere result }
+{
+    match take(server, relay, bytes) {
+        Ok(state) => turn_of(state),
+        Err(_) => PullTurn::OutOfMemory,
+    }
+}
+
+/// A draw without room, which tells whether the relay has finished.
+fn probe<S: Applies>(server: &mut S, relay: &mut RelayPull) -> PullTurn
+    ensures comes { Comes S.steps relay.old [] server.old result relay.new server.new }
+    ensures goes { GoesOnHere result }
+{
+    let draw = relay.room(0);
+    match ask(server, relay, draw) {
+        Ok(state) => turn_of(state),
+        Err(_) => PullTurn::OutOfMemory,
+    }
+}
+
+fn turn_of(state: State) -> PullTurn
+    ensures { result ≡ turn_of state }
+{
+    match state {
+        State::Running => PullTurn::Running,
+        State::Shut(ending) => PullTurn::Shut(ending),
+    }
+}

@@ -1,0 +1,187 @@
+//! What the log tells of a relay.
+
+use crate::OutOfMemory;
+use radio_events::{Event, Reply};
+use radio_log::{Fact, RelayFailed, RelayGone, RelayUp, Text, Title};
+use radio_notes::Log;
+use radio_policy::Rule;
+use radio_session::Ending;
+use radio_settings::{MountName, RelaySetting};
+use std::alloc::Global;
+
+/// What is to be told of an event, if the server does what it asks for.
+#[derive(Drop)]
+pub(crate) enum Saying {
+    /// Nothing.
+    Nothing,
+    /// That the relay feeds its mount, with a stream of this type.
+    Up(Vec<u8>),
+    /// So many bytes of sound have come.
+    Sound(u64),
+    /// This title is on the air.
+    Title(Vec<u8>),
+}
+
+impl Saying {
+    /// Of this event. A text for which memory is refused is told as an empty one.
+    pub(crate) fn of(alloc: Global, event: &Event) -> Saying {
+        match event {
+            Event::RelayUp { shown, .. } => Saying::Up(copy(alloc, shown.content_type.as_bytes())),
+            Event::Push { block, .. } => Saying::Sound(block.len() as u64),
+            Event::Title { text, .. } => Saying::Title(copy(alloc, text.as_slice())),
+            _ => Saying::Nothing,
+        }
+    }
+}
+
+fn copy(alloc: Global, bytes: &[u8]) -> Vec<u8> {
+    match Vec::from_slice(alloc, bytes) {
+        Ok(copy) => copy,
+        Err(_) => Vec::new(alloc),
+    }
+}
+
+/// What the log tells of a relay: its lines wait here.
+#[derive(Drop)]
+pub struct RelayLog {
+    alloc: Global,
+    log: Log,
+    mount: MountName,
+    /// The master and its port.
+    master: String,
+    is_up: bool,
+    /// How many bytes of sound have come since it is up.
+    sound: u64,
+}
+
+impl RelayLog {
+    /// Of this relay; nothing is told yet. `OutOfMemory` where memory was refused.
+    pub(crate) fn new(alloc: Global, relay: &RelaySetting) -> Result<RelayLog, OutOfMemory> {
+        let server = relay.master.server.as_str();
+        let port = relay.master.port.get();
+        let master = format!(in alloc; "{server}:{port}")?;
+        Ok(RelayLog {
+            alloc,
+            log: Log::new(alloc),
+            mount: relay.local_mount,
+            master,
+            is_up: false,
+            sound: 0,
+        })
+    }
+
+    /// The lines that wait, and are to be told the moment.
+    pub fn lines(&self) -> &Log {
+        &self.log
+    }
+
+    /// What is to be told of this event.
+    pub(crate) fn saying(&self, event: &Event) -> Saying {
+        Saying::of(self.alloc, event)
+    }
+
+    /// Notes what was asked for, and tells of it, if this reply says that it is done.
+    pub(crate) fn note(&mut self, saying: Saying, reply: &Reply) {
+        match reply {
+            Reply::Arrived(_) => self.note_up(saying),
+            Reply::Noted => self.note_done(saying),
+            _ => (),
+        }
+    }
+
+    fn note_up(&mut self, saying: Saying) {
+        if let Saying::Up(content_type) = saying {
+            self.is_up = true;
+            self.sound = 0;
+            let mount = self.mount.as_bytes();
+            self.log.note(Fact::RelayUp(RelayUp {
+                mount: Text::of(mount),
+                master: Text::of(self.master.as_bytes()),
+                content_type: Text::of(content_type.as_slice()),
+            }));
+            self.log.note(Fact::MountUp {
+                mount: Text::of(mount),
+            });
+        }
+    }
+
+    fn note_done(&mut self, saying: Saying) {
+        match saying {
+            Saying::Sound(count) => self.sound = self.sound.saturating_add(count),
+            Saying::Title(title) => self.log.note(Fact::Title(Title {
+                mount: Text::of(self.mount.as_bytes()),
+                title: Text::of(title.as_slice()),
+            })),
+            _ => (),
+        }
+    }
+
+    /// Tells that the relay has ended by this word, so many seconds after it began, or that it did not come up.
+    pub(crate) fn end(&mut self, why: RelayEnd, seconds: u64) {
+        if self.is_up {
+            self.is_up = false;
+            self.tell_gone(why, seconds);
+        } else {
+            self.log.note(Fact::RelayFailed(RelayFailed {
+                mount: Text::of(self.mount.as_bytes()),
+                master: Text::of(self.master.as_bytes()),
+                why: Text::of(why.word().as_bytes()),
+            }));
+        }
+    }
+
+    fn tell_gone(&self, why: RelayEnd, seconds: u64) {
+        let mount = self.mount.as_bytes();
+        self.log.note(Fact::RelayGone(RelayGone {
+            mount: Text::of(mount),
+            master: Text::of(self.master.as_bytes()),
+            why: Text::of(why.word().as_bytes()),
+            seconds,
+            bytes: self.sound,
+        }));
+        self.log.note(Fact::MountGone {
+            mount: Text::of(mount),
+            why: Text::of(why.word_of_mount().as_bytes()),
+        });
+    }
+}
+
+/// Why a relay has ended, or could not be started.
+#[derive(Clone, Copy, Debug, PartialEq, Eq)]
+pub enum RelayEnd {
+    /// Its master's name is not known.
+    NoAddress,
+    /// Nothing could be connected, or no head of an answer has come in time.
+    NoAnswer,
+    /// The master has closed, or the connection has failed.
+    Left,
+    /// By the server, or by what the master sent.
+    By(Ending),
+    /// It is not wished any more.
+    NotWished,
+    /// Memory was refused.
+    OutOfMemory,
+}
+
+impl RelayEnd {
+    /// The word for it in the log.
+    pub fn word(self) -> &'static str {
+        match self {
+            RelayEnd::NoAddress => "no-address",
+            RelayEnd::NoAnswer => "no-answer",
+            RelayEnd::Left => "left",
+            RelayEnd::By(ending) => ending.word(),
+            RelayEnd::NotWished => "not-wished",
+            RelayEnd::OutOfMemory => "out-of-memory",
+        }
+    }
+
+    /// The word for the end of its mount.
+    fn word_of_mount(self) -> &'static str {
+        match self {
+            RelayEnd::By(Ending::By(Rule::SourceSilent)) => "source-silent",
+            RelayEnd::By(Ending::By(Rule::SourceKilled)) => "source-killed",
+            _ => "source-left",
+        }
+    }
+}

@@ -1,0 +1,252 @@
+//! Where a worker's turns come from: his sockets, and what the others tell him.
+
+use crate::SocketLine;
+use crate::board::Board;
+use crate::desk::Desk;
+use crate::doors::Coming;
+use crate::served::ServedTime;
+use crate::sockets::{Heard, Sockets, moment};
+use mio::net::TcpStream;
+use radio_addr::Peer;
+use radio_hall::Turn;
+use radio_notes::Log;
+use radio_workers::{Call, Post, Seen};
+use std::sync::Wait;
+use std::time::Clock;
+
+/// How long a worker waits at once until there is something to do, at most, in milliseconds. What comes after
+/// such a wait is noted at the moment before it.
+const WAIT_MS: u64 = 50;
+
+/// After how many milliseconds a turn is made, whether there is something to do or not: as often clients are asked for
+/// who have nothing to do.
+const TURN_AFTER_MS: u64 = 500;
+
+/// After how many such waits a turn is made, even where the moment has stood still.
+const MOST_WAITS: usize = 16;
+
+/// After how long the log is told the moment again, in milliseconds.
+const TELL_AFTER_MS: u64 = 100;
+
+/// For how long a worker waits for the acceptor to begin.
+const MOST_ALONE_MS: u64 = 10_000;
+
+/// How many connections a worker takes before a turn at most.
+const MOST_AT_ONCE: usize = 64;
+
+/// Where a worker's turns come from. Moments are in milliseconds.
+#[derive(Drop)]
+pub(crate) struct SocketPost<'a, R: Clock + Wait> {
+    rt: &'a R,
+    board: &'a Board,
+    desk: &'a Desk,
+    sockets: Sockets,
+    time: ServedTime,
+    /// The moment at which he began.
+    since_ms: u64,
+    /// The moment of the last turn.
+    turn_ms: u64,
+    /// Whether those who come wait for the next turn, so that the server is told the moment before.
+    puts_off: bool,
+    /// When the log was last told the moment, by the clock.
+    told_ms: u64,
+    has_begun: bool,
+    /// Whether somebody has drawn all that he had room for.
+    has_more: bool,
+    /// How many bytes had come from sources when the turn began.
+    received: u64,
+    /// The moment that the log was told, in seconds since 1970.
+    seconds: u64,
+}
+
+impl<'a, R: Clock + Wait> SocketPost<'a, R> {
+    /// That of a worker at this desk, with these sockets. It takes no memory.
+    pub(crate) fn new(
+        rt: &'a R,
+        board: &'a Board,
+        desk: &'a Desk,
+        sockets: Sockets,
+    ) -> SocketPost<'a, R> {
+        SocketPost {
+            rt,
+            board,
+            desk,
+            sockets,
+            time: ServedTime::new(0),
+            since_ms: 0,
+            turn_ms: 0,
+            puts_off: false,
+            told_ms: 0,
+            has_begun: false,
+            has_more: false,
+            received: 0,
+            seconds: 0,
+        }
+    }
+
+    /// He begins, at the moment up to which the others have read.
+    fn begin(&mut self) {
+        self.has_begun = true;
+        self.since_ms = self.board.told_ms();
+        self.time = ServedTime::new(moment(self.rt));
+        self.desk.begin(self.since_ms);
+        self.board.wake_acceptor();
+    }
+
+    /// Waits until there is something to do, or a turn is due. What was heard then; `None` where he is to stop.
+    fn wait(&mut self) -> Option<Heard> {
+        let mut heard = self.hear()?;
+        for _ in 1..MOST_WAITS {
+            if heard.is_ready || self.is_due() || self.board.is_over() {
+                return Some(heard);
+            }
+            heard = self.hear()?;
+        }
+        Some(heard)
+    }
+
+    /// Hears what the system has to tell, and waits for it, if there is nothing to do. `None` where the system tells
+    /// nothing any more.
+    fn hear(&mut self) -> Option<Heard> {
+        let wait_ms = self.wait_ms();
+        let is_busy = wait_ms < WAIT_MS;
+        let is_called = !is_busy && (self.desk.lies_down() || self.board.is_over());
+        let told = self
+            .sockets
+            .hear(self.rt, if is_called { 0 } else { wait_ms });
+        if !is_busy {
+            self.desk.gets_up();
+        }
+        match told {
+            Ok(heard) => {
+                self.advance(heard.ms);
+                Some(Heard {
+                    ms: heard.ms,
+                    is_ready: heard.is_ready || is_busy || is_called,
+                })
+            }
+            Err(_) => {
+                self.board.stop();
+                None
+            }
+        }
+    }
+
+    /// Whether the last turn was so long ago that another is due.
+    fn is_due(&self) -> bool {
+        self.board.moment().saturating_sub(self.turn_ms) >= TURN_AFTER_MS
+    }
+
+    /// Whether the acceptor has not begun for so long that he can't.
+    fn is_alone(&self) -> bool {
+        self.time.served_ms() > MOST_ALONE_MS && !self.board.has_acceptor()
+    }
+
+    /// How long the next turn waits at most: not at all where there is something to do.
+    fn wait_ms(&self) -> u64 {
+        let activity = self.sockets.activity();
+        let was_held = activity.take_held();
+        if activity.take_more() || self.has_more {
+            0
+        } else if was_held {
+            1
+        } else {
+            WAIT_MS
+        }
+    }
+
+    /// It is this moment by the clock. All that had come when it was heard before was read.
+    fn advance(&mut self, clock_ms: u64) {
+        let read_ms = self.time.advance(clock_ms);
+        self.desk.set_read(self.since_ms.saturating_add(read_ms));
+        let now_ms = self.since_ms.saturating_add(self.time.served_ms());
+        self.sockets
+            .activity()
+            .begin_turn(now_ms, self.board.pace());
+    }
+
+    /// How many are taken in before a turn at this moment: none where the last turn was long ago, and this one tells the
+    /// server the moment first.
+    fn comings(&mut self, ms: u64) -> usize {
+        let waiting = self.desk.comings().min(MOST_AT_ONCE);
+        let is_late = ms.saturating_sub(self.turn_ms) > WAIT_MS;
+        self.puts_off = waiting > 0 && is_late && !self.puts_off;
+        if self.puts_off { 0 } else { waiting }
+    }
+
+    /// Tells the log the moment, if the clock tells it, and some time has passed.
+    fn tell_moment(&mut self, log: &Log, clock_ms: u64) {
+        if self.told_ms != 0 && clock_ms.saturating_sub(self.told_ms) < TELL_AFTER_MS {
+            return;
+        }
+        self.told_ms = clock_ms;
+        if let Ok(since) = self.rt.since_1970() {
+            self.seconds = since.as_secs();
+            log.set_moment(self.seconds);
+        }
+    }
+
+    /// Hands the lines of the log on.
+    fn hand_lines(&self, log: &Log) {
+        let lines = log.take();
+        if !lines.is_empty() {
+            self.board
+                .add_lines(self.rt, lines.as_slice(), self.seconds);
+        }
+    }
+}
+
+impl<'a, R: Clock + Wait> Post<Coming, SocketLine<TcpStream>> for SocketPost<'a, R> {
+    fn next(&mut self, log: &Log) -> Option<Call> {
+        if !self.has_begun {
+            self.begin();
+        }
+        let heard = self.wait()?;
+        if self.is_alone() {
+            self.board.stop();
+        }
+        if self.board.is_over() {
+            return None;
+        }
+        self.tell_moment(log, heard.ms);
+        let ms = self.board.moment();
+        let comings = self.comings(ms);
+        self.turn_ms = ms;
+        self.received = self.board.received();
+        let news = self.desk.take_news();
+        Some(Call {
+            turn: Turn { ms, news },
+            comings,
+        })
+    }
+
+    fn open(&mut self, coming: Coming) -> Option<(SocketLine<TcpStream>, Peer)> {
+        self.desk.note_taken();
+        let Coming { stream, peer } = coming;
+        match self.sockets.line_of(stream) {
+            Ok(line) => Some((line, peer)),
+            Err(_) => None,
+        }
+    }
+
+    fn most_lingering(&mut self, lingering: usize) -> usize {
+        self.board.most_lingering(self.desk, lingering)
+    }
+
+    fn note(&mut self, seen: Seen, log: &Log) {
+        self.has_more = seen.more;
+        self.desk
+            .set_connections(seen.connections, seen.has_listeners);
+        self.desk.note_drawn(self.received, seen.more);
+        if seen.news {
+            self.board.tell_news();
+        }
+        // Whoever sees that they have come has been told of them.
+        self.board
+            .note_received(self.sockets.activity().take_received());
+        if seen.has_closed {
+            self.board.note_closed();
+        }
+        self.hand_lines(log);
+    }
+}

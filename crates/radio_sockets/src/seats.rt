@@ -1,0 +1,82 @@
+//! The workers' seats, before they begin.
+
+ghost use Rattle.std.specs.Prelude.{◌≡◌, ◌+◌, ◌≤◌, All, IfOk};
+ghost use Rattle.radio_intake.specs.Passes.{all_parts};
+
+use crate::board::Board;
+use crate::desk::Desk;
+use crate::doors::Coming;
+use crate::post::SocketPost;
+use crate::reach::Reach;
+use crate::sockets::Sockets;
+use crate::{OutOfMemory, ServeFault};
+use radio_book::{Chronicle, House};
+use radio_hall::Hall;
+use radio_intake::{Intake, IntakePass};
+use radio_workers::{Seat, add_seat};
+use std::alloc::Global;
+use std::sync::Wait;
+use std::time::Clock;
+
+/// How many workers there are at most.
+const MOST_WORKERS: u32 = 64;
+
+/// The sockets and the desks of so many workers. One to whom the system tells nothing of sockets is left out; `Accept`
+/// where all are.
+pub(crate) fn open_desks<N: Reach>(
+    net: &N,
+    alloc: Global,
+    workers: u32,
+) -> Result<(Vec<Sockets>, Vec<Desk>), ServeFault> {
+    let mut sockets = Vec::new(alloc);
+    let mut desks = Vec::new(alloc);
+    for _ in 0..workers {
+        if add_desk(net, alloc, &mut sockets, &mut desks).is_err() {
+            return Err(ServeFault::OutOfMemory);
+        }
+    }
+    if desks.is_empty() {
+        return Err(ServeFault::Accept);
+    }
+    Ok((sockets, desks))
+}
+
+fn add_desk<N: Reach>(
+    net: &N,
+    alloc: Global,
+    sockets: &mut Vec<Sockets>,
+    desks: &mut Vec<Desk>,
+) -> Result<(), OutOfMemory> {
+    if let Ok((own, waker)) = Sockets::new(net, alloc)? {
+        sockets.push(own)?;
+        desks.push(Desk::new(waker))?;
+    }
+    Ok(())
+}
+
+/// Seats for the workers with these sockets, in this hall. `OutOfMemory` where memory was refused.
+pub(crate) fn seats_of<'a, R: Clock + Wait, C: Chronicle, H: House>(
+    rt: &'a R,
+    hall: &Hall<C, H>,
+    board: &'a Board,
+    intake: &Intake<Coming>,
+    pass: &mut IntakePass<Coming>,
+    sockets: &mut Vec<Sockets>,
+) -> Result<Vec<Seat<C, H, Coming, SocketPost<'a, R>>>, OutOfMemory>
+    requires own { pass.old.intake ≡ intake.now }
+    requires parts { all_parts ≤ pass.old.parts + 1 }
+    ensures own { pass.new.intake ≡ intake.now }
+    ensures seats { IfOk result (λ seats. All (λ seat. seat.hand.intake ≡ intake.now) seats.items) }
+{
+    let mut seats = Vec::new(board.alloc());
+    'seats: for taken in 0..MOST_WORKERS {
+        let Some(own) = sockets.pop() else {
+            break;
+        };
+        if let Some(desk) = board.desk(sockets.len()) {
+            let post = SocketPost::new(rt, board, desk, own);
+            add_seat(&mut seats, intake, pass, hall.pass(rt), post)?;
+        }
+    }
+    Ok(seats)
+}

@@ -1,0 +1,276 @@
+//! A relay and a slave over lines in memory.
+
+use crate::memory_line::{Look, Manners, MemoryLine, SILENT};
+use crate::rows::{HEARD, LISTENER};
+use crate::stations::{Station, core, settings};
+use radio_core::Core;
+use radio_masters::{
+    Asked, ListFault, ListPull, MountPull, PullTurn, read_list_answer,
+};
+use radio_session::Ending;
+use radio_settings::{MountName, Settings};
+use std::alloc::Global;
+use std::collections::BTreeSet;
+use std::test::Fail;
+
+/// A relay that feeds `/a`, and a slave.
+const RELAYED: &str = "[[relay]]\nserver = \"master\"\nmount = \"/b\"\nlocal-mount = \"/a\"\n\
+[slave]\nmaster-server = \"master\"\nmaster-password = \"x\"\n";
+
+/// A master's answer, with a title, that ends.
+const ANSWER: Manners = Manners {
+    gives: &[
+        b"HTTP/1.0 200 OK\r\nicy-meta",
+        b"int: 8\r\n\r\nabcd",
+        b"",
+        b"efgh\x01StreamTitle='X';",
+    ],
+    closes_at: 4,
+    ..SILENT
+};
+
+/// A relay of these settings over a line of these manners, and a server.
+fn begun(
+    alloc: Global,
+    settings: &Settings,
+    manners: Manners,
+) -> Option<(MountPull<MemoryLine>, Asked<Core>)> {
+    let relay = settings.relays.as_slice().first()?;
+    let pull = MountPull::new(alloc, relay, MemoryLine::new(alloc, manners)).ok()?;
+    let core = core(alloc, RELAYED).ok()?;
+    let server = Asked::new(alloc, core, relay).ok()?;
+    Some((pull, server))
+}
+
+/// What comes of the last of so many turns.
+fn last_of(pull: &mut MountPull<MemoryLine>, server: &mut Asked<Core>, turns: u64) -> PullTurn {
+    let mut buffer = [0u8; 64];
+    let mut last = PullTurn::Running;
+    for _ in 0..turns {
+        last = pull.turn(server, &mut buffer);
+    }
+    last
+}
+
+/// Whether the last of so many turns of such a relay comes to that. It need not where memory is refused.
+fn comes_to(alloc: Global, row: &Row) -> bool {
+    let Ok(settings) = settings(alloc, RELAYED) else {
+        return true;
+    };
+    let Some((mut pull, mut server)) = begun(alloc, &settings, row.manners) else {
+        return true;
+    };
+    let last = last_of(&mut pull, &mut server, row.turns);
+    let is_up = pull.number().is_some();
+    let is_closed = pull.close(&mut server).is_ok();
+    last == PullTurn::OutOfMemory || (last == row.last && is_up == row.is_up && is_closed)
+}
+
+/// A relay, and what is seen of it.
+struct Row {
+    manners: Manners,
+    turns: u64,
+    last: PullTurn,
+    is_up: bool,
+}
+
+const ROWS: &[Row] = &[
+    Row {
+        manners: ANSWER,
+        turns: 1,
+        last: PullTurn::Running,
+        is_up: false,
+    },
+    Row {
+        manners: ANSWER,
+        turns: 4,
+        last: PullTurn::Running,
+        is_up: true,
+    },
+    Row {
+        manners: ANSWER,
+        turns: 5,
+        last: PullTurn::Closed,
+        is_up: true,
+    },
+    // the request is written byte by byte, and nothing comes
+    Row {
+        manners: Manners { takes: 1, ..SILENT },
+        turns: 9,
+        last: PullTurn::Running,
+        is_up: false,
+    },
+    // the write fails, or the read
+    Row {
+        manners: Manners {
+            fails_at: 0,
+            ..ANSWER
+        },
+        turns: 1,
+        last: PullTurn::Failed,
+        is_up: false,
+    },
+    Row {
+        manners: Manners {
+            fails_at: 4,
+            ..ANSWER
+        },
+        turns: 4,
+        last: PullTurn::Failed,
+        is_up: true,
+    },
+    Row {
+        manners: Manners {
+            gives: &[b"HTTP/1.0 404 Not Found\r\n\r\n"],
+            ..SILENT
+        },
+        turns: 1,
+        last: PullTurn::Shut(Ending::BadPull),
+        is_up: false,
+    },
+];
+
+#[test]
+fn pulls_over_a_line(rt: HostRuntime) -> Result<(), Fail> {
+    for row in ROWS {
+        assert!(&rt; comes_to(rt.alloc(), row));
+    }
+    Ok(())
+}
+
+/// Whether a listener hears what a relay has pulled in. He need not where memory is refused.
+fn is_heard(alloc: Global) -> bool {
+    let Ok(settings) = settings(alloc, RELAYED) else {
+        return true;
+    };
+    let Some((mut pull, mut server)) = begun(alloc, &settings, ANSWER) else {
+        return true;
+    };
+    if last_of(&mut pull, &mut server, 4) != PullTurn::Running {
+        return true;
+    }
+    let mut station = Station::new(alloc, server.into_server());
+    if !station.comes(LISTENER, 0) {
+        return true;
+    }
+    station.turns(1, 1, 2, true);
+    station.shows(0, Look::Took(HEARD))
+}
+
+#[test]
+fn what_is_pulled_is_heard(rt: HostRuntime) -> Result<(), Fail> {
+    assert!(&rt; is_heard(rt.alloc()));
+    Ok(())
+}
+
+/// Answers to the request for the list, whether the master has closed, and the names or the fault.
+const LISTS: &[(&[u8], bool, Result<&[u8], ListFault>)] = &[
+    (
+        b"HTTP/1.0 200 OK\r\n\r\n/b\r\n/a\nnone\n/b\n",
+        true,
+        Ok(b"/a /b "),
+    ),
+    (b"HTTP/1.0 200 OK\r\n\r\n", true, Ok(b"")),
+    (b"HTTP/1.0 200 OK\r\n\r\n/a\n", false, Err(ListFault::Cut)),
+    (
+        b"HTTP/1.0 200 OK\r\nContent-Length: 3\r\n\r\n/a\n/b\n",
+        false,
+        Ok(b"/a "),
+    ),
+    (
+        b"HTTP/1.0 200 OK\r\nContent-Length: 9\r\n\r\n/a\n",
+        true,
+        Err(ListFault::Cut),
+    ),
+    (
+        b"HTTP/1.0 200 OK\r\nContent-Length: 1048577\r\n\r\n/a\n",
+        true,
+        Err(ListFault::TooLong),
+    ),
+    (
+        b"HTTP/1.0 200 OK\r\nContent-Length: x\r\n\r\n/a\n",
+        true,
+        Err(ListFault::TooLong),
+    ),
+    (
+        b"HTTP/1.0 401 No\r\n\r\n/a\n",
+        true,
+        Err(ListFault::Status(401)),
+    ),
+    (
+        b"HTTP/1.1 200 OK\r\nTransfer-Encoding: chunked\r\n\r\n/a\n",
+        true,
+        Err(ListFault::BadHead),
+    ),
+    (b"HTTP/1.0 200 OK\r\n", true, Err(ListFault::Cut)),
+    (b"none\r\n\r\n", true, Err(ListFault::BadHead)),
+];
+
+/// Whether these names are those, each followed by a space. They need not be where memory is refused.
+fn are_named(alloc: Global, names: &BTreeSet<MountName>, wanted: &[u8]) -> bool {
+    let mut told = Vec::new(alloc);
+    for name in names {
+        if told.extend_from_slice(name.as_bytes()).is_err() || told.push(b' ').is_err() {
+            return true;
+        }
+    }
+    told.as_slice() == wanted
+}
+
+/// Whether an answer is read so. It need not be where memory is refused.
+fn is_read(alloc: Global, answer: &[u8], has_closed: bool, wanted: Result<&[u8], ListFault>) -> bool {
+    match (read_list_answer(alloc, answer, has_closed), wanted) {
+        (Ok(names), Ok(wanted)) => are_named(alloc, &names, wanted),
+        (Err(ListFault::OutOfMemory), _) => true,
+        (Err(fault), Err(wanted)) => fault == wanted,
+        _ => false,
+    }
+}
+
+#[test]
+fn lists_of_masters(rt: HostRuntime) -> Result<(), Fail> {
+    for (answer, has_closed, wanted) in LISTS {
+        assert!(&rt; is_read(rt.alloc(), answer, *has_closed, *wanted));
+    }
+    Ok(())
+}
+
+/// A master who sends his list in pieces.
+const LISTED: Manners = Manners {
+    gives: &[b"HTTP/1.0 200 OK\r\n", b"\r\n/a", b"", b"\n/c\n"],
+    closes_at: 4,
+    ..SILENT
+};
+
+/// What comes of so many turns of the slave.
+fn list_of(alloc: Global, turns: u64) -> Result<Option<BTreeSet<MountName>>, ListFault> {
+    let Ok(settings) = settings(alloc, RELAYED) else {
+        return Err(ListFault::OutOfMemory);
+    };
+    let Some(slave) = &settings.slave else {
+        return Err(ListFault::Cut);
+    };
+    let mut pull = ListPull::new(alloc, slave, MemoryLine::new(alloc, LISTED))?;
+    let mut buffer = [0u8; 64];
+    for _ in 1..turns {
+        if pull.turn(&mut buffer)?.is_some() {
+            return Err(ListFault::TooLong);
+        }
+    }
+    pull.turn(&mut buffer)
+}
+
+/// Whether the slave has this list with its fifth turn.
+fn is_listed(alloc: Global) -> bool {
+    match list_of(alloc, 5) {
+        Ok(Some(names)) => are_named(alloc, &names, b"/a /c "),
+        Ok(None) => false,
+        Err(fault) => fault == ListFault::OutOfMemory,
+    }
+}
+
+#[test]
+fn a_list_in_pieces(rt: HostRuntime) -> Result<(), Fail> {
+    assert!(&rt; is_listed(rt.alloc()));
+    Ok(())
+}

@@ -1,0 +1,386 @@
+//! Workers in threads of their own over one hall, who take lines in memory from an intake.
+
+ghost use Rattle.std.specs.Prelude.{◌≡◌, ◌-◌, ◌<◌, All, IfOk, OnOk};
+ghost use Rattle.radio_intake.specs.Passes.{all_parts};
+
+use crate::halls::{Visit, visit_hall};
+use crate::memory_line::{Manners, MemoryLine, SILENT};
+use crate::rows::{LISTENER, SOURCE, TITLED};
+use radio_addr::Peer;
+use radio_book::{Entry, House, Kept, Pass};
+use radio_events::{Event, Reply};
+use radio_hall::{Gate, Hall, Turn};
+use radio_intake::{Intake, IntakePass, ROOM};
+use radio_notes::Log;
+use radio_workers::{Call, OutOfMemory, Post, Seat, Seen, Workplace, add_seat, run_workers};
+use std::alloc::Global;
+use std::sync::Wait;
+use std::sync::atomic::{AtomicBool, AtomicU64, Ordering};
+use std::test::Fail;
+use std::thread::{Threads, yield_now};
+
+/// Where a worker's turns come from: a turn in each millisecond, and one who waits is taken before each.
+#[derive(Drop)]
+struct MemoryPost {
+    alloc: Global,
+    ms: u64,
+}
+
+impl Post<Manners, MemoryLine> for MemoryPost {
+    fn next(&mut self, _log: &Log) -> Option<Call> {
+        self.ms = self.ms.saturating_add(1);
+        Some(Call {
+            turn: Turn {
+                ms: self.ms,
+                news: true,
+            },
+            comings: 1,
+        })
+    }
+
+    fn open(&mut self, coming: Manners) -> Option<(MemoryLine, Peer)> {
+        Some((
+            MemoryLine::new(self.alloc, coming),
+            Peer::of_v4(0x7f00_0001),
+        ))
+    }
+
+    fn most_lingering(&mut self, _lingering: usize) -> usize {
+        usize::MAX
+    }
+
+    fn note(&mut self, _seen: Seen, log: &Log) {
+        drop(log.take());
+    }
+}
+
+/// How often a thread gives way to others before it gives up.
+const MOST_WAITS: u64 = 50_000_000;
+
+/// A gate at which the first write is held until so many others were made.
+#[derive(Drop)]
+struct HoldsFirst {
+    others: u64,
+    was_first: AtomicBool,
+    made: AtomicU64,
+    has_seen_others: AtomicBool,
+}
+
+impl HoldsFirst {
+    /// Waits until the others were made. Whether they were.
+    fn waits(&self) -> bool {
+        for _ in 0..MOST_WAITS {
+            if self.made.load(Ordering::SeqCst) >= self.others {
+                return true;
+            }
+            yield_now();
+        }
+        false
+    }
+}
+
+impl Gate for HoldsFirst {
+    fn hold(&self, _id: u64) {
+        if !self.was_first.swap(true, Ordering::SeqCst) {
+            self.has_seen_others.store(self.waits(), Ordering::SeqCst);
+        }
+    }
+
+    fn let_go(&self, _id: u64) {
+        self.made.fetch_add(1, Ordering::SeqCst);
+    }
+}
+
+/// Who comes, and how they are served.
+#[derive(Clone, Copy)]
+pub struct Rush {
+    /// What those do who come, one after the other.
+    comers: &'static [Manners],
+    /// How often they all come.
+    times: u32,
+    /// Whether four workers serve them, or two.
+    are_four: bool,
+    /// How many turns each worker makes.
+    turns: u64,
+    /// How many other writes are made while the first is held.
+    others: u64,
+}
+
+impl Rush {
+    /// All come. Whether there was room for them.
+    fn fill<R: Wait>(self, rt: &R, intake: &Intake<Manners>, pass: &mut IntakePass<Manners>) -> bool
+        requires own { pass.old.intake ≡ intake.now }
+        ensures own { pass.new.intake ≡ intake.now }
+        ensures parts { pass.new.parts ≡ pass.old.parts }
+    {
+        'times: for _ in 0..self.times {
+            if !put_all(rt, intake, pass, self.comers) {
+                return false;
+            }
+        }
+        true
+    }
+
+    /// Whether the history is one of all who came: each of them has arrived, and has left.
+    pub fn leaves(self, history: &[Entry]) -> bool {
+        let comers = self.comers.len().saturating_mul(self.times as usize);
+        count(history, Wanted::Arrival) == comers && count(history, Wanted::Leaving) == comers
+    }
+}
+
+/// These come. Whether there was room for all.
+fn put_all<R: Wait>(
+    rt: &R,
+    intake: &Intake<Manners>,
+    pass: &mut IntakePass<Manners>,
+    comers: &[Manners],
+) -> bool
+    requires own { pass.old.intake ≡ intake.now }
+    ensures own { pass.new.intake ≡ intake.now }
+    ensures parts { pass.new.parts ≡ pass.old.parts }
+{
+    'comers: for comer in comers {
+        if intake.put(rt, pass, *comer).is_err() {
+            return false;
+        }
+    }
+    true
+}
+
+/// What is looked for in a history.
+#[derive(Clone, Copy)]
+enum Wanted {
+    /// Somebody was let in.
+    Arrival,
+    /// Somebody has left.
+    Leaving,
+}
+
+impl Wanted {
+    fn is(self, entry: &Entry) -> bool {
+        match self {
+            Wanted::Arrival => matches!(entry.reply, Reply::Arrived(_)),
+            Wanted::Leaving => matches!(entry.event, Event::Leave { .. }),
+        }
+    }
+}
+
+/// In how many entries that is.
+fn count(history: &[Entry], wanted: Wanted) -> usize {
+    let mut count = 0usize;
+    for entry in history {
+        if wanted.is(entry) {
+            count = count.saturating_add(1);
+        }
+    }
+    count
+}
+
+/// Seats of workers over lines in memory.
+type Seats<H> = Vec<Seat<Kept, H, Manners, MemoryPost>>;
+
+/// Seats for two workers.
+fn add_two<H: House, R: Wait>(
+    rt: &R,
+    alloc: Global,
+    hall: &Hall<Kept, H>,
+    intake: &Intake<Manners>,
+    pass: &mut IntakePass<Manners>,
+    seats: &mut Seats<H>,
+) -> Result<(), OutOfMemory>
+    requires own { pass.old.intake ≡ intake.now }
+    requires parts { 2 < pass.old.parts }
+    requires seats { All (λ seat. seat.hand.intake ≡ intake.now) seats.old.items }
+    ensures own { pass.new.intake ≡ intake.now }
+    ensures parts { OnOk result (pass.new.parts ≡ pass.old.parts - 2) }
+    ensures seats { OnOk result (All (λ seat. seat.hand.intake ≡ intake.now) seats.new.items) }
+{
+    add_seat(
+        seats,
+        intake,
+        pass,
+        hall.pass(rt),
+        MemoryPost { alloc, ms: 0 },
+    )?;
+    add_seat(
+        seats,
+        intake,
+        pass,
+        hall.pass(rt),
+        MemoryPost { alloc, ms: 0 },
+    )
+}
+
+/// Seats for two workers, or for four.
+fn seats_for<H: House, R: Wait>(
+    rt: &R,
+    alloc: Global,
+    hall: &Hall<Kept, H>,
+    intake: &Intake<Manners>,
+    pass: &mut IntakePass<Manners>,
+    are_four: bool,
+) -> Result<Seats<H>, OutOfMemory>
+    requires own { pass.old.intake ≡ intake.now }
+    requires parts { pass.old.parts ≡ all_parts }
+    ensures own { pass.new.intake ≡ intake.now }
+    ensures seats { IfOk result (λ seats. All (λ seat. seat.hand.intake ≡ intake.now) seats.items) }
+{
+    let mut seats = Vec::new(alloc);
+    add_two(rt, alloc, hall, intake, pass, &mut seats)?;
+    if are_four {
+        add_two(rt, alloc, hall, intake, pass, &mut seats)?;
+    }
+    Ok(seats)
+}
+
+/// Adds the passes of these workers. Whether each has had his back.
+fn add_passes<H: House>(seats: Seats<H>, passes: &mut Vec<Pass<Kept, H>>) -> bool {
+    let mut are_added = true;
+    for seat in seats {
+        if !add_pass(seat, passes) {
+            are_added = false;
+        }
+    }
+    are_added
+}
+
+fn add_pass<H: House>(
+    seat: Seat<Kept, H, Manners, MemoryPost>,
+    passes: &mut Vec<Pass<Kept, H>>,
+) -> bool {
+    let Seat { pass, .. } = seat;
+    match pass {
+        Some(pass) => passes.push(pass).is_ok(),
+        None => false,
+    }
+}
+
+/// Whether all who come are taken and served, each worker with a pass that is added, while the first write is held.
+pub fn are_served<H: House + Send + Sync, R: Threads + Wait + Sync>(
+    rt: &R,
+    alloc: Global,
+    hall: &Hall<Kept, H>,
+    passes: &mut Vec<Pass<Kept, H>>,
+    rush: Rush,
+) -> bool {
+    let Ok((intake, mut pass)) = Intake::new(alloc) else {
+        return false;
+    };
+    let Ok(mut seats) = seats_for(rt, alloc, hall, &intake, &mut pass, rush.are_four) else {
+        return false;
+    };
+    let is_filled = rush.fill(rt, &intake, &mut pass);
+    let has_seen_others = work(rt, alloc, hall, &intake, seats.as_mut_slice(), rush);
+    let is_empty = intake.take(rt, &mut pass).is_none();
+    add_passes(seats, passes) && is_filled && has_seen_others && is_empty
+}
+
+/// The workers work. Whether the other writes were made while the first was held.
+fn work<H: House + Send + Sync, R: Threads + Wait + Sync>(
+    rt: &R,
+    alloc: Global,
+    hall: &Hall<Kept, H>,
+    intake: &Intake<Manners>,
+    seats: &mut [Seat<Kept, H, Manners, MemoryPost>],
+    rush: Rush,
+) -> bool
+    requires seats { All (λ seat. seat.hand.intake ≡ intake.now) seats.old }
+{
+    let gate = HoldsFirst {
+        others: rush.others,
+        was_first: AtomicBool::new(false),
+        made: AtomicU64::new(0),
+        has_seen_others: AtomicBool::new(false),
+    };
+    let place = Workplace {
+        hall,
+        intake,
+        gate: &gate,
+        patience_s: 10,
+        turns: rush.turns,
+    };
+    run_workers::<R, Kept, H, Manners, MemoryLine, MemoryPost, HoldsFirst>(
+        rt, alloc, &place, seats,
+    );
+    drop(place);
+    gate.has_seen_others.load(Ordering::SeqCst)
+}
+
+/// One who asks for what is not there, and closes then.
+const DENIED: Manners = Manners {
+    gives: &[b"GET /none HTTP/1.0\r\n\r\n"],
+    closes_at: 1,
+    ..SILENT
+};
+
+/// The same, and the write of his answer fails.
+const FAILS: Manners = Manners {
+    gives: &[b"GET /none HTTP/1.0\r\n\r\n"],
+    fails_at: 1,
+    ..SILENT
+};
+
+/// While the answer to one is being written, another is served from his coming to his end.
+#[test]
+fn two_served_at_once(rt: HostRuntime) -> Result<(), Fail> {
+    let rush = Rush {
+        comers: &[DENIED],
+        times: 2,
+        are_four: false,
+        turns: 10,
+        others: 1,
+    };
+    visit_hall(&rt, "", Visit::Rush(rush))
+}
+
+/// While a write is held, the hall serves all others.
+#[test]
+fn a_held_write_holds_nobody(rt: HostRuntime) -> Result<(), Fail> {
+    let rush = Rush {
+        comers: &[DENIED, DENIED],
+        times: 3,
+        are_four: false,
+        turns: 20,
+        others: 5,
+    };
+    visit_hall(&rt, "", Visit::Rush(rush))
+}
+
+/// The same where the writes fail; who was cut off has left.
+#[test]
+fn a_held_write_that_fails_holds_nobody(rt: HostRuntime) -> Result<(), Fail> {
+    let rush = Rush {
+        comers: &[FAILS, FAILS],
+        times: 3,
+        are_four: false,
+        turns: 20,
+        others: 5,
+    };
+    visit_hall(&rt, "", Visit::Rush(rush))
+}
+
+/// Four workers serve sources, listeners and others, who all leave at the end; their passes settle.
+#[test]
+fn four_workers(rt: HostRuntime) -> Result<(), Fail> {
+    let rush = Rush {
+        comers: &[SOURCE, LISTENER, TITLED, DENIED],
+        times: 8,
+        are_four: true,
+        turns: 50,
+        others: 0,
+    };
+    visit_hall(&rt, "", Visit::Rush(rush))
+}
+
+/// An intake that is full is emptied, and each who came was let in, and has left.
+#[test]
+fn a_full_intake(rt: HostRuntime) -> Result<(), Fail> {
+    let rush = Rush {
+        comers: &[DENIED],
+        times: ROOM as u32,
+        are_four: true,
+        turns: 1100,
+        others: 0,
+    };
+    visit_hall(&rt, "[limits]\nclients = 1024\n", Visit::Rush(rush))
+}
