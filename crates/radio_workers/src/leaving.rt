@@ -28,5 +28,7 @@ fn leave<S: Server>(server: &mut S, id: u64)
     ensures { AsksToLeave S.steps S.refuses server.old id server.new }
 {
     // Where memory is refused for that, nothing has changed.
-    let _ = server.apply(Event::Leave { id });
+    if let Ok(reply) = server.apply(Event::Leave { id }) {
+        drop(reply);
+    }
 }

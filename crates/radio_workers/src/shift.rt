@@ -34,16 +34,22 @@ pub(crate) fn work<R: Wait, C: Chronicle, H: House, T: Drop, L: Line, P: Post<T,
     let Some(pass) = seat.pass.take() else {
         return;
     };
-    let server = Watched::new(alloc, Caller::new(rt, place.hall, pass));
-    let mut shift: Shift<Caller<'_, R, C, H>, L> = Shift {
-        worker: Worker::new(alloc, server, place.patience_s),
-        conns: Vec::new(alloc),
-    };
+    let server = Caller::new(rt, place.hall, pass);
+    let mut shift: Shift<Caller<'_, R, C, H>, L> = Shift::new(alloc, server, place.patience_s);
     shift.make_turns(rt, place, &mut seat.post, &mut seat.hand);
     seat.pass = Some(shift.end().into_pass());
 }
 
 impl<S: Server + Drop, L: Line> Shift<S, L> {
+    /// A worker who applies to this server and has this patience, without connections.
+    fn new(alloc: Global, server: S, patience_s: u32) -> Shift<S, L> {
+        let watched = Watched::new(alloc, server);
+        Shift {
+            worker: Worker::new(alloc, watched, patience_s),
+            conns: Vec::new(alloc),
+        }
+    }
+
     /// Turn after turn, as long as the post goes on.
     #[tactic(auto, using(crate::proofs::Takings::taken_none, crate::proofs::Takings::taken_one, crate::proofs::Takings::taken_then))]
     fn make_turns<R: Wait, C: Chronicle, H: House, T: Drop, P: Post<T, L>, G: Gate>(
@@ -98,14 +104,19 @@ impl<S: Server + Drop, L: Line> Shift<S, L> {
         let before = self.conns.len();
         self.worker.serve_turn(&mut self.conns, gate, call.turn);
         self.close_oldest(post);
-        let seen = Seen {
+        let seen = self.seen(before);
+        post.note(seen, self.worker.log());
+    }
+
+    /// What has come of a turn that began with so many connections.
+    fn seen(&self, before: usize) -> Seen {
+        Seen {
             news: self.worker.server().take_news(),
             more: self.worker.server().take_more(),
             connections: self.conns.len(),
             has_listeners: has_listeners(self.conns.as_slice()),
             has_closed: self.conns.len() < before,
-        };
-        post.note(seen, self.worker.log());
+        }
     }
 
     /// Closes the oldest of those who linger, if they are too many.
