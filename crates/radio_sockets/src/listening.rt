@@ -215,7 +215,7 @@ where
         rt,
         &mut || keep_relays(rt, station.net, station.hall, station.board, station.settings),
         &mut || -> bool
-            requires { (pass.intake ≡ intake.now) × (all_parts ≤ pass.parts + 1) }
+            requires { (pass.now.intake ≡ intake.now) × (all_parts ≤ pass.now.parts + 1) }
         { work_at(rt, station, intake, pass, sockets) },
     );
     are_seated

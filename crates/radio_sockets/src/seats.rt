@@ -73,10 +73,12 @@ pub(crate) fn seats_of<'a, R: Clock + Wait, C: Chronicle, H: House>(
         let Some(own) = sockets.pop() else {
             break;
         };
-        if let Some(desk) = board.desk(sockets.len()) {
-            let post = SocketPost::new(rt, board, desk, own);
-            add_seat(&mut seats, intake, pass, hall.pass(rt), post)?;
-        }
+        let Some(desk) = board.desk(sockets.len()) else {
+            drop(own);
+            break;
+        };
+        let post = SocketPost::new(rt, board, desk, own);
+        add_seat(&mut seats, intake, pass, hall.pass(rt), post)?;
     }
     Ok(seats)
 }
