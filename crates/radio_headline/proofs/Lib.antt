@@ -1,0 +1,11 @@
+mod Logs
+mod ReplyForms
+mod AppliedLemmas
+mod RelayLogs
+mod RunLemmas
+mod Connections
+mod ConnectionSteps
+mod LabelLemmas
+mod CourseLemmas
+mod DrawLemmas
+mod ListenerLemmas
