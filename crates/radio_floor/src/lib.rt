@@ -19,6 +19,7 @@ mod relay_handler;
 mod script_server;
 mod scripts;
 
+pub use labelled::{Connection, Labelled};
 pub use laws::{last_words_are_told, scripts_come_to_events, the_transcript_is_one};
 pub use radio_script::{
     Counted, CountedRead, CountedWrite, Delivery, Input, PlayFault, RunFault, Tally,

@@ -81,13 +81,13 @@ IsOpen says (reply ∷ later) = ((said says reply).state ≡ Running) × IsOpen 
 
 pub told_joined : (says : Says) (before more : List Reply) → IsOpen says before
     → told says (before ++ more) ≡ told says before ++ told (said_all says before) more
-told_joined says [] more open = refl
-told_joined says (reply ∷ before) more open =
+told_joined says [] more goes = refl
+told_joined says (reply ∷ before) more goes =
     let of = said says reply in
-    ap (λ (s : State). of.bytes ++ while_open s (told of.says (before ++ more))) open.0
-    ∙ ap (λ (xs : List ℕ). of.bytes ++ xs) (told_joined of.says before more open.1)
+    ap (λ (s : State). of.bytes ++ while_open s (told of.says (before ++ more))) goes.0
+    ∙ ap (λ (xs : List ℕ). of.bytes ++ xs) (told_joined of.says before more goes.1)
     ∙ sym (append_assoc of.bytes (told of.says before) (told (said_all of.says before) more))
-    ∙ ap (λ (s : State). (of.bytes ++ while_open s (told of.says before)) ++ told (said_all of.says before) more) (sym open.0)
+    ∙ ap (λ (s : State). (of.bytes ++ while_open s (told of.says before)) ++ told (said_all of.says before) more) (sym goes.0)
 
 pub said_joined : (says : Says) (before more : List Reply) → said_all says (before ++ more) ≡ said_all (said_all says before) more
 said_joined says [] more = refl
@@ -98,8 +98,8 @@ open_joined says [] more h k = k
 open_joined says (reply ∷ before) more h k = (h.0, open_joined (said says reply).says before more h.1 k)
 
 -- where the exchange goes on, so do they
-record GoesOn (w : World) (id : ℕ) (says : Says) (asked : List Event) : Type 0 where
-  pub open : IsOpen says (replies (entries w (applied w id says asked)))
+pub record GoesOn (w : World) (id : ℕ) (says : Says) (asked : List Event) : Type 0 where
+  pub goes : IsOpen says (replies (entries w (applied w id says asked)))
   pub so : (exchanged w id says asked).exchange.says ≡ said_all says (replies (entries w (applied w id says asked)))
   pub all : applied w id says asked ≡ asked
 
@@ -108,8 +108,8 @@ module _ (w : World) (id : ℕ) (event : Event) (says : Says) (others : WorldExc
       → (then_exchanged (world_after w event) id event (said says (reply_to w event)) state others).exchange.state ≡ Running
       → (others.exchange.state ≡ Running → IsOpen (said says (reply_to w event)).says (replies (entries (world_after w event) rest)))
       → IsOpen says (replies (entries w (and_then id event state rest)))
-  then_goes_on Running e run open = (e, open run)
-  then_goes_on (Shut ending) e run open = cc
+  then_goes_on Running e run goes = (e, goes run)
+  then_goes_on (Shut ending) e run goes = cc
 
   then_so : (state : State) → (said says (reply_to w event)).state ≡ state
       → (then_exchanged (world_after w event) id event (said says (reply_to w event)) state others).exchange.state ≡ Running
@@ -125,14 +125,14 @@ module _ (w : World) (id : ℕ) (event : Event) (says : Says) (others : WorldExc
   then_all (Shut ending) run all = cc
 
 pub goes_on : (w : World) (id : ℕ) (says : Says) (asked : List Event) → (exchanged w id says asked).exchange.state ≡ Running → GoesOn w id says asked
-goes_on w id says [] run = record { open = tt; so = refl; all = refl }
+goes_on w id says [] run = record { goes = tt; so = refl; all = refl }
 goes_on w id says (event ∷ asked) run =
     let of = said says (reply_to w event) in
     let later = world_after w event in
     let others = exchanged later id of.says asked in
     let rest = applied later id of.says asked in
     record {
-      open = then_goes_on w id event says others rest asked of.state refl run (λ r. (goes_on later id of.says asked r).open);
+      goes = then_goes_on w id event says others rest asked of.state refl run (λ r. (goes_on later id of.says asked r).goes);
       so = then_so w id event says others rest asked of.state refl run (λ r. (goes_on later id of.says asked r).so);
       all = then_all w id event says others rest asked of.state run (λ r. (goes_on later id of.says asked r).all);
     }
@@ -159,8 +159,8 @@ last_shuts says (Finished rule) e h = cc
 last_shuts says Stray e h = h
 
 pub none_last : (says : Says) (log : List Entry) → IsOpen says (replies log) → Each IsNotLast log
-none_last says [] open = tt
-none_last says (e ∷ log) open = (last_shuts says e.reply open.0, none_last (said says e.reply).says log open.1)
+none_last says [] goes = tt
+none_last says (e ∷ log) goes = (last_shuts says e.reply goes.0, none_last (said says e.reply).says log goes.1)
 
 -- this one is of a leaving client
 abbrev pub IsLeaving : ℕ → Entry → Type 0
@@ -249,6 +249,12 @@ nothing_later (Shut ending) = refl
 
 -- who leaves is told nothing then
 pub leaves_silently : (says : Says) (reply : Reply) → says.closing ≡ None → LeaveReply reply → told says (reply ∷ []) ≡ []
+leaves_silently says (Arrived id) e h = elim h [ ]
+leaves_silently says Feeding e h = elim h [ ]
+leaves_silently says (Seated interval head) e h = elim h [ ]
+leaves_silently says (Drawn bytes title) e h = elim h [ ]
+leaves_silently says (Text text) e h = elim h [ ]
+leaves_silently says (Deny rule) e h = elim h [ ]
 leaves_silently says Stray e WasNotThere = refl
 leaves_silently says (Finished rule) e (HadFinished _) = refl
 leaves_silently says Noted e IsNoted =

@@ -1,6 +1,6 @@
 -- What comes to a client's connection leaves it so.
 use Rattle.std.proofs.Common.{◌≡◌, ◌≢◌, ◌⊎◌, inl, inr, ℕ, Bool, true, false, List, [], ◌∷◌, ◌++◌, drop, Option, None, Some, Result, Ok, Err, refl, sym, ap, subst, ◌∙◌, append_assoc}
-use Rattle.std.specs.Prelude.{map, codes, if◌then◌else◌}
+use Rattle.std.specs.Prelude.{map, codes, if◌then◌else◌, option_map}
 use Rattle.std.specs.List.{concat, flat_map}
 use Rattle.std.specs.Str.{bytes_eq}
 use Rattle.std.proofs.lemmas.List.{append-nil, drop-append-le}
@@ -28,7 +28,6 @@ use Rattle.radio_session.specs.declared.session.Hears.{Hears}
 use Rattle.radio_session.specs.declared.session.Hears.TheVariants.{Head, Body, Nothing}
 use Rattle.radio_session.specs.declared.session.LastWord.{LastWord}
 use Rattle.radio_session.specs.declared.session.Says.{Says}
-use Rattle.radio_session.specs.declared.session.framing.Framing.{Framing}
 use Rattle.radio_session.specs.declared.state.State.{State}
 use Rattle.radio_session.specs.declared.state.State.TheVariants.{Running, Shut}
 use Rattle.radio_session.specs.Asking.{asks_to_feed, asks_by_get, asks_to_hear, gives_command, is_for_commands, path_in}
@@ -155,22 +154,69 @@ entries_each P w (e ∷ events) h = (h.0, entries_each P (world_after w e) event
 
 -- whose events they are
 idle_is_his : (id : ℕ) (event : Event) → IsIdle id event → client_in event ≡ Some id
+idle_is_his id (Arrive peer) h = elim h [ ]
+idle_is_his id (Source asked) h = elim h [ ]
+idle_is_his id (Push him block) h = elim h [ ]
+idle_is_his id (SourceEnd him) h = elim h [ ]
+idle_is_his id (Listen asked) h = elim h [ ]
+idle_is_his id (Command asked) h = elim h [ ]
+idle_is_his id (Leave him) h = elim h [ ]
+idle_is_his id (RelayUp mount shown) h = elim h [ ]
+idle_is_his id (RelayDown him) h = elim h [ ]
+idle_is_his id (Clock ms) h = elim h [ ]
 idle_is_his id (Draw him room) h = ap (λ (n : ℕ). Some n) h
 idle_is_his id (Title him text) h = ap (λ (n : ℕ). Some n) h
 
 idle_asks_nothing : (id : ℕ) (event : Event) → IsIdle id event → AsksForMount event → ⊥
+idle_asks_nothing id (Arrive peer) h a = elim h [ ]
+idle_asks_nothing id (Source asked) h a = elim h [ ]
+idle_asks_nothing id (Push him block) h a = elim h [ ]
+idle_asks_nothing id (SourceEnd him) h a = elim h [ ]
+idle_asks_nothing id (Listen asked) h a = elim h [ ]
+idle_asks_nothing id (Command asked) h a = elim h [ ]
+idle_asks_nothing id (Leave him) h a = elim h [ ]
+idle_asks_nothing id (RelayUp mount shown) h a = elim h [ ]
+idle_asks_nothing id (RelayDown him) h a = elim h [ ]
+idle_asks_nothing id (Clock ms) h a = elim h [ ]
 idle_asks_nothing id (Draw him room) h a = a
 idle_asks_nothing id (Title him text) h a = a
 
 idle_pushes_nothing : (id : ℕ) (event : Event) → IsIdle id event → PushesNothing event
+idle_pushes_nothing id (Arrive peer) h = elim h [ ]
+idle_pushes_nothing id (Source asked) h = elim h [ ]
+idle_pushes_nothing id (Push him block) h = elim h [ ]
+idle_pushes_nothing id (SourceEnd him) h = elim h [ ]
+idle_pushes_nothing id (Listen asked) h = elim h [ ]
+idle_pushes_nothing id (Command asked) h = elim h [ ]
+idle_pushes_nothing id (Leave him) h = elim h [ ]
+idle_pushes_nothing id (RelayUp mount shown) h = elim h [ ]
+idle_pushes_nothing id (RelayDown him) h = elim h [ ]
+idle_pushes_nothing id (Clock ms) h = elim h [ ]
 idle_pushes_nothing id (Draw him room) h = refl
 idle_pushes_nothing id (Title him text) h = refl
 
 idle_is_behind : (id : ℕ) (event : Event) → IsIdle id event → IsBehindRequest id event
+idle_is_behind id (Arrive peer) h = elim h [ ]
+idle_is_behind id (Source asked) h = elim h [ ]
+idle_is_behind id (Push him block) h = elim h [ ]
+idle_is_behind id (SourceEnd him) h = elim h [ ]
+idle_is_behind id (Listen asked) h = elim h [ ]
+idle_is_behind id (Command asked) h = elim h [ ]
+idle_is_behind id (Leave him) h = elim h [ ]
+idle_is_behind id (RelayUp mount shown) h = elim h [ ]
+idle_is_behind id (RelayDown him) h = elim h [ ]
+idle_is_behind id (Clock ms) h = elim h [ ]
 idle_is_behind id (Draw him room) h = h
 idle_is_behind id (Title him text) h = h
 
 behind_is_his : (id : ℕ) (event : Event) → IsBehindRequest id event → client_in event ≡ Some id
+behind_is_his id (Arrive peer) h = elim h [ ]
+behind_is_his id (Source asked) h = elim h [ ]
+behind_is_his id (Listen asked) h = elim h [ ]
+behind_is_his id (Command asked) h = elim h [ ]
+behind_is_his id (RelayUp mount shown) h = elim h [ ]
+behind_is_his id (RelayDown him) h = elim h [ ]
+behind_is_his id (Clock ms) h = elim h [ ]
 behind_is_his id (Push him block) h = ap (λ (n : ℕ). Some n) h
 behind_is_his id (SourceEnd him) h = ap (λ (n : ℕ). Some n) h
 behind_is_his id (Title him text) h = ap (λ (n : ℕ). Some n) h
@@ -219,7 +265,7 @@ module _ (w : World) (bytes : List ℕ) (log : List Entry) (given : List ℕ) (n
       others = others ++ new;
       arrived = all;
       his = all_his;
-      goes_on = each_joined IsNotLast log new goes (none_last now.says new (goes_on w now.id now.says events e).open);
+      goes_on = each_joined IsNotLast log new goes (none_last now.says new (goes_on w now.id now.says events e).goes);
       stage = stage e;
     }
     by_state (Shut ending) e = record { own = client_owns now.id now.peer (others ++ new) (log ++ new) all all_his; facts = facts }
@@ -234,7 +280,7 @@ module _ (w : World) (bytes : List ℕ) (log : List Entry) (given : List ℕ) (n
         ap (λ (xs : List ℕ). xs ++ x.exchange.bytes) t.is_told
         ∙ ap (λ (xs : List ℕ). told asking (replies log) ++ xs) (applied_tell w now.id now.says events)
         ∙ ap (λ (s : Says). told asking (replies log) ++ told s (replies new)) says_now
-        ∙ sym (told_joined asking (replies log) (replies new) t.open)
+        ∙ sym (told_joined asking (replies log) (replies new) t.goes)
         ∙ ap (λ (rs : List Reply). told asking rs) (sym (replies_joined log new))
 
     still_told : x.exchange.state ≡ Running → IsTold (saying_now now x.exchange.says) (log ++ new) (given ++ x.exchange.bytes)
@@ -243,10 +289,58 @@ module _ (w : World) (bytes : List ℕ) (log : List Entry) (given : List ℕ) (n
         record {
           says = g.so ∙ ap (λ (s : Says). said_all s (replies new)) says_now ∙ sym (said_joined asking (replies log) (replies new))
               ∙ ap (λ (rs : List Reply). said_all asking rs) (sym (replies_joined log new));
-          open = subst (λ (rs : List Reply). IsOpen asking rs) (sym (replies_joined log new))
-              (open_joined asking (replies log) (replies new) t.open (subst (λ (s : Says). IsOpen s (replies new)) says_now g.open));
+          goes = subst (λ (rs : List Reply). IsOpen asking rs) (sym (replies_joined log new))
+              (open_joined asking (replies log) (replies new) t.goes (subst (λ (s : Says). IsOpen s (replies new)) says_now g.goes));
           is_told = told_now;
         }
+
+-- the same client, of other bytes and another log
+get_with : (bytes bytes' : List ℕ) (log log' : List Entry) (given given' : List ℕ) (g : ByGet bytes log given)
+    → IsReading ShowsRequest bytes' (Ok (Whole g.request g.length)) → (behind : List Entry)
+    → log' ≡ arrival g.peer g.id ∷ g.idle ++ record { event = asks_by_get g.id g.request; reply = g.reply } ∷ behind
+    → Each (IsIdleOrLeaving g.id) behind → IsOrderly g.id log' → given' ≡ told asking (replies log') → ByGet bytes' log' given'
+get_with bytes bytes' log log' given given' g reading behind in_order no_more orderly is_told = record {
+  id = g.id;
+  peer = g.peer;
+  idle = g.idle;
+  request = g.request;
+  reply = g.reply;
+  behind = behind;
+  in_order = in_order;
+  idles = g.idles;
+  goes = g.goes;
+  no_more = no_more;
+  orderly = orderly;
+  length = g.length;
+  reading = reading;
+  no_source = g.no_source;
+  is_get = g.is_get;
+  is_told = is_told;
+}
+
+abbrev feeds_with : (bytes bytes' : List ℕ) (log log' : List Entry) (f : Feeds bytes log) → IsReading ShowsRequest bytes' (Ok (Whole f.request f.length))
+    → (behind : List Entry) → log' ≡ arrival f.peer f.id ∷ f.idle ++ record { event = asks_to_feed f.id f.request; reply = f.reply } ∷ behind
+    → Each (IsNoRequest f.id) behind → IsOrderly f.id log' → (rest : List ℕ)
+    → pushed (events_of behind) ++ rest ≡ data_of f.start (drop f.length bytes') → Feeds bytes' log'
+feeds_with bytes bytes' log log' f reading behind in_order no_more orderly rest front = record {
+  id = f.id;
+  peer = f.peer;
+  idle = f.idle;
+  request = f.request;
+  reply = f.reply;
+  behind = behind;
+  in_order = in_order;
+  idles = f.idles;
+  no_more = no_more;
+  orderly = orderly;
+  length = f.length;
+  reading = reading;
+  source = f.source;
+  start = f.start;
+  framed = f.framed;
+  rest = rest;
+  front = front;
+}
 
 module _ (settled : IsSettled ShowsRequest) (within : HeadsLieWithin ShowsRequest) (joined : (bytes : List ℕ) → concat (blocks_of bytes) ≡ bytes)
     (places : (place : Place) (first second : List ℕ) → after place (first ++ second) ≡ after (after place first) second)
@@ -257,7 +351,8 @@ module _ (settled : IsSettled ShowsRequest) (within : HeadsLieWithin ShowsReques
   read_more bytes more request n reading = settled bytes more (Ok (Whole request n)) reading (λ e. cc)
 
   more_for_get : (bytes more : List ℕ) (log : List Entry) (given : List ℕ) → ByGet bytes log given → ByGet (bytes ++ more) log given
-  more_for_get bytes more log given g = record g { reading = read_more bytes more g.request g.length g.reading }
+  more_for_get bytes more log given g =
+      get_with bytes (bytes ++ more) log log given given g (read_more bytes more g.request g.length g.reading) g.behind g.in_order g.no_more g.orderly g.is_told
 
   behind_head : (bytes more : List ℕ) (request : RequestParts) (n : ℕ) → IsReading ShowsRequest bytes (Ok (Whole request n))
       → drop n (bytes ++ more) ≡ drop n bytes ++ more
@@ -270,14 +365,10 @@ module _ (settled : IsSettled ShowsRequest) (within : HeadsLieWithin ShowsReques
 
   more_for_source : (bytes more : List ℕ) (log : List Entry) → Feeds bytes log → Feeds (bytes ++ more) log
   more_for_source bytes more log f =
-      let start = start_of f.framing in
-      let later = data_of (after start (drop f.length bytes)) more in
-      record f {
-        reading = read_more bytes more f.request f.length f.reading;
-        rest = f.rest ++ later;
-        front = sym (append_assoc (pushed (events_of f.behind)) f.rest later) ∙ ap (λ (xs : List ℕ). xs ++ later) f.front
-            ∙ sym (more_data bytes more f.request f.length start f.reading);
-      }
+      let later = data_of (after f.start (drop f.length bytes)) more in
+      feeds_with bytes (bytes ++ more) log log f (read_more bytes more f.request f.length f.reading) f.behind f.in_order f.no_more f.orderly (f.rest ++ later)
+      (sym (append_assoc (pushed (events_of f.behind)) f.rest later) ∙ ap (λ (xs : List ℕ). xs ++ later) f.front
+      ∙ sym (more_data bytes more f.request f.length f.start f.reading))
 
   pub more_facts : (bytes more : List ℕ) (log : List Entry) (given : List ℕ) → Facts bytes log given → Facts (bytes ++ more) log given
   more_facts bytes more log given (HasAskedNothing h) = HasAskedNothing h
@@ -289,7 +380,7 @@ module _ (settled : IsSettled ShowsRequest) (within : HeadsLieWithin ShowsReques
     pub asked : List Event
     pub events : heard.events ≡ before ++ asked
     pub each : EachAsked (IsBehindRequest conversation.id) asked
-    pub data : pushed asked ≡ data_of place bytes
+    pub content : pushed asked ≡ data_of place bytes
     pub his : heard.conversation.id ≡ conversation.id
     pub peer : heard.conversation.peer ≡ conversation.peer
     pub hears : (heard.conversation.hears ≡ Body (unfed (after place bytes))) ⊎ (heard.conversation.hears ≡ Nothing)
@@ -311,7 +402,7 @@ module _ (settled : IsSettled ShowsRequest) (within : HeadsLieWithin ShowsReques
     asked = pushes conversation.id (data_of place bytes);
     events = refl;
     each = blocks_asked conversation.id (blocks_of (data_of place bytes));
-    data = pushes_all conversation.id (data_of place bytes);
+    content = pushes_all conversation.id (data_of place bytes);
     his = refl;
     peer = refl;
     hears = inl refl;
@@ -323,7 +414,7 @@ module _ (settled : IsSettled ShowsRequest) (within : HeadsLieWithin ShowsReques
         asked = blocks ++ SourceEnd id ∷ [];
         events = append_assoc before blocks (SourceEnd id ∷ []);
         each = asked_joined (IsBehindRequest id) blocks (SourceEnd id ∷ []) (blocks_asked id (blocks_of (data_of place bytes))) (refl, tt);
-        data = pushed_joined blocks (SourceEnd id ∷ []) ∙ append-nil (pushed blocks) ∙ pushes_all id (data_of place bytes);
+        content = pushed_joined blocks (SourceEnd id ∷ []) ∙ append-nil (pushed blocks) ∙ pushes_all id (data_of place bytes);
         his = refl;
         peer = refl;
         hears = inr refl;
@@ -335,23 +426,28 @@ module _ (settled : IsSettled ShowsRequest) (within : HeadsLieWithin ShowsReques
     IsRefused : (rule : Rule) → HeadHeard conversation bytes (refuses (nothing_held conversation) rule)
     AGet : (request : RequestParts) (n : ℕ) → IsReading ShowsRequest bytes (Ok (Whole request n)) → is_source request ≡ false
         → bytes_eq request.method (codes "GET") ≡ true → HeadHeard conversation bytes (get_heard (nothing_held conversation) request)
-    ASource : (request : RequestParts) (n : ℕ) (framing : Framing) → IsReading ShowsRequest bytes (Ok (Whole request n)) → is_source request ≡ true
-        → framing_of request ≡ Some framing
-        → HeadHeard conversation bytes (source_heard (nothing_held conversation) request (drop n bytes) (Some framing))
+    ASource : (request : RequestParts) (n : ℕ) (start : Place) → IsReading ShowsRequest bytes (Ok (Whole request n)) → is_source request ≡ true
+        → option_map start_of (framing_of request) ≡ Some start
+        → HeadHeard conversation bytes (body_heard (greeted (nothing_held conversation) request) (asks_to_feed conversation.id request ∷ []) start (drop n bytes))
 
   module _ (conversation : Conversation) (bytes : List ℕ) where
-    of_framing : (request : RequestParts) (n : ℕ) → IsReading ShowsRequest bytes (Ok (Whole request n)) → is_source request ≡ true
-        → (framing : Option Framing) → framing_of request ≡ framing
-        → HeadHeard conversation bytes (source_heard (nothing_held conversation) request (drop n bytes) framing)
-    of_framing request n reading source None e = IsRefused BadHead
-    of_framing request n reading source (Some framing) e = ASource request n framing reading source e
+    of_framing : {F : Type 0} (start_at : F → Place) (hears : Option F → Heard) (request : RequestParts) (n : ℕ)
+        → IsReading ShowsRequest bytes (Ok (Whole request n)) → is_source request ≡ true → hears None ≡ refuses (nothing_held conversation) BadHead
+        → ((f : F) → hears (Some f)
+        ≡ body_heard (greeted (nothing_held conversation) request) (asks_to_feed conversation.id request ∷ []) (start_at f) (drop n bytes))
+        → (framing : Option F) → option_map start_at framing ≡ option_map start_of (framing_of request) → HeadHeard conversation bytes (hears framing)
+    of_framing start_at hears request n reading source none some None e =
+        subst (λ (x : Heard). HeadHeard conversation bytes x) (sym none) (IsRefused BadHead)
+    of_framing start_at hears request n reading source none some (Some framing) e =
+        subst (λ (x : Heard). HeadHeard conversation bytes x) (sym (some framing)) (ASource request n (start_at framing) reading source (sym e))
 
     of_method : (request : RequestParts) (n : ℕ) → IsReading ShowsRequest bytes (Ok (Whole request n)) → (feeds : Bool) → is_source request ≡ feeds
         → (gets : Bool) → bytes_eq request.method (codes "GET") ≡ gets
         → HeadHeard conversation bytes
         (if feeds then source_heard (nothing_held conversation) request (drop n bytes) (framing_of request)
         else if gets then get_heard (nothing_held conversation) request else refuses (nothing_held conversation) BadMethod)
-    of_method request n reading true e gets g = of_framing request n reading e (framing_of request) refl
+    of_method request n reading true e gets g =
+        of_framing start_of (source_heard (nothing_held conversation) request (drop n bytes)) request n reading e refl (λ f. refl) (framing_of request) refl
     of_method request n reading false e true g = AGet request n reading e g
     of_method request n reading false e false g = IsRefused BadMethod
 
@@ -372,8 +468,8 @@ module _ (settled : IsSettled ShowsRequest) (within : HeadsLieWithin ShowsReques
     abbrev id : ℕ
     id = conversation.id
 
-    logged : {A : Type 0} (first : A) (xs ys zs : List A) → first ∷ (xs ++ ys) ++ zs ≡ first ∷ xs ++ ys ++ zs
-    logged first xs ys zs = ap (λ l. first ∷ l) (append_assoc xs ys zs)
+    logged : {A : Type 0} (first : A) (xs ys zs : List A) → first ∷ xs ++ ys ++ zs ≡ first ∷ xs ++ (ys ++ zs)
+    logged first xs ys zs = append_assoc (first ∷ xs) ys zs
 
     settled_in : (now : Conversation) (later : List ℕ) (events : List Event) → now.id ≡ id → now.peer ≡ conversation.peer
         → EachAsked (λ e. client_in e ≡ Some id) events
@@ -416,188 +512,173 @@ module _ (settled : IsSettled ShowsRequest) (within : HeadsLieWithin ShowsReques
           → bytes_eq request.method (codes "GET") ≡ true
           → Came later (get_heard (nothing_held conversation) request).conversation (asks_by_get id request ∷ [])
       gets_at_head later request n reading no_source is_get =
-          settled_in now later (ask ∷ []) refl refl (get_is_his, tt)
-          (λ run. AfterGet by_get refl (still_told w later log given now (ask ∷ []) conversation t refl run))
+          settled_in ((get_heard (nothing_held conversation) request).conversation) later ((asks_by_get id request) ∷ []) refl refl (get_is_his, tt)
+          (λ run. AfterGet by_get refl (still_told w later log given ((get_heard (nothing_held conversation) request).conversation) ((asks_by_get id request) ∷ []) conversation t refl run))
           (HasSentGet by_get) where
-            abbrev now : Conversation
-            now = (get_heard (nothing_held conversation) request).conversation
-
-            abbrev ask : Event
-            ask = asks_by_get id request
-
-            get_is_his : client_in ask ≡ Some id
+            get_is_his : client_in (asks_by_get id request) ≡ Some id
             get_is_his = by_kind (is_for_commands (path_in request)) where
               by_kind : (b : Bool) → client_in (if b then gives_command id request (path_in request) else asks_to_hear id request (path_in request)) ≡ Some id
               by_kind true = refl
               by_kind false = refl
 
-            first : First (λ e. e ≡ Leave id) w id conversation.says ask []
-            first = first_of_applied (λ e. e ≡ Leave id) w id conversation.says ask [] refl tt
+            first : First (λ e. e ≡ Leave id) w id conversation.says (asks_by_get id request) []
+            first = first_of_applied (λ e. e ≡ Leave id) w id conversation.says (asks_by_get id request) [] refl tt
 
-            in_order : log ++ entries w (applied w id conversation.says (ask ∷ [])) ≡ arrival conversation.peer id ∷ idle ++ entry w ask ∷ first.others
-            in_order = ap (λ (xs : List Entry). log ++ xs) first.in_order ∙ ap (λ (xs : List Entry). xs ++ entry w ask ∷ first.others) arrived
+            in_order : log ++ entries w (applied w id conversation.says ((asks_by_get id request) ∷ [])) ≡ arrival conversation.peer id ∷ idle ++ entry w (asks_by_get id request) ∷ first.others
+            in_order = ap (λ (xs : List Entry). log ++ xs) first.in_order ∙ ap (λ (xs : List Entry). xs ++ entry w (asks_by_get id request) ∷ first.others) arrived
 
-            by_get : ByGet later (log ++ entries w (applied w id conversation.says (ask ∷ [])))
-                (given ++ (exchanged w id conversation.says (ask ∷ [])).exchange.bytes)
+            by_get : ByGet later (log ++ entries w (applied w id conversation.says ((asks_by_get id request) ∷ [])))
+                (given ++ (exchanged w id conversation.says ((asks_by_get id request) ∷ [])).exchange.bytes)
             by_get = record {
               id = id;
               peer = conversation.peer;
               idle = idle;
               request = request;
-              reply = reply_to w ask;
+              reply = reply_to w (asks_by_get id request);
               behind = first.others;
               in_order = in_order;
               idles = idles;
-              open = subst (λ (xs : List Entry). IsOpen asking (replies xs)) arrived t.open;
+              goes = subst (λ (xs : List Entry). IsOpen asking (replies xs)) arrived t.goes;
               no_more = each_as (λ e. e.event ≡ Leave id) (IsIdleOrLeaving id) (λ e h. inr h) first.others first.each;
-              orderly = orderly_joined id log (entries w (applied w id conversation.says (ask ∷ []))) c.goes_on (applied_orderly w id conversation.says (ask ∷ []));
+              orderly = orderly_joined id log (entries w (applied w id conversation.says ((asks_by_get id request) ∷ []))) c.goes_on (applied_orderly w id conversation.says ((asks_by_get id request) ∷ []));
               length = n;
               reading = reading;
               no_source = no_source;
               is_get = is_get;
-              is_told = told_now w later log given now (ask ∷ []) conversation t refl;
+              is_told = told_now w later log given ((get_heard (nothing_held conversation) request).conversation) ((asks_by_get id request) ∷ []) conversation t refl;
             }
 
       -- a source's head is heard, and the first bytes of its body
-      feeds_at_head : (later : List ℕ) (request : RequestParts) (n : ℕ) (framing : Framing) → IsReading ShowsRequest later (Ok (Whole request n))
-          → is_source request ≡ true → framing_of request ≡ Some framing → (heard : Heard)
-          → Delivers (greeted (nothing_held conversation) request) (asks_to_feed id request ∷ []) (start_of framing) (drop n later) heard
+      feeds_at_head : (later : List ℕ) (request : RequestParts) (n : ℕ) (start : Place) → IsReading ShowsRequest later (Ok (Whole request n))
+          → is_source request ≡ true → option_map start_of (framing_of request) ≡ Some start → (heard : Heard)
+          → Delivers (greeted (nothing_held conversation) request) (asks_to_feed id request ∷ []) start (drop n later) heard
           → Came later heard.conversation heard.events
-      feeds_at_head later request n framing reading source framed heard d =
-          settled_in now later heard.events d.his d.peer
+      feeds_at_head later request n start reading source framed heard d =
+          settled_in heard.conversation later heard.events d.his d.peer
           (subst (EachAsked (λ e. client_in e ≡ Some id)) (sym d.events) (refl, asked_as (IsBehindRequest id) _ (λ e h. behind_is_his id e h) d.asked d.each))
-          (λ run. stage run d.hears) (IsSource feeds) where
-            abbrev now : Conversation
-            now = heard.conversation
+          (λ run. stage run d.hears) (IsSource feeds.0) where
+            first : First (IsBehindRequest id) w id heard.conversation.says (asks_to_feed id request) d.asked
+            first = first_of_applied (IsBehindRequest id) w id heard.conversation.says (asks_to_feed id request) d.asked refl d.each
 
-            abbrev ask : Event
-            ask = asks_to_feed id request
+            all_new : entries w (applied w heard.conversation.id heard.conversation.says heard.events) ≡ entry w (asks_to_feed id request) ∷ first.others
+            all_new = ap (λ (es : List Event). entries w (applied w heard.conversation.id heard.conversation.says es)) d.events
+                ∙ ap (λ (m : ℕ). entries w (applied w m heard.conversation.says ((asks_to_feed id request) ∷ d.asked))) d.his ∙ first.in_order
 
-            first : First (IsBehindRequest id) w id now.says ask d.asked
-            first = first_of_applied (IsBehindRequest id) w id now.says ask d.asked refl d.each
+            pushes_of : Pushed w heard.conversation.id heard.conversation.says heard.events
+            pushes_of = applied_pushed w heard.conversation.id heard.conversation.says heard.events
 
-            all_new : entries w (applied w now.id now.says heard.events) ≡ entry w ask ∷ first.others
-            all_new = ap (λ (es : List Event). entries w (applied w now.id now.says es)) d.events
-                ∙ ap (λ (m : ℕ). entries w (applied w m now.says (ask ∷ d.asked))) d.his ∙ first.in_order
-
-            pushes_of : Pushed w now.id now.says heard.events
-            pushes_of = applied_pushed w now.id now.says heard.events
-
-            others_pushed : pushed (events_of first.others) ≡ pushed (applied w now.id now.says heard.events)
+            others_pushed : pushed (events_of first.others) ≡ pushed (applied w heard.conversation.id heard.conversation.says heard.events)
             others_pushed = ap (λ (xs : List Entry). pushed (events_of xs)) (sym all_new)
-                ∙ ap pushed (events_of_entries w (applied w now.id now.says heard.events))
+                ∙ ap pushed (events_of_entries w (applied w heard.conversation.id heard.conversation.says heard.events))
 
-            feeds : Feeds later (log ++ entries w (applied w now.id now.says heard.events))
-            feeds = record {
+            feeds : (f : Feeds later (log ++ entries w (applied w heard.conversation.id heard.conversation.says heard.events))) × (f.rest ≡ pushes_of.rest) × (f.start ≡ start)
+                × (f.length ≡ n)
+            feeds = (record {
               id = id;
               peer = conversation.peer;
               idle = idle;
               request = request;
-              reply = reply_to w ask;
+              reply = reply_to w (asks_to_feed id request);
               behind = first.others;
-              in_order = ap (λ (xs : List Entry). log ++ xs) all_new ∙ ap (λ (xs : List Entry). xs ++ entry w ask ∷ first.others) arrived;
+              in_order = ap (λ (xs : List Entry). log ++ xs) all_new ∙ ap (λ (xs : List Entry). xs ++ entry w (asks_to_feed id request) ∷ first.others) arrived;
               idles = idles;
               no_more = first.each;
-              orderly = orderly_joined id log (entries w (applied w now.id now.says heard.events)) c.goes_on
-                  (subst (λ (m : ℕ). IsOrderly m (entries w (applied w now.id now.says heard.events))) d.his (applied_orderly w now.id now.says heard.events));
+              orderly = orderly_joined id log (entries w (applied w heard.conversation.id heard.conversation.says heard.events)) c.goes_on
+                  (subst (λ (m : ℕ). IsOrderly m (entries w (applied w heard.conversation.id heard.conversation.says heard.events))) d.his (applied_orderly w heard.conversation.id heard.conversation.says heard.events));
               length = n;
               reading = reading;
               source = source;
-              framing = framing;
+              start = start;
               framed = framed;
               rest = pushes_of.rest;
-              front = ap (λ (xs : List ℕ). xs ++ pushes_of.rest) others_pushed ∙ pushes_of.front ∙ ap pushed d.events ∙ d.data;
-            }
+              front = ap (λ (xs : List ℕ). xs ++ pushes_of.rest) others_pushed ∙ pushes_of.front ∙ ap pushed d.events ∙ d.content;
+            }, refl, refl, refl)
 
-            stage : (exchanged w now.id now.says heard.events).exchange.state ≡ Running
-                → (now.hears ≡ Body (unfed (after (start_of framing) (drop n later)))) ⊎ (now.hears ≡ Nothing)
-                → Stage later (log ++ entries w (applied w now.id now.says heard.events)) (given ++ (exchanged w now.id now.says heard.events).exchange.bytes)
-                (saying_now now (exchanged w now.id now.says heard.events).exchange.says)
-            stage run (inl h) = AtBody feeds (pushes_of.whole run) h
-            stage run (inr h) = AfterBody feeds h
+            stage : (exchanged w heard.conversation.id heard.conversation.says heard.events).exchange.state ≡ Running
+                → (heard.conversation.hears ≡ Body (unfed (after start (drop n later)))) ⊎ (heard.conversation.hears ≡ Nothing)
+                → Stage later (log ++ entries w (applied w heard.conversation.id heard.conversation.says heard.events)) (given ++ (exchanged w heard.conversation.id heard.conversation.says heard.events).exchange.bytes)
+                (saying_now heard.conversation (exchanged w heard.conversation.id heard.conversation.says heard.events).exchange.says)
+            stage run (inl h) = AtBody feeds.0 (feeds.1 ∙ pushes_of.whole run) (h
+                ∙ ap (λ (m : ℕ). Body (unfed (after start (drop m later)))) (sym feeds.3)
+                ∙ ap (λ (q : Place). Body (unfed (after q (drop feeds.0.length later)))) (sym feeds.2))
+            stage run (inr h) = AfterBody feeds.0 h
 
       -- a head is refused
       refused_at_head : (later : List ℕ) (rule : Rule) → Came later (refuses (nothing_held conversation) rule).conversation (Leave id ∷ [])
       refused_at_head later rule =
-          settled_in now later (Leave id ∷ []) refl refl (refl, tt) (λ run. Refused nothing refl) (HasAskedNothing nothing) where
-            abbrev now : Conversation
-            now = (refuses (nothing_held conversation) rule).conversation
-
-            nothing : Each AsksNothing (log ++ entries w (applied w id now.says (Leave id ∷ [])))
-            nothing = each_joined AsksNothing log (entries w (applied w id now.says (Leave id ∷ []))) nothing_asked
-                (applied_each (λ e. AsksForMount e → ⊥) w id now.says (Leave id ∷ []) (λ a. a) ((λ a. a), tt))
+          settled_in ((refuses (nothing_held conversation) rule).conversation) later (Leave id ∷ []) refl refl (refl, tt) (λ run. Refused nothing refl) (HasAskedNothing nothing) where
+            nothing : Each AsksNothing (log ++ entries w (applied w id ((refuses (nothing_held conversation) rule).conversation).says (Leave id ∷ [])))
+            nothing = each_joined AsksNothing log (entries w (applied w id ((refuses (nothing_held conversation) rule).conversation).says (Leave id ∷ []))) nothing_asked
+                (applied_each (λ e. AsksForMount e → ⊥) w id ((refuses (nothing_held conversation) rule).conversation).says (Leave id ∷ []) (λ a. a) ((λ a. a), tt))
 
       head_comes : (later : List ℕ) (heard : Heard) → HeadHeard conversation later heard → conversation.hears ≡ Head → Came later heard.conversation heard.events
       head_comes later heard Unfinished hears = idle_at_head later (record conversation { held = later }) [] refl refl refl hears refl tt
       head_comes later heard (IsRefused rule) hears = refused_at_head later rule
       head_comes later heard (AGet request n reading no_source is_get) hears = gets_at_head later request n reading no_source is_get
-      head_comes later heard (ASource request n framing reading source framed) hears =
-          feeds_at_head later request n framing reading source framed _
-          (delivers_by (greeted (nothing_held conversation) request) (asks_to_feed id request ∷ []) (start_of framing) (drop n later)
-          (body_closes (has_ended (after (start_of framing) (drop n later))) (fault_at (after (start_of framing) (drop n later)))))
+      head_comes later heard (ASource request n start reading source framed) hears =
+          feeds_at_head later request n start reading source framed _
+          (delivers_by (greeted (nothing_held conversation) request) (asks_to_feed id request ∷ []) start (drop n later)
+          (body_closes (has_ended (after start (drop n later))) (fault_at (after start (drop n later)))))
 
     -- what comes behind a GET
     behind_get : (g : ByGet bytes log given) → g.id ≡ id → IsTold conversation log given → conversation.hears ≡ Nothing → (more : List ℕ) (events : List Event)
         → EachAsked (IsIdleOrLeave id) events → Came (bytes ++ more) conversation events
     behind_get g his t hears more events asked =
-        settled_in conversation later events refl refl (asked_as (IsIdleOrLeave id) _ (λ e h. idle_or_leaving_is_his id e h) events asked)
-        (λ run. AfterGet got hears (still_told w later log given conversation events conversation t refl run)) (HasSentGet got) where
-          abbrev later : List ℕ
-          later = bytes ++ more
-
-          abbrev added : List Entry
-          added = entries w (applied w id conversation.says events)
-
-          got : ByGet later (log ++ added) (given ++ (exchanged w id conversation.says events).exchange.bytes)
-          got = record (more_for_get bytes more log given g) {
-            behind = g.behind ++ added;
-            in_order = ap (λ (xs : List Entry). xs ++ added) g.in_order
-                ∙ logged (arrival g.peer g.id) g.idle (record { event = asks_by_get g.id g.request; reply = g.reply } ∷ g.behind) added;
-            no_more = each_joined (IsIdleOrLeaving g.id) g.behind added g.no_more
-                (subst (λ (m : ℕ). Each (IsIdleOrLeaving m) added) (sym his)
-                (applied_each (IsIdleOrLeave id) w id conversation.says events (inr refl) asked));
-            orderly = subst (λ (m : ℕ). IsOrderly m (log ++ added)) (sym his)
-                (orderly_joined id log added c.goes_on (applied_orderly w id conversation.says events));
-            is_told = told_now w later log given conversation events conversation t refl;
-          }
+        settled_in conversation (bytes ++ more) events refl refl (asked_as (IsIdleOrLeave id) _ (λ e h. idle_or_leaving_is_his id e h) events asked)
+        (λ run. AfterGet got hears (still_told w (bytes ++ more) log given conversation events conversation t refl run)) (HasSentGet got) where
+          got : ByGet (bytes ++ more) (log ++ (entries w (applied w id conversation.says events))) (given ++ (exchanged w id conversation.says events).exchange.bytes)
+          got = get_with bytes (bytes ++ more) log (log ++ (entries w (applied w id conversation.says events))) given
+              (given ++ (exchanged w id conversation.says events).exchange.bytes) g (read_more bytes more g.request g.length g.reading)
+              (g.behind ++ (entries w (applied w id conversation.says events)))
+              (ap (λ (xs : List Entry). xs ++ (entries w (applied w id conversation.says events))) g.in_order
+              ∙ logged (arrival g.peer g.id) g.idle (record { event = asks_by_get g.id g.request; reply = g.reply } ∷ g.behind) (entries w (applied w id conversation.says events)))
+              (each_joined (IsIdleOrLeaving g.id) g.behind (entries w (applied w id conversation.says events)) g.no_more
+              (subst (λ (m : ℕ). Each (IsIdleOrLeaving m) (entries w (applied w id conversation.says events))) (sym his)
+              (applied_each (IsIdleOrLeave id) w id conversation.says events (inr refl) asked)))
+              (subst (λ (m : ℕ). IsOrderly m (log ++ (entries w (applied w id conversation.says events)))) (sym his)
+              (orderly_joined id log (entries w (applied w id conversation.says events)) c.goes_on (applied_orderly w id conversation.says events)))
+              (told_now w (bytes ++ more) log given conversation events conversation t refl)
 
     -- a source's events go on
     module _ (f : Feeds bytes log) (his : f.id ≡ id) where
       abbrev coming : List ℕ → List ℕ
-      coming more = data_of (after (start_of f.framing) (drop f.length bytes)) more
+      coming more = data_of (after f.start (drop f.length bytes)) more
+
+      abbrev Fed : List ℕ → List Entry → List ℕ → Type 0
+      Fed later newer rest = (g : Feeds later newer) × (g.rest ≡ rest) × (g.start ≡ f.start) × (g.length ≡ f.length)
 
       feeds_on : (more : List ℕ) (now : Conversation) (events : List Event) → now.id ≡ id → EachAsked (IsBehindRequest id) events
           → (rest : List ℕ) → pushed (applied w now.id now.says events) ++ rest ≡ f.rest ++ coming more
-          → Feeds (bytes ++ more) (log ++ entries w (applied w now.id now.says events))
-      feeds_on more now events same asked rest e =
-          record f {
-            behind = f.behind ++ added;
-            in_order = ap (λ (xs : List Entry). xs ++ added) f.in_order
-                ∙ logged (arrival f.peer f.id) f.idle (record { event = asks_to_feed f.id f.request; reply = f.reply } ∷ f.behind) added;
-            no_more = each_joined (IsNoRequest f.id) f.behind added f.no_more
-                (subst (λ (m : ℕ). Each (IsNoRequest m) added) (same ∙ sym his)
-                (applied_each (IsBehindRequest now.id) w now.id now.says events refl (subst (λ (m : ℕ). EachAsked (IsBehindRequest m) events) (sym same) asked)));
-            orderly = subst (λ (m : ℕ). IsOrderly m (log ++ added)) (same ∙ sym his)
-                (orderly_joined now.id log added c.goes_on (applied_orderly w now.id now.says events));
-            reading = read_more bytes more f.request f.length f.reading;
-            rest = rest;
-            front =
-                ap (λ (xs : List ℕ). xs ++ rest) (ap pushed (events_of_joined f.behind added) ∙ pushed_joined (events_of f.behind) (events_of added)
-                ∙ ap (λ (es : List Event). pushed (events_of f.behind) ++ pushed es) (events_of_entries w (applied w now.id now.says events)))
-                ∙ append_assoc (pushed (events_of f.behind)) (pushed (applied w now.id now.says events)) rest
-                ∙ ap (λ (xs : List ℕ). pushed (events_of f.behind) ++ xs) e
-                ∙ sym (append_assoc (pushed (events_of f.behind)) f.rest (coming more))
-                ∙ ap (λ (xs : List ℕ). xs ++ coming more) f.front
-                ∙ sym (more_data bytes more f.request f.length (start_of f.framing) f.reading);
-          } where
-            abbrev added : List Entry
-            added = entries w (applied w now.id now.says events)
+          → Fed (bytes ++ more) (log ++ (entries w (applied w now.id now.says events))) rest
+      feeds_on more now events same asked rest e = (
+        feeds_with bytes (bytes ++ more) log (log ++ (entries w (applied w now.id now.says events))) f
+            (read_more bytes more f.request f.length f.reading) (f.behind ++ (entries w (applied w now.id now.says events)))
+            (ap (λ (xs : List Entry). xs ++ (entries w (applied w now.id now.says events))) f.in_order
+            ∙ logged (arrival f.peer f.id) f.idle (record { event = asks_to_feed f.id f.request; reply = f.reply } ∷ f.behind) (entries w (applied w now.id now.says events)))
+            (each_joined (IsNoRequest f.id) f.behind (entries w (applied w now.id now.says events)) f.no_more
+            (subst (λ (m : ℕ). Each (IsNoRequest m) (entries w (applied w now.id now.says events))) (same ∙ sym his)
+            (applied_each (IsBehindRequest now.id) w now.id now.says events refl (subst (λ (m : ℕ). EachAsked (IsBehindRequest m) events) (sym same) asked))))
+            (subst (λ (m : ℕ). IsOrderly m (log ++ (entries w (applied w now.id now.says events)))) (same ∙ sym his)
+            (orderly_joined now.id log (entries w (applied w now.id now.says events)) c.goes_on (applied_orderly w now.id now.says events)))
+            rest
+            (ap (λ (xs : List ℕ). xs ++ rest) (ap pushed (events_of_joined f.behind (entries w (applied w now.id now.says events)))
+            ∙ pushed_joined (events_of f.behind) (events_of (entries w (applied w now.id now.says events)))
+            ∙ ap (λ (es : List Event). pushed (events_of f.behind) ++ pushed es) (events_of_entries w (applied w now.id now.says events)))
+            ∙ append_assoc (pushed (events_of f.behind)) (pushed (applied w now.id now.says events)) rest
+            ∙ ap (λ (xs : List ℕ). pushed (events_of f.behind) ++ xs) e
+            ∙ sym (append_assoc (pushed (events_of f.behind)) f.rest (coming more))
+            ∙ ap (λ (xs : List ℕ). xs ++ coming more) f.front
+            ∙ sym (more_data bytes more f.request f.length f.start f.reading)),
+        refl,
+        refl,
+        refl,
+      )
 
       feeds_silently : (more : List ℕ) (now : Conversation) (events : List Event) → now.id ≡ id → EachAsked (IsIdle id) events
-          → Feeds (bytes ++ more) (log ++ entries w (applied w now.id now.says events))
+          → Fed (bytes ++ more) (log ++ entries w (applied w now.id now.says events)) (f.rest ++ coming more)
       feeds_silently more now events same asked =
           feeds_on more now events same (asked_as (IsIdle id) _ (λ e h. idle_is_behind id e h) events asked) (f.rest ++ coming more)
-          (ap (λ (xs : List ℕ). xs ++ f.rest ++ coming more) none) where
+          (ap (λ (xs : List ℕ). xs ++ (f.rest ++ coming more)) none) where
             none : pushed (applied w now.id now.says events) ≡ []
             none = ap pushed (sym (events_of_entries w (applied w now.id now.says events)))
                 ∙ none_pushed (entries w (applied w now.id now.says events))
@@ -605,45 +686,48 @@ module _ (settled : IsSettled ShowsRequest) (within : HeadsLieWithin ShowsReques
 
       -- more of the body comes
       body_comes : f.rest ≡ [] → (more : List ℕ) (heard : Heard)
-          → Delivers (nothing_held conversation) [] (after (start_of f.framing) (drop f.length bytes)) more heard
+          → Delivers (nothing_held conversation) [] (after f.start (drop f.length bytes)) more heard
           → Came (bytes ++ more) heard.conversation heard.events
       body_comes none more heard d =
-          settled_in now (bytes ++ more) heard.events d.his d.peer
+          settled_in heard.conversation (bytes ++ more) heard.events d.his d.peer
           (subst (EachAsked (λ e. client_in e ≡ Some id)) (sym d.events) (asked_as (IsBehindRequest id) _ (λ e h. behind_is_his id e h) d.asked d.each))
-          (λ run. stage run d.hears) (IsSource fed) where
-            abbrev now : Conversation
-            now = heard.conversation
+          (λ run. stage run d.hears) (IsSource fed.0) where
+            p : Pushed w heard.conversation.id heard.conversation.says heard.events
+            p = applied_pushed w heard.conversation.id heard.conversation.says heard.events
 
-            p : Pushed w now.id now.says heard.events
-            p = applied_pushed w now.id now.says heard.events
+            fed : Fed (bytes ++ more) (log ++ entries w (applied w heard.conversation.id heard.conversation.says heard.events)) p.rest
+            fed = feeds_on more heard.conversation heard.events d.his (subst (EachAsked (IsBehindRequest id)) (sym d.events) d.each) p.rest
+                (p.front ∙ ap pushed d.events ∙ d.content ∙ ap (λ (xs : List ℕ). xs ++ coming more) (sym none))
 
-            fed : Feeds (bytes ++ more) (log ++ entries w (applied w now.id now.says heard.events))
-            fed = feeds_on more now heard.events d.his (subst (EachAsked (IsBehindRequest id)) (sym d.events) d.each) p.rest
-                (p.front ∙ ap pushed d.events ∙ d.data ∙ ap (λ (xs : List ℕ). xs ++ coming more) (sym none))
-
-            stage : (exchanged w now.id now.says heard.events).exchange.state ≡ Running
-                → (now.hears ≡ Body (unfed (after (after (start_of f.framing) (drop f.length bytes)) more))) ⊎ (now.hears ≡ Nothing)
-                → Stage (bytes ++ more) (log ++ entries w (applied w now.id now.says heard.events))
-                (given ++ (exchanged w now.id now.says heard.events).exchange.bytes) (saying_now now (exchanged w now.id now.says heard.events).exchange.says)
-            stage run (inl h) = AtBody fed (p.whole run) (h ∙ ap (λ (place : Place). Body (unfed place))
-                (sym (places (start_of f.framing) (drop f.length bytes) more)
-                ∙ ap (after (start_of f.framing)) (sym (behind_head bytes more f.request f.length f.reading))))
-            stage run (inr h) = AfterBody fed h
+            stage : (exchanged w heard.conversation.id heard.conversation.says heard.events).exchange.state ≡ Running
+                → (heard.conversation.hears ≡ Body (unfed (after (after f.start (drop f.length bytes)) more))) ⊎ (heard.conversation.hears ≡ Nothing)
+                → Stage (bytes ++ more) (log ++ entries w (applied w heard.conversation.id heard.conversation.says heard.events))
+                (given ++ (exchanged w heard.conversation.id heard.conversation.says heard.events).exchange.bytes) (saying_now heard.conversation (exchanged w heard.conversation.id heard.conversation.says heard.events).exchange.says)
+            stage run (inl h) = AtBody fed.0 (fed.1 ∙ p.whole run) (h ∙ ap (λ (place : Place). Body (unfed place))
+                (sym (places f.start (drop f.length bytes) more)
+                ∙ ap (after f.start) (sym (behind_head bytes more f.request f.length f.reading))
+                ∙ ap (λ (n : ℕ). after f.start (drop n (bytes ++ more))) (sym fed.3)
+                ∙ ap (λ (q : Place). after q (drop fed.0.length (bytes ++ more))) (sym fed.2)))
+            stage run (inr h) = AfterBody fed.0 h
 
       -- between them he draws, or tells titles
-      idle_at_body : f.rest ≡ [] → conversation.hears ≡ Body (unfed (after (start_of f.framing) (drop f.length bytes))) → (events : List Event)
+      idle_at_body : f.rest ≡ [] → conversation.hears ≡ Body (unfed (after f.start (drop f.length bytes))) → (events : List Event)
           → EachAsked (IsIdle id) events → Came (bytes ++ []) conversation events
       idle_at_body none hears events asked =
           settled_in conversation (bytes ++ []) events refl refl (asked_as (IsIdle id) _ (λ e h. idle_is_his id e h) events asked)
-          (λ run. AtBody (feeds_silently [] conversation events refl asked) (append-nil f.rest ∙ none)
-          (hears ∙ ap (λ (xs : List ℕ). Body (unfed (after (start_of f.framing) (drop f.length xs)))) (sym (append-nil bytes))))
-          (IsSource (feeds_silently [] conversation events refl asked))
+          (λ run. AtBody silent.0 (silent.1 ∙ append-nil f.rest ∙ none)
+          (hears ∙ ap (λ (xs : List ℕ). Body (unfed (after f.start (drop f.length xs)))) (sym (append-nil bytes))
+          ∙ ap (λ (n : ℕ). Body (unfed (after f.start (drop n (bytes ++ []))))) (sym silent.3)
+          ∙ ap (λ (q : Place). Body (unfed (after q (drop silent.0.length (bytes ++ []))))) (sym silent.2)))
+          (IsSource silent.0) where
+            silent : Fed (bytes ++ []) (log ++ entries w (applied w id conversation.says events)) (f.rest ++ coming [])
+            silent = feeds_silently [] conversation events refl asked
 
       after_body : conversation.hears ≡ Nothing → (more : List ℕ) (events : List Event) → EachAsked (IsIdle id) events → Came (bytes ++ more) conversation events
       after_body hears more events asked =
           settled_in conversation (bytes ++ more) events refl refl (asked_as (IsIdle id) _ (λ e h. idle_is_his id e h) events asked)
-          (λ run. AfterBody (feeds_silently more conversation events refl asked) hears)
-          (IsSource (feeds_silently more conversation events refl asked))
+          (λ run. AfterBody (feeds_silently more conversation events refl asked).0 hears)
+          (IsSource (feeds_silently more conversation events refl asked).0)
 
     -- nothing more is heard
     after_refusal : Each AsksNothing log → conversation.hears ≡ Nothing → (later : List ℕ) (events : List Event) → EachAsked (IsIdle id) events
@@ -683,7 +767,7 @@ module _ (settled : IsSettled ShowsRequest) (within : HeadsLieWithin ShowsReques
           nothing_heard hears (behind_get g (same_arrival g.peer g.id _ g.in_order) t hears more [] tt)
       by_stage (AtBody f none hears) =
           let r = subst (λ (s : Hears). HearsAs s conversation more heard) hears h in
-          let place = after (start_of f.framing) (drop f.length bytes) in
+          let place = after f.start (drop f.length bytes) in
           subst (λ (x : Heard). Came (bytes ++ more) x.conversation x.events) (sym r)
           (body_comes f (same_arrival f.peer f.id _ f.in_order) none more _
           (delivers_by (nothing_held conversation) [] place more (body_closes (has_ended (after place more)) (fault_at (after place more)))))
@@ -704,55 +788,47 @@ module _ (settled : IsSettled ShowsRequest) (within : HeadsLieWithin ShowsReques
     -- its peer closes it
     pub end_comes : IsClosed (bytes ++ []) (log ++ entry w (Leave id) ∷ []) (given ++ [])
     end_comes = record {
-      own = client_owns id conversation.peer (c.others ++ last) (log ++ last) (ap (λ (xs : List Entry). xs ++ last) c.arrived)
-          (each_joined (λ e. client_in e.event ≡ Some id) c.others last c.his (refl, tt));
-      facts = subst (λ (xs : List ℕ). Facts (bytes ++ []) (log ++ last) xs) (sym (append-nil given)) (by_stage c.stage);
+      own = client_owns id conversation.peer (c.others ++ (entry w (Leave id) ∷ [])) (log ++ (entry w (Leave id) ∷ [])) (ap (λ (xs : List Entry). xs ++ (entry w (Leave id) ∷ [])) c.arrived)
+          (each_joined (λ e. client_in e.event ≡ Some id) c.others (entry w (Leave id) ∷ []) c.his (refl, tt));
+      facts = subst (λ (xs : List ℕ). Facts (bytes ++ []) (log ++ (entry w (Leave id) ∷ [])) xs) (sym (append-nil given)) (by_stage c.stage);
     } where
-      abbrev last : List Entry
-      last = entry w (Leave id) ∷ []
+      nothing : Each AsksNothing log → Each AsksNothing (log ++ (entry w (Leave id) ∷ []))
+      nothing h = each_joined AsksNothing log (entry w (Leave id) ∷ []) h ((λ a. a), tt)
 
-      nothing : Each AsksNothing log → Each AsksNothing (log ++ last)
-      nothing h = each_joined AsksNothing log last h ((λ a. a), tt)
+      orderly : IsOrderly id (log ++ (entry w (Leave id) ∷ []))
+      orderly = orderly_joined id log (entry w (Leave id) ∷ []) c.goes_on ((λ h. tt), tt)
 
-      orderly : IsOrderly id (log ++ last)
-      orderly = orderly_joined id log last c.goes_on ((λ h. tt), tt)
-
-      still : IsTold conversation log given → given ≡ told asking (replies (log ++ last))
+      still : IsTold conversation log given → given ≡ told asking (replies (log ++ (entry w (Leave id) ∷ [])))
       still t =
           let says = said_all asking (replies log) in
           t.is_told
           ∙ sym (append-nil (told asking (replies log)))
           ∙ ap (λ (xs : List ℕ). told asking (replies log) ++ xs)
           (sym (leaves_silently says (reply_to w (Leave id)) (all_close_nothing asking (replies log) refl) (leave_reply w id)))
-          ∙ sym (told_joined asking (replies log) (reply_to w (Leave id) ∷ []) t.open)
-          ∙ ap (λ (rs : List Reply). told asking rs) (sym (replies_joined log last))
+          ∙ sym (told_joined asking (replies log) (reply_to w (Leave id) ∷ []) t.goes)
+          ∙ ap (λ (rs : List Reply). told asking rs) (sym (replies_joined log (entry w (Leave id) ∷ [])))
 
-      more_get : ByGet bytes log given → IsTold conversation log given → Facts (bytes ++ []) (log ++ last) given
-      more_get g t = HasSentGet (record (more_for_get bytes [] log given g) {
-        behind = g.behind ++ last;
-        in_order = ap (λ (xs : List Entry). xs ++ last) g.in_order
-            ∙ logged (arrival g.peer g.id) g.idle (record { event = asks_by_get g.id g.request; reply = g.reply } ∷ g.behind) last;
-        no_more = each_joined (IsIdleOrLeaving g.id) g.behind last g.no_more
-            (inr (ap (λ (n : ℕ). Leave n) (sym (same_arrival g.peer g.id _ g.in_order))), tt);
-        orderly = subst (λ (m : ℕ). IsOrderly m (log ++ last)) (sym (same_arrival g.peer g.id _ g.in_order)) orderly;
-        is_told = still t;
-      })
+      more_get : ByGet bytes log given → IsTold conversation log given → Facts (bytes ++ []) (log ++ (entry w (Leave id) ∷ [])) given
+      more_get g t = HasSentGet (get_with bytes (bytes ++ []) log (log ++ (entry w (Leave id) ∷ [])) given given g (read_more bytes [] g.request g.length g.reading) (g.behind ++ (entry w (Leave id) ∷ []))
+          (ap (λ (xs : List Entry). xs ++ (entry w (Leave id) ∷ [])) g.in_order
+          ∙ logged (arrival g.peer g.id) g.idle (record { event = asks_by_get g.id g.request; reply = g.reply } ∷ g.behind) (entry w (Leave id) ∷ []))
+          (each_joined (IsIdleOrLeaving g.id) g.behind (entry w (Leave id) ∷ []) g.no_more (inr (ap (λ (n : ℕ). Leave n) (sym (same_arrival g.peer g.id _ g.in_order))), tt))
+          (subst (λ (m : ℕ). IsOrderly m (log ++ (entry w (Leave id) ∷ []))) (sym (same_arrival g.peer g.id _ g.in_order)) orderly) (still t))
 
-      more_source : Feeds bytes log → Facts (bytes ++ []) (log ++ last) given
+      more_source : Feeds bytes log → Facts (bytes ++ []) (log ++ (entry w (Leave id) ∷ [])) given
       more_source f =
           let m = more_for_source bytes [] log f in
-          IsSource (record m {
-            behind = f.behind ++ last;
-            in_order = ap (λ (xs : List Entry). xs ++ last) f.in_order
-                ∙ logged (arrival f.peer f.id) f.idle (record { event = asks_to_feed f.id f.request; reply = f.reply } ∷ f.behind) last;
-            no_more = each_joined (IsNoRequest f.id) f.behind last f.no_more (sym (same_arrival f.peer f.id _ f.in_order), tt);
-            orderly = subst (λ (n : ℕ). IsOrderly n (log ++ last)) (sym (same_arrival f.peer f.id _ f.in_order)) orderly;
-            front = ap (λ (xs : List ℕ). xs ++ m.rest)
-                (ap pushed (events_of_joined f.behind last) ∙ pushed_joined (events_of f.behind) (Leave id ∷ []) ∙ append-nil (pushed (events_of f.behind)))
-                ∙ m.front;
-          })
+          IsSource (feeds_with (bytes ++ []) (bytes ++ []) log (log ++ (entry w (Leave id) ∷ [])) m m.reading (m.behind ++ (entry w (Leave id) ∷ []))
+          (ap (λ (xs : List Entry). xs ++ (entry w (Leave id) ∷ [])) m.in_order
+          ∙ logged (arrival m.peer m.id) m.idle (record { event = asks_to_feed m.id m.request; reply = m.reply } ∷ m.behind) (entry w (Leave id) ∷ []))
+          (each_joined (IsNoRequest m.id) m.behind (entry w (Leave id) ∷ []) m.no_more (sym (same_arrival m.peer m.id _ m.in_order), tt))
+          (subst (λ (n : ℕ). IsOrderly n (log ++ (entry w (Leave id) ∷ []))) (sym (same_arrival m.peer m.id _ m.in_order)) orderly)
+          m.rest
+          (ap (λ (xs : List ℕ). xs ++ m.rest)
+          (ap pushed (events_of_joined m.behind (entry w (Leave id) ∷ [])) ∙ pushed_joined (events_of m.behind) (Leave id ∷ []) ∙ append-nil (pushed (events_of m.behind)))
+          ∙ m.front))
 
-      by_stage : Stage bytes log given conversation → Facts (bytes ++ []) (log ++ last) given
+      by_stage : Stage bytes log given conversation → Facts (bytes ++ []) (log ++ (entry w (Leave id) ∷ [])) given
       by_stage (AtHead idle arrived idles hears held t) = HasAskedNothing (nothing (nothing_asked idle arrived idles t))
       by_stage (AfterGet g hears t) = more_get g t
       by_stage (AtBody f none hears) = more_source f

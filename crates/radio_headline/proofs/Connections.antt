@@ -1,6 +1,6 @@
 -- What has come on the connection of one label, what has happened there, and what was given.
 use Rattle.std.proofs.Common.{◌≡◌, ◌⊎◌, inl, inr, ℕ, Bool, true, false, List, [], ◌∷◌, ◌++◌, drop, Option, None, Some, Ok, Err, refl, sym, ap, subst, ◌∙◌}
-use Rattle.std.specs.Prelude.{map, codes}
+use Rattle.std.specs.Prelude.{map, codes, option_map}
 use Rattle.std.specs.Str.{bytes_eq}
 use Rattle.radio_addr.specs.declared.peer.Peer.{Peer}
 use Rattle.radio_events.specs.declared.event.Event.{Event}
@@ -15,7 +15,6 @@ use Rattle.radio_heads.specs.Reading.{IsReading}
 use Rattle.radio_source.specs.Feeding.{unfed}
 use Rattle.radio_source.specs.Place.{Place, after, data_of}
 use Rattle.radio_session.specs.declared.session.Hears.TheVariants.{Head, Body, Nothing}
-use Rattle.radio_session.specs.declared.session.framing.Framing.{Framing}
 use Rattle.radio_session.specs.Asking.{asks_to_feed, asks_by_get}
 use Rattle.radio_session.specs.Conversation.{Conversation, asking, fresh}
 use Rattle.radio_session.specs.Framing.{is_source, framing_of, start_of}
@@ -72,7 +71,7 @@ pub record ByGet (bytes : List ℕ) (log : List Entry) (given : List ℕ) : Type
   pub behind : List Entry
   pub in_order : log ≡ arrival peer id ∷ idle ++ record { event = asks_by_get id request; reply = reply } ∷ behind
   pub idles : Each (IsIdling id) idle
-  pub open : IsOpen asking (Arrived id ∷ replies idle)
+  pub goes : IsOpen asking (Arrived id ∷ replies idle)
   pub no_more : Each (IsIdleOrLeaving id) behind
   pub orderly : IsOrderly id log
   pub length : ℕ
@@ -96,10 +95,10 @@ pub record Feeds (bytes : List ℕ) (log : List Entry) : Type 0 where
   pub length : ℕ
   pub reading : IsReading ShowsRequest bytes (Ok (Whole request length))
   pub source : is_source request ≡ true
-  pub framing : Framing
-  pub framed : framing_of request ≡ Some framing
+  pub start : Place
+  pub framed : option_map start_of (framing_of request) ≡ Some start
   pub rest : List ℕ
-  pub front : pushed (events_of behind) ++ rest ≡ data_of (start_of framing) (drop length bytes)
+  pub front : pushed (events_of behind) ++ rest ≡ data_of start (drop length bytes)
 
 pub data Facts (bytes : List ℕ) (log : List Entry) (given : List ℕ) : Type 0 where
   HasAskedNothing : Each AsksNothing log → Facts bytes log given
@@ -113,14 +112,14 @@ pub record IsClosed (bytes : List ℕ) (log : List Entry) (given : List ℕ) : T
 -- what was given is what is told of the replies, and the conversation goes on so
 pub record IsTold (conversation : Conversation) (log : List Entry) (given : List ℕ) : Type 0 where
   pub says : conversation.says ≡ said_all asking (replies log)
-  pub open : IsOpen asking (replies log)
+  pub goes : IsOpen asking (replies log)
   pub is_told : given ≡ told asking (replies log)
 
 pub data Stage (bytes : List ℕ) (log : List Entry) (given : List ℕ) (conversation : Conversation) : Type 0 where
   AtHead : (idle : List Entry) → log ≡ arrival conversation.peer conversation.id ∷ idle → Each (IsIdling conversation.id) idle
       → conversation.hears ≡ Head → conversation.held ≡ bytes → IsTold conversation log given → Stage bytes log given conversation
   AfterGet : ByGet bytes log given → conversation.hears ≡ Nothing → IsTold conversation log given → Stage bytes log given conversation
-  AtBody : (f : Feeds bytes log) → f.rest ≡ [] → conversation.hears ≡ Body (unfed (after (start_of f.framing) (drop f.length bytes)))
+  AtBody : (f : Feeds bytes log) → f.rest ≡ [] → conversation.hears ≡ Body (unfed (after f.start (drop f.length bytes)))
       → Stage bytes log given conversation
   AfterBody : Feeds bytes log → conversation.hears ≡ Nothing → Stage bytes log given conversation
   Refused : Each AsksNothing log → conversation.hears ≡ Nothing → Stage bytes log given conversation

@@ -256,11 +256,11 @@ module _ (settings : Settings) (lists : Lists) (settled : IsSettled ShowsRequest
             arrived = refl;
             his = tt;
             goes_on = ((λ h. h), tt);
-            stage = AtHead [] refl tt refl (sym none) (record { says = refl; open = (refl, tt); is_told = refl });
+            stage = AtHead [] refl tt refl (sym none) (record { says = refl; goes = (refl, tt); is_told = refl });
           }
           arrives_so bytes none Feeding = not_there bytes Feeding _
           arrives_so bytes none (Seated interval head) = not_there bytes (Seated interval head) _
-          arrives_so bytes none (Drawn data title) = not_there bytes (Drawn data title) _
+          arrives_so bytes none (Drawn sound title) = not_there bytes (Drawn sound title) _
           arrives_so bytes none WasNoted = not_there bytes WasNoted _
           arrives_so bytes none (Text text) = not_there bytes (Text text) _
           arrives_so bytes none (Deny rule) = not_there bytes (Deny rule) _
@@ -634,7 +634,7 @@ module _ (settings : Settings) (lists : Lists) (settled : IsSettled ShowsRequest
           told = n.told ++ m.told;
           is_written = written_joined n.told m.told ∙ ap (λ (xs : List ℕ). xs ++ written m.told) n.is_written
               ∙ ap (λ (xs : List ℕ). g.first ++ xs) m.is_written ∙ sym g.parts;
-          stands = subst (λ (ds : List Delivery). Stands ds last m.course (lines ++ n.told ++ m.told)) (append_assoc done (delivery ∷ []) m.performed)
+          stands = subst (λ (ds : List Delivery). Stands ds last m.course (lines ++ (n.told ++ m.told))) (append_assoc done (delivery ∷ []) m.performed)
               (subst (λ (ls : List TranscriptLine). Stands ((done ++ delivery ∷ []) ++ m.performed) last m.course ls) (append_assoc lines n.told m.told) m.stands);
         }
   ]

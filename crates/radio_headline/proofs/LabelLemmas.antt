@@ -147,11 +147,15 @@ shut_gives : (label other : ℕ) (word : Option (List ℕ)) → given (shut_part
 shut_gives label other None = refl
 shut_gives label other (Some word) = refl
 
+abbrev no_bytes_at : List ℕ
+no_bytes_at = []
+
+no_bytes : (b : Bool) → no_bytes_at ≡ (if b then no_bytes_at else no_bytes_at)
+no_bytes true = refl
+no_bytes false = refl
+
 out_gives : (label other : ℕ) (bytes : List ℕ) → given (out_part label bytes) other ≡ (if label == other then bytes else [])
-out_gives label other [] = either (label == other) where
-  either : (b : Bool) → [] ≡ (if b then [] else [])
-  either true = refl
-  either false = refl
+out_gives label other [] = no_bytes (label == other)
 out_gives label other (b ∷ bytes) = append-nil (if label == other then b ∷ bytes else [])
 
 answer_gives : (label other : ℕ) (bytes : List ℕ) (word : Option (List ℕ)) → given (answer label bytes word) other ≡ (if label == other then bytes else [])

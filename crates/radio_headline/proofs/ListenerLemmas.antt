@@ -182,16 +182,16 @@ record Waited (idle : List Entry) : Type 0 where
   pub says : said_all asking (replies idle) ≡ asking
 
 waited : (idle : List Entry) → IsOpen asking (replies idle) → Each IsMute idle → Waited idle
-waited [] open mute = record { untold = refl; says = refl }
-waited (e ∷ idle) open mute = elim mute.0 [
+waited [] goes mute = record { untold = refl; says = refl }
+waited (e ∷ idle) goes mute = elim mute.0 [
   | inl stray ↦
-      let later = waited idle (subst (λ (r : Reply). IsOpen (said asking r).says (replies idle)) stray open.1) mute.1 in
+      let later = waited idle (subst (λ (r : Reply). IsOpen (said asking r).says (replies idle)) stray goes.1) mute.1 in
       record {
         untold = ap (λ (r : Reply). told asking (r ∷ replies idle)) stray ∙ later.untold;
         says = ap (λ (r : Reply). said_all asking (r ∷ replies idle)) stray ∙ later.says;
       }
   | inr (rule, finished) ↦
-      let shut = ap (λ (r : Reply). (said asking r).state) (sym finished) ∙ open.0 in absurd (cc)
+      let shut = ap (λ (r : Reply). (said asking r).state) (sym finished) ∙ goes.0 in absurd (cc)
 ]
 
 -- draws
@@ -227,43 +227,37 @@ leaving_draws id (e ∷ log) fits h = (fits.0.drawn id h.0, leaving_draws id log
 
 orderly_draws : (id : ℕ) (log : List Entry) → IsOrderly id log → Each EntryFits log → draws_of (replies log) ≡ calls log
 orderly_draws id [] o fits = refl
-orderly_draws id (e ∷ log) o fits = by_reply e.reply refl where
-  later : draws_of (replies log) ≡ calls log
-  later = orderly_draws id log o.1 fits.1
-
+orderly_draws id (e ∷ log) o fits = by_reply (orderly_draws id log o.1 fits.1) e.reply refl where
   last : IsLast e.reply → [] ≡ calls log
   last l = sym (no_calls log (leaving_draws id log fits.1 (o.0 l)))
 
-  by_reply : (r : Reply) → e.reply ≡ r → draws_of (r ∷ replies log) ≡ draws_of (r ∷ []) ++ calls log
-  by_reply (Arrived him) h = later
-  by_reply Feeding h = later
-  by_reply (Seated interval head) h = later
-  by_reply (Drawn bytes title) h = ap (λ (xs : List Call). draw bytes title ∷ xs) later
-  by_reply Noted h = later
-  by_reply (Text text) h = last (subst IsLast (sym h) tt)
-  by_reply (Deny rule) h = last (subst IsLast (sym h) tt)
-  by_reply (Finished rule) h = last (subst IsLast (sym h) tt)
-  by_reply Stray h = later
+  by_reply : draws_of (replies log) ≡ calls log → (r : Reply) → e.reply ≡ r → draws_of (r ∷ replies log) ≡ draws_of (r ∷ []) ++ calls log
+  by_reply later (Arrived him) h = later
+  by_reply later Feeding h = later
+  by_reply later (Seated interval head) h = later
+  by_reply later (Drawn bytes title) h = ap (λ (xs : List Call). draw bytes title ∷ xs) later
+  by_reply later Noted h = later
+  by_reply later (Text text) h = last (subst IsLast (sym h) tt)
+  by_reply later (Deny rule) h = last (subst IsLast (sym h) tt)
+  by_reply later (Finished rule) h = last (subst IsLast (sym h) tt)
+  by_reply later Stray h = later
 
 abbrev AdmitsNot : Entry → Type 0
 AdmitsNot e = (e.reply ≡ Feeding → ⊥) × ((interval : Option ℕ) (head : StreamHead) → e.reply ≡ Seated interval head → ⊥)
 
 admit_nobody : (log : List Entry) → Each AdmitsNot log → AdmitNobody (replies log)
 admit_nobody [] h = tt
-admit_nobody (e ∷ log) h = by_reply e.reply refl where
-  later : AdmitNobody (replies log)
-  later = admit_nobody log h.1
-
-  by_reply : (r : Reply) → e.reply ≡ r → AdmitNobody (r ∷ replies log)
-  by_reply (Arrived him) d = later
-  by_reply Feeding d = h.0.0 d
-  by_reply (Seated interval head) d = h.0.1 interval head d
-  by_reply (Drawn bytes title) d = later
-  by_reply Noted d = later
-  by_reply (Text text) d = later
-  by_reply (Deny rule) d = later
-  by_reply (Finished rule) d = later
-  by_reply Stray d = later
+admit_nobody (e ∷ log) h = by_reply (admit_nobody log h.1) e.reply refl where
+  by_reply : AdmitNobody (replies log) → (r : Reply) → e.reply ≡ r → AdmitNobody (r ∷ replies log)
+  by_reply later (Arrived him) d = later
+  by_reply later Feeding d = h.0.0 d
+  by_reply later (Seated interval head) d = h.0.1 interval head d
+  by_reply later (Drawn bytes title) d = later
+  by_reply later Noted d = later
+  by_reply later (Text text) d = later
+  by_reply later (Deny rule) d = later
+  by_reply later (Finished rule) d = later
+  by_reply later Stray d = later
 
 none_admitted : (id : ℕ) (log : List Entry) → Each (IsIdleOrLeaving id) log → Each EntryFits log → Each AdmitsNot log
 none_admitted id [] h fits = tt
@@ -293,27 +287,24 @@ IsOnIt label id h = client_in h.event ≡ Some id → is_number label h.label �
 draws_gathered : (w : World) (past : List Happening) (label id : ℕ) → AllByRecursion (IsOnIt label id) past
     → Each (IsHisOrDrawsNothing id) (log_on w past label) → draws_to w (events_in past) id ≡ calls (log_on w past label)
 draws_gathered w [] label id on his = refl
-draws_gathered w (h ∷ past) label id on his = by_tests (is_number label h.label) refl (is_number id (client_in h.event)) refl his where
-  abbrev drawn : List Call
-  drawn = draws_of (reply_to w h.event ∷ [])
-
-  abbrev later : World
-  later = world_after w h.event
-
-  by_tests : (b : Bool) → is_number label h.label ≡ b → (c : Bool) → is_number id (client_in h.event) ≡ c
-      → Each (IsHisOrDrawsNothing id) ((if b then entry w h.event ∷ [] else []) ++ log_on later past label)
-      → (if c then drawn else []) ++ draws_to later (events_in past) id ≡ calls ((if b then entry w h.event ∷ [] else []) ++ log_on later past label)
-  by_tests true e true f k = ap (λ (xs : List Call). drawn ++ xs) (draws_gathered later past label id on.1 k.1)
-  by_tests true e false f k =
-      draws_gathered later past label id on.1 k.1 ∙ ap (λ (xs : List Call). xs ++ calls (log_on later past label)) (sym (none k.0)) where
-        none : IsHisOrDrawsNothing id (entry w h.event) → drawn ≡ []
+draws_gathered w (h ∷ past) label id on his =
+    by_tests (draws_gathered (world_after w h.event) past label id on.1) (is_number label h.label) refl (is_number id (client_in h.event)) refl his where
+  by_tests : (Each (IsHisOrDrawsNothing id) (log_on (world_after w h.event) past label)
+      → draws_to (world_after w h.event) (events_in past) id ≡ calls (log_on (world_after w h.event) past label))
+      → (b : Bool) → is_number label h.label ≡ b → (c : Bool) → is_number id (client_in h.event) ≡ c
+      → Each (IsHisOrDrawsNothing id) ((if b then entry w h.event ∷ [] else []) ++ log_on (world_after w h.event) past label)
+      → (if c then (draws_of (reply_to w h.event ∷ [])) else []) ++ draws_to (world_after w h.event) (events_in past) id ≡ calls ((if b then entry w h.event ∷ [] else []) ++ log_on (world_after w h.event) past label)
+  by_tests ih true e true f k = ap (λ (xs : List Call). (draws_of (reply_to w h.event ∷ [])) ++ xs) (ih k.1)
+  by_tests ih true e false f k =
+      ih k.1 ∙ ap (λ (xs : List Call). xs ++ calls (log_on (world_after w h.event) past label)) (sym (none k.0)) where
+        none : IsHisOrDrawsNothing id (entry w h.event) → (draws_of (reply_to w h.event ∷ [])) ≡ []
         none (inl mine) =
             let yes : is_number id (client_in h.event) ≡ true = ap (is_number id) mine ∙ itself id in
             let no : true ≡ false = sym yes ∙ f in
             cc
         none (inr d) = d
-  by_tests false e true f k = let no : true ≡ false = sym (on.0 (counts_as id h.event f)) ∙ e in cc
-  by_tests false e false f k = draws_gathered later past label id on.1 k
+  by_tests ih false e true f k = let no : true ≡ false = sym (on.0 (counts_as id h.event f)) ∙ e in cc
+  by_tests ih false e false f k = ih k
 
 -- who has asked for nothing yet, and asks to hear, is not out of place
 module _ (w : World) (asked : ListenRequest)
@@ -378,27 +369,20 @@ module _ (settings : Settings) (lists : Lists)
 
   log_fits : (events : List Event) (past : List Happening) (label : ℕ) → Each EntryFits (log_on (run_after settings lists events) past label)
   log_fits events [] label = tt
-  log_fits events (h ∷ past) label = by_label (is_number label h.label) where
-    abbrev w : World
-    w = run_after settings lists events
-
-    later : Each EntryFits (log_on (world_after w h.event) past label)
-    later = subst (λ (x : World). Each EntryFits (log_on x past label)) (after_joined (opening settings lists) events (h.event ∷ []))
-        (log_fits (events ++ h.event ∷ []) past label)
-
-    by_label : (b : Bool) → Each EntryFits ((if b then entry w h.event ∷ [] else []) ++ log_on (world_after w h.event) past label)
-    by_label true = (fits_event events h.event, later)
-    by_label false = later
+  log_fits events (h ∷ past) label =
+      by_label (subst (λ (x : World). Each EntryFits (log_on x past label)) (after_joined (opening settings lists) events (h.event ∷ []))
+      (log_fits (events ++ h.event ∷ []) past label)) (is_number label h.label) where
+    by_label : Each EntryFits (log_on (world_after (run_after settings lists events) h.event) past label) → (b : Bool)
+        → Each EntryFits ((if b then entry (run_after settings lists events) h.event ∷ [] else []) ++ log_on (world_after (run_after settings lists events) h.event) past label)
+    by_label later true = (fits_event events h.event, later)
+    by_label later false = later
 
   listens_in_place : (events : List Event) (asked : ListenRequest) (s : Standing) → IsNew s → standing_of (run_after settings lists events) asked.id ≡ s
       → reply_to (run_after settings lists events) (Listen asked) ≡ Stray → ⊥
-  listens_in_place events asked s n e stray = never_stray here asked (λ peer u v. seated peer u v) s n e stray where
-    abbrev here : World
-    here = run_after settings lists events
-
-    seated : (peer : Peer) → standing_of here asked.id ≡ Undecided peer → verdict_in (rows_to_listen here asked) ≡ Allow → ⊥
+  listens_in_place events asked s n e stray = never_stray (run_after settings lists events) asked (λ peer u v. seated peer u v) s n e stray where
+    seated : (peer : Peer) → standing_of (run_after settings lists events) asked.id ≡ Undecided peer → verdict_in (rows_to_listen (run_after settings lists events) asked) ≡ Allow → ⊥
     seated peer u v =
-        let taken = (serves events).seats asked peer u (policy (rows_to_listen here asked) v) in
+        let taken = (serves events).seats asked peer u (policy (rows_to_listen (run_after settings lists events) asked) v) in
         let both = sym taken.is_shown ∙ stray in
         cc
 
@@ -448,7 +432,7 @@ module _ (settings : Settings) (lists : Lists)
 
       in_order : log label ≡ before ++ entry w (Listen asked) ∷ behind
       in_order = ap (λ (hs : List Happening). log_on w0 hs label) parts ∙ log_joined w0 past (on label (Listen asked) ∷ later) label
-          ∙ ap (λ (b : Bool). before ++ (if b then entry w (Listen asked) ∷ [] else []) ++ behind) (itself label)
+          ∙ ap (λ (b : Bool). before ++ ((if b then entry w (Listen asked) ∷ [] else []) ++ behind)) (itself label)
 
       g : ByGet (brought done label) (log label) (given lines label)
       g = by_get (brought done label) (log label) (given lines label) before behind (entry w (Listen asked)) in_order tt
@@ -477,7 +461,7 @@ module _ (settings : Settings) (lists : Lists)
       his_number = get_is_of g.id g.request (ap (λ (x : Entry). x.event) (sym p.here)) 
 
       mute : Waited g.idle
-      mute = waited g.idle g.open.1 waits.1
+      mute = waited g.idle g.goes.1 waits.1
 
       -- behind his head stand the draws
       told_behind : given lines label ≡ told asking (reply ∷ replies behind)
@@ -485,7 +469,7 @@ module _ (settings : Settings) (lists : Lists)
           g.is_told
           ∙ ap (λ (xs : List Entry). told asking (replies xs)) (g.in_order)
           ∙ ap (told asking) (ap (λ (rs : List Reply). Arrived g.id ∷ rs) (replies_joined g.idle (record { event = asks_by_get g.id g.request; reply = g.reply } ∷ g.behind)))
-          ∙ told_joined asking (Arrived g.id ∷ replies g.idle) (g.reply ∷ replies g.behind) g.open
+          ∙ told_joined asking (Arrived g.id ∷ replies g.idle) (g.reply ∷ replies g.behind) g.goes
           ∙ ap (λ (xs : List ℕ). xs ++ told (said_all asking (replies g.idle)) (g.reply ∷ replies g.behind)) mute.untold
           ∙ ap (λ (s : Says). told s (g.reply ∷ replies g.behind)) mute.says
           ∙ ap (λ (e : Entry). told asking (e.reply ∷ replies g.behind)) (sym p.here)
@@ -508,7 +492,7 @@ module _ (settings : Settings) (lists : Lists)
       all_draws interval head seated =
           orderly_draws g.id behind orderly_behind fits_behind
           ∙ ap (λ (xs : List Call). xs ++ calls behind) (sym none_before)
-          ∙ sym (flat_map-append calls_of before (entry w (Listen asked) ∷ behind) ∙ ap (λ (xs : List Call). calls before ++ xs ++ calls behind) none_here)
+          ∙ sym (flat_map-append calls_of before (entry w (Listen asked) ∷ behind) ∙ ap (λ (xs : List Call). calls before ++ (xs ++ calls behind)) none_here)
           ∙ ap calls (sym in_order)
           ∙ sym (draws_gathered w0 course label g.id on_it his_or_not)
           ∙ ap (draws_to w0 (events_in course)) (sym his_number) where
@@ -527,13 +511,10 @@ module _ (settings : Settings) (lists : Lists)
 
       pub given_by : IsGiven settings lists course w asked (given lines label) reply
       given_by = by_reply reply refl (listen_reply w asked) where
-        abbrev bytes : List ℕ
-        bytes = given lines label
-
-        told_as : (r : Reply) → reply ≡ r → bytes ≡ told asking (r ∷ replies behind)
+        told_as : (r : Reply) → reply ≡ r → (given lines label) ≡ told asking (r ∷ replies behind)
         told_as r e = told_behind ∙ ap (λ (x : Reply). told asking (x ∷ replies behind)) e
 
-        by_reply : (r : Reply) → reply ≡ r → ListenReply r → IsGiven settings lists course w asked bytes r
+        by_reply : (r : Reply) → reply ≡ r → ListenReply r → IsGiven settings lists course w asked (given lines label) r
         by_reply Stray e IsOutOfPlace =
             absurd (listens_in_place (events_in past) asked (standing_of w g.id) waits.0 (ap (standing_of w) his_number) e)
         by_reply (Finished rule) e (IsFinishedReply _) = IsTooLate rule (told_as (Finished rule) e)

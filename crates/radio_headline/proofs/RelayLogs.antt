@@ -21,7 +21,7 @@ use Rattle.radio_session.specs.declared.state.Ending.{Ending}
 use Rattle.radio_pull.specs.Pulling.{Standing, answered, event_of, going_on}
 use Rattle.radio_pull.specs.Course.{Asks, AsksIf, Brings, Follows, GoesDown, GoesDownIfShut}
 use Rattle.radio_headline.specs.Course.{Noted, noting}
-use Rattle.radio_headline.specs.Sources.{pushed}
+use Rattle.radio_headline.specs.Sources.{pushed, pushed_by}
 use Rattle.radio_headline.proofs.Logs.{Entry, entry, entries, after_joined}
 
 -- an event is of the relay of this number, or asks for one
@@ -169,7 +169,7 @@ asks_lifts (Some id) event w later old after his silent a =
       stands = λ run. ap (λ (t : Standing). t.number) s.stands
           ∙ ap (λ (xs : List Event). number_after (Some id) (entries w (event id ∷ xs))) (sym (s.no_more run));
       rest = [];
-      front = append-nil (pushed (event id ∷ s.behind)) ∙ flat_map-append _ (event id ∷ []) s.behind
+      front = append-nil (pushed (event id ∷ s.behind)) ∙ flat_map-append pushed_by (event id ∷ []) s.behind
           ∙ ap (λ (xs : List ℕ). xs ++ pushed s.behind) (silent id) ∙ s.silent;
       whole = λ run. inr refl;
     }
@@ -200,7 +200,7 @@ module _ (number : Option ℕ) (event : Event) (his : OfRelay number event) (w l
         stands = λ run. absurd (stopped run);
         rest = sound;
         front = ap (λ (xs : List ℕ). xs ++ sound)
-            (flat_map-append _ (event ∷ []) s.behind ∙ ap (λ (xs : List ℕ). pushed (event ∷ []) ++ xs) s.silent ∙ append-nil (pushed (event ∷ [])));
+            (flat_map-append pushed_by (event ∷ []) s.behind ∙ ap (λ (xs : List ℕ). pushed (event ∷ []) ++ xs) s.silent ∙ append-nil (pushed (event ∷ [])));
         whole = λ run. absurd (stopped run);
       } where
         stopped : after.state ≡ Running → ⊥
@@ -223,11 +223,11 @@ module _ (number : Option ℕ) (event : Event) (his : OfRelay number event) (w l
         leads = l.leads ∙ ap (λ (x : World). world_after_all x l.events) leads;
         own = (his, subst (λ (n : Option ℕ). OwnRelay n (entries (world_after w event) l.events)) number_now
             (subst (λ (x : World). OwnRelay now.number (entries x l.events)) leads l.own));
-        stands = λ open. l.stands open
+        stands = λ goes. l.stands goes
             ∙ ap (λ (x : World). number_after now.number (entries x l.events)) leads
             ∙ ap (λ (n : Option ℕ). number_after n (entries (world_after w event) l.events)) number_now;
         rest = l.rest;
-        front = ap (λ (xs : List ℕ). xs ++ l.rest) (flat_map-append _ (event ∷ []) l.events)
+        front = ap (λ (xs : List ℕ). xs ++ l.rest) (flat_map-append pushed_by (event ∷ []) l.events)
             ∙ append_assoc (pushed (event ∷ [])) (pushed l.events) l.rest ∙ ap (λ (xs : List ℕ). pushed (event ∷ []) ++ xs) l.front;
         whole = l.whole;
       }

@@ -1,5 +1,5 @@
 -- What an event can be replied.
-use Rattle.std.proofs.Common.{◌≡◌, ◌⊎◌, ℕ, ◌+◌, inl, inr, List, [], ◌∷◌, Option, None, Some, refl, sym, ap, ◌∙◌}
+use Rattle.std.proofs.Common.{◌≡◌, ◌⊎◌, ℕ, ◌+◌, inl, inr, List, [], ◌∷◌, Option, None, Some, refl, sym, ap, subst, ◌∙◌}
 use Rattle.radio_policy.specs.declared.rule.Rule.{Rule}
 use Rattle.radio_events.specs.declared.event.Event.{Event}
 use Rattle.radio_events.specs.declared.event.Event.TheVariants.{Arrive, Source, Push, SourceEnd, Title, Listen, Draw, Command, Leave, RelayUp, RelayDown, Clock}
@@ -108,25 +108,47 @@ pub data IdleReply (w : World) (id : ℕ) : Reply → Type 0 where
   Sitting : (bytes : List ℕ) (title : Option (List ℕ)) → standing_of w id ≡ Sits → IdleReply w id (Drawn bytes title)
   Sourcing : (mount : List ℕ) → standing_of w id ≡ Feeds mount → IdleReply w id Noted
 
-idle_by : (w : World) (id : ℕ) (event : Event) (o : Outcome) → IsIdle id event → Way w event o → IdleReply w id o.reply
-idle_by w id event o i (Misplaced _) = IsStray
-idle_by w id event o i (IsFinished _ him by its known) = WasFinished by
-idle_by w id (Draw him room) o i (IsDenied _ by v nobody) = cc
-idle_by w id (Title him text) o i (IsDenied _ by v nobody) = cc
-idle_by w id (Draw him room) o i (IsRefused _ _ by v its undecided) = cc
-idle_by w id (Title him text) o i (IsRefused _ _ by v its undecided) = cc
-idle_by w id event o i (SetsTitle him mount text feeding) = Sourcing mount (ap (standing_of w) (sym i) ∙ feeding)
-idle_by w id (Draw him room) o i (Shows _ asker peer text its undecided (IsListing listing l)) = let e = l.is_event in cc
-idle_by w id (Title him text) o i (Shows _ asker peer _ its undecided (IsListing listing l)) = let e = l.is_event in cc
-idle_by w id (Draw him room) o i (Shows _ asker peer text its undecided (IsAtPath asked path e p)) = cc
-idle_by w id (Title him text) o i (Shows _ asker peer _ its undecided (IsAtPath asked path e p)) = cc
-idle_by w id (Draw him room) o i (Obeys _ command c) = let e = c.is_event in cc
-idle_by w id (Title him text) o i (Obeys _ command c) = let e = c.is_event in cc
-idle_by w id event o i (HandsOut him room seat session sits has live) = Sitting _ _ (ap (standing_of w) (sym i) ∙ sits)
+draw_by : (w : World) (id room : ℕ) (o : Outcome) → Way w (Draw id room) o → IdleReply w id o.reply
+draw_by w id room o (Misplaced _) = IsStray
+draw_by w id room o (IsFinished _ him by its known) = WasFinished by
+draw_by w id room o (IsDenied _ by v nobody) = cc
+draw_by w id room o (IsRefused _ him by v its undecided) = cc
+draw_by w id room o (Shows _ asker peer text its undecided (IsListing listing l)) = let e = l.is_event in cc
+draw_by w id room o (Shows _ asker peer text its undecided (IsAtPath asked path e p)) = cc
+draw_by w id room o (Obeys _ command c) = let e = c.is_event in cc
+draw_by w id room o (EndsAndLeaves _ him mount closes feeding) = elim closes [ ]
+draw_by w id room o (HandsOut _ _ seat session sits has live) = Sitting _ _ sits
+
+title_by : (w : World) (id : ℕ) (text : List ℕ) (o : Outcome) → Way w (Title id text) o → IdleReply w id o.reply
+title_by w id text o (Misplaced _) = IsStray
+title_by w id text o (IsFinished _ him by its known) = WasFinished by
+title_by w id text o (IsDenied _ by v nobody) = cc
+title_by w id text o (IsRefused _ him by v its undecided) = cc
+title_by w id text o (Shows _ asker peer shown its undecided (IsListing listing l)) = let e = l.is_event in cc
+title_by w id text o (Shows _ asker peer shown its undecided (IsAtPath asked path e p)) = cc
+title_by w id text o (Obeys _ command c) = let e = c.is_event in cc
+title_by w id text o (EndsAndLeaves _ him mount closes feeding) = elim closes [ ]
+title_by w id text o (SetsTitle _ mount _ feeding) = Sourcing mount feeding
+
+idle_by : (w : World) (id : ℕ) (event : Event) → IsIdle id event → Way w event (outcome w event) → IdleReply w id (outcome w event).reply
+idle_by w id (Arrive peer) i way = elim i [ ]
+idle_by w id (Source asked) i way = elim i [ ]
+idle_by w id (Push him block) i way = elim i [ ]
+idle_by w id (SourceEnd him) i way = elim i [ ]
+idle_by w id (Listen asked) i way = elim i [ ]
+idle_by w id (Command asked) i way = elim i [ ]
+idle_by w id (Leave him) i way = elim i [ ]
+idle_by w id (RelayUp mount shown) i way = elim i [ ]
+idle_by w id (RelayDown him) i way = elim i [ ]
+idle_by w id (Clock ms) i way = elim i [ ]
+idle_by w id (Draw him room) i way =
+    subst (λ (n : ℕ). IdleReply w n (outcome w (Draw him room)).reply) i (draw_by w him room (outcome w (Draw him room)) way)
+idle_by w id (Title him text) i way =
+    subst (λ (n : ℕ). IdleReply w n (outcome w (Title him text)).reply) i (title_by w him text (outcome w (Title him text)) way)
 
 pub idle_reply : (w : World) (id : ℕ) (event : Event) → IsIdle id event → IdleReply w id (reply_to w event)
 unfolding reply_to
-idle_reply w id event i = idle_by w id event (outcome w event) i (way_of w event)
+idle_reply w id event i = idle_by w id event i (way_of w event)
 
 -- how one may be replied who leaves
 pub data LeaveReply : Reply → Type 0 where

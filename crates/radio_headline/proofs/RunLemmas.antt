@@ -37,6 +37,7 @@ HasNumber id [] = ⊥
 HasNumber id (e ∷ log) = (e.reply ≡ Arrived id) ⊎ HasNumber id log
 
 pub number_before : (id : ℕ) (log more : List Entry) → HasNumber id log → HasNumber id (log ++ more)
+number_before id [] more h = elim h [ ]
 number_before id (e ∷ log) more (inl h) = inl h
 number_before id (e ∷ log) more (inr h) = inr (number_before id log more h)
 
@@ -111,17 +112,21 @@ module _ (settings : Settings) (lists : Lists)
 
   -- a number that is given later is larger
   pub later_numbers : (w : World) (past : List Happening) (label id : ℕ) → Reached w → HasNumber id (log_on w past label) → w.house.last_id < id
-  later_numbers w (h ∷ past) label id r has = by_label (is_number label h.label) has where
-    tail : HasNumber id (log_on (world_after w h.event) past label) → w.house.last_id < id
-    tail t =
-        let later = later_numbers (world_after w h.event) past label id (reached_after w h.event r) t in
+  later_numbers w [] label id r has = elim has [ ]
+  later_numbers w (h ∷ past) label id r has =
+      by_label (later_numbers (world_after w h.event) past label id (reached_after w h.event r)) (is_number label h.label) has where
+    tail : (HasNumber id (log_on (world_after w h.event) past label) → (world_after w h.event).house.last_id < id)
+        → HasNumber id (log_on (world_after w h.event) past label) → w.house.last_id < id
+    tail ih t =
+        let later = ih t in
         let sum = (adds_at w h.event r).numbers in
         omega (arith, later, sum)
 
-    by_label : (b : Bool) → HasNumber id ((if b then entry w h.event ∷ [] else []) ++ log_on (world_after w h.event) past label) → w.house.last_id < id
-    by_label true (inl e) = ((fits_at w h.event r).arrived id e).1
-    by_label true (inr t) = tail t
-    by_label false t = tail t
+    by_label : (HasNumber id (log_on (world_after w h.event) past label) → (world_after w h.event).house.last_id < id) → (b : Bool)
+        → HasNumber id ((if b then entry w h.event ∷ [] else []) ++ log_on (world_after w h.event) past label) → w.house.last_id < id
+    by_label ih true (inl e) = ((fits_at w h.event r).arrived id e).1
+    by_label ih true (inr t) = tail ih t
+    by_label ih false t = tail ih t
 
   given_here : (w : World) (event : Event) (id : ℕ) → Reached w → reply_to w event ≡ Arrived id → id ≤ (world_after w event).house.last_id
   given_here w event id r e =
@@ -133,30 +138,31 @@ module _ (settings : Settings) (lists : Lists)
   -- a number is given on one connection alone
   pub one_owner : (w : World) (past : List Happening) (label other id : ℕ) → Reached w → HasNumber id (log_on w past label)
       → HasNumber id (log_on w past other) → label ≡ other
-  one_owner w (h ∷ past) label other id r mine its = by_labels (is_number label h.label) refl (is_number other h.label) refl mine its where
-    abbrev later : World
-    later = world_after w h.event
-
+  one_owner w [] label other id r mine its = elim mine [ ]
+  one_owner w (h ∷ past) label other id r mine its =
+      by_labels (one_owner (world_after w h.event) past label other id (reached_after w h.event r)) (is_number label h.label) refl (is_number other h.label)
+      refl mine its where
     both : (b : Option ℕ) → is_number label b ≡ true → is_number other b ≡ true → label ≡ other
     both None e f = cc
     both (Some him) e f = let one : him ≡ label = grind (arith, nat_tests) in let two : him ≡ other = grind (arith, nat_tests) in sym one ∙ two
 
-    too_late : (his : ℕ) → reply_to w h.event ≡ Arrived id → HasNumber id (log_on later past his) → label ≡ other
+    too_late : (his : ℕ) → reply_to w h.event ≡ Arrived id → HasNumber id (log_on (world_after w h.event) past his) → label ≡ other
     too_late his e t =
-        let above = later_numbers later past his id (reached_after w h.event r) t in
+        let above = later_numbers (world_after w h.event) past his id (reached_after w h.event r) t in
         let below = given_here w h.event id r e in
         let none : ⊥ = omega (arith, above, below) in
         absurd none
 
-    by_labels : (b : Bool) → is_number label h.label ≡ b → (c : Bool) → is_number other h.label ≡ c
-        → HasNumber id ((if b then entry w h.event ∷ [] else []) ++ log_on later past label)
-        → HasNumber id ((if c then entry w h.event ∷ [] else []) ++ log_on later past other) → label ≡ other
-    by_labels true e true f x y = both h.label e f
-    by_labels true e false f (inl x) y = too_late other x y
-    by_labels true e false f (inr x) y = one_owner later past label other id (reached_after w h.event r) x y
-    by_labels false e true f x (inl y) = too_late label y x
-    by_labels false e true f x (inr y) = one_owner later past label other id (reached_after w h.event r) x y
-    by_labels false e false f x y = one_owner later past label other id (reached_after w h.event r) x y
+    by_labels : (HasNumber id (log_on (world_after w h.event) past label) → HasNumber id (log_on (world_after w h.event) past other) → label ≡ other)
+        → (b : Bool) → is_number label h.label ≡ b → (c : Bool) → is_number other h.label ≡ c
+        → HasNumber id ((if b then entry w h.event ∷ [] else []) ++ log_on (world_after w h.event) past label)
+        → HasNumber id ((if c then entry w h.event ∷ [] else []) ++ log_on (world_after w h.event) past other) → label ≡ other
+    by_labels ih true e true f x y = both h.label e f
+    by_labels ih true e false f (inl x) y = too_late other x y
+    by_labels ih true e false f (inr x) y = ih x y
+    by_labels ih false e true f x (inl y) = too_late label y x
+    by_labels ih false e true f x (inr y) = ih x y
+    by_labels ih false e false f x y = ih x y
 
   -- who has asked for nothing has asked for nothing still, if all that he does is to draw and to tell titles
   still_new : (w : World) (event : Event) (id : ℕ) → (client_in event ≡ Some id → IsIdle id event) → (Cause : Rule → Type 0) → (s later : Standing)
@@ -176,6 +182,8 @@ module _ (settings : Settings) (lists : Lists)
     never i (IsAtPath asked path e p) = subst (λ (x : Event). IsIdle id x) e i
   still_new w event id idle Cause s later (BeginsToFeed peer asked e his allowed) n = absurd (subst (λ (x : Event). IsIdle id x) e (idle (ap client_in e ∙ ap (λ (m : ℕ). Some m) his)))
   still_new w event id idle Cause s later (SitsDown peer asked e his allowed) n = absurd (subst (λ (x : Event). IsIdle id x) e (idle (ap client_in e ∙ ap (λ (m : ℕ). Some m) his)))
+  still_new w event id idle Cause s later (StopsFeeding mount e no_relay) n = elim n [ ]
+  still_new w event id idle Cause s later (ComesUp mount shown e above allowed) n = elim n [ ]
   still_new w event id idle Cause s later (Leaves _ e no_relay) n = absurd (subst (λ (x : Event). IsIdle id x) e (idle (ap client_in e)))
   still_new w event id idle Cause s later (GoesDown _ e relay) n = absurd (subst (λ (x : Event). IsIdle id x) e (idle (ap client_in e)))
   still_new w event id idle Cause s later (IsFinished _ rule c) n = IsOut rule
@@ -186,14 +194,27 @@ module _ (settings : Settings) (lists : Lists)
 
   silent_when_new : (w : World) (id : ℕ) (s : Standing) → standing_of w id ≡ s → IsNew s → (reply : Reply) → IdleReply w id reply
       → (reply ≡ Stray) ⊎ ((rule : Rule) × (reply ≡ Finished rule))
+  silent_when_new w id s e n (Arrived him) h = elim h [ ]
+  silent_when_new w id s e n Feeding h = elim h [ ]
+  silent_when_new w id s e n (Seated interval head) h = elim h [ ]
+  silent_when_new w id s e n (Text text) h = elim h [ ]
+  silent_when_new w id s e n (Deny rule) h = elim h [ ]
   silent_when_new w id s e n Stray IsStray = inl refl
   silent_when_new w id s e n (Finished rule) (WasFinished _) = inr (rule, refl)
   silent_when_new w id s e n (Drawn bytes title) (Sitting _ _ sits) = absurd (never s (sym sits ∙ e) n) where
     never : (s : Standing) → Sits ≡ s → IsNew s → ⊥
+    never Unknown d h = elim h [ ]
+    never (Feeds place) d h = elim h [ ]
+    never Sits d h = elim h [ ]
+    never Answered d h = elim h [ ]
     never (Undecided peer) d (AsksNothing _) = cc
     never (HasFinished rule) d (IsOut _) = cc
   silent_when_new w id s e n Noted (Sourcing mount feeds) = absurd (never s (sym feeds ∙ e) n) where
     never : (s : Standing) → Feeds mount ≡ s → IsNew s → ⊥
+    never Unknown d h = elim h [ ]
+    never (Feeds place) d h = elim h [ ]
+    never Sits d h = elim h [ ]
+    never Answered d h = elim h [ ]
     never (Undecided peer) d (AsksNothing _) = cc
     never (HasFinished rule) d (IsOut _) = cc
 
@@ -201,23 +222,23 @@ module _ (settings : Settings) (lists : Lists)
   pub idles : (w : World) (past : List Happening) (label id : ℕ) → Reached w → AreOn label id past → IsNew (standing_of w id)
       → Each (IsIdling id) (log_on w past label) → Waits id (world_after_all w (events_in past)) (log_on w past label)
   idles w [] label id r on new idle = record { new = new; silent = tt }
-  idles w (h ∷ past) label id r on new idle = by_label (is_number label h.label) refl idle where
-    abbrev later : World
-    later = world_after w h.event
+  idles w (h ∷ past) label id r on new idle =
+      by_label (idles (world_after w h.event) past label id (reached_after w h.event r) on.1) (is_number label h.label) refl idle where
+    goes : (client_in h.event ≡ Some id → IsIdle id h.event) → IsNew (standing_of (world_after w h.event) id)
+    goes his = still_new w h.event id his (Finishes w h.event id) (standing_of w id) (standing_of (world_after w h.event) id) (steps_at w h.event r id) new
 
-    goes : (client_in h.event ≡ Some id → IsIdle id h.event) → IsNew (standing_of later id)
-    goes his = still_new w h.event id his (Finishes w h.event id) (standing_of w id) (standing_of later id) (steps_at w h.event r id) new
-
-    by_label : (b : Bool) → is_number label h.label ≡ b → Each (IsIdling id) ((if b then entry w h.event ∷ [] else []) ++ log_on later past label)
-        → Waits id (world_after_all later (events_in past)) ((if b then entry w h.event ∷ [] else []) ++ log_on later past label)
-    by_label true e i =
-        let rest = idles later past label id (reached_after w h.event r) on.1 (goes (λ his. i.0)) i.1 in
+    by_label : (IsNew (standing_of (world_after w h.event) id) → Each (IsIdling id) (log_on (world_after w h.event) past label)
+        → Waits id (world_after_all (world_after w h.event) (events_in past)) (log_on (world_after w h.event) past label))
+        → (b : Bool) → is_number label h.label ≡ b → Each (IsIdling id) ((if b then entry w h.event ∷ [] else []) ++ log_on (world_after w h.event) past label)
+        → Waits id (world_after_all (world_after w h.event) (events_in past)) ((if b then entry w h.event ∷ [] else []) ++ log_on (world_after w h.event) past label)
+    by_label ih true e i =
+        let rest = ih (goes (λ his. i.0)) i.1 in
         record {
           new = rest.new;
           silent = (silent_when_new w id (standing_of w id) refl new (reply_to w h.event) (idle_reply w id h.event i.0), rest.silent);
         }
-    by_label false e i =
-        idles later past label id (reached_after w h.event r) on.1 (goes (λ his. let both : true ≡ false = sym (on.0 his) ∙ e in cc)) i
+    by_label ih false e i =
+        ih (goes (λ his. let both : true ≡ false = sym (on.0 his) ∙ e in cc)) i
 
   new_client : (w : World) (peer : Peer) (id : ℕ) → HasCome w id (Arrive peer) → IsNew (standing_of (world_after w (Arrive peer)) id)
   new_client w peer id (AsClient _ stands) = subst IsNew (sym stands) (AsksNothing peer)
@@ -227,23 +248,23 @@ module _ (settings : Settings) (lists : Lists)
       → log_on w past label ≡ record { event = Arrive peer; reply = Arrived id } ∷ idle → Each (IsIdling id) idle
       → IsNew (standing_of (world_after_all w (events_in past)) id) × Each IsSilent idle
   arrives_and_idles w [] label id peer idle r on e i = cc
-  arrives_and_idles w (h ∷ past) label id peer idle r on e i = by_label (is_number label h.label) e where
-    abbrev later : World
-    later = world_after w h.event
-
-    by_label : (b : Bool) → (if b then entry w h.event ∷ [] else []) ++ log_on later past label ≡ record { event = Arrive peer; reply = Arrived id } ∷ idle
-        → IsNew (standing_of (world_after_all later (events_in past)) id) × Each IsSilent idle
-    by_label true d =
+  arrives_and_idles w (h ∷ past) label id peer idle r on e i =
+      by_label (λ d. arrives_and_idles (world_after w h.event) past label id peer idle (reached_after w h.event r) on.1 d i) (is_number label h.label) e where
+    by_label : (log_on (world_after w h.event) past label ≡ record { event = Arrive peer; reply = Arrived id } ∷ idle
+        → IsNew (standing_of (world_after_all (world_after w h.event) (events_in past)) id) × Each IsSilent idle)
+        → (b : Bool) → (if b then entry w h.event ∷ [] else []) ++ log_on (world_after w h.event) past label ≡ record { event = Arrive peer; reply = Arrived id } ∷ idle
+        → IsNew (standing_of (world_after_all (world_after w h.event) (events_in past)) id) × Each IsSilent idle
+    by_label ih true d =
         let first : entry w h.event ≡ record { event = Arrive peer; reply = Arrived id } = cc in
-        let others : log_on later past label ≡ idle = cc in
+        let others : log_on (world_after w h.event) past label ≡ idle = cc in
         let event : h.event ≡ Arrive peer = ap (λ (x : Entry). x.event) first in
         let reply : reply_to w h.event ≡ Arrived id = ap (λ (x : Entry). x.reply) first in
         let come : HasCome w id (Arrive peer) = subst (λ (x : Event). HasCome w id x) event ((fits_at w h.event r).arrived id reply).0 in
-        let new : IsNew (standing_of later id) =
+        let new : IsNew (standing_of (world_after w h.event) id) =
         subst (λ (x : Event). IsNew (standing_of (world_after w x) id)) (sym event) (new_client w peer id come) in
-        let waits = idles later past label id (reached_after w h.event r) on.1 new (subst (Each (IsIdling id)) (sym others) i) in
+        let waits = idles (world_after w h.event) past label id (reached_after w h.event r) on.1 new (subst (Each (IsIdling id)) (sym others) i) in
         (waits.new, subst (Each IsSilent) others waits.silent)
-    by_label false d = arrives_and_idles later past label id peer idle (reached_after w h.event r) on.1 d i
+    by_label ih false d = ih d
 
   -- what holds of each event on each connection holds of each event in the course
   pub each_happening : (P : ℕ → Event → Type 0) (Q : Happening → Type 0) → ((label : ℕ) (event : Event) → P label event → Q (on label event))

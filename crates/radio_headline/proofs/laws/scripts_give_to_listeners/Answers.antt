@@ -15,12 +15,12 @@ returns c settings lists deliveries text stop transcript =
     let within = c.heads_lie_within.ensures.requests in
     let joined = c.blocks_are_the_data.ensures.joined in
     let places = c.pieces_are_joined.ensures.place in
-    let data = c.pieces_are_joined.ensures.found in
+    let found = c.pieces_are_joined.ensures.found in
     let fits = c.events_are_of_their_clients.ensures.own settings lists in
     let adds = c.clients_and_seats_add_up.ensures.add_up settings lists in
     let steps = c.clients_stand_by_their_events.ensures.steps settings lists in
-    let came = comes settings lists settled within joined places data deliveries [] (opening_script settings lists) transcript.0 [] [] 1 text stop
-        (nothing_stands settings lists settled within joined places data) transcript.1 in
+    let came = comes settings lists settled within joined places found deliveries [] (opening_script settings lists) transcript.0 [] [] 1 text stop
+        (nothing_stands settings lists settled within joined places found) transcript.1 in
     let stands = came.stands in
     (
       came.course,
