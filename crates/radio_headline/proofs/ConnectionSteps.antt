@@ -153,7 +153,7 @@ entries_each P w [] h = tt
 entries_each P w (e ∷ events) h = (h.0, entries_each P (world_after w e) events h.1)
 
 -- whose events they are
-idle_is_his : (id : ℕ) (event : Event) → IsIdle id event → client_in event ≡ Some id
+pub idle_is_his : (id : ℕ) (event : Event) → IsIdle id event → client_in event ≡ Some id
 idle_is_his id (Arrive peer) h = elim h [ ]
 idle_is_his id (Source asked) h = elim h [ ]
 idle_is_his id (Push him block) h = elim h [ ]
@@ -167,7 +167,7 @@ idle_is_his id (Clock ms) h = elim h [ ]
 idle_is_his id (Draw him room) h = ap (λ (n : ℕ). Some n) h
 idle_is_his id (Title him text) h = ap (λ (n : ℕ). Some n) h
 
-idle_asks_nothing : (id : ℕ) (event : Event) → IsIdle id event → AsksForMount event → ⊥
+pub idle_asks_nothing : (id : ℕ) (event : Event) → IsIdle id event → AsksForMount event → ⊥
 idle_asks_nothing id (Arrive peer) h a = elim h [ ]
 idle_asks_nothing id (Source asked) h a = elim h [ ]
 idle_asks_nothing id (Push him block) h a = elim h [ ]
@@ -181,7 +181,7 @@ idle_asks_nothing id (Clock ms) h a = elim h [ ]
 idle_asks_nothing id (Draw him room) h a = a
 idle_asks_nothing id (Title him text) h a = a
 
-idle_pushes_nothing : (id : ℕ) (event : Event) → IsIdle id event → PushesNothing event
+pub idle_pushes_nothing : (id : ℕ) (event : Event) → IsIdle id event → PushesNothing event
 idle_pushes_nothing id (Arrive peer) h = elim h [ ]
 idle_pushes_nothing id (Source asked) h = elim h [ ]
 idle_pushes_nothing id (Push him block) h = elim h [ ]
@@ -195,7 +195,7 @@ idle_pushes_nothing id (Clock ms) h = elim h [ ]
 idle_pushes_nothing id (Draw him room) h = refl
 idle_pushes_nothing id (Title him text) h = refl
 
-idle_is_behind : (id : ℕ) (event : Event) → IsIdle id event → IsBehindRequest id event
+pub idle_is_behind : (id : ℕ) (event : Event) → IsIdle id event → IsBehindRequest id event
 idle_is_behind id (Arrive peer) h = elim h [ ]
 idle_is_behind id (Source asked) h = elim h [ ]
 idle_is_behind id (Push him block) h = elim h [ ]
@@ -209,7 +209,7 @@ idle_is_behind id (Clock ms) h = elim h [ ]
 idle_is_behind id (Draw him room) h = h
 idle_is_behind id (Title him text) h = h
 
-behind_is_his : (id : ℕ) (event : Event) → IsBehindRequest id event → client_in event ≡ Some id
+pub behind_is_his : (id : ℕ) (event : Event) → IsBehindRequest id event → client_in event ≡ Some id
 behind_is_his id (Arrive peer) h = elim h [ ]
 behind_is_his id (Source asked) h = elim h [ ]
 behind_is_his id (Listen asked) h = elim h [ ]

@@ -45,7 +45,7 @@ use Rattle.radio_floor.specs.declared.labelled.Connection.{Connection}
 use Rattle.radio_floor.specs.declared.labelled.Connection.TheVariants.{Client, Relay}
 use Rattle.radio_floor.specs.declared.labelled.Labelled.{Labelled}
 use Rattle.radio_floor.specs.ScriptState.{ScriptState, Performed, AsksOn, ComesTo, ComesToClient, ComesToRelay, IsPerformed, at_fault, closes, connection_of, connection_unless}
-use Rattle.radio_floor.specs.ScriptState.{connects, exchanges, for_new_label, kept_unless, last_word, on_connection, told_lines, opening_script, opens, passed_over, pulled_on, relay_named, taken_in}
+use Rattle.radio_floor.specs.ScriptState.{connects, exchanges, for_new_label, kept_unless, last_word, on_connection, told_lines, opening_script, opens, passed_over, with_connection, pulled_on, relay_named, taken_in}
 use Rattle.radio_floor.specs.Transcript.{conduct, IsTranscriptOf}
 use Rattle.radio_headline.specs.Course.{Course, ComesToNoted, Happening, Happens, HappensOn, HappensThere, IsAsked, Noted, and_then, applied, arrivals, courses, events_in, noting, nothing_noted, on}
 use Rattle.radio_headline.specs.Course.{ComesTo as ComesToCourse}
@@ -77,6 +77,13 @@ numbers_then None log e has id h = number_behind id log (e ∷ []) (inl (by_repl
   by_reply Stray h = cc
 
 whose : (number : Option ℕ) (event : Event) (id : ℕ) → OfRelay number event → client_in event ≡ Some id → number ≡ Some id
+whose number (Arrive peer) id h e = elim h [ ]
+whose number (Source asked) id h e = elim h [ ]
+whose number (SourceEnd him) id h e = elim h [ ]
+whose number (Listen asked) id h e = elim h [ ]
+whose number (Command asked) id h e = elim h [ ]
+whose number (Leave him) id h e = elim h [ ]
+whose number (Clock ms) id h e = elim h [ ]
 whose number (Push him block) id h e = h ∙ e
 whose number (Title him text) id h e = h ∙ e
 whose number (Draw him room) id h e = h ∙ e
@@ -92,13 +99,20 @@ relay_owns_from number before (e ∷ log) has own = (
       (relay_owns_from (answered number e.reply).number (before ++ e ∷ []) log (numbers_then number before e has) own.1),
 )
 
-relay_owns : (log : List Entry) → OwnRelay None log → Each (IsOwn log) log
+pub relay_owns : (log : List Entry) → OwnRelay None log → Each (IsOwn log) log
 relay_owns log own = relay_owns_from None [] log (λ id h. cc) own
 
-relay_asks_nothing : (number : Option ℕ) (log : List Entry) → OwnRelay number log → Each AsksNothing log
+pub relay_asks_nothing : (number : Option ℕ) (log : List Entry) → OwnRelay number log → Each AsksNothing log
 relay_asks_nothing number [] own = tt
 relay_asks_nothing number (e ∷ log) own = (by_event e.event own.0, relay_asks_nothing (answered number e.reply).number log own.1) where
   by_event : (event : Event) → OfRelay number event → AsksForMount event → ⊥
+  by_event (Arrive peer) h a = elim h [ ]
+  by_event (Source asked) h a = elim h [ ]
+  by_event (SourceEnd him) h a = elim h [ ]
+  by_event (Listen asked) h a = elim h [ ]
+  by_event (Command asked) h a = elim h [ ]
+  by_event (Leave him) h a = elim h [ ]
+  by_event (Clock ms) h a = elim h [ ]
   by_event (RelayUp mount shown) h a = a
   by_event (Push him block) h a = a
   by_event (Title him text) h a = a
@@ -272,7 +286,7 @@ module _ (settings : Settings) (lists : Lists) (settled : IsSettled ShowsRequest
         → connection_of state.connections label ≡ found → (text : List ℕ)
         → (for_new_label state (connects state label relay) found).lines ≡ Some text
         → Next (Pull label mount) text (for_new_label state (connects state label relay) found).state
-    connects_next label mount relay (Some connection) known text told = cc
+    connects_next label mount wanted (Some connection) known text told = cc
     connects_next label mount None None known text told = cc
     connects_next label mount (Some relay) None known text told = record {
       happenings = [];
@@ -452,17 +466,17 @@ module _ (settings : Settings) (lists : Lists) (settled : IsSettled ShowsRequest
           → (standing : AnswerStanding) → pulled.standing ≡ standing → ComesOf Step pulling (items_of pulled.parts) standing state.world now ends w
           → (text : List ℕ) → (pulled_on state label now ends w).lines ≡ Some text
           → Next (To label (Data bytes)) text (pulled_on state label now ends w).state
-      takes_next bytes now ends w pulled is_pulled (AnswerGoesOn stage) e (after, brings, goes, so) text told =
-          let l = brings_lifts pulling.mount (items_of pulled.parts) pulling.number state.world w [] after brings in
+      takes_next bytes now ends w pulled is_pulled (AnswerGoesOn stage) e (later, brings, goes, so) text told =
+          let l = brings_lifts pulling.mount (items_of pulled.parts) pulling.number state.world w [] later brings in
           pulls_next label (Data bytes) pulling known now ends w l.events
-          (now, ends, pulled, is_pulled, subst (λ (x : AnswerStanding). ComesOf noting pulling (items_of pulled.parts) x (nothing_noted state.world) now ends (at w l.events))
-          (sym e) (after, l.lifted, goes, so))
+          (now, ends, (pulled, is_pulled, subst (λ (x : AnswerStanding). ComesOf noting pulling (items_of pulled.parts) x (nothing_noted state.world) now ends (at w l.events))
+          (sym e) (later, l.lifted, goes, so)))
           l.leads l.own (λ run. ap (λ (x : Pulling). x.number) so ∙ l.stands (sym goes ∙ run)) text told
       takes_next bytes now ends w pulled is_pulled (AnswerStops fault) e (goes, shut, so) text told =
           let d = down BadPull pulling.number state.world w [] goes in
           pulls_next label (Data bytes) pulling known now ends w d.events
-          (now, ends, pulled, is_pulled, subst (λ (x : AnswerStanding). ComesOf noting pulling (items_of pulled.parts) x (nothing_noted state.world) now ends (at w d.events))
-          (sym e) (d.lifted, shut, so))
+          (now, ends, (pulled, is_pulled, subst (λ (x : AnswerStanding). ComesOf noting pulling (items_of pulled.parts) x (nothing_noted state.world) now ends (at w d.events))
+          (sym e) (d.lifted, shut, so)))
           d.leads d.own (λ run. let both : Shut BadPull ≡ Running = sym shut ∙ run in cc) text told
 
       relay_next : (input : Input) (p : Performed) → ComesToRelay state label pulling input p → (text : List ℕ) → p.lines ≡ Some text
@@ -526,7 +540,7 @@ module _ (settings : Settings) (lists : Lists) (settled : IsSettled ShowsRequest
 
   -- a delivery is at fault: nothing happens
   module _ (state : ScriptState) where
-    FaultOf : Delivery → ScriptState → Type 0
+    abbrev FaultOf : Delivery → ScriptState → Type 0
     FaultOf delivery later = Happens state delivery [] × (later ≡ state)
 
     never_at_fault : {A : Type 0} (p : Performed) (text : List ℕ) → p.lines ≡ Some text → p.lines ≡ None → A
@@ -538,11 +552,11 @@ module _ (settings : Settings) (lists : Lists) (settled : IsSettled ShowsRequest
         never_at_fault p _ (ap (λ (x : Performed). x.lines) e) none
     opens_at_fault label peer (Some connection) known p e none = (ap (arrivals label peer) (sym known), ap (λ (x : Performed). x.state) e)
 
-    connects_at_fault : (label : ℕ) (mount : List ℕ) (relay : Option RelaySetting) (found : Option (Option Connection)) → (p : Performed)
-        → p ≡ for_new_label state (connects state label relay) found → p.lines ≡ None → FaultOf (Pull label mount) p.state
-    connects_at_fault label mount relay (Some connection) p e none = (refl, ap (λ (x : Performed). x.state) e)
+    connects_at_fault : (label : ℕ) (mount : List ℕ) (wanted : Option RelaySetting) (found : Option (Option Connection)) → (p : Performed)
+        → p ≡ for_new_label state (connects state label wanted) found → p.lines ≡ None → FaultOf (Pull label mount) p.state
+    connects_at_fault label mount wanted (Some connection) p e none = (refl, ap (λ (x : Performed). x.state) e)
     connects_at_fault label mount None None p e none = (refl, ap (λ (x : Performed). x.state) e)
-    connects_at_fault label mount (Some relay) None p e none = never_at_fault p _ (ap (λ (x : Performed). x.lines) e) none
+    connects_at_fault label mount (Some setting) None p e none = never_at_fault p _ (ap (λ (x : Performed). x.lines) e) none
 
     client_at_fault : {A : Type 0} (label : ℕ) (conversation : Conversation) (input : Input) (p : Performed) → ComesToClient state label conversation input p
         → p.lines ≡ None → A

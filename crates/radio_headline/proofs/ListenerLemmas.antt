@@ -24,7 +24,7 @@ use Rattle.radio_events.specs.declared.reply.StreamHead.{StreamHead}
 use Rattle.radio_events.specs.Events.{client_in}
 use Rattle.radio_icy.specs.Weaving.{Call}
 use Rattle.radio_core.specs.declared.standing.Standing.{Standing}
-use Rattle.radio_core.specs.declared.standing.Standing.TheVariants.{Undecided, Finished as HasFinished}
+use Rattle.radio_core.specs.declared.standing.Standing.TheVariants.{Unknown, Undecided, Feeds, Sits, Answered as IsAnswered, Finished as HasFinished}
 use Rattle.radio_core.specs.ClientSteps.{ClientsStep}
 use Rattle.radio_core.specs.Handing.{is_number, of_client}
 use Rattle.radio_core.specs.Others.{RepliesFit}
@@ -62,7 +62,7 @@ use Rattle.radio_headline.proofs.Logs.{Entry, entry, after_joined, entry_on, log
 use Rattle.radio_headline.proofs.AppliedLemmas.{IsLast, IsLeaving, IsOpen, IsOrderly, said_all, told_joined}
 use Rattle.radio_headline.proofs.ReplyForms.{IsIdle, ListenReply, IsOutOfPlace, HasFinished as IsFinishedReply, WasDenied, WasShown, WasSeated, listen_reply}
 use Rattle.radio_headline.proofs.RunLemmas.{HasNumber, IsOwn, IsIdling, IsNew, AsksNothing as IsUndecided, IsOut, AllNowhere, are_on_first, arrives_and_idles, each_happening, one_owner, reached_opening}
-use Rattle.radio_headline.proofs.Connections.{arrival, AsksForMount, AsksNothing, ByGet, Feeds, IsIdleOrLeaving, IsBehindRequest, IsNoRequest}
+use Rattle.radio_headline.proofs.Connections.{arrival, AsksForMount, AsksNothing, ByGet, Feeds as IsFeeding, IsIdleOrLeaving, IsBehindRequest, IsNoRequest}
 use Rattle.radio_headline.proofs.Connections.{Facts, HasAskedNothing, HasSentGet, IsSource, IsClosed, IsClient, IsRelay, IsSo, Stage, AtHead, AfterGet, AtBody, AfterBody, Refused}
 use Rattle.radio_headline.proofs.ConnectionSteps.{client_owns, idle_asks_nothing, idle_is_his}
 use Rattle.radio_headline.proofs.CourseLemmas.{relay_asks_nothing, relay_owns}
@@ -97,12 +97,30 @@ abbrev ListensNot : Entry → Type 0
 ListensNot e = IsListening e.event → ⊥
 
 listening_asks : (event : Event) → IsListening event → AsksForMount event
+listening_asks (Arrive peer) h = elim h [ ]
+listening_asks (Source asked) h = elim h [ ]
+listening_asks (Push him block) h = elim h [ ]
+listening_asks (SourceEnd him) h = elim h [ ]
+listening_asks (Title him text) h = elim h [ ]
+listening_asks (Draw him room) h = elim h [ ]
+listening_asks (Command asked) h = elim h [ ]
+listening_asks (Leave him) h = elim h [ ]
+listening_asks (RelayUp mount shown) h = elim h [ ]
+listening_asks (RelayDown him) h = elim h [ ]
+listening_asks (Clock ms) h = elim h [ ]
 listening_asks (Listen asked) h = tt
 
 nothing_listened : (log : List Entry) → Each AsksNothing log → Each ListensNot log
 nothing_listened log h = each_as AsksNothing ListensNot (λ e f l. f (listening_asks e.event l)) log h
 
 not_behind : (id : ℕ) (event : Event) → IsBehindRequest id event → IsListening event → ⊥
+not_behind id (Arrive peer) h l = elim h [ ]
+not_behind id (Source asked) h l = elim h [ ]
+not_behind id (Listen asked) h l = elim h [ ]
+not_behind id (Command asked) h l = elim h [ ]
+not_behind id (RelayUp mount shown) h l = elim h [ ]
+not_behind id (RelayDown him) h l = elim h [ ]
+not_behind id (Clock ms) h l = elim h [ ]
 not_behind id (Push him block) h l = l
 not_behind id (SourceEnd him) h l = l
 not_behind id (Title him text) h l = l
@@ -112,7 +130,7 @@ not_behind id (Leave him) h l = l
 idle_not : (id : ℕ) (e : Entry) → IsIdling id e → ListensNot e
 idle_not id e h l = idle_asks_nothing id e.event h (listening_asks e.event l)
 
-source_not : (bytes : List ℕ) (log : List Entry) → Feeds bytes log → Each ListensNot log
+source_not : (bytes : List ℕ) (log : List Entry) → IsFeeding bytes log → Each ListensNot log
 source_not bytes log f =
     subst (Each ListensNot) (sym f.in_order)
     ((λ l. l), each_joined ListensNot f.idle _ (each_as (IsIdling f.id) ListensNot (idle_not f.id) f.idle f.idles)
@@ -310,6 +328,10 @@ draws_gathered w (h ∷ past) label id on his =
 module _ (w : World) (asked : ListenRequest)
     (allowed : (peer : Peer) → standing_of w asked.id ≡ Undecided peer → verdict_in (rows_to_listen w asked) ≡ Allow → ⊥) where
   at_page : (path : WebPath) (s : Standing) → IsNew s → standing_of w asked.id ≡ s → (asks_by w asked (Some path)).reply ≡ Stray → ⊥
+  at_page path Unknown n d h = elim n [ ]
+  at_page path (Feeds mount) n d h = elim n [ ]
+  at_page path Sits n d h = elim n [ ]
+  at_page path IsAnswered n d h = elim n [ ]
   at_page path (Undecided peer) n e h =
       let d = sym (ap (λ (t : Standing). (if_undecided t (λ _. shows_page w asked path)).reply) e) ∙ h in cc
   at_page path (HasFinished rule) n e h =
@@ -319,6 +341,10 @@ module _ (w : World) (asked : ListenRequest)
   asks_then v peer = on_verdict v (Answer asked.id) (sits_where w.house asked peer (walks_to w.house w.seats asked.mount asked.pair))
 
   at_mount : (s : Standing) → IsNew s → standing_of w asked.id ≡ s → (asks_by w asked None).reply ≡ Stray → ⊥
+  at_mount Unknown n d h = elim n [ ]
+  at_mount (Feeds mount) n d h = elim n [ ]
+  at_mount Sits n d h = elim n [ ]
+  at_mount IsAnswered n d h = elim n [ ]
   at_mount (Undecided peer) n e h = by_verdict (verdict_in (rows_to_listen w asked)) refl where
     d : (asks_then (verdict_in (rows_to_listen w asked)) peer).reply ≡ Stray
     d = sym (ap (λ (t : Standing). (if_undecided t (asks_then (verdict_in (rows_to_listen w asked)))).reply) e) ∙ h
@@ -515,6 +541,10 @@ module _ (settings : Settings) (lists : Lists)
         told_as r e = told_behind ∙ ap (λ (x : Reply). told asking (x ∷ replies behind)) e
 
         by_reply : (r : Reply) → reply ≡ r → ListenReply r → IsGiven settings lists course w asked (given lines label) r
+        by_reply (Arrived him) e x = elim x [ ]
+        by_reply Feeding e x = elim x [ ]
+        by_reply (Drawn sound title) e x = elim x [ ]
+        by_reply Noted e x = elim x [ ]
         by_reply Stray e IsOutOfPlace =
             absurd (listens_in_place (events_in past) asked (standing_of w g.id) waits.0 (ap (standing_of w) his_number) e)
         by_reply (Finished rule) e (IsFinishedReply _) = IsTooLate rule (told_as (Finished rule) e)

@@ -33,7 +33,7 @@ pub fn draws_are_stretches()
 /// What each listener of a script is given: nothing, a denial by the first rule that held, what is at
 /// a path of the web site, or a head and his draws, whose data are slices.
 pub fn scripts_give_to_listeners()
-    ensures given { (settings : Settings) (lists : Lists) (deliveries : List Delivery) (text : List ℕ) (stop : Option ℕ)
+    ensures { (settings : Settings) (lists : Lists) (deliveries : List Delivery) (text : List ℕ) (stop : Option ℕ)
         → GivesToListeners settings lists deliveries text stop }
 {
     blocks_are_the_data();
