@@ -350,7 +350,7 @@ module _ (settled : IsSettled ShowsRequest) (within : HeadsLieWithin ShowsReques
       → IsReading ShowsRequest (bytes ++ more) (Ok (Whole request n))
   read_more bytes more request n reading = settled bytes more (Ok (Whole request n)) reading (λ e. cc)
 
-  more_for_get : (bytes more : List ℕ) (log : List Entry) (given : List ℕ) → ByGet bytes log given → ByGet (bytes ++ more) log given
+  pub more_for_get : (bytes more : List ℕ) (log : List Entry) (given : List ℕ) → ByGet bytes log given → ByGet (bytes ++ more) log given
   more_for_get bytes more log given g =
       get_with bytes (bytes ++ more) log log given given g (read_more bytes more g.request g.length g.reading) g.behind g.in_order g.no_more g.orderly g.is_told
 
@@ -363,7 +363,7 @@ module _ (settled : IsSettled ShowsRequest) (within : HeadsLieWithin ShowsReques
   more_data bytes more request n place reading =
       ap (data_of place) (behind_head bytes more request n reading) ∙ data_joined place (drop n bytes) more
 
-  more_for_source : (bytes more : List ℕ) (log : List Entry) → Feeds bytes log → Feeds (bytes ++ more) log
+  pub more_for_source : (bytes more : List ℕ) (log : List Entry) → Feeds bytes log → Feeds (bytes ++ more) log
   more_for_source bytes more log f =
       let later = data_of (after f.start (drop f.length bytes)) more in
       feeds_with bytes (bytes ++ more) log log f (read_more bytes more f.request f.length f.reading) f.behind f.in_order f.no_more f.orderly (f.rest ++ later)
@@ -376,7 +376,7 @@ module _ (settled : IsSettled ShowsRequest) (within : HeadsLieWithin ShowsReques
   more_facts bytes more log given (IsSource f) = IsSource (more_for_source bytes more log f)
 
   -- what a body is heard as
-  record Delivers (conversation : Conversation) (before : List Event) (place : Place) (bytes : List ℕ) (heard : Heard) : Type 0 where
+  pub record Delivers (conversation : Conversation) (before : List Event) (place : Place) (bytes : List ℕ) (heard : Heard) : Type 0 where
     pub asked : List Event
     pub events : heard.events ≡ before ++ asked
     pub each : EachAsked (IsBehindRequest conversation.id) asked
@@ -396,7 +396,7 @@ module _ (settled : IsSettled ShowsRequest) (within : HeadsLieWithin ShowsReques
   pushes_all : (id : ℕ) (bytes : List ℕ) → pushed (pushes id bytes) ≡ bytes
   pushes_all id bytes = blocks_pushed id (blocks_of bytes) ∙ joined bytes
 
-  delivers_by : (conversation : Conversation) (before : List Event) (place : Place) (bytes : List ℕ) (word : Option LastWord)
+  pub delivers_by : (conversation : Conversation) (before : List Event) (place : Place) (bytes : List ℕ) (word : Option LastWord)
       → Delivers conversation before place bytes (delivered conversation (before ++ pushes conversation.id (data_of place bytes)) (after place bytes) word)
   delivers_by conversation before place bytes None = record {
     asked = pushes conversation.id (data_of place bytes);

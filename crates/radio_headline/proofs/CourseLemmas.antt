@@ -131,7 +131,7 @@ pulled_so w bytes more log given pulling now events (Shut ending) r own stands =
     let all = own_joined None log (entries w events) r.own (subst (λ (n : Option ℕ). OwnRelay n (entries w events)) r.number own) in
     record { own = relay_owns (log ++ entries w events) all; facts = HasAskedNothing (relay_asks_nothing None (log ++ entries w events) all) }
 
-brought_joined : (deliveries more : List Delivery) (label : ℕ) → brought (deliveries ++ more) label ≡ brought deliveries label ++ brought more label
+pub brought_joined : (deliveries more : List Delivery) (label : ℕ) → brought (deliveries ++ more) label ≡ brought deliveries label ++ brought more label
 brought_joined deliveries more label = flat_map-append (brought_by label) deliveries more
 
 brought_here : (label : ℕ) (input : Input) → brought (To label input ∷ []) label ≡ bytes_in input

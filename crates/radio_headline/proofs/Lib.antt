@@ -9,3 +9,5 @@ mod LabelLemmas
 mod CourseLemmas
 mod DrawLemmas
 mod ListenerLemmas
+mod SourceLemmas
+mod BodyLemmas

@@ -77,7 +77,7 @@ get_is_of id request {asked} e = by_kind (is_for_commands (path_in request)) e w
   by_kind true e = cc
   by_kind false e = let his : Some id ≡ Some asked.id = ap client_in e in cc
 
-orderly_second : (id : ℕ) (log more : List Entry) → IsOrderly id (log ++ more) → IsOrderly id more
+pub orderly_second : (id : ℕ) (log more : List Entry) → IsOrderly id (log ++ more) → IsOrderly id more
 orderly_second id [] more h = h
 orderly_second id (e ∷ log) more h = orderly_second id log more h.1
 
@@ -139,7 +139,7 @@ source_not bytes log f =
 none_there : (before behind : List Entry) (e : Entry) → Each ListensNot (before ++ e ∷ behind) → IsListening e.event → ⊥
 none_there before behind e h l = (each_second ListensNot before (e ∷ behind) h).0 l
 
-no_entry : (before behind : List Entry) (e : Entry) → [] ≡ before ++ e ∷ behind → ⊥
+pub no_entry : (before behind : List Entry) (e : Entry) → [] ≡ before ++ e ∷ behind → ⊥
 no_entry [] behind e h = cc
 no_entry (x ∷ before) behind e h = cc
 
@@ -288,7 +288,7 @@ none_admitted id (e ∷ log) h fits = (
   asks e a (inr l) = subst AsksForMount l a
 
 -- the events of the client are those on his connection
-counts_as : (id : ℕ) (event : Event) → is_number id (client_in event) ≡ true → client_in event ≡ Some id
+pub counts_as : (id : ℕ) (event : Event) → is_number id (client_in event) ≡ true → client_in event ≡ Some id
 counts_as id event h = by_client (client_in event) refl where
   by_client : (c : Option ℕ) → client_in event ≡ c → client_in event ≡ Some id
   by_client None e = let no : false ≡ true = ap (is_number id) (sym e) ∙ h in cc
@@ -299,7 +299,7 @@ counts_as id event h = by_client (client_in event) refl where
 abbrev IsHisOrDrawsNothing : ℕ → Entry → Type 0
 IsHisOrDrawsNothing id e = (client_in e.event ≡ Some id) ⊎ DrawsNothing e
 
-abbrev IsOnIt : ℕ → ℕ → Happening → Type 0
+abbrev pub IsOnIt : ℕ → ℕ → Happening → Type 0
 IsOnIt label id h = client_in h.event ≡ Some id → is_number label h.label ≡ true
 
 draws_gathered : (w : World) (past : List Happening) (label id : ℕ) → AllByRecursion (IsOnIt label id) past
@@ -323,6 +323,30 @@ draws_gathered w (h ∷ past) label id on his =
         none (inr d) = d
   by_tests ih false e true f k = let no : true ≡ false = sym (on.0 (counts_as id h.event f)) ∙ e in cc
   by_tests ih false e false f k = ih k
+
+-- the events of clients come each on one connection
+module _ (settings : Settings) (lists : Lists)
+    (fits : (events : List Event) (event : Event) → RepliesFit (run_after settings lists events) event)
+    (adds : (events : List Event) (event : Event) → AddsUp (run_after settings lists events) event)
+    (steps : (events : List Event) (event : Event) → ClientsStep (run_after settings lists events) event)
+    (done : List Delivery) (last : ScriptState) (course : List Happening) (lines : List TranscriptLine)
+    (each : (label : ℕ) → IsSo (connection_of last.connections label) (brought done label) (log_on (opening settings lists) course label) (given lines label))
+    (nowhere : AllNowhere (λ h. client_in h.event ≡ None) course) where
+  -- the events of a client are on the connection on which he was given his number
+  none_nowhere : (label id : ℕ) (past : List Happening) → AllNowhere (λ h. client_in h.event ≡ None) past → AllNowhere (IsOnIt label id) past
+  none_nowhere label id [] h = tt
+  none_nowhere label id (x ∷ past) h =
+      ((λ e his. let both : None ≡ Some id = sym (h.0 e) ∙ his in cc), none_nowhere label id past h.1)
+
+  pub on_his : (label id : ℕ) → HasNumber id (log_on (opening settings lists) course label) → AllByRecursion (IsOnIt label id) course
+  on_his label id has =
+      each_happening settings lists fits adds steps (λ other event. (him : ℕ) → client_in event ≡ Some him → HasNumber him (log_on (opening settings lists) course other)) (IsOnIt label id)
+      (λ other event own his.
+      let same : other ≡ label = one_owner settings lists fits adds steps (opening settings lists) course other label id (reached_opening settings lists fits adds steps) (own id his) has in
+      ap (λ (n : ℕ). n == label) same ∙ itself label)
+      (opening settings lists) course
+      (λ other. so_owns (connection_of last.connections other) (brought done other) (log_on (opening settings lists) course other) (given lines other) (each other))
+      (none_nowhere label id course nowhere)
 
 -- who has asked for nothing yet, and asks to hear, is not out of place
 module _ (w : World) (asked : ListenRequest)
@@ -427,22 +451,6 @@ module _ (settings : Settings) (lists : Lists)
     abbrev log : ℕ → List Entry
     log label = log_on w0 course label
 
-    -- the events of a client are on the connection on which he was given his number
-    none_nowhere : (label id : ℕ) (past : List Happening) → AllNowhere (λ h. client_in h.event ≡ None) past → AllNowhere (IsOnIt label id) past
-    none_nowhere label id [] h = tt
-    none_nowhere label id (x ∷ past) h =
-        ((λ e his. let both : None ≡ Some id = sym (h.0 e) ∙ his in cc), none_nowhere label id past h.1)
-
-    on_his : (label id : ℕ) → HasNumber id (log label) → AllByRecursion (IsOnIt label id) course
-    on_his label id has =
-        each_happening settings lists fits adds steps (λ other event. (him : ℕ) → client_in event ≡ Some him → HasNumber him (log other)) (IsOnIt label id)
-        (λ other event own his.
-        let same : other ≡ label = one_owner settings lists fits adds steps w0 course other label id (reached_opening settings lists fits adds steps) (own id his) has in
-        ap (λ (n : ℕ). n == label) same ∙ itself label)
-        w0 course
-        (λ other. so_owns (connection_of last.connections other) (brought done other) (log other) (given lines other) (each other))
-        (none_nowhere label id course nowhere)
-
     module _ (label : ℕ) (asked : ListenRequest) (past later : List Happening) (parts : course ≡ past ++ on label (Listen asked) ∷ later) where
       abbrev w : World
       w = run_after settings lists (events_in past)
@@ -473,7 +481,7 @@ module _ (settings : Settings) (lists : Lists)
       has_number = subst (HasNumber g.id) (sym g.in_order) (inl refl)
 
       on_it : AllByRecursion (IsOnIt label g.id) course
-      on_it = on_his label g.id has_number
+      on_it = on_his settings lists fits adds steps done last course lines each nowhere label g.id has_number
 
       on_it_before : AllByRecursion (IsOnIt label g.id) past
       on_it_before = are_on_first settings lists fits adds steps label g.id past (on label (Listen asked) ∷ later)

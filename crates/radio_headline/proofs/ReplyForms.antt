@@ -8,7 +8,15 @@ use Rattle.radio_events.specs.declared.reply.Reply.{Reply}
 use Rattle.radio_events.specs.declared.reply.Reply.TheVariants.{Arrived, Feeding, Seated, Drawn, Noted, Text, Deny, Finished, Stray}
 use Rattle.radio_events.specs.declared.reply.StreamHead.{StreamHead}
 use Rattle.radio_events.specs.declared.text.Text.{Text as CommandText}
+use Rattle.radio_policy.specs.declared.judgement.Verdict.{Verdict}
+use Rattle.radio_policy.specs.declared.judgement.Verdict.TheVariants.{Allow, Deny as Denied}
+use Rattle.radio_policy.specs.Verdicts.{verdict_in}
+use Rattle.radio_core.specs.declared.outcome.Change.TheVariants.{Nothing}
 use Rattle.radio_core.specs.declared.outcome.Outcome.{Outcome}
+use Rattle.radio_core.specs.declared.standing.Standing.{Standing}
+use Rattle.radio_core.specs.Facts.{rows_to_push}
+use Rattle.radio_core.specs.Outcomes.{if_feeding, on_verdict}
+use Rattle.radio_core.specs.Push.{takes_in}
 use Rattle.radio_core.specs.declared.standing.Standing.TheVariants.{Feeds, Sits}
 use Rattle.radio_core.specs.Closing.{OfClient, OfRelay}
 use Rattle.radio_core.specs.Handing.{block_in}
@@ -170,3 +178,37 @@ leave_by w id o (Leaves him no_relay other) = IsNoted
 pub leave_reply : (w : World) (id : ℕ) → LeaveReply (reply_to w (Leave id))
 unfolding reply_to
 leave_reply w id = leave_by w id (outcome w (Leave id)) (way_of w (Leave id))
+
+-- how one may be replied who brings a block
+pub data PushReply (w : World) (id : ℕ) : Reply → Type 0 where
+  PushIsStray : PushReply w id Stray
+  PushIsLast : (rule : Rule) → PushReply w id (Finished rule)
+  PushIsDenied : (rule : Rule) → PushReply w id (Deny rule)
+  PushIsNoted : (mount : List ℕ) → standing_of w id ≡ Feeds mount → PushReply w id Noted
+
+push_by : (w : World) (id : ℕ) (block : List ℕ) (o : Outcome) → Way w (Push id block) o → PushReply w id o.reply
+push_by w id block o (Misplaced _) = PushIsStray
+push_by w id block o (IsFinished _ him by its known) = PushIsLast by
+push_by w id block o (IsDenied _ by v nobody) = PushIsDenied by
+push_by w id block o (IsRefused _ him by v its undecided) = PushIsDenied by
+push_by w id block o (Shows _ asker peer shown its undecided (IsListing listing l)) = let e = l.is_event in cc
+push_by w id block o (Shows _ asker peer shown its undecided (IsAtPath asked path e p)) = cc
+push_by w id block o (Obeys _ command c) = let e = c.is_event in cc
+push_by w id block o (EndsAndLeaves _ him mount closes feeding) = elim closes [ ]
+push_by w id block o (Receives _ mount _ feeding) = PushIsNoted mount feeding
+
+pub push_reply : (w : World) (id : ℕ) (block : List ℕ) → PushReply w id (reply_to w (Push id block))
+unfolding reply_to
+push_reply w id block = push_by w id block (outcome w (Push id block)) (way_of w (Push id block))
+
+-- a source's block is not out of place
+feeds_push_by : (w : World) (id : ℕ) (block mount : List ℕ) → (v : Verdict) → (on_verdict v Nothing (takes_in mount block)).reply ≡ Stray → ⊥
+feeds_push_by w id block mount Allow e = cc
+feeds_push_by w id block mount (Denied rule) e = cc
+
+pub feeds_push : (w : World) (id : ℕ) (block mount : List ℕ) → standing_of w id ≡ Feeds mount → reply_to w (Push id block) ≡ Stray → ⊥
+unfolding reply_to outcome
+feeds_push w id block mount e h =
+    feeds_push_by w id block mount (verdict_in (rows_to_push w.house mount block))
+    (sym (ap (λ (s : Standing). (if_feeding s (λ place.
+    on_verdict (verdict_in (rows_to_push w.house place block)) Nothing (takes_in place block))).reply) e) ∙ h)

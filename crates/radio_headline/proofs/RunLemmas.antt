@@ -103,11 +103,11 @@ module _ (settings : Settings) (lists : Lists)
   adds_at : (w : World) (event : Event) → Reached w → AddsUp w event
   adds_at w event (events, e) = subst (λ (x : World). AddsUp x event) (sym e) (adds events event)
 
-  steps_at : (w : World) (event : Event) → Reached w → ClientsStep w event
+  pub steps_at : (w : World) (event : Event) → Reached w → ClientsStep w event
   steps_at w event (events, e) = subst (λ (x : World). ClientsStep x event) (sym e) (steps events event)
 
   -- the last number does not go back
-  last_stays : (w : World) (event : Event) (id : ℕ) → Reached w → id ≤ w.house.last_id → id ≤ (world_after w event).house.last_id
+  pub last_stays : (w : World) (event : Event) (id : ℕ) → Reached w → id ≤ w.house.last_id → id ≤ (world_after w event).house.last_id
   last_stays w event id r below = let sum = (adds_at w event r).numbers in omega (arith, sum)
 
   -- a number that is given later is larger
@@ -128,7 +128,7 @@ module _ (settings : Settings) (lists : Lists)
     by_label ih true (inr t) = tail ih t
     by_label ih false t = tail ih t
 
-  given_here : (w : World) (event : Event) (id : ℕ) → Reached w → reply_to w event ≡ Arrived id → id ≤ (world_after w event).house.last_id
+  pub given_here : (w : World) (event : Event) (id : ℕ) → Reached w → reply_to w event ≡ Arrived id → id ≤ (world_after w event).house.last_id
   given_here w event id r e =
       let sum = (adds_at w event r).numbers in
       let one : numbers_given (reply_to w event) ≡ 1 = ap numbers_given e in
