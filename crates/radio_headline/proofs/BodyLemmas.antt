@@ -41,7 +41,7 @@ use Rattle.radio_headline.specs.Sources.{DeliversItsBody, IsRequest, brought, pu
 use Rattle.radio_headline.proofs.Logs.{Entry, entry, log_on, log_joined, Each, each_as, each_first, each_joined, each_second, itself}
 use Rattle.radio_headline.proofs.AppliedLemmas.{IsOrderly}
 use Rattle.radio_headline.proofs.ReplyForms.{IsIdle}
-use Rattle.radio_headline.proofs.RunLemmas.{AllNowhere, HasNumber, IsOwn, IsIdling, each_happening, one_owner, last_stays, reached_opening, reached_after, reached_all}
+use Rattle.radio_headline.proofs.RunLemmas.{AllNowhere, IsMoment, HasNumber, IsOwn, IsIdling, each_happening, one_owner, last_stays, reached_opening, reached_after, reached_all}
 use Rattle.radio_headline.proofs.Connections.{arrival, AsksForMount, AsksNothing, ByGet, Feeds, IsIdleOrLeaving, IsBehindRequest, IsNoRequest, events_of}
 use Rattle.radio_headline.proofs.Connections.{Facts, HasAskedNothing, HasSentGet, IsSource, IsClosed, IsClient, IsRelay, IsSo, Stage, AtHead, AfterGet, AtBody, AfterBody, Refused}
 use Rattle.radio_headline.proofs.ConnectionSteps.{Delivers, behind_is_his, delivers_by, idle_asks_nothing, idle_is_his, idle_pushes_nothing, more_for_source}
@@ -220,7 +220,7 @@ module _ (settled : IsSettled ShowsRequest) (within : HeadsLieWithin ShowsReques
       (steps : (events : List Event) (event : Event) → ClientsStep (run_after settings lists events) event)
       (deliveries done rest : List Delivery) (all : deliveries ≡ done ++ rest) (last : ScriptState) (course : List Happening) (lines : List TranscriptLine)
       (each : (label : ℕ) → IsSo (connection_of last.connections label) (brought done label) (log_on (opening settings lists) course label) (given lines label))
-      (nowhere : AllNowhere (λ h. client_in h.event ≡ None) course) where
+      (nowhere : AllNowhere (λ h. IsMoment h.event) course) where
     abbrev w0 : World
     w0 = opening settings lists
 

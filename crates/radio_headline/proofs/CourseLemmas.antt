@@ -53,7 +53,7 @@ use Rattle.radio_headline.specs.Sources.{brought, brought_by, bytes_in, pushed}
 use Rattle.radio_headline.proofs.Logs.{Entry, entry, entries, log_on, log_joined, log_here, log_elsewhere, Each, each_as, each_joined, after_joined, events_joined, events_on, itself, other_number}
 use Rattle.radio_headline.proofs.AppliedLemmas.{applied_lead}
 use Rattle.radio_headline.proofs.RelayLogs.{OfRelay, OwnRelay, Lifts, Downs, at, asks_lifts, brings_lifts, down, number_after, number_joined, number_stays, own_joined, sound_of_items}
-use Rattle.radio_headline.proofs.RunLemmas.{AllNowhere, HasNumber, IsOwn, number_before, number_behind}
+use Rattle.radio_headline.proofs.RunLemmas.{AllNowhere, IsMoment, HasNumber, IsOwn, number_before, number_behind}
 use Rattle.radio_headline.proofs.Connections.{AsksNothing, HasAskedNothing, Facts, IsClosed, IsClient, IsRelay, IsSo, IsTold, AsksForMount, AtHead, arrival}
 use Rattle.radio_headline.proofs.ConnectionSteps.{data_come, idle_comes, end_comes, more_facts}
 use Rattle.radio_headline.proofs.LabelLemmas.{answer, answer_here, answer_elsewhere, answer_written, given_joined, opened_here, opened_elsewhere, with_here, with_elsewhere, written_joined}
@@ -152,14 +152,14 @@ module _ (settings : Settings) (lists : Lists) (settled : IsSettled ShowsRequest
   pub record Stands (done : List Delivery) (state : ScriptState) (past : List Happening) (lines : List TranscriptLine) : Type 0 where
     pub world : state.world ≡ run_after settings lists (events_in past)
     pub each : (label : ℕ) → IsSo (connection_of state.connections label) (brought done label) (log_on w0 past label) (given lines label)
-    pub nowhere : AllNowhere (λ h. client_in h.event ≡ None) past
+    pub nowhere : AllNowhere (λ h. IsMoment h.event) past
 
-  nowhere_joined : (past more : List Happening) → AllNowhere (λ h. client_in h.event ≡ None) past → AllNowhere (λ h. client_in h.event ≡ None) more
-      → AllNowhere (λ h. client_in h.event ≡ None) (past ++ more)
+  nowhere_joined : (past more : List Happening) → AllNowhere (λ h. IsMoment h.event) past → AllNowhere (λ h. IsMoment h.event) more
+      → AllNowhere (λ h. IsMoment h.event) (past ++ more)
   nowhere_joined [] more h k = k
   nowhere_joined (x ∷ past) more h k = (h.0, nowhere_joined past more h.1 k)
 
-  nowhere_on : (label : ℕ) (events : List Event) → AllNowhere (λ h. client_in h.event ≡ None) (map (on label) events)
+  nowhere_on : (label : ℕ) (events : List Event) → AllNowhere (λ h. IsMoment h.event) (map (on label) events)
   nowhere_on label [] = tt
   nowhere_on label (event ∷ events) = ((λ e. cc), nowhere_on label events)
 
@@ -326,7 +326,7 @@ module _ (settings : Settings) (lists : Lists) (settled : IsSettled ShowsRequest
             (sym (brought_joined done (ClockIs ms ∷ []) label ∙ append-nil (brought done label)))
             (sym (log_joined w0 past (record { label = None; event = Clock ms } ∷ []) label ∙ append-nil (log_on w0 past label)))
             (ap (λ (xs : List TranscriptLine). given xs label) (sym (append-nil lines))) (s.each label);
-        nowhere = nowhere_joined past (record { label = None; event = Clock ms } ∷ []) s.nowhere ((λ e. refl), tt);
+        nowhere = nowhere_joined past (record { label = None; event = Clock ms } ∷ []) s.nowhere ((λ e. tt), tt);
       };
     } where
       the_text : Some [] ≡ Some text → [] ≡ text

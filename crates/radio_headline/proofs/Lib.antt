@@ -11,3 +11,4 @@ mod DrawLemmas
 mod ListenerLemmas
 mod SourceLemmas
 mod BodyLemmas
+mod SittingLemmas

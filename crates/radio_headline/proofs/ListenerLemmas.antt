@@ -61,7 +61,7 @@ use Rattle.radio_headline.specs.Sources.{brought}
 use Rattle.radio_headline.proofs.Logs.{Entry, entry, after_joined, entry_on, log_on, log_joined, replies, replies_joined, Each, each_as, each_first, each_joined, each_second, itself}
 use Rattle.radio_headline.proofs.AppliedLemmas.{IsLast, IsLeaving, IsOpen, IsOrderly, said_all, told_joined}
 use Rattle.radio_headline.proofs.ReplyForms.{IsIdle, ListenReply, IsOutOfPlace, HasFinished as IsFinishedReply, WasDenied, WasShown, WasSeated, listen_reply}
-use Rattle.radio_headline.proofs.RunLemmas.{HasNumber, IsOwn, IsIdling, IsNew, AsksNothing as IsUndecided, IsOut, AllNowhere, are_on_first, arrives_and_idles, each_happening, one_owner, reached_opening}
+use Rattle.radio_headline.proofs.RunLemmas.{HasNumber, IsOwn, IsIdling, IsNew, AsksNothing as IsUndecided, IsOut, AllNowhere, IsMoment, moments_are_nobodys, are_on_first, arrives_and_idles, each_happening, one_owner, reached_opening}
 use Rattle.radio_headline.proofs.Connections.{arrival, AsksForMount, AsksNothing, ByGet, Feeds as IsFeeding, IsIdleOrLeaving, IsBehindRequest, IsNoRequest}
 use Rattle.radio_headline.proofs.Connections.{Facts, HasAskedNothing, HasSentGet, IsSource, IsClosed, IsClient, IsRelay, IsSo, Stage, AtHead, AfterGet, AtBody, AfterBody, Refused}
 use Rattle.radio_headline.proofs.ConnectionSteps.{client_owns, idle_asks_nothing, idle_is_his}
@@ -331,12 +331,12 @@ module _ (settings : Settings) (lists : Lists)
     (steps : (events : List Event) (event : Event) → ClientsStep (run_after settings lists events) event)
     (done : List Delivery) (last : ScriptState) (course : List Happening) (lines : List TranscriptLine)
     (each : (label : ℕ) → IsSo (connection_of last.connections label) (brought done label) (log_on (opening settings lists) course label) (given lines label))
-    (nowhere : AllNowhere (λ h. client_in h.event ≡ None) course) where
+    (nowhere : AllNowhere (λ h. IsMoment h.event) course) where
   -- the events of a client are on the connection on which he was given his number
-  none_nowhere : (label id : ℕ) (past : List Happening) → AllNowhere (λ h. client_in h.event ≡ None) past → AllNowhere (IsOnIt label id) past
+  none_nowhere : (label id : ℕ) (past : List Happening) → AllNowhere (λ h. IsMoment h.event) past → AllNowhere (IsOnIt label id) past
   none_nowhere label id [] h = tt
   none_nowhere label id (x ∷ past) h =
-      ((λ e his. let both : None ≡ Some id = sym (h.0 e) ∙ his in cc), none_nowhere label id past h.1)
+      ((λ e his. let both : None ≡ Some id = sym (moments_are_nobodys x.event (h.0 e)) ∙ his in cc), none_nowhere label id past h.1)
 
   pub on_his : (label id : ℕ) → HasNumber id (log_on (opening settings lists) course label) → AllByRecursion (IsOnIt label id) course
   on_his label id has =
@@ -444,7 +444,7 @@ module _ (settings : Settings) (lists : Lists)
       (done : List Delivery) (last : ScriptState) (course : List Happening) (lines : List TranscriptLine)
       (world : last.world ≡ run_after settings lists (events_in course))
       (each : (label : ℕ) → IsSo (connection_of last.connections label) (brought done label) (log_on (opening settings lists) course label) (given lines label))
-      (nowhere : AllNowhere (λ h. client_in h.event ≡ None) course) where
+      (nowhere : AllNowhere (λ h. IsMoment h.event) course) where
     abbrev w0 : World
     w0 = opening settings lists
 

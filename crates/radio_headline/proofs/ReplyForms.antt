@@ -21,7 +21,9 @@ use Rattle.radio_core.specs.declared.standing.Standing.TheVariants.{Feeds, Sits}
 use Rattle.radio_core.specs.Closing.{OfClient, OfRelay}
 use Rattle.radio_core.specs.Handing.{block_in}
 use Rattle.radio_core.specs.Pages.{IsListing, IsAtPath}
-use Rattle.radio_core.specs.Step.{outcome, reply_to}
+use Rattle.radio_core.specs.Changes.{changed}
+use Rattle.radio_core.specs.Step.{outcome, reply_to, world_after}
+use Rattle.radio_settings.specs.declared.field.Shown.{Shown}
 use Rattle.radio_core.specs.Ways.{Way, Misplaced, IsFinished, IsDenied, IsRefused, IsAdmitted, Begins, ComesUp, Receives, SetsTitle, TakesSeat, HandsOut, Ends}
 use Rattle.radio_core.specs.Ways.{EndsAndLeaves, Leaves, GoesDown, Obeys, Shows, HasPassed, Ticks, IsUndecided}
 use Rattle.radio_core.specs.World.{World, standing_of}
@@ -212,3 +214,23 @@ feeds_push w id block mount e h =
     feeds_push_by w id block mount (verdict_in (rows_to_push w.house mount block))
     (sym (ap (λ (s : Standing). (if_feeding s (λ place.
     on_verdict (verdict_in (rows_to_push w.house place block)) Nothing (takes_in place block))).reply) e) ∙ h)
+
+-- a relay that comes up has the next number, or nothing changes
+up_by : (w : World) (mount : List ℕ) (shown : Shown) (o : Outcome) → Way w (RelayUp mount shown) o
+    → (o.reply ≡ Arrived (w.house.last_id + 1)) ⊎ (o.change ≡ Nothing)
+up_by w mount shown o (Misplaced _) = inr refl
+up_by w mount shown o (IsFinished _ him by its known) = inr refl
+up_by w mount shown o (IsDenied _ by v nobody) = inr refl
+up_by w mount shown o (IsRefused _ him by v its undecided) = cc
+up_by w mount shown o (Shows _ asker peer text its undecided what) = cc
+up_by w mount shown o (Obeys _ command c) = let e = c.is_event in cc
+up_by w mount shown o (EndsAndLeaves _ him place closes feeding) = elim closes [ ]
+up_by w mount shown o (ComesUp _ _ none allowed) = inl refl
+
+pub comes_up : (w : World) (mount : List ℕ) (shown : Shown)
+    → (reply_to w (RelayUp mount shown) ≡ Arrived (w.house.last_id + 1)) ⊎ (world_after w (RelayUp mount shown) ≡ w)
+unfolding reply_to world_after
+comes_up w mount shown = elim (up_by w mount shown (outcome w (RelayUp mount shown)) (way_of w (RelayUp mount shown))) [
+  | inl e ↦ inl e
+  | inr e ↦ inr (ap (changed w) e)
+]

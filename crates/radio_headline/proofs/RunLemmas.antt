@@ -8,7 +8,7 @@ use Rattle.radio_settings.specs.declared.settings.Settings.{Settings}
 use Rattle.radio_access.specs.Lists.{Lists}
 use Rattle.radio_policy.specs.declared.rule.Rule.{Rule}
 use Rattle.radio_events.specs.declared.event.Event.{Event}
-use Rattle.radio_events.specs.declared.event.Event.TheVariants.{Arrive, Source, Listen, Draw, Title, Leave, RelayDown}
+use Rattle.radio_events.specs.declared.event.Event.TheVariants.{Arrive, Source, Push, SourceEnd, Title, Listen, Draw, Command, Leave, RelayUp, RelayDown, Clock}
 use Rattle.radio_events.specs.declared.reply.Reply.{Reply}
 use Rattle.radio_events.specs.declared.reply.Reply.TheVariants.{Arrived, Feeding, Seated, Drawn, Noted, Text, Deny, Finished, Stray}
 use Rattle.radio_events.specs.Events.{client_in}
@@ -51,6 +51,25 @@ IsOwn log e = (id : ℕ) → client_in e.event ≡ Some id → HasNumber id log
 
 pub own_before : (log more : List Entry) (e : Entry) → IsOwn log e → IsOwn (log ++ more) e
 own_before log more e h id his = number_before id log more (h id his)
+
+-- the moment is told
+abbrev pub IsMoment : Event → Type 0
+IsMoment (Clock ms) = Unit {0}
+IsMoment event = ⊥
+
+pub moments_are_nobodys : (event : Event) → IsMoment event → client_in event ≡ None
+moments_are_nobodys (Arrive peer) h = elim h [ ]
+moments_are_nobodys (Source asked) h = elim h [ ]
+moments_are_nobodys (Push id block) h = elim h [ ]
+moments_are_nobodys (SourceEnd id) h = elim h [ ]
+moments_are_nobodys (Title id text) h = elim h [ ]
+moments_are_nobodys (Listen asked) h = elim h [ ]
+moments_are_nobodys (Draw id room) h = elim h [ ]
+moments_are_nobodys (Command asked) h = elim h [ ]
+moments_are_nobodys (Leave id) h = elim h [ ]
+moments_are_nobodys (RelayUp mount shown) h = elim h [ ]
+moments_are_nobodys (RelayDown id) h = elim h [ ]
+moments_are_nobodys (Clock ms) h = refl
 
 -- of those that come on no connection
 abbrev pub AllNowhere : (Happening → Type 0) → List Happening → Type 0
