@@ -11,6 +11,7 @@ use Rattle.radio_access.specs.Lists.{Lists}
 use Rattle.radio_policy.specs.declared.rule.Rule.TheVariants.{BadMethod}
 use Rattle.radio_events.specs.declared.event.Event.{Event}
 use Rattle.radio_events.specs.declared.event.Event.TheVariants.{Arrive, Source, Push, SourceEnd, Title, Listen, Draw, Command, Leave, RelayUp, RelayDown, Clock}
+use Rattle.radio_events.specs.declared.event.ListenRequest.{ListenRequest}
 use Rattle.radio_events.specs.declared.event.SourceRequest.{SourceRequest}
 use Rattle.radio_events.specs.declared.reply.Reply.{Reply}
 use Rattle.radio_events.specs.declared.reply.Reply.TheVariants.{Arrived}
@@ -44,9 +45,9 @@ use Rattle.radio_headline.proofs.ReplyForms.{IsIdle}
 use Rattle.radio_headline.proofs.RunLemmas.{AllNowhere, IsMoment, HasNumber, IsOwn, IsIdling, each_happening, one_owner, last_stays, reached_opening, reached_after, reached_all}
 use Rattle.radio_headline.proofs.Connections.{arrival, AsksForMount, AsksNothing, ByGet, Feeds, IsIdleOrLeaving, IsBehindRequest, IsNoRequest, events_of}
 use Rattle.radio_headline.proofs.Connections.{Facts, HasAskedNothing, HasSentGet, IsSource, IsClosed, IsClient, IsRelay, IsSo, Stage, AtHead, AfterGet, AtBody, AfterBody, Refused}
-use Rattle.radio_headline.proofs.ConnectionSteps.{Delivers, behind_is_his, delivers_by, idle_asks_nothing, idle_is_his, idle_pushes_nothing, more_for_source}
+use Rattle.radio_headline.proofs.ConnectionSteps.{Delivers, behind_is_his, delivers_by, idle_asks_nothing, idle_is_his, idle_pushes_nothing, more_for_get, more_for_source}
 use Rattle.radio_headline.proofs.CourseLemmas.{brought_joined, relay_asks_nothing}
-use Rattle.radio_headline.proofs.ListenerLemmas.{IsOnIt, no_entry, on_his, orderly_second, so_owns}
+use Rattle.radio_headline.proofs.ListenerLemmas.{IsOnIt, by_get, get_is_of, no_entry, on_his, orderly_second, parted_at_get, so_owns}
 use Rattle.radio_headline.proofs.SourceLemmas.{Front, IsHisOrNotesNothing, NotesNothing, brings_front, delivered_gathered, given_before, no_block, noted, noted_of, nothing_noted}
 
 -- by this event a mount is asked for, to feed it
@@ -330,3 +331,23 @@ module _ (settled : IsSettled ShowsRequest) (within : HeadsLieWithin ShowsReques
                 ∙ append_assoc (noted behind) front.rest whole.rest
                 ∙ ap (λ (xs : List ℕ). xs ++ (front.rest ++ whole.rest)) (sym all_noted);
           }
+
+    -- and so is what a listener asks for heard
+    module _ (label : ℕ) (asked : ListenRequest) (past later : List Happening) (parts : course ≡ past ++ on label (Listen asked) ∷ later) where
+      pub listens_so : IsRequest (brought deliveries label) asked.id (Listen asked) []
+      listens_so =
+          let w = run_after settings lists (events_in past) in
+          let before = log_on w0 past label in
+          let behind = log_on (world_after w (Listen asked)) later label in
+          let in_order : log label ≡ before ++ entry w (Listen asked) ∷ behind =
+          ap (λ (hs : List Happening). log_on w0 hs label) parts ∙ log_joined w0 past (on label (Listen asked) ∷ later) label
+          ∙ ap (λ (b : Bool). before ++ ((if b then entry w (Listen asked) ∷ [] else []) ++ behind)) (itself label) in
+          let first = by_get (brought done label) (log label) (given lines label) before behind (entry w (Listen asked)) in_order tt
+          (connection_of last.connections label) (each label) in
+          let g = more_for_get settled within joined places data_joined (brought done label) (brought rest label) (log label) (given lines label) first in
+          let p = parted_at_get (brought done label ++ brought rest label) (log label) (given lines label) g before behind (entry w (Listen asked)) in_order tt in
+          let number : asked.id ≡ g.id = get_is_of g.id g.request (sym p) in
+          subst (λ (bytes : List ℕ). IsRequest bytes asked.id (Listen asked) []) (sym (brought_joined done rest label) ∙ ap (λ (ds : List Delivery). brought ds label) (sym all))
+          (subst (λ (e : Event). IsRequest (brought done label ++ brought rest label) asked.id e []) (sym p)
+          (subst (λ (n : ℕ). IsRequest (brought done label ++ brought rest label) n (asks_by_get g.id g.request) []) (sym number)
+          (heard_get (brought done label ++ brought rest label) (log label) (given lines label) g)))

@@ -12,3 +12,4 @@ mod ListenerLemmas
 mod SourceLemmas
 mod BodyLemmas
 mod SittingLemmas
+mod HeadlineLemmas

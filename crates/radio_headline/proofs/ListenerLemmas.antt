@@ -39,7 +39,8 @@ use Rattle.radio_core.specs.Step.{outcome, reply_to, world_after}
 use Rattle.radio_core.specs.Totals.{AddsUp}
 use Rattle.radio_core.specs.World.{World, opening, standing_of}
 use Rattle.radio_laws.specs.Access.{AccessIsKept}
-use Rattle.radio_laws.specs.Admission.{BeginsAtABlock}
+use Rattle.radio_laws.specs.Admission.{BeginsAtABlock, IsSeated}
+use Rattle.radio_laws.specs.Stretches.{sittings}
 use Rattle.radio_laws.specs.Denials.{DenialsAreThePolicys}
 use Rattle.radio_laws.specs.Service.{Serves}
 use Rattle.radio_heads.specs.Head.{RequestParts}
@@ -56,8 +57,8 @@ use Rattle.radio_floor.specs.ScriptState.{ScriptState, connection_of}
 use Rattle.radio_script.specs.declared.delivery.Delivery.{Delivery}
 use Rattle.radio_script.specs.Given.{TranscriptLine, given}
 use Rattle.radio_headline.specs.Course.{Happening, events_in, on}
-use Rattle.radio_headline.specs.Listeners.{DrawsAreStretches, Hears, IsDenied, IsGiven, IsShown, IsTooLate, draws_to}
-use Rattle.radio_headline.specs.Sources.{brought}
+use Rattle.radio_headline.specs.Listeners.{DrawsAreStretches, SitsWithASource, Hears, IsDenied, IsGiven, IsShown, IsTooLate, draws_to}
+use Rattle.radio_headline.specs.Sources.{HasItsSource, brought}
 use Rattle.radio_headline.proofs.Logs.{Entry, entry, after_joined, entry_on, log_on, log_joined, replies, replies_joined, Each, each_as, each_first, each_joined, each_second, itself}
 use Rattle.radio_headline.proofs.AppliedLemmas.{IsLast, IsLeaving, IsOpen, IsOrderly, said_all, told_joined}
 use Rattle.radio_headline.proofs.ReplyForms.{IsIdle, ListenReply, IsOutOfPlace, HasFinished as IsFinishedReply, WasDenied, WasShown, WasSeated, listen_reply}
@@ -71,7 +72,7 @@ idle_or_leaving_is_his : (id : ℕ) (e : Entry) → IsIdleOrLeaving id e → cli
 idle_or_leaving_is_his id e (inl h) = idle_is_his id e.event h
 idle_or_leaving_is_his id e (inr h) = ap client_in h
 
-get_is_of : (id : ℕ) (request : RequestParts) {asked : ListenRequest} → asks_by_get id request ≡ Listen asked → asked.id ≡ id
+pub get_is_of : (id : ℕ) (request : RequestParts) {asked : ListenRequest} → asks_by_get id request ≡ Listen asked → asked.id ≡ id
 get_is_of id request {asked} e = by_kind (is_for_commands (path_in request)) e where
   by_kind : (b : Bool) → (if b then gives_command id request (path_in request) else asks_to_hear id request (path_in request)) ≡ Listen asked → asked.id ≡ id
   by_kind true e = cc
@@ -89,7 +90,7 @@ so_owns (Some (Some (Client conversation))) bytes log given h = client_owns conv
 so_owns (Some (Some (Relay pulling))) bytes log given h = relay_owns log h.own
 
 -- by this event a mount is asked for, to hear it
-abbrev IsListening : Event → Type 0
+abbrev pub IsListening : Event → Type 0
 IsListening (Listen asked) = Unit {0}
 IsListening event = ⊥
 
@@ -190,6 +191,14 @@ parted (x ∷ xs) (y ∷ ys) cs ds e a h l none later =
     let others : xs ++ e ∷ cs ≡ ys ++ a ∷ ds = cc in
     let p = parted xs ys cs ds e a others l none.1 later in
     record { before = ap (λ (z : Entry). z ∷ xs) first ∙ ap (λ (zs : List Entry). y ∷ zs) p.before; here = p.here; behind = p.behind }
+
+-- what was asked for was asked for by that GET
+pub parted_at_get : (bytes : List ℕ) (log : List Entry) (given : List ℕ) (g : ByGet bytes log given) (before behind : List Entry) (e : Entry)
+    → log ≡ before ++ e ∷ behind → IsListening e.event → e.event ≡ asks_by_get g.id g.request
+parted_at_get bytes log given g before behind e parts l =
+    ap (λ (x : Entry). x.event) (parted before (arrival g.peer g.id ∷ g.idle) behind g.behind e _ (sym parts ∙ g.in_order) l
+    ((λ k. k), each_as (IsIdling g.id) ListensNot (idle_not g.id) g.idle g.idles)
+    (each_as (IsIdleOrLeaving g.id) ListensNot (idle_or_leaving_not g.id) g.behind g.no_more)).here
 
 -- nothing was told while he waited
 abbrev IsMute : Entry → Type 0
@@ -444,7 +453,12 @@ module _ (settings : Settings) (lists : Lists)
       (done : List Delivery) (last : ScriptState) (course : List Happening) (lines : List TranscriptLine)
       (world : last.world ≡ run_after settings lists (events_in course))
       (each : (label : ℕ) → IsSo (connection_of last.connections label) (brought done label) (log_on (opening settings lists) course label) (given lines label))
-      (nowhere : AllNowhere (λ h. IsMoment h.event) course) where
+      (nowhere : AllNowhere (λ h. IsMoment h.event) course)
+      (deliveries : List Delivery)
+      (shown_by_source : (past : List Happening) (interval : Option ℕ) (head : StreamHead) (asked : ListenRequest) (rest : List Happening) → course ≡ past ++ rest
+      → (s : IsSeated (run_after settings lists (events_in past)) (Listen asked) interval head)
+      → HasItsSource settings lists deliveries course s.session.mount s.session.number head.shown)
+      (sit : (id : ℕ) → AllByRecursion (SitsWithASource settings lists deliveries course) (sittings (opening settings lists) (events_in course) id)) where
     abbrev w0 : World
     w0 = opening settings lists
 
@@ -543,12 +557,12 @@ module _ (settings : Settings) (lists : Lists)
                 (inr refl, each_as IsMute (IsHisOrDrawsNothing g.id) (λ e m. inr (mute_draws e m)) g.idle waits.1))
                 (inr none_here, each_as (IsIdleOrLeaving g.id) (IsHisOrDrawsNothing g.id) (λ e h. inl (idle_or_leaving_is_his g.id e h)) behind idle_behind))
 
-      pub given_by : IsGiven settings lists course w asked (given lines label) reply
+      pub given_by : IsGiven settings lists deliveries course w asked (given lines label) reply
       given_by = by_reply reply refl (listen_reply w asked) where
         told_as : (r : Reply) → reply ≡ r → (given lines label) ≡ told asking (r ∷ replies behind)
         told_as r e = told_behind ∙ ap (λ (x : Reply). told asking (x ∷ replies behind)) e
 
-        by_reply : (r : Reply) → reply ≡ r → ListenReply r → IsGiven settings lists course w asked (given lines label) r
+        by_reply : (r : Reply) → reply ≡ r → ListenReply r → IsGiven settings lists deliveries course w asked (given lines label) r
         by_reply (Arrived him) e x = elim x [ ]
         by_reply Feeding e x = elim x [ ]
         by_reply (Drawn sound title) e x = elim x [ ]
@@ -561,6 +575,8 @@ module _ (settings : Settings) (lists : Lists)
         by_reply (Text text) e (WasShown _) = IsShown text (told_as (Text text) e ∙ append-nil (text_answer text))
         by_reply (Seated interval head) e (WasSeated _ _) = Hears interval head (record {
           is_seated = begins (events_in past) (Listen asked) interval head e;
+          shows_his_source = shown_by_source past interval head asked (on label (Listen asked) ∷ later) parts (begins (events_in past) (Listen asked) interval head e);
+          sits_with_sources = sit asked.id;
           head_and_draws = told_as (Seated interval head) e ∙ follow asking interval head (replies behind) refl nobody
               ∙ ap (λ (ds : List Call). head_text interval head ++ joined_draws interval ds) (all_draws interval head e);
           are_slices = stretches (events_in course) asked.id;

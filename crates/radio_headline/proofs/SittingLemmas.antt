@@ -27,7 +27,7 @@ use Rattle.radio_headline.proofs.RunLemmas.{AllNowhere, IsMoment}
 module _ (settings : Settings) (lists : Lists)
     (sessions : (events : List Event) (event : Event) → SessionsStep (run_after settings lists events) event)
     (mounts : (events : List Event) (event : Event) → SeatsKeepTheirMounts (run_after settings lists events) event) where
-  abbrev server_at : List Happening → World
+  abbrev pub server_at : List Happening → World
   server_at past = run_after settings lists (events_in past)
 
   -- a session's source has asked for its mount, or its relay has come up there
@@ -39,7 +39,7 @@ module _ (settings : Settings) (lists : Lists)
         → reply_to (server_at before) (RelayUp mount shown) ≡ Arrived session.number → HasBegun (server_at before) mount session.number shown begun
         → session.shown ≡ begun.shown → IsFed past mount session
 
-  abbrev AreFed : List Happening → Type 0
+  abbrev pub AreFed : List Happening → Type 0
   AreFed past = (mount : List ℕ) (session : Session) → session_of (server_at past).house.live mount ≡ Some session → IsFed past mount session
 
   then_more : (past : List Happening) (h : Happening) → server_at (past ++ h ∷ []) ≡ world_after (server_at past) h.event
@@ -113,11 +113,16 @@ module _ (settings : Settings) (lists : Lists)
       by_step past h none fed mount (session_of (server_at past).house.live mount) (session_of (world_after (server_at past) h.event).house.live mount)
       (sessions (events_in past) h.event mount) refl refl session (ap (λ (x : World). session_of x.house.live mount) (sym (then_more past h)) ∙ e)
 
-  none_fed : AreFed []
+  pub none_fed : AreFed []
   none_fed mount session e = cc
 
+  pub fed_all : (past rest : List Happening) → AllNowhere (λ h. IsMoment h.event) rest → AreFed past → AreFed (past ++ rest)
+  fed_all past [] none fed = subst AreFed (sym (append-nil past)) fed
+  fed_all past (h ∷ rest) none fed =
+      subst AreFed (append_assoc past (h ∷ []) rest) (fed_all (past ++ h ∷ []) rest none.1 (fed_more past h none.0 fed))
+
   -- each of them sits with a source
-  abbrev SitsWith : List Happening → (Sitting → Type 0) → Type 0
+  abbrev pub SitsWith : List Happening → (Sitting → Type 0) → Type 0
   SitsWith course P = (past later : List Happening) (mount : List ℕ) (session : Session) (start : ℕ) → course ≡ past ++ later → IsFed past mount session
       → P (record { mount = mount; source = session.number; start = start })
 

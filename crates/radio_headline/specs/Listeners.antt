@@ -1,5 +1,7 @@
--- What each listener of a script is given.
+-- What each listener of a script is given, from the bytes of the script to those of its transcript.
 use Rattle.std.specs.Prelude.{◌≡◌, ℕ, List, [], ◌∷◌, ◌++◌, Option}
+use Rattle.std.specs.List.{AllByRecursion}
+use Rattle.radio_settings.specs.declared.field.Shown.{Shown}
 use Rattle.radio_settings.specs.declared.settings.Settings.{Settings}
 use Rattle.radio_access.specs.Lists.{Lists}
 use Rattle.radio_policy.specs.declared.rule.Rule.{Rule}
@@ -19,7 +21,14 @@ use Rattle.radio_core.specs.Step.{reply_to, world_after}
 use Rattle.radio_core.specs.Ways.{rows_for}
 use Rattle.radio_core.specs.World.{World, opening}
 use Rattle.radio_laws.specs.Admission.{IsSeated}
-use Rattle.radio_laws.specs.Stretches.{sittings, AreStretches}
+use Rattle.radio_laws.specs.Access.{AccessIsKept}
+use Rattle.radio_laws.specs.Commanded.{CommandsAreKept, OnlyWhoMayCommands}
+use Rattle.radio_laws.specs.Denials.{DenialsAreThePolicys}
+use Rattle.radio_laws.specs.Service.{Serves}
+use Rattle.radio_laws.specs.Shown.{OnlyWhoMayIsShown}
+use Rattle.radio_laws.specs.Stretches.{AreStretches, SeatsKeepTheirMounts, Sitting, sittings}
+use Rattle.radio_laws.specs.TitlesTold.{TitlesAreTold}
+use Rattle.radio_laws.specs.WalkingOn.{ListenersWalkOn}
 use Rattle.radio_session.specs.Draws.{joined_draws}
 use Rattle.radio_session.specs.Saying.{denial, head_text, text_answer}
 use Rattle.radio_session.specs.Told.{draws_of}
@@ -27,6 +36,7 @@ use Rattle.radio_script.specs.declared.delivery.Delivery.{Delivery}
 use Rattle.radio_script.specs.Given.{TranscriptLine, AreLines, given, written}
 use Rattle.radio_floor.specs.Transcript.{IsTranscriptOf}
 use Rattle.radio_headline.specs.Course.{Happening, ComesTo, events_in, on}
+use Rattle.radio_headline.specs.Sources.{HasItsSource, IsRequest, SourcesDeliverTheirBodies, brought}
 
 -- the draws that the events hand to the listener of this number, in their order
 abbrev pub draws_to : World → List Event → ℕ → List Call
@@ -40,18 +50,25 @@ DrawsAreStretches settings lists events id =
     let w = opening settings lists in
     AreStretches (delivered w events) (sittings w events id) (sound_of_calls (draws_to w events id))
 
--- Of a course.
-module _ (settings : Settings) (lists : Lists) (course : List Happening) where
+-- Of deliveries that come to a course.
+module _ (settings : Settings) (lists : Lists) (deliveries : List Delivery) (course : List Happening) where
   -- the server, when this has happened
   abbrev pub server_after : List Happening → World
   server_after past = run_after settings lists (events_in past)
 
-  -- he is seated, and given a head that shows what the stream shows in whose session he is seated; then his draws, woven at his interval, of which
-  -- the data are slices
+  -- he sits down in the session of a source
+  abbrev pub SitsWithASource : Sitting → Type 0
+  SitsWithASource sitting = (shown : Shown) × HasItsSource settings lists deliveries course sitting.mount sitting.source shown
+
+  -- he is seated in the session of a source, and given a head that shows what that shows; then his draws, woven at his interval, of which the data
+  -- are slices, one for each time that he sat down, each time with a source
   pub record IsHearing (w : World) (asked : ListenRequest) (interval : Option ℕ) (head : StreamHead) (bytes : List ℕ) : Type 0 where
     pub is_seated : IsSeated w (Listen asked) interval head
+    pub shows_his_source :
+        HasItsSource settings lists deliveries course is_seated.session.mount is_seated.session.number head.shown
     pub head_and_draws : bytes ≡ head_text interval head ++ joined_draws interval (draws_to (opening settings lists) (events_in course) asked.id)
     pub are_slices : DrawsAreStretches settings lists (events_in course) asked.id
+    pub sits_with_sources : AllByRecursion SitsWithASource (sittings (opening settings lists) (events_in course) asked.id)
 
   -- all that one is given who asked so, by the reply
   pub data IsGiven (w : World) (asked : ListenRequest) (bytes : List ℕ) : Reply → Type 0 where
@@ -63,18 +80,50 @@ module _ (settings : Settings) (lists : Lists) (course : List Happening) where
     -- he was finished before he had asked
     IsTooLate : (rule : Rule) → bytes ≡ [] → IsGiven w asked bytes (Finished rule)
 
-  -- each who asks to hear a mount, when this had happened, on the connection of this label
+  -- one who asks so on the connection of the label, when this had happened: that is how the bytes are heard that have come, and he is given that
+  pub record IsAnswered (lines : List TranscriptLine) (label : ℕ) (asked : ListenRequest) (past : List Happening) : Type 0 where
+    pub is_request : IsRequest (brought deliveries label) asked.id (Listen asked) []
+    pub is_given : IsGiven (server_after past) asked (given lines label) (reply_to (server_after past) (Listen asked))
+
+  -- each who asks to hear a mount
   abbrev pub ListenersAreGiven : List TranscriptLine → Type 0
   ListenersAreGiven lines = (label : ℕ) (asked : ListenRequest) (past later : List Happening) → course ≡ past ++ on label (Listen asked) ∷ later
-      → IsGiven (server_after past) asked (given lines label) (reply_to (server_after past) (Listen asked))
+      → IsAnswered lines label asked past
 
 -- The transcript is written by these lines, and by no others.
 pub record IsWrittenBy (text : List ℕ) (lines : List TranscriptLine) : Type 0 where
   pub is_written : written lines ≡ text
   pub by_no_others : AreLines lines → (others : List TranscriptLine) → AreLines others → written others ≡ text → others ≡ lines
 
--- A script comes to its transcript by a course of events, and its lines give to each listener what he is to be given.
-abbrev pub GivesToListeners : Settings → Lists → List Delivery → List ℕ → Option ℕ → Type 0
-GivesToListeners settings lists deliveries text stop = IsTranscriptOf settings lists deliveries text stop →
-    (course : List Happening) × ComesTo settings lists deliveries text stop course
-    × (lines : List TranscriptLine) × IsWrittenBy text lines × ListenersAreGiven settings lists course lines
+-- When this has happened, an event does what the laws of every run say of it.
+pub record IsLawful (settings : Settings) (lists : Lists) (events : List Event) (event : Event) : Type 0 where
+  -- what is handed out stands at the listener's place in a stream that is open to him, with its last title
+  pub access : AccessIsKept (run_after settings lists events) event
+  pub title : TitlesAreTold settings lists events event
+  -- what is denied is denied by the first rule that holds, and nothing else changes
+  pub denied : DenialsAreThePolicys (run_after settings lists events) event
+  -- what the policy allows happens: a draw hands out what is there, as much as there is room for
+  pub served : Serves (run_after settings lists events)
+  -- who is moved goes where his walk lands, or is finished by the rule that stops it
+  pub moves : ListenersWalkOn (run_after settings lists events) event
+  pub keeps : SeatsKeepTheirMounts (run_after settings lists events) event
+  -- what is shown tells what is there, to one who may see it; a command is done for one who may give it, and does what it names and no more
+  pub shown : OnlyWhoMayIsShown (run_after settings lists events) event
+  pub commanded : OnlyWhoMayCommands (run_after settings lists events) event
+  pub kept : CommandsAreKept (run_after settings lists events) event
+
+-- A script comes to its transcript by a course of lawful events. Its sources deliver a front of the data of their bodies, and each who asks to hear
+-- a mount is given slices of these, or reads why not.
+pub record HearsSlices (settings : Settings) (lists : Lists) (deliveries : List Delivery) (text : List ℕ) (stop : Option ℕ) : Type 0 where
+  pub course : List Happening
+  pub comes : ComesTo settings lists deliveries text stop course
+  pub lawful : (past later : List Happening) (happening : Happening) → course ≡ past ++ happening ∷ later
+      → IsLawful settings lists (events_in past) happening.event
+  pub lines : List TranscriptLine
+  pub is_written : IsWrittenBy text lines
+  pub listeners : ListenersAreGiven settings lists deliveries course lines
+  pub sources : SourcesDeliverTheirBodies settings lists deliveries course
+
+abbrev pub ListenersHearSlices : Type 0
+ListenersHearSlices = (settings : Settings) (lists : Lists) (deliveries : List Delivery) (text : List ℕ) (stop : Option ℕ)
+    → IsTranscriptOf settings lists deliveries text stop → HearsSlices settings lists deliveries text stop

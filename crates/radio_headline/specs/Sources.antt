@@ -94,7 +94,6 @@ module _ (settings : Settings) (lists : Lists) (deliveries : List Delivery) (cou
     pub begun : Session
     pub has_begun : HasBegun (run_after settings lists (events_in before)) mount number shown begun
     pub still_shown : shown_now ≡ begun.shown
-    pub delivers : DeliversItsSound settings lists deliveries course label number shown
 
   abbrev pub HasItsSource : Shown → Type 0
   HasItsSource shown_now = IsOfASource shown_now ⊎ IsOfARelay shown_now
