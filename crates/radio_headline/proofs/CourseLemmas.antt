@@ -52,7 +52,7 @@ use Rattle.radio_headline.specs.Course.{ComesTo as ComesToCourse}
 use Rattle.radio_headline.specs.Sources.{brought, brought_by, bytes_in, pushed}
 use Rattle.radio_headline.proofs.Logs.{Entry, entry, entries, log_on, log_joined, log_here, log_elsewhere, Each, each_as, each_joined, after_joined, events_joined, events_on, itself, other_number}
 use Rattle.radio_headline.proofs.AppliedLemmas.{applied_lead}
-use Rattle.radio_headline.proofs.RelayLogs.{OfRelay, OwnRelay, Lifts, Downs, at, asks_lifts, brings_lifts, down, number_after, number_joined, number_stays, own_joined, sound_of_items}
+use Rattle.radio_headline.proofs.RelayLogs.{IsNoUp, OfRelay, OwnRelay, Lifts, Downs, at, asks_lifts, brings_lifts, down, number_after, number_joined, number_stays, own_joined, sound_of_items}
 use Rattle.radio_headline.proofs.RunLemmas.{AllNowhere, IsMoment, HasNumber, IsOwn, number_before, number_behind}
 use Rattle.radio_headline.proofs.Connections.{AsksNothing, HasAskedNothing, Facts, IsClosed, IsClient, IsRelay, IsSo, IsTold, AsksForMount, AtHead, arrival}
 use Rattle.radio_headline.proofs.ConnectionSteps.{data_come, idle_comes, end_comes, more_facts}
@@ -453,12 +453,12 @@ module _ (settings : Settings) (lists : Lists) (settled : IsSettled ShowsRequest
     -- something comes to a relay's connection
     module _ (label : ℕ) (pulling : Pulling) (known : connection_of state.connections label ≡ Some (Some (Relay pulling))) where
       asks_next : (input : Input) (event : ℕ → Event) → ((id : ℕ) → OfRelay (Some id) (event id)) → ((id : ℕ) → pushed (event id ∷ []) ≡ [])
-          → ((after : Standing) (done : Noted) → AsksIf noting pulling.number (option_map event pulling.number) (nothing_noted state.world) after done
+          → ((id : ℕ) → IsNoUp (event id)) → ((after : Standing) (done : Noted) → AsksIf noting pulling.number (option_map event pulling.number) (nothing_noted state.world) after done
           → ComesToNoted state.world pulling input done)
           → (p : Performed) → AsksOn state label pulling (option_map event pulling.number) p → (text : List ℕ) → p.lines ≡ Some text
           → Next (To label input) text p.state
-      asks_next input event his silent comes p h text told =
-          let l = asks_lifts pulling.number event state.world h.1 [] h.0 his silent h.2 in
+      asks_next input event his silent plain comes p h text told =
+          let l = asks_lifts pulling.number event state.world h.1 [] h.0 his silent h.2 plain in
           next_as (To label input) text p _ (sym h.3) told
           (pulls_next label input pulling known (record pulling { number = h.0.number }) h.0.state h.1 l.events (comes h.0 (at h.1 l.events) l.lifted) l.leads l.own l.stands)
 
@@ -484,9 +484,9 @@ module _ (settings : Settings) (lists : Lists) (settled : IsSettled ShowsRequest
       relay_next (Data bytes) p h text told =
           next_as (To label (Data bytes)) text p _ (sym h.4) told (takes_next bytes h.0 h.1 h.2 h.3.0 h.3.1 h.3.0.standing refl h.3.2)
       relay_next (Room room) p h text told =
-          asks_next (Room room) (λ id. Draw id room) (λ id. refl) (λ id. refl) (λ after done a. (after, a)) p h text told
+          asks_next (Room room) (λ id. Draw id room) (λ id. refl) (λ id. refl) (λ id. tt) (λ after done a. (after, a)) p h text told
       relay_next (Named name) p h text told =
-          asks_next (Named name) (λ id. Title id (cleaned max_title name)) (λ id. refl) (λ id. refl) (λ after done a. (after, a)) p h text told
+          asks_next (Named name) (λ id. Title id (cleaned max_title name)) (λ id. refl) (λ id. refl) (λ id. tt) (λ after done a. (after, a)) p h text told
       relay_next End p h text told =
           let d = down Done pulling.number state.world h.0 [] h.1 in
           next_as (To label End) text p _ (sym h.2) told
