@@ -44,11 +44,13 @@ use Rattle.radio_headline.proofs.AppliedLemmas.{IsOrderly}
 use Rattle.radio_headline.proofs.ReplyForms.{IsIdle}
 use Rattle.radio_headline.proofs.RunLemmas.{AllNowhere, IsMoment, HasNumber, IsOwn, IsIdling, each_happening, one_owner, last_stays, reached_opening, reached_after, reached_all}
 use Rattle.radio_headline.proofs.Connections.{arrival, AsksForMount, AsksNothing, ByGet, Feeds, IsIdleOrLeaving, IsBehindRequest, IsNoRequest, events_of}
-use Rattle.radio_headline.proofs.Connections.{Facts, HasAskedNothing, HasSentGet, IsSource, IsClosed, IsClient, IsRelay, IsSo, Stage, AtHead, AfterGet, AtBody, AfterBody, Refused}
+use Rattle.radio_headline.proofs.Connections.{Facts, HasAskedNothing, HasSentGet, IsSource, IsPulling, IsClosed, IsClient, IsRelay, IsSo, Stage, AtHead, AfterGet, AtBody, AfterBody, Refused}
 use Rattle.radio_headline.proofs.ConnectionSteps.{Delivers, behind_is_his, delivers_by, idle_asks_nothing, idle_is_his, idle_pushes_nothing, more_for_get, more_for_source}
-use Rattle.radio_headline.proofs.CourseLemmas.{brought_joined, relay_asks_nothing}
+use Rattle.radio_headline.proofs.CourseLemmas.{brought_joined}
+use Rattle.radio_headline.proofs.RelayLogs.{OfRelay, OwnRelay}
+use Rattle.radio_pull.specs.Pulling.{answered}
 use Rattle.radio_headline.proofs.ListenerLemmas.{IsOnIt, by_get, get_is_of, no_entry, on_his, orderly_second, parted_at_get, so_owns}
-use Rattle.radio_headline.proofs.SourceLemmas.{Front, IsHisOrNotesNothing, NotesNothing, brings_front, delivered_gathered, given_before, no_block, noted, noted_of, nothing_noted}
+use Rattle.radio_headline.proofs.SourceLemmas.{orderly_is_cut, Front, IsHisOrNotesNothing, NotesNothing, brings_front, delivered_gathered, given_before, no_block, noted, noted_of, nothing_noted}
 
 -- by this event a mount is asked for, to feed it
 abbrev IsSourcing : Event → Type 0
@@ -88,7 +90,7 @@ behind_feeds_not id (Source asked) h l = elim h [ ]
 behind_feeds_not id (Listen asked) h l = elim h [ ]
 behind_feeds_not id (Command asked) h l = elim h [ ]
 behind_feeds_not id (RelayUp mount shown) h l = elim h [ ]
-behind_feeds_not id (RelayDown him) h l = elim h [ ]
+behind_feeds_not id (RelayDown him) h l = l
 behind_feeds_not id (Clock ms) h l = elim h [ ]
 behind_feeds_not id (Push him block) h l = l
 behind_feeds_not id (SourceEnd him) h l = l
@@ -108,6 +110,24 @@ get_not bytes log given g =
     ((λ l. l), each_joined FeedsNot g.idle _ (each_as (IsIdling g.id) FeedsNot (idle_feeds_not g.id) g.idle g.idles)
     (get_feeds_not g.id g.request, each_as (IsIdleOrLeaving g.id) FeedsNot (leaving_feeds_not g.id) g.behind g.no_more))
 
+-- a relay asks for no mount
+relay_feeds_not : (number : Option ℕ) (log : List Entry) → OwnRelay number log → Each FeedsNot log
+relay_feeds_not number [] own = tt
+relay_feeds_not number (e ∷ log) own = (by_event e.event own.0, relay_feeds_not (answered number e.reply).number log own.1) where
+  by_event : (event : Event) → OfRelay number event → IsSourcing event → ⊥
+  by_event (Arrive peer) h a = elim h [ ]
+  by_event (Source asked) h a = elim h [ ]
+  by_event (SourceEnd him) h a = elim h [ ]
+  by_event (Listen asked) h a = elim h [ ]
+  by_event (Command asked) h a = elim h [ ]
+  by_event (Leave him) h a = elim h [ ]
+  by_event (Clock ms) h a = elim h [ ]
+  by_event (RelayUp mount shown) h a = a
+  by_event (Push him block) h a = a
+  by_event (Title him text) h a = a
+  by_event (Draw him room) h a = a
+  by_event (RelayDown him) h a = a
+
 none_there : (before behind : List Entry) (e : Entry) → Each FeedsNot (before ++ e ∷ behind) → IsSourcing e.event → ⊥
 none_there before behind e h l = (each_second FeedsNot before (e ∷ behind) h).0 l
 
@@ -121,6 +141,7 @@ module _ (bytes : List ℕ) (log : List Entry) (given : List ℕ) (before behind
   of_facts (HasAskedNothing h) = never (nothing_fed log h)
   of_facts (HasSentGet g) = never (get_not bytes log given g)
   of_facts (IsSource f) = f
+  of_facts (IsPulling q) = never (relay_feeds_not None log q.own)
 
   of_stage : (conversation : Conversation) → Stage bytes log given conversation → Feeds bytes log
   of_stage conversation (AtHead idle arrived idles hears held t) =
@@ -135,7 +156,7 @@ module _ (bytes : List ℕ) (log : List Entry) (given : List ℕ) (before behind
   feeds_so None h = absurd (no_entry before behind e (sym h.1 ∙ parts))
   feeds_so (Some None) h = of_facts h.facts
   feeds_so (Some (Some (Client conversation))) h = of_stage conversation h.stage
-  feeds_so (Some (Some (Relay pulling))) h = never (nothing_fed log (relay_asks_nothing None log h.own))
+  feeds_so (Some (Some (Relay pulling))) h = never (relay_feeds_not None log h.own)
 
 -- the one entry of a log by which it is asked for
 record Parted (xs ys : List Entry) (e a : Entry) (cs ds : List Entry) : Type 0 where
@@ -278,7 +299,7 @@ module _ (settled : IsSettled ShowsRequest) (within : HeadsLieWithin ShowsReques
           (reached_all settings lists fits adds steps w0 (events_in past) (reached_opening settings lists fits adds steps))
           (given_before settings lists fits adds steps w0 past label f.id (reached_opening settings lists fits adds steps) has_number_before))
           on_it_later (subst (Each (IsNoRequest f.id)) (sym p.behind) f.no_more)
-          (orderly_second f.id before (entry w (Source asked) ∷ behind) (subst (IsOrderly f.id) in_order f.orderly)).1
+          (orderly_is_cut f.id behind (orderly_second f.id before (entry w (Source asked) ∷ behind) (subst (IsOrderly f.id) in_order f.orderly)).1)
 
       idle_notes : (log : List Entry) → Each (IsIdling f.id) log → Each NotesNothing log
       idle_notes log h = each_as (IsIdling f.id) NotesNothing (λ e i. no_block e.event e.reply (idle_pushes_nothing f.id e.event i)) log h

@@ -55,7 +55,7 @@ pub events_of_entries : (w : World) (events : List Event) → events_of (entries
 events_of_entries w [] = refl
 events_of_entries w (event ∷ events) = ap (λ (xs : List Event). event ∷ xs) (events_of_entries (world_after w event) events)
 
-events_of_joined : (log more : List Entry) → events_of (log ++ more) ≡ events_of log ++ events_of more
+pub events_of_joined : (log more : List Entry) → events_of (log ++ more) ≡ events_of log ++ events_of more
 events_of_joined [] more = refl
 events_of_joined (e ∷ log) more = ap (λ (xs : List Event). e.event ∷ xs) (events_of_joined log more)
 
@@ -148,7 +148,7 @@ asked_joined : (P : Event → Type 0) (events more : List Event) → EachAsked P
 asked_joined P [] more h k = k
 asked_joined P (e ∷ events) more h k = (h.0, asked_joined P events more h.1 k)
 
-entries_each : (P : Event → Type 0) (w : World) (events : List Event) → EachAsked P events → Each (λ e. P e.event) (entries w events)
+pub entries_each : (P : Event → Type 0) (w : World) (events : List Event) → EachAsked P events → Each (λ e. P e.event) (entries w events)
 entries_each P w [] h = tt
 entries_each P w (e ∷ events) h = (h.0, entries_each P (world_after w e) events h.1)
 
@@ -215,7 +215,7 @@ behind_is_his id (Source asked) h = elim h [ ]
 behind_is_his id (Listen asked) h = elim h [ ]
 behind_is_his id (Command asked) h = elim h [ ]
 behind_is_his id (RelayUp mount shown) h = elim h [ ]
-behind_is_his id (RelayDown him) h = elim h [ ]
+behind_is_his id (RelayDown him) h = ap (λ (n : ℕ). Some n) h
 behind_is_his id (Clock ms) h = elim h [ ]
 behind_is_his id (Push him block) h = ap (λ (n : ℕ). Some n) h
 behind_is_his id (SourceEnd him) h = ap (λ (n : ℕ). Some n) h
@@ -369,11 +369,6 @@ module _ (settled : IsSettled ShowsRequest) (within : HeadsLieWithin ShowsReques
       feeds_with bytes (bytes ++ more) log log f (read_more bytes more f.request f.length f.reading) f.behind f.in_order f.no_more f.orderly (f.rest ++ later)
       (sym (append_assoc (pushed (events_of f.behind)) f.rest later) ∙ ap (λ (xs : List ℕ). xs ++ later) f.front
       ∙ sym (more_data bytes more f.request f.length f.start f.reading))
-
-  pub more_facts : (bytes more : List ℕ) (log : List Entry) (given : List ℕ) → Facts bytes log given → Facts (bytes ++ more) log given
-  more_facts bytes more log given (HasAskedNothing h) = HasAskedNothing h
-  more_facts bytes more log given (HasSentGet g) = HasSentGet (more_for_get bytes more log given g)
-  more_facts bytes more log given (IsSource f) = IsSource (more_for_source bytes more log f)
 
   -- what a body is heard as
   pub record Delivers (conversation : Conversation) (before : List Event) (place : Place) (bytes : List ℕ) (heard : Heard) : Type 0 where

@@ -14,7 +14,13 @@ use Rattle.radio_heads.specs.Head.{RequestParts, ShowsRequest}
 use Rattle.radio_heads.specs.Reading.{IsReading}
 use Rattle.radio_source.specs.Feeding.{unfed}
 use Rattle.radio_source.specs.Place.{Place, after, data_of}
-use Rattle.radio_session.specs.declared.session.Hears.TheVariants.{Head, Body, Nothing}
+use Rattle.radio_heads.specs.Response.{ResponseParts, ShowsResponse}
+use Rattle.radio_relay.specs.Answer.{interval_in, shown_by}
+use Rattle.radio_relay.specs.Laws.{sound_in}
+use Rattle.radio_relay.specs.Pulled.{after_bytes, stream_parts, stream_with}
+use Rattle.radio_relay.specs.declared.pull.Stage.TheVariants.{Head, Behind}
+use Rattle.radio_relay.specs.declared.stream.Stream.{Stream}
+use Rattle.radio_session.specs.declared.session.Hears.TheVariants.{Head as HearsHead, Body, Nothing}
 use Rattle.radio_session.specs.Asking.{asks_to_feed, asks_by_get}
 use Rattle.radio_session.specs.Conversation.{Conversation, asking, fresh}
 use Rattle.radio_session.specs.Framing.{is_source, framing_of, start_of}
@@ -25,7 +31,7 @@ use Rattle.radio_floor.specs.declared.labelled.Connection.TheVariants.{Client, R
 use Rattle.radio_headline.specs.Sources.{pushed}
 use Rattle.radio_headline.proofs.Logs.{Entry, replies, Each}
 use Rattle.radio_headline.proofs.AppliedLemmas.{said_all, IsOpen, IsNotLast, IsOrderly}
-use Rattle.radio_headline.proofs.RelayLogs.{OwnRelay, number_after}
+use Rattle.radio_headline.proofs.RelayLogs.{IsCut, IsNotRefused, IsNoUp, OwnRelay, number_after}
 use Rattle.radio_headline.proofs.ReplyForms.{IsIdle}
 use Rattle.radio_headline.proofs.RunLemmas.{HasNumber, IsOwn, IsIdling}
 
@@ -47,15 +53,17 @@ IsBehindRequest id (SourceEnd him) = him ≡ id
 IsBehindRequest id (Title him text) = him ≡ id
 IsBehindRequest id (Draw him room) = him ≡ id
 IsBehindRequest id (Leave him) = him ≡ id
+IsBehindRequest id (RelayDown him) = him ≡ id
 IsBehindRequest id event = ⊥
 
 abbrev pub IsNoRequest : ℕ → Entry → Type 0
 IsNoRequest id e = IsBehindRequest id e.event
 
--- by this event a mount is asked for, to hear or to feed it
+-- by this event a mount is asked for, to hear or to feed it, or a relay comes up there
 abbrev pub AsksForMount : Event → Type 0
 AsksForMount (Listen asked) = Unit {0}
 AsksForMount (Source asked) = Unit {0}
+AsksForMount (RelayUp mount shown) = Unit {0}
 AsksForMount event = ⊥
 
 abbrev pub AsksNothing : Entry → Type 0
@@ -100,10 +108,32 @@ pub record Feeds (bytes : List ℕ) (log : List Entry) : Type 0 where
   pub rest : List ℕ
   pub front : pushed (events_of behind) ++ rest ≡ data_of start (drop length bytes)
 
+-- a master's answer was read, and what was pushed is a front of its sound
+pub record Pulls (bytes : List ℕ) (log : List Entry) : Type 0 where
+  pub mount : List ℕ
+  pub head : ResponseParts
+  pub reply : Reply
+  pub behind : List Entry
+  pub in_order : log ≡ record { event = RelayUp mount (shown_by head); reply = reply } ∷ behind
+  pub own : OwnRelay None log
+  pub no_more : Each (λ e. IsNoUp e.event) behind
+  pub cut : IsCut log
+  pub length : ℕ
+  pub reading : IsReading ShowsResponse bytes (Ok (Whole head length))
+  pub interval : Option ℕ
+  pub told : interval_in head ≡ Ok interval
+  pub rest : List ℕ
+  pub front : pushed (events_of behind) ++ rest ≡ sound_in (stream_parts (stream_with interval) (drop length bytes))
+
+-- the stream behind what has come of it
+abbrev pub stream_after : {bytes : List ℕ} {log : List Entry} → Pulls bytes log → Stream
+stream_after {bytes = bytes} p = after_bytes (stream_with p.interval) (drop p.length bytes)
+
 pub data Facts (bytes : List ℕ) (log : List Entry) (given : List ℕ) : Type 0 where
   HasAskedNothing : Each AsksNothing log → Facts bytes log given
   HasSentGet : ByGet bytes log given → Facts bytes log given
   IsSource : Feeds bytes log → Facts bytes log given
+  IsPulling : Pulls bytes log → Facts bytes log given
 
 pub record IsClosed (bytes : List ℕ) (log : List Entry) (given : List ℕ) : Type 0 where
   pub own : Each (IsOwn log) log
@@ -117,7 +147,7 @@ pub record IsTold (conversation : Conversation) (log : List Entry) (given : List
 
 pub data Stage (bytes : List ℕ) (log : List Entry) (given : List ℕ) (conversation : Conversation) : Type 0 where
   AtHead : (idle : List Entry) → log ≡ arrival conversation.peer conversation.id ∷ idle → Each (IsIdling conversation.id) idle
-      → conversation.hears ≡ Head → conversation.held ≡ bytes → IsTold conversation log given → Stage bytes log given conversation
+      → conversation.hears ≡ HearsHead → conversation.held ≡ bytes → IsTold conversation log given → Stage bytes log given conversation
   AfterGet : ByGet bytes log given → conversation.hears ≡ Nothing → IsTold conversation log given → Stage bytes log given conversation
   AtBody : (f : Feeds bytes log) → f.rest ≡ [] → conversation.hears ≡ Body (unfed (after f.start (drop f.length bytes)))
       → Stage bytes log given conversation
@@ -132,14 +162,20 @@ pub record IsClient (bytes : List ℕ) (log : List Entry) (given : List ℕ) (co
   pub goes_on : Each IsNotLast log
   pub stage : Stage bytes log given conversation
 
+pub data RelayStage (bytes : List ℕ) (log : List Entry) (pulling : Pulling) : Type 0 where
+  AtAnswer : pulling.stage ≡ Head bytes → log ≡ [] → RelayStage bytes log pulling
+  InAnswer : (p : Pulls bytes log) → pulling.stage ≡ Behind (stream_after p) → (pulling.number ≡ None) ⊎ (p.rest ≡ []) → Each IsNotRefused log
+      → RelayStage bytes log pulling
+
 -- a relay's connection that is open
-pub record IsRelay (log : List Entry) (pulling : Pulling) : Type 0 where
+pub record IsRelay (bytes : List ℕ) (log : List Entry) (pulling : Pulling) : Type 0 where
   pub own : OwnRelay None log
   pub number : pulling.number ≡ number_after None log
+  pub stage : RelayStage bytes log pulling
 
 -- what became of the label
 abbrev pub IsSo : Option (Option Connection) → List ℕ → List Entry → List ℕ → Type 0
 IsSo None bytes log given = (bytes ≡ []) × (log ≡ []) × (given ≡ [])
 IsSo (Some None) bytes log given = IsClosed bytes log given
 IsSo (Some (Some (Client conversation))) bytes log given = IsClient bytes log given conversation
-IsSo (Some (Some (Relay pulling))) bytes log given = IsRelay log pulling
+IsSo (Some (Some (Relay pulling))) bytes log given = IsRelay bytes log pulling

@@ -54,82 +54,14 @@ use Rattle.radio_headline.proofs.Logs.{Entry, entry, entries, log_on, log_joined
 use Rattle.radio_headline.proofs.AppliedLemmas.{applied_lead}
 use Rattle.radio_headline.proofs.RelayLogs.{IsNoUp, OfRelay, OwnRelay, Lifts, Downs, at, asks_lifts, brings_lifts, down, number_after, number_joined, number_stays, own_joined, sound_of_items}
 use Rattle.radio_headline.proofs.RunLemmas.{AllNowhere, IsMoment, HasNumber, IsOwn, number_before, number_behind}
-use Rattle.radio_headline.proofs.Connections.{AsksNothing, HasAskedNothing, Facts, IsClosed, IsClient, IsRelay, IsSo, IsTold, AsksForMount, AtHead, arrival}
-use Rattle.radio_headline.proofs.ConnectionSteps.{data_come, idle_comes, end_comes, more_facts}
+use Rattle.radio_headline.proofs.Connections.{AsksNothing, HasAskedNothing, Facts, IsClosed, IsClient, IsRelay, IsSo, IsTold, AsksForMount, AtAnswer, AtHead, arrival}
+use Rattle.radio_headline.proofs.ConnectionSteps.{data_come, idle_comes, end_comes}
+use Rattle.radio_headline.proofs.PullSteps.{idles_so, more_facts, takes_so}
+use Rattle.radio_heads.specs.Response.{ShowsResponse}
+use Rattle.radio_relay.proofs.CutLemmas.{AfterPieces, HeardInPieces}
+use Rattle.radio_relay.specs.declared.pull.Stage.TheVariants.{Head}
 use Rattle.radio_headline.proofs.LabelLemmas.{answer, answer_here, answer_elsewhere, answer_written, given_joined, opened_here, opened_elsewhere, with_here, with_elsewhere, written_joined}
 use Rattle.radio_tables.proofs.KeyLaws.{by_number}
-
--- a relay's events come on the connection on which it was given its number
-numbers_then : (number : Option ℕ) (log : List Entry) (e : Entry) → ((id : ℕ) → number ≡ Some id → HasNumber id log) → (id : ℕ)
-    → (answered number e.reply).number ≡ Some id → HasNumber id (log ++ e ∷ [])
-numbers_then (Some n) log e has id h =
-    let same : Some n ≡ Some id = sym (number_stays n e.reply) ∙ h in number_before id log (e ∷ []) (has id same)
-numbers_then None log e has id h = number_behind id log (e ∷ []) (inl (by_reply e.reply h)) where
-  by_reply : (r : Reply) → (answered None r).number ≡ Some id → r ≡ Arrived id
-  by_reply (Arrived him) h = let same : him ≡ id = cc in ap (λ (n : ℕ). Arrived n) same
-  by_reply Feeding h = cc
-  by_reply (Seated interval head) h = cc
-  by_reply (Drawn bytes title) h = cc
-  by_reply WasNoted h = cc
-  by_reply (Text text) h = cc
-  by_reply (Deny rule) h = cc
-  by_reply (Finished rule) h = cc
-  by_reply Stray h = cc
-
-whose : (number : Option ℕ) (event : Event) (id : ℕ) → OfRelay number event → client_in event ≡ Some id → number ≡ Some id
-whose number (Arrive peer) id h e = elim h [ ]
-whose number (Source asked) id h e = elim h [ ]
-whose number (SourceEnd him) id h e = elim h [ ]
-whose number (Listen asked) id h e = elim h [ ]
-whose number (Command asked) id h e = elim h [ ]
-whose number (Leave him) id h e = elim h [ ]
-whose number (Clock ms) id h e = elim h [ ]
-whose number (Push him block) id h e = h ∙ e
-whose number (Title him text) id h e = h ∙ e
-whose number (Draw him room) id h e = h ∙ e
-whose number (RelayDown him) id h e = h ∙ e
-whose number (RelayUp mount shown) id h e = cc
-
-relay_owns_from : (number : Option ℕ) (before log : List Entry) → ((id : ℕ) → number ≡ Some id → HasNumber id before) → OwnRelay number log
-    → Each (IsOwn (before ++ log)) log
-relay_owns_from number before [] has own = tt
-relay_owns_from number before (e ∷ log) has own = (
-  λ id his. number_before id before (e ∷ log) (has id (whose number e.event id own.0 his)),
-  subst (λ (xs : List Entry). Each (IsOwn xs) log) (append_assoc before (e ∷ []) log)
-      (relay_owns_from (answered number e.reply).number (before ++ e ∷ []) log (numbers_then number before e has) own.1),
-)
-
-pub relay_owns : (log : List Entry) → OwnRelay None log → Each (IsOwn log) log
-relay_owns log own = relay_owns_from None [] log (λ id h. cc) own
-
-pub relay_asks_nothing : (number : Option ℕ) (log : List Entry) → OwnRelay number log → Each AsksNothing log
-relay_asks_nothing number [] own = tt
-relay_asks_nothing number (e ∷ log) own = (by_event e.event own.0, relay_asks_nothing (answered number e.reply).number log own.1) where
-  by_event : (event : Event) → OfRelay number event → AsksForMount event → ⊥
-  by_event (Arrive peer) h a = elim h [ ]
-  by_event (Source asked) h a = elim h [ ]
-  by_event (SourceEnd him) h a = elim h [ ]
-  by_event (Listen asked) h a = elim h [ ]
-  by_event (Command asked) h a = elim h [ ]
-  by_event (Leave him) h a = elim h [ ]
-  by_event (Clock ms) h a = elim h [ ]
-  by_event (RelayUp mount shown) h a = a
-  by_event (Push him block) h a = a
-  by_event (Title him text) h a = a
-  by_event (Draw him room) h a = a
-  by_event (RelayDown him) h a = a
-
--- what comes to a relay's connection leaves it so
-pulled_so : (w : World) (bytes more : List ℕ) (log : List Entry) (given : List ℕ) (pulling now : Pulling) (events : List Event) (state : State)
-    → IsRelay log pulling → OwnRelay pulling.number (entries w events) → (state ≡ Running → now.number ≡ number_after pulling.number (entries w events))
-    → IsSo (Some (connection_unless (Some (Relay now)) state)) more (log ++ entries w events) given
-pulled_so w bytes more log given pulling now events Running r own stands = record {
-  own = own_joined None log (entries w events) r.own (subst (λ (n : Option ℕ). OwnRelay n (entries w events)) r.number own);
-  number = stands refl ∙ ap (λ (n : Option ℕ). number_after n (entries w events)) r.number ∙ sym (number_joined None log (entries w events));
-}
-pulled_so w bytes more log given pulling now events (Shut ending) r own stands =
-    let all = own_joined None log (entries w events) r.own (subst (λ (n : Option ℕ). OwnRelay n (entries w events)) r.number own) in
-    record { own = relay_owns (log ++ entries w events) all; facts = HasAskedNothing (relay_asks_nothing None (log ++ entries w events) all) }
 
 pub brought_joined : (deliveries more : List Delivery) (label : ℕ) → brought (deliveries ++ more) label ≡ brought deliveries label ++ brought more label
 brought_joined deliveries more label = flat_map-append (brought_by label) deliveries more
@@ -141,8 +73,13 @@ brought_elsewhere : (label other : ℕ) (input : Input) → (label ≡ other →
 brought_elsewhere label other input apart =
     append-nil (if label == other then bytes_in input else []) ∙ ap (λ (b : Bool). if b then bytes_in input else []) (other_number label other apart)
 
+front_none : (xs ys : List ℕ) → xs ++ ys ≡ [] → xs ≡ []
+front_none [] ys e = refl
+front_none (x ∷ xs) ys e = cc
+
 module _ (settings : Settings) (lists : Lists) (settled : IsSettled ShowsRequest) (within : HeadsLieWithin ShowsRequest)
-    (joined : (bytes : List ℕ) → concat (blocks_of bytes) ≡ bytes)
+    (settled_answers : IsSettled ShowsResponse) (within_answers : HeadsLieWithin ShowsResponse) (none_blocks : blocks_of [] ≡ []) (in_pieces : HeardInPieces)
+    (afters : AfterPieces) (joined : (bytes : List ℕ) → concat (blocks_of bytes) ≡ bytes)
     (places : (place : Place) (first second : List ℕ) → after place (first ++ second) ≡ after (after place first) second)
     (data_joined : (place : Place) (first second : List ℕ) → data_of place (first ++ second) ≡ data_of place first ++ data_of (after place first) second) where
   abbrev w0 : World
@@ -295,7 +232,7 @@ module _ (settings : Settings) (lists : Lists) (settled : IsSettled ShowsRequest
       is_written = answer_written label (request_text relay) None ∙ the_text told;
       stands = then_stands (connects state label (Some relay)).state (Pull label mount) [] (answer label (request_text relay) None) label (record {
         world = refl;
-        here = IsSo_as _ _ _ _ _ _ _ _ (sym (opened_here state.connections label (Some (Relay (begun relay.local_mount))) known)) refl
+        here = IsSo_as _ _ _ _ _ _ _ _ (sym (opened_here state.connections label (Some (Relay (begun relay.local_mount))) known)) (sym (append-nil (brought done label)))
             (sym (append-nil (log_on w0 past label) ∙ unopened.1)) refl
             (relay_begins relay.local_mount);
         connections = λ other apart. opened_elsewhere state.connections label other (Some (Relay (begun relay.local_mount))) apart known;
@@ -309,8 +246,8 @@ module _ (settings : Settings) (lists : Lists) (settled : IsSettled ShowsRequest
       the_text : Some (told_lines label (request_text relay) Running) ≡ Some text → told_lines label (request_text relay) Running ≡ text
       the_text e = cc
 
-      relay_begins : (local : List ℕ) → IsRelay [] (begun local)
-      relay_begins local = record { own = tt; number = refl }
+      relay_begins : (local : List ℕ) → IsRelay (brought done label) [] (begun local)
+      relay_begins local = record { own = tt; number = refl; stage = AtAnswer (ap Head (sym unopened.0)) refl }
 
     -- the moment is another
     clock_next : (ms : ℕ) (text : List ℕ) → Some [] ≡ Some text → Next (ClockIs ms) text (record state { world = world_after state.world (Clock ms) })
@@ -384,15 +321,16 @@ module _ (settings : Settings) (lists : Lists) (settled : IsSettled ShowsRequest
               the_text e = cc
 
       module _ (pulling : Pulling) (known : connection_of state.connections label ≡ Some (Some (Relay pulling))) where
-        relay : IsRelay (log_on w0 past label) pulling
+        relay : IsRelay (brought done label) (log_on w0 past label) pulling
         relay = subst (λ (o : Option (Option Connection)). IsSo o (brought done label) (log_on w0 past label) (given lines label)) known (s.each label)
 
         -- its pull goes on, or is shut
         pulls_next : (now : Pulling) (ends : State) (w : World) (events : List Event) → ComesToNoted state.world pulling input (at w events)
-            → w ≡ world_after_all state.world events → OwnRelay pulling.number (entries state.world events)
-            → (ends ≡ Running → now.number ≡ number_after pulling.number (entries state.world events))
+            → w ≡ world_after_all state.world events
+            → IsSo (Some (connection_unless (Some (Relay now)) ends)) (brought done label ++ bytes_in input) (log_on w0 past label ++ entries state.world events)
+            (given lines label ++ [])
             → (text : List ℕ) → (pulled_on state label now ends w).lines ≡ Some text → Next (To label input) text (pulled_on state label now ends w).state
-        pulls_next now ends w events noted leads own number text told = record {
+        pulls_next now ends w events noted leads so text told = record {
           happenings = map (on label) events;
           happen = subst (λ (o : Option (Option Connection)). HappensThere state label input (map (on label) events) o) (sym known) (at w events, noted, refl);
           told = answer label [] (last_word ends);
@@ -400,8 +338,7 @@ module _ (settings : Settings) (lists : Lists) (settled : IsSettled ShowsRequest
           stands = then_stands (pulled_on state label now ends w).state (To label input) events (answer label [] (last_word ends)) label
               (comes_there (pulled_on state label now ends w).state events [] (last_word ends) text (kept_unless (Relay now) ends) leads refl
               (Some (Relay pulling)) known
-              (pulled_so state.world (brought done label) (brought done label ++ bytes_in input) (log_on w0 past label) (given lines label ++ []) pulling now events
-              ends relay own number));
+              so);
         } where
           the_text : (pulled_on state label now ends w).lines ≡ Some text → told_lines label [] ends ≡ text
           the_text e = cc
@@ -453,44 +390,36 @@ module _ (settings : Settings) (lists : Lists) (settled : IsSettled ShowsRequest
     -- something comes to a relay's connection
     module _ (label : ℕ) (pulling : Pulling) (known : connection_of state.connections label ≡ Some (Some (Relay pulling))) where
       asks_next : (input : Input) (event : ℕ → Event) → ((id : ℕ) → OfRelay (Some id) (event id)) → ((id : ℕ) → pushed (event id ∷ []) ≡ [])
-          → ((id : ℕ) → IsNoUp (event id)) → ((after : Standing) (done : Noted) → AsksIf noting pulling.number (option_map event pulling.number) (nothing_noted state.world) after done
+          → ((id : ℕ) → IsNoUp (event id)) → bytes_in input ≡ [] → ((after : Standing) (done : Noted) → AsksIf noting pulling.number (option_map event pulling.number) (nothing_noted state.world) after done
           → ComesToNoted state.world pulling input done)
           → (p : Performed) → AsksOn state label pulling (option_map event pulling.number) p → (text : List ℕ) → p.lines ≡ Some text
           → Next (To label input) text p.state
-      asks_next input event his silent plain comes p h text told =
+      asks_next input event his silent plain no_bytes comes p h text told =
           let l = asks_lifts pulling.number event state.world h.1 [] h.0 his silent h.2 plain in
           next_as (To label input) text p _ (sym h.3) told
-          (pulls_next label input pulling known (record pulling { number = h.0.number }) h.0.state h.1 l.events (comes h.0 (at h.1 l.events) l.lifted) l.leads l.own l.stands)
-
-      takes_next : (bytes : List ℕ) (now : Pulling) (ends : State) (w : World) (pulled : Pulled) → IsPulledAt pulling.stage bytes pulled
-          → (standing : AnswerStanding) → pulled.standing ≡ standing → ComesOf Step pulling (items_of pulled.parts) standing state.world now ends w
-          → (text : List ℕ) → (pulled_on state label now ends w).lines ≡ Some text
-          → Next (To label (Data bytes)) text (pulled_on state label now ends w).state
-      takes_next bytes now ends w pulled is_pulled (AnswerGoesOn stage) e (later, brings, goes, so) text told =
-          let l = brings_lifts pulling.mount (items_of pulled.parts) pulling.number state.world w [] later brings in
-          pulls_next label (Data bytes) pulling known now ends w l.events
-          (now, ends, (pulled, is_pulled, subst (λ (x : AnswerStanding). ComesOf noting pulling (items_of pulled.parts) x (nothing_noted state.world) now ends (at w l.events))
-          (sym e) (later, l.lifted, goes, so)))
-          l.leads l.own (λ run. ap (λ (x : Pulling). x.number) so ∙ l.stands (sym goes ∙ run)) text told
-      takes_next bytes now ends w pulled is_pulled (AnswerStops fault) e (goes, shut, so) text told =
-          let d = down BadPull pulling.number state.world w [] goes in
-          pulls_next label (Data bytes) pulling known now ends w d.events
-          (now, ends, (pulled, is_pulled, subst (λ (x : AnswerStanding). ComesOf noting pulling (items_of pulled.parts) x (nothing_noted state.world) now ends (at w d.events))
-          (sym e) (d.lifted, shut, so)))
-          d.leads d.own (λ run. let both : Shut BadPull ≡ Running = sym shut ∙ run in cc) text told
+          (pulls_next label input pulling known (record pulling { number = h.0.number }) h.0.state h.1 l.events (comes h.0 (at h.1 l.events) l.lifted) l.leads
+          (subst (λ (xs : List ℕ). IsSo (Some (connection_unless (Some (Relay (record pulling { number = h.0.number }))) h.0.state)) (brought done label ++ xs)
+          (log_on w0 past label ++ entries state.world l.events) (given lines label ++ [])) (sym no_bytes)
+          (idles_so settled_answers within_answers joined none_blocks in_pieces afters state.world (brought done label) (log_on w0 past label) pulling
+          (relay label input pulling known) l.events (given lines label ++ []) (record pulling { number = h.0.number }) h.0.state l.own l.stands refl l.quiet
+          l.holds l.cut (front_none (pushed l.events) l.rest l.front))))
 
       relay_next : (input : Input) (p : Performed) → ComesToRelay state label pulling input p → (text : List ℕ) → p.lines ≡ Some text
           → Next (To label input) text p.state
       relay_next (Data bytes) p h text told =
-          next_as (To label (Data bytes)) text p _ (sym h.4) told (takes_next bytes h.0 h.1 h.2 h.3.0 h.3.1 h.3.0.standing refl h.3.2)
+          let t = takes_so settled_answers within_answers joined none_blocks in_pieces afters state.world (brought done label) (log_on w0 past label) pulling
+              (relay label (Data bytes) pulling known) bytes (given lines label ++ []) h.0 h.1 h.2 h.3 in
+          next_as (To label (Data bytes)) text p _ (sym h.4) told (pulls_next label (Data bytes) pulling known h.0 h.1 h.2 t.events t.done t.leads t.so)
       relay_next (Room room) p h text told =
-          asks_next (Room room) (λ id. Draw id room) (λ id. refl) (λ id. refl) (λ id. tt) (λ after done a. (after, a)) p h text told
+          asks_next (Room room) (λ id. Draw id room) (λ id. refl) (λ id. refl) (λ id. tt) refl (λ after done a. (after, a)) p h text told
       relay_next (Named name) p h text told =
-          asks_next (Named name) (λ id. Title id (cleaned max_title name)) (λ id. refl) (λ id. refl) (λ id. tt) (λ after done a. (after, a)) p h text told
+          asks_next (Named name) (λ id. Title id (cleaned max_title name)) (λ id. refl) (λ id. refl) (λ id. tt) refl (λ after done a. (after, a)) p h text told
       relay_next End p h text told =
           let d = down Done pulling.number state.world h.0 [] h.1 in
           next_as (To label End) text p _ (sym h.2) told
-          (pulls_next label End pulling known pulling (Shut Done) h.0 d.events d.lifted d.leads d.own (λ run. cc))
+          (pulls_next label End pulling known pulling (Shut Done) h.0 d.events d.lifted d.leads
+          (idles_so settled_answers within_answers joined none_blocks in_pieces afters state.world (brought done label) (log_on w0 past label) pulling
+          (relay label End pulling known) d.events (given lines label ++ []) pulling (Shut Done) d.own (λ run. cc) refl (λ run. cc) d.plain d.cut d.silent))
 
     -- nothing happens on a connection that was shut
     shut_next : (label : ℕ) (input : Input) → connection_of state.connections label ≡ Some None → (text : List ℕ) → Some [] ≡ Some text
@@ -518,7 +447,7 @@ module _ (settings : Settings) (lists : Lists) (settled : IsSettled ShowsRequest
       closed : IsClosed (brought done label ++ bytes_in input) (log_on w0 past label) (given lines label)
       closed = record {
         own = was.own;
-        facts = more_facts settled within joined places data_joined (brought done label) (bytes_in input) (log_on w0 past label) (given lines label) was.facts;
+        facts = more_facts settled_answers within_answers joined none_blocks in_pieces afters settled within places data_joined (brought done label) (bytes_in input) (log_on w0 past label) (given lines label) was.facts;
       }
 
     there_next : (label : ℕ) (input : Input) (found : Option (Option Connection)) → connection_of state.connections label ≡ found → (p : Performed)

@@ -3,8 +3,10 @@ mod ReplyForms
 mod AppliedLemmas
 mod RelayLogs
 mod RunLemmas
+mod OwnLogs
 mod Connections
 mod ConnectionSteps
+mod PullSteps
 mod LabelLemmas
 mod CourseLemmas
 mod DrawLemmas

@@ -64,9 +64,11 @@ use Rattle.radio_headline.proofs.AppliedLemmas.{IsLast, IsLeaving, IsOpen, IsOrd
 use Rattle.radio_headline.proofs.ReplyForms.{IsIdle, ListenReply, IsOutOfPlace, HasFinished as IsFinishedReply, WasDenied, WasShown, WasSeated, listen_reply}
 use Rattle.radio_headline.proofs.RunLemmas.{HasNumber, IsOwn, IsIdling, IsNew, AsksNothing as IsUndecided, IsOut, AllNowhere, IsMoment, moments_are_nobodys, are_on_first, arrives_and_idles, each_happening, one_owner, reached_opening}
 use Rattle.radio_headline.proofs.Connections.{arrival, AsksForMount, AsksNothing, ByGet, Feeds as IsFeeding, IsIdleOrLeaving, IsBehindRequest, IsNoRequest}
-use Rattle.radio_headline.proofs.Connections.{Facts, HasAskedNothing, HasSentGet, IsSource, IsClosed, IsClient, IsRelay, IsSo, Stage, AtHead, AfterGet, AtBody, AfterBody, Refused}
+use Rattle.radio_headline.proofs.Connections.{Facts, HasAskedNothing, HasSentGet, IsSource, IsPulling, IsClosed, IsClient, IsRelay, IsSo, Stage, AtHead, AfterGet, AtBody, AfterBody, Refused}
 use Rattle.radio_headline.proofs.ConnectionSteps.{client_owns, idle_asks_nothing, idle_is_his}
-use Rattle.radio_headline.proofs.CourseLemmas.{relay_asks_nothing, relay_owns}
+use Rattle.radio_headline.proofs.OwnLogs.{relay_owns}
+use Rattle.radio_headline.proofs.RelayLogs.{OfRelay, OwnRelay}
+use Rattle.radio_pull.specs.Pulling.{answered}
 
 idle_or_leaving_is_his : (id : ℕ) (e : Entry) → IsIdleOrLeaving id e → client_in e.event ≡ Some id
 idle_or_leaving_is_his id e (inl h) = idle_is_his id e.event h
@@ -120,7 +122,7 @@ not_behind id (Source asked) h l = elim h [ ]
 not_behind id (Listen asked) h l = elim h [ ]
 not_behind id (Command asked) h l = elim h [ ]
 not_behind id (RelayUp mount shown) h l = elim h [ ]
-not_behind id (RelayDown him) h l = elim h [ ]
+not_behind id (RelayDown him) h l = l
 not_behind id (Clock ms) h l = elim h [ ]
 not_behind id (Push him block) h l = l
 not_behind id (SourceEnd him) h l = l
@@ -136,6 +138,24 @@ source_not bytes log f =
     subst (Each ListensNot) (sym f.in_order)
     ((λ l. l), each_joined ListensNot f.idle _ (each_as (IsIdling f.id) ListensNot (idle_not f.id) f.idle f.idles)
     ((λ l. l), each_as (IsNoRequest f.id) ListensNot (λ e h. not_behind f.id e.event h) f.behind f.no_more))
+
+-- a relay asks for no mount
+relay_listens_not : (number : Option ℕ) (log : List Entry) → OwnRelay number log → Each ListensNot log
+relay_listens_not number [] own = tt
+relay_listens_not number (e ∷ log) own = (by_event e.event own.0, relay_listens_not (answered number e.reply).number log own.1) where
+  by_event : (event : Event) → OfRelay number event → IsListening event → ⊥
+  by_event (Arrive peer) h a = elim h [ ]
+  by_event (Source asked) h a = elim h [ ]
+  by_event (SourceEnd him) h a = elim h [ ]
+  by_event (Listen asked) h a = elim h [ ]
+  by_event (Command asked) h a = elim h [ ]
+  by_event (Leave him) h a = elim h [ ]
+  by_event (Clock ms) h a = elim h [ ]
+  by_event (RelayUp mount shown) h a = a
+  by_event (Push him block) h a = a
+  by_event (Title him text) h a = a
+  by_event (Draw him room) h a = a
+  by_event (RelayDown him) h a = a
 
 none_there : (before behind : List Entry) (e : Entry) → Each ListensNot (before ++ e ∷ behind) → IsListening e.event → ⊥
 none_there before behind e h l = (each_second ListensNot before (e ∷ behind) h).0 l
@@ -154,6 +174,7 @@ module _ (bytes : List ℕ) (log : List Entry) (given : List ℕ) (before behind
   of_facts (HasAskedNothing h) = never (nothing_listened log h)
   of_facts (HasSentGet g) = g
   of_facts (IsSource f) = never (source_not bytes log f)
+  of_facts (IsPulling q) = never (relay_listens_not None log q.own)
 
   of_stage : (conversation : _) → Stage bytes log given conversation → ByGet bytes log given
   of_stage conversation (AtHead idle arrived idles hears held t) =
@@ -167,7 +188,7 @@ module _ (bytes : List ℕ) (log : List Entry) (given : List ℕ) (before behind
   by_get None h = absurd (no_entry before behind e (sym h.1 ∙ parts))
   by_get (Some None) h = of_facts h.facts
   by_get (Some (Some (Client conversation))) h = of_stage conversation h.stage
-  by_get (Some (Some (Relay pulling))) h = never (nothing_listened log (relay_asks_nothing None log h.own))
+  by_get (Some (Some (Relay pulling))) h = never (relay_listens_not None log h.own)
 
 idle_or_leaving_not : (id : ℕ) (e : Entry) → IsIdleOrLeaving id e → IsListening e.event → ⊥
 idle_or_leaving_not id e (inl h) l = idle_asks_nothing id e.event h (listening_asks e.event l)

@@ -105,7 +105,7 @@ Ups mount None (Up shown ∷ items) events =
     AreNoUps items → (behind : List Event) × (events ≡ RelayUp mount shown ∷ behind) × EachAsked IsNoUp behind
 Ups mount number items events = AreNoUps items → EachAsked IsNoUp events
 
-plain_ups : (mount : List ℕ) (number : Option ℕ) (items : List PullItem) (events : List Event) → Ups mount number items events → AreNoUps items
+pub plain_ups : (mount : List ℕ) (number : Option ℕ) (items : List PullItem) (events : List Event) → Ups mount number items events → AreNoUps items
     → EachAsked IsNoUp events
 plain_ups mount None [] events u none = subst (EachAsked IsNoUp) (sym u) tt
 plain_ups mount None (Up shown ∷ items) events u none = elim none [ ]

@@ -34,6 +34,7 @@ use Rattle.radio_headline.specs.Sources.{pushed, pushed_by}
 use Rattle.radio_headline.proofs.Logs.{Entry, entry, log_on, Each, itself}
 use Rattle.radio_headline.proofs.AppliedLemmas.{IsLast, IsLeaving, IsOrderly}
 use Rattle.radio_headline.proofs.ReplyForms.{noted_block, brings_noted, PushReply, PushIsStray, PushIsLast, PushIsDenied, PushIsNoted, push_reply, feeds_push}
+use Rattle.radio_headline.proofs.RelayLogs.{IsCut, IsGoing, IsRefusal}
 use Rattle.radio_headline.proofs.RunLemmas.{HasNumber, Reached, last_stays, given_here, reached_after, steps_at}
 use Rattle.radio_headline.proofs.Connections.{IsBehindRequest, IsNoRequest, events_of}
 use Rattle.radio_headline.proofs.ConnectionSteps.{behind_is_his}
@@ -102,9 +103,43 @@ pub record Front (log : List Entry) : Type 0 where
   pub rest : List ℕ
   pub is_front : noted log ++ rest ≡ pushed (events_of log)
 
-leaving_notes : (id : ℕ) (log : List Entry) → Each (IsLeaving id) log → Each NotesNothing log
-leaving_notes id [] h = tt
-leaving_notes id (e ∷ log) h = (no_block e.event e.reply (ap pushed_by h.0), leaving_notes id log h.1)
+going_pushes : (event : Event) → IsGoing event → pushed_by event ≡ []
+going_pushes (Arrive peer) h = elim h [ ]
+going_pushes (Source asked) h = elim h [ ]
+going_pushes (Push him block) h = elim h [ ]
+going_pushes (SourceEnd him) h = elim h [ ]
+going_pushes (Title him text) h = elim h [ ]
+going_pushes (Listen asked) h = elim h [ ]
+going_pushes (Draw him room) h = elim h [ ]
+going_pushes (Command asked) h = elim h [ ]
+going_pushes (RelayUp mount shown) h = elim h [ ]
+going_pushes (Clock ms) h = elim h [ ]
+going_pushes (Leave him) h = refl
+going_pushes (RelayDown him) h = refl
+
+going_notes : (log : List Entry) → Each (λ e. IsGoing e.event) log → Each NotesNothing log
+going_notes [] h = tt
+going_notes (e ∷ log) h = (no_block e.event e.reply (going_pushes e.event h.0), going_notes log h.1)
+
+-- where nothing comes behind the last that is told, nothing comes behind a refusal
+refusal_is_last : (reply : Reply) → IsRefusal reply → IsLast reply
+refusal_is_last (Deny rule) h = tt
+refusal_is_last (Finished rule) h = tt
+refusal_is_last (Arrived id) h = elim h [ ]
+refusal_is_last Feeding h = elim h [ ]
+refusal_is_last (Seated interval head) h = elim h [ ]
+refusal_is_last (Drawn bytes title) h = elim h [ ]
+refusal_is_last Noted h = elim h [ ]
+refusal_is_last (Text text) h = elim h [ ]
+refusal_is_last Stray h = elim h [ ]
+
+leaving_goes : (id : ℕ) (log : List Entry) → Each (IsLeaving id) log → Each (λ e. IsGoing e.event) log
+leaving_goes id [] h = tt
+leaving_goes id (e ∷ log) h = (subst IsGoing (sym h.0) tt, leaving_goes id log h.1)
+
+pub orderly_is_cut : (id : ℕ) (log : List Entry) → IsOrderly id log → IsCut log
+orderly_is_cut id [] h = tt
+orderly_is_cut id (e ∷ log) h = ((λ r. leaving_goes id log (h.0 (refusal_is_last e.reply r))), orderly_is_cut id log h.1)
 
 module _ (settings : Settings) (lists : Lists)
     (fits : (events : List Event) (event : Event) → RepliesFit (run_after settings lists events) event)
@@ -143,7 +178,6 @@ module _ (settings : Settings) (lists : Lists)
   behind_notes w id (Listen asked) his n = elim his [ ]
   behind_notes w id (Command asked) his n = elim his [ ]
   behind_notes w id (RelayUp mount shown) his n = elim his [ ]
-  behind_notes w id (RelayDown him) his n = elim his [ ]
   behind_notes w id (Clock ms) his n = elim his [ ]
   behind_notes w id (Push him block) his n = by_reply (reply_to w (Push him block)) (push_reply w him block) where
     by_reply : (r : Reply) → PushReply w him r → noted_block r (Push him block) ≡ []
@@ -160,6 +194,7 @@ module _ (settings : Settings) (lists : Lists)
   behind_notes w id (SourceEnd him) his n = no_block (SourceEnd him) (reply_to w (SourceEnd him)) refl
   behind_notes w id (Title him text) his n = no_block (Title him text) (reply_to w (Title him text)) refl
   behind_notes w id (Draw him room) his n = no_block (Draw him room) (reply_to w (Draw him room)) refl
+  behind_notes w id (RelayDown him) his n = no_block (RelayDown him) (reply_to w (RelayDown him)) refl
   behind_notes w id (Leave him) his n = no_block (Leave him) (reply_to w (Leave him)) refl
 
   -- who feeds nothing, and does not ask to, brings nothing
@@ -179,7 +214,7 @@ module _ (settings : Settings) (lists : Lists)
 
   -- a source brings a front of what it pushes
   module _ (w : World) (event : Event) (id : ℕ) (log : List Entry) (his : IsBehindRequest id event)
-      (orderly : IsOrderly id (entry w event ∷ log)) (silent : FeedsNothing (standing_of w id) → Each NotesNothing log) (later : Front log) where
+      (orderly : IsCut (entry w event ∷ log)) (silent : FeedsNothing (standing_of w id) → Each NotesNothing log) (later : Front log) where
     goes_on_so : noted_block (reply_to w event) event ≡ pushed_by event → Front (entry w event ∷ log)
     goes_on_so e = record {
       rest = later.rest;
@@ -203,9 +238,9 @@ module _ (settings : Settings) (lists : Lists)
     by_push him block e (Text text) d h same = elim h [ ]
     by_push him block e Noted d (PushIsNoted mount feeds) same = goes_on_so (ap (λ (x : Reply). noted_block x event) d)
     by_push him block e (Finished rule) d (PushIsLast _) same =
-        stops_so (ap (λ (x : Reply). noted_block x event) d) (leaving_notes id log (orderly.0 (subst IsLast (sym d) tt)))
+        stops_so (ap (λ (x : Reply). noted_block x event) d) (going_notes log (orderly.0 (subst IsRefusal (sym d) tt)))
     by_push him block e (Deny rule) d (PushIsDenied _) same =
-        stops_so (ap (λ (x : Reply). noted_block x event) d) (leaving_notes id log (orderly.0 (subst IsLast (sym d) tt)))
+        stops_so (ap (λ (x : Reply). noted_block x event) d) (going_notes log (orderly.0 (subst IsRefusal (sym d) tt)))
     by_push him block e Stray d PushIsStray same =
         stops_so (ap (λ (x : Reply). noted_block x event) d) (silent (feeds_none (standing_of w id) refl)) where
           feeds_none : (s : Standing) → standing_of w id ≡ s → FeedsNothing s
@@ -217,14 +252,13 @@ module _ (settings : Settings) (lists : Lists)
           feeds_none Answered f = tt
           feeds_none (HasFinished rule) f = tt
 
-  one_more : (w : World) (event : Event) (id : ℕ) (log : List Entry) → IsBehindRequest id event → IsOrderly id (entry w event ∷ log)
+  one_more : (w : World) (event : Event) (id : ℕ) (log : List Entry) → IsBehindRequest id event → IsCut (entry w event ∷ log)
       → (FeedsNothing (standing_of w id) → Each NotesNothing log) → Front log → Front (entry w event ∷ log)
   one_more w (Arrive peer) id log his orderly silent later = elim his [ ]
   one_more w (Source asked) id log his orderly silent later = elim his [ ]
   one_more w (Listen asked) id log his orderly silent later = elim his [ ]
   one_more w (Command asked) id log his orderly silent later = elim his [ ]
   one_more w (RelayUp mount shown) id log his orderly silent later = elim his [ ]
-  one_more w (RelayDown him) id log his orderly silent later = elim his [ ]
   one_more w (Clock ms) id log his orderly silent later = elim his [ ]
   one_more w (Push him block) id log his orderly silent later =
       by_push w (Push him block) id log his orderly silent later him block refl (reply_to w (Push him block)) refl (push_reply w him block) his
@@ -234,19 +268,21 @@ module _ (settings : Settings) (lists : Lists)
       goes_on_so w (Title him text) id log his orderly silent later (no_block (Title him text) (reply_to w (Title him text)) refl)
   one_more w (Draw him room) id log his orderly silent later =
       goes_on_so w (Draw him room) id log his orderly silent later (no_block (Draw him room) (reply_to w (Draw him room)) refl)
+  one_more w (RelayDown him) id log his orderly silent later =
+      goes_on_so w (RelayDown him) id log his orderly silent later (no_block (RelayDown him) (reply_to w (RelayDown him)) refl)
   one_more w (Leave him) id log his orderly silent later =
       goes_on_so w (Leave him) id log his orderly silent later (no_block (Leave him) (reply_to w (Leave him)) refl)
 
   pub brings_front : (w : World) (past : List Happening) (label id : ℕ) → IsReached w → id ≤ w.house.last_id → AllByRecursion (IsOnIt label id) past
-      → Each (IsNoRequest id) (log_on w past label) → IsOrderly id (log_on w past label) → Front (log_on w past label)
+      → Each (IsNoRequest id) (log_on w past label) → IsCut (log_on w past label) → Front (log_on w past label)
   brings_front w [] label id r below on h o = record { rest = []; is_front = refl }
   brings_front w (x ∷ past) label id r below on h o =
       by_label (brings_front (world_after w x.event) past label id (reached_after settings lists fits adds steps w x.event r)
       (last_stays settings lists fits adds steps w x.event id r below) on.1) (is_number label x.label) h o where
-        by_label : (Each (IsNoRequest id) (log_on (world_after w x.event) past label) → IsOrderly id (log_on (world_after w x.event) past label)
+        by_label : (Each (IsNoRequest id) (log_on (world_after w x.event) past label) → IsCut (log_on (world_after w x.event) past label)
             → Front (log_on (world_after w x.event) past label))
             → (b : Bool) → Each (IsNoRequest id) ((if b then entry w x.event ∷ [] else []) ++ log_on (world_after w x.event) past label)
-            → IsOrderly id ((if b then entry w x.event ∷ [] else []) ++ log_on (world_after w x.event) past label)
+            → IsCut ((if b then entry w x.event ∷ [] else []) ++ log_on (world_after w x.event) past label)
             → Front ((if b then entry w x.event ∷ [] else []) ++ log_on (world_after w x.event) past label)
         by_label ih true k p =
             one_more w x.event id (log_on (world_after w x.event) past label) k.0 p

@@ -12,6 +12,7 @@ use radio_core::{
     sessions_are_their_sources,
 };
 use radio_heads::{heads_lie_within, settled};
+use radio_icy::laws::cut_streams;
 use radio_laws::{
     access_is_kept, commands_are_done, denials_are_the_policys, listeners_are_told_titles,
     listeners_begin_at_a_block, listeners_walk_on, sight_is_kept, stretches_are_whole,
@@ -40,6 +41,7 @@ pub fn listeners_hear_slices()
     ensures { ListenersHearSlices }
 {
     blocks_are_the_data();
+    cut_streams();
     heads_lie_within();
     settled();
     pieces_are_joined();

@@ -23,8 +23,13 @@ returns c settings lists deliveries text stop transcript =
     let seated = c.listeners_begin_at_a_block.ensures.seated settings lists in
     let sessions = c.sessions_are_their_sources.ensures.steps settings lists in
     let mounts = c.stretches_are_whole.ensures.mounts settings lists in
-    let came = comes settings lists settled within joined places found deliveries [] (opening_script settings lists) transcript.0 [] [] 1 text stop
-        (nothing_stands settings lists settled within joined places found) transcript.1 in
+    let settled_answers = c.settled.ensures.responses in
+    let within_answers = c.heads_lie_within.ensures.responses in
+    let none_blocks = c.blocks_are_the_data.ensures.none in
+    let in_pieces = c.cut_streams.ensures.heard in
+    let afters = c.cut_streams.ensures.after in
+    let came = comes settings lists settled within settled_answers within_answers none_blocks in_pieces afters joined places found deliveries [] (opening_script settings lists) transcript.0 [] [] 1 text stop
+        (nothing_stands settings lists settled within settled_answers within_answers none_blocks in_pieces afters joined places found) transcript.1 in
     let stands = came.stands in
     let bodies = delivers_body settled within joined places found settings lists fits adds steps deliveries came.performed came.rest came.parts transcript.0
         came.course came.told stands.each stands.nowhere in
