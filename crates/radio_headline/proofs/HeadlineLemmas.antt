@@ -18,7 +18,7 @@ use Rattle.radio_laws.specs.Stretches.{SeatsKeepTheirMounts, sittings}
 use Rattle.radio_script.specs.declared.delivery.Delivery.{Delivery}
 use Rattle.radio_headline.specs.Course.{Happening, events_in, on}
 use Rattle.radio_headline.specs.Listeners.{SitsWithASource}
-use Rattle.radio_headline.specs.Sources.{HasItsSource, SourcesDeliverTheirBodies}
+use Rattle.radio_headline.specs.Sources.{HasItsSource, RelaysDeliverTheirSound, SourcesDeliverTheirBodies}
 use Rattle.radio_headline.proofs.RunLemmas.{AllNowhere, IsMoment}
 use Rattle.radio_headline.proofs.SittingLemmas.{IsFed, BySource, ByRelay, fed_all, none_fed, sits_with}
 
@@ -27,6 +27,7 @@ module _ (settings : Settings) (lists : Lists)
     (mounts : (events : List Event) (event : Event) → SeatsKeepTheirMounts (run_after settings lists events) event)
     (deliveries : List Delivery) (course : List Happening)
     (delivers : SourcesDeliverTheirBodies settings lists deliveries course)
+    (relays : RelaysDeliverTheirSound settings lists deliveries course)
     (nowhere : AllNowhere (λ h. IsMoment h.event) course) where
   abbrev ItsSource : List ℕ → Session → Type 0
   ItsSource mount session = HasItsSource settings lists deliveries course mount session.number session.shown
@@ -61,6 +62,7 @@ module _ (settings : Settings) (lists : Lists)
         begun = begun;
         has_begun = b;
         still_shown = s;
+        delivers = relays label mount shown session.number before (after ++ later) there r;
       })
 
   nowhere_first : (past later : List Happening) → AllNowhere (λ h. IsMoment h.event) (past ++ later) → AllNowhere (λ h. IsMoment h.event) past

@@ -13,5 +13,6 @@ mod DrawLemmas
 mod ListenerLemmas
 mod SourceLemmas
 mod BodyLemmas
+mod SoundLemmas
 mod SittingLemmas
 mod HeadlineLemmas

@@ -223,7 +223,7 @@ module _ (settled : IsSettled ShowsResponse) (within : HeadsLieWithin ShowsRespo
     front = front;
   }
 
-  more_pulled : (bytes more : List ℕ) (log : List Entry) → Pulls bytes log → Pulls (bytes ++ more) log
+  pub more_pulled : (bytes more : List ℕ) (log : List Entry) → Pulls bytes log → Pulls (bytes ++ more) log
   more_pulled bytes more log p =
       pulls_with bytes (bytes ++ more) log log p (read_more bytes more p.head p.length p.reading) p.behind p.in_order p.own p.no_more p.cut
       (p.rest ++ sound_in (stream_parts (stream_after p) more))

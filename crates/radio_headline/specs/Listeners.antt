@@ -36,7 +36,7 @@ use Rattle.radio_script.specs.declared.delivery.Delivery.{Delivery}
 use Rattle.radio_script.specs.Given.{TranscriptLine, AreLines, given, written}
 use Rattle.radio_floor.specs.Transcript.{IsTranscriptOf}
 use Rattle.radio_headline.specs.Course.{Happening, ComesTo, events_in, on}
-use Rattle.radio_headline.specs.Sources.{HasItsSource, IsRequest, SourcesDeliverTheirBodies, brought}
+use Rattle.radio_headline.specs.Sources.{HasItsSource, IsRequest, RelaysDeliverTheirSound, SourcesDeliverTheirBodies, brought}
 
 -- the draws that the events hand to the listener of this number, in their order
 abbrev pub draws_to : World → List Event → ℕ → List Call
@@ -112,8 +112,8 @@ pub record IsLawful (settings : Settings) (lists : Lists) (events : List Event) 
   pub commanded : OnlyWhoMayCommands (run_after settings lists events) event
   pub kept : CommandsAreKept (run_after settings lists events) event
 
--- A script comes to its transcript by a course of lawful events. Its sources deliver a front of the data of their bodies, and each who asks to hear
--- a mount is given slices of these, or reads why not.
+-- A script comes to its transcript by a course of lawful events. Its sources deliver a front of the data of their bodies, and its relays of the
+-- sound that they pull in; and each who asks to hear a mount is given slices of these, or reads why not.
 pub record HearsSlices (settings : Settings) (lists : Lists) (deliveries : List Delivery) (text : List ℕ) (stop : Option ℕ) : Type 0 where
   pub course : List Happening
   pub comes : ComesTo settings lists deliveries text stop course
@@ -123,6 +123,7 @@ pub record HearsSlices (settings : Settings) (lists : Lists) (deliveries : List 
   pub is_written : IsWrittenBy text lines
   pub listeners : ListenersAreGiven settings lists deliveries course lines
   pub sources : SourcesDeliverTheirBodies settings lists deliveries course
+  pub relays : RelaysDeliverTheirSound settings lists deliveries course
 
 abbrev pub ListenersHearSlices : Type 0
 ListenersHearSlices = (settings : Settings) (lists : Lists) (deliveries : List Delivery) (text : List ℕ) (stop : Option ℕ)

@@ -11,7 +11,9 @@ use Rattle.radio_events.specs.declared.event.SourceRequest.{SourceRequest}
 use Rattle.radio_core.specs.Handing.{delivered}
 use Rattle.radio_core.specs.Run.{run_after}
 use Rattle.radio_core.specs.SessionSteps.{HasBegun}
+use Rattle.radio_core.specs.Step.{reply_to}
 use Rattle.radio_core.specs.World.{opening}
+use Rattle.radio_events.specs.declared.reply.Reply.TheVariants.{Arrived}
 use Rattle.radio_parts.specs.Sessions.{Session}
 use Rattle.radio_relay.specs.Laws.{sound_in}
 use Rattle.radio_relay.specs.Pulled.{IsPulled, Part, Pulled, ShownPart}
@@ -94,6 +96,7 @@ module _ (settings : Settings) (lists : Lists) (deliveries : List Delivery) (cou
     pub begun : Session
     pub has_begun : HasBegun (run_after settings lists (events_in before)) mount number shown begun
     pub still_shown : shown_now ≡ begun.shown
+    pub delivers : DeliversItsSound settings lists deliveries course label number shown
 
   abbrev pub HasItsSource : Shown → Type 0
   HasItsSource shown_now = IsOfASource shown_now ⊎ IsOfARelay shown_now
@@ -102,3 +105,10 @@ module _ (settings : Settings) (lists : Lists) (deliveries : List Delivery) (cou
 abbrev pub SourcesDeliverTheirBodies : Settings → Lists → List Delivery → List Happening → Type 0
 SourcesDeliverTheirBodies settings lists deliveries course = (label : ℕ) (asked : SourceRequest) (past later : List Happening)
     → course ≡ past ++ on label (Source asked) ∷ later → DeliversItsBody settings lists deliveries course label asked
+
+-- each relay that comes up, and is given this number
+abbrev pub RelaysDeliverTheirSound : Settings → Lists → List Delivery → List Happening → Type 0
+RelaysDeliverTheirSound settings lists deliveries course = (label : ℕ) (mount : List ℕ) (shown : Shown) (number : ℕ) (past later : List Happening)
+    → course ≡ past ++ on label (RelayUp mount shown) ∷ later
+    → reply_to (run_after settings lists (events_in past)) (RelayUp mount shown) ≡ Arrived number
+    → DeliversItsSound settings lists deliveries course label number shown
