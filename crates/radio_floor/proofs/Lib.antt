@@ -5,4 +5,3 @@ mod OneTranscript
 mod LastWordLemmas
 mod PullEventLemmas
 mod EventLemmas
-mod DrawLemmas

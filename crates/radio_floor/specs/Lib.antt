@@ -4,4 +4,3 @@ pub mod Performing
 pub mod Transcript
 pub mod ScriptEvents
 pub mod LastWords
-pub mod HearsSlices

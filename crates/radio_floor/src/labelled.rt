@@ -7,9 +7,9 @@ use radio_pull::RelayPull;
 use radio_session::Session;
 use radio_tables::{Row, Table};
 
-/// What a label names.
+/// The connection of a label of a script.
 #[derive(Drop)]
-pub(crate) enum Connection {
+pub enum Connection {
     /// A client's connection.
     Client(Session),
     /// A relay's connection to its master.
@@ -19,9 +19,11 @@ pub(crate) enum Connection {
 /// A label that was opened, and its connection until that is shut. What a draw reads of both lies
 /// together.
 #[derive(Drop)]
-pub(crate) struct Labelled {
-    pub(crate) label: u32,
-    pub(crate) connection: Option<Connection>,
+pub struct Labelled {
+    /// The number by which the script names it.
+    pub label: u32,
+    /// None where it was shut, or never taken in.
+    pub connection: Option<Connection>,
 }
 
 impl Row for Labelled {

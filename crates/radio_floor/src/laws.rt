@@ -1,16 +1,10 @@
 //! Laws on the transcript, which run no code.
 
-ghost use Rattle.std.specs.Prelude.{ℕ, List};
-ghost use Rattle.radio_settings.specs.declared.settings.Settings.{Settings};
-ghost use Rattle.radio_access.specs.Lists.{Lists};
-ghost use Rattle.radio_events.specs.declared.event.Event.{Event};
 ghost use Rattle.radio_script.specs.Laws.{GoesOnAsItBegan, HasOneTranscript, IsDetermined};
 ghost use Rattle.radio_floor.specs.Transcript.{conduct};
 ghost use Rattle.radio_floor.specs.LastWords.{DenialsAreTold, CommandsAreTold, FinishesAreTold, ClosedOnesAreDone};
 ghost use Rattle.radio_floor.specs.ScriptEvents.{ScriptsComeToEvents};
-ghost use Rattle.radio_floor.specs.HearsSlices.{DrawsAreStretches};
 
-use radio_laws::stretches_are_whole;
 use radio_pull::pulling_is_one;
 use radio_session::{hearing_is_one, last_words_name_the_rule};
 
@@ -37,18 +31,9 @@ pub fn last_words_are_told()
     last_words_name_the_rule();
 }
 
-/// The events of a script: the first part of the law from bytes to bytes.
+/// The events of a script.
 pub fn scripts_come_to_events()
     // a script that comes to a transcript comes to events: delivery by delivery the first of those
     // that are asked on its connection, or all, which lead the server from its state to the next
     ensures { ScriptsComeToEvents }
 {}
-
-/// The draws of a listener, another part of that law.
-pub fn draws_are_stretches()
-    // over every run, the data in the draws that a listener is handed are slices, one for each of his
-    // sittings, of what the source delivered in whose session he sat
-    ensures { (settings : Settings) (lists : Lists) (events : List Event) (id : ℕ) → DrawsAreStretches settings lists events id }
-{
-    stretches_are_whole();
-}

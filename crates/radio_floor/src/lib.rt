@@ -5,7 +5,7 @@
 //!   labels), `labelled`, `handler` and `relay_handler` (what comes to a client's connection, and to a
 //!   relay's), and `performing`.
 //! - Laws, which run no code: [`the_transcript_is_one`], [`last_words_are_told`],
-//!   [`scripts_come_to_events`], [`draws_are_stretches`].
+//!   [`scripts_come_to_events`].
 //!
 //! The lines of scripts and of transcripts, and the devices, are those of `radio_script`; what a
 //! client's connection hears and says is `radio_session`'s, and what a relay pulls in `radio_pull`'s.
@@ -19,9 +19,8 @@ mod relay_handler;
 mod script_server;
 mod scripts;
 
-pub use laws::{
-    draws_are_stretches, last_words_are_told, scripts_come_to_events, the_transcript_is_one,
-};
+pub use labelled::{Connection, Labelled};
+pub use laws::{last_words_are_told, scripts_come_to_events, the_transcript_is_one};
 pub use radio_script::{
     Counted, CountedRead, CountedWrite, Delivery, Input, PlayFault, RunFault, Tally,
 };

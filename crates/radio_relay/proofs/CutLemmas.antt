@@ -51,7 +51,7 @@ abbrev pub AfterPieces : Type 0
 AfterPieces = (u : Unweaving) (pieces : List (List ℕ)) → after_pieces u pieces ≡ after_feeding u (concat pieces)
 
 module _ (in_pieces : HeardInPieces) (after : AfterPieces) where
-  parts-cut : (stream : Stream) (one two : List ℕ) → stream_parts stream (one ++ two) ≡ stream_parts stream one ++ stream_parts (after_bytes stream one) two
+  pub parts-cut : (stream : Stream) (one two : List ℕ) → stream_parts stream (one ++ two) ≡ stream_parts stream one ++ stream_parts (after_bytes stream one) two
   parts-cut Plain one two = map-append (λ b. SoundPart b) one two
   parts-cut (Woven reader) one two =
       let first = heard reader one in
@@ -61,7 +61,7 @@ module _ (in_pieces : HeardInPieces) (after : AfterPieces) where
       ∙ ap (λ atoms. first ++ atoms) (append-nil second) in
       ap parts_heard joined ∙ flat_map-append parts_of_atom first second
 
-  after-cut : (stream : Stream) (one two : List ℕ) → after_bytes stream (one ++ two) ≡ after_bytes (after_bytes stream one) two
+  pub after-cut : (stream : Stream) (one two : List ℕ) → after_bytes stream (one ++ two) ≡ after_bytes (after_bytes stream one) two
   after-cut Plain one two = refl
   after-cut (Woven reader) one two =
       ap Woven (ap (λ (bytes : List ℕ). after_feeding reader (one ++ bytes)) (sym (append-nil two)) ∙ sym (after reader (one ∷ two ∷ [])))

@@ -14,7 +14,7 @@ use Rattle.radio_house.specs.World.{World, opening}
 use Rattle.radio_icy.specs.Weaving.{Call}
 use Rattle.radio_icy.specs.Stream.{sound_of_calls}
 use Rattle.radio_session.specs.Told.{draws_of}
-use Rattle.radio_floor.specs.HearsSlices.{draws_to, DrawsAreStretches}
+use Rattle.radio_headline.specs.Listeners.{draws_to, DrawsAreStretches}
 
 -- a draw holds the data of its reply, and no other reply has any
 data_drawn : (reply : Reply) → sound_of_calls (draws_of (reply ∷ [])) ≡ data_in reply

@@ -1,0 +1,374 @@
+-- Each source of a script delivers a front of the data of its body.
+use Rattle.std.proofs.Common.{◌≡◌, ◌⊎◌, inl, inr, ℕ, Bool, true, false, List, [], ◌∷◌, ◌++◌, drop, Option, None, Some, Ok, refl, sym, ap, subst, ◌∙◌, append_assoc}
+use Rattle.std.specs.Prelude.{map, codes, if◌then◌else◌, option_map}
+use Rattle.std.specs.List.{AllByRecursion, concat, flat_map}
+use Rattle.std.specs.Str.{bytes_eq}
+use Rattle.std.proofs.lemmas.List.Concat.{flat_map-append}
+use Rattle.radio_addr.specs.declared.peer.Peer.{Peer}
+use Rattle.radio_blocks.specs.Cutting.{blocks_of}
+use Rattle.radio_settings.specs.declared.settings.Settings.{Settings}
+use Rattle.radio_access.specs.Lists.{Lists}
+use Rattle.radio_policy.specs.declared.rule.Rule.TheVariants.{BadMethod}
+use Rattle.radio_events.specs.declared.event.Event.{Event}
+use Rattle.radio_events.specs.declared.event.Event.TheVariants.{Arrive, Source, Push, SourceEnd, Title, Listen, Draw, Command, Leave, RelayUp, RelayDown, Clock}
+use Rattle.radio_events.specs.declared.event.ListenRequest.{ListenRequest}
+use Rattle.radio_events.specs.declared.event.SourceRequest.{SourceRequest}
+use Rattle.radio_events.specs.declared.reply.Reply.{Reply}
+use Rattle.radio_events.specs.declared.reply.Reply.TheVariants.{Arrived}
+use Rattle.radio_events.specs.Events.{client_in}
+use Rattle.radio_core.specs.ClientSteps.{ClientsStep}
+use Rattle.radio_core.specs.Handing.{is_number, delivered}
+use Rattle.radio_core.specs.Others.{RepliesFit}
+use Rattle.radio_core.specs.Run.{run_after, world_after_all}
+use Rattle.radio_core.specs.Step.{reply_to, world_after}
+use Rattle.radio_core.specs.Totals.{AddsUp}
+use Rattle.radio_house.specs.World.{World, opening}
+use Rattle.radio_heads.specs.declared.outcome.Progress.TheVariants.{Whole}
+use Rattle.radio_heads.specs.Head.{RequestParts, ShowsRequest}
+use Rattle.radio_heads.specs.Laws.{IsSettled, HeadsLieWithin}
+use Rattle.radio_heads.specs.Reading.{IsReading}
+use Rattle.radio_source.specs.Place.{Place, after, data_of, has_ended, fault_at}
+use Rattle.radio_session.specs.Asking.{asks_by_get, asks_to_feed, asks_to_hear, gives_command, is_for_commands, path_in}
+use Rattle.radio_session.specs.Conversation.{Conversation, fresh}
+use Rattle.radio_session.specs.Framing.{is_source, framing_of, start_of}
+use Rattle.radio_session.specs.Hearing.{Heard, body_closes, body_heard, get_heard, greeted, nothing_held, refuses, request_heard, source_heard}
+use Rattle.radio_script.specs.declared.delivery.Delivery.{Delivery}
+use Rattle.radio_script.specs.Given.{TranscriptLine, given}
+use Rattle.radio_floor.specs.declared.labelled.Connection.{Connection}
+use Rattle.radio_floor.specs.declared.labelled.Connection.TheVariants.{Client, Relay}
+use Rattle.radio_floor.specs.ScriptState.{ScriptState, connection_of}
+use Rattle.radio_headline.specs.Course.{Happening, events_in, on}
+use Rattle.radio_headline.specs.Sources.{DeliversItsBody, IsRequest, brought, pushed, pushed_by}
+use Rattle.radio_headline.proofs.Logs.{Entry, entry, log_on, log_joined, Each, each_as, each_first, each_joined, each_second, itself}
+use Rattle.radio_headline.proofs.AppliedLemmas.{IsOrderly}
+use Rattle.radio_headline.proofs.ReplyForms.{IsIdle}
+use Rattle.radio_headline.proofs.RunLemmas.{AllNowhere, IsMoment, HasNumber, IsOwn, IsIdling, each_happening, one_owner, last_stays, reached_opening, reached_after, reached_all}
+use Rattle.radio_headline.proofs.Connections.{arrival, AsksForMount, AsksNothing, ByGet, Feeds, IsIdleOrLeaving, IsBehindRequest, IsNoRequest, events_of}
+use Rattle.radio_headline.proofs.Connections.{Facts, HasAskedNothing, HasSentGet, IsSource, IsPulling, IsClosed, IsClient, IsRelay, IsSo, Stage, AtHead, AfterGet, AtBody, AfterBody, Refused}
+use Rattle.radio_headline.proofs.ConnectionSteps.{Delivers, behind_is_his, delivers_by, idle_asks_nothing, idle_is_his, idle_pushes_nothing, more_for_get, more_for_source}
+use Rattle.radio_headline.proofs.CourseLemmas.{brought_joined}
+use Rattle.radio_headline.proofs.RelayLogs.{OfRelay, OwnRelay}
+use Rattle.radio_pull.specs.Pulling.{answered}
+use Rattle.radio_headline.proofs.ListenerLemmas.{IsOnIt, by_get, get_is_of, no_entry, on_his, orderly_second, parted_at_get, so_owns}
+use Rattle.radio_headline.proofs.SourceLemmas.{orderly_is_cut, Front, IsHisOrNotesNothing, NotesNothing, brings_front, delivered_gathered, given_before, no_block, noted, noted_of, nothing_noted}
+
+-- by this event a mount is asked for, to feed it
+abbrev IsSourcing : Event → Type 0
+IsSourcing (Source asked) = Unit {0}
+IsSourcing event = ⊥
+
+abbrev FeedsNot : Entry → Type 0
+FeedsNot e = IsSourcing e.event → ⊥
+
+sourcing_asks : (event : Event) → IsSourcing event → AsksForMount event
+sourcing_asks (Arrive peer) h = elim h [ ]
+sourcing_asks (Push him block) h = elim h [ ]
+sourcing_asks (SourceEnd him) h = elim h [ ]
+sourcing_asks (Title him text) h = elim h [ ]
+sourcing_asks (Listen asked) h = elim h [ ]
+sourcing_asks (Draw him room) h = elim h [ ]
+sourcing_asks (Command asked) h = elim h [ ]
+sourcing_asks (Leave him) h = elim h [ ]
+sourcing_asks (RelayUp mount shown) h = elim h [ ]
+sourcing_asks (RelayDown him) h = elim h [ ]
+sourcing_asks (Clock ms) h = elim h [ ]
+sourcing_asks (Source asked) h = tt
+
+nothing_fed : (log : List Entry) → Each AsksNothing log → Each FeedsNot log
+nothing_fed log h = each_as AsksNothing FeedsNot (λ e f l. f (sourcing_asks e.event l)) log h
+
+idle_feeds_not : (id : ℕ) (e : Entry) → IsIdling id e → FeedsNot e
+idle_feeds_not id e h l = idle_asks_nothing id e.event h (sourcing_asks e.event l)
+
+leaving_feeds_not : (id : ℕ) (e : Entry) → IsIdleOrLeaving id e → FeedsNot e
+leaving_feeds_not id e (inl h) l = idle_feeds_not id e h l
+leaving_feeds_not id e (inr h) l = subst IsSourcing h l
+
+behind_feeds_not : (id : ℕ) (event : Event) → IsBehindRequest id event → IsSourcing event → ⊥
+behind_feeds_not id (Arrive peer) h l = elim h [ ]
+behind_feeds_not id (Source asked) h l = elim h [ ]
+behind_feeds_not id (Listen asked) h l = elim h [ ]
+behind_feeds_not id (Command asked) h l = elim h [ ]
+behind_feeds_not id (RelayUp mount shown) h l = elim h [ ]
+behind_feeds_not id (RelayDown him) h l = l
+behind_feeds_not id (Clock ms) h l = elim h [ ]
+behind_feeds_not id (Push him block) h l = l
+behind_feeds_not id (SourceEnd him) h l = l
+behind_feeds_not id (Title him text) h l = l
+behind_feeds_not id (Draw him room) h l = l
+behind_feeds_not id (Leave him) h l = l
+
+get_feeds_not : (id : ℕ) (request : RequestParts) → IsSourcing (asks_by_get id request) → ⊥
+get_feeds_not id request l = by_kind (is_for_commands (path_in request)) l where
+  by_kind : (b : Bool) → IsSourcing (if b then gives_command id request (path_in request) else asks_to_hear id request (path_in request)) → ⊥
+  by_kind true h = h
+  by_kind false h = h
+
+get_not : (bytes : List ℕ) (log : List Entry) (given : List ℕ) → ByGet bytes log given → Each FeedsNot log
+get_not bytes log given g =
+    subst (Each FeedsNot) (sym g.in_order)
+    ((λ l. l), each_joined FeedsNot g.idle _ (each_as (IsIdling g.id) FeedsNot (idle_feeds_not g.id) g.idle g.idles)
+    (get_feeds_not g.id g.request, each_as (IsIdleOrLeaving g.id) FeedsNot (leaving_feeds_not g.id) g.behind g.no_more))
+
+-- a relay asks for no mount
+relay_feeds_not : (number : Option ℕ) (log : List Entry) → OwnRelay number log → Each FeedsNot log
+relay_feeds_not number [] own = tt
+relay_feeds_not number (e ∷ log) own = (by_event e.event own.0, relay_feeds_not (answered number e.reply).number log own.1) where
+  by_event : (event : Event) → OfRelay number event → IsSourcing event → ⊥
+  by_event (Arrive peer) h a = elim h [ ]
+  by_event (Source asked) h a = elim h [ ]
+  by_event (SourceEnd him) h a = elim h [ ]
+  by_event (Listen asked) h a = elim h [ ]
+  by_event (Command asked) h a = elim h [ ]
+  by_event (Leave him) h a = elim h [ ]
+  by_event (Clock ms) h a = elim h [ ]
+  by_event (RelayUp mount shown) h a = a
+  by_event (Push him block) h a = a
+  by_event (Title him text) h a = a
+  by_event (Draw him room) h a = a
+  by_event (RelayDown him) h a = a
+
+none_there : (before behind : List Entry) (e : Entry) → Each FeedsNot (before ++ e ∷ behind) → IsSourcing e.event → ⊥
+none_there before behind e h l = (each_second FeedsNot before (e ∷ behind) h).0 l
+
+-- where a mount is asked for, to feed it, a source's request was heard
+module _ (bytes : List ℕ) (log : List Entry) (given : List ℕ) (before behind : List Entry) (e : Entry) (parts : log ≡ before ++ e ∷ behind)
+    (feeds : IsSourcing e.event) where
+  never : {A : Type 0} → Each FeedsNot log → A
+  never h = absurd (none_there before behind e (subst (Each FeedsNot) parts h) feeds)
+
+  of_facts : Facts bytes log given → Feeds bytes log
+  of_facts (HasAskedNothing h) = never (nothing_fed log h)
+  of_facts (HasSentGet g) = never (get_not bytes log given g)
+  of_facts (IsSource f) = f
+  of_facts (IsPulling q) = never (relay_feeds_not None log q.own)
+
+  of_stage : (conversation : Conversation) → Stage bytes log given conversation → Feeds bytes log
+  of_stage conversation (AtHead idle arrived idles hears held t) =
+      never (subst (Each FeedsNot) (sym arrived)
+      ((λ l. l), each_as (IsIdling conversation.id) FeedsNot (idle_feeds_not conversation.id) idle idles))
+  of_stage conversation (AfterGet g hears t) = never (get_not bytes log given g)
+  of_stage conversation (AtBody f none hears) = f
+  of_stage conversation (AfterBody f hears) = f
+  of_stage conversation (Refused h hears) = never (nothing_fed log h)
+
+  feeds_so : (c : Option (Option Connection)) → IsSo c bytes log given → Feeds bytes log
+  feeds_so None h = absurd (no_entry before behind e (sym h.1 ∙ parts))
+  feeds_so (Some None) h = of_facts h.facts
+  feeds_so (Some (Some (Client conversation))) h = of_stage conversation h.stage
+  feeds_so (Some (Some (Relay pulling))) h = never (relay_feeds_not None log h.own)
+
+-- the one entry of a log by which it is asked for
+record Parted (xs ys : List Entry) (e a : Entry) (cs ds : List Entry) : Type 0 where
+  pub before : xs ≡ ys
+  pub here : e ≡ a
+  pub behind : cs ≡ ds
+
+parted : (xs ys cs ds : List Entry) (e a : Entry) → xs ++ e ∷ cs ≡ ys ++ a ∷ ds → IsSourcing e.event → Each FeedsNot ys → Each FeedsNot ds
+    → Parted xs ys e a cs ds
+parted [] [] cs ds e a h l none later = record { before = refl; here = cc; behind = cc }
+parted [] (y ∷ ys) cs ds e a h l none later = let same : e ≡ y = cc in absurd (none.0 (subst (λ (x : Entry). IsSourcing x.event) same l))
+parted (x ∷ xs) [] cs ds e a h l none later =
+    let others : xs ++ e ∷ cs ≡ ds = cc in
+    absurd (none_there xs cs e (subst (Each FeedsNot) (sym others) later) l)
+parted (x ∷ xs) (y ∷ ys) cs ds e a h l none later =
+    let first : x ≡ y = cc in
+    let others : xs ++ e ∷ cs ≡ ys ++ a ∷ ds = cc in
+    let p = parted xs ys cs ds e a others l none.1 later in
+    record { before = ap (λ (z : Entry). z ∷ xs) first ∙ ap (λ (zs : List Entry). y ∷ zs) p.before; here = p.here; behind = p.behind }
+
+-- a source's request, as it is heard with the bytes behind it
+framed_so : {F : Type 0} (start_at : F → Place) (hears : Option F → Heard) (body : Place → Heard) → ((f : F) → hears (Some f) ≡ body (start_at f))
+    → (framing : Option F) (start : Place) → option_map start_at framing ≡ Some start → hears framing ≡ body start
+framed_so start_at hears body some None start e = cc
+framed_so start_at hears body some (Some f) start e = let same : start_at f ≡ start = cc in some f ∙ ap body same
+
+source_so : (conversation : Conversation) (request : RequestParts) (behind : List ℕ) (start : Place) → is_source request ≡ true
+    → option_map start_of (framing_of request) ≡ Some start
+    → request_heard conversation request behind ≡ body_heard (greeted conversation request) (asks_to_feed conversation.id request ∷ []) start behind
+source_so conversation request behind start source framed =
+    ap (λ (b : Bool). if b then source_heard conversation request behind (framing_of request)
+    else if bytes_eq request.method (codes "GET") then get_heard conversation request else refuses conversation BadMethod) source
+    ∙ framed_so start_of (source_heard conversation request behind)
+    (λ place. body_heard (greeted conversation request) (asks_to_feed conversation.id request ∷ []) place behind) (λ f. refl) (framing_of request) start framed
+
+get_so : (conversation : Conversation) (request : RequestParts) (behind : List ℕ) → is_source request ≡ false
+    → bytes_eq request.method (codes "GET") ≡ true → request_heard conversation request behind ≡ get_heard conversation request
+get_so conversation request behind source get =
+    ap (λ (b : Bool). if b then source_heard conversation request behind (framing_of request)
+    else if bytes_eq request.method (codes "GET") then get_heard conversation request else refuses conversation BadMethod) source
+    ∙ ap (λ (b : Bool). if b then get_heard conversation request else refuses conversation BadMethod) get
+
+module _ (settled : IsSettled ShowsRequest) (within : HeadsLieWithin ShowsRequest) (joined : (bytes : List ℕ) → concat (blocks_of bytes) ≡ bytes)
+    (places : (place : Place) (first second : List ℕ) → after place (first ++ second) ≡ after (after place first) second)
+    (data_joined : (place : Place) (first second : List ℕ) → data_of place (first ++ second) ≡ data_of place first ++ data_of (after place first) second) where
+  -- a source's bytes are heard as its request, and the data of its body behind it
+  record HeardBody (bytes : List ℕ) (log : List Entry) (f : Feeds bytes log) : Type 0 where
+    pub behind : List Event
+    pub is_request : IsRequest bytes f.id (asks_to_feed f.id f.request) behind
+    pub content : pushed behind ≡ data_of f.start (drop f.length bytes)
+
+  heard_body : (bytes : List ℕ) (log : List Entry) (f : Feeds bytes log) → HeardBody bytes log f
+  heard_body bytes log f =
+      let c = fresh f.id f.peer in
+      let rest = drop f.length bytes in
+      let d = delivers_by settled within joined places data_joined (greeted c f.request) (asks_to_feed f.id f.request ∷ []) f.start rest
+          (body_closes (has_ended (after f.start rest)) (fault_at (after f.start rest))) in
+      record {
+        behind = d.asked;
+        is_request = record {
+          peer = f.peer;
+          heard = request_heard c f.request rest;
+          is_heard = (Ok (Whole f.request f.length), f.reading, refl);
+          begins = ap (λ (x : Heard). x.events) (source_so c f.request rest f.start f.source f.framed) ∙ d.events;
+        };
+        content = d.content;
+      }
+
+  -- and those of one who hears as his request
+  pub heard_get : (bytes : List ℕ) (log : List Entry) (given : List ℕ) (g : ByGet bytes log given) → IsRequest bytes g.id (asks_by_get g.id g.request) []
+  heard_get bytes log given g =
+      let c = fresh g.id g.peer in
+      record {
+        peer = g.peer;
+        heard = request_heard c g.request (drop g.length bytes);
+        is_heard = (Ok (Whole g.request g.length), g.reading, refl);
+        begins = ap (λ (x : Heard). x.events) (get_so c g.request (drop g.length bytes) g.no_source g.is_get);
+      }
+
+  module _ (settings : Settings) (lists : Lists)
+      (fits : (events : List Event) (event : Event) → RepliesFit (run_after settings lists events) event)
+      (adds : (events : List Event) (event : Event) → AddsUp (run_after settings lists events) event)
+      (steps : (events : List Event) (event : Event) → ClientsStep (run_after settings lists events) event)
+      (deliveries done rest : List Delivery) (all : deliveries ≡ done ++ rest) (last : ScriptState) (course : List Happening) (lines : List TranscriptLine)
+      (each : (label : ℕ) → IsSo (connection_of last.connections label) (brought done label) (log_on (opening settings lists) course label) (given lines label))
+      (nowhere : AllNowhere (λ h. IsMoment h.event) course) where
+    abbrev w0 : World
+    w0 = opening settings lists
+
+    abbrev log : ℕ → List Entry
+    log label = log_on w0 course label
+
+    module _ (label : ℕ) (asked : SourceRequest) (past later : List Happening) (parts : course ≡ past ++ on label (Source asked) ∷ later) where
+      abbrev w : World
+      w = run_after settings lists (events_in past)
+
+      abbrev before : List Entry
+      before = log_on w0 past label
+
+      abbrev behind : List Entry
+      behind = log_on (world_after w (Source asked)) later label
+
+      in_order : log label ≡ before ++ entry w (Source asked) ∷ behind
+      in_order = ap (λ (hs : List Happening). log_on w0 hs label) parts ∙ log_joined w0 past (on label (Source asked) ∷ later) label
+          ∙ ap (λ (b : Bool). before ++ ((if b then entry w (Source asked) ∷ [] else []) ++ behind)) (itself label)
+
+      f : Feeds (brought done label) (log label)
+      f = feeds_so (brought done label) (log label) (given lines label) before behind (entry w (Source asked)) in_order tt
+          (connection_of last.connections label) (each label)
+
+      p : Parted before (arrival f.peer f.id ∷ f.idle) (entry w (Source asked)) (record { event = asks_to_feed f.id f.request; reply = f.reply }) behind f.behind
+      p = parted before (arrival f.peer f.id ∷ f.idle) behind f.behind (entry w (Source asked)) _ (sym in_order ∙ f.in_order) tt
+          ((λ l. l), each_as (IsIdling f.id) FeedsNot (idle_feeds_not f.id) f.idle f.idles)
+          (each_as (IsNoRequest f.id) FeedsNot (λ e h. behind_feeds_not f.id e.event h) f.behind f.no_more)
+
+      same_event : Source asked ≡ asks_to_feed f.id f.request
+      same_event = ap (λ (x : Entry). x.event) p.here
+
+      his_number : asked.id ≡ f.id
+      his_number = let both : Some asked.id ≡ Some f.id = ap client_in same_event in cc
+
+      has_number_before : HasNumber f.id before
+      has_number_before = subst (HasNumber f.id) (sym p.before) (inl refl)
+
+      on_it : AllByRecursion (IsOnIt label f.id) course
+      on_it = on_his settings lists fits adds steps done last course lines each nowhere label f.id (subst (HasNumber f.id) (sym f.in_order) (inl refl))
+
+      on_it_later : AllByRecursion (IsOnIt label f.id) later
+      on_it_later = (all_second (IsOnIt label f.id) past (on label (Source asked) ∷ later) (subst (AllByRecursion (IsOnIt label f.id)) parts on_it)).1 where
+        all_second : (P : Happening → Type 0) (xs ys : List Happening) → AllByRecursion P (xs ++ ys) → AllByRecursion P ys
+        all_second P [] ys h = h
+        all_second P (x ∷ xs) ys h = all_second P xs ys h.1
+
+      front : Front behind
+      front =
+          brings_front settings lists fits adds steps (world_after w (Source asked)) later label f.id
+          (reached_after settings lists fits adds steps w (Source asked)
+          (reached_all settings lists fits adds steps w0 (events_in past) (reached_opening settings lists fits adds steps)))
+          (last_stays settings lists fits adds steps w (Source asked) f.id
+          (reached_all settings lists fits adds steps w0 (events_in past) (reached_opening settings lists fits adds steps))
+          (given_before settings lists fits adds steps w0 past label f.id (reached_opening settings lists fits adds steps) has_number_before))
+          on_it_later (subst (Each (IsNoRequest f.id)) (sym p.behind) f.no_more)
+          (orderly_is_cut f.id behind (orderly_second f.id before (entry w (Source asked) ∷ behind) (subst (IsOrderly f.id) in_order f.orderly)).1)
+
+      idle_notes : (log : List Entry) → Each (IsIdling f.id) log → Each NotesNothing log
+      idle_notes log h = each_as (IsIdling f.id) NotesNothing (λ e i. no_block e.event e.reply (idle_pushes_nothing f.id e.event i)) log h
+
+      notes_before : Each NotesNothing before
+      notes_before = subst (Each NotesNothing) (sym p.before) (refl, idle_notes f.idle f.idles)
+
+      notes_here : NotesNothing (entry w (Source asked))
+      notes_here = no_block (Source asked) (reply_to w (Source asked)) refl
+
+      all_noted : delivered w0 (events_in course) asked.id ≡ noted behind
+      all_noted =
+          ap (delivered w0 (events_in course)) his_number
+          ∙ delivered_gathered w0 course label f.id on_it his_or_not
+          ∙ ap noted in_order
+          ∙ flat_map-append noted_of before (entry w (Source asked) ∷ behind)
+          ∙ ap (λ (xs : List ℕ). xs ++ noted (entry w (Source asked) ∷ behind)) (nothing_noted before notes_before)
+          ∙ ap (λ (xs : List ℕ). xs ++ noted behind) notes_here where
+            his_or_not : Each (IsHisOrNotesNothing f.id) (log label)
+            his_or_not = subst (Each (IsHisOrNotesNothing f.id)) (sym in_order)
+                (each_joined (IsHisOrNotesNothing f.id) before (entry w (Source asked) ∷ behind)
+                (each_as NotesNothing (IsHisOrNotesNothing f.id) (λ e n. inr n) before notes_before)
+                (inr notes_here, subst (Each (IsHisOrNotesNothing f.id)) (sym p.behind)
+                (each_as (IsNoRequest f.id) (IsHisOrNotesNothing f.id) (λ e h. inl (behind_is_his f.id e.event h)) f.behind f.no_more)))
+
+      whole : Feeds (brought done label ++ brought rest label) (log label)
+      whole = more_for_source settled within joined places data_joined (brought done label) (brought rest label) (log label) f
+
+      all_brought : brought done label ++ brought rest label ≡ brought deliveries label
+      all_brought = sym (brought_joined done rest label) ∙ ap (λ (ds : List Delivery). brought ds label) (sym all)
+
+      pub delivers_body : DeliversItsBody settings lists deliveries course label asked
+      delivers_body =
+          let h = heard_body (brought done label ++ brought rest label) (log label) whole in
+          let q = parted before (arrival whole.peer whole.id ∷ whole.idle) behind whole.behind (entry w (Source asked)) _ (sym in_order ∙ whole.in_order) tt
+              ((λ l. l), each_as (IsIdling whole.id) FeedsNot (idle_feeds_not whole.id) whole.idle whole.idles)
+              (each_as (IsNoRequest whole.id) FeedsNot (λ e k. behind_feeds_not whole.id e.event k) whole.behind whole.no_more) in
+          let event : Source asked ≡ asks_to_feed whole.id whole.request = ap (λ (x : Entry). x.event) q.here in
+          let number : asked.id ≡ whole.id = let both : Some asked.id ≡ Some whole.id = ap client_in event in cc in
+          record {
+            behind = h.behind;
+            is_request = subst (λ (bytes : List ℕ). IsRequest bytes asked.id (Source asked) h.behind) all_brought
+                (subst (λ (e : Event). IsRequest (brought done label ++ brought rest label) asked.id e h.behind) (sym event)
+                (subst (λ (n : ℕ). IsRequest (brought done label ++ brought rest label) n (asks_to_feed whole.id whole.request) h.behind) (sym number) h.is_request));
+            undelivered = front.rest ++ whole.rest;
+            is_front =
+                h.content ∙ sym whole.front
+                ∙ ap (λ (es : List Entry). pushed (events_of es) ++ whole.rest) (sym q.behind)
+                ∙ ap (λ (xs : List ℕ). xs ++ whole.rest) (sym front.is_front)
+                ∙ append_assoc (noted behind) front.rest whole.rest
+                ∙ ap (λ (xs : List ℕ). xs ++ (front.rest ++ whole.rest)) (sym all_noted);
+          }
+
+    -- and so is what a listener asks for heard
+    module _ (label : ℕ) (asked : ListenRequest) (past later : List Happening) (parts : course ≡ past ++ on label (Listen asked) ∷ later) where
+      pub listens_so : IsRequest (brought deliveries label) asked.id (Listen asked) []
+      listens_so =
+          let w = run_after settings lists (events_in past) in
+          let before = log_on w0 past label in
+          let behind = log_on (world_after w (Listen asked)) later label in
+          let in_order : log label ≡ before ++ entry w (Listen asked) ∷ behind =
+          ap (λ (hs : List Happening). log_on w0 hs label) parts ∙ log_joined w0 past (on label (Listen asked) ∷ later) label
+          ∙ ap (λ (b : Bool). before ++ ((if b then entry w (Listen asked) ∷ [] else []) ++ behind)) (itself label) in
+          let first = by_get (brought done label) (log label) (given lines label) before behind (entry w (Listen asked)) in_order tt
+          (connection_of last.connections label) (each label) in
+          let g = more_for_get settled within joined places data_joined (brought done label) (brought rest label) (log label) (given lines label) first in
+          let p = parted_at_get (brought done label ++ brought rest label) (log label) (given lines label) g before behind (entry w (Listen asked)) in_order tt in
+          let number : asked.id ≡ g.id = get_is_of g.id g.request (sym p) in
+          subst (λ (bytes : List ℕ). IsRequest bytes asked.id (Listen asked) []) (sym (brought_joined done rest label) ∙ ap (λ (ds : List Delivery). brought ds label) (sym all))
+          (subst (λ (e : Event). IsRequest (brought done label ++ brought rest label) asked.id e []) (sym p)
+          (subst (λ (n : ℕ). IsRequest (brought done label ++ brought rest label) n (asks_by_get g.id g.request) []) (sym number)
+          (heard_get (brought done label ++ brought rest label) (log label) (given lines label) g)))

@@ -1,0 +1,181 @@
+-- What has come on the connection of one label, what has happened there, and what was given.
+use Rattle.std.proofs.Common.{◌≡◌, ◌⊎◌, inl, inr, ℕ, Bool, true, false, List, [], ◌∷◌, ◌++◌, drop, Option, None, Some, Ok, Err, refl, sym, ap, subst, ◌∙◌}
+use Rattle.std.specs.Prelude.{map, codes, option_map}
+use Rattle.std.specs.Str.{bytes_eq}
+use Rattle.radio_addr.specs.declared.peer.Peer.{Peer}
+use Rattle.radio_events.specs.declared.event.Event.{Event}
+use Rattle.radio_events.specs.declared.event.Event.TheVariants.{Arrive, Source, Push, SourceEnd, Title, Listen, Draw, Command, Leave, RelayUp, RelayDown, Clock}
+use Rattle.radio_events.specs.declared.event.SourceRequest.{SourceRequest}
+use Rattle.radio_events.specs.declared.reply.Reply.{Reply}
+use Rattle.radio_events.specs.declared.reply.Reply.TheVariants.{Arrived}
+use Rattle.radio_events.specs.Events.{client_in}
+use Rattle.radio_heads.specs.declared.outcome.Progress.TheVariants.{More, Whole}
+use Rattle.radio_heads.specs.Head.{RequestParts, ShowsRequest}
+use Rattle.radio_heads.specs.Reading.{IsReading}
+use Rattle.radio_source.specs.Feeding.{unfed}
+use Rattle.radio_source.specs.Place.{Place, after, data_of}
+use Rattle.radio_heads.specs.Response.{ResponseParts, ShowsResponse}
+use Rattle.radio_relay.specs.Answer.{interval_in, shown_by}
+use Rattle.radio_relay.specs.Laws.{sound_in}
+use Rattle.radio_relay.specs.Pulled.{after_bytes, stream_parts, stream_with}
+use Rattle.radio_relay.specs.declared.pull.Stage.TheVariants.{Head, Behind}
+use Rattle.radio_relay.specs.declared.stream.Stream.{Stream}
+use Rattle.radio_session.specs.declared.session.Hears.TheVariants.{Head as HearsHead, Body, Nothing}
+use Rattle.radio_session.specs.Asking.{asks_to_feed, asks_by_get}
+use Rattle.radio_session.specs.Conversation.{Conversation, asking, fresh}
+use Rattle.radio_session.specs.Framing.{is_source, framing_of, start_of}
+use Rattle.radio_session.specs.Told.{told}
+use Rattle.radio_pull.specs.Pulling.{Pulling}
+use Rattle.radio_floor.specs.declared.labelled.Connection.{Connection}
+use Rattle.radio_floor.specs.declared.labelled.Connection.TheVariants.{Client, Relay}
+use Rattle.radio_headline.specs.Sources.{pushed}
+use Rattle.radio_headline.proofs.Logs.{Entry, replies, Each}
+use Rattle.radio_headline.proofs.AppliedLemmas.{said_all, IsOpen, IsNotLast, IsOrderly}
+use Rattle.radio_headline.proofs.RelayLogs.{IsCut, IsNotRefused, IsNoUp, OwnRelay, number_after}
+use Rattle.radio_headline.proofs.ReplyForms.{IsIdle}
+use Rattle.radio_headline.proofs.RunLemmas.{HasNumber, IsOwn, IsIdling}
+
+-- he has arrived, and has this number
+abbrev pub arrival : Peer → ℕ → Entry
+arrival peer id = record { event = Arrive peer; reply = Arrived id }
+
+abbrev pub events_of : List Entry → List Event
+events_of log = map (λ e. e.event) log
+
+-- he draws, tells titles or leaves
+abbrev pub IsIdleOrLeaving : ℕ → Entry → Type 0
+IsIdleOrLeaving id e = IsIdle id e.event ⊎ (e.event ≡ Leave id)
+
+-- it is of this client, and he asks for nothing by it
+abbrev pub IsBehindRequest : ℕ → Event → Type 0
+IsBehindRequest id (Push him block) = him ≡ id
+IsBehindRequest id (SourceEnd him) = him ≡ id
+IsBehindRequest id (Title him text) = him ≡ id
+IsBehindRequest id (Draw him room) = him ≡ id
+IsBehindRequest id (Leave him) = him ≡ id
+IsBehindRequest id (RelayDown him) = him ≡ id
+IsBehindRequest id event = ⊥
+
+abbrev pub IsNoRequest : ℕ → Entry → Type 0
+IsNoRequest id e = IsBehindRequest id e.event
+
+-- by this event a mount is asked for, to hear or to feed it, or a relay comes up there
+abbrev pub AsksForMount : Event → Type 0
+AsksForMount (Listen asked) = Unit {0}
+AsksForMount (Source asked) = Unit {0}
+AsksForMount (RelayUp mount shown) = Unit {0}
+AsksForMount event = ⊥
+
+abbrev pub AsksNothing : Entry → Type 0
+AsksNothing e = AsksForMount e.event → ⊥
+
+-- a GET was heard, and what was given is what is told of the replies
+pub record ByGet (bytes : List ℕ) (log : List Entry) (given : List ℕ) : Type 0 where
+  pub id : ℕ
+  pub peer : Peer
+  pub idle : List Entry
+  pub request : RequestParts
+  pub reply : Reply
+  pub behind : List Entry
+  pub in_order : log ≡ arrival peer id ∷ idle ++ record { event = asks_by_get id request; reply = reply } ∷ behind
+  pub idles : Each (IsIdling id) idle
+  pub goes : IsOpen asking (Arrived id ∷ replies idle)
+  pub no_more : Each (IsIdleOrLeaving id) behind
+  pub orderly : IsOrderly id log
+  pub length : ℕ
+  pub reading : IsReading ShowsRequest bytes (Ok (Whole request length))
+  pub no_source : is_source request ≡ false
+  pub is_get : bytes_eq request.method (codes "GET") ≡ true
+  pub is_told : given ≡ told asking (replies log)
+
+-- a source's request was heard, and what was pushed is a front of the data of its body
+pub record Feeds (bytes : List ℕ) (log : List Entry) : Type 0 where
+  pub id : ℕ
+  pub peer : Peer
+  pub idle : List Entry
+  pub request : RequestParts
+  pub reply : Reply
+  pub behind : List Entry
+  pub in_order : log ≡ arrival peer id ∷ idle ++ record { event = asks_to_feed id request; reply = reply } ∷ behind
+  pub idles : Each (IsIdling id) idle
+  pub no_more : Each (IsNoRequest id) behind
+  pub orderly : IsOrderly id log
+  pub length : ℕ
+  pub reading : IsReading ShowsRequest bytes (Ok (Whole request length))
+  pub source : is_source request ≡ true
+  pub start : Place
+  pub framed : option_map start_of (framing_of request) ≡ Some start
+  pub rest : List ℕ
+  pub front : pushed (events_of behind) ++ rest ≡ data_of start (drop length bytes)
+
+-- a master's answer was read, and what was pushed is a front of its sound
+pub record Pulls (bytes : List ℕ) (log : List Entry) : Type 0 where
+  pub mount : List ℕ
+  pub head : ResponseParts
+  pub reply : Reply
+  pub behind : List Entry
+  pub in_order : log ≡ record { event = RelayUp mount (shown_by head); reply = reply } ∷ behind
+  pub own : OwnRelay None log
+  pub no_more : Each (λ e. IsNoUp e.event) behind
+  pub cut : IsCut log
+  pub length : ℕ
+  pub reading : IsReading ShowsResponse bytes (Ok (Whole head length))
+  pub interval : Option ℕ
+  pub told : interval_in head ≡ Ok interval
+  pub rest : List ℕ
+  pub front : pushed (events_of behind) ++ rest ≡ sound_in (stream_parts (stream_with interval) (drop length bytes))
+
+-- the stream behind what has come of it
+abbrev pub stream_after : {bytes : List ℕ} {log : List Entry} → Pulls bytes log → Stream
+stream_after {bytes = bytes} p = after_bytes (stream_with p.interval) (drop p.length bytes)
+
+pub data Facts (bytes : List ℕ) (log : List Entry) (given : List ℕ) : Type 0 where
+  HasAskedNothing : Each AsksNothing log → Facts bytes log given
+  HasSentGet : ByGet bytes log given → Facts bytes log given
+  IsSource : Feeds bytes log → Facts bytes log given
+  IsPulling : Pulls bytes log → Facts bytes log given
+
+pub record IsClosed (bytes : List ℕ) (log : List Entry) (given : List ℕ) : Type 0 where
+  pub own : Each (IsOwn log) log
+  pub facts : Facts bytes log given
+
+-- what was given is what is told of the replies, and the conversation goes on so
+pub record IsTold (conversation : Conversation) (log : List Entry) (given : List ℕ) : Type 0 where
+  pub says : conversation.says ≡ said_all asking (replies log)
+  pub goes : IsOpen asking (replies log)
+  pub is_told : given ≡ told asking (replies log)
+
+pub data Stage (bytes : List ℕ) (log : List Entry) (given : List ℕ) (conversation : Conversation) : Type 0 where
+  AtHead : (idle : List Entry) → log ≡ arrival conversation.peer conversation.id ∷ idle → Each (IsIdling conversation.id) idle
+      → conversation.hears ≡ HearsHead → conversation.held ≡ bytes → IsTold conversation log given → Stage bytes log given conversation
+  AfterGet : ByGet bytes log given → conversation.hears ≡ Nothing → IsTold conversation log given → Stage bytes log given conversation
+  AtBody : (f : Feeds bytes log) → f.rest ≡ [] → conversation.hears ≡ Body (unfed (after f.start (drop f.length bytes)))
+      → Stage bytes log given conversation
+  AfterBody : Feeds bytes log → conversation.hears ≡ Nothing → Stage bytes log given conversation
+  Refused : Each AsksNothing log → conversation.hears ≡ Nothing → Stage bytes log given conversation
+
+-- a client's connection that is open
+pub record IsClient (bytes : List ℕ) (log : List Entry) (given : List ℕ) (conversation : Conversation) : Type 0 where
+  pub others : List Entry
+  pub arrived : log ≡ arrival conversation.peer conversation.id ∷ others
+  pub his : Each (λ e. client_in e.event ≡ Some conversation.id) others
+  pub goes_on : Each IsNotLast log
+  pub stage : Stage bytes log given conversation
+
+pub data RelayStage (bytes : List ℕ) (log : List Entry) (pulling : Pulling) : Type 0 where
+  AtAnswer : pulling.stage ≡ Head bytes → log ≡ [] → RelayStage bytes log pulling
+  InAnswer : (p : Pulls bytes log) → pulling.stage ≡ Behind (stream_after p) → (pulling.number ≡ None) ⊎ (p.rest ≡ []) → Each IsNotRefused log
+      → RelayStage bytes log pulling
+
+-- a relay's connection that is open
+pub record IsRelay (bytes : List ℕ) (log : List Entry) (pulling : Pulling) : Type 0 where
+  pub own : OwnRelay None log
+  pub number : pulling.number ≡ number_after None log
+  pub stage : RelayStage bytes log pulling
+
+-- what became of the label
+abbrev pub IsSo : Option (Option Connection) → List ℕ → List Entry → List ℕ → Type 0
+IsSo None bytes log given = (bytes ≡ []) × (log ≡ []) × (given ≡ [])
+IsSo (Some None) bytes log given = IsClosed bytes log given
+IsSo (Some (Some (Client conversation))) bytes log given = IsClient bytes log given conversation
+IsSo (Some (Some (Relay pulling))) bytes log given = IsRelay bytes log pulling

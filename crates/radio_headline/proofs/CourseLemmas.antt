@@ -1,0 +1,586 @@
+-- A script's deliveries come to a course, and each connection stands by what has happened on it.
+use Rattle.std.proofs.Common.{◌≡◌, ◌⊎◌, inl, inr, ℕ, ◌+◌, ◌==◌, Bool, true, false, List, [], ◌∷◌, ◌++◌, Option, None, Some, refl, sym, ap, subst, ◌∙◌, append_assoc}
+use Rattle.std.specs.Prelude.{map, if◌then◌else◌}
+use Rattle.std.specs.Option.{option_map}
+use Rattle.std.specs.List.{concat, flat_map}
+use Rattle.std.proofs.lemmas.List.{append-nil}
+use Rattle.std.proofs.lemmas.List.Concat.{flat_map-append}
+use Rattle.radio_addr.specs.declared.peer.Peer.{Peer}
+use Rattle.radio_blocks.specs.Cutting.{blocks_of}
+use Rattle.radio_icy.specs.Cleaning.{cleaned}
+use Rattle.radio_icy.specs.Limits.{max_title}
+use Rattle.radio_settings.specs.declared.settings.Settings.{Settings}
+use Rattle.radio_settings.specs.declared.settings.RelaySetting.{RelaySetting}
+use Rattle.radio_access.specs.Lists.{Lists}
+use Rattle.radio_events.specs.declared.event.Event.{Event}
+use Rattle.radio_events.specs.declared.event.Event.TheVariants.{Arrive, Source, Push, SourceEnd, Title, Listen, Draw, Command, Leave, RelayUp, RelayDown, Clock}
+use Rattle.radio_events.specs.declared.reply.Reply.{Reply}
+use Rattle.radio_events.specs.declared.reply.Reply.TheVariants.{Arrived, Feeding, Seated, Drawn, Noted as WasNoted, Text, Deny, Finished, Stray}
+use Rattle.radio_events.specs.Events.{client_in}
+use Rattle.radio_core.specs.Run.{run_after, world_after_all}
+use Rattle.radio_core.specs.Step.{Step, reply_to, world_after}
+use Rattle.radio_house.specs.World.{World, opening}
+use Rattle.radio_heads.specs.Head.{ShowsRequest}
+use Rattle.radio_heads.specs.Laws.{IsSettled, HeadsLieWithin}
+use Rattle.radio_source.specs.Place.{Place, after, data_of}
+use Rattle.radio_relay.specs.Items.{items_of}
+use Rattle.radio_relay.specs.Pulled.{IsPulledAt, Pulled, GoesOn as AnswerGoesOn, Stops as AnswerStops, Standing as AnswerStanding}
+use Rattle.radio_relay.specs.Request.{request_text}
+use Rattle.radio_session.specs.declared.state.State.{State}
+use Rattle.radio_session.specs.declared.state.State.TheVariants.{Running, Shut}
+use Rattle.radio_session.specs.declared.state.Ending.TheVariants.{Done, BadPull}
+use Rattle.radio_session.specs.Conversation.{Conversation, asking, fresh, saying_now}
+use Rattle.radio_session.specs.Exchanges.{exchanged}
+use Rattle.radio_session.specs.Hearing.{Heard}
+use Rattle.radio_session.specs.Saying.{Said, said}
+use Rattle.radio_pull.specs.Pulling.{Pulling, Standing, answered, begun, event_of}
+use Rattle.radio_pull.specs.Course.{AsksIf, Brings, ComesOf, GoesDown, Takes}
+use Rattle.radio_script.specs.declared.delivery.Delivery.{Delivery}
+use Rattle.radio_script.specs.declared.delivery.Delivery.TheVariants.{Open, Pull, To, Clock as ClockIs}
+use Rattle.radio_script.specs.declared.delivery.Input.{Input}
+use Rattle.radio_script.specs.declared.delivery.Input.TheVariants.{Data, Room, Title as Named, End}
+use Rattle.radio_script.specs.Given.{TranscriptLine, given, written}
+use Rattle.radio_script.specs.Runs.{Runs, Stops, GoesOn}
+use Rattle.radio_floor.specs.declared.labelled.Connection.{Connection}
+use Rattle.radio_floor.specs.declared.labelled.Connection.TheVariants.{Client, Relay}
+use Rattle.radio_floor.specs.declared.labelled.Labelled.{Labelled}
+use Rattle.radio_floor.specs.ScriptState.{ScriptState, Performed, AsksOn, ComesTo, ComesToClient, ComesToRelay, IsPerformed, at_fault, closes, connection_of, connection_unless}
+use Rattle.radio_floor.specs.ScriptState.{connects, exchanges, for_new_label, kept_unless, last_word, on_connection, told_lines, opening_script, opens, passed_over, with_connection, pulled_on, relay_named, taken_in}
+use Rattle.radio_floor.specs.Transcript.{conduct, IsTranscriptOf}
+use Rattle.radio_headline.specs.Course.{Course, ComesToNoted, Happening, Happens, HappensOn, HappensThere, IsAsked, Noted, and_then, applied, arrivals, courses, events_in, noting, nothing_noted, on}
+use Rattle.radio_headline.specs.Course.{ComesTo as ComesToCourse}
+use Rattle.radio_headline.specs.Sources.{brought, brought_by, bytes_in, pushed}
+use Rattle.radio_headline.proofs.Logs.{Entry, entry, entries, log_on, log_joined, log_here, log_elsewhere, Each, each_as, each_joined, after_joined, events_joined, events_on, itself, other_number}
+use Rattle.radio_headline.proofs.AppliedLemmas.{applied_lead}
+use Rattle.radio_headline.proofs.RelayLogs.{IsNoUp, OfRelay, OwnRelay, Lifts, Downs, at, asks_lifts, brings_lifts, down, number_after, number_joined, number_stays, own_joined, sound_of_items}
+use Rattle.radio_headline.proofs.RunLemmas.{AllNowhere, IsMoment, HasNumber, IsOwn, number_before, number_behind}
+use Rattle.radio_headline.proofs.Connections.{AsksNothing, HasAskedNothing, Facts, IsClosed, IsClient, IsRelay, IsSo, IsTold, AsksForMount, AtAnswer, AtHead, arrival}
+use Rattle.radio_headline.proofs.ConnectionSteps.{data_come, idle_comes, end_comes}
+use Rattle.radio_headline.proofs.PullSteps.{idles_so, more_facts, takes_so}
+use Rattle.radio_heads.specs.Response.{ShowsResponse}
+use Rattle.radio_relay.proofs.CutLemmas.{AfterPieces, HeardInPieces}
+use Rattle.radio_relay.specs.declared.pull.Stage.TheVariants.{Head}
+use Rattle.radio_headline.proofs.LabelLemmas.{answer, answer_here, answer_elsewhere, answer_written, given_joined, opened_here, opened_elsewhere, with_here, with_elsewhere, written_joined}
+use Rattle.radio_tables.proofs.KeyLaws.{by_number}
+
+pub brought_joined : (deliveries more : List Delivery) (label : ℕ) → brought (deliveries ++ more) label ≡ brought deliveries label ++ brought more label
+brought_joined deliveries more label = flat_map-append (brought_by label) deliveries more
+
+brought_here : (label : ℕ) (input : Input) → brought (To label input ∷ []) label ≡ bytes_in input
+brought_here label input = append-nil (if label == label then bytes_in input else []) ∙ ap (λ (b : Bool). if b then bytes_in input else []) (itself label)
+
+brought_elsewhere : (label other : ℕ) (input : Input) → (label ≡ other → ⊥) → brought (To label input ∷ []) other ≡ []
+brought_elsewhere label other input apart =
+    append-nil (if label == other then bytes_in input else []) ∙ ap (λ (b : Bool). if b then bytes_in input else []) (other_number label other apart)
+
+front_none : (xs ys : List ℕ) → xs ++ ys ≡ [] → xs ≡ []
+front_none [] ys e = refl
+front_none (x ∷ xs) ys e = cc
+
+module _ (settings : Settings) (lists : Lists) (settled : IsSettled ShowsRequest) (within : HeadsLieWithin ShowsRequest)
+    (settled_answers : IsSettled ShowsResponse) (within_answers : HeadsLieWithin ShowsResponse) (none_blocks : blocks_of [] ≡ []) (in_pieces : HeardInPieces)
+    (afters : AfterPieces) (joined : (bytes : List ℕ) → concat (blocks_of bytes) ≡ bytes)
+    (places : (place : Place) (first second : List ℕ) → after place (first ++ second) ≡ after (after place first) second)
+    (data_joined : (place : Place) (first second : List ℕ) → data_of place (first ++ second) ≡ data_of place first ++ data_of (after place first) second) where
+  abbrev w0 : World
+  w0 = opening settings lists
+
+  -- how things stand after these deliveries
+  pub record Stands (done : List Delivery) (state : ScriptState) (past : List Happening) (lines : List TranscriptLine) : Type 0 where
+    pub world : state.world ≡ run_after settings lists (events_in past)
+    pub each : (label : ℕ) → IsSo (connection_of state.connections label) (brought done label) (log_on w0 past label) (given lines label)
+    pub nowhere : AllNowhere (λ h. IsMoment h.event) past
+
+  nowhere_joined : (past more : List Happening) → AllNowhere (λ h. IsMoment h.event) past → AllNowhere (λ h. IsMoment h.event) more
+      → AllNowhere (λ h. IsMoment h.event) (past ++ more)
+  nowhere_joined [] more h k = k
+  nowhere_joined (x ∷ past) more h k = (h.0, nowhere_joined past more h.1 k)
+
+  nowhere_on : (label : ℕ) (events : List Event) → AllNowhere (λ h. IsMoment h.event) (map (on label) events)
+  nowhere_on label [] = tt
+  nowhere_on label (event ∷ events) = ((λ e. cc), nowhere_on label events)
+
+  -- something happens on the connection of a label, and the others stand as before
+  record Changes (done : List Delivery) (state later : ScriptState) (past : List Happening) (lines : List TranscriptLine) (delivery : Delivery)
+      (events : List Event) (told : List TranscriptLine) (label : ℕ) : Type 0 where
+    pub world : later.world ≡ world_after_all state.world events
+    pub here : IsSo (connection_of later.connections label) (brought done label ++ brought (delivery ∷ []) label)
+        (log_on w0 past label ++ entries state.world events) (given lines label ++ given told label)
+    pub connections : (other : ℕ) → (label ≡ other → ⊥) → connection_of later.connections other ≡ connection_of state.connections other
+    pub silent : (other : ℕ) → (label ≡ other → ⊥) → brought (delivery ∷ []) other ≡ []
+    pub untold : (other : ℕ) → (label ≡ other → ⊥) → given told other ≡ []
+
+  module _ (done : List Delivery) (state : ScriptState) (past : List Happening) (lines : List TranscriptLine) (s : Stands done state past lines) where
+    IsSo_as : (c c' : Option (Option Connection)) (b b' : List ℕ) (l l' : List Entry) (g g' : List ℕ) → c ≡ c' → b ≡ b' → l ≡ l' → g ≡ g'
+        → IsSo c b l g → IsSo c' b' l' g'
+    IsSo_as c c' b b' l l' g g' ec eb el eg h =
+        subst (λ (o : Option (Option Connection)). IsSo o b' l' g') ec
+        (subst (λ (x : List ℕ). IsSo c x l' g') eb (subst (λ (x : List Entry). IsSo c b x g') el (subst (λ (x : List ℕ). IsSo c b l x) eg h)))
+
+    then_stands : (later : ScriptState) (delivery : Delivery) (events : List Event) (told : List TranscriptLine) (label : ℕ)
+        → Changes done state later past lines delivery events told label
+        → Stands (done ++ delivery ∷ []) later (past ++ map (on label) events) (lines ++ told)
+    then_stands later delivery events told label c = record {
+      world = c.world ∙ ap (λ (x : World). world_after_all x events) s.world
+          ∙ sym (after_joined w0 (events_in past) events)
+          ∙ ap (λ (es : List Event). run_after settings lists (events_in past ++ es)) (sym (events_on label events))
+          ∙ ap (run_after settings lists) (sym (events_joined past (map (on label) events)));
+      each = λ other. by_number label other
+          (λ same. subst (λ (l : ℕ). IsSo (connection_of later.connections l) (brought (done ++ delivery ∷ []) l) (log_on w0 (past ++ map (on label) events) l)
+              (given (lines ++ told) l)) same here)
+          (λ apart. elsewhere other (λ same. let it : (label == other) ≡ true = ap (λ (n : ℕ). label == n) (sym same) ∙ itself label in
+              let both : true ≡ false = sym it ∙ apart in cc));
+      nowhere = nowhere_joined past (map (on label) events) s.nowhere (nowhere_on label events);
+    } where
+      here : IsSo (connection_of later.connections label) (brought (done ++ delivery ∷ []) label) (log_on w0 (past ++ map (on label) events) label)
+          (given (lines ++ told) label)
+      here = IsSo_as _ _ _ _ _ _ _ _ refl (sym (brought_joined done (delivery ∷ []) label))
+          (ap (λ (x : World). log_on w0 past label ++ entries x events) s.world
+          ∙ ap (λ (xs : List Entry). log_on w0 past label ++ xs) (sym (log_here (run_after settings lists (events_in past)) label events))
+          ∙ sym (log_joined w0 past (map (on label) events) label))
+          (sym (given_joined lines told label)) c.here
+
+      elsewhere : (other : ℕ) → (label ≡ other → ⊥)
+          → IsSo (connection_of later.connections other) (brought (done ++ delivery ∷ []) other) (log_on w0 (past ++ map (on label) events) other)
+          (given (lines ++ told) other)
+      elsewhere other apart = IsSo_as _ _ _ _ _ _ _ _ (sym (c.connections other apart))
+          (sym (brought_joined done (delivery ∷ []) other ∙ ap (λ (xs : List ℕ). brought done other ++ xs) (c.silent other apart) ∙ append-nil (brought done other)))
+          (sym (log_joined w0 past (map (on label) events) other
+          ∙ ap (λ (xs : List Entry). log_on w0 past other ++ xs) (log_elsewhere (run_after settings lists (events_in past)) label other events apart)
+          ∙ append-nil (log_on w0 past other)))
+          (sym (given_joined lines told other ∙ ap (λ (xs : List ℕ). given lines other ++ xs) (c.untold other apart) ∙ append-nil (given lines other)))
+          (s.each other)
+
+    -- a delivery is performed, and things stand so
+    pub record Next (delivery : Delivery) (text : List ℕ) (later : ScriptState) : Type 0 where
+      pub happenings : List Happening
+      pub happen : Happens state delivery happenings
+      pub told : List TranscriptLine
+      pub is_written : written told ≡ text
+      pub stands : Stands (done ++ delivery ∷ []) later (past ++ happenings) (lines ++ told)
+
+    next_as : (delivery : Delivery) (text : List ℕ) (p q : Performed) → p ≡ q → p.lines ≡ Some text
+        → ((text : List ℕ) → q.lines ≡ Some text → Next delivery text q.state) → Next delivery text p.state
+    next_as delivery text p q e told make =
+        subst (λ (x : Performed). Next delivery text x.state) (sym e) (make text (ap (λ (x : Performed). x.lines) (sym e) ∙ told))
+
+    -- a connection comes
+    opens_next : (label : ℕ) (peer : Peer) (found : Option (Option Connection)) → connection_of state.connections label ≡ found → (text : List ℕ)
+        → (for_new_label state (opens state label peer) found).lines ≡ Some text
+        → Next (Open label peer) text (for_new_label state (opens state label peer) found).state
+    opens_next label peer (Some connection) known text told = cc
+    opens_next label peer None known text told =
+        let reply = reply_to state.world (Arrive peer) in
+        let of = said asking reply in
+        let connection = taken_in peer reply in
+        record {
+          happenings = on label (Arrive peer) ∷ [];
+          happen = ap (arrivals label peer) (sym known);
+          told = answer label of.bytes (last_word of.state);
+          is_written = answer_written label of.bytes (last_word of.state) ∙ the_text told;
+          stands = then_stands (opens state label peer).state (Open label peer) (Arrive peer ∷ []) (answer label of.bytes (last_word of.state)) label (record {
+            world = refl;
+            here = IsSo_as _ _ _ _ _ _ _ _ (sym (opened_here state.connections label connection known)) (sym (append-nil (brought done label)))
+                (ap (λ (xs : List Entry). xs ++ entry state.world (Arrive peer) ∷ []) (sym unopened.1)) 
+                (ap (λ (xs : List ℕ). xs ++ of.bytes) (sym unopened.2)
+                ∙ ap (λ (xs : List ℕ). given lines label ++ xs) (sym (answer_here label of.bytes (last_word of.state))))
+                (arrives_so (brought done label) unopened.0 reply);
+            connections = λ other apart. opened_elsewhere state.connections label other connection apart known;
+            silent = λ other apart. refl;
+            untold = λ other apart. answer_elsewhere label other of.bytes (last_word of.state) apart;
+          });
+        } where
+          unopened : (brought done label ≡ []) × (log_on w0 past label ≡ []) × (given lines label ≡ [])
+          unopened = subst (λ (o : Option (Option Connection)). IsSo o (brought done label) (log_on w0 past label) (given lines label)) known (s.each label)
+
+          the_text : Some (told_lines label (said asking (reply_to state.world (Arrive peer))).bytes (said asking (reply_to state.world (Arrive peer))).state)
+              ≡ Some text → told_lines label (said asking (reply_to state.world (Arrive peer))).bytes (said asking (reply_to state.world (Arrive peer))).state ≡ text
+          the_text e = cc
+
+          not_there : (bytes : List ℕ) (reply : Reply) (given : List ℕ) → IsClosed bytes (record { event = Arrive peer; reply = reply } ∷ []) given
+          not_there bytes reply given = record { own = ((λ id h. cc), tt); facts = HasAskedNothing ((λ a. a), tt) }
+
+          arrives_so : (bytes : List ℕ) → bytes ≡ [] → (reply : Reply)
+              → IsSo (Some (taken_in peer reply)) bytes (record { event = Arrive peer; reply = reply } ∷ []) ((said asking reply).bytes)
+          arrives_so bytes none (Arrived id) = record {
+            others = [];
+            arrived = refl;
+            his = tt;
+            goes_on = ((λ h. h), tt);
+            stage = AtHead [] refl tt refl (sym none) (record { says = refl; goes = (refl, tt); is_told = refl });
+          }
+          arrives_so bytes none Feeding = not_there bytes Feeding _
+          arrives_so bytes none (Seated interval head) = not_there bytes (Seated interval head) _
+          arrives_so bytes none (Drawn sound title) = not_there bytes (Drawn sound title) _
+          arrives_so bytes none WasNoted = not_there bytes WasNoted _
+          arrives_so bytes none (Text text) = not_there bytes (Text text) _
+          arrives_so bytes none (Deny rule) = not_there bytes (Deny rule) _
+          arrives_so bytes none (Finished rule) = not_there bytes (Finished rule) _
+          arrives_so bytes none Stray = not_there bytes Stray _
+
+    -- a relay connects
+    connects_next : (label : ℕ) (mount : List ℕ) (relay : Option RelaySetting) (found : Option (Option Connection))
+        → connection_of state.connections label ≡ found → (text : List ℕ)
+        → (for_new_label state (connects state label relay) found).lines ≡ Some text
+        → Next (Pull label mount) text (for_new_label state (connects state label relay) found).state
+    connects_next label mount wanted (Some connection) known text told = cc
+    connects_next label mount None None known text told = cc
+    connects_next label mount (Some relay) None known text told = record {
+      happenings = [];
+      happen = refl;
+      told = answer label (request_text relay) None;
+      is_written = answer_written label (request_text relay) None ∙ the_text told;
+      stands = then_stands (connects state label (Some relay)).state (Pull label mount) [] (answer label (request_text relay) None) label (record {
+        world = refl;
+        here = IsSo_as _ _ _ _ _ _ _ _ (sym (opened_here state.connections label (Some (Relay (begun relay.local_mount))) known)) (sym (append-nil (brought done label)))
+            (sym (append-nil (log_on w0 past label) ∙ unopened.1)) refl
+            (relay_begins relay.local_mount);
+        connections = λ other apart. opened_elsewhere state.connections label other (Some (Relay (begun relay.local_mount))) apart known;
+        silent = λ other apart. refl;
+        untold = λ other apart. answer_elsewhere label other (request_text relay) None apart;
+      });
+    } where
+      unopened : (brought done label ≡ []) × (log_on w0 past label ≡ []) × (given lines label ≡ [])
+      unopened = subst (λ (o : Option (Option Connection)). IsSo o (brought done label) (log_on w0 past label) (given lines label)) known (s.each label)
+
+      the_text : Some (told_lines label (request_text relay) Running) ≡ Some text → told_lines label (request_text relay) Running ≡ text
+      the_text e = cc
+
+      relay_begins : (local : List ℕ) → IsRelay (brought done label) [] (begun local)
+      relay_begins local = record { own = tt; number = refl; stage = AtAnswer (ap Head (sym unopened.0)) refl }
+
+    -- the moment is another
+    clock_next : (ms : ℕ) (text : List ℕ) → Some [] ≡ Some text → Next (ClockIs ms) text (record state { world = world_after state.world (Clock ms) })
+    clock_next ms text told = record {
+      happenings = record { label = None; event = Clock ms } ∷ [];
+      happen = refl;
+      told = [];
+      is_written = the_text told;
+      stands = record {
+        world = ap (λ (x : World). world_after x (Clock ms)) s.world ∙ sym (after_joined w0 (events_in past) (Clock ms ∷ []))
+            ∙ ap (run_after settings lists) (sym (events_joined past (record { label = None; event = Clock ms } ∷ [])));
+        each = λ label. IsSo_as _ _ _ _ _ _ _ _ refl
+            (sym (brought_joined done (ClockIs ms ∷ []) label ∙ append-nil (brought done label)))
+            (sym (log_joined w0 past (record { label = None; event = Clock ms } ∷ []) label ∙ append-nil (log_on w0 past label)))
+            (ap (λ (xs : List TranscriptLine). given xs label) (sym (append-nil lines))) (s.each label);
+        nowhere = nowhere_joined past (record { label = None; event = Clock ms } ∷ []) s.nowhere ((λ e. tt), tt);
+      };
+    } where
+      the_text : Some [] ≡ Some text → [] ≡ text
+      the_text e = cc
+
+    -- something comes to a connection that is there
+    module _ (label : ℕ) (input : Input) where
+      comes_there : (later : ScriptState) (events : List Event) (bytes : List ℕ) (word : Option (List ℕ)) (text : List ℕ) (new : Option Connection)
+          → later.world ≡ world_after_all state.world events → later.connections ≡ with_connection state.connections label new
+          → (old : Option Connection) → connection_of state.connections label ≡ Some old
+          → IsSo (Some new) (brought done label ++ bytes_in input) (log_on w0 past label ++ entries state.world events) (given lines label ++ bytes)
+          → Changes done state later past lines (To label input) events (answer label bytes word) label
+      comes_there later events bytes word text new world connections old known so = record {
+        world = world;
+        here = IsSo_as _ _ _ _ _ _ _ _
+            (sym (ap (λ (xs : List Labelled). connection_of xs label) connections ∙ with_here state.connections label old new known))
+            (ap (λ (xs : List ℕ). brought done label ++ xs) (sym (brought_here label input))) refl
+            (ap (λ (xs : List ℕ). given lines label ++ xs) (sym (answer_here label bytes word))) so;
+        connections = λ other apart. ap (λ (xs : List Labelled). connection_of xs other) connections
+            ∙ with_elsewhere state.connections label other new apart;
+        silent = λ other apart. brought_elsewhere label other input apart;
+        untold = λ other apart. answer_elsewhere label other bytes word apart;
+      }
+
+      module _ (conversation : Conversation) (known : connection_of state.connections label ≡ Some (Some (Client conversation))) where
+        client : IsClient (brought done label) (log_on w0 past label) (given lines label) conversation
+        client = subst (λ (o : Option (Option Connection)). IsSo o (brought done label) (log_on w0 past label) (given lines label)) known (s.each label)
+
+        -- its events are exchanged
+        exchange_next : (heard : Heard) → IsAsked conversation input heard
+            → (let x = exchanged state.world heard.conversation.id heard.conversation.says heard.events in
+            IsSo (Some (connection_unless (Some (Client (saying_now heard.conversation x.exchange.says))) x.exchange.state))
+            (brought done label ++ bytes_in input)
+            (log_on w0 past label ++ entries state.world (applied state.world heard.conversation.id heard.conversation.says heard.events))
+            (given lines label ++ x.exchange.bytes))
+            → (text : List ℕ) → (exchanges state label heard.conversation heard.events).lines ≡ Some text
+            → Next (To label input) text (exchanges state label heard.conversation heard.events).state
+        exchange_next heard asked so text told =
+            let x = exchanged state.world heard.conversation.id heard.conversation.says heard.events in
+            let events = applied state.world heard.conversation.id heard.conversation.says heard.events in
+            record {
+              happenings = map (on label) events;
+              happen = subst (λ (o : Option (Option Connection)). HappensThere state label input (map (on label) events) o) (sym known) (heard, asked, refl);
+              told = answer label x.exchange.bytes (last_word x.exchange.state);
+              is_written = answer_written label x.exchange.bytes (last_word x.exchange.state) ∙ the_text told;
+              stands = then_stands (exchanges state label heard.conversation heard.events).state (To label input) events
+                  (answer label x.exchange.bytes (last_word x.exchange.state)) label
+                  (comes_there (exchanges state label heard.conversation heard.events).state events x.exchange.bytes (last_word x.exchange.state) text
+                  (kept_unless (Client (saying_now heard.conversation x.exchange.says)) x.exchange.state)
+                  (applied_lead state.world heard.conversation.id heard.conversation.says heard.events) refl (Some (Client conversation)) known so);
+            } where
+              the_text : (exchanges state label heard.conversation heard.events).lines ≡ Some text
+                  → told_lines label (exchanged state.world heard.conversation.id heard.conversation.says heard.events).exchange.bytes
+                  (exchanged state.world heard.conversation.id heard.conversation.says heard.events).exchange.state ≡ text
+              the_text e = cc
+
+      module _ (pulling : Pulling) (known : connection_of state.connections label ≡ Some (Some (Relay pulling))) where
+        relay : IsRelay (brought done label) (log_on w0 past label) pulling
+        relay = subst (λ (o : Option (Option Connection)). IsSo o (brought done label) (log_on w0 past label) (given lines label)) known (s.each label)
+
+        -- its pull goes on, or is shut
+        pulls_next : (now : Pulling) (ends : State) (w : World) (events : List Event) → ComesToNoted state.world pulling input (at w events)
+            → w ≡ world_after_all state.world events
+            → IsSo (Some (connection_unless (Some (Relay now)) ends)) (brought done label ++ bytes_in input) (log_on w0 past label ++ entries state.world events)
+            (given lines label ++ [])
+            → (text : List ℕ) → (pulled_on state label now ends w).lines ≡ Some text → Next (To label input) text (pulled_on state label now ends w).state
+        pulls_next now ends w events noted leads so text told = record {
+          happenings = map (on label) events;
+          happen = subst (λ (o : Option (Option Connection)). HappensThere state label input (map (on label) events) o) (sym known) (at w events, noted, refl);
+          told = answer label [] (last_word ends);
+          is_written = answer_written label [] (last_word ends) ∙ the_text told;
+          stands = then_stands (pulled_on state label now ends w).state (To label input) events (answer label [] (last_word ends)) label
+              (comes_there (pulled_on state label now ends w).state events [] (last_word ends) text (kept_unless (Relay now) ends) leads refl
+              (Some (Relay pulling)) known
+              so);
+        } where
+          the_text : (pulled_on state label now ends w).lines ≡ Some text → told_lines label [] ends ≡ text
+          the_text e = cc
+
+    -- something comes to a client's connection
+    client_next : (label : ℕ) (conversation : Conversation) → connection_of state.connections label ≡ Some (Some (Client conversation)) → (input : Input)
+        → (p : Performed) → ComesToClient state label conversation input p → (text : List ℕ) → p.lines ≡ Some text → Next (To label input) text p.state
+    client_next label conversation known (Data bytes) p h text told =
+        next_as (To label (Data bytes)) text p _ (sym h.2) told
+        (exchange_next label (Data bytes) conversation known h.0 h.1
+        (data_come settled within joined places data_joined state.world (brought done label) (log_on w0 past label) (given lines label) conversation
+        (client label (Data bytes) conversation known) bytes h.0 h.1))
+    client_next label conversation known (Room room) p h text told =
+        next_as (To label (Room room)) text p _ (sym h) told
+        (exchange_next label (Room room) conversation known (record { events = Draw conversation.id room ∷ []; conversation = conversation }) refl
+        (idle_comes settled within joined places data_joined state.world (brought done label) (log_on w0 past label) (given lines label) conversation
+        (client label (Room room) conversation known) (Draw conversation.id room) refl))
+    client_next label conversation known (Named text) p h written_text told =
+        next_as (To label (Named text)) written_text p _ (sym h) told
+        (exchange_next label (Named text) conversation known
+        (record { events = Title conversation.id (cleaned max_title text) ∷ []; conversation = conversation }) refl
+        (idle_comes settled within joined places data_joined state.world (brought done label) (log_on w0 past label) (given lines label) conversation
+        (client label (Named text) conversation known) (Title conversation.id (cleaned max_title text)) refl))
+    client_next label conversation known End p h text told = next_as (To label End) text p _ (sym h) told ends_next where
+      leaves_alone : (state : State) → and_then conversation.id (Leave conversation.id) state [] ≡ Leave conversation.id ∷ []
+      leaves_alone Running = refl
+      leaves_alone (Shut ending) = refl
+
+      the_text : (words : List ℕ) → Some (told_lines label [] (Shut Done)) ≡ Some words → told_lines label [] (Shut Done) ≡ words
+      the_text words e = cc
+
+      ends_next : (words : List ℕ) → (closes state label conversation).lines ≡ Some words → Next (To label End) words (closes state label conversation).state
+      ends_next words e = record {
+        happenings = map (on label) (Leave conversation.id ∷ []);
+        happen = subst (λ (o : Option (Option Connection)). HappensThere state label End (map (on label) (Leave conversation.id ∷ [])) o) (sym known) (
+          record { events = Leave conversation.id ∷ []; conversation = conversation },
+          refl,
+          ap (map (on label)) (sym (leaves_alone (said conversation.says (reply_to state.world (Leave conversation.id))).state)),
+        );
+        told = answer label [] (last_word (Shut Done));
+        is_written = answer_written label [] (last_word (Shut Done)) ∙ the_text words e;
+        stands = then_stands (closes state label conversation).state (To label End) (Leave conversation.id ∷ []) (answer label [] (last_word (Shut Done))) label
+            (comes_there label End (closes state label conversation).state (Leave conversation.id ∷ []) [] (last_word (Shut Done)) words None refl refl
+            (Some (Client conversation)) known
+            (end_comes settled within joined places data_joined state.world (brought done label) (log_on w0 past label) (given lines label) conversation
+            (client label End conversation known)));
+      }
+
+    -- something comes to a relay's connection
+    module _ (label : ℕ) (pulling : Pulling) (known : connection_of state.connections label ≡ Some (Some (Relay pulling))) where
+      asks_next : (input : Input) (event : ℕ → Event) → ((id : ℕ) → OfRelay (Some id) (event id)) → ((id : ℕ) → pushed (event id ∷ []) ≡ [])
+          → ((id : ℕ) → IsNoUp (event id)) → bytes_in input ≡ [] → ((after : Standing) (done : Noted) → AsksIf noting pulling.number (option_map event pulling.number) (nothing_noted state.world) after done
+          → ComesToNoted state.world pulling input done)
+          → (p : Performed) → AsksOn state label pulling (option_map event pulling.number) p → (text : List ℕ) → p.lines ≡ Some text
+          → Next (To label input) text p.state
+      asks_next input event his silent plain no_bytes comes p h text told =
+          let l = asks_lifts pulling.number event state.world h.1 [] h.0 his silent h.2 plain in
+          next_as (To label input) text p _ (sym h.3) told
+          (pulls_next label input pulling known (record pulling { number = h.0.number }) h.0.state h.1 l.events (comes h.0 (at h.1 l.events) l.lifted) l.leads
+          (subst (λ (xs : List ℕ). IsSo (Some (connection_unless (Some (Relay (record pulling { number = h.0.number }))) h.0.state)) (brought done label ++ xs)
+          (log_on w0 past label ++ entries state.world l.events) (given lines label ++ [])) (sym no_bytes)
+          (idles_so settled_answers within_answers joined none_blocks in_pieces afters state.world (brought done label) (log_on w0 past label) pulling
+          (relay label input pulling known) l.events (given lines label ++ []) (record pulling { number = h.0.number }) h.0.state l.own l.stands refl l.quiet
+          l.holds l.cut (front_none (pushed l.events) l.rest l.front))))
+
+      relay_next : (input : Input) (p : Performed) → ComesToRelay state label pulling input p → (text : List ℕ) → p.lines ≡ Some text
+          → Next (To label input) text p.state
+      relay_next (Data bytes) p h text told =
+          let t = takes_so settled_answers within_answers joined none_blocks in_pieces afters state.world (brought done label) (log_on w0 past label) pulling
+              (relay label (Data bytes) pulling known) bytes (given lines label ++ []) h.0 h.1 h.2 h.3 in
+          next_as (To label (Data bytes)) text p _ (sym h.4) told (pulls_next label (Data bytes) pulling known h.0 h.1 h.2 t.events t.done t.leads t.so)
+      relay_next (Room room) p h text told =
+          asks_next (Room room) (λ id. Draw id room) (λ id. refl) (λ id. refl) (λ id. tt) refl (λ after done a. (after, a)) p h text told
+      relay_next (Named name) p h text told =
+          asks_next (Named name) (λ id. Title id (cleaned max_title name)) (λ id. refl) (λ id. refl) (λ id. tt) refl (λ after done a. (after, a)) p h text told
+      relay_next End p h text told =
+          let d = down Done pulling.number state.world h.0 [] h.1 in
+          next_as (To label End) text p _ (sym h.2) told
+          (pulls_next label End pulling known pulling (Shut Done) h.0 d.events d.lifted d.leads
+          (idles_so settled_answers within_answers joined none_blocks in_pieces afters state.world (brought done label) (log_on w0 past label) pulling
+          (relay label End pulling known) d.events (given lines label ++ []) pulling (Shut Done) d.own (λ run. cc) refl (λ run. cc) d.plain d.cut d.silent))
+
+    -- nothing happens on a connection that was shut
+    shut_next : (label : ℕ) (input : Input) → connection_of state.connections label ≡ Some None → (text : List ℕ) → Some [] ≡ Some text
+        → Next (To label input) text state
+    shut_next label input known text told = record {
+      happenings = [];
+      happen = subst (λ (o : Option (Option Connection)). HappensThere state label input [] o) (sym known) refl;
+      told = [];
+      is_written = the_text told;
+      stands = then_stands state (To label input) [] [] label (record {
+        world = refl;
+        here = IsSo_as _ _ _ _ _ _ _ _ (sym known) (ap (λ (xs : List ℕ). brought done label ++ xs) (sym (brought_here label input)))
+            (sym (append-nil (log_on w0 past label))) (sym (append-nil (given lines label))) closed;
+        connections = λ other apart. refl;
+        silent = λ other apart. brought_elsewhere label other input apart;
+        untold = λ other apart. refl;
+      });
+    } where
+      the_text : Some [] ≡ Some text → [] ≡ text
+      the_text e = cc
+
+      was : IsClosed (brought done label) (log_on w0 past label) (given lines label)
+      was = subst (λ (o : Option (Option Connection)). IsSo o (brought done label) (log_on w0 past label) (given lines label)) known (s.each label)
+
+      closed : IsClosed (brought done label ++ bytes_in input) (log_on w0 past label) (given lines label)
+      closed = record {
+        own = was.own;
+        facts = more_facts settled_answers within_answers joined none_blocks in_pieces afters settled within places data_joined (brought done label) (bytes_in input) (log_on w0 past label) (given lines label) was.facts;
+      }
+
+    there_next : (label : ℕ) (input : Input) (found : Option (Option Connection)) → connection_of state.connections label ≡ found → (p : Performed)
+        → on_connection state (λ connection done. ComesTo state label connection input done) p found → (text : List ℕ) → p.lines ≡ Some text
+        → Next (To label input) text p.state
+    there_next label input None known p h text told = let both : None ≡ Some text = sym (ap (λ (x : Performed). x.lines) h) ∙ told in cc
+    there_next label input (Some None) known p h text told = next_as (To label input) text p _ h told (shut_next label input known)
+    there_next label input (Some (Some (Client conversation))) known p h text told = client_next label conversation known input p h text told
+    there_next label input (Some (Some (Relay pulling))) known p h text told = relay_next label pulling known input p h text told
+
+    pub performs_next : (delivery : Delivery) (p : Performed) → IsPerformed state delivery p → (text : List ℕ) → p.lines ≡ Some text → Next delivery text p.state
+    performs_next (Open label peer) p h text told =
+        next_as (Open label peer) text p _ h told (opens_next label peer (connection_of state.connections label) refl)
+    performs_next (Pull label mount) p h text told =
+        next_as (Pull label mount) text p _ h told
+        (connects_next label mount (relay_named state.world mount) (connection_of state.connections label) refl)
+    performs_next (To label input) p h text told = there_next label input (connection_of state.connections label) refl p h text told
+    performs_next (ClockIs ms) p h text told = next_as (ClockIs ms) text p _ h told (clock_next ms)
+
+  -- a delivery is at fault: nothing happens
+  module _ (state : ScriptState) where
+    abbrev FaultOf : Delivery → ScriptState → Type 0
+    FaultOf delivery later = Happens state delivery [] × (later ≡ state)
+
+    never_at_fault : {A : Type 0} (p : Performed) (text : List ℕ) → p.lines ≡ Some text → p.lines ≡ None → A
+    never_at_fault p text e f = let both : Some text ≡ None = sym e ∙ f in cc
+
+    opens_at_fault : (label : ℕ) (peer : Peer) (found : Option (Option Connection)) → connection_of state.connections label ≡ found → (p : Performed)
+        → p ≡ for_new_label state (opens state label peer) found → p.lines ≡ None → FaultOf (Open label peer) p.state
+    opens_at_fault label peer None known p e none =
+        never_at_fault p _ (ap (λ (x : Performed). x.lines) e) none
+    opens_at_fault label peer (Some connection) known p e none = (ap (arrivals label peer) (sym known), ap (λ (x : Performed). x.state) e)
+
+    connects_at_fault : (label : ℕ) (mount : List ℕ) (wanted : Option RelaySetting) (found : Option (Option Connection)) → (p : Performed)
+        → p ≡ for_new_label state (connects state label wanted) found → p.lines ≡ None → FaultOf (Pull label mount) p.state
+    connects_at_fault label mount wanted (Some connection) p e none = (refl, ap (λ (x : Performed). x.state) e)
+    connects_at_fault label mount None None p e none = (refl, ap (λ (x : Performed). x.state) e)
+    connects_at_fault label mount (Some setting) None p e none = never_at_fault p _ (ap (λ (x : Performed). x.lines) e) none
+
+    client_at_fault : {A : Type 0} (label : ℕ) (conversation : Conversation) (input : Input) (p : Performed) → ComesToClient state label conversation input p
+        → p.lines ≡ None → A
+    client_at_fault label conversation (Data bytes) p h none = never_at_fault p _ (ap (λ (x : Performed). x.lines) (sym h.2)) none
+    client_at_fault label conversation (Room room) p h none = never_at_fault p _ (ap (λ (x : Performed). x.lines) (sym h)) none
+    client_at_fault label conversation (Named text) p h none = never_at_fault p _ (ap (λ (x : Performed). x.lines) (sym h)) none
+    client_at_fault label conversation End p h none = never_at_fault p _ (ap (λ (x : Performed). x.lines) (sym h)) none
+
+    relay_at_fault : {A : Type 0} (label : ℕ) (pulling : Pulling) (input : Input) (p : Performed) → ComesToRelay state label pulling input p → p.lines ≡ None → A
+    relay_at_fault label pulling (Data bytes) p h none = never_at_fault p _ (ap (λ (x : Performed). x.lines) (sym h.4)) none
+    relay_at_fault label pulling (Room room) p h none = never_at_fault p _ (ap (λ (x : Performed). x.lines) (sym h.3)) none
+    relay_at_fault label pulling (Named text) p h none = never_at_fault p _ (ap (λ (x : Performed). x.lines) (sym h.3)) none
+    relay_at_fault label pulling End p h none = never_at_fault p _ (ap (λ (x : Performed). x.lines) (sym h.2)) none
+
+    there_at_fault : (label : ℕ) (input : Input) (found : Option (Option Connection)) → connection_of state.connections label ≡ found → (p : Performed)
+        → on_connection state (λ connection done. ComesTo state label connection input done) p found → p.lines ≡ None → FaultOf (To label input) p.state
+    there_at_fault label input None known p h none =
+        (subst (λ (o : Option (Option Connection)). HappensThere state label input [] o) (sym known) refl, ap (λ (x : Performed). x.state) h)
+    there_at_fault label input (Some None) known p h none = never_at_fault p _ (ap (λ (x : Performed). x.lines) h) none
+    there_at_fault label input (Some (Some (Client conversation))) known p h none = client_at_fault label conversation input p h none
+    there_at_fault label input (Some (Some (Relay pulling))) known p h none = relay_at_fault label pulling input p h none
+
+    at_fault_so : (delivery : Delivery) (p : Performed) → IsPerformed state delivery p → p.lines ≡ None → FaultOf delivery p.state
+    at_fault_so (Open label peer) p h none = opens_at_fault label peer (connection_of state.connections label) refl p h none
+    at_fault_so (Pull label mount) p h none =
+        connects_at_fault label mount (relay_named state.world mount) (connection_of state.connections label) p h none
+    at_fault_so (To label input) p h none = there_at_fault label input (connection_of state.connections label) refl p h none
+    at_fault_so (ClockIs ms) p h none = never_at_fault p _ (ap (λ (x : Performed). x.lines) h) none
+
+  -- the deliveries come to a course
+  pub record Came (done deliveries : List Delivery) (state last : ScriptState) (past : List Happening) (lines : List TranscriptLine) (number : ℕ)
+      (text : List ℕ) (stop : Option ℕ) : Type 0 where
+    pub course : List Happening
+    pub runs : Runs courses (record { state = state; past = past }) number deliveries text stop (record { state = last; past = course })
+    pub performed : List Delivery
+    pub rest : List Delivery
+    pub parts : deliveries ≡ performed ++ rest
+    pub told : List TranscriptLine
+    pub is_written : written told ≡ text
+    pub stands : Stands (done ++ performed) last course (lines ++ told)
+
+  pub comes : (deliveries done : List Delivery) (state last : ScriptState) (past : List Happening) (lines : List TranscriptLine) (number : ℕ)
+      (text : List ℕ) (stop : Option ℕ) → Stands done state past lines → Runs conduct state number deliveries text stop last
+      → Came done deliveries state last past lines number text stop
+  comes [] done state last past lines number text stop s r = record {
+    course = past;
+    runs = (r.0, r.1, ap (λ (x : ScriptState). record { state = x; past = past }) r.2);
+    performed = [];
+    rest = [];
+    parts = refl;
+    told = [];
+    is_written = sym r.0;
+    stands = subst (λ (x : ScriptState). Stands (done ++ []) x past (lines ++ [])) (sym r.2)
+        (subst (λ (ds : List Delivery). Stands ds state past (lines ++ [])) (sym (append-nil done))
+        (subst (λ (ls : List TranscriptLine). Stands done state past ls) (sym (append-nil lines)) s));
+  }
+  comes (delivery ∷ deliveries) done state last past lines number text stop s r = elim r [
+    | inl f ↦
+        let fault = at_fault_so state delivery (record { lines = None; state = last }) f.refused refl in
+        record {
+          course = past ++ [];
+          runs = inl (record { refused = (f.refused, [], fault.0, refl); nothing = f.nothing; here = f.here });
+          performed = [];
+          rest = delivery ∷ deliveries;
+          parts = refl;
+          told = [];
+          is_written = sym f.nothing;
+          stands = subst (λ (x : ScriptState). Stands (done ++ []) x (past ++ []) (lines ++ [])) (sym fault.1)
+              (subst (λ (ds : List Delivery). Stands ds state (past ++ []) (lines ++ [])) (sym (append-nil done))
+              (subst (λ (ls : List TranscriptLine). Stands done state (past ++ []) ls) (sym (append-nil lines))
+              (subst (λ (hs : List Happening). Stands done state hs lines) (sym (append-nil past)) s)));
+        }
+    | inr g ↦
+        let n = performs_next done state past lines s delivery (record { lines = Some g.first; state = g.between }) g.performed g.first refl in
+        let m = comes deliveries (done ++ delivery ∷ []) g.between last (past ++ n.happenings) (lines ++ n.told) (number + 1) g.rest stop n.stands g.others in
+        record {
+          course = m.course;
+          runs = inr (record {
+            first = g.first;
+            rest = g.rest;
+            between = record { state = g.between; past = past ++ n.happenings };
+            performed = (g.performed, n.happenings, n.happen, refl);
+            parts = g.parts;
+            others = m.runs;
+          });
+          performed = delivery ∷ m.performed;
+          rest = m.rest;
+          parts = ap (λ (ds : List Delivery). delivery ∷ ds) m.parts;
+          told = n.told ++ m.told;
+          is_written = written_joined n.told m.told ∙ ap (λ (xs : List ℕ). xs ++ written m.told) n.is_written
+              ∙ ap (λ (xs : List ℕ). g.first ++ xs) m.is_written ∙ sym g.parts;
+          stands = subst (λ (ds : List Delivery). Stands ds last m.course (lines ++ (n.told ++ m.told))) (append_assoc done (delivery ∷ []) m.performed)
+              (subst (λ (ls : List TranscriptLine). Stands ((done ++ delivery ∷ []) ++ m.performed) last m.course ls) (append_assoc lines n.told m.told) m.stands);
+        }
+  ]
+
+  pub nothing_stands : Stands [] (opening_script settings lists) [] []
+  nothing_stands = record { world = refl; each = λ label. (refl, refl, refl); nowhere = tt }

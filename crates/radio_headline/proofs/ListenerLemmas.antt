@@ -1,0 +1,604 @@
+-- What is given to one who asks to hear a mount.
+use Rattle.std.proofs.Common.{◌≡◌, ◌⊎◌, inl, inr, ℕ, ◌==◌, Bool, true, false, List, [], ◌∷◌, ◌++◌, Option, None, Some, refl, sym, ap, subst, ◌∙◌, arith, append_assoc}
+use Rattle.std.specs.Prelude.{map, if◌then◌else◌}
+use Rattle.std.specs.List.{AllByRecursion, flat_map}
+use Rattle.std.proofs.lemmas.Bool.Decides.{nat_tests}
+use Rattle.std.proofs.lemmas.List.{append-nil}
+use Rattle.std.proofs.lemmas.List.Concat.{flat_map-append}
+use Rattle.radio_addr.specs.declared.peer.Peer.{Peer}
+use Rattle.radio_settings.specs.declared.settings.Settings.{Settings}
+use Rattle.radio_settings.specs.Web.{web_path}
+use Rattle.radio_settings.specs.declared.web.WebPath.{WebPath}
+use Rattle.radio_access.specs.Lists.{Lists}
+use Rattle.radio_policy.specs.declared.rule.Rule.{Rule}
+use Rattle.radio_policy.specs.declared.judgement.Verdict.{Verdict}
+use Rattle.radio_policy.specs.declared.judgement.Verdict.TheVariants.{Allow, Deny as Denied}
+use Rattle.radio_policy.specs.Table.{Row}
+use Rattle.radio_policy.specs.Verdicts.{Allows, verdict_in}
+use Rattle.radio_events.specs.declared.event.Event.{Event}
+use Rattle.radio_events.specs.declared.event.Event.TheVariants.{Arrive, Source, Push, SourceEnd, Title, Listen, Draw, Command, Leave, RelayUp, RelayDown, Clock}
+use Rattle.radio_events.specs.declared.event.ListenRequest.{ListenRequest}
+use Rattle.radio_events.specs.declared.reply.Reply.{Reply}
+use Rattle.radio_events.specs.declared.reply.Reply.TheVariants.{Arrived, Feeding, Seated, Drawn, Noted, Text, Deny, Finished, Stray}
+use Rattle.radio_events.specs.declared.reply.StreamHead.{StreamHead}
+use Rattle.radio_events.specs.Events.{client_in}
+use Rattle.radio_icy.specs.Weaving.{Call}
+use Rattle.radio_house.specs.declared.standing.Standing.{Standing}
+use Rattle.radio_house.specs.declared.standing.Standing.TheVariants.{Unknown, Undecided, Feeds, Sits, Answered as IsAnswered, Finished as HasFinished}
+use Rattle.radio_core.specs.ClientSteps.{ClientsStep}
+use Rattle.radio_core.specs.Handing.{is_number, of_client}
+use Rattle.radio_core.specs.Others.{RepliesFit}
+use Rattle.radio_core.specs.declared.outcome.Change.TheVariants.{Answer}
+use Rattle.radio_core.specs.declared.outcome.Outcome.{Outcome}
+use Rattle.radio_core.specs.Listen.{sits_where}
+use Rattle.radio_core.specs.Outcomes.{if_undecided, on_verdict}
+use Rattle.radio_core.specs.Pages.{asks_by, shows_page}
+use Rattle.radio_house.specs.Facts.{rows_to_listen, walks_to}
+use Rattle.radio_core.specs.Run.{run_after, world_after_all}
+use Rattle.radio_core.specs.Step.{outcome, reply_to, world_after}
+use Rattle.radio_core.specs.Totals.{AddsUp}
+use Rattle.radio_house.specs.World.{World, opening, standing_of}
+use Rattle.radio_laws.specs.Access.{AccessIsKept}
+use Rattle.radio_laws.specs.Admission.{BeginsAtABlock, IsSeated}
+use Rattle.radio_laws.specs.Stretches.{sittings}
+use Rattle.radio_laws.specs.Denials.{DenialsAreThePolicys}
+use Rattle.radio_laws.specs.Service.{Serves}
+use Rattle.radio_heads.specs.Head.{RequestParts}
+use Rattle.radio_session.specs.Asking.{asks_by_get, asks_to_feed, asks_to_hear, gives_command, is_for_commands, path_in}
+use Rattle.radio_session.specs.Conversation.{asking}
+use Rattle.radio_session.specs.declared.session.Says.{Says}
+use Rattle.radio_session.specs.declared.state.State.TheVariants.{Running}
+use Rattle.radio_session.specs.Draws.{draw, joined_draws}
+use Rattle.radio_session.specs.Saying.{denial, head_text, said, text_answer}
+use Rattle.radio_session.specs.Told.{AdmitNobody, DrawsFollowTheHead, draws_of, told}
+use Rattle.radio_floor.specs.declared.labelled.Connection.{Connection}
+use Rattle.radio_floor.specs.declared.labelled.Connection.TheVariants.{Client, Relay}
+use Rattle.radio_floor.specs.ScriptState.{ScriptState, connection_of}
+use Rattle.radio_script.specs.declared.delivery.Delivery.{Delivery}
+use Rattle.radio_script.specs.Given.{TranscriptLine, given}
+use Rattle.radio_headline.specs.Course.{Happening, events_in, on}
+use Rattle.radio_headline.specs.Listeners.{DrawsAreStretches, SitsWithASource, Hears, IsDenied, IsGiven, IsShown, IsTooLate, draws_to}
+use Rattle.radio_headline.specs.Sources.{HasItsSource, brought}
+use Rattle.radio_headline.proofs.Logs.{Entry, entry, after_joined, entry_on, log_on, log_joined, replies, replies_joined, Each, each_as, each_first, each_joined, each_second, itself}
+use Rattle.radio_headline.proofs.AppliedLemmas.{IsLast, IsLeaving, IsOpen, IsOrderly, said_all, told_joined}
+use Rattle.radio_headline.proofs.ReplyForms.{IsIdle, ListenReply, IsOutOfPlace, HasFinished as IsFinishedReply, WasDenied, WasShown, WasSeated, listen_reply}
+use Rattle.radio_headline.proofs.RunLemmas.{HasNumber, IsOwn, IsIdling, IsNew, AsksNothing as IsUndecided, IsOut, AllNowhere, IsMoment, moments_are_nobodys, are_on_first, arrives_and_idles, each_happening, one_owner, reached_opening}
+use Rattle.radio_headline.proofs.Connections.{arrival, AsksForMount, AsksNothing, ByGet, Feeds as IsFeeding, IsIdleOrLeaving, IsBehindRequest, IsNoRequest}
+use Rattle.radio_headline.proofs.Connections.{Facts, HasAskedNothing, HasSentGet, IsSource, IsPulling, IsClosed, IsClient, IsRelay, IsSo, Stage, AtHead, AfterGet, AtBody, AfterBody, Refused}
+use Rattle.radio_headline.proofs.ConnectionSteps.{client_owns, idle_asks_nothing, idle_is_his}
+use Rattle.radio_headline.proofs.OwnLogs.{relay_owns}
+use Rattle.radio_headline.proofs.RelayLogs.{OfRelay, OwnRelay}
+use Rattle.radio_pull.specs.Pulling.{answered}
+
+idle_or_leaving_is_his : (id : ℕ) (e : Entry) → IsIdleOrLeaving id e → client_in e.event ≡ Some id
+idle_or_leaving_is_his id e (inl h) = idle_is_his id e.event h
+idle_or_leaving_is_his id e (inr h) = ap client_in h
+
+pub get_is_of : (id : ℕ) (request : RequestParts) {asked : ListenRequest} → asks_by_get id request ≡ Listen asked → asked.id ≡ id
+get_is_of id request {asked} e = by_kind (is_for_commands (path_in request)) e where
+  by_kind : (b : Bool) → (if b then gives_command id request (path_in request) else asks_to_hear id request (path_in request)) ≡ Listen asked → asked.id ≡ id
+  by_kind true e = cc
+  by_kind false e = let his : Some id ≡ Some asked.id = ap client_in e in cc
+
+pub orderly_second : (id : ℕ) (log more : List Entry) → IsOrderly id (log ++ more) → IsOrderly id more
+orderly_second id [] more h = h
+orderly_second id (e ∷ log) more h = orderly_second id log more h.1
+
+-- whose events come on a connection
+pub so_owns : (c : Option (Option Connection)) (bytes : List ℕ) (log : List Entry) (given : List ℕ) → IsSo c bytes log given → Each (IsOwn log) log
+so_owns None bytes log given h = subst (λ (xs : List Entry). Each (IsOwn xs) xs) (sym h.1) tt
+so_owns (Some None) bytes log given h = h.own
+so_owns (Some (Some (Client conversation))) bytes log given h = client_owns conversation.id conversation.peer h.others log h.arrived h.his
+so_owns (Some (Some (Relay pulling))) bytes log given h = relay_owns log h.own
+
+-- by this event a mount is asked for, to hear it
+abbrev pub IsListening : Event → Type 0
+IsListening (Listen asked) = Unit {0}
+IsListening event = ⊥
+
+abbrev ListensNot : Entry → Type 0
+ListensNot e = IsListening e.event → ⊥
+
+listening_asks : (event : Event) → IsListening event → AsksForMount event
+listening_asks (Arrive peer) h = elim h [ ]
+listening_asks (Source asked) h = elim h [ ]
+listening_asks (Push him block) h = elim h [ ]
+listening_asks (SourceEnd him) h = elim h [ ]
+listening_asks (Title him text) h = elim h [ ]
+listening_asks (Draw him room) h = elim h [ ]
+listening_asks (Command asked) h = elim h [ ]
+listening_asks (Leave him) h = elim h [ ]
+listening_asks (RelayUp mount shown) h = elim h [ ]
+listening_asks (RelayDown him) h = elim h [ ]
+listening_asks (Clock ms) h = elim h [ ]
+listening_asks (Listen asked) h = tt
+
+nothing_listened : (log : List Entry) → Each AsksNothing log → Each ListensNot log
+nothing_listened log h = each_as AsksNothing ListensNot (λ e f l. f (listening_asks e.event l)) log h
+
+not_behind : (id : ℕ) (event : Event) → IsBehindRequest id event → IsListening event → ⊥
+not_behind id (Arrive peer) h l = elim h [ ]
+not_behind id (Source asked) h l = elim h [ ]
+not_behind id (Listen asked) h l = elim h [ ]
+not_behind id (Command asked) h l = elim h [ ]
+not_behind id (RelayUp mount shown) h l = elim h [ ]
+not_behind id (RelayDown him) h l = l
+not_behind id (Clock ms) h l = elim h [ ]
+not_behind id (Push him block) h l = l
+not_behind id (SourceEnd him) h l = l
+not_behind id (Title him text) h l = l
+not_behind id (Draw him room) h l = l
+not_behind id (Leave him) h l = l
+
+idle_not : (id : ℕ) (e : Entry) → IsIdling id e → ListensNot e
+idle_not id e h l = idle_asks_nothing id e.event h (listening_asks e.event l)
+
+source_not : (bytes : List ℕ) (log : List Entry) → IsFeeding bytes log → Each ListensNot log
+source_not bytes log f =
+    subst (Each ListensNot) (sym f.in_order)
+    ((λ l. l), each_joined ListensNot f.idle _ (each_as (IsIdling f.id) ListensNot (idle_not f.id) f.idle f.idles)
+    ((λ l. l), each_as (IsNoRequest f.id) ListensNot (λ e h. not_behind f.id e.event h) f.behind f.no_more))
+
+-- a relay asks for no mount
+relay_listens_not : (number : Option ℕ) (log : List Entry) → OwnRelay number log → Each ListensNot log
+relay_listens_not number [] own = tt
+relay_listens_not number (e ∷ log) own = (by_event e.event own.0, relay_listens_not (answered number e.reply).number log own.1) where
+  by_event : (event : Event) → OfRelay number event → IsListening event → ⊥
+  by_event (Arrive peer) h a = elim h [ ]
+  by_event (Source asked) h a = elim h [ ]
+  by_event (SourceEnd him) h a = elim h [ ]
+  by_event (Listen asked) h a = elim h [ ]
+  by_event (Command asked) h a = elim h [ ]
+  by_event (Leave him) h a = elim h [ ]
+  by_event (Clock ms) h a = elim h [ ]
+  by_event (RelayUp mount shown) h a = a
+  by_event (Push him block) h a = a
+  by_event (Title him text) h a = a
+  by_event (Draw him room) h a = a
+  by_event (RelayDown him) h a = a
+
+none_there : (before behind : List Entry) (e : Entry) → Each ListensNot (before ++ e ∷ behind) → IsListening e.event → ⊥
+none_there before behind e h l = (each_second ListensNot before (e ∷ behind) h).0 l
+
+pub no_entry : (before behind : List Entry) (e : Entry) → [] ≡ before ++ e ∷ behind → ⊥
+no_entry [] behind e h = cc
+no_entry (x ∷ before) behind e h = cc
+
+-- where a mount is asked for, to hear it, a GET was heard
+module _ (bytes : List ℕ) (log : List Entry) (given : List ℕ) (before behind : List Entry) (e : Entry) (parts : log ≡ before ++ e ∷ behind)
+    (listens : IsListening e.event) where
+  never : {A : Type 0} → Each ListensNot log → A
+  never h = absurd (none_there before behind e (subst (Each ListensNot) parts h) listens)
+
+  of_facts : Facts bytes log given → ByGet bytes log given
+  of_facts (HasAskedNothing h) = never (nothing_listened log h)
+  of_facts (HasSentGet g) = g
+  of_facts (IsSource f) = never (source_not bytes log f)
+  of_facts (IsPulling q) = never (relay_listens_not None log q.own)
+
+  of_stage : (conversation : _) → Stage bytes log given conversation → ByGet bytes log given
+  of_stage conversation (AtHead idle arrived idles hears held t) =
+      never (subst (Each ListensNot) (sym arrived) ((λ l. l), each_as (IsIdling conversation.id) ListensNot (idle_not conversation.id) idle idles))
+  of_stage conversation (AfterGet g hears t) = g
+  of_stage conversation (AtBody f none hears) = never (source_not bytes log f)
+  of_stage conversation (AfterBody f hears) = never (source_not bytes log f)
+  of_stage conversation (Refused h hears) = never (nothing_listened log h)
+
+  pub by_get : (c : Option (Option Connection)) → IsSo c bytes log given → ByGet bytes log given
+  by_get None h = absurd (no_entry before behind e (sym h.1 ∙ parts))
+  by_get (Some None) h = of_facts h.facts
+  by_get (Some (Some (Client conversation))) h = of_stage conversation h.stage
+  by_get (Some (Some (Relay pulling))) h = never (relay_listens_not None log h.own)
+
+idle_or_leaving_not : (id : ℕ) (e : Entry) → IsIdleOrLeaving id e → IsListening e.event → ⊥
+idle_or_leaving_not id e (inl h) l = idle_asks_nothing id e.event h (listening_asks e.event l)
+idle_or_leaving_not id e (inr h) l = subst IsListening h l
+
+-- the one entry of a log by which a mount is asked for
+record Parted (xs ys : List Entry) (e a : Entry) (cs ds : List Entry) : Type 0 where
+  pub before : xs ≡ ys
+  pub here : e ≡ a
+  pub behind : cs ≡ ds
+
+parted : (xs ys cs ds : List Entry) (e a : Entry) → xs ++ e ∷ cs ≡ ys ++ a ∷ ds → IsListening e.event → Each ListensNot ys → Each ListensNot ds
+    → Parted xs ys e a cs ds
+parted [] [] cs ds e a h l none later = record { before = refl; here = cc; behind = cc }
+parted [] (y ∷ ys) cs ds e a h l none later = let same : e ≡ y = cc in absurd (none.0 (subst (λ (x : Entry). IsListening x.event) same l))
+parted (x ∷ xs) [] cs ds e a h l none later =
+    let others : xs ++ e ∷ cs ≡ ds = cc in
+    absurd (none_there xs cs e (subst (Each ListensNot) (sym others) later) l)
+parted (x ∷ xs) (y ∷ ys) cs ds e a h l none later =
+    let first : x ≡ y = cc in
+    let others : xs ++ e ∷ cs ≡ ys ++ a ∷ ds = cc in
+    let p = parted xs ys cs ds e a others l none.1 later in
+    record { before = ap (λ (z : Entry). z ∷ xs) first ∙ ap (λ (zs : List Entry). y ∷ zs) p.before; here = p.here; behind = p.behind }
+
+-- what was asked for was asked for by that GET
+pub parted_at_get : (bytes : List ℕ) (log : List Entry) (given : List ℕ) (g : ByGet bytes log given) (before behind : List Entry) (e : Entry)
+    → log ≡ before ++ e ∷ behind → IsListening e.event → e.event ≡ asks_by_get g.id g.request
+parted_at_get bytes log given g before behind e parts l =
+    ap (λ (x : Entry). x.event) (parted before (arrival g.peer g.id ∷ g.idle) behind g.behind e _ (sym parts ∙ g.in_order) l
+    ((λ k. k), each_as (IsIdling g.id) ListensNot (idle_not g.id) g.idle g.idles)
+    (each_as (IsIdleOrLeaving g.id) ListensNot (idle_or_leaving_not g.id) g.behind g.no_more)).here
+
+-- nothing was told while he waited
+abbrev IsMute : Entry → Type 0
+IsMute e = (e.reply ≡ Stray) ⊎ ((rule : Rule) × (e.reply ≡ Finished rule))
+
+record Waited (idle : List Entry) : Type 0 where
+  pub untold : told asking (replies idle) ≡ []
+  pub says : said_all asking (replies idle) ≡ asking
+
+waited : (idle : List Entry) → IsOpen asking (replies idle) → Each IsMute idle → Waited idle
+waited [] goes mute = record { untold = refl; says = refl }
+waited (e ∷ idle) goes mute = elim mute.0 [
+  | inl stray ↦
+      let later = waited idle (subst (λ (r : Reply). IsOpen (said asking r).says (replies idle)) stray goes.1) mute.1 in
+      record {
+        untold = ap (λ (r : Reply). told asking (r ∷ replies idle)) stray ∙ later.untold;
+        says = ap (λ (r : Reply). said_all asking (r ∷ replies idle)) stray ∙ later.says;
+      }
+  | inr (rule, finished) ↦
+      let shut = ap (λ (r : Reply). (said asking r).state) (sym finished) ∙ goes.0 in absurd (cc)
+]
+
+-- draws
+abbrev calls_of : Entry → List Call
+calls_of e = draws_of (e.reply ∷ [])
+
+abbrev calls : List Entry → List Call
+calls log = flat_map calls_of log
+
+abbrev DrawsNothing : Entry → Type 0
+DrawsNothing e = calls_of e ≡ []
+
+no_calls : (log : List Entry) → Each DrawsNothing log → calls log ≡ []
+no_calls [] h = refl
+no_calls (e ∷ log) h = ap (λ (xs : List Call). xs ++ calls log) h.0 ∙ no_calls log h.1
+
+mute_draws : (e : Entry) → IsMute e → DrawsNothing e
+mute_draws e (inl stray) = ap (λ (r : Reply). draws_of (r ∷ [])) stray
+mute_draws e (inr (rule, finished)) = ap (λ (r : Reply). draws_of (r ∷ [])) finished
+
+-- a reply fits its event
+pub record FitsEvent (event : Event) (reply : Reply) : Type 0 where
+  pub feeding : reply ≡ Feeding → AsksForMount event
+  pub seated : (interval : Option ℕ) (head : StreamHead) → reply ≡ Seated interval head → AsksForMount event
+  pub drawn : (id : ℕ) → event ≡ Leave id → draws_of (reply ∷ []) ≡ []
+
+abbrev EntryFits : Entry → Type 0
+EntryFits e = FitsEvent e.event e.reply
+
+leaving_draws : (id : ℕ) (log : List Entry) → Each EntryFits log → Each (IsLeaving id) log → Each DrawsNothing log
+leaving_draws id [] fits h = tt
+leaving_draws id (e ∷ log) fits h = (fits.0.drawn id h.0, leaving_draws id log fits.1 h.1)
+
+orderly_draws : (id : ℕ) (log : List Entry) → IsOrderly id log → Each EntryFits log → draws_of (replies log) ≡ calls log
+orderly_draws id [] o fits = refl
+orderly_draws id (e ∷ log) o fits = by_reply (orderly_draws id log o.1 fits.1) e.reply refl where
+  last : IsLast e.reply → [] ≡ calls log
+  last l = sym (no_calls log (leaving_draws id log fits.1 (o.0 l)))
+
+  by_reply : draws_of (replies log) ≡ calls log → (r : Reply) → e.reply ≡ r → draws_of (r ∷ replies log) ≡ draws_of (r ∷ []) ++ calls log
+  by_reply later (Arrived him) h = later
+  by_reply later Feeding h = later
+  by_reply later (Seated interval head) h = later
+  by_reply later (Drawn bytes title) h = ap (λ (xs : List Call). draw bytes title ∷ xs) later
+  by_reply later Noted h = later
+  by_reply later (Text text) h = last (subst IsLast (sym h) tt)
+  by_reply later (Deny rule) h = last (subst IsLast (sym h) tt)
+  by_reply later (Finished rule) h = last (subst IsLast (sym h) tt)
+  by_reply later Stray h = later
+
+abbrev AdmitsNot : Entry → Type 0
+AdmitsNot e = (e.reply ≡ Feeding → ⊥) × ((interval : Option ℕ) (head : StreamHead) → e.reply ≡ Seated interval head → ⊥)
+
+admit_nobody : (log : List Entry) → Each AdmitsNot log → AdmitNobody (replies log)
+admit_nobody [] h = tt
+admit_nobody (e ∷ log) h = by_reply (admit_nobody log h.1) e.reply refl where
+  by_reply : AdmitNobody (replies log) → (r : Reply) → e.reply ≡ r → AdmitNobody (r ∷ replies log)
+  by_reply later (Arrived him) d = later
+  by_reply later Feeding d = h.0.0 d
+  by_reply later (Seated interval head) d = h.0.1 interval head d
+  by_reply later (Drawn bytes title) d = later
+  by_reply later Noted d = later
+  by_reply later (Text text) d = later
+  by_reply later (Deny rule) d = later
+  by_reply later (Finished rule) d = later
+  by_reply later Stray d = later
+
+none_admitted : (id : ℕ) (log : List Entry) → Each (IsIdleOrLeaving id) log → Each EntryFits log → Each AdmitsNot log
+none_admitted id [] h fits = tt
+none_admitted id (e ∷ log) h fits = (
+  ((λ d. asks e (fits.0.feeding d) h.0), λ interval head d. asks e (fits.0.seated interval head d) h.0),
+  none_admitted id log h.1 fits.1,
+) where
+  asks : (e : Entry) → AsksForMount e.event → IsIdleOrLeaving id e → ⊥
+  asks e a (inl i) = idle_asks_nothing id e.event i a
+  asks e a (inr l) = subst AsksForMount l a
+
+-- the events of the client are those on his connection
+pub counts_as : (id : ℕ) (event : Event) → is_number id (client_in event) ≡ true → client_in event ≡ Some id
+counts_as id event h = by_client (client_in event) refl where
+  by_client : (c : Option ℕ) → client_in event ≡ c → client_in event ≡ Some id
+  by_client None e = let no : false ≡ true = ap (is_number id) (sym e) ∙ h in cc
+  by_client (Some him) e = e ∙ ap (λ (n : ℕ). Some n) (same him (ap (is_number id) (sym e) ∙ h)) where
+    same : (him : ℕ) → (him == id) ≡ true → him ≡ id
+    same him k = grind (arith, nat_tests)
+
+abbrev IsHisOrDrawsNothing : ℕ → Entry → Type 0
+IsHisOrDrawsNothing id e = (client_in e.event ≡ Some id) ⊎ DrawsNothing e
+
+abbrev pub IsOnIt : ℕ → ℕ → Happening → Type 0
+IsOnIt label id h = client_in h.event ≡ Some id → is_number label h.label ≡ true
+
+draws_gathered : (w : World) (past : List Happening) (label id : ℕ) → AllByRecursion (IsOnIt label id) past
+    → Each (IsHisOrDrawsNothing id) (log_on w past label) → draws_to w (events_in past) id ≡ calls (log_on w past label)
+draws_gathered w [] label id on his = refl
+draws_gathered w (h ∷ past) label id on his =
+    by_tests (draws_gathered (world_after w h.event) past label id on.1) (is_number label h.label) refl (is_number id (client_in h.event)) refl his where
+  by_tests : (Each (IsHisOrDrawsNothing id) (log_on (world_after w h.event) past label)
+      → draws_to (world_after w h.event) (events_in past) id ≡ calls (log_on (world_after w h.event) past label))
+      → (b : Bool) → is_number label h.label ≡ b → (c : Bool) → is_number id (client_in h.event) ≡ c
+      → Each (IsHisOrDrawsNothing id) ((if b then entry w h.event ∷ [] else []) ++ log_on (world_after w h.event) past label)
+      → (if c then (draws_of (reply_to w h.event ∷ [])) else []) ++ draws_to (world_after w h.event) (events_in past) id ≡ calls ((if b then entry w h.event ∷ [] else []) ++ log_on (world_after w h.event) past label)
+  by_tests ih true e true f k = ap (λ (xs : List Call). (draws_of (reply_to w h.event ∷ [])) ++ xs) (ih k.1)
+  by_tests ih true e false f k =
+      ih k.1 ∙ ap (λ (xs : List Call). xs ++ calls (log_on (world_after w h.event) past label)) (sym (none k.0)) where
+        none : IsHisOrDrawsNothing id (entry w h.event) → (draws_of (reply_to w h.event ∷ [])) ≡ []
+        none (inl mine) =
+            let yes : is_number id (client_in h.event) ≡ true = ap (is_number id) mine ∙ itself id in
+            let no : true ≡ false = sym yes ∙ f in
+            cc
+        none (inr d) = d
+  by_tests ih false e true f k = let no : true ≡ false = sym (on.0 (counts_as id h.event f)) ∙ e in cc
+  by_tests ih false e false f k = ih k
+
+-- the events of clients come each on one connection
+module _ (settings : Settings) (lists : Lists)
+    (fits : (events : List Event) (event : Event) → RepliesFit (run_after settings lists events) event)
+    (adds : (events : List Event) (event : Event) → AddsUp (run_after settings lists events) event)
+    (steps : (events : List Event) (event : Event) → ClientsStep (run_after settings lists events) event)
+    (done : List Delivery) (last : ScriptState) (course : List Happening) (lines : List TranscriptLine)
+    (each : (label : ℕ) → IsSo (connection_of last.connections label) (brought done label) (log_on (opening settings lists) course label) (given lines label))
+    (nowhere : AllNowhere (λ h. IsMoment h.event) course) where
+  -- the events of a client are on the connection on which he was given his number
+  none_nowhere : (label id : ℕ) (past : List Happening) → AllNowhere (λ h. IsMoment h.event) past → AllNowhere (IsOnIt label id) past
+  none_nowhere label id [] h = tt
+  none_nowhere label id (x ∷ past) h =
+      ((λ e his. let both : None ≡ Some id = sym (moments_are_nobodys x.event (h.0 e)) ∙ his in cc), none_nowhere label id past h.1)
+
+  pub on_his : (label id : ℕ) → HasNumber id (log_on (opening settings lists) course label) → AllByRecursion (IsOnIt label id) course
+  on_his label id has =
+      each_happening settings lists fits adds steps (λ other event. (him : ℕ) → client_in event ≡ Some him → HasNumber him (log_on (opening settings lists) course other)) (IsOnIt label id)
+      (λ other event own his.
+      let same : other ≡ label = one_owner settings lists fits adds steps (opening settings lists) course other label id (reached_opening settings lists fits adds steps) (own id his) has in
+      ap (λ (n : ℕ). n == label) same ∙ itself label)
+      (opening settings lists) course
+      (λ other. so_owns (connection_of last.connections other) (brought done other) (log_on (opening settings lists) course other) (given lines other) (each other))
+      (none_nowhere label id course nowhere)
+
+-- who has asked for nothing yet, and asks to hear, is not out of place
+module _ (w : World) (asked : ListenRequest)
+    (allowed : (peer : Peer) → standing_of w asked.id ≡ Undecided peer → verdict_in (rows_to_listen w asked) ≡ Allow → ⊥) where
+  at_page : (path : WebPath) (s : Standing) → IsNew s → standing_of w asked.id ≡ s → (asks_by w asked (Some path)).reply ≡ Stray → ⊥
+  at_page path Unknown n d h = elim n [ ]
+  at_page path (Feeds mount) n d h = elim n [ ]
+  at_page path Sits n d h = elim n [ ]
+  at_page path IsAnswered n d h = elim n [ ]
+  at_page path (Undecided peer) n e h =
+      let d = sym (ap (λ (t : Standing). (if_undecided t (λ _. shows_page w asked path)).reply) e) ∙ h in cc
+  at_page path (HasFinished rule) n e h =
+      let d = sym (ap (λ (t : Standing). (if_undecided t (λ _. shows_page w asked path)).reply) e) ∙ h in cc
+
+  abbrev asks_then : Verdict → Peer → Outcome
+  asks_then v peer = on_verdict v (Answer asked.id) (sits_where w.house asked peer (walks_to w.house w.seats asked.mount asked.pair))
+
+  at_mount : (s : Standing) → IsNew s → standing_of w asked.id ≡ s → (asks_by w asked None).reply ≡ Stray → ⊥
+  at_mount Unknown n d h = elim n [ ]
+  at_mount (Feeds mount) n d h = elim n [ ]
+  at_mount Sits n d h = elim n [ ]
+  at_mount IsAnswered n d h = elim n [ ]
+  at_mount (Undecided peer) n e h = by_verdict (verdict_in (rows_to_listen w asked)) refl where
+    d : (asks_then (verdict_in (rows_to_listen w asked)) peer).reply ≡ Stray
+    d = sym (ap (λ (t : Standing). (if_undecided t (asks_then (verdict_in (rows_to_listen w asked)))).reply) e) ∙ h
+
+    by_verdict : (v : Verdict) → verdict_in (rows_to_listen w asked) ≡ v → ⊥
+    by_verdict Allow v = allowed peer e v
+    by_verdict (Denied rule) v =
+        let f : Deny rule ≡ Stray = sym (ap (λ (x : Verdict). (asks_then x peer).reply) v) ∙ d in cc
+  at_mount (HasFinished rule) n e h =
+      let d = sym (ap (λ (t : Standing). (if_undecided t (asks_then (verdict_in (rows_to_listen w asked)))).reply) e) ∙ h in cc
+
+  by_path : (path : Option WebPath) (s : Standing) → IsNew s → standing_of w asked.id ≡ s → (asks_by w asked path).reply ≡ Stray → ⊥
+  by_path None s n e h = at_mount s n e h
+  by_path (Some path) s n e h = at_page path s n e h
+
+  never_stray : (s : Standing) → IsNew s → standing_of w asked.id ≡ s → reply_to w (Listen asked) ≡ Stray → ⊥
+  unfolding reply_to outcome
+  never_stray s n e h = by_path (web_path w.house.settings.web asked.mount) s n e h
+
+-- with a bare name of the law
+module _ (settings : Settings) (lists : Lists)
+    (fits : (events : List Event) (event : Event) → RepliesFit (run_after settings lists events) event)
+    (adds : (events : List Event) (event : Event) → AddsUp (run_after settings lists events) event)
+    (steps : (events : List Event) (event : Event) → ClientsStep (run_after settings lists events) event)
+    (access : (events : List Event) (event : Event) → AccessIsKept (run_after settings lists events) event)
+    (serves : (events : List Event) → Serves (run_after settings lists events))
+    (policy : (rows : List Row) → verdict_in rows ≡ Allow → Allows rows) where
+
+  fits_event : (events : List Event) (event : Event) → FitsEvent event (reply_to (run_after settings lists events) event)
+  fits_event events event =
+      let f = fits events event in
+      record {
+        feeding = λ e. let h = f.feeding e in subst AsksForMount (sym h.1) tt;
+        seated = λ interval head e. let h = f.seated interval head e in subst AsksForMount (sym h.1) tt;
+        drawn = λ id e. by_reply id e (reply_to (run_after settings lists events) event) refl;
+      } where
+        by_reply : (id : ℕ) → event ≡ Leave id → (r : Reply) → reply_to (run_after settings lists events) event ≡ r → draws_of (r ∷ []) ≡ []
+        by_reply id e (Arrived him) d = refl
+        by_reply id e Feeding d = refl
+        by_reply id e (Seated interval head) d = refl
+        by_reply id e (Drawn bytes title) d =
+            let h = access events event bytes title d in let both : Leave id ≡ Draw h.id h.room = sym e ∙ h.asked in cc
+        by_reply id e Noted d = refl
+        by_reply id e (Text text) d = refl
+        by_reply id e (Deny rule) d = refl
+        by_reply id e (Finished rule) d = refl
+        by_reply id e Stray d = refl
+
+  log_fits : (events : List Event) (past : List Happening) (label : ℕ) → Each EntryFits (log_on (run_after settings lists events) past label)
+  log_fits events [] label = tt
+  log_fits events (h ∷ past) label =
+      by_label (subst (λ (x : World). Each EntryFits (log_on x past label)) (after_joined (opening settings lists) events (h.event ∷ []))
+      (log_fits (events ++ h.event ∷ []) past label)) (is_number label h.label) where
+    by_label : Each EntryFits (log_on (world_after (run_after settings lists events) h.event) past label) → (b : Bool)
+        → Each EntryFits ((if b then entry (run_after settings lists events) h.event ∷ [] else []) ++ log_on (world_after (run_after settings lists events) h.event) past label)
+    by_label later true = (fits_event events h.event, later)
+    by_label later false = later
+
+  listens_in_place : (events : List Event) (asked : ListenRequest) (s : Standing) → IsNew s → standing_of (run_after settings lists events) asked.id ≡ s
+      → reply_to (run_after settings lists events) (Listen asked) ≡ Stray → ⊥
+  listens_in_place events asked s n e stray = never_stray (run_after settings lists events) asked (λ peer u v. seated peer u v) s n e stray where
+    seated : (peer : Peer) → standing_of (run_after settings lists events) asked.id ≡ Undecided peer → verdict_in (rows_to_listen (run_after settings lists events) asked) ≡ Allow → ⊥
+    seated peer u v =
+        let taken = (serves events).seats asked peer u (policy (rows_to_listen (run_after settings lists events) asked) v) in
+        let both = sym taken.is_shown ∙ stray in
+        cc
+
+  -- what is told behind the first of a log
+  module _ (denied : (events : List Event) (event : Event) → DenialsAreThePolicys (run_after settings lists events) event)
+      (begins : (events : List Event) (event : Event) → BeginsAtABlock (run_after settings lists events) event)
+      (stretches : (events : List Event) (id : ℕ) → DrawsAreStretches settings lists events id)
+      (follow : DrawsFollowTheHead)
+      (done : List Delivery) (last : ScriptState) (course : List Happening) (lines : List TranscriptLine)
+      (world : last.world ≡ run_after settings lists (events_in course))
+      (each : (label : ℕ) → IsSo (connection_of last.connections label) (brought done label) (log_on (opening settings lists) course label) (given lines label))
+      (nowhere : AllNowhere (λ h. IsMoment h.event) course)
+      (deliveries : List Delivery)
+      (shown_by_source : (past : List Happening) (interval : Option ℕ) (head : StreamHead) (asked : ListenRequest) (rest : List Happening) → course ≡ past ++ rest
+      → (s : IsSeated (run_after settings lists (events_in past)) (Listen asked) interval head)
+      → HasItsSource settings lists deliveries course s.session.mount s.session.number head.shown)
+      (sit : (id : ℕ) → AllByRecursion (SitsWithASource settings lists deliveries course) (sittings (opening settings lists) (events_in course) id)) where
+    abbrev w0 : World
+    w0 = opening settings lists
+
+    abbrev log : ℕ → List Entry
+    log label = log_on w0 course label
+
+    module _ (label : ℕ) (asked : ListenRequest) (past later : List Happening) (parts : course ≡ past ++ on label (Listen asked) ∷ later) where
+      abbrev w : World
+      w = run_after settings lists (events_in past)
+
+      abbrev reply : Reply
+      reply = reply_to w (Listen asked)
+
+      abbrev before : List Entry
+      before = log_on w0 past label
+
+      abbrev behind : List Entry
+      behind = log_on (world_after w (Listen asked)) later label
+
+      in_order : log label ≡ before ++ entry w (Listen asked) ∷ behind
+      in_order = ap (λ (hs : List Happening). log_on w0 hs label) parts ∙ log_joined w0 past (on label (Listen asked) ∷ later) label
+          ∙ ap (λ (b : Bool). before ++ ((if b then entry w (Listen asked) ∷ [] else []) ++ behind)) (itself label)
+
+      g : ByGet (brought done label) (log label) (given lines label)
+      g = by_get (brought done label) (log label) (given lines label) before behind (entry w (Listen asked)) in_order tt
+          (connection_of last.connections label) (each label)
+
+      p : Parted before (arrival g.peer g.id ∷ g.idle) (entry w (Listen asked)) (record { event = asks_by_get g.id g.request; reply = g.reply }) behind g.behind
+      p = parted before (arrival g.peer g.id ∷ g.idle) behind g.behind (entry w (Listen asked)) _ (sym in_order ∙ g.in_order) tt
+          ((λ l. l), each_as (IsIdling g.id) ListensNot (idle_not g.id) g.idle g.idles)
+          (each_as (IsIdleOrLeaving g.id) ListensNot (idle_or_leaving_not g.id) g.behind g.no_more)
+
+      has_number : HasNumber g.id (log label)
+      has_number = subst (HasNumber g.id) (sym g.in_order) (inl refl)
+
+      on_it : AllByRecursion (IsOnIt label g.id) course
+      on_it = on_his settings lists fits adds steps done last course lines each nowhere label g.id has_number
+
+      on_it_before : AllByRecursion (IsOnIt label g.id) past
+      on_it_before = are_on_first settings lists fits adds steps label g.id past (on label (Listen asked) ∷ later)
+          (subst (AllByRecursion (IsOnIt label g.id)) parts on_it)
+
+      waits : IsNew (standing_of w g.id) × Each IsMute g.idle
+      waits = arrives_and_idles settings lists fits adds steps w0 past label g.id g.peer g.idle (reached_opening settings lists fits adds steps) on_it_before
+          p.before g.idles
+
+      his_number : asked.id ≡ g.id
+      his_number = get_is_of g.id g.request (ap (λ (x : Entry). x.event) (sym p.here)) 
+
+      mute : Waited g.idle
+      mute = waited g.idle g.goes.1 waits.1
+
+      -- behind his head stand the draws
+      told_behind : given lines label ≡ told asking (reply ∷ replies behind)
+      told_behind =
+          g.is_told
+          ∙ ap (λ (xs : List Entry). told asking (replies xs)) (g.in_order)
+          ∙ ap (told asking) (ap (λ (rs : List Reply). Arrived g.id ∷ rs) (replies_joined g.idle (record { event = asks_by_get g.id g.request; reply = g.reply } ∷ g.behind)))
+          ∙ told_joined asking (Arrived g.id ∷ replies g.idle) (g.reply ∷ replies g.behind) g.goes
+          ∙ ap (λ (xs : List ℕ). xs ++ told (said_all asking (replies g.idle)) (g.reply ∷ replies g.behind)) mute.untold
+          ∙ ap (λ (s : Says). told s (g.reply ∷ replies g.behind)) mute.says
+          ∙ ap (λ (e : Entry). told asking (e.reply ∷ replies g.behind)) (sym p.here)
+          ∙ ap (λ (xs : List Entry). told asking (reply ∷ replies xs)) (sym p.behind)
+
+      fits_behind : Each EntryFits behind
+      fits_behind = (each_second EntryFits before (entry w (Listen asked) ∷ behind) (subst (Each EntryFits) in_order (log_fits [] course label))).1
+
+      orderly_behind : IsOrderly g.id behind
+      orderly_behind = (orderly_second g.id before (entry w (Listen asked) ∷ behind) (subst (IsOrderly g.id) in_order g.orderly)).1
+
+      idle_behind : Each (IsIdleOrLeaving g.id) behind
+      idle_behind = subst (Each (IsIdleOrLeaving g.id)) (sym p.behind) g.no_more
+
+      nobody : AdmitNobody (replies behind)
+      nobody = admit_nobody behind (none_admitted g.id behind idle_behind fits_behind)
+
+      all_draws : (interval : Option ℕ) (head : StreamHead) → reply ≡ Seated interval head
+          → draws_of (replies behind) ≡ draws_to w0 (events_in course) asked.id
+      all_draws interval head seated =
+          orderly_draws g.id behind orderly_behind fits_behind
+          ∙ ap (λ (xs : List Call). xs ++ calls behind) (sym none_before)
+          ∙ sym (flat_map-append calls_of before (entry w (Listen asked) ∷ behind) ∙ ap (λ (xs : List Call). calls before ++ (xs ++ calls behind)) none_here)
+          ∙ ap calls (sym in_order)
+          ∙ sym (draws_gathered w0 course label g.id on_it his_or_not)
+          ∙ ap (draws_to w0 (events_in course)) (sym his_number) where
+            none_here : calls_of (entry w (Listen asked)) ≡ []
+            none_here = ap (λ (r : Reply). draws_of (r ∷ [])) seated
+
+            none_before : calls before ≡ []
+            none_before = ap calls p.before ∙ no_calls g.idle (each_as IsMute DrawsNothing mute_draws g.idle waits.1)
+
+            his_or_not : Each (IsHisOrDrawsNothing g.id) (log label)
+            his_or_not = subst (Each (IsHisOrDrawsNothing g.id)) (sym in_order)
+                (each_joined (IsHisOrDrawsNothing g.id) before (entry w (Listen asked) ∷ behind)
+                (subst (Each (IsHisOrDrawsNothing g.id)) (sym p.before)
+                (inr refl, each_as IsMute (IsHisOrDrawsNothing g.id) (λ e m. inr (mute_draws e m)) g.idle waits.1))
+                (inr none_here, each_as (IsIdleOrLeaving g.id) (IsHisOrDrawsNothing g.id) (λ e h. inl (idle_or_leaving_is_his g.id e h)) behind idle_behind))
+
+      pub given_by : IsGiven settings lists deliveries course w asked (given lines label) reply
+      given_by = by_reply reply refl (listen_reply w asked) where
+        told_as : (r : Reply) → reply ≡ r → (given lines label) ≡ told asking (r ∷ replies behind)
+        told_as r e = told_behind ∙ ap (λ (x : Reply). told asking (x ∷ replies behind)) e
+
+        by_reply : (r : Reply) → reply ≡ r → ListenReply r → IsGiven settings lists deliveries course w asked (given lines label) r
+        by_reply (Arrived him) e x = elim x [ ]
+        by_reply Feeding e x = elim x [ ]
+        by_reply (Drawn sound title) e x = elim x [ ]
+        by_reply Noted e x = elim x [ ]
+        by_reply Stray e IsOutOfPlace =
+            absurd (listens_in_place (events_in past) asked (standing_of w g.id) waits.0 (ap (standing_of w) his_number) e)
+        by_reply (Finished rule) e (IsFinishedReply _) = IsTooLate rule (told_as (Finished rule) e)
+        by_reply (Deny rule) e (WasDenied _) =
+            IsDenied rule (denied (events_in past) (Listen asked) rule e).0 (told_as (Deny rule) e ∙ append-nil (denial rule))
+        by_reply (Text text) e (WasShown _) = IsShown text (told_as (Text text) e ∙ append-nil (text_answer text))
+        by_reply (Seated interval head) e (WasSeated _ _) = Hears interval head (record {
+          is_seated = begins (events_in past) (Listen asked) interval head e;
+          shows_his_source = shown_by_source past interval head asked (on label (Listen asked) ∷ later) parts (begins (events_in past) (Listen asked) interval head e);
+          sits_with_sources = sit asked.id;
+          head_and_draws = told_as (Seated interval head) e ∙ follow asking interval head (replies behind) refl nobody
+              ∙ ap (λ (ds : List Call). head_text interval head ++ joined_draws interval ds) (all_draws interval head e);
+          are_slices = stretches (events_in course) asked.id;
+        })

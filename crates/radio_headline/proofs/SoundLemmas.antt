@@ -1,0 +1,308 @@
+-- Each relay of a script delivers a front of the sound that its master's answer pulls in.
+use Rattle.std.proofs.Common.{◌≡◌, ◌⊎◌, inl, inr, ℕ, Bool, true, false, List, [], ◌∷◌, ◌++◌, drop, Option, None, Some, Result, Ok, refl, sym, ap, subst, ◌∙◌, append_assoc}
+use Rattle.std.specs.Prelude.{if◌then◌else◌}
+use Rattle.std.specs.List.{AllByRecursion, concat}
+use Rattle.radio_blocks.specs.Cutting.{blocks_of}
+use Rattle.radio_settings.specs.declared.field.Shown.{Shown}
+use Rattle.radio_settings.specs.declared.settings.Settings.{Settings}
+use Rattle.radio_access.specs.Lists.{Lists}
+use Rattle.radio_events.specs.declared.event.Event.{Event}
+use Rattle.radio_events.specs.declared.event.Event.TheVariants.{Arrive, Source, Push, SourceEnd, Title, Listen, Draw, Command, Leave, RelayUp, RelayDown, Clock}
+use Rattle.radio_events.specs.declared.reply.Reply.{Reply}
+use Rattle.radio_events.specs.declared.reply.Reply.TheVariants.{Arrived}
+use Rattle.radio_events.specs.Events.{client_in}
+use Rattle.radio_core.specs.ClientSteps.{ClientsStep}
+use Rattle.radio_core.specs.Handing.{delivered}
+use Rattle.radio_core.specs.Others.{RepliesFit}
+use Rattle.radio_core.specs.Run.{run_after}
+use Rattle.radio_core.specs.Step.{reply_to, world_after}
+use Rattle.radio_core.specs.Totals.{AddsUp}
+use Rattle.radio_house.specs.World.{World, opening}
+use Rattle.radio_heads.specs.declared.outcome.Progress.TheVariants.{Whole}
+use Rattle.radio_heads.specs.Head.{RequestParts}
+use Rattle.radio_heads.specs.Laws.{IsSettled, HeadsLieWithin}
+use Rattle.radio_heads.specs.Response.{ResponseParts, ShowsResponse}
+use Rattle.radio_relay.specs.Answer.{interval_in, shown_by}
+use Rattle.radio_relay.specs.Pulled.{IsPulled, ShownPart, pulled_by_interval, stream_parts, stream_pulled, stream_with}
+use Rattle.radio_relay.specs.declared.fault.PullFault.{PullFault}
+use Rattle.radio_relay.proofs.CutLemmas.{AfterPieces, HeardInPieces}
+use Rattle.radio_session.specs.Asking.{asks_by_get, asks_to_hear, gives_command, is_for_commands, path_in}
+use Rattle.radio_session.specs.Conversation.{Conversation}
+use Rattle.radio_pull.specs.Pulling.{Pulling, answered}
+use Rattle.radio_script.specs.declared.delivery.Delivery.{Delivery}
+use Rattle.radio_script.specs.Given.{TranscriptLine, given}
+use Rattle.radio_floor.specs.declared.labelled.Connection.{Connection}
+use Rattle.radio_floor.specs.declared.labelled.Connection.TheVariants.{Client, Relay}
+use Rattle.radio_floor.specs.ScriptState.{ScriptState, connection_of}
+use Rattle.radio_headline.specs.Course.{Happening, events_in, on}
+use Rattle.radio_headline.specs.Sources.{DeliversItsSound, RelaysDeliverTheirSound, brought, pushed}
+use Rattle.radio_headline.proofs.Logs.{Entry, entry, log_on, log_joined, Each, each_as, each_joined, each_second, itself}
+use Rattle.radio_headline.proofs.RelayLogs.{IsCut, IsNoUp, OfRelay, OwnRelay, number_stays}
+use Rattle.radio_headline.proofs.RunLemmas.{AllNowhere, IsMoment, HasNumber, IsIdling, Reached, given_here, reached_after, reached_all, reached_opening}
+use Rattle.radio_headline.proofs.Connections.{arrival, AsksForMount, AsksNothing, AtAnswer, AtBody, AtHead, AfterBody, AfterGet, ByGet, Facts, Feeds, HasAskedNothing, HasSentGet}
+use Rattle.radio_headline.proofs.Connections.{InAnswer, IsBehindRequest, IsClient, IsClosed, IsIdleOrLeaving, IsNoRequest, IsPulling, IsRelay, IsSo, IsSource, Pulls, Refused, RelayStage, Stage, events_of}
+use Rattle.radio_headline.proofs.ConnectionSteps.{behind_is_his, idle_asks_nothing}
+use Rattle.radio_headline.proofs.CourseLemmas.{brought_joined}
+use Rattle.radio_headline.proofs.ListenerLemmas.{IsOnIt, no_entry, on_his}
+use Rattle.radio_headline.proofs.PullSteps.{more_pulled}
+use Rattle.radio_headline.proofs.SourceLemmas.{Front, IsHisOrNotesNothing, brings_front, delivered_gathered, no_block, noted}
+
+-- by this event a relay comes up
+abbrev IsUp : Event → Type 0
+IsUp (RelayUp mount shown) = Unit {0}
+IsUp event = ⊥
+
+abbrev UpNot : Entry → Type 0
+UpNot e = IsUp e.event → ⊥
+
+up_asks : (event : Event) → IsUp event → AsksForMount event
+up_asks (Arrive peer) h = elim h [ ]
+up_asks (Source asked) h = elim h [ ]
+up_asks (Push him block) h = elim h [ ]
+up_asks (SourceEnd him) h = elim h [ ]
+up_asks (Title him text) h = elim h [ ]
+up_asks (Listen asked) h = elim h [ ]
+up_asks (Draw him room) h = elim h [ ]
+up_asks (Command asked) h = elim h [ ]
+up_asks (Leave him) h = elim h [ ]
+up_asks (RelayDown him) h = elim h [ ]
+up_asks (Clock ms) h = elim h [ ]
+up_asks (RelayUp mount shown) h = tt
+
+none_asked : (log : List Entry) → Each AsksNothing log → Each UpNot log
+none_asked log h = each_as AsksNothing UpNot (λ e f l. f (up_asks e.event l)) log h
+
+idle_up_not : (id : ℕ) (e : Entry) → IsIdling id e → UpNot e
+idle_up_not id e h l = idle_asks_nothing id e.event h (up_asks e.event l)
+
+leaving_up_not : (id : ℕ) (e : Entry) → IsIdleOrLeaving id e → UpNot e
+leaving_up_not id e (inl h) l = idle_up_not id e h l
+leaving_up_not id e (inr h) l = subst IsUp h l
+
+-- the event of a client is no relay's coming
+his_up_not : (id : ℕ) (event : Event) → client_in event ≡ Some id → IsUp event → ⊥
+his_up_not id (RelayUp mount shown) e l = cc
+his_up_not id (Arrive peer) e l = elim l [ ]
+his_up_not id (Source asked) e l = elim l [ ]
+his_up_not id (Push him block) e l = elim l [ ]
+his_up_not id (SourceEnd him) e l = elim l [ ]
+his_up_not id (Title him text) e l = elim l [ ]
+his_up_not id (Listen asked) e l = elim l [ ]
+his_up_not id (Draw him room) e l = elim l [ ]
+his_up_not id (Command asked) e l = elim l [ ]
+his_up_not id (Leave him) e l = elim l [ ]
+his_up_not id (RelayDown him) e l = elim l [ ]
+his_up_not id (Clock ms) e l = elim l [ ]
+
+get_up_not : (id : ℕ) (request : RequestParts) → IsUp (asks_by_get id request) → ⊥
+get_up_not id request l = by_kind (is_for_commands (path_in request)) l where
+  by_kind : (b : Bool) → IsUp (if b then gives_command id request (path_in request) else asks_to_hear id request (path_in request)) → ⊥
+  by_kind true h = h
+  by_kind false h = h
+
+get_not : (bytes : List ℕ) (log : List Entry) (given : List ℕ) → ByGet bytes log given → Each UpNot log
+get_not bytes log given g =
+    subst (Each UpNot) (sym g.in_order)
+    ((λ l. l), each_joined UpNot g.idle _ (each_as (IsIdling g.id) UpNot (idle_up_not g.id) g.idle g.idles)
+    (get_up_not g.id g.request, each_as (IsIdleOrLeaving g.id) UpNot (leaving_up_not g.id) g.behind g.no_more))
+
+source_not : (bytes : List ℕ) (log : List Entry) → Feeds bytes log → Each UpNot log
+source_not bytes log f =
+    subst (Each UpNot) (sym f.in_order)
+    ((λ l. l), each_joined UpNot f.idle _ (each_as (IsIdling f.id) UpNot (idle_up_not f.id) f.idle f.idles)
+    ((λ l. l), each_as (IsNoRequest f.id) UpNot (λ e h. his_up_not f.id e.event (behind_is_his f.id e.event h)) f.behind f.no_more))
+
+client_not : (conversation : Conversation) (bytes : List ℕ) (log : List Entry) (given : List ℕ) → IsClient bytes log given conversation → Each UpNot log
+client_not conversation bytes log given c =
+    subst (Each UpNot) (sym c.arrived)
+    ((λ l. l), each_as (λ e. client_in e.event ≡ Some conversation.id) UpNot (λ e h. his_up_not conversation.id e.event h) c.others c.his)
+
+none_there : (before behind : List Entry) (e : Entry) → Each UpNot (before ++ e ∷ behind) → IsUp e.event → ⊥
+none_there before behind e h l = (each_second UpNot before (e ∷ behind) h).0 l
+
+-- where a relay has come up, its master's answer was read
+module _ (bytes : List ℕ) (log : List Entry) (given : List ℕ) (before behind : List Entry) (e : Entry) (parts : log ≡ before ++ e ∷ behind)
+    (up : IsUp e.event) where
+  never : {A : Type 0} → Each UpNot log → A
+  never h = absurd (none_there before behind e (subst (Each UpNot) parts h) up)
+
+  of_facts : Facts bytes log given → Pulls bytes log
+  of_facts (HasAskedNothing h) = never (none_asked log h)
+  of_facts (HasSentGet g) = never (get_not bytes log given g)
+  of_facts (IsSource f) = never (source_not bytes log f)
+  of_facts (IsPulling p) = p
+
+  of_stage : (pulling : Pulling) → RelayStage bytes log pulling → Pulls bytes log
+  of_stage pulling (AtAnswer st lg) = absurd (no_entry before behind e (sym lg ∙ parts))
+  of_stage pulling (InAnswer p st whole calm) = p
+
+  pulls_so : (c : Option (Option Connection)) → IsSo c bytes log given → Pulls bytes log
+  pulls_so None h = absurd (no_entry before behind e (sym h.1 ∙ parts))
+  pulls_so (Some None) h = of_facts h.facts
+  pulls_so (Some (Some (Client conversation))) h = never (client_not conversation bytes log given h)
+  pulls_so (Some (Some (Relay pulling))) h = of_stage pulling h.stage
+
+-- it is the first of its log
+record IsFirst (before : List Entry) (e a : Entry) (cs ds : List Entry) : Type 0 where
+  pub before_none : before ≡ []
+  pub here : e ≡ a
+  pub behind : cs ≡ ds
+
+no_up_not : (ds : List Entry) → Each (λ e. IsNoUp e.event) ds → Each UpNot ds
+no_up_not [] h = tt
+no_up_not (d ∷ ds) h = (by_event d.event h.0, no_up_not ds h.1) where
+  by_event : (event : Event) → IsNoUp event → IsUp event → ⊥
+  by_event (RelayUp mount shown) n l = n
+  by_event (Arrive peer) n l = elim l [ ]
+  by_event (Source asked) n l = elim l [ ]
+  by_event (Push him block) n l = elim l [ ]
+  by_event (SourceEnd him) n l = elim l [ ]
+  by_event (Title him text) n l = elim l [ ]
+  by_event (Listen asked) n l = elim l [ ]
+  by_event (Draw him room) n l = elim l [ ]
+  by_event (Command asked) n l = elim l [ ]
+  by_event (Leave him) n l = elim l [ ]
+  by_event (RelayDown him) n l = elim l [ ]
+  by_event (Clock ms) n l = elim l [ ]
+
+is_first : (before cs ds : List Entry) (e a : Entry) → before ++ e ∷ cs ≡ a ∷ ds → IsUp e.event → Each UpNot ds → IsFirst before e a cs ds
+is_first [] cs ds e a h l later = record { before_none = refl; here = cc; behind = cc }
+is_first (x ∷ before) cs ds e a h l later =
+    let others : before ++ e ∷ cs ≡ ds = cc in
+    absurd (none_there before cs e (subst (Each UpNot) (sym others) later) l)
+
+-- whose events are behind it
+own_his : (number : ℕ) (log : List Entry) → OwnRelay (Some number) log → Each (λ e. IsNoUp e.event) log → Each (IsNoRequest number) log
+own_his number [] own plain = tt
+own_his number (e ∷ log) own plain =
+    (by_event e.event own.0 plain.0, own_his number log (subst (λ (n : Option ℕ). OwnRelay n log) (number_stays number e.reply) own.1) plain.1) where
+      by_event : (event : Event) → OfRelay (Some number) event → IsNoUp event → IsBehindRequest number event
+      by_event (Arrive peer) h n = elim h [ ]
+      by_event (Source asked) h n = elim h [ ]
+      by_event (SourceEnd him) h n = elim h [ ]
+      by_event (Listen asked) h n = elim h [ ]
+      by_event (Command asked) h n = elim h [ ]
+      by_event (Leave him) h n = elim h [ ]
+      by_event (Clock ms) h n = elim h [ ]
+      by_event (RelayUp mount shown) h n = elim n [ ]
+      by_event (Push him block) h n = cc
+      by_event (Title him text) h n = cc
+      by_event (Draw him room) h n = cc
+      by_event (RelayDown him) h n = cc
+
+module _ (settled : IsSettled ShowsResponse) (within : HeadsLieWithin ShowsResponse) (joined : (bytes : List ℕ) → concat (blocks_of bytes) ≡ bytes)
+    (none_blocks : blocks_of [] ≡ []) (in_pieces : HeardInPieces) (afters : AfterPieces) (settings : Settings) (lists : Lists)
+    (fits : (events : List Event) (event : Event) → RepliesFit (run_after settings lists events) event)
+    (adds : (events : List Event) (event : Event) → AddsUp (run_after settings lists events) event)
+    (steps : (events : List Event) (event : Event) → ClientsStep (run_after settings lists events) event)
+    (deliveries done rest : List Delivery) (all : deliveries ≡ done ++ rest) (last : ScriptState) (course : List Happening) (lines : List TranscriptLine)
+    (each : (label : ℕ) → IsSo (connection_of last.connections label) (brought done label) (log_on (opening settings lists) course label) (given lines label))
+    (nowhere : AllNowhere (λ h. IsMoment h.event) course) where
+  abbrev w0 : World
+  w0 = opening settings lists
+
+  abbrev log : ℕ → List Entry
+  log label = log_on w0 course label
+
+  module _ (label : ℕ) (mount : List ℕ) (shown : Shown) (number : ℕ) (past later : List Happening)
+      (parts : course ≡ past ++ on label (RelayUp mount shown) ∷ later)
+      (arrived : reply_to (run_after settings lists (events_in past)) (RelayUp mount shown) ≡ Arrived number) where
+    abbrev w : World
+    w = run_after settings lists (events_in past)
+
+    abbrev event : Event
+    event = RelayUp mount shown
+
+    abbrev before : List Entry
+    before = log_on w0 past label
+
+    abbrev behind : List Entry
+    behind = log_on (world_after w event) later label
+
+    in_order : log label ≡ before ++ entry w event ∷ behind
+    in_order = ap (λ (hs : List Happening). log_on w0 hs label) parts ∙ log_joined w0 past (on label event ∷ later) label
+        ∙ ap (λ (b : Bool). before ++ ((if b then entry w event ∷ [] else []) ++ behind)) (itself label)
+
+    p : Pulls (brought done label) (log label)
+    p = pulls_so (brought done label) (log label) (given lines label) before behind (entry w event) in_order tt
+        (connection_of last.connections label) (each label)
+
+    whole : Pulls (brought done label ++ brought rest label) (log label)
+    whole = more_pulled settled within joined none_blocks in_pieces afters (brought done label) (brought rest label) (log label) p
+
+    first : IsFirst before (entry w event) (record { event = RelayUp whole.mount (shown_by whole.head); reply = whole.reply }) behind whole.behind
+    first = is_first before behind whole.behind (entry w event) _ (sym in_order ∙ whole.in_order) tt (no_up_not whole.behind whole.no_more)
+
+    reached_here : Reached settings lists fits adds steps w
+    reached_here = reached_all settings lists fits adds steps w0 (events_in past) (reached_opening settings lists fits adds steps)
+
+    has_number : HasNumber number (log label)
+    has_number = subst (HasNumber number) (sym (in_order ∙ ap (λ (xs : List Entry). xs ++ entry w event ∷ behind) first.before_none)) (inl arrived)
+
+    on_it : AllByRecursion (IsOnIt label number) course
+    on_it = on_his settings lists fits adds steps done last course lines each nowhere label number has_number
+
+    all_second : (P : Happening → Type 0) (xs ys : List Happening) → AllByRecursion P (xs ++ ys) → AllByRecursion P ys
+    all_second P [] ys h = h
+    all_second P (x ∷ xs) ys h = all_second P xs ys h.1
+
+    on_it_later : AllByRecursion (IsOnIt label number) later
+    on_it_later = (all_second (IsOnIt label number) past (on label event ∷ later) (subst (AllByRecursion (IsOnIt label number)) parts on_it)).1
+
+    reply_so : whole.reply ≡ Arrived number
+    reply_so = sym (ap (λ (x : Entry). x.reply) first.here) ∙ arrived
+
+    own_behind : OwnRelay (Some number) behind
+    own_behind =
+        let own = (subst (OwnRelay None) whole.in_order whole.own).1 in
+        subst (OwnRelay (Some number)) (sym first.behind)
+        (subst (λ (r : Reply). OwnRelay (answered None r).number whole.behind) reply_so own)
+
+    his_behind : Each (IsNoRequest number) behind
+    his_behind = own_his number behind own_behind (subst (Each (λ e. IsNoUp e.event)) (sym first.behind) whole.no_more)
+
+    cut_behind : IsCut behind
+    cut_behind = subst IsCut (sym first.behind) (subst IsCut whole.in_order whole.cut).1
+
+    front : Front behind
+    front =
+        brings_front settings lists fits adds steps (world_after w event) later label number
+        (reached_after settings lists fits adds steps w event reached_here) (given_here settings lists fits adds steps w event number reached_here arrived)
+        on_it_later his_behind cut_behind
+
+    all_noted : delivered w0 (events_in course) number ≡ noted behind
+    all_noted =
+        delivered_gathered w0 course label number on_it his_or_not
+        ∙ ap noted (in_order ∙ ap (λ (xs : List Entry). xs ++ entry w event ∷ behind) first.before_none)
+        ∙ ap (λ (xs : List ℕ). xs ++ noted behind) (no_block event (reply_to w event) refl) where
+          his_or_not : Each (IsHisOrNotesNothing number) (log label)
+          his_or_not = subst (Each (IsHisOrNotesNothing number)) (sym (in_order ∙ ap (λ (xs : List Entry). xs ++ entry w event ∷ behind) first.before_none))
+              (inr (no_block event (reply_to w event) refl),
+              each_as (IsNoRequest number) (IsHisOrNotesNothing number) (λ e h. inl (behind_is_his number e.event h)) behind his_behind)
+
+    shown_so : shown ≡ shown_by whole.head
+    shown_so =
+        let both : RelayUp mount shown ≡ RelayUp whole.mount (shown_by whole.head) = ap (λ (x : Entry). x.event) first.here in cc
+
+    its_sound : DeliversItsSound settings lists deliveries course label number shown
+    its_sound =
+        let bytes = brought done label ++ brought rest label in
+        let answer = stream_pulled (ShownPart (shown_by whole.head) ∷ []) (stream_with whole.interval) (drop whole.length bytes) in
+        record {
+          pulled = answer;
+          is_pulled = subst (λ (bs : List ℕ). IsPulled bs answer) (sym (brought_joined done rest label) ∙ ap (λ (ds : List Delivery). brought ds label) (sym all))
+              (Ok (Whole whole.head whole.length), whole.reading,
+              ap (pulled_by_interval whole.head (drop whole.length bytes)) (sym whole.told));
+          parts = stream_parts (stream_with whole.interval) (drop whole.length bytes);
+          begins = ap (λ (s : Shown). ShownPart s ∷ stream_parts (stream_with whole.interval) (drop whole.length bytes)) (sym shown_so);
+          undelivered = front.rest ++ whole.rest;
+          is_front =
+              sym whole.front
+              ∙ ap (λ (es : List Entry). pushed (events_of es) ++ whole.rest) (sym first.behind)
+              ∙ ap (λ (xs : List ℕ). xs ++ whole.rest) (sym front.is_front)
+              ∙ append_assoc (noted behind) front.rest whole.rest
+              ∙ ap (λ (xs : List ℕ). xs ++ (front.rest ++ whole.rest)) (sym all_noted);
+        }
+
+  pub delivers_sound : RelaysDeliverTheirSound settings lists deliveries course
+  delivers_sound label mount shown number past later parts arrived = its_sound label mount shown number past later parts arrived

@@ -1,0 +1,126 @@
+-- What a script comes to: the events that are applied, in their order, each with the label on whose connection it was asked.
+use Rattle.std.specs.Prelude.{◌≡◌, ℕ, Bool, if◌then◌else◌, List, [], ◌∷◌, ◌++◌, map, Option, None, Some}
+use Rattle.std.specs.Option.{option_map}
+use Rattle.radio_addr.specs.declared.peer.Peer.{Peer}
+use Rattle.radio_icy.specs.Cleaning.{cleaned}
+use Rattle.radio_icy.specs.Limits.{max_title}
+use Rattle.radio_settings.specs.declared.settings.Settings.{Settings}
+use Rattle.radio_access.specs.Lists.{Lists}
+use Rattle.radio_events.specs.declared.event.Event.{Event}
+use Rattle.radio_events.specs.declared.event.Event.TheVariants.{Arrive, Draw, Title, Leave, Clock}
+use Rattle.radio_house.specs.World.{World}
+use Rattle.radio_core.specs.Step.{Step, reply_to, world_after}
+use Rattle.radio_pull.specs.Pulling.{Pulling, Standing}
+use Rattle.radio_pull.specs.Course.{AsksIf, GoesDown, Takes}
+use Rattle.radio_session.specs.declared.session.Says.{Says}
+use Rattle.radio_session.specs.declared.state.State.{State}
+use Rattle.radio_session.specs.declared.state.State.TheVariants.{Running, Shut}
+use Rattle.radio_session.specs.Conversation.{Conversation}
+use Rattle.radio_session.specs.Exchanges.{Steps, is_leave}
+use Rattle.radio_session.specs.Hearing.{Heard, IsHeard}
+use Rattle.radio_session.specs.Saying.{said}
+use Rattle.radio_script.specs.declared.delivery.Delivery.{Delivery}
+use Rattle.radio_script.specs.declared.delivery.Delivery.TheVariants.{Open, Pull, To, Clock as ClockIs}
+use Rattle.radio_script.specs.declared.delivery.Input.{Input}
+use Rattle.radio_script.specs.declared.delivery.Input.TheVariants.{Data, Room, Title as Named, End}
+use Rattle.radio_script.specs.Runs.{Conduct, Runs}
+use Rattle.radio_floor.specs.declared.labelled.Connection.{Connection}
+use Rattle.radio_floor.specs.declared.labelled.Connection.TheVariants.{Client, Relay}
+use Rattle.radio_floor.specs.ScriptState.{ScriptState, opening_script, connection_of}
+use Rattle.radio_floor.specs.Transcript.{conduct}
+
+-- an event is applied; it was asked on the connection of the label, if on any: a moment is told on none
+pub record Happening : Type 0 where
+  pub label : Option ℕ
+  pub event : Event
+
+abbrev pub on : ℕ → Event → Happening
+on label event = record { label = Some label; event = event }
+
+abbrev pub events_in : List Happening → List Event
+events_in course = map (λ h. h.event) course
+
+-- Of the events that a client's connection asks for.
+
+-- this one is applied, and the others where it goes on; where it is shut the client leaves, unless that is what he has just done
+abbrev pub and_then : ℕ → Event → State → List Event → List Event
+and_then id event Running others = event ∷ others
+and_then id event (Shut ending) others = event ∷ (if is_leave event then [] else Leave id ∷ [])
+
+-- those that are applied, from this state, where replies are told so
+abbrev pub applied : World → ℕ → Says → List Event → List Event
+applied w id says [] = []
+applied w id says (event ∷ events) =
+    let told = said says (reply_to w event) in and_then id event told.state (applied (world_after w event) id told.says events)
+
+-- what is asked when something comes to a client's connection, and how the conversation stands then
+abbrev pub IsAsked : Conversation → Input → Heard → Type 0
+IsAsked conversation (Data bytes) heard = IsHeard conversation bytes heard
+IsAsked conversation (Room room) heard = heard ≡ record { events = Draw conversation.id room ∷ []; conversation = conversation }
+IsAsked conversation (Named text) heard = heard ≡ record { events = Title conversation.id (cleaned max_title text) ∷ []; conversation = conversation }
+IsAsked conversation End heard = heard ≡ record { events = Leave conversation.id ∷ []; conversation = conversation }
+
+-- Of those that a relay's connection asks for.
+
+-- the server, and what was applied to it
+pub record Noted : Type 0 where
+  pub world : World
+  pub events : List Event
+
+abbrev pub nothing_noted : World → Noted
+nothing_noted w = record { world = w; events = [] }
+
+-- an event is applied, and noted
+abbrev pub noting : Steps Noted
+noting old event reply new = Step old.world event reply new.world × (new.events ≡ old.events ++ event ∷ [])
+
+-- what comes to a relay's connection comes to that
+abbrev pub ComesToNoted : World → Pulling → Input → Noted → Type 0
+ComesToNoted w pulling (Data bytes) done =
+    (now : Pulling) × (ends : State) × Takes noting pulling bytes (nothing_noted w) now ends done
+ComesToNoted w pulling (Room room) done =
+    (after : Standing) × AsksIf noting pulling.number (option_map (λ id. Draw id room) pulling.number) (nothing_noted w) after done
+ComesToNoted w pulling (Named text) done =
+    (after : Standing) × AsksIf noting pulling.number (option_map (λ id. Title id (cleaned max_title text)) pulling.number) (nothing_noted w) after done
+ComesToNoted w pulling End done = GoesDown noting pulling.number (nothing_noted w) done
+
+-- what happens on a connection when something comes to it
+abbrev pub HappensOn : ScriptState → ℕ → Connection → Input → List Happening → Type 0
+HappensOn state label (Client conversation) input happenings =
+    (heard : Heard) × IsAsked conversation input heard
+    × (happenings ≡ map (on label) (applied state.world heard.conversation.id heard.conversation.says heard.events))
+HappensOn state label (Relay pulling) input happenings =
+    (done : Noted) × ComesToNoted state.world pulling input done × (happenings ≡ map (on label) done.events)
+
+-- on a connection that is there; nothing happens on one that was shut, or never opened
+abbrev pub HappensThere : ScriptState → ℕ → Input → List Happening → Option (Option Connection) → Type 0
+HappensThere state label input happenings (Some (Some connection)) = HappensOn state label connection input happenings
+HappensThere state label input happenings no_connection = happenings ≡ []
+
+-- a connection comes under a new label; a label is opened once
+abbrev pub arrivals : ℕ → Peer → Option (Option Connection) → List Happening
+arrivals label peer None = on label (Arrive peer) ∷ []
+arrivals label peer (Some connection) = []
+
+-- what happens at a delivery; where a relay connects nothing does
+abbrev pub Happens : ScriptState → Delivery → List Happening → Type 0
+Happens state (Open label peer) happenings = happenings ≡ arrivals label peer (connection_of state.connections label)
+Happens state (Pull label mount) happenings = happenings ≡ []
+Happens state (To label input) happenings = HappensThere state label input happenings (connection_of state.connections label)
+Happens state (ClockIs ms) happenings = happenings ≡ record { label = None; event = Clock ms } ∷ []
+
+-- how things stand, and what has happened
+pub record Course : Type 0 where
+  pub state : ScriptState
+  pub past : List Happening
+
+-- a delivery is performed, and what happens at it is noted behind what has happened before
+abbrev pub courses : Conduct Course
+courses old delivery lines new =
+    conduct old.state delivery lines new.state
+    × (happenings : List Happening) × Happens old.state delivery happenings × (new.past ≡ old.past ++ happenings)
+
+-- the deliveries come to this text, and to this course
+abbrev pub ComesTo : Settings → Lists → List Delivery → List ℕ → Option ℕ → List Happening → Type 0
+ComesTo settings lists deliveries text stop course = (last : ScriptState)
+    × Runs courses (record { state = opening_script settings lists; past = [] }) 1 deliveries text stop (record { state = last; past = course })

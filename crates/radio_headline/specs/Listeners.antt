@@ -1,0 +1,130 @@
+-- What each listener of a script is given, from the bytes of the script to those of its transcript.
+use Rattle.std.specs.Prelude.{◌≡◌, ℕ, List, [], ◌∷◌, ◌++◌, Option}
+use Rattle.std.specs.List.{AllByRecursion}
+use Rattle.radio_settings.specs.declared.field.Shown.{Shown}
+use Rattle.radio_settings.specs.declared.settings.Settings.{Settings}
+use Rattle.radio_access.specs.Lists.{Lists}
+use Rattle.radio_policy.specs.declared.rule.Rule.{Rule}
+use Rattle.radio_policy.specs.Verdicts.{Denies}
+use Rattle.radio_events.specs.declared.event.Event.{Event}
+use Rattle.radio_events.specs.declared.event.Event.TheVariants.{Listen}
+use Rattle.radio_events.specs.declared.event.ListenRequest.{ListenRequest}
+use Rattle.radio_events.specs.declared.reply.Reply.{Reply}
+use Rattle.radio_events.specs.declared.reply.Reply.TheVariants.{Seated, Text, Deny, Finished}
+use Rattle.radio_events.specs.declared.reply.StreamHead.{StreamHead}
+use Rattle.radio_events.specs.declared.text.Text.{Text as ShownText}
+use Rattle.radio_icy.specs.Weaving.{Call}
+use Rattle.radio_icy.specs.Stream.{sound_of_calls}
+use Rattle.radio_core.specs.Handing.{of_client, delivered}
+use Rattle.radio_core.specs.Run.{run_after}
+use Rattle.radio_core.specs.Step.{reply_to, world_after}
+use Rattle.radio_core.specs.Ways.{rows_for}
+use Rattle.radio_house.specs.World.{World, opening}
+use Rattle.radio_laws.specs.Admission.{IsSeated}
+use Rattle.radio_laws.specs.Access.{AccessIsKept}
+use Rattle.radio_laws.specs.Commanded.{CommandsAreKept, OnlyWhoMayCommands}
+use Rattle.radio_laws.specs.Denials.{DenialsAreThePolicys}
+use Rattle.radio_laws.specs.Service.{Serves}
+use Rattle.radio_laws.specs.Shown.{OnlyWhoMayIsShown}
+use Rattle.radio_laws.specs.Stretches.{AreStretches, SeatsKeepTheirMounts, Sitting, sittings}
+use Rattle.radio_laws.specs.TitlesTold.{TitlesAreTold}
+use Rattle.radio_laws.specs.WalkingOn.{ListenersWalkOn}
+use Rattle.radio_session.specs.Draws.{joined_draws}
+use Rattle.radio_session.specs.Saying.{denial, head_text, text_answer}
+use Rattle.radio_session.specs.Told.{draws_of}
+use Rattle.radio_script.specs.declared.delivery.Delivery.{Delivery}
+use Rattle.radio_script.specs.Given.{TranscriptLine, AreLines, given, written}
+use Rattle.radio_floor.specs.Transcript.{IsTranscriptOf}
+use Rattle.radio_headline.specs.Course.{Happening, ComesTo, events_in, on}
+use Rattle.radio_headline.specs.Sources.{HasItsSource, IsRequest, RelaysDeliverTheirSound, SourcesDeliverTheirBodies, brought}
+
+-- the draws that the events hand to the listener of this number, in their order
+abbrev pub draws_to : World → List Event → ℕ → List Call
+draws_to w [] id = []
+draws_to w (event ∷ events) id = of_client event id (draws_of (reply_to w event ∷ [])) ++ draws_to (world_after w event) events id
+
+-- the data in the draws of a listener are slices joined in order, one for each of his sittings: of what the source delivered in whose session
+-- he sat, from where he sat down
+abbrev pub DrawsAreStretches : Settings → Lists → List Event → ℕ → Type 0
+DrawsAreStretches settings lists events id =
+    let w = opening settings lists in
+    AreStretches (delivered w events) (sittings w events id) (sound_of_calls (draws_to w events id))
+
+-- Of deliveries that come to a course.
+module _ (settings : Settings) (lists : Lists) (deliveries : List Delivery) (course : List Happening) where
+  -- the server, when this has happened
+  abbrev pub server_after : List Happening → World
+  server_after past = run_after settings lists (events_in past)
+
+  -- he sits down in the session of a source
+  abbrev pub SitsWithASource : Sitting → Type 0
+  SitsWithASource sitting = (shown : Shown) × HasItsSource settings lists deliveries course sitting.mount sitting.source shown
+
+  -- he is seated in the session of a source, and given a head that shows what that shows; then his draws, woven at his interval, of which the data
+  -- are slices, one for each time that he sat down, each time with a source
+  pub record IsHearing (w : World) (asked : ListenRequest) (interval : Option ℕ) (head : StreamHead) (bytes : List ℕ) : Type 0 where
+    pub is_seated : IsSeated w (Listen asked) interval head
+    pub shows_his_source :
+        HasItsSource settings lists deliveries course is_seated.session.mount is_seated.session.number head.shown
+    pub head_and_draws : bytes ≡ head_text interval head ++ joined_draws interval (draws_to (opening settings lists) (events_in course) asked.id)
+    pub are_slices : DrawsAreStretches settings lists (events_in course) asked.id
+    pub sits_with_sources : AllByRecursion SitsWithASource (sittings (opening settings lists) (events_in course) asked.id)
+
+  -- all that one is given who asked so, by the reply
+  pub data IsGiven (w : World) (asked : ListenRequest) (bytes : List ℕ) : Reply → Type 0 where
+    -- the policy denies it, by the first rule that held then, which he reads
+    IsDenied : (rule : Rule) → Denies (rows_for w (Listen asked)) rule → bytes ≡ denial rule → IsGiven w asked bytes (Deny rule)
+    -- he asked for a path of the web site
+    IsShown : (text : ShownText) → bytes ≡ text_answer text → IsGiven w asked bytes (Text text)
+    Hears : (interval : Option ℕ) (head : StreamHead) → IsHearing w asked interval head bytes → IsGiven w asked bytes (Seated interval head)
+    -- he was finished before he had asked
+    IsTooLate : (rule : Rule) → bytes ≡ [] → IsGiven w asked bytes (Finished rule)
+
+  -- one who asks so on the connection of the label, when this had happened: that is how the bytes are heard that have come, and he is given that
+  pub record IsAnswered (lines : List TranscriptLine) (label : ℕ) (asked : ListenRequest) (past : List Happening) : Type 0 where
+    pub is_request : IsRequest (brought deliveries label) asked.id (Listen asked) []
+    pub is_given : IsGiven (server_after past) asked (given lines label) (reply_to (server_after past) (Listen asked))
+
+  -- each who asks to hear a mount
+  abbrev pub ListenersAreGiven : List TranscriptLine → Type 0
+  ListenersAreGiven lines = (label : ℕ) (asked : ListenRequest) (past later : List Happening) → course ≡ past ++ on label (Listen asked) ∷ later
+      → IsAnswered lines label asked past
+
+-- The transcript is written by these lines, and by no others.
+pub record IsWrittenBy (text : List ℕ) (lines : List TranscriptLine) : Type 0 where
+  pub is_written : written lines ≡ text
+  pub by_no_others : AreLines lines → (others : List TranscriptLine) → AreLines others → written others ≡ text → others ≡ lines
+
+-- When this has happened, an event does what the laws of every run say of it.
+pub record IsLawful (settings : Settings) (lists : Lists) (events : List Event) (event : Event) : Type 0 where
+  -- what is handed out stands at the listener's place in a stream that is open to him, with its last title
+  pub access : AccessIsKept (run_after settings lists events) event
+  pub title : TitlesAreTold settings lists events event
+  -- what is denied is denied by the first rule that holds, and nothing else changes
+  pub denied : DenialsAreThePolicys (run_after settings lists events) event
+  -- what the policy allows happens: a draw hands out what is there, as much as there is room for
+  pub served : Serves (run_after settings lists events)
+  -- who is moved goes where his walk lands, or is finished by the rule that stops it
+  pub moves : ListenersWalkOn (run_after settings lists events) event
+  pub keeps : SeatsKeepTheirMounts (run_after settings lists events) event
+  -- what is shown tells what is there, to one who may see it; a command is done for one who may give it, and does what it names and no more
+  pub shown : OnlyWhoMayIsShown (run_after settings lists events) event
+  pub commanded : OnlyWhoMayCommands (run_after settings lists events) event
+  pub kept : CommandsAreKept (run_after settings lists events) event
+
+-- A script comes to its transcript by a course of lawful events. Its sources deliver a front of the data of their bodies, and its relays of the
+-- sound that they pull in; and each who asks to hear a mount is given slices of these, or reads why not.
+pub record HearsSlices (settings : Settings) (lists : Lists) (deliveries : List Delivery) (text : List ℕ) (stop : Option ℕ) : Type 0 where
+  pub course : List Happening
+  pub comes : ComesTo settings lists deliveries text stop course
+  pub lawful : (past later : List Happening) (happening : Happening) → course ≡ past ++ happening ∷ later
+      → IsLawful settings lists (events_in past) happening.event
+  pub lines : List TranscriptLine
+  pub is_written : IsWrittenBy text lines
+  pub listeners : ListenersAreGiven settings lists deliveries course lines
+  pub sources : SourcesDeliverTheirBodies settings lists deliveries course
+  pub relays : RelaysDeliverTheirSound settings lists deliveries course
+
+abbrev pub ListenersHearSlices : Type 0
+ListenersHearSlices = (settings : Settings) (lists : Lists) (deliveries : List Delivery) (text : List ℕ) (stop : Option ℕ)
+    → IsTranscriptOf settings lists deliveries text stop → HearsSlices settings lists deliveries text stop

@@ -1,0 +1,114 @@
+-- What sources bring.
+use Rattle.std.specs.Prelude.{◌≡◌, ◌⊎◌, ℕ, ◌==◌, if◌then◌else◌, List, [], ◌∷◌, ◌++◌}
+use Rattle.std.specs.List.{flat_map}
+use Rattle.radio_addr.specs.declared.peer.Peer.{Peer}
+use Rattle.radio_settings.specs.declared.field.Shown.{Shown}
+use Rattle.radio_settings.specs.declared.settings.Settings.{Settings}
+use Rattle.radio_access.specs.Lists.{Lists}
+use Rattle.radio_events.specs.declared.event.Event.{Event}
+use Rattle.radio_events.specs.declared.event.Event.TheVariants.{Source, Push, RelayUp}
+use Rattle.radio_events.specs.declared.event.SourceRequest.{SourceRequest}
+use Rattle.radio_core.specs.Handing.{delivered}
+use Rattle.radio_core.specs.Run.{run_after}
+use Rattle.radio_core.specs.SessionSteps.{HasBegun}
+use Rattle.radio_core.specs.Step.{reply_to}
+use Rattle.radio_house.specs.World.{opening}
+use Rattle.radio_events.specs.declared.reply.Reply.TheVariants.{Arrived}
+use Rattle.radio_parts.specs.Sessions.{Session}
+use Rattle.radio_relay.specs.Laws.{sound_in}
+use Rattle.radio_relay.specs.Pulled.{IsPulled, Part, Pulled, ShownPart}
+use Rattle.radio_session.specs.Conversation.{fresh}
+use Rattle.radio_session.specs.Hearing.{Heard, IsHeard}
+use Rattle.radio_script.specs.declared.delivery.Delivery.{Delivery}
+use Rattle.radio_script.specs.declared.delivery.Delivery.TheVariants.{To}
+use Rattle.radio_script.specs.declared.delivery.Input.{Input}
+use Rattle.radio_script.specs.declared.delivery.Input.TheVariants.{Data}
+use Rattle.radio_headline.specs.Course.{Happening, events_in, on}
+
+abbrev pub bytes_in : Input → List ℕ
+bytes_in (Data bytes) = bytes
+bytes_in input = []
+
+abbrev pub brought_by : ℕ → Delivery → List ℕ
+brought_by label (To his input) = (if his == label then bytes_in input else [])
+brought_by label delivery = []
+
+-- the bytes that come on the connection of the label, joined in their order
+abbrev pub brought : List Delivery → ℕ → List ℕ
+brought deliveries label = flat_map (brought_by label) deliveries
+
+abbrev pub pushed_by : Event → List ℕ
+pushed_by (Push id block) = block
+pushed_by event = []
+
+-- the data that a source brings by these events, joined in their order
+abbrev pub pushed : List Event → List ℕ
+pushed events = flat_map pushed_by events
+
+-- these bytes, from the client of this number, are heard as a request and what comes behind it
+pub record IsRequest (bytes : List ℕ) (id : ℕ) (request : Event) (behind : List Event) : Type 0 where
+  pub peer : Peer
+  pub heard : Heard
+  pub is_heard : IsHeard (fresh id peer) bytes heard
+  pub begins : heard.events ≡ request ∷ behind
+
+-- On the connection of the label a source's request comes, and all that it delivers through the course is a front of the data behind that, as the
+-- bytes of its body are heard; what is not delivered came when it was not admitted, or had been ended, or is still to be.
+pub record DeliversItsBody (settings : Settings) (lists : Lists) (deliveries : List Delivery) (course : List Happening) (label : ℕ) (asked : SourceRequest)
+    : Type 0 where
+  pub behind : List Event
+  pub is_request : IsRequest (brought deliveries label) asked.id (Source asked) behind
+  pub undelivered : List ℕ
+  pub is_front : pushed behind ≡ delivered (opening settings lists) (events_in course) asked.id ++ undelivered
+
+-- On the connection of the label a master's answer comes, whose head shows this of the stream, and all that the relay delivers under this number
+-- is a front of the sound that the answer pulls in behind that.
+pub record DeliversItsSound (settings : Settings) (lists : Lists) (deliveries : List Delivery) (course : List Happening) (label number : ℕ) (shown : Shown)
+    : Type 0 where
+  pub pulled : Pulled
+  pub is_pulled : IsPulled (brought deliveries label) pulled
+  pub parts : List Part
+  pub begins : pulled.parts ≡ ShownPart shown ∷ parts
+  pub undelivered : List ℕ
+  pub is_front : sound_in parts ≡ delivered (opening settings lists) (events_in course) number ++ undelivered
+
+-- This session is that of a source: one that has asked to feed its mount, or a relay that has come up there. It shows what that shows, by the settings.
+module _ (settings : Settings) (lists : Lists) (deliveries : List Delivery) (course : List Happening) (mount : List ℕ) (number : ℕ) where
+  pub record IsOfASource (shown_now : Shown) : Type 0 where
+    pub label : ℕ
+    pub asked : SourceRequest
+    pub its_mount : asked.mount ≡ mount
+    pub its_number : asked.id ≡ number
+    pub before : List Happening
+    pub after : List Happening
+    pub has_asked : course ≡ before ++ on label (Source asked) ∷ after
+    pub begun : Session
+    pub has_begun : HasBegun (run_after settings lists (events_in before)) mount number asked.shown begun
+    pub still_shown : shown_now ≡ begun.shown
+    pub delivers : DeliversItsBody settings lists deliveries course label asked
+
+  pub record IsOfARelay (shown_now : Shown) : Type 0 where
+    pub label : ℕ
+    pub shown : Shown
+    pub before : List Happening
+    pub after : List Happening
+    pub has_come_up : course ≡ before ++ on label (RelayUp mount shown) ∷ after
+    pub begun : Session
+    pub has_begun : HasBegun (run_after settings lists (events_in before)) mount number shown begun
+    pub still_shown : shown_now ≡ begun.shown
+    pub delivers : DeliversItsSound settings lists deliveries course label number shown
+
+  abbrev pub HasItsSource : Shown → Type 0
+  HasItsSource shown_now = IsOfASource shown_now ⊎ IsOfARelay shown_now
+
+-- each who asks to feed a mount
+abbrev pub SourcesDeliverTheirBodies : Settings → Lists → List Delivery → List Happening → Type 0
+SourcesDeliverTheirBodies settings lists deliveries course = (label : ℕ) (asked : SourceRequest) (past later : List Happening)
+    → course ≡ past ++ on label (Source asked) ∷ later → DeliversItsBody settings lists deliveries course label asked
+
+-- each relay that comes up, and is given this number
+abbrev pub RelaysDeliverTheirSound : Settings → Lists → List Delivery → List Happening → Type 0
+RelaysDeliverTheirSound settings lists deliveries course = (label : ℕ) (mount : List ℕ) (shown : Shown) (number : ℕ) (past later : List Happening)
+    → course ≡ past ++ on label (RelayUp mount shown) ∷ later
+    → reply_to (run_after settings lists (events_in past)) (RelayUp mount shown) ≡ Arrived number
+    → DeliversItsSound settings lists deliveries course label number shown

@@ -1,0 +1,65 @@
+//! Laws from bytes to bytes, which run no code.
+
+ghost use Rattle.std.specs.Prelude.{ℕ, List};
+ghost use Rattle.radio_settings.specs.declared.settings.Settings.{Settings};
+ghost use Rattle.radio_access.specs.Lists.{Lists};
+ghost use Rattle.radio_events.specs.declared.event.Event.{Event};
+ghost use Rattle.radio_headline.specs.Listeners.{DrawsAreStretches, ListenersHearSlices};
+
+use radio_blocks::laws::blocks_are_the_data;
+use radio_core::{
+    clients_and_seats_add_up, clients_stand_by_their_events, events_are_of_their_clients,
+    sessions_are_their_sources,
+};
+use radio_heads::{heads_lie_within, settled};
+use radio_icy::laws::cut_streams;
+use radio_laws::{
+    access_is_kept, commands_are_done, denials_are_the_policys, listeners_are_told_titles,
+    listeners_begin_at_a_block, listeners_walk_on, sight_is_kept, stretches_are_whole,
+    whoever_may_is_served,
+};
+use radio_policy::denials_name_the_first_rule;
+use radio_script::transcripts_are_read_one_way;
+use radio_session::listeners_are_told_what_they_draw;
+use radio_source::laws::pieces_are_joined;
+
+/// The draws of a listener.
+pub fn draws_are_stretches()
+    // over every run, the data in the draws that a listener is handed are slices, one for each of his
+    // sittings, of what the source delivered in whose session he sat
+    ensures { (settings : Settings) (lists : Lists) (events : List Event) (id : ℕ) → DrawsAreStretches settings lists events id }
+{
+    stretches_are_whole();
+}
+
+/// The law of scripts, from their bytes to those of their transcripts. Over every script, what each
+/// listener is given behind his head is, with the metadata taken out, slices of what was brought on
+/// the connections of the sources in whose sessions he sat, in the order in which he sat, with a
+/// metadata block after each interval if he asked; and whoever is denied reads the first rule that
+/// denied him.
+pub fn listeners_hear_slices()
+    ensures { ListenersHearSlices }
+{
+    blocks_are_the_data();
+    cut_streams();
+    heads_lie_within();
+    settled();
+    pieces_are_joined();
+    clients_and_seats_add_up();
+    clients_stand_by_their_events();
+    events_are_of_their_clients();
+    sessions_are_their_sources();
+    access_is_kept();
+    commands_are_done();
+    denials_are_the_policys();
+    denials_name_the_first_rule();
+    listeners_are_told_titles();
+    listeners_begin_at_a_block();
+    listeners_walk_on();
+    sight_is_kept();
+    stretches_are_whole();
+    whoever_may_is_served();
+    listeners_are_told_what_they_draw();
+    transcripts_are_read_one_way();
+    draws_are_stretches();
+}
