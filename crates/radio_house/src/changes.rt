@@ -19,6 +19,7 @@ use radio_icy::Title;
 use radio_parts::{Delivers, NewTitle, Session};
 use radio_policy::Rule;
 use radio_settings::{MountName, Shown};
+use radio_tables::Table;
 use std::alloc::Global;
 
 impl House {
@@ -76,59 +77,9 @@ impl House {
         ensures err { OnErr result (self.new ≡ self.old) }
     {
         let session = Session::new(alloc, mount, id, shown, self.time)?;
-        self.insert_both(id, mount, session)?;
+        insert_both(&mut self.relays, &mut self.live, id, mount, session)?;
         self.last_id = id;
         Ok(())
-    }
-
-    /// One relay more, which feeds the mount, and one session. `OutOfMemory` where memory was refused
-    /// for either; nothing has changed then.
-    fn insert_both(
-        &mut self,
-        id: u64,
-        mount: MountName,
-        session: Session,
-    ) -> Result<(), OutOfMemory>
-        ensures ok { OnOk result (self.new ≡ record self.old {
-          live = with_session self.old.live session;
-          relays = with_relay self.old.relays (risen id mount);
-        }) }
-        ensures err { OnErr result (self.new ≡ self.old) }
-    {
-        let before = self.relay_state(id);
-        // their numbers rise, so that what is put back is what was there
-        let _relays = self.relays.len();
-        self.relays.insert(Relay {
-            id,
-            state: RelayState::Feeds(mount),
-        })?;
-        match self.live.insert(session) {
-            Ok(()) => Ok(()),
-            Err(refused) => {
-                self.put_relay_back(id, before);
-                Err(refused)
-            }
-        }
-    }
-
-    /// What the relay of this number does, if it is there.
-    fn relay_state(&self, id: u64) -> Option<RelayState>
-        ensures { result ≡ option_map (λ (relay : RelayOf). relay.state) (relay_of self.now.relays id) }
-    {
-        match self.relays.get(&id) {
-            Some(relay) => Some(relay.state),
-            None => None,
-        }
-    }
-
-    /// The relay of this number is as it was before. It takes no memory.
-    fn put_relay_back(&mut self, id: u64, before: Option<RelayState>)
-        ensures { self.new ≡ record self.old { relays = put_back self.old.relays id before } }
-    {
-        match before {
-            Some(state) => self.relays.change(&id, &SetRelayState { state }),
-            None => drop(self.relays.remove(&id)),
-        }
     }
 
     /// The rule finishes the client, or the relay, of this number. It takes no memory.
@@ -205,5 +156,55 @@ impl House {
         self.time = ms;
         let seconds = self.settings.limits.header_timeout.get();
         self.clients.change_all(&TimesOut { seconds, now: ms });
+    }
+}
+
+/// One relay more, which feeds the mount, and one session. `OutOfMemory` where memory was refused
+/// for either; nothing has changed then.
+fn insert_both(
+    relays: &mut Table<Relay>,
+    live: &mut Table<Session>,
+    id: u64,
+    mount: MountName,
+    session: Session,
+) -> Result<(), OutOfMemory>
+    ensures relays { OnOk result (relays.new ≡ with_relay relays.old (risen id mount)) }
+    ensures live { OnOk result (live.new ≡ with_session live.old session) }
+    ensures err_relays { OnErr result (relays.new ≡ relays.old) }
+    ensures err_live { OnErr result (live.new ≡ live.old) }
+{
+    let before = relay_state(relays, id);
+    // their numbers rise, so that what is put back is what was there
+    let _relays = relays.len();
+    relays.insert(Relay {
+        id,
+        state: RelayState::Feeds(mount),
+    })?;
+    match live.insert(session) {
+        Ok(()) => Ok(()),
+        Err(refused) => {
+            put_relay_back(relays, id, before);
+            Err(refused)
+        }
+    }
+}
+
+/// What the relay of this number does, if it is there.
+fn relay_state(relays: &Table<Relay>, id: u64) -> Option<RelayState>
+    ensures { result ≡ option_map (λ (relay : RelayOf). relay.state) (relay_of relays.now id) }
+{
+    match relays.get(&id) {
+        Some(relay) => Some(relay.state),
+        None => None,
+    }
+}
+
+/// The relay of this number is as it was before. It takes no memory.
+fn put_relay_back(relays: &mut Table<Relay>, id: u64, before: Option<RelayState>)
+    ensures { relays.new ≡ put_back relays.old id before }
+{
+    match before {
+        Some(state) => relays.change(&id, &SetRelayState { state }),
+        None => drop(relays.remove(&id)),
     }
 }

@@ -3,6 +3,7 @@
 ghost use Rattle.std.specs.Prelude.{◌≡◌, [], map, unwrap_or, IfOk};
 ghost use Rattle.std.specs.Option.{option_map};
 ghost use Rattle.radio_listing.specs.Listeners.{listeners_text};
+ghost use Rattle.radio_listing.specs.Public.{status_text};
 ghost use Rattle.radio_seats.specs.Listed.{lent_guest};
 ghost use Rattle.radio_house.specs.Listings.{shown, public_row, mount_row, mount_rows, listener_row, listener_rows, user_of};
 ghost use Rattle.radio_house.specs.World.{world};
@@ -76,11 +77,18 @@ impl House {
     fn status_shown(&self, alloc: Global, seats: &Seats) -> Result<Text, OutOfMemory>
         ensures { IfOk result (λ text. text ≡ shown (world self.now seats.now.seats) Status) }
     {
-        let rows = self.mount_rows(alloc, seats)?;
+        let bytes = self.status_bytes(alloc, seats)?;
         Ok(Text::Public {
-            bytes: Bytes::from_vec(status(alloc, rows.as_slice())?)?,
+            bytes,
             allow_origin: self.settings.web.allow_origin.clone()?,
         })
+    }
+
+    fn status_bytes(&self, alloc: Global, seats: &Seats) -> Result<Bytes, OutOfMemory>
+        ensures { IfOk result (λ bytes. bytes ≡ status_text (mount_rows (world self.now seats.now.seats))) }
+    {
+        let rows = self.mount_rows(alloc, seats)?;
+        Ok(Bytes::from_vec(status(alloc, rows.as_slice())?)?)
     }
 
     /// The live mounts, in the order of their names. `OutOfMemory` where memory was refused.

@@ -1,12 +1,15 @@
 ghost use Rattle.std.specs.Prelude.{◌≡◌, Some, IfOk, MatchResult};
 ghost use Rattle.radio_parts.specs.Sessions.{session_of};
+ghost use Rattle.radio_events.specs.declared.reply.Reply.TheVariants.{Seated};
+ghost use Rattle.radio_core.specs.declared.outcome.Change.TheVariants.{TakeSeat};
+ghost use Rattle.radio_core.specs.Outcomes.{says};
 ghost use Rattle.radio_core.specs.Listen.{asks_to_hear, sits_where, takes_seat, first_seat};
 
 use super::state::State;
 use crate::OutOfMemory;
 use crate::outcome::{Change, Outcome};
 use radio_addr::Peer;
-use radio_events::{ListenRequest, Reply};
+use radio_events::{ListenRequest, Reply, StreamHead};
 use radio_fallback::Landing;
 use radio_house::Standing;
 use radio_parts::Session;
@@ -101,16 +104,15 @@ impl State {
         requires { welcome.home ≡ asked.mount }
         ensures { IfOk result (λ o. o ≡ takes_seat self.now.house asked welcome.peer (Some session.now)) }
     {
-        let head = self.house.head_of(&session.shown)?;
         let id = asked.id;
         let seat = self.first_seat(asked, welcome, session)?;
-        Ok(Outcome {
-            reply: Reply::Seated {
-                interval: seat.interval,
-                head,
-            },
-            change: Change::TakeSeat { id, seat },
-        })
+        match self.house.head_of(&session.shown) {
+            Ok(head) => Ok(seated(id, head, seat)),
+            Err(refused) => {
+                drop(seat);
+                Err(refused)
+            }
+        }
     }
 
     /// The seat of a new listener in the session. `OutOfMemory` where memory was refused.
@@ -142,5 +144,18 @@ impl State {
             interval,
             since: self.house.time(),
         })
+    }
+}
+
+/// The client of this number is seated, and is told what the head says.
+fn seated(id: u64, head: StreamHead, seat: Seat) -> Outcome
+    ensures { result ≡ says (Seated seat.interval head) (TakeSeat id seat) }
+{
+    Outcome {
+        reply: Reply::Seated {
+            interval: seat.interval,
+            head,
+        },
+        change: Change::TakeSeat { id, seat },
     }
 }
