@@ -63,6 +63,7 @@ IsNoRequest id e = IsBehindRequest id e.event
 abbrev pub AsksForMount : Event → Type 0
 AsksForMount (Listen asked) = Unit {0}
 AsksForMount (Source asked) = Unit {0}
+AsksForMount (Command asked) = Unit {0}
 AsksForMount (RelayUp mount shown) = Unit {0}
 AsksForMount event = ⊥
 

@@ -16,3 +16,4 @@ mod BodyLemmas
 mod SoundLemmas
 mod SittingLemmas
 mod HeadlineLemmas
+mod PlayedLemmas

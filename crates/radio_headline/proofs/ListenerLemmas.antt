@@ -17,6 +17,10 @@ use Rattle.radio_policy.specs.Table.{Row}
 use Rattle.radio_policy.specs.Verdicts.{Allows, verdict_in}
 use Rattle.radio_events.specs.declared.event.Event.{Event}
 use Rattle.radio_events.specs.declared.event.Event.TheVariants.{Arrive, Source, Push, SourceEnd, Title, Listen, Draw, Command, Leave, RelayUp, RelayDown, Clock}
+use Rattle.radio_core.specs.Ways.{rows_for}
+use Rattle.radio_policy.specs.Verdicts.{Denies}
+use Rattle.radio_events.specs.declared.command.CommandRequest.{CommandRequest}
+use Rattle.radio_events.specs.declared.text.Text.{Text as CommandText}
 use Rattle.radio_events.specs.declared.event.ListenRequest.{ListenRequest}
 use Rattle.radio_events.specs.declared.reply.Reply.{Reply}
 use Rattle.radio_events.specs.declared.reply.Reply.TheVariants.{Arrived, Feeding, Seated, Drawn, Noted, Text, Deny, Finished, Stray}
@@ -57,7 +61,7 @@ use Rattle.radio_floor.specs.ScriptState.{ScriptState, connection_of}
 use Rattle.radio_script.specs.declared.delivery.Delivery.{Delivery}
 use Rattle.radio_script.specs.Given.{TranscriptLine, given}
 use Rattle.radio_headline.specs.Course.{Happening, events_in, on}
-use Rattle.radio_headline.specs.Listeners.{DrawsAreStretches, SitsWithASource, Hears, IsDenied, IsGiven, IsShown, IsTooLate, draws_to}
+use Rattle.radio_headline.specs.Listeners.{CommandIsAnswered, DrawsAreStretches, SitsWithASource, Hears, IsDenied, IsGiven, IsShown, IsTooLate, draws_to}
 use Rattle.radio_headline.specs.Sources.{HasItsSource, brought}
 use Rattle.radio_headline.proofs.Logs.{Entry, entry, after_joined, entry_on, log_on, log_joined, replies, replies_joined, Each, each_as, each_first, each_joined, each_second, itself}
 use Rattle.radio_headline.proofs.AppliedLemmas.{IsLast, IsLeaving, IsOpen, IsOrderly, said_all, told_joined}
@@ -73,6 +77,12 @@ use Rattle.radio_pull.specs.Pulling.{answered}
 idle_or_leaving_is_his : (id : ℕ) (e : Entry) → IsIdleOrLeaving id e → client_in e.event ≡ Some id
 idle_or_leaving_is_his id e (inl h) = idle_is_his id e.event h
 idle_or_leaving_is_his id e (inr h) = ap client_in h
+
+pub get_is_his : (id : ℕ) (request : RequestParts) → client_in (asks_by_get id request) ≡ Some id
+get_is_his id request = by_kind (is_for_commands (path_in request)) where
+  by_kind : (b : Bool) → client_in (if b then gives_command id request (path_in request) else asks_to_hear id request (path_in request)) ≡ Some id
+  by_kind true = refl
+  by_kind false = refl
 
 pub get_is_of : (id : ℕ) (request : RequestParts) {asked : ListenRequest} → asks_by_get id request ≡ Listen asked → asked.id ≡ id
 get_is_of id request {asked} e = by_kind (is_for_commands (path_in request)) e where
@@ -92,31 +102,32 @@ so_owns (Some (Some (Client conversation))) bytes log given h = client_owns conv
 so_owns (Some (Some (Relay pulling))) bytes log given h = relay_owns log h.own
 
 -- by this event a mount is asked for, to hear it
-abbrev pub IsListening : Event → Type 0
-IsListening (Listen asked) = Unit {0}
-IsListening event = ⊥
+abbrev pub IsGetting : Event → Type 0
+IsGetting (Listen asked) = Unit {0}
+IsGetting (Command asked) = Unit {0}
+IsGetting event = ⊥
 
-abbrev ListensNot : Entry → Type 0
-ListensNot e = IsListening e.event → ⊥
+abbrev GetsNot : Entry → Type 0
+GetsNot e = IsGetting e.event → ⊥
 
-listening_asks : (event : Event) → IsListening event → AsksForMount event
+listening_asks : (event : Event) → IsGetting event → AsksForMount event
 listening_asks (Arrive peer) h = elim h [ ]
 listening_asks (Source asked) h = elim h [ ]
 listening_asks (Push him block) h = elim h [ ]
 listening_asks (SourceEnd him) h = elim h [ ]
 listening_asks (Title him text) h = elim h [ ]
 listening_asks (Draw him room) h = elim h [ ]
-listening_asks (Command asked) h = elim h [ ]
 listening_asks (Leave him) h = elim h [ ]
 listening_asks (RelayUp mount shown) h = elim h [ ]
 listening_asks (RelayDown him) h = elim h [ ]
 listening_asks (Clock ms) h = elim h [ ]
+listening_asks (Command asked) h = tt
 listening_asks (Listen asked) h = tt
 
-nothing_listened : (log : List Entry) → Each AsksNothing log → Each ListensNot log
-nothing_listened log h = each_as AsksNothing ListensNot (λ e f l. f (listening_asks e.event l)) log h
+nothing_listened : (log : List Entry) → Each AsksNothing log → Each GetsNot log
+nothing_listened log h = each_as AsksNothing GetsNot (λ e f l. f (listening_asks e.event l)) log h
 
-not_behind : (id : ℕ) (event : Event) → IsBehindRequest id event → IsListening event → ⊥
+not_behind : (id : ℕ) (event : Event) → IsBehindRequest id event → IsGetting event → ⊥
 not_behind id (Arrive peer) h l = elim h [ ]
 not_behind id (Source asked) h l = elim h [ ]
 not_behind id (Listen asked) h l = elim h [ ]
@@ -130,20 +141,20 @@ not_behind id (Title him text) h l = l
 not_behind id (Draw him room) h l = l
 not_behind id (Leave him) h l = l
 
-idle_not : (id : ℕ) (e : Entry) → IsIdling id e → ListensNot e
+idle_not : (id : ℕ) (e : Entry) → IsIdling id e → GetsNot e
 idle_not id e h l = idle_asks_nothing id e.event h (listening_asks e.event l)
 
-source_not : (bytes : List ℕ) (log : List Entry) → IsFeeding bytes log → Each ListensNot log
+source_not : (bytes : List ℕ) (log : List Entry) → IsFeeding bytes log → Each GetsNot log
 source_not bytes log f =
-    subst (Each ListensNot) (sym f.in_order)
-    ((λ l. l), each_joined ListensNot f.idle _ (each_as (IsIdling f.id) ListensNot (idle_not f.id) f.idle f.idles)
-    ((λ l. l), each_as (IsNoRequest f.id) ListensNot (λ e h. not_behind f.id e.event h) f.behind f.no_more))
+    subst (Each GetsNot) (sym f.in_order)
+    ((λ l. l), each_joined GetsNot f.idle _ (each_as (IsIdling f.id) GetsNot (idle_not f.id) f.idle f.idles)
+    ((λ l. l), each_as (IsNoRequest f.id) GetsNot (λ e h. not_behind f.id e.event h) f.behind f.no_more))
 
 -- a relay asks for no mount
-relay_listens_not : (number : Option ℕ) (log : List Entry) → OwnRelay number log → Each ListensNot log
+relay_listens_not : (number : Option ℕ) (log : List Entry) → OwnRelay number log → Each GetsNot log
 relay_listens_not number [] own = tt
 relay_listens_not number (e ∷ log) own = (by_event e.event own.0, relay_listens_not (answered number e.reply).number log own.1) where
-  by_event : (event : Event) → OfRelay number event → IsListening event → ⊥
+  by_event : (event : Event) → OfRelay number event → IsGetting event → ⊥
   by_event (Arrive peer) h a = elim h [ ]
   by_event (Source asked) h a = elim h [ ]
   by_event (SourceEnd him) h a = elim h [ ]
@@ -157,8 +168,8 @@ relay_listens_not number (e ∷ log) own = (by_event e.event own.0, relay_listen
   by_event (Draw him room) h a = a
   by_event (RelayDown him) h a = a
 
-none_there : (before behind : List Entry) (e : Entry) → Each ListensNot (before ++ e ∷ behind) → IsListening e.event → ⊥
-none_there before behind e h l = (each_second ListensNot before (e ∷ behind) h).0 l
+none_there : (before behind : List Entry) (e : Entry) → Each GetsNot (before ++ e ∷ behind) → IsGetting e.event → ⊥
+none_there before behind e h l = (each_second GetsNot before (e ∷ behind) h).0 l
 
 pub no_entry : (before behind : List Entry) (e : Entry) → [] ≡ before ++ e ∷ behind → ⊥
 no_entry [] behind e h = cc
@@ -166,9 +177,9 @@ no_entry (x ∷ before) behind e h = cc
 
 -- where a mount is asked for, to hear it, a GET was heard
 module _ (bytes : List ℕ) (log : List Entry) (given : List ℕ) (before behind : List Entry) (e : Entry) (parts : log ≡ before ++ e ∷ behind)
-    (listens : IsListening e.event) where
-  never : {A : Type 0} → Each ListensNot log → A
-  never h = absurd (none_there before behind e (subst (Each ListensNot) parts h) listens)
+    (listens : IsGetting e.event) where
+  never : {A : Type 0} → Each GetsNot log → A
+  never h = absurd (none_there before behind e (subst (Each GetsNot) parts h) listens)
 
   of_facts : Facts bytes log given → ByGet bytes log given
   of_facts (HasAskedNothing h) = never (nothing_listened log h)
@@ -178,7 +189,7 @@ module _ (bytes : List ℕ) (log : List Entry) (given : List ℕ) (before behind
 
   of_stage : (conversation : _) → Stage bytes log given conversation → ByGet bytes log given
   of_stage conversation (AtHead idle arrived idles hears held t) =
-      never (subst (Each ListensNot) (sym arrived) ((λ l. l), each_as (IsIdling conversation.id) ListensNot (idle_not conversation.id) idle idles))
+      never (subst (Each GetsNot) (sym arrived) ((λ l. l), each_as (IsIdling conversation.id) GetsNot (idle_not conversation.id) idle idles))
   of_stage conversation (AfterGet g hears t) = g
   of_stage conversation (AtBody f none hears) = never (source_not bytes log f)
   of_stage conversation (AfterBody f hears) = never (source_not bytes log f)
@@ -190,9 +201,9 @@ module _ (bytes : List ℕ) (log : List Entry) (given : List ℕ) (before behind
   by_get (Some (Some (Client conversation))) h = of_stage conversation h.stage
   by_get (Some (Some (Relay pulling))) h = never (relay_listens_not None log h.own)
 
-idle_or_leaving_not : (id : ℕ) (e : Entry) → IsIdleOrLeaving id e → IsListening e.event → ⊥
+idle_or_leaving_not : (id : ℕ) (e : Entry) → IsIdleOrLeaving id e → IsGetting e.event → ⊥
 idle_or_leaving_not id e (inl h) l = idle_asks_nothing id e.event h (listening_asks e.event l)
-idle_or_leaving_not id e (inr h) l = subst IsListening h l
+idle_or_leaving_not id e (inr h) l = subst IsGetting h l
 
 -- the one entry of a log by which a mount is asked for
 record Parted (xs ys : List Entry) (e a : Entry) (cs ds : List Entry) : Type 0 where
@@ -200,13 +211,13 @@ record Parted (xs ys : List Entry) (e a : Entry) (cs ds : List Entry) : Type 0 w
   pub here : e ≡ a
   pub behind : cs ≡ ds
 
-parted : (xs ys cs ds : List Entry) (e a : Entry) → xs ++ e ∷ cs ≡ ys ++ a ∷ ds → IsListening e.event → Each ListensNot ys → Each ListensNot ds
+parted : (xs ys cs ds : List Entry) (e a : Entry) → xs ++ e ∷ cs ≡ ys ++ a ∷ ds → IsGetting e.event → Each GetsNot ys → Each GetsNot ds
     → Parted xs ys e a cs ds
 parted [] [] cs ds e a h l none later = record { before = refl; here = cc; behind = cc }
-parted [] (y ∷ ys) cs ds e a h l none later = let same : e ≡ y = cc in absurd (none.0 (subst (λ (x : Entry). IsListening x.event) same l))
+parted [] (y ∷ ys) cs ds e a h l none later = let same : e ≡ y = cc in absurd (none.0 (subst (λ (x : Entry). IsGetting x.event) same l))
 parted (x ∷ xs) [] cs ds e a h l none later =
     let others : xs ++ e ∷ cs ≡ ds = cc in
-    absurd (none_there xs cs e (subst (Each ListensNot) (sym others) later) l)
+    absurd (none_there xs cs e (subst (Each GetsNot) (sym others) later) l)
 parted (x ∷ xs) (y ∷ ys) cs ds e a h l none later =
     let first : x ≡ y = cc in
     let others : xs ++ e ∷ cs ≡ ys ++ a ∷ ds = cc in
@@ -215,11 +226,11 @@ parted (x ∷ xs) (y ∷ ys) cs ds e a h l none later =
 
 -- what was asked for was asked for by that GET
 pub parted_at_get : (bytes : List ℕ) (log : List Entry) (given : List ℕ) (g : ByGet bytes log given) (before behind : List Entry) (e : Entry)
-    → log ≡ before ++ e ∷ behind → IsListening e.event → e.event ≡ asks_by_get g.id g.request
+    → log ≡ before ++ e ∷ behind → IsGetting e.event → e.event ≡ asks_by_get g.id g.request
 parted_at_get bytes log given g before behind e parts l =
     ap (λ (x : Entry). x.event) (parted before (arrival g.peer g.id ∷ g.idle) behind g.behind e _ (sym parts ∙ g.in_order) l
-    ((λ k. k), each_as (IsIdling g.id) ListensNot (idle_not g.id) g.idle g.idles)
-    (each_as (IsIdleOrLeaving g.id) ListensNot (idle_or_leaving_not g.id) g.behind g.no_more)).here
+    ((λ k. k), each_as (IsIdling g.id) GetsNot (idle_not g.id) g.idle g.idles)
+    (each_as (IsIdleOrLeaving g.id) GetsNot (idle_or_leaving_not g.id) g.behind g.no_more)).here
 
 -- nothing was told while he waited
 abbrev IsMute : Entry → Type 0
@@ -486,31 +497,31 @@ module _ (settings : Settings) (lists : Lists)
     abbrev log : ℕ → List Entry
     log label = log_on w0 course label
 
-    module _ (label : ℕ) (asked : ListenRequest) (past later : List Happening) (parts : course ≡ past ++ on label (Listen asked) ∷ later) where
+    module _ (label : ℕ) (ask : Event) (gets : IsGetting ask) (past later : List Happening) (parts : course ≡ past ++ on label ask ∷ later) where
       abbrev w : World
       w = run_after settings lists (events_in past)
 
       abbrev reply : Reply
-      reply = reply_to w (Listen asked)
+      reply = reply_to w ask
 
       abbrev before : List Entry
       before = log_on w0 past label
 
       abbrev behind : List Entry
-      behind = log_on (world_after w (Listen asked)) later label
+      behind = log_on (world_after w ask) later label
 
-      in_order : log label ≡ before ++ entry w (Listen asked) ∷ behind
-      in_order = ap (λ (hs : List Happening). log_on w0 hs label) parts ∙ log_joined w0 past (on label (Listen asked) ∷ later) label
-          ∙ ap (λ (b : Bool). before ++ ((if b then entry w (Listen asked) ∷ [] else []) ++ behind)) (itself label)
+      in_order : log label ≡ before ++ (entry w ask) ∷ behind
+      in_order = ap (λ (hs : List Happening). log_on w0 hs label) parts ∙ log_joined w0 past (on label ask ∷ later) label
+          ∙ ap (λ (b : Bool). before ++ ((if b then (entry w ask) ∷ [] else []) ++ behind)) (itself label)
 
       g : ByGet (brought done label) (log label) (given lines label)
-      g = by_get (brought done label) (log label) (given lines label) before behind (entry w (Listen asked)) in_order tt
+      g = by_get (brought done label) (log label) (given lines label) before behind (entry w ask) in_order gets
           (connection_of last.connections label) (each label)
 
-      p : Parted before (arrival g.peer g.id ∷ g.idle) (entry w (Listen asked)) (record { event = asks_by_get g.id g.request; reply = g.reply }) behind g.behind
-      p = parted before (arrival g.peer g.id ∷ g.idle) behind g.behind (entry w (Listen asked)) _ (sym in_order ∙ g.in_order) tt
-          ((λ l. l), each_as (IsIdling g.id) ListensNot (idle_not g.id) g.idle g.idles)
-          (each_as (IsIdleOrLeaving g.id) ListensNot (idle_or_leaving_not g.id) g.behind g.no_more)
+      p : Parted before (arrival g.peer g.id ∷ g.idle) (entry w ask) (record { event = asks_by_get g.id g.request; reply = g.reply }) behind g.behind
+      p = parted before (arrival g.peer g.id ∷ g.idle) behind g.behind (entry w ask) _ (sym in_order ∙ g.in_order) gets
+          ((λ l. l), each_as (IsIdling g.id) GetsNot (idle_not g.id) g.idle g.idles)
+          (each_as (IsIdleOrLeaving g.id) GetsNot (idle_or_leaving_not g.id) g.behind g.no_more)
 
       has_number : HasNumber g.id (log label)
       has_number = subst (HasNumber g.id) (sym g.in_order) (inl refl)
@@ -519,15 +530,15 @@ module _ (settings : Settings) (lists : Lists)
       on_it = on_his settings lists fits adds steps done last course lines each nowhere label g.id has_number
 
       on_it_before : AllByRecursion (IsOnIt label g.id) past
-      on_it_before = are_on_first settings lists fits adds steps label g.id past (on label (Listen asked) ∷ later)
+      on_it_before = are_on_first settings lists fits adds steps label g.id past (on label ask ∷ later)
           (subst (AllByRecursion (IsOnIt label g.id)) parts on_it)
 
       waits : IsNew (standing_of w g.id) × Each IsMute g.idle
       waits = arrives_and_idles settings lists fits adds steps w0 past label g.id g.peer g.idle (reached_opening settings lists fits adds steps) on_it_before
           p.before g.idles
 
-      his_number : asked.id ≡ g.id
-      his_number = get_is_of g.id g.request (ap (λ (x : Entry). x.event) (sym p.here)) 
+      his_ask : client_in ask ≡ Some g.id
+      his_ask = ap (λ (x : Entry). client_in x.event) p.here ∙ get_is_his g.id g.request
 
       mute : Waited g.idle
       mute = waited g.idle g.goes.1 waits.1
@@ -545,10 +556,10 @@ module _ (settings : Settings) (lists : Lists)
           ∙ ap (λ (xs : List Entry). told asking (reply ∷ replies xs)) (sym p.behind)
 
       fits_behind : Each EntryFits behind
-      fits_behind = (each_second EntryFits before (entry w (Listen asked) ∷ behind) (subst (Each EntryFits) in_order (log_fits [] course label))).1
+      fits_behind = (each_second EntryFits before ((entry w ask) ∷ behind) (subst (Each EntryFits) in_order (log_fits [] course label))).1
 
       orderly_behind : IsOrderly g.id behind
-      orderly_behind = (orderly_second g.id before (entry w (Listen asked) ∷ behind) (subst (IsOrderly g.id) in_order g.orderly)).1
+      orderly_behind = (orderly_second g.id before ((entry w ask) ∷ behind) (subst (IsOrderly g.id) in_order g.orderly)).1
 
       idle_behind : Each (IsIdleOrLeaving g.id) behind
       idle_behind = subst (Each (IsIdleOrLeaving g.id)) (sym p.behind) g.no_more
@@ -557,15 +568,14 @@ module _ (settings : Settings) (lists : Lists)
       nobody = admit_nobody behind (none_admitted g.id behind idle_behind fits_behind)
 
       all_draws : (interval : Option ℕ) (head : StreamHead) → reply ≡ Seated interval head
-          → draws_of (replies behind) ≡ draws_to w0 (events_in course) asked.id
+          → draws_of (replies behind) ≡ draws_to w0 (events_in course) g.id
       all_draws interval head seated =
           orderly_draws g.id behind orderly_behind fits_behind
           ∙ ap (λ (xs : List Call). xs ++ calls behind) (sym none_before)
-          ∙ sym (flat_map-append calls_of before (entry w (Listen asked) ∷ behind) ∙ ap (λ (xs : List Call). calls before ++ (xs ++ calls behind)) none_here)
+          ∙ sym (flat_map-append calls_of before ((entry w ask) ∷ behind) ∙ ap (λ (xs : List Call). calls before ++ (xs ++ calls behind)) none_here)
           ∙ ap calls (sym in_order)
-          ∙ sym (draws_gathered w0 course label g.id on_it his_or_not)
-          ∙ ap (draws_to w0 (events_in course)) (sym his_number) where
-            none_here : calls_of (entry w (Listen asked)) ≡ []
+          ∙ sym (draws_gathered w0 course label g.id on_it his_or_not) where
+            none_here : calls_of (entry w ask) ≡ []
             none_here = ap (λ (r : Reply). draws_of (r ∷ [])) seated
 
             none_before : calls before ≡ []
@@ -573,32 +583,67 @@ module _ (settings : Settings) (lists : Lists)
 
             his_or_not : Each (IsHisOrDrawsNothing g.id) (log label)
             his_or_not = subst (Each (IsHisOrDrawsNothing g.id)) (sym in_order)
-                (each_joined (IsHisOrDrawsNothing g.id) before (entry w (Listen asked) ∷ behind)
+                (each_joined (IsHisOrDrawsNothing g.id) before ((entry w ask) ∷ behind)
                 (subst (Each (IsHisOrDrawsNothing g.id)) (sym p.before)
                 (inr refl, each_as IsMute (IsHisOrDrawsNothing g.id) (λ e m. inr (mute_draws e m)) g.idle waits.1))
                 (inr none_here, each_as (IsIdleOrLeaving g.id) (IsHisOrDrawsNothing g.id) (λ e h. inl (idle_or_leaving_is_his g.id e h)) behind idle_behind))
 
-      pub given_by : IsGiven settings lists deliveries course w asked (given lines label) reply
-      given_by = by_reply reply refl (listen_reply w asked) where
-        told_as : (r : Reply) → reply ≡ r → (given lines label) ≡ told asking (r ∷ replies behind)
-        told_as r e = told_behind ∙ ap (λ (x : Reply). told asking (x ∷ replies behind)) e
+      told_as : (r : Reply) → reply ≡ r → given lines label ≡ told asking (r ∷ replies behind)
+      told_as r e = told_behind ∙ ap (λ (x : Reply). told asking (x ∷ replies behind)) e
 
-        by_reply : (r : Reply) → reply ≡ r → ListenReply r → IsGiven settings lists deliveries course w asked (given lines label) r
+      reads_denial : (rule : Rule) → reply ≡ Deny rule → Denies (rows_for w ask) rule × (given lines label ≡ denial rule)
+      reads_denial rule e = ((denied (events_in past) ask rule e).0, told_as (Deny rule) e ∙ append-nil (denial rule))
+
+      reads_text : (text : CommandText) → reply ≡ Text text → given lines label ≡ text_answer text
+      reads_text text e = told_as (Text text) e ∙ append-nil (text_answer text)
+
+    -- one who gives a command
+    pub answered_by : (label : ℕ) (asked : CommandRequest) (past later : List Happening) → course ≡ past ++ on label (Command asked) ∷ later
+        → CommandIsAnswered settings lists deliveries course lines label asked past
+    answered_by label asked past later parts = record {
+      denied = reads_denial label (Command asked) tt past later parts;
+      told = reads_text label (Command asked) tt past later parts;
+    }
+
+    -- one who asks to hear a mount
+    module _ (label : ℕ) (asked : ListenRequest) (past later : List Happening) (parts : course ≡ past ++ on label (Listen asked) ∷ later) where
+      abbrev at : World
+      at = run_after settings lists (events_in past)
+
+      abbrev answer : Reply
+      answer = reply_to at (Listen asked)
+
+      abbrev his : ByGet (brought done label) (log label) (given lines label)
+      his = g label (Listen asked) tt past later parts
+
+      his_number : asked.id ≡ his.id
+      his_number = let both : Some asked.id ≡ Some his.id = his_ask label (Listen asked) tt past later parts in cc
+
+      is_new : IsNew (standing_of at asked.id)
+      is_new = subst (λ (n : ℕ). IsNew (standing_of at n)) (sym his_number) (waits label (Listen asked) tt past later parts).0
+
+      abbrev later_log : List Entry
+      later_log = log_on (world_after at (Listen asked)) later label
+
+      pub given_by : IsGiven settings lists deliveries course at asked (given lines label) answer
+      given_by = by_reply answer refl (listen_reply at asked) where
+        by_reply : (r : Reply) → answer ≡ r → ListenReply r → IsGiven settings lists deliveries course at asked (given lines label) r
         by_reply (Arrived him) e x = elim x [ ]
         by_reply Feeding e x = elim x [ ]
         by_reply (Drawn sound title) e x = elim x [ ]
         by_reply Noted e x = elim x [ ]
-        by_reply Stray e IsOutOfPlace =
-            absurd (listens_in_place (events_in past) asked (standing_of w g.id) waits.0 (ap (standing_of w) his_number) e)
-        by_reply (Finished rule) e (IsFinishedReply _) = IsTooLate rule (told_as (Finished rule) e)
+        by_reply Stray e IsOutOfPlace = absurd (listens_in_place (events_in past) asked (standing_of at asked.id) is_new refl e)
+        by_reply (Finished rule) e (IsFinishedReply _) = IsTooLate rule (told_as label (Listen asked) tt past later parts (Finished rule) e)
         by_reply (Deny rule) e (WasDenied _) =
-            IsDenied rule (denied (events_in past) (Listen asked) rule e).0 (told_as (Deny rule) e ∙ append-nil (denial rule))
-        by_reply (Text text) e (WasShown _) = IsShown text (told_as (Text text) e ∙ append-nil (text_answer text))
+            let d = reads_denial label (Listen asked) tt past later parts rule e in IsDenied rule d.0 d.1
+        by_reply (Text text) e (WasShown _) = IsShown text (reads_text label (Listen asked) tt past later parts text e)
         by_reply (Seated interval head) e (WasSeated _ _) = Hears interval head (record {
           is_seated = begins (events_in past) (Listen asked) interval head e;
           shows_his_source = shown_by_source past interval head asked (on label (Listen asked) ∷ later) parts (begins (events_in past) (Listen asked) interval head e);
           sits_with_sources = sit asked.id;
-          head_and_draws = told_as (Seated interval head) e ∙ follow asking interval head (replies behind) refl nobody
-              ∙ ap (λ (ds : List Call). head_text interval head ++ joined_draws interval ds) (all_draws interval head e);
+          head_and_draws = told_as label (Listen asked) tt past later parts (Seated interval head) e
+              ∙ follow asking interval head (replies later_log) refl (nobody label (Listen asked) tt past later parts)
+              ∙ ap (λ (ds : List Call). head_text interval head ++ joined_draws interval ds)
+              (all_draws label (Listen asked) tt past later parts interval head e ∙ ap (draws_to w0 (events_in course)) (sym his_number));
           are_slices = stretches (events_in course) asked.id;
         })

@@ -1,5 +1,5 @@
 -- What each listener of a script is given, from the bytes of the script to those of its transcript.
-use Rattle.std.specs.Prelude.{◌≡◌, ℕ, List, [], ◌∷◌, ◌++◌, Option}
+use Rattle.std.specs.Prelude.{◌≡◌, ℕ, List, [], ◌∷◌, ◌++◌, Option, None, Ok}
 use Rattle.std.specs.List.{AllByRecursion}
 use Rattle.radio_settings.specs.declared.field.Shown.{Shown}
 use Rattle.radio_settings.specs.declared.settings.Settings.{Settings}
@@ -7,7 +7,8 @@ use Rattle.radio_access.specs.Lists.{Lists}
 use Rattle.radio_policy.specs.declared.rule.Rule.{Rule}
 use Rattle.radio_policy.specs.Verdicts.{Denies}
 use Rattle.radio_events.specs.declared.event.Event.{Event}
-use Rattle.radio_events.specs.declared.event.Event.TheVariants.{Listen}
+use Rattle.radio_events.specs.declared.event.Event.TheVariants.{Listen, Command}
+use Rattle.radio_events.specs.declared.command.CommandRequest.{CommandRequest}
 use Rattle.radio_events.specs.declared.event.ListenRequest.{ListenRequest}
 use Rattle.radio_events.specs.declared.reply.Reply.{Reply}
 use Rattle.radio_events.specs.declared.reply.Reply.TheVariants.{Seated, Text, Deny, Finished}
@@ -34,7 +35,8 @@ use Rattle.radio_session.specs.Saying.{denial, head_text, text_answer}
 use Rattle.radio_session.specs.Told.{draws_of}
 use Rattle.radio_script.specs.declared.delivery.Delivery.{Delivery}
 use Rattle.radio_script.specs.Given.{TranscriptLine, AreLines, given, written}
-use Rattle.radio_floor.specs.Transcript.{IsTranscriptOf}
+use Rattle.radio_script.specs.Script.{deliveries_from, lines_of}
+use Rattle.radio_floor.specs.Transcript.{IsTranscriptOf, PlaysScript}
 use Rattle.radio_headline.specs.Course.{Happening, ComesTo, events_in, on}
 use Rattle.radio_headline.specs.Sources.{HasItsSource, IsRequest, RelaysDeliverTheirSound, SourcesDeliverTheirBodies, brought}
 
@@ -85,6 +87,17 @@ module _ (settings : Settings) (lists : Lists) (deliveries : List Delivery) (cou
     pub is_request : IsRequest (brought deliveries label) asked.id (Listen asked) []
     pub is_given : IsGiven (server_after past) asked (given lines label) (reply_to (server_after past) (Listen asked))
 
+  -- one who gives a command so: he reads what is said of it, or that the policy denies it, by the first rule that held then
+  pub record CommandIsAnswered (lines : List TranscriptLine) (label : ℕ) (asked : CommandRequest) (past : List Happening) : Type 0 where
+    pub denied : (rule : Rule) → reply_to (server_after past) (Command asked) ≡ Deny rule
+        → Denies (rows_for (server_after past) (Command asked)) rule × (given lines label ≡ denial rule)
+    pub told : (text : ShownText) → reply_to (server_after past) (Command asked) ≡ Text text → given lines label ≡ text_answer text
+
+  -- each who does
+  abbrev pub CommandsAreAnswered : List TranscriptLine → Type 0
+  CommandsAreAnswered lines = (label : ℕ) (asked : CommandRequest) (past later : List Happening) → course ≡ past ++ on label (Command asked) ∷ later
+      → CommandIsAnswered lines label asked past
+
   -- each who asks to hear a mount
   abbrev pub ListenersAreGiven : List TranscriptLine → Type 0
   ListenersAreGiven lines = (label : ℕ) (asked : ListenRequest) (past later : List Happening) → course ≡ past ++ on label (Listen asked) ∷ later
@@ -122,9 +135,15 @@ pub record HearsSlices (settings : Settings) (lists : Lists) (deliveries : List 
   pub lines : List TranscriptLine
   pub is_written : IsWrittenBy text lines
   pub listeners : ListenersAreGiven settings lists deliveries course lines
+  pub commands : CommandsAreAnswered settings lists deliveries course lines
   pub sources : SourcesDeliverTheirBodies settings lists deliveries course
   pub relays : RelaysDeliverTheirSound settings lists deliveries course
 
 abbrev pub ListenersHearSlices : Type 0
 ListenersHearSlices = (settings : Settings) (lists : Lists) (deliveries : List Delivery) (text : List ℕ) (stop : Option ℕ)
     → IsTranscriptOf settings lists deliveries text stop → HearsSlices settings lists deliveries text stop
+
+-- So it is with each script that is played to its end: what was written hears slices of what its lines have delivered.
+abbrev pub PlayedScriptsHearSlices : Type 0
+PlayedScriptsHearSlices = (settings : Settings) (lists : Lists) (script left text : List ℕ) (done : Unit {0}) (turns : ℕ)
+    → PlaysScript settings lists script left (Ok done) text turns → HearsSlices settings lists (deliveries_from 1 (lines_of script)) text None

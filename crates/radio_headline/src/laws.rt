@@ -4,7 +4,7 @@ ghost use Rattle.std.specs.Prelude.{ℕ, List};
 ghost use Rattle.radio_settings.specs.declared.settings.Settings.{Settings};
 ghost use Rattle.radio_access.specs.Lists.{Lists};
 ghost use Rattle.radio_events.specs.declared.event.Event.{Event};
-ghost use Rattle.radio_headline.specs.Listeners.{DrawsAreStretches, ListenersHearSlices};
+ghost use Rattle.radio_headline.specs.Listeners.{DrawsAreStretches, ListenersHearSlices, PlayedScriptsHearSlices};
 
 use radio_blocks::laws::blocks_are_the_data;
 use radio_core::{
@@ -62,4 +62,11 @@ pub fn listeners_hear_slices()
     listeners_are_told_what_they_draw();
     transcripts_are_read_one_way();
     draws_are_stretches();
+}
+
+/// The same of a script that is played: what [`play`](radio_floor::play) writes where it ends well.
+pub fn played_scripts_hear_slices()
+    ensures { PlayedScriptsHearSlices }
+{
+    listeners_hear_slices();
 }

@@ -4,7 +4,7 @@ use Rattle.radio_headline.specs.Course.{events_in}
 use Rattle.radio_headline.proofs.BodyLemmas.{delivers_body, listens_so}
 use Rattle.radio_headline.proofs.CourseLemmas.{comes, nothing_stands}
 use Rattle.radio_headline.proofs.HeadlineLemmas.{shown_by_source, sit_with_sources}
-use Rattle.radio_headline.proofs.ListenerLemmas.{given_by}
+use Rattle.radio_headline.proofs.ListenerLemmas.{answered_by, given_by}
 use Rattle.radio_headline.proofs.SoundLemmas.{delivers_sound}
 use Rattle.radio_headline.proofs.laws.listeners_hear_slices.Goals as goal
 
@@ -64,6 +64,12 @@ returns c settings lists deliveries text stop transcript =
             (shown_by_source settings lists sessions mounts deliveries came.course bodies sounds stands.nowhere)
             (sit_with_sources settings lists sessions mounts deliveries came.course bodies sounds stands.nowhere) label asked past later parts;
       };
+      commands = λ label asked past later parts.
+          answered_by settings lists fits adds steps access served (λ rows. (c.denials_name_the_first_rule.ensures.allows rows).0) denied seated
+          (c.draws_are_stretches.ensures settings lists) c.listeners_are_told_what_they_draw.ensures.joined came.performed transcript.0 came.course came.told
+          stands.world stands.each stands.nowhere deliveries
+          (shown_by_source settings lists sessions mounts deliveries came.course bodies sounds stands.nowhere)
+          (sit_with_sources settings lists sessions mounts deliveries came.course bodies sounds stands.nowhere) label asked past later parts;
       sources = bodies;
       relays = sounds;
     }
