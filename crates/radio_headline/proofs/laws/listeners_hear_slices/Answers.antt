@@ -39,17 +39,7 @@ returns c settings lists deliveries text stop transcript =
     record {
       course = came.course;
       comes = (transcript.0, came.runs);
-      lawful = λ past later happening parts. record {
-        access = access (events_in past) happening.event;
-        title = c.listeners_are_told_titles.ensures.told settings lists (events_in past) happening.event;
-        denied = denied (events_in past) happening.event;
-        served = served (events_in past);
-        moves = c.listeners_walk_on.ensures.turns settings lists (events_in past) happening.event;
-        keeps = mounts (events_in past) happening.event;
-        shown = c.sight_is_kept.ensures.may settings lists (events_in past) happening.event;
-        commanded = c.commands_are_done.ensures.may settings lists (events_in past) happening.event;
-        kept = c.commands_are_done.ensures.kept settings lists (events_in past) happening.event;
-      };
+      lawful = λ past later happening parts. c.events_are_lawful.ensures settings lists (events_in past) happening.event;
       lines = came.told;
       is_written = record {
         is_written = came.is_written;
