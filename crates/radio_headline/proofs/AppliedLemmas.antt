@@ -1,24 +1,23 @@
 -- The events that are applied are those that lead on, and what is told is what is told of the replies to them.
-use Rattle.std.proofs.Common.{◌≡◌, ℕ, Bool, true, false, List, [], ◌∷◌, ◌++◌, Option, None, Some, refl, sym, ap, subst, ◌∙◌, append_assoc}
-use Rattle.std.specs.Prelude.{if◌then◌else◌, map, option_map}
+use Rattle.std.proofs.Common.{◌≡◌, ℕ, Bool, true, false, List, [], ◌∷◌, ◌++◌, Option, None, Some, refl, sym, ap, ◌∙◌, append_assoc}
+use Rattle.std.specs.Prelude.{if◌then◌else◌, option_map}
 use Rattle.std.proofs.lemmas.List.{append-nil}
 use Rattle.radio_events.specs.declared.event.Event.{Event}
 use Rattle.radio_events.specs.declared.event.Event.TheVariants.{Leave}
 use Rattle.radio_events.specs.declared.reply.Reply.{Reply}
 use Rattle.radio_events.specs.declared.reply.Reply.TheVariants.{Arrived, Feeding, Seated, Drawn, Noted, Text, Deny, Finished, Stray}
-use Rattle.radio_events.specs.Events.{client_in}
 use Rattle.radio_core.specs.Run.{world_after_all}
 use Rattle.radio_core.specs.Step.{reply_to, world_after}
 use Rattle.radio_house.specs.World.{World}
 use Rattle.radio_session.specs.declared.session.Says.{Says}
 use Rattle.radio_session.specs.declared.state.State.{State}
 use Rattle.radio_session.specs.declared.state.State.TheVariants.{Running, Shut}
-use Rattle.radio_session.specs.Exchanges.{WorldExchange, is_leave, exchanged, then_exchanged, left_after}
+use Rattle.radio_session.specs.Exchanges.{WorldExchange, is_leave, exchanged, then_exchanged}
 use Rattle.radio_session.specs.declared.session.Closing.{Closing}
 use Rattle.radio_session.specs.Saying.{Said, noted, one_less, said}
 use Rattle.radio_session.specs.Told.{told, while_open}
 use Rattle.radio_headline.specs.Course.{and_then, applied}
-use Rattle.radio_headline.proofs.Logs.{Entry, entry, entries, replies, Each}
+use Rattle.radio_headline.proofs.Logs.{Entry, entries, replies, Each}
 use Rattle.radio_headline.proofs.ReplyForms.{LeaveReply, WasNotThere, HadFinished, IsNoted}
 
 -- they lead on

@@ -1,10 +1,9 @@
 -- Each source of a script delivers a front of the data of its body.
-use Rattle.std.proofs.Common.{◌≡◌, ◌⊎◌, inl, inr, ℕ, Bool, true, false, List, [], ◌∷◌, ◌++◌, drop, Option, None, Some, Ok, refl, sym, ap, subst, ◌∙◌, append_assoc}
-use Rattle.std.specs.Prelude.{map, codes, if◌then◌else◌, option_map}
-use Rattle.std.specs.List.{AllByRecursion, concat, flat_map}
+use Rattle.std.proofs.Common.{◌≡◌, inl, inr, ℕ, Bool, true, false, List, [], ◌∷◌, ◌++◌, drop, Option, None, Some, Ok, refl, sym, ap, subst, ◌∙◌, append_assoc}
+use Rattle.std.specs.Prelude.{codes, if◌then◌else◌, option_map}
+use Rattle.std.specs.List.{AllByRecursion, concat}
 use Rattle.std.specs.Str.{bytes_eq}
 use Rattle.std.proofs.lemmas.List.Concat.{flat_map-append}
-use Rattle.radio_addr.specs.declared.peer.Peer.{Peer}
 use Rattle.radio_blocks.specs.Cutting.{blocks_of}
 use Rattle.radio_settings.specs.declared.settings.Settings.{Settings}
 use Rattle.radio_access.specs.Lists.{Lists}
@@ -13,43 +12,39 @@ use Rattle.radio_events.specs.declared.event.Event.{Event}
 use Rattle.radio_events.specs.declared.event.Event.TheVariants.{Arrive, Source, Push, SourceEnd, Title, Listen, Draw, Command, Leave, RelayUp, RelayDown, Clock}
 use Rattle.radio_events.specs.declared.event.ListenRequest.{ListenRequest}
 use Rattle.radio_events.specs.declared.event.SourceRequest.{SourceRequest}
-use Rattle.radio_events.specs.declared.reply.Reply.{Reply}
-use Rattle.radio_events.specs.declared.reply.Reply.TheVariants.{Arrived}
 use Rattle.radio_events.specs.Events.{client_in}
 use Rattle.radio_core.specs.ClientSteps.{ClientsStep}
-use Rattle.radio_core.specs.Handing.{is_number, delivered}
+use Rattle.radio_core.specs.Handing.{delivered}
 use Rattle.radio_core.specs.Others.{RepliesFit}
-use Rattle.radio_core.specs.Run.{run_after, world_after_all}
+use Rattle.radio_core.specs.Run.{run_after}
 use Rattle.radio_core.specs.Step.{reply_to, world_after}
 use Rattle.radio_core.specs.Totals.{AddsUp}
 use Rattle.radio_house.specs.World.{World, opening}
 use Rattle.radio_heads.specs.declared.outcome.Progress.TheVariants.{Whole}
 use Rattle.radio_heads.specs.Head.{RequestParts, ShowsRequest}
 use Rattle.radio_heads.specs.Laws.{IsSettled, HeadsLieWithin}
-use Rattle.radio_heads.specs.Reading.{IsReading}
 use Rattle.radio_source.specs.Place.{Place, after, data_of, has_ended, fault_at}
 use Rattle.radio_session.specs.Asking.{asks_by_get, asks_to_feed, asks_to_hear, gives_command, is_for_commands, path_in}
 use Rattle.radio_session.specs.Conversation.{Conversation, fresh}
 use Rattle.radio_session.specs.Framing.{is_source, framing_of, start_of}
-use Rattle.radio_session.specs.Hearing.{Heard, body_closes, body_heard, get_heard, greeted, nothing_held, refuses, request_heard, source_heard}
+use Rattle.radio_session.specs.Hearing.{Heard, body_closes, body_heard, get_heard, greeted, refuses, request_heard, source_heard}
 use Rattle.radio_script.specs.declared.delivery.Delivery.{Delivery}
 use Rattle.radio_script.specs.Given.{TranscriptLine, given}
 use Rattle.radio_floor.specs.declared.labelled.Connection.{Connection}
 use Rattle.radio_floor.specs.declared.labelled.Connection.TheVariants.{Client, Relay}
 use Rattle.radio_floor.specs.ScriptState.{ScriptState, connection_of}
 use Rattle.radio_headline.specs.Course.{Happening, events_in, on}
-use Rattle.radio_headline.specs.Sources.{DeliversItsBody, IsRequest, brought, pushed, pushed_by}
-use Rattle.radio_headline.proofs.Logs.{Entry, entry, log_on, log_joined, Each, each_as, each_first, each_joined, each_second, itself}
+use Rattle.radio_headline.specs.Sources.{DeliversItsBody, IsRequest, brought, pushed}
+use Rattle.radio_headline.proofs.Logs.{Entry, entry, log_on, log_joined, Each, each_as, each_joined, each_second, itself}
 use Rattle.radio_headline.proofs.AppliedLemmas.{IsOrderly}
-use Rattle.radio_headline.proofs.ReplyForms.{IsIdle}
-use Rattle.radio_headline.proofs.RunLemmas.{AllNowhere, IsMoment, HasNumber, IsOwn, IsIdling, each_happening, one_owner, last_stays, reached_opening, reached_after, reached_all}
+use Rattle.radio_headline.proofs.RunLemmas.{AllNowhere, IsMoment, HasNumber, IsIdling, last_stays, reached_opening, reached_after, reached_all}
 use Rattle.radio_headline.proofs.Connections.{arrival, AsksForMount, AsksNothing, ByGet, Feeds, IsIdleOrLeaving, IsBehindRequest, IsNoRequest, events_of}
-use Rattle.radio_headline.proofs.Connections.{Facts, HasAskedNothing, HasSentGet, IsSource, IsPulling, IsClosed, IsClient, IsRelay, IsSo, Stage, AtHead, AfterGet, AtBody, AfterBody, Refused}
-use Rattle.radio_headline.proofs.ConnectionSteps.{Delivers, behind_is_his, delivers_by, idle_asks_nothing, idle_is_his, idle_pushes_nothing, more_for_get, more_for_source}
+use Rattle.radio_headline.proofs.Connections.{Facts, HasAskedNothing, HasSentGet, IsSource, IsPulling, IsSo, Stage, AtHead, AfterGet, AtBody, AfterBody, Refused}
+use Rattle.radio_headline.proofs.ConnectionSteps.{behind_is_his, delivers_by, idle_asks_nothing, idle_pushes_nothing, more_for_get, more_for_source}
 use Rattle.radio_headline.proofs.CourseLemmas.{brought_joined}
 use Rattle.radio_headline.proofs.RelayLogs.{OfRelay, OwnRelay}
 use Rattle.radio_pull.specs.Pulling.{answered}
-use Rattle.radio_headline.proofs.ListenerLemmas.{IsOnIt, by_get, get_is_of, no_entry, on_his, orderly_second, parted_at_get, so_owns}
+use Rattle.radio_headline.proofs.ListenerLemmas.{IsOnIt, by_get, get_is_of, no_entry, on_his, orderly_second, parted_at_get}
 use Rattle.radio_headline.proofs.SourceLemmas.{orderly_is_cut, Front, IsHisOrNotesNothing, NotesNothing, brings_front, delivered_gathered, given_before, no_block, noted, noted_of, nothing_noted}
 
 -- by this event a mount is asked for, to feed it
@@ -106,9 +101,11 @@ get_feeds_not id request l = by_kind (is_for_commands (path_in request)) l where
 
 get_not : (bytes : List ℕ) (log : List Entry) (given : List ℕ) → ByGet bytes log given → Each FeedsNot log
 get_not bytes log given g =
-    subst (Each FeedsNot) (sym g.in_order)
-    ((λ l. l), each_joined FeedsNot g.idle _ (each_as (IsIdling g.id) FeedsNot (idle_feeds_not g.id) g.idle g.idles)
-    (get_feeds_not g.id g.request, each_as (IsIdleOrLeaving g.id) FeedsNot (leaving_feeds_not g.id) g.behind g.no_more))
+    subst (Each FeedsNot) (sym g.in_order) (
+      (λ l. l),
+      each_joined FeedsNot g.idle _ (each_as (IsIdling g.id) FeedsNot (idle_feeds_not g.id) g.idle g.idles)
+          (get_feeds_not g.id g.request, each_as (IsIdleOrLeaving g.id) FeedsNot (leaving_feeds_not g.id) g.behind g.no_more),
+    )
 
 -- a relay asks for no mount
 relay_feeds_not : (number : Option ℕ) (log : List Entry) → OwnRelay number log → Each FeedsNot log
@@ -213,7 +210,7 @@ module _ (settled : IsSettled ShowsRequest) (within : HeadsLieWithin ShowsReques
       let c = fresh f.id f.peer in
       let rest = drop f.length bytes in
       let d = delivers_by settled within joined places data_joined (greeted c f.request) (asks_to_feed f.id f.request ∷ []) f.start rest
-          (body_closes (has_ended (after f.start rest)) (fault_at (after f.start rest))) in
+      (body_closes (has_ended (after f.start rest)) (fault_at (after f.start rest))) in
       record {
         behind = d.asked;
         is_request = record {
@@ -321,9 +318,11 @@ module _ (settled : IsSettled ShowsRequest) (within : HeadsLieWithin ShowsReques
             his_or_not : Each (IsHisOrNotesNothing f.id) (log label)
             his_or_not = subst (Each (IsHisOrNotesNothing f.id)) (sym in_order)
                 (each_joined (IsHisOrNotesNothing f.id) before (entry w (Source asked) ∷ behind)
-                (each_as NotesNothing (IsHisOrNotesNothing f.id) (λ e n. inr n) before notes_before)
-                (inr notes_here, subst (Each (IsHisOrNotesNothing f.id)) (sym p.behind)
-                (each_as (IsNoRequest f.id) (IsHisOrNotesNothing f.id) (λ e h. inl (behind_is_his f.id e.event h)) f.behind f.no_more)))
+                (each_as NotesNothing (IsHisOrNotesNothing f.id) (λ e n. inr n) before notes_before) (
+                  inr notes_here,
+                  subst (Each (IsHisOrNotesNothing f.id)) (sym p.behind)
+                      (each_as (IsNoRequest f.id) (IsHisOrNotesNothing f.id) (λ e h. inl (behind_is_his f.id e.event h)) f.behind f.no_more),
+                ))
 
       whole : Feeds (brought done label ++ brought rest label) (log label)
       whole = more_for_source settled within joined places data_joined (brought done label) (brought rest label) (log label) f
@@ -335,8 +334,8 @@ module _ (settled : IsSettled ShowsRequest) (within : HeadsLieWithin ShowsReques
       delivers_body =
           let h = heard_body (brought done label ++ brought rest label) (log label) whole in
           let q = parted before (arrival whole.peer whole.id ∷ whole.idle) behind whole.behind (entry w (Source asked)) _ (sym in_order ∙ whole.in_order) tt
-              ((λ l. l), each_as (IsIdling whole.id) FeedsNot (idle_feeds_not whole.id) whole.idle whole.idles)
-              (each_as (IsNoRequest whole.id) FeedsNot (λ e k. behind_feeds_not whole.id e.event k) whole.behind whole.no_more) in
+          ((λ l. l), each_as (IsIdling whole.id) FeedsNot (idle_feeds_not whole.id) whole.idle whole.idles)
+          (each_as (IsNoRequest whole.id) FeedsNot (λ e k. behind_feeds_not whole.id e.event k) whole.behind whole.no_more) in
           let event : Source asked ≡ asks_to_feed whole.id whole.request = ap (λ (x : Entry). x.event) q.here in
           let number : asked.id ≡ whole.id = let both : Some asked.id ≡ Some whole.id = ap client_in event in cc in
           record {

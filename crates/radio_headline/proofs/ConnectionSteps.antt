@@ -1,7 +1,7 @@
 -- What comes to a client's connection leaves it so.
-use Rattle.std.proofs.Common.{◌≡◌, ◌≢◌, ◌⊎◌, inl, inr, ℕ, Bool, true, false, List, [], ◌∷◌, ◌++◌, drop, Option, None, Some, Result, Ok, Err, refl, sym, ap, subst, ◌∙◌, append_assoc}
+use Rattle.std.proofs.Common.{◌≡◌, ◌⊎◌, inl, inr, ℕ, Bool, true, false, List, [], ◌∷◌, ◌++◌, drop, Option, None, Some, Result, Ok, Err, refl, sym, ap, subst, ◌∙◌, append_assoc}
 use Rattle.std.specs.Prelude.{map, codes, if◌then◌else◌, option_map}
-use Rattle.std.specs.List.{concat, flat_map}
+use Rattle.std.specs.List.{concat}
 use Rattle.std.specs.Str.{bytes_eq}
 use Rattle.std.proofs.lemmas.List.{append-nil, drop-append-le}
 use Rattle.std.proofs.lemmas.List.Concat.{flat_map-append}
@@ -31,10 +31,10 @@ use Rattle.radio_session.specs.declared.session.Says.{Says}
 use Rattle.radio_session.specs.declared.state.State.{State}
 use Rattle.radio_session.specs.declared.state.State.TheVariants.{Running, Shut}
 use Rattle.radio_session.specs.Asking.{asks_to_feed, asks_by_get, asks_to_hear, gives_command, is_for_commands, path_in}
-use Rattle.radio_session.specs.Conversation.{Conversation, asking, fresh, saying_now}
+use Rattle.radio_session.specs.Conversation.{Conversation, asking, saying_now}
 use Rattle.radio_session.specs.Exchanges.{WorldExchange, exchanged, then_exchanged, is_leave}
 use Rattle.radio_session.specs.Framing.{is_source, framing_of, start_of}
-use Rattle.radio_session.specs.Hearing.{Heard, HearsAs, body_closes, body_heard, delivered, get_heard, greeted, head_heard, nothing_held, refuses, request_heard, source_heard}
+use Rattle.radio_session.specs.Hearing.{Heard, HearsAs, body_closes, body_heard, delivered, get_heard, greeted, head_heard, nothing_held, refuses, source_heard}
 use Rattle.radio_session.specs.Pushes.{pushes}
 use Rattle.radio_session.specs.Saying.{said}
 use Rattle.radio_session.specs.Told.{told}
@@ -43,10 +43,10 @@ use Rattle.radio_floor.specs.ScriptState.{connection_unless}
 use Rattle.radio_headline.specs.Course.{and_then, applied}
 use Rattle.radio_headline.specs.Sources.{pushed, pushed_by}
 use Rattle.radio_headline.proofs.Logs.{Entry, entry, entries, replies, replies_joined, Each, each_as, each_joined}
-use Rattle.radio_headline.proofs.AppliedLemmas.{EachAsked, applied_each, applied_orderly, applied_tell, goes_on, IsLast, IsNotLast, IsOpen, IsOrderly, none_last}
+use Rattle.radio_headline.proofs.AppliedLemmas.{EachAsked, applied_each, applied_orderly, applied_tell, goes_on, IsNotLast, IsOpen, IsOrderly, none_last}
 use Rattle.radio_headline.proofs.AppliedLemmas.{all_close_nothing, leaves_silently, open_joined, orderly_joined, said_all, said_joined, told_joined}
 use Rattle.radio_headline.proofs.ReplyForms.{IsIdle, leave_reply}
-use Rattle.radio_headline.proofs.RunLemmas.{HasNumber, IsOwn, IsIdling}
+use Rattle.radio_headline.proofs.RunLemmas.{IsOwn, IsIdling}
 use Rattle.radio_headline.proofs.Connections.{arrival, events_of, IsIdleOrLeaving, IsBehindRequest, IsNoRequest, AsksForMount, AsksNothing, ByGet, Feeds}
 use Rattle.radio_headline.proofs.Connections.{Facts, HasAskedNothing, HasSentGet, IsSource, IsClosed, IsTold, Stage, AtHead, AfterGet, AtBody, AfterBody, Refused}
 use Rattle.radio_headline.proofs.Connections.{IsClient, IsSo}
@@ -234,9 +234,11 @@ idle_or_leaving_is_his id event (inr e) = ap client_in e
 pub client_owns : (id : ℕ) (peer : Peer) (others log : List Entry) → log ≡ arrival peer id ∷ others → Each (λ e. client_in e.event ≡ Some id) others
     → Each (IsOwn log) log
 client_owns id peer others log e his =
-    subst (λ (xs : List Entry). Each (IsOwn xs) xs) (sym e)
-    ((λ him h. cc), each_as (λ x. client_in x.event ≡ Some id) (IsOwn (arrival peer id ∷ others))
-    (λ x h him k. let same : id ≡ him = let both : Some id ≡ Some him = sym h ∙ k in cc in inl (ap (λ (n : ℕ). Arrived n) same)) others his)
+    subst (λ (xs : List Entry). Each (IsOwn xs) xs) (sym e) (
+      (λ him h. cc),
+      each_as (λ x. client_in x.event ≡ Some id) (IsOwn (arrival peer id ∷ others))
+          (λ x h him k. let same : id ≡ him = let both : Some id ≡ Some him = sym h ∙ k in cc in inl (ap (λ (n : ℕ). Arrived n) same)) others his,
+    )
 
 -- A client's events are exchanged.
 module _ (w : World) (bytes : List ℕ) (log : List Entry) (given : List ℕ) (now : Conversation) (events : List Event) where
@@ -568,26 +570,31 @@ module _ (settled : IsSettled ShowsRequest) (within : HeadsLieWithin ShowsReques
 
             feeds : (f : Feeds later (log ++ entries w (applied w heard.conversation.id heard.conversation.says heard.events))) × (f.rest ≡ pushes_of.rest) × (f.start ≡ start)
                 × (f.length ≡ n)
-            feeds = (record {
-              id = id;
-              peer = conversation.peer;
-              idle = idle;
-              request = request;
-              reply = reply_to w (asks_to_feed id request);
-              behind = first.others;
-              in_order = ap (λ (xs : List Entry). log ++ xs) all_new ∙ ap (λ (xs : List Entry). xs ++ entry w (asks_to_feed id request) ∷ first.others) arrived;
-              idles = idles;
-              no_more = first.each;
-              orderly = orderly_joined id log (entries w (applied w heard.conversation.id heard.conversation.says heard.events)) c.goes_on
-                  (subst (λ (m : ℕ). IsOrderly m (entries w (applied w heard.conversation.id heard.conversation.says heard.events))) d.his (applied_orderly w heard.conversation.id heard.conversation.says heard.events));
-              length = n;
-              reading = reading;
-              source = source;
-              start = start;
-              framed = framed;
-              rest = pushes_of.rest;
-              front = ap (λ (xs : List ℕ). xs ++ pushes_of.rest) others_pushed ∙ pushes_of.front ∙ ap pushed d.events ∙ d.content;
-            }, refl, refl, refl)
+            feeds = (
+              record {
+                id = id;
+                peer = conversation.peer;
+                idle = idle;
+                request = request;
+                reply = reply_to w (asks_to_feed id request);
+                behind = first.others;
+                in_order = ap (λ (xs : List Entry). log ++ xs) all_new ∙ ap (λ (xs : List Entry). xs ++ entry w (asks_to_feed id request) ∷ first.others) arrived;
+                idles = idles;
+                no_more = first.each;
+                orderly = orderly_joined id log (entries w (applied w heard.conversation.id heard.conversation.says heard.events)) c.goes_on
+                    (subst (λ (m : ℕ). IsOrderly m (entries w (applied w heard.conversation.id heard.conversation.says heard.events))) d.his (applied_orderly w heard.conversation.id heard.conversation.says heard.events));
+                length = n;
+                reading = reading;
+                source = source;
+                start = start;
+                framed = framed;
+                rest = pushes_of.rest;
+                front = ap (λ (xs : List ℕ). xs ++ pushes_of.rest) others_pushed ∙ pushes_of.front ∙ ap pushed d.events ∙ d.content;
+              },
+              refl,
+              refl,
+              refl,
+            )
 
             stage : (exchanged w heard.conversation.id heard.conversation.says heard.events).exchange.state ≡ Running
                 → (heard.conversation.hears ≡ Body (unfed (after start (drop n later)))) ⊎ (heard.conversation.hears ≡ Nothing)

@@ -1,15 +1,14 @@
 -- What has come on the connection of one label, what has happened there, and what was given.
-use Rattle.std.proofs.Common.{◌≡◌, ◌⊎◌, inl, inr, ℕ, Bool, true, false, List, [], ◌∷◌, ◌++◌, drop, Option, None, Some, Ok, Err, refl, sym, ap, subst, ◌∙◌}
+use Rattle.std.proofs.Common.{◌≡◌, ◌⊎◌, ℕ, true, false, List, [], ◌∷◌, ◌++◌, drop, Option, None, Some, Ok}
 use Rattle.std.specs.Prelude.{map, codes, option_map}
 use Rattle.std.specs.Str.{bytes_eq}
 use Rattle.radio_addr.specs.declared.peer.Peer.{Peer}
 use Rattle.radio_events.specs.declared.event.Event.{Event}
-use Rattle.radio_events.specs.declared.event.Event.TheVariants.{Arrive, Source, Push, SourceEnd, Title, Listen, Draw, Command, Leave, RelayUp, RelayDown, Clock}
-use Rattle.radio_events.specs.declared.event.SourceRequest.{SourceRequest}
+use Rattle.radio_events.specs.declared.event.Event.TheVariants.{Arrive, Source, Push, SourceEnd, Title, Listen, Draw, Command, Leave, RelayUp, RelayDown}
 use Rattle.radio_events.specs.declared.reply.Reply.{Reply}
 use Rattle.radio_events.specs.declared.reply.Reply.TheVariants.{Arrived}
 use Rattle.radio_events.specs.Events.{client_in}
-use Rattle.radio_heads.specs.declared.outcome.Progress.TheVariants.{More, Whole}
+use Rattle.radio_heads.specs.declared.outcome.Progress.TheVariants.{Whole}
 use Rattle.radio_heads.specs.Head.{RequestParts, ShowsRequest}
 use Rattle.radio_heads.specs.Reading.{IsReading}
 use Rattle.radio_source.specs.Feeding.{unfed}
@@ -22,7 +21,7 @@ use Rattle.radio_relay.specs.declared.pull.Stage.TheVariants.{Head, Behind}
 use Rattle.radio_relay.specs.declared.stream.Stream.{Stream}
 use Rattle.radio_session.specs.declared.session.Hears.TheVariants.{Head as HearsHead, Body, Nothing}
 use Rattle.radio_session.specs.Asking.{asks_to_feed, asks_by_get}
-use Rattle.radio_session.specs.Conversation.{Conversation, asking, fresh}
+use Rattle.radio_session.specs.Conversation.{Conversation, asking}
 use Rattle.radio_session.specs.Framing.{is_source, framing_of, start_of}
 use Rattle.radio_session.specs.Told.{told}
 use Rattle.radio_pull.specs.Pulling.{Pulling}
@@ -33,7 +32,7 @@ use Rattle.radio_headline.proofs.Logs.{Entry, replies, Each}
 use Rattle.radio_headline.proofs.AppliedLemmas.{said_all, IsOpen, IsNotLast, IsOrderly}
 use Rattle.radio_headline.proofs.RelayLogs.{IsCut, IsNotRefused, IsNoUp, OwnRelay, number_after}
 use Rattle.radio_headline.proofs.ReplyForms.{IsIdle}
-use Rattle.radio_headline.proofs.RunLemmas.{HasNumber, IsOwn, IsIdling}
+use Rattle.radio_headline.proofs.RunLemmas.{IsOwn, IsIdling}
 
 -- he has arrived, and has this number
 abbrev pub arrival : Peer → ℕ → Entry

@@ -1,8 +1,8 @@
 -- A script's deliveries come to a course, and each connection stands by what has happened on it.
-use Rattle.std.proofs.Common.{◌≡◌, ◌⊎◌, inl, inr, ℕ, ◌+◌, ◌==◌, Bool, true, false, List, [], ◌∷◌, ◌++◌, Option, None, Some, refl, sym, ap, subst, ◌∙◌, append_assoc}
+use Rattle.std.proofs.Common.{◌≡◌, inl, inr, ℕ, ◌+◌, ◌==◌, Bool, true, false, List, [], ◌∷◌, ◌++◌, Option, None, Some, refl, sym, ap, subst, ◌∙◌, append_assoc}
 use Rattle.std.specs.Prelude.{map, if◌then◌else◌}
 use Rattle.std.specs.Option.{option_map}
-use Rattle.std.specs.List.{concat, flat_map}
+use Rattle.std.specs.List.{concat}
 use Rattle.std.proofs.lemmas.List.{append-nil}
 use Rattle.std.proofs.lemmas.List.Concat.{flat_map-append}
 use Rattle.radio_addr.specs.declared.peer.Peer.{Peer}
@@ -13,48 +13,44 @@ use Rattle.radio_settings.specs.declared.settings.Settings.{Settings}
 use Rattle.radio_settings.specs.declared.settings.RelaySetting.{RelaySetting}
 use Rattle.radio_access.specs.Lists.{Lists}
 use Rattle.radio_events.specs.declared.event.Event.{Event}
-use Rattle.radio_events.specs.declared.event.Event.TheVariants.{Arrive, Source, Push, SourceEnd, Title, Listen, Draw, Command, Leave, RelayUp, RelayDown, Clock}
+use Rattle.radio_events.specs.declared.event.Event.TheVariants.{Arrive, Title, Draw, Leave, Clock}
 use Rattle.radio_events.specs.declared.reply.Reply.{Reply}
 use Rattle.radio_events.specs.declared.reply.Reply.TheVariants.{Arrived, Feeding, Seated, Drawn, Noted as WasNoted, Text, Deny, Finished, Stray}
-use Rattle.radio_events.specs.Events.{client_in}
 use Rattle.radio_core.specs.Run.{run_after, world_after_all}
-use Rattle.radio_core.specs.Step.{Step, reply_to, world_after}
+use Rattle.radio_core.specs.Step.{reply_to, world_after}
 use Rattle.radio_house.specs.World.{World, opening}
 use Rattle.radio_heads.specs.Head.{ShowsRequest}
 use Rattle.radio_heads.specs.Laws.{IsSettled, HeadsLieWithin}
 use Rattle.radio_source.specs.Place.{Place, after, data_of}
-use Rattle.radio_relay.specs.Items.{items_of}
-use Rattle.radio_relay.specs.Pulled.{IsPulledAt, Pulled, GoesOn as AnswerGoesOn, Stops as AnswerStops, Standing as AnswerStanding}
 use Rattle.radio_relay.specs.Request.{request_text}
 use Rattle.radio_session.specs.declared.state.State.{State}
 use Rattle.radio_session.specs.declared.state.State.TheVariants.{Running, Shut}
-use Rattle.radio_session.specs.declared.state.Ending.TheVariants.{Done, BadPull}
-use Rattle.radio_session.specs.Conversation.{Conversation, asking, fresh, saying_now}
+use Rattle.radio_session.specs.declared.state.Ending.TheVariants.{Done}
+use Rattle.radio_session.specs.Conversation.{Conversation, asking, saying_now}
 use Rattle.radio_session.specs.Exchanges.{exchanged}
 use Rattle.radio_session.specs.Hearing.{Heard}
-use Rattle.radio_session.specs.Saying.{Said, said}
-use Rattle.radio_pull.specs.Pulling.{Pulling, Standing, answered, begun, event_of}
-use Rattle.radio_pull.specs.Course.{AsksIf, Brings, ComesOf, GoesDown, Takes}
+use Rattle.radio_session.specs.Saying.{said}
+use Rattle.radio_pull.specs.Pulling.{Pulling, Standing, begun}
+use Rattle.radio_pull.specs.Course.{AsksIf}
 use Rattle.radio_script.specs.declared.delivery.Delivery.{Delivery}
 use Rattle.radio_script.specs.declared.delivery.Delivery.TheVariants.{Open, Pull, To, Clock as ClockIs}
 use Rattle.radio_script.specs.declared.delivery.Input.{Input}
 use Rattle.radio_script.specs.declared.delivery.Input.TheVariants.{Data, Room, Title as Named, End}
 use Rattle.radio_script.specs.Given.{TranscriptLine, given, written}
-use Rattle.radio_script.specs.Runs.{Runs, Stops, GoesOn}
+use Rattle.radio_script.specs.Runs.{Runs}
 use Rattle.radio_floor.specs.declared.labelled.Connection.{Connection}
 use Rattle.radio_floor.specs.declared.labelled.Connection.TheVariants.{Client, Relay}
 use Rattle.radio_floor.specs.declared.labelled.Labelled.{Labelled}
-use Rattle.radio_floor.specs.ScriptState.{ScriptState, Performed, AsksOn, ComesTo, ComesToClient, ComesToRelay, IsPerformed, at_fault, closes, connection_of, connection_unless}
-use Rattle.radio_floor.specs.ScriptState.{connects, exchanges, for_new_label, kept_unless, last_word, on_connection, told_lines, opening_script, opens, passed_over, with_connection, pulled_on, relay_named, taken_in}
-use Rattle.radio_floor.specs.Transcript.{conduct, IsTranscriptOf}
-use Rattle.radio_headline.specs.Course.{Course, ComesToNoted, Happening, Happens, HappensOn, HappensThere, IsAsked, Noted, and_then, applied, arrivals, courses, events_in, noting, nothing_noted, on}
-use Rattle.radio_headline.specs.Course.{ComesTo as ComesToCourse}
+use Rattle.radio_floor.specs.ScriptState.{ScriptState, Performed, AsksOn, ComesTo, ComesToClient, ComesToRelay, IsPerformed, closes, connection_of, connection_unless}
+use Rattle.radio_floor.specs.ScriptState.{connects, exchanges, for_new_label, kept_unless, last_word, on_connection, told_lines, opening_script, opens, with_connection, pulled_on, relay_named, taken_in}
+use Rattle.radio_floor.specs.Transcript.{conduct}
+use Rattle.radio_headline.specs.Course.{ComesToNoted, Happening, Happens, HappensThere, IsAsked, Noted, and_then, applied, arrivals, courses, events_in, noting, nothing_noted, on}
 use Rattle.radio_headline.specs.Sources.{brought, brought_by, bytes_in, pushed}
-use Rattle.radio_headline.proofs.Logs.{Entry, entry, entries, log_on, log_joined, log_here, log_elsewhere, Each, each_as, each_joined, after_joined, events_joined, events_on, itself, other_number}
+use Rattle.radio_headline.proofs.Logs.{Entry, entry, entries, log_on, log_joined, log_here, log_elsewhere, after_joined, events_joined, events_on, itself, other_number}
 use Rattle.radio_headline.proofs.AppliedLemmas.{applied_lead}
-use Rattle.radio_headline.proofs.RelayLogs.{IsNoUp, OfRelay, OwnRelay, Lifts, Downs, at, asks_lifts, brings_lifts, down, number_after, number_joined, number_stays, own_joined, sound_of_items}
-use Rattle.radio_headline.proofs.RunLemmas.{AllNowhere, IsMoment, HasNumber, IsOwn, number_before, number_behind}
-use Rattle.radio_headline.proofs.Connections.{AsksNothing, HasAskedNothing, Facts, IsClosed, IsClient, IsRelay, IsSo, IsTold, AsksForMount, AtAnswer, AtHead, arrival}
+use Rattle.radio_headline.proofs.RelayLogs.{IsNoUp, OfRelay, at, asks_lifts, down}
+use Rattle.radio_headline.proofs.RunLemmas.{AllNowhere, IsMoment}
+use Rattle.radio_headline.proofs.Connections.{HasAskedNothing, IsClosed, IsClient, IsRelay, IsSo, AtAnswer, AtHead}
 use Rattle.radio_headline.proofs.ConnectionSteps.{data_come, idle_comes, end_comes}
 use Rattle.radio_headline.proofs.PullSteps.{idles_so, more_facts, takes_so}
 use Rattle.radio_heads.specs.Response.{ShowsResponse}
@@ -127,9 +123,9 @@ module _ (settings : Settings) (lists : Lists) (settled : IsSettled ShowsRequest
           ∙ ap (run_after settings lists) (sym (events_joined past (map (on label) events)));
       each = λ other. by_number label other
           (λ same. subst (λ (l : ℕ). IsSo (connection_of later.connections l) (brought (done ++ delivery ∷ []) l) (log_on w0 (past ++ map (on label) events) l)
-              (given (lines ++ told) l)) same here)
+          (given (lines ++ told) l)) same here)
           (λ apart. elsewhere other (λ same. let it : (label == other) ≡ true = ap (λ (n : ℕ). label == n) (sym same) ∙ itself label in
-              let both : true ≡ false = sym it ∙ apart in cc));
+          let both : true ≡ false = sym it ∙ apart in cc));
       nowhere = nowhere_joined past (map (on label) events) s.nowhere (nowhere_on label events);
     } where
       here : IsSo (connection_of later.connections label) (brought (done ++ delivery ∷ []) label) (log_on w0 (past ++ map (on label) events) label)
@@ -181,7 +177,7 @@ module _ (settings : Settings) (lists : Lists) (settled : IsSettled ShowsRequest
           stands = then_stands (opens state label peer).state (Open label peer) (Arrive peer ∷ []) (answer label of.bytes (last_word of.state)) label (record {
             world = refl;
             here = IsSo_as _ _ _ _ _ _ _ _ (sym (opened_here state.connections label connection known)) (sym (append-nil (brought done label)))
-                (ap (λ (xs : List Entry). xs ++ entry state.world (Arrive peer) ∷ []) (sym unopened.1)) 
+                (ap (λ (xs : List Entry). xs ++ entry state.world (Arrive peer) ∷ []) (sym unopened.1))
                 (ap (λ (xs : List ℕ). xs ++ of.bytes) (sym unopened.2)
                 ∙ ap (λ (xs : List ℕ). given lines label ++ xs) (sym (answer_here label of.bytes (last_word of.state))))
                 (arrives_so (brought done label) unopened.0 reply);
@@ -408,7 +404,7 @@ module _ (settings : Settings) (lists : Lists) (settled : IsSettled ShowsRequest
           → Next (To label input) text p.state
       relay_next (Data bytes) p h text told =
           let t = takes_so settled_answers within_answers joined none_blocks in_pieces afters state.world (brought done label) (log_on w0 past label) pulling
-              (relay label (Data bytes) pulling known) bytes (given lines label ++ []) h.0 h.1 h.2 h.3 in
+          (relay label (Data bytes) pulling known) bytes (given lines label ++ []) h.0 h.1 h.2 h.3 in
           next_as (To label (Data bytes)) text p _ (sym h.4) told (pulls_next label (Data bytes) pulling known h.0 h.1 h.2 t.events t.done t.leads t.so)
       relay_next (Room room) p h text told =
           asks_next (Room room) (λ id. Draw id room) (λ id. refl) (λ id. refl) (λ id. tt) refl (λ after done a. (after, a)) p h text told

@@ -17,3 +17,4 @@ mod SoundLemmas
 mod SittingLemmas
 mod HeadlineLemmas
 mod PlayedLemmas
+mod HistoryLemmas

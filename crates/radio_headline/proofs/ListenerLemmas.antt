@@ -1,6 +1,6 @@
 -- What is given to one who asks to hear a mount.
-use Rattle.std.proofs.Common.{◌≡◌, ◌⊎◌, inl, inr, ℕ, ◌==◌, Bool, true, false, List, [], ◌∷◌, ◌++◌, Option, None, Some, refl, sym, ap, subst, ◌∙◌, arith, append_assoc}
-use Rattle.std.specs.Prelude.{map, if◌then◌else◌}
+use Rattle.std.proofs.Common.{◌≡◌, ◌⊎◌, inl, inr, ℕ, ◌==◌, Bool, true, false, List, [], ◌∷◌, ◌++◌, Option, None, Some, refl, sym, ap, subst, ◌∙◌, arith}
+use Rattle.std.specs.Prelude.{if◌then◌else◌}
 use Rattle.std.specs.List.{AllByRecursion, flat_map}
 use Rattle.std.proofs.lemmas.Bool.Decides.{nat_tests}
 use Rattle.std.proofs.lemmas.List.{append-nil}
@@ -30,7 +30,7 @@ use Rattle.radio_icy.specs.Weaving.{Call}
 use Rattle.radio_house.specs.declared.standing.Standing.{Standing}
 use Rattle.radio_house.specs.declared.standing.Standing.TheVariants.{Unknown, Undecided, Feeds, Sits, Answered as IsAnswered, Finished as HasFinished}
 use Rattle.radio_core.specs.ClientSteps.{ClientsStep}
-use Rattle.radio_core.specs.Handing.{is_number, of_client}
+use Rattle.radio_core.specs.Handing.{is_number}
 use Rattle.radio_core.specs.Others.{RepliesFit}
 use Rattle.radio_core.specs.declared.outcome.Change.TheVariants.{Answer}
 use Rattle.radio_core.specs.declared.outcome.Outcome.{Outcome}
@@ -38,7 +38,7 @@ use Rattle.radio_core.specs.Listen.{sits_where}
 use Rattle.radio_core.specs.Outcomes.{if_undecided, on_verdict}
 use Rattle.radio_core.specs.Pages.{asks_by, shows_page}
 use Rattle.radio_house.specs.Facts.{rows_to_listen, walks_to}
-use Rattle.radio_core.specs.Run.{run_after, world_after_all}
+use Rattle.radio_core.specs.Run.{run_after}
 use Rattle.radio_core.specs.Step.{outcome, reply_to, world_after}
 use Rattle.radio_core.specs.Totals.{AddsUp}
 use Rattle.radio_house.specs.World.{World, opening, standing_of}
@@ -48,10 +48,9 @@ use Rattle.radio_laws.specs.Stretches.{sittings}
 use Rattle.radio_laws.specs.Denials.{DenialsAreThePolicys}
 use Rattle.radio_laws.specs.Service.{Serves}
 use Rattle.radio_heads.specs.Head.{RequestParts}
-use Rattle.radio_session.specs.Asking.{asks_by_get, asks_to_feed, asks_to_hear, gives_command, is_for_commands, path_in}
+use Rattle.radio_session.specs.Asking.{asks_by_get, asks_to_hear, gives_command, is_for_commands, path_in}
 use Rattle.radio_session.specs.Conversation.{asking}
 use Rattle.radio_session.specs.declared.session.Says.{Says}
-use Rattle.radio_session.specs.declared.state.State.TheVariants.{Running}
 use Rattle.radio_session.specs.Draws.{draw, joined_draws}
 use Rattle.radio_session.specs.Saying.{denial, head_text, said, text_answer}
 use Rattle.radio_session.specs.Told.{AdmitNobody, DrawsFollowTheHead, draws_of, told}
@@ -63,12 +62,12 @@ use Rattle.radio_script.specs.Given.{TranscriptLine, given}
 use Rattle.radio_headline.specs.Course.{Happening, events_in, on}
 use Rattle.radio_headline.specs.Listeners.{CommandIsAnswered, DrawsAreStretches, SitsWithASource, Hears, IsDenied, IsGiven, IsShown, IsTooLate, draws_to}
 use Rattle.radio_headline.specs.Sources.{HasItsSource, brought}
-use Rattle.radio_headline.proofs.Logs.{Entry, entry, after_joined, entry_on, log_on, log_joined, replies, replies_joined, Each, each_as, each_first, each_joined, each_second, itself}
+use Rattle.radio_headline.proofs.Logs.{Entry, entry, after_joined, log_on, log_joined, replies, replies_joined, Each, each_as, each_joined, each_second, itself}
 use Rattle.radio_headline.proofs.AppliedLemmas.{IsLast, IsLeaving, IsOpen, IsOrderly, said_all, told_joined}
-use Rattle.radio_headline.proofs.ReplyForms.{IsIdle, ListenReply, IsOutOfPlace, HasFinished as IsFinishedReply, WasDenied, WasShown, WasSeated, listen_reply}
-use Rattle.radio_headline.proofs.RunLemmas.{HasNumber, IsOwn, IsIdling, IsNew, AsksNothing as IsUndecided, IsOut, AllNowhere, IsMoment, moments_are_nobodys, are_on_first, arrives_and_idles, each_happening, one_owner, reached_opening}
+use Rattle.radio_headline.proofs.ReplyForms.{ListenReply, IsOutOfPlace, HasFinished as IsFinishedReply, WasDenied, WasShown, WasSeated, listen_reply}
+use Rattle.radio_headline.proofs.RunLemmas.{HasNumber, IsOwn, IsIdling, IsNew, AllNowhere, IsMoment, moments_are_nobodys, are_on_first, arrives_and_idles, each_happening, one_owner, reached_opening}
 use Rattle.radio_headline.proofs.Connections.{arrival, AsksForMount, AsksNothing, ByGet, Feeds as IsFeeding, IsIdleOrLeaving, IsBehindRequest, IsNoRequest}
-use Rattle.radio_headline.proofs.Connections.{Facts, HasAskedNothing, HasSentGet, IsSource, IsPulling, IsClosed, IsClient, IsRelay, IsSo, Stage, AtHead, AfterGet, AtBody, AfterBody, Refused}
+use Rattle.radio_headline.proofs.Connections.{Facts, HasAskedNothing, HasSentGet, IsSource, IsPulling, IsSo, Stage, AtHead, AfterGet, AtBody, AfterBody, Refused}
 use Rattle.radio_headline.proofs.ConnectionSteps.{client_owns, idle_asks_nothing, idle_is_his}
 use Rattle.radio_headline.proofs.OwnLogs.{relay_owns}
 use Rattle.radio_headline.proofs.RelayLogs.{OfRelay, OwnRelay}
@@ -146,9 +145,11 @@ idle_not id e h l = idle_asks_nothing id e.event h (listening_asks e.event l)
 
 source_not : (bytes : List ℕ) (log : List Entry) → IsFeeding bytes log → Each GetsNot log
 source_not bytes log f =
-    subst (Each GetsNot) (sym f.in_order)
-    ((λ l. l), each_joined GetsNot f.idle _ (each_as (IsIdling f.id) GetsNot (idle_not f.id) f.idle f.idles)
-    ((λ l. l), each_as (IsNoRequest f.id) GetsNot (λ e h. not_behind f.id e.event h) f.behind f.no_more))
+    subst (Each GetsNot) (sym f.in_order) (
+      (λ l. l),
+      each_joined GetsNot f.idle _ (each_as (IsIdling f.id) GetsNot (idle_not f.id) f.idle f.idles)
+          ((λ l. l), each_as (IsNoRequest f.id) GetsNot (λ e h. not_behind f.id e.event h) f.behind f.no_more),
+    )
 
 -- a relay asks for no mount
 relay_listens_not : (number : Option ℕ) (log : List Entry) → OwnRelay number log → Each GetsNot log
@@ -348,22 +349,22 @@ draws_gathered : (w : World) (past : List Happening) (label id : ℕ) → AllByR
 draws_gathered w [] label id on his = refl
 draws_gathered w (h ∷ past) label id on his =
     by_tests (draws_gathered (world_after w h.event) past label id on.1) (is_number label h.label) refl (is_number id (client_in h.event)) refl his where
-  by_tests : (Each (IsHisOrDrawsNothing id) (log_on (world_after w h.event) past label)
-      → draws_to (world_after w h.event) (events_in past) id ≡ calls (log_on (world_after w h.event) past label))
-      → (b : Bool) → is_number label h.label ≡ b → (c : Bool) → is_number id (client_in h.event) ≡ c
-      → Each (IsHisOrDrawsNothing id) ((if b then entry w h.event ∷ [] else []) ++ log_on (world_after w h.event) past label)
-      → (if c then (draws_of (reply_to w h.event ∷ [])) else []) ++ draws_to (world_after w h.event) (events_in past) id ≡ calls ((if b then entry w h.event ∷ [] else []) ++ log_on (world_after w h.event) past label)
-  by_tests ih true e true f k = ap (λ (xs : List Call). (draws_of (reply_to w h.event ∷ [])) ++ xs) (ih k.1)
-  by_tests ih true e false f k =
-      ih k.1 ∙ ap (λ (xs : List Call). xs ++ calls (log_on (world_after w h.event) past label)) (sym (none k.0)) where
-        none : IsHisOrDrawsNothing id (entry w h.event) → (draws_of (reply_to w h.event ∷ [])) ≡ []
-        none (inl mine) =
-            let yes : is_number id (client_in h.event) ≡ true = ap (is_number id) mine ∙ itself id in
-            let no : true ≡ false = sym yes ∙ f in
-            cc
-        none (inr d) = d
-  by_tests ih false e true f k = let no : true ≡ false = sym (on.0 (counts_as id h.event f)) ∙ e in cc
-  by_tests ih false e false f k = ih k
+      by_tests : (Each (IsHisOrDrawsNothing id) (log_on (world_after w h.event) past label)
+          → draws_to (world_after w h.event) (events_in past) id ≡ calls (log_on (world_after w h.event) past label))
+          → (b : Bool) → is_number label h.label ≡ b → (c : Bool) → is_number id (client_in h.event) ≡ c
+          → Each (IsHisOrDrawsNothing id) ((if b then entry w h.event ∷ [] else []) ++ log_on (world_after w h.event) past label)
+          → (if c then (draws_of (reply_to w h.event ∷ [])) else []) ++ draws_to (world_after w h.event) (events_in past) id ≡ calls ((if b then entry w h.event ∷ [] else []) ++ log_on (world_after w h.event) past label)
+      by_tests ih true e true f k = ap (λ (xs : List Call). (draws_of (reply_to w h.event ∷ [])) ++ xs) (ih k.1)
+      by_tests ih true e false f k =
+          ih k.1 ∙ ap (λ (xs : List Call). xs ++ calls (log_on (world_after w h.event) past label)) (sym (none k.0)) where
+            none : IsHisOrDrawsNothing id (entry w h.event) → (draws_of (reply_to w h.event ∷ [])) ≡ []
+            none (inl mine) =
+                let yes : is_number id (client_in h.event) ≡ true = ap (is_number id) mine ∙ itself id in
+                let no : true ≡ false = sym yes ∙ f in
+                cc
+            none (inr d) = d
+      by_tests ih false e true f k = let no : true ≡ false = sym (on.0 (counts_as id h.event f)) ∙ e in cc
+      by_tests ih false e false f k = ih k
 
 -- the events of clients come each on one connection
 module _ (settings : Settings) (lists : Lists)
@@ -437,7 +438,6 @@ module _ (settings : Settings) (lists : Lists)
     (access : (events : List Event) (event : Event) → AccessIsKept (run_after settings lists events) event)
     (serves : (events : List Event) → Serves (run_after settings lists events))
     (policy : (rows : List Row) → verdict_in rows ≡ Allow → Allows rows) where
-
   fits_event : (events : List Event) (event : Event) → FitsEvent event (reply_to (run_after settings lists events) event)
   fits_event events event =
       let f = fits events event in
@@ -463,10 +463,10 @@ module _ (settings : Settings) (lists : Lists)
   log_fits events (h ∷ past) label =
       by_label (subst (λ (x : World). Each EntryFits (log_on x past label)) (after_joined (opening settings lists) events (h.event ∷ []))
       (log_fits (events ++ h.event ∷ []) past label)) (is_number label h.label) where
-    by_label : Each EntryFits (log_on (world_after (run_after settings lists events) h.event) past label) → (b : Bool)
-        → Each EntryFits ((if b then entry (run_after settings lists events) h.event ∷ [] else []) ++ log_on (world_after (run_after settings lists events) h.event) past label)
-    by_label later true = (fits_event events h.event, later)
-    by_label later false = later
+        by_label : Each EntryFits (log_on (world_after (run_after settings lists events) h.event) past label) → (b : Bool)
+            → Each EntryFits ((if b then entry (run_after settings lists events) h.event ∷ [] else []) ++ log_on (world_after (run_after settings lists events) h.event) past label)
+        by_label later true = (fits_event events h.event, later)
+        by_label later false = later
 
   listens_in_place : (events : List Event) (asked : ListenRequest) (s : Standing) → IsNew s → standing_of (run_after settings lists events) asked.id ≡ s
       → reply_to (run_after settings lists events) (Listen asked) ≡ Stray → ⊥

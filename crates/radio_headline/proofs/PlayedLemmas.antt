@@ -1,5 +1,5 @@
 -- A script that is played to its end comes to the transcript of its deliveries.
-use Rattle.std.proofs.Common.{◌≡◌, ℕ, List, Option, None, Some, sym}
+use Rattle.std.proofs.Common.{◌≡◌, ℕ, List, Option, None, Some}
 use Rattle.radio_settings.specs.declared.settings.Settings.{Settings}
 use Rattle.radio_access.specs.Lists.{Lists}
 use Rattle.radio_script.specs.declared.delivery.Delivery.{Delivery}

@@ -1,7 +1,7 @@
 -- What comes to a relay's connection leaves it so.
 use Rattle.std.proofs.Common.{◌≡◌, ◌⊎◌, inl, inr, ℕ, List, [], ◌∷◌, ◌++◌, drop, Option, None, Some, Result, Ok, Err, refl, sym, ap, subst, ◌∙◌, append_assoc}
-use Rattle.std.specs.Prelude.{map, option_map}
-use Rattle.std.specs.List.{concat, flat_map}
+use Rattle.std.specs.Prelude.{map}
+use Rattle.std.specs.List.{concat}
 use Rattle.std.proofs.lemmas.List.{append-nil, drop-append-le}
 use Rattle.std.proofs.lemmas.List.Concat.{flat_map-append}
 use Rattle.radio_blocks.specs.Cutting.{blocks_of}
@@ -23,8 +23,8 @@ use Rattle.radio_heads.specs.Response.{ResponseParts, ShowsResponse}
 use Rattle.radio_relay.specs.Answer.{interval_in, shown_by}
 use Rattle.radio_relay.specs.Items.{Gathered, all_items, items_of, nothing_gathered, with_part, with_parts}
 use Rattle.radio_relay.specs.Laws.{sound_in}
-use Rattle.radio_relay.specs.Pulled.{IsPulledAt, Part, Pulled, ShownPart, SoundPart, TitlePart, GoesOn, Stops, Standing as AnswerStanding}
-use Rattle.radio_relay.specs.Pulled.{after_bytes, answer_pulled, goes_on, parts_heard, parts_of_atom, pulled_as, pulled_by_interval, stops, stream_parts, stream_pulled, stream_with, title_parts}
+use Rattle.radio_relay.specs.Pulled.{IsPulledAt, Part, Pulled, ShownPart, SoundPart, TitlePart, GoesOn, Stops}
+use Rattle.radio_relay.specs.Pulled.{after_bytes, goes_on, parts_heard, pulled_as, pulled_by_interval, stops, stream_parts, stream_pulled, stream_with, title_parts}
 use Rattle.radio_relay.specs.declared.fault.PullFault.{PullFault}
 use Rattle.radio_relay.specs.declared.fault.PullFault.TheVariants.{BadHead}
 use Rattle.radio_relay.specs.declared.items.PullItem.{PullItem}
@@ -36,21 +36,20 @@ use Rattle.radio_relay.specs.declared.stream.Stream.TheVariants.{Plain, Woven}
 use Rattle.radio_relay.proofs.CutLemmas.{AfterPieces, HeardInPieces, after-cut, parts-cut}
 use Rattle.radio_session.specs.declared.state.State.{State}
 use Rattle.radio_session.specs.declared.state.State.TheVariants.{Running, Shut}
-use Rattle.radio_session.specs.declared.state.Ending.{Ending}
 use Rattle.radio_session.specs.declared.state.Ending.TheVariants.{BadPull}
-use Rattle.radio_pull.specs.Pulling.{Pulling, Standing, answered}
+use Rattle.radio_pull.specs.Pulling.{Pulling}
 use Rattle.radio_pull.specs.Course.{Brings, ComesOf, Takes}
 use Rattle.radio_script.specs.declared.delivery.Input.TheVariants.{Data}
 use Rattle.radio_floor.specs.declared.labelled.Connection.TheVariants.{Relay}
 use Rattle.radio_floor.specs.ScriptState.{connection_unless}
 use Rattle.radio_source.specs.Place.{Place, after, data_of}
-use Rattle.radio_headline.specs.Course.{ComesToNoted, Noted, noting, nothing_noted}
+use Rattle.radio_headline.specs.Course.{ComesToNoted, noting, nothing_noted}
 use Rattle.radio_headline.specs.Sources.{pushed}
 use Rattle.radio_headline.proofs.Logs.{Entry, entry, entries, Each, each_joined}
 use Rattle.radio_headline.proofs.AppliedLemmas.{EachAsked}
-use Rattle.radio_headline.proofs.RelayLogs.{AreNoUps, Downs, IsCut, IsNoUp, IsNotRefused, Lifts, OfRelay, OwnRelay, Ups, at, brings_lifts, cut_joined, down}
+use Rattle.radio_headline.proofs.RelayLogs.{AreNoUps, IsCut, IsNoUp, IsNotRefused, Lifts, OwnRelay, Ups, at, brings_lifts, cut_joined, down}
 use Rattle.radio_headline.proofs.RelayLogs.{number_after, number_joined, own_joined, plain_ups, sound_of_item, sound_of_items}
-use Rattle.radio_headline.proofs.Connections.{AtAnswer, Facts, HasAskedNothing, HasSentGet, InAnswer, IsClosed, IsPulling, IsRelay, IsSo, IsSource, Pulls, RelayStage, events_of, stream_after}
+use Rattle.radio_headline.proofs.Connections.{AtAnswer, Facts, HasAskedNothing, HasSentGet, InAnswer, IsPulling, IsRelay, IsSo, IsSource, Pulls, RelayStage, events_of, stream_after}
 use Rattle.radio_headline.proofs.ConnectionSteps.{entries_each, events_of_entries, events_of_joined, more_for_get, more_for_source, pushed_joined}
 use Rattle.radio_headline.proofs.OwnLogs.{relay_owns}
 
@@ -415,24 +414,28 @@ module _ (settled : IsSettled ShowsResponse) (within : HeadsLieWithin ShowsRespo
 
             p : (q : Pulls (bytes ++ more) (newer l.events)) × (q.rest ≡ l.rest)
                 × (stream_after q ≡ after_bytes (stream_with interval) (drop n (bytes ++ more)))
-            p = (record {
-              mount = pulling.mount;
-              head = head;
-              reply = reply_to w (RelayUp pulling.mount (shown_by head));
-              behind = entries (world_after w (RelayUp pulling.mount (shown_by head))) ups.0;
-              in_order = all;
-              own = new_own l.events l.own;
-              no_more = entries_each IsNoUp (world_after w (RelayUp pulling.mount (shown_by head))) ups.0 ups.2;
-              cut = subst (λ (xs : List Entry). IsCut (xs ++ entries w l.events)) (sym lg) l.cut;
-              length = n;
-              reading = reading;
-              interval = interval;
-              told = told;
-              rest = l.rest;
-              front = ap (λ (es : List Event). pushed es ++ l.rest) (events_of_entries (world_after w (RelayUp pulling.mount (shown_by head))) ups.0)
-                  ∙ ap (λ (es : List Event). pushed es ++ l.rest) (sym ups.1) ∙ l.front
-                  ∙ items_sound (ShownPart (shown_by head) ∷ stream_parts (stream_with interval) (drop n (bytes ++ more)));
-            }, refl, refl)
+            p = (
+              record {
+                mount = pulling.mount;
+                head = head;
+                reply = reply_to w (RelayUp pulling.mount (shown_by head));
+                behind = entries (world_after w (RelayUp pulling.mount (shown_by head))) ups.0;
+                in_order = all;
+                own = new_own l.events l.own;
+                no_more = entries_each IsNoUp (world_after w (RelayUp pulling.mount (shown_by head))) ups.0 ups.2;
+                cut = subst (λ (xs : List Entry). IsCut (xs ++ entries w l.events)) (sym lg) l.cut;
+                length = n;
+                reading = reading;
+                interval = interval;
+                told = told;
+                rest = l.rest;
+                front = ap (λ (es : List Event). pushed es ++ l.rest) (events_of_entries (world_after w (RelayUp pulling.mount (shown_by head))) ups.0)
+                    ∙ ap (λ (es : List Event). pushed es ++ l.rest) (sym ups.1) ∙ l.front
+                    ∙ items_sound (ShownPart (shown_by head) ∷ stream_parts (stream_with interval) (drop n (bytes ++ more)));
+              },
+              refl,
+              refl,
+            )
 
       -- more of the stream comes
       stream_comes : (p : Pulls bytes log) → pulled ≡ stream_pulled [] (stream_after p) more → (pulling.number ≡ None) ⊎ (p.rest ≡ []) → Each IsNotRefused log

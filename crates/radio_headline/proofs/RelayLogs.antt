@@ -1,15 +1,13 @@
 -- The events that a relay asks for, as they are applied and noted.
 use Rattle.std.proofs.Common.{◌≡◌, ◌⊎◌, ℕ, zero, List, [], ◌∷◌, ◌++◌, Option, None, Some, inl, inr, refl, sym, ap, subst, ◌∙◌, append_assoc}
-use Rattle.std.specs.Prelude.{map}
 use Rattle.std.specs.Option.{option_map}
 use Rattle.std.specs.List.{flat_map}
 use Rattle.std.proofs.lemmas.List.{append-nil}
 use Rattle.std.proofs.lemmas.List.Concat.{flat_map-append}
 use Rattle.radio_events.specs.declared.event.Event.{Event}
-use Rattle.radio_events.specs.declared.event.Event.TheVariants.{Arrive, Source, Push, SourceEnd, Title, Listen, Draw, Command, Leave, RelayUp, RelayDown, Clock}
+use Rattle.radio_events.specs.declared.event.Event.TheVariants.{Push, Title, Draw, Leave, RelayUp, RelayDown}
 use Rattle.radio_events.specs.declared.reply.Reply.{Reply}
 use Rattle.radio_events.specs.declared.reply.Reply.TheVariants.{Arrived, Feeding, Seated, Drawn, Noted as WasNoted, Text, Deny, Finished, Stray}
-use Rattle.radio_events.specs.Events.{client_in}
 use Rattle.radio_core.specs.Run.{world_after_all}
 use Rattle.radio_core.specs.Step.{Step, reply_to, world_after}
 use Rattle.radio_house.specs.World.{World}
@@ -23,7 +21,7 @@ use Rattle.radio_pull.specs.Course.{Asks, AsksIf, Brings, Follows, GoesDown, Goe
 use Rattle.radio_headline.specs.Course.{Noted, noting}
 use Rattle.radio_headline.specs.Sources.{pushed, pushed_by}
 use Rattle.radio_settings.specs.declared.field.Shown.{Shown}
-use Rattle.radio_headline.proofs.Logs.{Each, Entry, entry, entries, after_joined}
+use Rattle.radio_headline.proofs.Logs.{Each, Entry, entry, entries}
 use Rattle.radio_headline.proofs.AppliedLemmas.{EachAsked}
 
 -- an event is of the relay of this number, or asks for one
@@ -211,8 +209,11 @@ asks_so number event w later old after a =
             (append_assoc old (event ∷ []) d.events) d.lifted;
       };
       leads = d.leads ∙ ap (λ (x : World). world_after_all x d.events) mid;
-      own = λ his. (his, subst (λ (n : Option ℕ). OwnRelay n (entries (world_after w event) d.events)) (ap (λ (s : Standing). s.number) answer)
-          (subst (λ (x : World). OwnRelay after.number (entries x d.events)) mid d.own));
+      own = λ his. (
+        his,
+        subst (λ (n : Option ℕ). OwnRelay n (entries (world_after w event) d.events)) (ap (λ (s : Standing). s.number) answer)
+            (subst (λ (x : World). OwnRelay after.number (entries x d.events)) mid d.own),
+      );
       stands = answer;
       silent = d.silent;
       no_more = d.none;
@@ -286,10 +287,14 @@ module _ (number : Option ℕ) (event : Event) (his : OfRelay number event) (w l
   shut_here ending shut same =
       record {
         events = event ∷ s.behind;
-        lifted = (now, at mid (old ++ event ∷ s.behind), s.asks,
-            subst (λ (t : State). Follows t (Lifted now.number (at mid (old ++ event ∷ s.behind)) (at later (old ++ event ∷ s.behind)))
-                ((after ≡ now) × (at later (old ++ event ∷ s.behind) ≡ at mid (old ++ event ∷ s.behind)))) (sym shut)
-                (same.0, ap (λ (x : World). at x (old ++ event ∷ s.behind)) same.1));
+        lifted = (
+          now,
+          at mid (old ++ event ∷ s.behind),
+          s.asks,
+          subst (λ (t : State). Follows t (Lifted now.number (at mid (old ++ event ∷ s.behind)) (at later (old ++ event ∷ s.behind)))
+              ((after ≡ now) × (at later (old ++ event ∷ s.behind) ≡ at mid (old ++ event ∷ s.behind)))) (sym shut)
+              (same.0, ap (λ (x : World). at x (old ++ event ∷ s.behind)) same.1),
+        );
         leads = same.1 ∙ s.leads;
         own = s.own his;
         stands = λ run. absurd (stopped run);
@@ -314,13 +319,20 @@ module _ (number : Option ℕ) (event : Event) (his : OfRelay number event) (w l
       let leads : mid ≡ world_after w event = s.leads ∙ ap (λ (xs : List Event). world_after_all w (event ∷ xs)) none in
       record {
         events = event ∷ l.events;
-        lifted = (now, at mid (old ++ event ∷ []), asks,
-            subst (λ (t : State). Follows t (Lifted now.number (at mid (old ++ event ∷ [])) (at later (old ++ event ∷ l.events)))
-                ((after ≡ now) × (at later (old ++ event ∷ l.events) ≡ at mid (old ++ event ∷ [])))) (sym run)
-                (subst (λ (xs : List Event). Lifted now.number (at mid (old ++ event ∷ [])) (at later xs)) joined l.lifted));
+        lifted = (
+          now,
+          at mid (old ++ event ∷ []),
+          asks,
+          subst (λ (t : State). Follows t (Lifted now.number (at mid (old ++ event ∷ [])) (at later (old ++ event ∷ l.events)))
+              ((after ≡ now) × (at later (old ++ event ∷ l.events) ≡ at mid (old ++ event ∷ [])))) (sym run)
+              (subst (λ (xs : List Event). Lifted now.number (at mid (old ++ event ∷ [])) (at later xs)) joined l.lifted),
+        );
         leads = l.leads ∙ ap (λ (x : World). world_after_all x l.events) leads;
-        own = (his, subst (λ (n : Option ℕ). OwnRelay n (entries (world_after w event) l.events)) number_now
-            (subst (λ (x : World). OwnRelay now.number (entries x l.events)) leads l.own));
+        own = (
+          his,
+          subst (λ (n : Option ℕ). OwnRelay n (entries (world_after w event) l.events)) number_now
+              (subst (λ (x : World). OwnRelay now.number (entries x l.events)) leads l.own),
+        );
         stands = λ goes. l.stands goes
             ∙ ap (λ (x : World). number_after now.number (entries x l.events)) leads
             ∙ ap (λ (n : Option ℕ). number_after n (entries (world_after w event) l.events)) number_now;

@@ -1,5 +1,5 @@
 -- Whose numbers are whose, and who has asked for nothing yet, over a course.
-use Rattle.std.proofs.Common.{◌≡◌, ◌⊎◌, inl, inr, ℕ, ◌+◌, ◌<◌, ◌≤◌, ◌==◌, Bool, true, false, List, [], ◌∷◌, ◌++◌, Option, None, Some, refl, sym, ap, subst, ◌∙◌, arith}
+use Rattle.std.proofs.Common.{◌≡◌, ◌⊎◌, inl, inr, ℕ, ◌<◌, ◌≤◌, Bool, true, false, List, [], ◌∷◌, ◌++◌, Option, None, Some, refl, sym, ap, subst, ◌∙◌, arith}
 use Rattle.std.specs.Prelude.{if◌then◌else◌}
 use Rattle.std.specs.List.{AllByRecursion}
 use Rattle.std.proofs.lemmas.Bool.Decides.{nat_tests}
@@ -17,19 +17,17 @@ use Rattle.radio_house.specs.declared.standing.Standing.TheVariants.{Unknown, Un
 use Rattle.radio_core.specs.ClientSteps.{ClientStep, ClientsStep}
 use Rattle.radio_core.specs.ClientSteps.{Stays, Arrives, IsAnswered, IsObeyed, IsShown, BeginsToFeed, SitsDown, StopsFeeding, Leaves, ComesUp, GoesDown, IsFinished}
 use Rattle.radio_core.specs.Finishes.{Finishes}
-use Rattle.radio_core.specs.Handing.{is_number, of_client, block_in, delivered}
+use Rattle.radio_core.specs.Handing.{is_number}
 use Rattle.radio_core.specs.Pages.{IsShownBy, IsListing, IsAtPath}
 use Rattle.radio_events.specs.declared.text.Text.{Text as CommandText}
-use Rattle.radio_core.specs.Others.{RepliesFit, HasCome, AsClient, AsRelay}
+use Rattle.radio_core.specs.Others.{RepliesFit, HasCome, AsClient}
 use Rattle.radio_core.specs.Run.{run_after, world_after_all}
-use Rattle.radio_core.specs.Step.{outcome, reply_to, world_after}
+use Rattle.radio_core.specs.Step.{reply_to, world_after}
 use Rattle.radio_core.specs.Totals.{AddsUp, numbers_given}
 use Rattle.radio_house.specs.World.{World, opening, standing_of}
-use Rattle.radio_icy.specs.Weaving.{Call}
-use Rattle.radio_session.specs.Told.{draws_of}
 use Rattle.radio_headline.specs.Course.{Happening, on, events_in}
-use Rattle.radio_headline.proofs.Logs.{Entry, entry, entries, entry_on, log_on, Each, each_second, itself, other_number, after_joined}
-use Rattle.radio_headline.proofs.ReplyForms.{next_number, noted_block, brings_noted, IsIdle, IdleReply, IsStray, WasFinished, Sitting, Sourcing, idle_reply}
+use Rattle.radio_headline.proofs.Logs.{Entry, entry, entry_on, log_on, Each, each_second, itself, after_joined}
+use Rattle.radio_headline.proofs.ReplyForms.{next_number, IsIdle, IdleReply, IsStray, WasFinished, Sitting, Sourcing, idle_reply}
 
 -- the number was given on the connection of the log
 abbrev pub HasNumber : ℕ → List Entry → Type 0
@@ -100,7 +98,6 @@ module _ (settings : Settings) (lists : Lists)
     (fits : (events : List Event) (event : Event) → RepliesFit (run_after settings lists events) event)
     (adds : (events : List Event) (event : Event) → AddsUp (run_after settings lists events) event)
     (steps : (events : List Event) (event : Event) → ClientsStep (run_after settings lists events) event) where
-
   -- a state of a run
   abbrev pub Reached : World → Type 0
   Reached w = (events : List Event) × (w ≡ run_after settings lists events)
@@ -134,18 +131,18 @@ module _ (settings : Settings) (lists : Lists)
   later_numbers w [] label id r has = elim has [ ]
   later_numbers w (h ∷ past) label id r has =
       by_label (later_numbers (world_after w h.event) past label id (reached_after w h.event r)) (is_number label h.label) has where
-    tail : (HasNumber id (log_on (world_after w h.event) past label) → (world_after w h.event).house.last_id < id)
-        → HasNumber id (log_on (world_after w h.event) past label) → w.house.last_id < id
-    tail ih t =
-        let later = ih t in
-        let sum = (adds_at w h.event r).numbers in
-        omega (arith, later, sum)
+        tail : (HasNumber id (log_on (world_after w h.event) past label) → (world_after w h.event).house.last_id < id)
+            → HasNumber id (log_on (world_after w h.event) past label) → w.house.last_id < id
+        tail ih t =
+            let later = ih t in
+            let sum = (adds_at w h.event r).numbers in
+            omega (arith, later, sum)
 
-    by_label : (HasNumber id (log_on (world_after w h.event) past label) → (world_after w h.event).house.last_id < id) → (b : Bool)
-        → HasNumber id ((if b then entry w h.event ∷ [] else []) ++ log_on (world_after w h.event) past label) → w.house.last_id < id
-    by_label ih true (inl e) = ((fits_at w h.event r).arrived id e).1
-    by_label ih true (inr t) = tail ih t
-    by_label ih false t = tail ih t
+        by_label : (HasNumber id (log_on (world_after w h.event) past label) → (world_after w h.event).house.last_id < id) → (b : Bool)
+            → HasNumber id ((if b then entry w h.event ∷ [] else []) ++ log_on (world_after w h.event) past label) → w.house.last_id < id
+        by_label ih true (inl e) = ((fits_at w h.event r).arrived id e).1
+        by_label ih true (inr t) = tail ih t
+        by_label ih false t = tail ih t
 
   pub given_here : (w : World) (event : Event) (id : ℕ) → Reached w → reply_to w event ≡ Arrived id → id ≤ (world_after w event).house.last_id
   given_here w event id r e =
@@ -161,27 +158,27 @@ module _ (settings : Settings) (lists : Lists)
   one_owner w (h ∷ past) label other id r mine its =
       by_labels (one_owner (world_after w h.event) past label other id (reached_after w h.event r)) (is_number label h.label) refl (is_number other h.label)
       refl mine its where
-    both : (b : Option ℕ) → is_number label b ≡ true → is_number other b ≡ true → label ≡ other
-    both None e f = cc
-    both (Some him) e f = let one : him ≡ label = grind (arith, nat_tests) in let two : him ≡ other = grind (arith, nat_tests) in sym one ∙ two
+        both : (b : Option ℕ) → is_number label b ≡ true → is_number other b ≡ true → label ≡ other
+        both None e f = cc
+        both (Some him) e f = let one : him ≡ label = grind (arith, nat_tests) in let two : him ≡ other = grind (arith, nat_tests) in sym one ∙ two
 
-    too_late : (his : ℕ) → reply_to w h.event ≡ Arrived id → HasNumber id (log_on (world_after w h.event) past his) → label ≡ other
-    too_late his e t =
-        let above = later_numbers (world_after w h.event) past his id (reached_after w h.event r) t in
-        let below = given_here w h.event id r e in
-        let none : ⊥ = omega (arith, above, below) in
-        absurd none
+        too_late : (his : ℕ) → reply_to w h.event ≡ Arrived id → HasNumber id (log_on (world_after w h.event) past his) → label ≡ other
+        too_late his e t =
+            let above = later_numbers (world_after w h.event) past his id (reached_after w h.event r) t in
+            let below = given_here w h.event id r e in
+            let none : ⊥ = omega (arith, above, below) in
+            absurd none
 
-    by_labels : (HasNumber id (log_on (world_after w h.event) past label) → HasNumber id (log_on (world_after w h.event) past other) → label ≡ other)
-        → (b : Bool) → is_number label h.label ≡ b → (c : Bool) → is_number other h.label ≡ c
-        → HasNumber id ((if b then entry w h.event ∷ [] else []) ++ log_on (world_after w h.event) past label)
-        → HasNumber id ((if c then entry w h.event ∷ [] else []) ++ log_on (world_after w h.event) past other) → label ≡ other
-    by_labels ih true e true f x y = both h.label e f
-    by_labels ih true e false f (inl x) y = too_late other x y
-    by_labels ih true e false f (inr x) y = ih x y
-    by_labels ih false e true f x (inl y) = too_late label y x
-    by_labels ih false e true f x (inr y) = ih x y
-    by_labels ih false e false f x y = ih x y
+        by_labels : (HasNumber id (log_on (world_after w h.event) past label) → HasNumber id (log_on (world_after w h.event) past other) → label ≡ other)
+            → (b : Bool) → is_number label h.label ≡ b → (c : Bool) → is_number other h.label ≡ c
+            → HasNumber id ((if b then entry w h.event ∷ [] else []) ++ log_on (world_after w h.event) past label)
+            → HasNumber id ((if c then entry w h.event ∷ [] else []) ++ log_on (world_after w h.event) past other) → label ≡ other
+        by_labels ih true e true f x y = both h.label e f
+        by_labels ih true e false f (inl x) y = too_late other x y
+        by_labels ih true e false f (inr x) y = ih x y
+        by_labels ih false e true f x (inl y) = too_late label y x
+        by_labels ih false e true f x (inr y) = ih x y
+        by_labels ih false e false f x y = ih x y
 
   -- who has asked for nothing has asked for nothing still, if all that he does is to draw and to tell titles
   still_new : (w : World) (event : Event) (id : ℕ) → (client_in event ≡ Some id → IsIdle id event) → (Cause : Rule → Type 0) → (s later : Standing)
@@ -243,21 +240,21 @@ module _ (settings : Settings) (lists : Lists)
   idles w [] label id r on new idle = record { new = new; silent = tt }
   idles w (h ∷ past) label id r on new idle =
       by_label (idles (world_after w h.event) past label id (reached_after w h.event r) on.1) (is_number label h.label) refl idle where
-    goes : (client_in h.event ≡ Some id → IsIdle id h.event) → IsNew (standing_of (world_after w h.event) id)
-    goes his = still_new w h.event id his (Finishes w h.event id) (standing_of w id) (standing_of (world_after w h.event) id) (steps_at w h.event r id) new
+        goes : (client_in h.event ≡ Some id → IsIdle id h.event) → IsNew (standing_of (world_after w h.event) id)
+        goes his = still_new w h.event id his (Finishes w h.event id) (standing_of w id) (standing_of (world_after w h.event) id) (steps_at w h.event r id) new
 
-    by_label : (IsNew (standing_of (world_after w h.event) id) → Each (IsIdling id) (log_on (world_after w h.event) past label)
-        → Waits id (world_after_all (world_after w h.event) (events_in past)) (log_on (world_after w h.event) past label))
-        → (b : Bool) → is_number label h.label ≡ b → Each (IsIdling id) ((if b then entry w h.event ∷ [] else []) ++ log_on (world_after w h.event) past label)
-        → Waits id (world_after_all (world_after w h.event) (events_in past)) ((if b then entry w h.event ∷ [] else []) ++ log_on (world_after w h.event) past label)
-    by_label ih true e i =
-        let rest = ih (goes (λ his. i.0)) i.1 in
-        record {
-          new = rest.new;
-          silent = (silent_when_new w id (standing_of w id) refl new (reply_to w h.event) (idle_reply w id h.event i.0), rest.silent);
-        }
-    by_label ih false e i =
-        ih (goes (λ his. let both : true ≡ false = sym (on.0 his) ∙ e in cc)) i
+        by_label : (IsNew (standing_of (world_after w h.event) id) → Each (IsIdling id) (log_on (world_after w h.event) past label)
+            → Waits id (world_after_all (world_after w h.event) (events_in past)) (log_on (world_after w h.event) past label))
+            → (b : Bool) → is_number label h.label ≡ b → Each (IsIdling id) ((if b then entry w h.event ∷ [] else []) ++ log_on (world_after w h.event) past label)
+            → Waits id (world_after_all (world_after w h.event) (events_in past)) ((if b then entry w h.event ∷ [] else []) ++ log_on (world_after w h.event) past label)
+        by_label ih true e i =
+            let rest = ih (goes (λ his. i.0)) i.1 in
+            record {
+              new = rest.new;
+              silent = (silent_when_new w id (standing_of w id) refl new (reply_to w h.event) (idle_reply w id h.event i.0), rest.silent);
+            }
+        by_label ih false e i =
+            ih (goes (λ his. let both : true ≡ false = sym (on.0 his) ∙ e in cc)) i
 
   new_client : (w : World) (peer : Peer) (id : ℕ) → HasCome w id (Arrive peer) → IsNew (standing_of (world_after w (Arrive peer)) id)
   new_client w peer id (AsClient _ stands) = subst IsNew (sym stands) (AsksNothing peer)
@@ -269,21 +266,21 @@ module _ (settings : Settings) (lists : Lists)
   arrives_and_idles w [] label id peer idle r on e i = cc
   arrives_and_idles w (h ∷ past) label id peer idle r on e i =
       by_label (λ d. arrives_and_idles (world_after w h.event) past label id peer idle (reached_after w h.event r) on.1 d i) (is_number label h.label) e where
-    by_label : (log_on (world_after w h.event) past label ≡ record { event = Arrive peer; reply = Arrived id } ∷ idle
-        → IsNew (standing_of (world_after_all (world_after w h.event) (events_in past)) id) × Each IsSilent idle)
-        → (b : Bool) → (if b then entry w h.event ∷ [] else []) ++ log_on (world_after w h.event) past label ≡ record { event = Arrive peer; reply = Arrived id } ∷ idle
-        → IsNew (standing_of (world_after_all (world_after w h.event) (events_in past)) id) × Each IsSilent idle
-    by_label ih true d =
-        let first : entry w h.event ≡ record { event = Arrive peer; reply = Arrived id } = cc in
-        let others : log_on (world_after w h.event) past label ≡ idle = cc in
-        let event : h.event ≡ Arrive peer = ap (λ (x : Entry). x.event) first in
-        let reply : reply_to w h.event ≡ Arrived id = ap (λ (x : Entry). x.reply) first in
-        let come : HasCome w id (Arrive peer) = subst (λ (x : Event). HasCome w id x) event ((fits_at w h.event r).arrived id reply).0 in
-        let new : IsNew (standing_of (world_after w h.event) id) =
-        subst (λ (x : Event). IsNew (standing_of (world_after w x) id)) (sym event) (new_client w peer id come) in
-        let waits = idles (world_after w h.event) past label id (reached_after w h.event r) on.1 new (subst (Each (IsIdling id)) (sym others) i) in
-        (waits.new, subst (Each IsSilent) others waits.silent)
-    by_label ih false d = ih d
+        by_label : (log_on (world_after w h.event) past label ≡ record { event = Arrive peer; reply = Arrived id } ∷ idle
+            → IsNew (standing_of (world_after_all (world_after w h.event) (events_in past)) id) × Each IsSilent idle)
+            → (b : Bool) → (if b then entry w h.event ∷ [] else []) ++ log_on (world_after w h.event) past label ≡ record { event = Arrive peer; reply = Arrived id } ∷ idle
+            → IsNew (standing_of (world_after_all (world_after w h.event) (events_in past)) id) × Each IsSilent idle
+        by_label ih true d =
+            let first : entry w h.event ≡ record { event = Arrive peer; reply = Arrived id } = cc in
+            let others : log_on (world_after w h.event) past label ≡ idle = cc in
+            let event : h.event ≡ Arrive peer = ap (λ (x : Entry). x.event) first in
+            let reply : reply_to w h.event ≡ Arrived id = ap (λ (x : Entry). x.reply) first in
+            let come : HasCome w id (Arrive peer) = subst (λ (x : Event). HasCome w id x) event ((fits_at w h.event r).arrived id reply).0 in
+            let new : IsNew (standing_of (world_after w h.event) id) =
+            subst (λ (x : Event). IsNew (standing_of (world_after w x) id)) (sym event) (new_client w peer id come) in
+            let waits = idles (world_after w h.event) past label id (reached_after w h.event r) on.1 new (subst (Each (IsIdling id)) (sym others) i) in
+            (waits.new, subst (Each IsSilent) others waits.silent)
+        by_label ih false d = ih d
 
   -- what holds of each event on each connection holds of each event in the course
   pub each_happening : (P : ℕ → Event → Type 0) (Q : Happening → Type 0) → ((label : ℕ) (event : Event) → P label event → Q (on label event))

@@ -1,5 +1,5 @@
 -- Each relay of a script delivers a front of the sound that its master's answer pulls in.
-use Rattle.std.proofs.Common.{◌≡◌, ◌⊎◌, inl, inr, ℕ, Bool, true, false, List, [], ◌∷◌, ◌++◌, drop, Option, None, Some, Result, Ok, refl, sym, ap, subst, ◌∙◌, append_assoc}
+use Rattle.std.proofs.Common.{◌≡◌, inl, inr, ℕ, Bool, true, false, List, [], ◌∷◌, ◌++◌, drop, Option, None, Some, Ok, refl, sym, ap, subst, ◌∙◌, append_assoc}
 use Rattle.std.specs.Prelude.{if◌then◌else◌}
 use Rattle.std.specs.List.{AllByRecursion, concat}
 use Rattle.radio_blocks.specs.Cutting.{blocks_of}
@@ -21,10 +21,9 @@ use Rattle.radio_house.specs.World.{World, opening}
 use Rattle.radio_heads.specs.declared.outcome.Progress.TheVariants.{Whole}
 use Rattle.radio_heads.specs.Head.{RequestParts}
 use Rattle.radio_heads.specs.Laws.{IsSettled, HeadsLieWithin}
-use Rattle.radio_heads.specs.Response.{ResponseParts, ShowsResponse}
-use Rattle.radio_relay.specs.Answer.{interval_in, shown_by}
+use Rattle.radio_heads.specs.Response.{ShowsResponse}
+use Rattle.radio_relay.specs.Answer.{shown_by}
 use Rattle.radio_relay.specs.Pulled.{IsPulled, ShownPart, pulled_by_interval, stream_parts, stream_pulled, stream_with}
-use Rattle.radio_relay.specs.declared.fault.PullFault.{PullFault}
 use Rattle.radio_relay.proofs.CutLemmas.{AfterPieces, HeardInPieces}
 use Rattle.radio_session.specs.Asking.{asks_by_get, asks_to_hear, gives_command, is_for_commands, path_in}
 use Rattle.radio_session.specs.Conversation.{Conversation}
@@ -39,8 +38,8 @@ use Rattle.radio_headline.specs.Sources.{DeliversItsSound, RelaysDeliverTheirSou
 use Rattle.radio_headline.proofs.Logs.{Entry, entry, log_on, log_joined, Each, each_as, each_joined, each_second, itself}
 use Rattle.radio_headline.proofs.RelayLogs.{IsCut, IsNoUp, OfRelay, OwnRelay, number_stays}
 use Rattle.radio_headline.proofs.RunLemmas.{AllNowhere, IsMoment, HasNumber, IsIdling, Reached, given_here, reached_after, reached_all, reached_opening}
-use Rattle.radio_headline.proofs.Connections.{arrival, AsksForMount, AsksNothing, AtAnswer, AtBody, AtHead, AfterBody, AfterGet, ByGet, Facts, Feeds, HasAskedNothing, HasSentGet}
-use Rattle.radio_headline.proofs.Connections.{InAnswer, IsBehindRequest, IsClient, IsClosed, IsIdleOrLeaving, IsNoRequest, IsPulling, IsRelay, IsSo, IsSource, Pulls, Refused, RelayStage, Stage, events_of}
+use Rattle.radio_headline.proofs.Connections.{AsksForMount, AsksNothing, AtAnswer, ByGet, Facts, Feeds, HasAskedNothing, HasSentGet}
+use Rattle.radio_headline.proofs.Connections.{InAnswer, IsBehindRequest, IsClient, IsIdleOrLeaving, IsNoRequest, IsPulling, IsSo, IsSource, Pulls, RelayStage, events_of}
 use Rattle.radio_headline.proofs.ConnectionSteps.{behind_is_his, idle_asks_nothing}
 use Rattle.radio_headline.proofs.CourseLemmas.{brought_joined}
 use Rattle.radio_headline.proofs.ListenerLemmas.{IsOnIt, no_entry, on_his}
@@ -102,15 +101,19 @@ get_up_not id request l = by_kind (is_for_commands (path_in request)) l where
 
 get_not : (bytes : List ℕ) (log : List Entry) (given : List ℕ) → ByGet bytes log given → Each UpNot log
 get_not bytes log given g =
-    subst (Each UpNot) (sym g.in_order)
-    ((λ l. l), each_joined UpNot g.idle _ (each_as (IsIdling g.id) UpNot (idle_up_not g.id) g.idle g.idles)
-    (get_up_not g.id g.request, each_as (IsIdleOrLeaving g.id) UpNot (leaving_up_not g.id) g.behind g.no_more))
+    subst (Each UpNot) (sym g.in_order) (
+      (λ l. l),
+      each_joined UpNot g.idle _ (each_as (IsIdling g.id) UpNot (idle_up_not g.id) g.idle g.idles)
+          (get_up_not g.id g.request, each_as (IsIdleOrLeaving g.id) UpNot (leaving_up_not g.id) g.behind g.no_more),
+    )
 
 source_not : (bytes : List ℕ) (log : List Entry) → Feeds bytes log → Each UpNot log
 source_not bytes log f =
-    subst (Each UpNot) (sym f.in_order)
-    ((λ l. l), each_joined UpNot f.idle _ (each_as (IsIdling f.id) UpNot (idle_up_not f.id) f.idle f.idles)
-    ((λ l. l), each_as (IsNoRequest f.id) UpNot (λ e h. his_up_not f.id e.event (behind_is_his f.id e.event h)) f.behind f.no_more))
+    subst (Each UpNot) (sym f.in_order) (
+      (λ l. l),
+      each_joined UpNot f.idle _ (each_as (IsIdling f.id) UpNot (idle_up_not f.id) f.idle f.idles)
+          ((λ l. l), each_as (IsNoRequest f.id) UpNot (λ e h. his_up_not f.id e.event (behind_is_his f.id e.event h)) f.behind f.no_more),
+    )
 
 client_not : (conversation : Conversation) (bytes : List ℕ) (log : List Entry) (given : List ℕ) → IsClient bytes log given conversation → Each UpNot log
 client_not conversation bytes log given c =
@@ -276,9 +279,10 @@ module _ (settled : IsSettled ShowsResponse) (within : HeadsLieWithin ShowsRespo
         ∙ ap noted (in_order ∙ ap (λ (xs : List Entry). xs ++ entry w event ∷ behind) first.before_none)
         ∙ ap (λ (xs : List ℕ). xs ++ noted behind) (no_block event (reply_to w event) refl) where
           his_or_not : Each (IsHisOrNotesNothing number) (log label)
-          his_or_not = subst (Each (IsHisOrNotesNothing number)) (sym (in_order ∙ ap (λ (xs : List Entry). xs ++ entry w event ∷ behind) first.before_none))
-              (inr (no_block event (reply_to w event) refl),
-              each_as (IsNoRequest number) (IsHisOrNotesNothing number) (λ e h. inl (behind_is_his number e.event h)) behind his_behind)
+          his_or_not = subst (Each (IsHisOrNotesNothing number)) (sym (in_order ∙ ap (λ (xs : List Entry). xs ++ entry w event ∷ behind) first.before_none)) (
+            inr (no_block event (reply_to w event) refl),
+            each_as (IsNoRequest number) (IsHisOrNotesNothing number) (λ e h. inl (behind_is_his number e.event h)) behind his_behind,
+          )
 
     shown_so : shown ≡ shown_by whole.head
     shown_so =
@@ -290,9 +294,11 @@ module _ (settled : IsSettled ShowsResponse) (within : HeadsLieWithin ShowsRespo
         let answer = stream_pulled (ShownPart (shown_by whole.head) ∷ []) (stream_with whole.interval) (drop whole.length bytes) in
         record {
           pulled = answer;
-          is_pulled = subst (λ (bs : List ℕ). IsPulled bs answer) (sym (brought_joined done rest label) ∙ ap (λ (ds : List Delivery). brought ds label) (sym all))
-              (Ok (Whole whole.head whole.length), whole.reading,
-              ap (pulled_by_interval whole.head (drop whole.length bytes)) (sym whole.told));
+          is_pulled = subst (λ (bs : List ℕ). IsPulled bs answer) (sym (brought_joined done rest label) ∙ ap (λ (ds : List Delivery). brought ds label) (sym all)) (
+            Ok (Whole whole.head whole.length),
+            whole.reading,
+            ap (pulled_by_interval whole.head (drop whole.length bytes)) (sym whole.told),
+          );
           parts = stream_parts (stream_with whole.interval) (drop whole.length bytes);
           begins = ap (λ (s : Shown). ShownPart s ∷ stream_parts (stream_with whole.interval) (drop whole.length bytes)) (sym shown_so);
           undelivered = front.rest ++ whole.rest;

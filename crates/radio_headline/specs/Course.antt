@@ -1,5 +1,5 @@
 -- What a script comes to: the events that are applied, in their order, each with the label on whose connection it was asked.
-use Rattle.std.specs.Prelude.{◌≡◌, ℕ, Bool, if◌then◌else◌, List, [], ◌∷◌, ◌++◌, map, Option, None, Some}
+use Rattle.std.specs.Prelude.{◌≡◌, ℕ, if◌then◌else◌, List, [], ◌∷◌, ◌++◌, map, Option, None, Some}
 use Rattle.std.specs.Option.{option_map}
 use Rattle.radio_addr.specs.declared.peer.Peer.{Peer}
 use Rattle.radio_icy.specs.Cleaning.{cleaned}

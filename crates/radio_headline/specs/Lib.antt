@@ -1,3 +1,4 @@
 pub mod Course
 pub mod Sources
 pub mod Listeners
+pub mod Histories

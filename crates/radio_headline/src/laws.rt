@@ -4,7 +4,8 @@ ghost use Rattle.std.specs.Prelude.{ℕ, List};
 ghost use Rattle.radio_settings.specs.declared.settings.Settings.{Settings};
 ghost use Rattle.radio_access.specs.Lists.{Lists};
 ghost use Rattle.radio_events.specs.declared.event.Event.{Event};
-ghost use Rattle.radio_headline.specs.Listeners.{DrawsAreStretches, ListenersHearSlices, PlayedScriptsHearSlices};
+ghost use Rattle.radio_headline.specs.Listeners.{DrawsAreStretches, IsLawful, ListenersHearSlices, PlayedScriptsHearSlices};
+ghost use Rattle.radio_headline.specs.Histories.{HistoriesAreLawful};
 
 use radio_blocks::laws::blocks_are_the_data;
 use radio_core::{
@@ -32,6 +33,30 @@ pub fn draws_are_stretches()
     stretches_are_whole();
 }
 
+/// The laws of every run, at one event, in one place.
+pub fn events_are_lawful()
+    ensures { (settings : Settings) (lists : Lists) (events : List Event) (event : Event) → IsLawful settings lists events event }
+{
+    access_is_kept();
+    commands_are_done();
+    denials_are_the_policys();
+    listeners_are_told_titles();
+    listeners_walk_on();
+    sight_is_kept();
+    stretches_are_whole();
+    whoever_may_is_served();
+}
+
+/// The same for a history that is a run from an opening state, as `settle` of `radio_book` gives one
+/// where it ends well: at each of its entries the laws of every run hold, and what was noted of a
+/// listener's draws is, joined, slices of what his sources delivered.
+pub fn histories_are_lawful()
+    ensures { HistoriesAreLawful }
+{
+    events_are_lawful();
+    draws_are_stretches();
+}
+
 /// The law of scripts, from their bytes to those of their transcripts. Over every script, what each
 /// listener is given behind his head is, with the metadata taken out, slices of what was brought on
 /// the connections of the sources in whose sessions he sat, in the order in which he sat, with a
@@ -50,18 +75,15 @@ pub fn listeners_hear_slices()
     events_are_of_their_clients();
     sessions_are_their_sources();
     access_is_kept();
-    commands_are_done();
     denials_are_the_policys();
     denials_name_the_first_rule();
-    listeners_are_told_titles();
     listeners_begin_at_a_block();
-    listeners_walk_on();
-    sight_is_kept();
     stretches_are_whole();
     whoever_may_is_served();
     listeners_are_told_what_they_draw();
     transcripts_are_read_one_way();
     draws_are_stretches();
+    events_are_lawful();
 }
 
 /// The same of a script that is played: what [`play`](radio_floor::play) writes where it ends well.

@@ -1,4 +1,4 @@
-use Rattle.std.proofs.Common.{◌≡◌, [], sym, ◌∙◌}
+use Rattle.std.proofs.Common.{[], sym, ◌∙◌}
 use Rattle.radio_floor.specs.ScriptState.{opening_script}
 use Rattle.radio_headline.specs.Course.{events_in}
 use Rattle.radio_headline.proofs.BodyLemmas.{delivers_body, listens_so}
@@ -30,26 +30,16 @@ returns c settings lists deliveries text stop transcript =
     let in_pieces = c.cut_streams.ensures.heard in
     let afters = c.cut_streams.ensures.after in
     let came = comes settings lists settled within settled_answers within_answers none_blocks in_pieces afters joined places found deliveries [] (opening_script settings lists) transcript.0 [] [] 1 text stop
-        (nothing_stands settings lists settled within settled_answers within_answers none_blocks in_pieces afters joined places found) transcript.1 in
+    (nothing_stands settings lists settled within settled_answers within_answers none_blocks in_pieces afters joined places found) transcript.1 in
     let stands = came.stands in
     let bodies = delivers_body settled within joined places found settings lists fits adds steps deliveries came.performed came.rest came.parts transcript.0
-        came.course came.told stands.each stands.nowhere in
+    came.course came.told stands.each stands.nowhere in
     let sounds = delivers_sound settled_answers within_answers joined none_blocks in_pieces afters settings lists fits adds steps deliveries came.performed came.rest
-        came.parts transcript.0 came.course came.told stands.each stands.nowhere in
+    came.parts transcript.0 came.course came.told stands.each stands.nowhere in
     record {
       course = came.course;
       comes = (transcript.0, came.runs);
-      lawful = λ past later happening parts. record {
-        access = access (events_in past) happening.event;
-        title = c.listeners_are_told_titles.ensures.told settings lists (events_in past) happening.event;
-        denied = denied (events_in past) happening.event;
-        served = served (events_in past);
-        moves = c.listeners_walk_on.ensures.turns settings lists (events_in past) happening.event;
-        keeps = mounts (events_in past) happening.event;
-        shown = c.sight_is_kept.ensures.may settings lists (events_in past) happening.event;
-        commanded = c.commands_are_done.ensures.may settings lists (events_in past) happening.event;
-        kept = c.commands_are_done.ensures.kept settings lists (events_in past) happening.event;
-      };
+      lawful = λ past later happening parts. c.events_are_lawful.ensures settings lists (events_in past) happening.event;
       lines = came.told;
       is_written = record {
         is_written = came.is_written;
