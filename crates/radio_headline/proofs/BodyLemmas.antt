@@ -40,11 +40,13 @@ use Rattle.radio_headline.proofs.AppliedLemmas.{IsOrderly}
 use Rattle.radio_headline.proofs.RunLemmas.{AllNowhere, IsMoment, HasNumber, IsIdling, last_stays, reached_opening, reached_after, reached_all}
 use Rattle.radio_headline.proofs.Connections.{arrival, AsksForMount, AsksNothing, ByGet, Feeds, IsIdleOrLeaving, IsBehindRequest, IsNoRequest, events_of}
 use Rattle.radio_headline.proofs.Connections.{Facts, HasAskedNothing, HasSentGet, IsSource, IsPulling, IsSo, Stage, AtHead, AfterGet, AtBody, AfterBody, Refused}
-use Rattle.radio_headline.proofs.ConnectionSteps.{behind_is_his, delivers_by, idle_asks_nothing, idle_pushes_nothing, more_for_get, more_for_source}
+use Rattle.radio_headline.proofs.ConnectionSteps.{delivers_by, more_for_get, more_for_source}
+use Rattle.radio_headline.proofs.ClientEvents.{behind_is_his, idle_asks_nothing, idle_pushes_nothing}
 use Rattle.radio_headline.proofs.CourseLemmas.{brought_joined}
-use Rattle.radio_headline.proofs.RelayLogs.{OfRelay, OwnRelay}
+use Rattle.radio_headline.proofs.RelayWords.{OfRelay, OwnRelay}
 use Rattle.radio_pull.specs.Pulling.{answered}
-use Rattle.radio_headline.proofs.ListenerLemmas.{IsOnIt, by_get, get_is_of, no_entry, on_his, orderly_second, parted_at_get}
+use Rattle.radio_headline.proofs.ListenerLemmas.{on_his}
+use Rattle.radio_headline.proofs.GetLogs.{IsOnIt, by_get, get_is_of, no_entry, orderly_second, parted_at_get}
 use Rattle.radio_headline.proofs.SourceLemmas.{orderly_is_cut, Front, IsHisOrNotesNothing, NotesNothing, brings_front, delivered_gathered, given_before, no_block, noted, noted_of, nothing_noted}
 
 -- by this event a mount is asked for, to feed it

@@ -48,7 +48,8 @@ use Rattle.radio_headline.specs.Course.{ComesToNoted, Happening, Happens, Happen
 use Rattle.radio_headline.specs.Sources.{brought, brought_by, bytes_in, pushed}
 use Rattle.radio_headline.proofs.Logs.{Entry, entry, entries, log_on, log_joined, log_here, log_elsewhere, after_joined, events_joined, events_on, itself, other_number}
 use Rattle.radio_headline.proofs.AppliedLemmas.{applied_lead}
-use Rattle.radio_headline.proofs.RelayLogs.{IsNoUp, OfRelay, at, asks_lifts, down}
+use Rattle.radio_headline.proofs.RelayLogs.{at, asks_lifts, down}
+use Rattle.radio_headline.proofs.RelayWords.{IsNoUp, OfRelay}
 use Rattle.radio_headline.proofs.RunLemmas.{AllNowhere, IsMoment}
 use Rattle.radio_headline.proofs.Connections.{HasAskedNothing, IsClosed, IsClient, IsRelay, IsSo, AtAnswer, AtHead}
 use Rattle.radio_headline.proofs.ConnectionSteps.{data_come, idle_comes, end_comes}

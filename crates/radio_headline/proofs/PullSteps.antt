@@ -47,10 +47,13 @@ use Rattle.radio_headline.specs.Course.{ComesToNoted, noting, nothing_noted}
 use Rattle.radio_headline.specs.Sources.{pushed}
 use Rattle.radio_headline.proofs.Logs.{Entry, entry, entries, Each, each_joined}
 use Rattle.radio_headline.proofs.AppliedLemmas.{EachAsked}
-use Rattle.radio_headline.proofs.RelayLogs.{AreNoUps, IsCut, IsNoUp, IsNotRefused, Lifts, OwnRelay, Ups, at, brings_lifts, cut_joined, down}
-use Rattle.radio_headline.proofs.RelayLogs.{number_after, number_joined, own_joined, plain_ups, sound_of_item, sound_of_items}
+use Rattle.radio_headline.proofs.RelayLogs.{Lifts, at, brings_lifts, down}
+use Rattle.radio_headline.proofs.RelayWords.{AreNoUps, IsCut, IsNoUp, IsNotRefused, OwnRelay, Ups, cut_joined}
+use Rattle.radio_headline.proofs.RelayLogs.{sound_of_item, sound_of_items}
+use Rattle.radio_headline.proofs.RelayWords.{number_after, number_joined, own_joined, plain_ups}
 use Rattle.radio_headline.proofs.Connections.{AtAnswer, Facts, HasAskedNothing, HasSentGet, InAnswer, IsPulling, IsRelay, IsSo, IsSource, Pulls, RelayStage, events_of, stream_after}
-use Rattle.radio_headline.proofs.ConnectionSteps.{entries_each, events_of_entries, events_of_joined, more_for_get, more_for_source, pushed_joined}
+use Rattle.radio_headline.proofs.ConnectionSteps.{more_for_get, more_for_source}
+use Rattle.radio_headline.proofs.ClientEvents.{entries_each, events_of_entries, events_of_joined, pushed_joined}
 use Rattle.radio_headline.proofs.OwnLogs.{relay_owns}
 
 -- sound among parts, one after another

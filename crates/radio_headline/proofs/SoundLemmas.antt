@@ -36,13 +36,14 @@ use Rattle.radio_floor.specs.ScriptState.{ScriptState, connection_of}
 use Rattle.radio_headline.specs.Course.{Happening, events_in, on}
 use Rattle.radio_headline.specs.Sources.{DeliversItsSound, RelaysDeliverTheirSound, brought, pushed}
 use Rattle.radio_headline.proofs.Logs.{Entry, entry, log_on, log_joined, Each, each_as, each_joined, each_second, itself}
-use Rattle.radio_headline.proofs.RelayLogs.{IsCut, IsNoUp, OfRelay, OwnRelay, number_stays}
+use Rattle.radio_headline.proofs.RelayWords.{IsCut, IsNoUp, OfRelay, OwnRelay, number_stays}
 use Rattle.radio_headline.proofs.RunLemmas.{AllNowhere, IsMoment, HasNumber, IsIdling, Reached, given_here, reached_after, reached_all, reached_opening}
 use Rattle.radio_headline.proofs.Connections.{AsksForMount, AsksNothing, AtAnswer, ByGet, Facts, Feeds, HasAskedNothing, HasSentGet}
 use Rattle.radio_headline.proofs.Connections.{InAnswer, IsBehindRequest, IsClient, IsIdleOrLeaving, IsNoRequest, IsPulling, IsSo, IsSource, Pulls, RelayStage, events_of}
-use Rattle.radio_headline.proofs.ConnectionSteps.{behind_is_his, idle_asks_nothing}
+use Rattle.radio_headline.proofs.ClientEvents.{behind_is_his, idle_asks_nothing}
 use Rattle.radio_headline.proofs.CourseLemmas.{brought_joined}
-use Rattle.radio_headline.proofs.ListenerLemmas.{IsOnIt, no_entry, on_his}
+use Rattle.radio_headline.proofs.ListenerLemmas.{on_his}
+use Rattle.radio_headline.proofs.GetLogs.{IsOnIt, no_entry}
 use Rattle.radio_headline.proofs.PullSteps.{more_pulled}
 use Rattle.radio_headline.proofs.SourceLemmas.{Front, IsHisOrNotesNothing, brings_front, delivered_gathered, no_block, noted}
 
