@@ -40,7 +40,7 @@ use Rattle.radio_headline.proofs.AppliedLemmas.{IsOrderly}
 use Rattle.radio_headline.proofs.RunLemmas.{AllNowhere, IsMoment, HasNumber, IsIdling, last_stays, reached_opening, reached_after, reached_all}
 use Rattle.radio_headline.proofs.Connections.{arrival, AsksForMount, AsksNothing, ByGet, Feeds, IsIdleOrLeaving, IsBehindRequest, IsNoRequest, events_of}
 use Rattle.radio_headline.proofs.Connections.{Facts, HasAskedNothing, HasSentGet, IsSource, IsPulling, IsSo, Stage, AtHead, AfterGet, AtBody, AfterBody, Refused}
-use Rattle.radio_headline.proofs.ConnectionSteps.{delivers_by, more_for_get, more_for_source}
+use Rattle.radio_headline.proofs.HeardLemmas.{delivers_by, more_for_get, more_for_source}
 use Rattle.radio_headline.proofs.ClientEvents.{behind_is_his, idle_asks_nothing, idle_pushes_nothing}
 use Rattle.radio_headline.proofs.CourseLemmas.{brought_joined}
 use Rattle.radio_headline.proofs.RelayWords.{OfRelay, OwnRelay}

@@ -1,14 +1,9 @@
 -- The events of a client, as they are exchanged.
-use Rattle.std.proofs.Common.{◌≡◌, ◌⊎◌, inl, inr, ℕ, Bool, true, false, List, [], ◌∷◌, ◌++◌, drop, Option, None, Some, Result, Ok, Err, refl, sym, ap, subst, ◌∙◌, append_assoc}
-use Rattle.std.specs.Prelude.{map, codes, if◌then◌else◌, option_map}
-use Rattle.std.specs.List.{concat}
-use Rattle.std.specs.Str.{bytes_eq}
-use Rattle.std.proofs.lemmas.List.{append-nil, drop-append-le}
+use Rattle.std.proofs.Common.{◌≡◌, ◌⊎◌, inl, inr, ℕ, Bool, true, false, List, [], ◌∷◌, ◌++◌, drop, Some, Ok, refl, sym, ap, subst, ◌∙◌, append_assoc}
+use Rattle.std.specs.Prelude.{if◌then◌else◌}
+use Rattle.std.proofs.lemmas.List.{append-nil}
 use Rattle.std.proofs.lemmas.List.Concat.{flat_map-append}
 use Rattle.radio_addr.specs.declared.peer.Peer.{Peer}
-use Rattle.radio_blocks.specs.Cutting.{blocks_of}
-use Rattle.radio_policy.specs.declared.rule.Rule.{Rule}
-use Rattle.radio_policy.specs.declared.rule.Rule.TheVariants.{BadHead, BadMethod}
 use Rattle.radio_events.specs.declared.event.Event.{Event}
 use Rattle.radio_events.specs.declared.event.Event.TheVariants.{Arrive, Source, Push, SourceEnd, Title, Listen, Draw, Command, Leave, RelayUp, RelayDown, Clock}
 use Rattle.radio_events.specs.declared.reply.Reply.{Reply}
@@ -16,26 +11,16 @@ use Rattle.radio_events.specs.declared.reply.Reply.TheVariants.{Arrived}
 use Rattle.radio_events.specs.Events.{client_in}
 use Rattle.radio_core.specs.Step.{reply_to, world_after}
 use Rattle.radio_core.specs.World.{World}
-use Rattle.radio_heads.specs.declared.outcome.Progress.{Progress}
-use Rattle.radio_heads.specs.declared.outcome.Progress.TheVariants.{More, Whole}
-use Rattle.radio_heads.specs.declared.outcome.HeadFault.{HeadFault}
-use Rattle.radio_heads.specs.Head.{RequestParts, ShowsRequest}
-use Rattle.radio_heads.specs.Laws.{IsSettled, HeadsLieWithin}
+use Rattle.radio_heads.specs.declared.outcome.Progress.TheVariants.{Whole}
+use Rattle.radio_heads.specs.Head.{ShowsRequest}
 use Rattle.radio_heads.specs.Reading.{IsReading}
-use Rattle.radio_source.specs.Feeding.{unfed}
-use Rattle.radio_source.specs.Place.{Place, after, data_of, has_ended, fault_at}
-use Rattle.radio_session.specs.declared.session.Hears.{Hears}
-use Rattle.radio_session.specs.declared.session.Hears.TheVariants.{Head, Body, Nothing}
-use Rattle.radio_session.specs.declared.session.LastWord.{LastWord}
+use Rattle.radio_source.specs.Place.{data_of}
 use Rattle.radio_session.specs.declared.session.Says.{Says}
 use Rattle.radio_session.specs.declared.state.State.{State}
 use Rattle.radio_session.specs.declared.state.State.TheVariants.{Running, Shut}
-use Rattle.radio_session.specs.Asking.{asks_to_feed, asks_by_get, asks_to_hear, gives_command, is_for_commands, path_in}
+use Rattle.radio_session.specs.Asking.{asks_to_feed, asks_by_get}
 use Rattle.radio_session.specs.Conversation.{Conversation, asking, saying_now}
 use Rattle.radio_session.specs.Exchanges.{WorldExchange, exchanged, then_exchanged, is_leave}
-use Rattle.radio_session.specs.Framing.{is_source, framing_of, start_of}
-use Rattle.radio_session.specs.Hearing.{Heard, HearsAs, body_closes, body_heard, delivered, get_heard, greeted, head_heard, nothing_held, refuses, source_heard}
-use Rattle.radio_session.specs.Pushes.{pushes}
 use Rattle.radio_session.specs.Saying.{said}
 use Rattle.radio_session.specs.Told.{told}
 use Rattle.radio_floor.specs.declared.labelled.Connection.TheVariants.{Client}
@@ -43,13 +28,13 @@ use Rattle.radio_floor.specs.ScriptState.{connection_unless}
 use Rattle.radio_headline.specs.Course.{and_then, applied}
 use Rattle.radio_headline.specs.Sources.{pushed, pushed_by}
 use Rattle.radio_headline.proofs.Logs.{Entry, entry, entries, replies, replies_joined, Each, each_as, each_joined}
-use Rattle.radio_headline.proofs.AppliedLemmas.{EachAsked, applied_each, applied_orderly, applied_tell, goes_on, IsNotLast, IsOpen, IsOrderly, none_last}
-use Rattle.radio_headline.proofs.AppliedLemmas.{all_close_nothing, leaves_silently, open_joined, orderly_joined, said_all, said_joined, told_joined}
-use Rattle.radio_headline.proofs.ReplyForms.{IsIdle, leave_reply}
-use Rattle.radio_headline.proofs.RunLemmas.{IsOwn, IsIdling}
-use Rattle.radio_headline.proofs.Connections.{arrival, events_of, IsIdleOrLeaving, IsBehindRequest, IsNoRequest, AsksForMount, AsksNothing, ByGet, Feeds}
-use Rattle.radio_headline.proofs.Connections.{Facts, HasAskedNothing, HasSentGet, IsSource, IsClosed, IsTold, Stage, AtHead, AfterGet, AtBody, AfterBody, Refused}
-use Rattle.radio_headline.proofs.Connections.{IsClient, IsSo}
+use Rattle.radio_headline.proofs.AppliedLemmas.{EachAsked, applied_each, applied_tell, goes_on, IsNotLast, IsOpen, IsOrderly, none_last}
+use Rattle.radio_headline.proofs.AppliedLemmas.{open_joined, said_all, said_joined, told_joined}
+use Rattle.radio_headline.proofs.ReplyForms.{IsIdle}
+use Rattle.radio_headline.proofs.RunLemmas.{IsOwn}
+use Rattle.radio_headline.proofs.Connections.{arrival, events_of, IsIdleOrLeaving, IsBehindRequest, IsNoRequest, AsksForMount, ByGet, Feeds}
+use Rattle.radio_headline.proofs.Connections.{Facts, IsTold, Stage}
+use Rattle.radio_headline.proofs.Connections.{IsSo}
 
 pub events_of_entries : (w : World) (events : List Event) → events_of (entries w events) ≡ events
 events_of_entries w [] = refl

@@ -1,24 +1,20 @@
 -- What comes to a client's connection leaves it so.
-use Rattle.std.proofs.Common.{◌≡◌, ◌⊎◌, inl, inr, ℕ, Bool, true, false, List, [], ◌∷◌, ◌++◌, drop, Option, None, Some, Result, Ok, Err, refl, sym, ap, subst, ◌∙◌, append_assoc}
-use Rattle.std.specs.Prelude.{map, codes, if◌then◌else◌, option_map}
+use Rattle.std.proofs.Common.{◌≡◌, ◌⊎◌, inl, inr, ℕ, Bool, true, false, List, [], ◌∷◌, ◌++◌, drop, Some, Ok, refl, sym, ap, subst, ◌∙◌, append_assoc}
+use Rattle.std.specs.Prelude.{codes, if◌then◌else◌, option_map}
 use Rattle.std.specs.List.{concat}
 use Rattle.std.specs.Str.{bytes_eq}
-use Rattle.std.proofs.lemmas.List.{append-nil, drop-append-le}
-use Rattle.std.proofs.lemmas.List.Concat.{flat_map-append}
+use Rattle.std.proofs.lemmas.List.{append-nil}
 use Rattle.radio_addr.specs.declared.peer.Peer.{Peer}
 use Rattle.radio_blocks.specs.Cutting.{blocks_of}
 use Rattle.radio_policy.specs.declared.rule.Rule.{Rule}
-use Rattle.radio_policy.specs.declared.rule.Rule.TheVariants.{BadHead, BadMethod}
 use Rattle.radio_events.specs.declared.event.Event.{Event}
-use Rattle.radio_events.specs.declared.event.Event.TheVariants.{Arrive, Source, Push, SourceEnd, Title, Listen, Draw, Command, Leave, RelayUp, RelayDown, Clock}
+use Rattle.radio_events.specs.declared.event.Event.TheVariants.{Leave}
 use Rattle.radio_events.specs.declared.reply.Reply.{Reply}
 use Rattle.radio_events.specs.declared.reply.Reply.TheVariants.{Arrived}
 use Rattle.radio_events.specs.Events.{client_in}
-use Rattle.radio_core.specs.Step.{reply_to, world_after}
+use Rattle.radio_core.specs.Step.{reply_to}
 use Rattle.radio_core.specs.World.{World}
-use Rattle.radio_heads.specs.declared.outcome.Progress.{Progress}
-use Rattle.radio_heads.specs.declared.outcome.Progress.TheVariants.{More, Whole}
-use Rattle.radio_heads.specs.declared.outcome.HeadFault.{HeadFault}
+use Rattle.radio_heads.specs.declared.outcome.Progress.TheVariants.{Whole}
 use Rattle.radio_heads.specs.Head.{RequestParts, ShowsRequest}
 use Rattle.radio_heads.specs.Laws.{IsSettled, HeadsLieWithin}
 use Rattle.radio_heads.specs.Reading.{IsReading}
@@ -26,142 +22,31 @@ use Rattle.radio_source.specs.Feeding.{unfed}
 use Rattle.radio_source.specs.Place.{Place, after, data_of, has_ended, fault_at}
 use Rattle.radio_session.specs.declared.session.Hears.{Hears}
 use Rattle.radio_session.specs.declared.session.Hears.TheVariants.{Head, Body, Nothing}
-use Rattle.radio_session.specs.declared.session.LastWord.{LastWord}
-use Rattle.radio_session.specs.declared.session.Says.{Says}
-use Rattle.radio_session.specs.declared.state.State.{State}
-use Rattle.radio_session.specs.declared.state.State.TheVariants.{Running, Shut}
+use Rattle.radio_session.specs.declared.state.State.TheVariants.{Running}
 use Rattle.radio_session.specs.Asking.{asks_to_feed, asks_by_get, asks_to_hear, gives_command, is_for_commands, path_in}
 use Rattle.radio_session.specs.Conversation.{Conversation, asking, saying_now}
-use Rattle.radio_session.specs.Exchanges.{WorldExchange, exchanged, then_exchanged, is_leave}
+use Rattle.radio_session.specs.Exchanges.{exchanged}
 use Rattle.radio_session.specs.Framing.{is_source, framing_of, start_of}
-use Rattle.radio_session.specs.Hearing.{Heard, HearsAs, body_closes, body_heard, delivered, get_heard, greeted, head_heard, nothing_held, refuses, source_heard}
-use Rattle.radio_session.specs.Pushes.{pushes}
-use Rattle.radio_session.specs.Saying.{said}
+use Rattle.radio_session.specs.Hearing.{Heard, HearsAs, body_closes, get_heard, greeted, head_heard, nothing_held, refuses}
 use Rattle.radio_session.specs.Told.{told}
 use Rattle.radio_floor.specs.declared.labelled.Connection.TheVariants.{Client}
 use Rattle.radio_floor.specs.ScriptState.{connection_unless}
-use Rattle.radio_headline.specs.Course.{and_then, applied}
-use Rattle.radio_headline.specs.Sources.{pushed, pushed_by}
+use Rattle.radio_headline.specs.Course.{applied}
+use Rattle.radio_headline.specs.Sources.{pushed}
 use Rattle.radio_headline.proofs.Logs.{Entry, entry, entries, replies, replies_joined, Each, each_as, each_joined}
-use Rattle.radio_headline.proofs.AppliedLemmas.{EachAsked, applied_each, applied_orderly, applied_tell, goes_on, IsNotLast, IsOpen, IsOrderly, none_last}
-use Rattle.radio_headline.proofs.AppliedLemmas.{all_close_nothing, leaves_silently, open_joined, orderly_joined, said_all, said_joined, told_joined}
+use Rattle.radio_headline.proofs.AppliedLemmas.{EachAsked, applied_each, applied_orderly, goes_on, IsOpen, IsOrderly}
+use Rattle.radio_headline.proofs.AppliedLemmas.{all_close_nothing, leaves_silently, orderly_joined, said_all, told_joined}
 use Rattle.radio_headline.proofs.ReplyForms.{IsIdle, leave_reply}
-use Rattle.radio_headline.proofs.RunLemmas.{IsOwn, IsIdling}
+use Rattle.radio_headline.proofs.RunLemmas.{IsIdling}
 use Rattle.radio_headline.proofs.Connections.{arrival, events_of, IsIdleOrLeaving, IsBehindRequest, IsNoRequest, AsksForMount, AsksNothing, ByGet, Feeds}
 use Rattle.radio_headline.proofs.Connections.{Facts, HasAskedNothing, HasSentGet, IsSource, IsClosed, IsTold, Stage, AtHead, AfterGet, AtBody, AfterBody, Refused}
 use Rattle.radio_headline.proofs.Connections.{IsClient, IsSo}
-use Rattle.radio_headline.proofs.ClientEvents.{First, IsIdleOrLeave, Pushed, PushesNothing, applied_pushed, asked_as, asked_joined, behind_is_his, client_owns, entries_each, events_of_entries, events_of_joined, feeds_with, first_of_applied, get_with, idle_asks_nothing, idle_is_behind, idle_is_his, idle_or_leaving_is_his, idle_pushes_nothing, new, none_pushed, pushed_joined, settles, still_told, told_now}
+use Rattle.radio_headline.proofs.ClientEvents.{First, IsIdleOrLeave, Pushed, PushesNothing, applied_pushed, asked_as, behind_is_his, client_owns, entries_each, events_of_entries, events_of_joined, feeds_with, first_of_applied, get_with, idle_asks_nothing, idle_is_behind, idle_is_his, idle_or_leaving_is_his, idle_pushes_nothing, new, none_pushed, pushed_joined, settles, still_told, told_now}
+use Rattle.radio_headline.proofs.HeardLemmas.{AGet, ASource, Delivers, HeadHeard, IsRefused, Unfinished, behind_head, delivers_by, more_data, more_for_source, of_reading, read_more}
 
 module _ (settled : IsSettled ShowsRequest) (within : HeadsLieWithin ShowsRequest) (joined : (bytes : List ℕ) → concat (blocks_of bytes) ≡ bytes)
     (places : (place : Place) (first second : List ℕ) → after place (first ++ second) ≡ after (after place first) second)
     (data_joined : (place : Place) (first second : List ℕ) → data_of place (first ++ second) ≡ data_of place first ++ data_of (after place first) second) where
-  -- more bytes may come
-  read_more : (bytes more : List ℕ) (request : RequestParts) (n : ℕ) → IsReading ShowsRequest bytes (Ok (Whole request n))
-      → IsReading ShowsRequest (bytes ++ more) (Ok (Whole request n))
-  read_more bytes more request n reading = settled bytes more (Ok (Whole request n)) reading (λ e. cc)
-
-  pub more_for_get : (bytes more : List ℕ) (log : List Entry) (given : List ℕ) → ByGet bytes log given → ByGet (bytes ++ more) log given
-  more_for_get bytes more log given g =
-      get_with bytes (bytes ++ more) log log given given g (read_more bytes more g.request g.length g.reading) g.behind g.in_order g.no_more g.orderly g.is_told
-
-  behind_head : (bytes more : List ℕ) (request : RequestParts) (n : ℕ) → IsReading ShowsRequest bytes (Ok (Whole request n))
-      → drop n (bytes ++ more) ≡ drop n bytes ++ more
-  behind_head bytes more request n reading = drop-append-le n bytes more (within bytes request n reading)
-
-  more_data : (bytes more : List ℕ) (request : RequestParts) (n : ℕ) (place : Place) → IsReading ShowsRequest bytes (Ok (Whole request n))
-      → data_of place (drop n (bytes ++ more)) ≡ data_of place (drop n bytes) ++ data_of (after place (drop n bytes)) more
-  more_data bytes more request n place reading =
-      ap (data_of place) (behind_head bytes more request n reading) ∙ data_joined place (drop n bytes) more
-
-  pub more_for_source : (bytes more : List ℕ) (log : List Entry) → Feeds bytes log → Feeds (bytes ++ more) log
-  more_for_source bytes more log f =
-      let later = data_of (after f.start (drop f.length bytes)) more in
-      feeds_with bytes (bytes ++ more) log log f (read_more bytes more f.request f.length f.reading) f.behind f.in_order f.no_more f.orderly (f.rest ++ later)
-      (sym (append_assoc (pushed (events_of f.behind)) f.rest later) ∙ ap (λ (xs : List ℕ). xs ++ later) f.front
-      ∙ sym (more_data bytes more f.request f.length f.start f.reading))
-
-  -- what a body is heard as
-  pub record Delivers (conversation : Conversation) (before : List Event) (place : Place) (bytes : List ℕ) (heard : Heard) : Type 0 where
-    pub asked : List Event
-    pub events : heard.events ≡ before ++ asked
-    pub each : EachAsked (IsBehindRequest conversation.id) asked
-    pub content : pushed asked ≡ data_of place bytes
-    pub his : heard.conversation.id ≡ conversation.id
-    pub peer : heard.conversation.peer ≡ conversation.peer
-    pub hears : (heard.conversation.hears ≡ Body (unfed (after place bytes))) ⊎ (heard.conversation.hears ≡ Nothing)
-
-  blocks_pushed : (id : ℕ) (blocks : List (List ℕ)) → pushed (map (Push id) blocks) ≡ concat blocks
-  blocks_pushed id [] = refl
-  blocks_pushed id (block ∷ blocks) = ap (λ (xs : List ℕ). block ++ xs) (blocks_pushed id blocks)
-
-  blocks_asked : (id : ℕ) (blocks : List (List ℕ)) → EachAsked (IsBehindRequest id) (map (Push id) blocks)
-  blocks_asked id [] = tt
-  blocks_asked id (block ∷ blocks) = (refl, blocks_asked id blocks)
-
-  pushes_all : (id : ℕ) (bytes : List ℕ) → pushed (pushes id bytes) ≡ bytes
-  pushes_all id bytes = blocks_pushed id (blocks_of bytes) ∙ joined bytes
-
-  pub delivers_by : (conversation : Conversation) (before : List Event) (place : Place) (bytes : List ℕ) (word : Option LastWord)
-      → Delivers conversation before place bytes (delivered conversation (before ++ pushes conversation.id (data_of place bytes)) (after place bytes) word)
-  delivers_by conversation before place bytes None = record {
-    asked = pushes conversation.id (data_of place bytes);
-    events = refl;
-    each = blocks_asked conversation.id (blocks_of (data_of place bytes));
-    content = pushes_all conversation.id (data_of place bytes);
-    his = refl;
-    peer = refl;
-    hears = inl refl;
-  }
-  delivers_by conversation before place bytes (Some word) =
-      let id = conversation.id in
-      let blocks = pushes id (data_of place bytes) in
-      record {
-        asked = blocks ++ SourceEnd id ∷ [];
-        events = append_assoc before blocks (SourceEnd id ∷ []);
-        each = asked_joined (IsBehindRequest id) blocks (SourceEnd id ∷ []) (blocks_asked id (blocks_of (data_of place bytes))) (refl, tt);
-        content = pushed_joined blocks (SourceEnd id ∷ []) ∙ append-nil (pushed blocks) ∙ pushes_all id (data_of place bytes);
-        his = refl;
-        peer = refl;
-        hears = inr refl;
-      }
-
-  -- what a head is heard as
-  data HeadHeard (conversation : Conversation) (bytes : List ℕ) : Heard → Type 0 where
-    Unfinished : HeadHeard conversation bytes (record { events = []; conversation = record conversation { held = bytes } })
-    IsRefused : (rule : Rule) → HeadHeard conversation bytes (refuses (nothing_held conversation) rule)
-    AGet : (request : RequestParts) (n : ℕ) → IsReading ShowsRequest bytes (Ok (Whole request n)) → is_source request ≡ false
-        → bytes_eq request.method (codes "GET") ≡ true → HeadHeard conversation bytes (get_heard (nothing_held conversation) request)
-    ASource : (request : RequestParts) (n : ℕ) (start : Place) → IsReading ShowsRequest bytes (Ok (Whole request n)) → is_source request ≡ true
-        → option_map start_of (framing_of request) ≡ Some start
-        → HeadHeard conversation bytes (body_heard (greeted (nothing_held conversation) request) (asks_to_feed conversation.id request ∷ []) start (drop n bytes))
-
-  module _ (conversation : Conversation) (bytes : List ℕ) where
-    of_framing : {F : Type 0} (start_at : F → Place) (hears : Option F → Heard) (request : RequestParts) (n : ℕ)
-        → IsReading ShowsRequest bytes (Ok (Whole request n)) → is_source request ≡ true → hears None ≡ refuses (nothing_held conversation) BadHead
-        → ((f : F) → hears (Some f)
-        ≡ body_heard (greeted (nothing_held conversation) request) (asks_to_feed conversation.id request ∷ []) (start_at f) (drop n bytes))
-        → (framing : Option F) → option_map start_at framing ≡ option_map start_of (framing_of request) → HeadHeard conversation bytes (hears framing)
-    of_framing start_at hears request n reading source none some None e =
-        subst (λ (x : Heard). HeadHeard conversation bytes x) (sym none) (IsRefused BadHead)
-    of_framing start_at hears request n reading source none some (Some framing) e =
-        subst (λ (x : Heard). HeadHeard conversation bytes x) (sym (some framing)) (ASource request n (start_at framing) reading source (sym e))
-
-    of_method : (request : RequestParts) (n : ℕ) → IsReading ShowsRequest bytes (Ok (Whole request n)) → (feeds : Bool) → is_source request ≡ feeds
-        → (gets : Bool) → bytes_eq request.method (codes "GET") ≡ gets
-        → HeadHeard conversation bytes
-        (if feeds then source_heard (nothing_held conversation) request (drop n bytes) (framing_of request)
-        else if gets then get_heard (nothing_held conversation) request else refuses (nothing_held conversation) BadMethod)
-    of_method request n reading true e gets g =
-        of_framing start_of (source_heard (nothing_held conversation) request (drop n bytes)) request n reading e refl (λ f. refl) (framing_of request) refl
-    of_method request n reading false e true g = AGet request n reading e g
-    of_method request n reading false e false g = IsRefused BadMethod
-
-    of_reading : (reading : Result (Progress RequestParts) HeadFault) → IsReading ShowsRequest bytes reading
-        → HeadHeard conversation bytes (head_heard conversation bytes reading)
-    of_reading (Ok More) r = Unfinished
-    of_reading (Ok (Whole request n)) r = of_method request n r (is_source request) refl (bytes_eq request.method (codes "GET")) refl
-    of_reading (Err fault) r = IsRefused BadHead
-
   -- Something comes to a client's connection, whose conversation stood so.
   module _ (w : World) (bytes : List ℕ) (log : List Entry) (given : List ℕ) (conversation : Conversation) (c : IsClient bytes log given conversation) where
     abbrev Came : List ℕ → Conversation → List Event → Type 0
@@ -256,7 +141,7 @@ module _ (settled : IsSettled ShowsRequest) (within : HeadsLieWithin ShowsReques
       -- a source's head is heard, and the first bytes of its body
       feeds_at_head : (later : List ℕ) (request : RequestParts) (n : ℕ) (start : Place) → IsReading ShowsRequest later (Ok (Whole request n))
           → is_source request ≡ true → option_map start_of (framing_of request) ≡ Some start → (heard : Heard)
-          → Delivers (greeted (nothing_held conversation) request) (asks_to_feed id request ∷ []) start (drop n later) heard
+          → Delivers settled within joined places data_joined (greeted (nothing_held conversation) request) (asks_to_feed id request ∷ []) start (drop n later) heard
           → Came later heard.conversation heard.events
       feeds_at_head later request n start reading source framed heard d =
           settled_in heard.conversation later heard.events d.his d.peer
@@ -321,13 +206,13 @@ module _ (settled : IsSettled ShowsRequest) (within : HeadsLieWithin ShowsReques
             nothing = each_joined AsksNothing log (entries w (applied w id ((refuses (nothing_held conversation) rule).conversation).says (Leave id ∷ []))) nothing_asked
                 (applied_each (λ e. AsksForMount e → ⊥) w id ((refuses (nothing_held conversation) rule).conversation).says (Leave id ∷ []) (λ a. a) ((λ a. a), tt))
 
-      head_comes : (later : List ℕ) (heard : Heard) → HeadHeard conversation later heard → conversation.hears ≡ Head → Came later heard.conversation heard.events
+      head_comes : (later : List ℕ) (heard : Heard) → HeadHeard settled within joined places data_joined conversation later heard → conversation.hears ≡ Head → Came later heard.conversation heard.events
       head_comes later heard Unfinished hears = idle_at_head later (record conversation { held = later }) [] refl refl refl hears refl tt
       head_comes later heard (IsRefused rule) hears = refused_at_head later rule
       head_comes later heard (AGet request n reading no_source is_get) hears = gets_at_head later request n reading no_source is_get
       head_comes later heard (ASource request n start reading source framed) hears =
           feeds_at_head later request n start reading source framed _
-          (delivers_by (greeted (nothing_held conversation) request) (asks_to_feed id request ∷ []) start (drop n later)
+          (delivers_by settled within joined places data_joined (greeted (nothing_held conversation) request) (asks_to_feed id request ∷ []) start (drop n later)
           (body_closes (has_ended (after start (drop n later))) (fault_at (after start (drop n later)))))
 
     -- what comes behind a GET
@@ -338,7 +223,7 @@ module _ (settled : IsSettled ShowsRequest) (within : HeadsLieWithin ShowsReques
         (λ run. AfterGet got hears (still_told w (bytes ++ more) log given conversation events conversation t refl run)) (HasSentGet got) where
           got : ByGet (bytes ++ more) (log ++ (entries w (applied w id conversation.says events))) (given ++ (exchanged w id conversation.says events).exchange.bytes)
           got = get_with bytes (bytes ++ more) log (log ++ (entries w (applied w id conversation.says events))) given
-              (given ++ (exchanged w id conversation.says events).exchange.bytes) g (read_more bytes more g.request g.length g.reading)
+              (given ++ (exchanged w id conversation.says events).exchange.bytes) g (read_more settled within joined places data_joined bytes more g.request g.length g.reading)
               (g.behind ++ (entries w (applied w id conversation.says events)))
               (ap (λ (xs : List Entry). xs ++ (entries w (applied w id conversation.says events))) g.in_order
               ∙ logged (arrival g.peer g.id) g.idle (record { event = asks_by_get g.id g.request; reply = g.reply } ∷ g.behind) (entries w (applied w id conversation.says events)))
@@ -362,7 +247,7 @@ module _ (settled : IsSettled ShowsRequest) (within : HeadsLieWithin ShowsReques
           → Fed (bytes ++ more) (log ++ (entries w (applied w now.id now.says events))) rest
       feeds_on more now events same asked rest e = (
         feeds_with bytes (bytes ++ more) log (log ++ (entries w (applied w now.id now.says events))) f
-            (read_more bytes more f.request f.length f.reading) (f.behind ++ (entries w (applied w now.id now.says events)))
+            (read_more settled within joined places data_joined bytes more f.request f.length f.reading) (f.behind ++ (entries w (applied w now.id now.says events)))
             (ap (λ (xs : List Entry). xs ++ (entries w (applied w now.id now.says events))) f.in_order
             ∙ logged (arrival f.peer f.id) f.idle (record { event = asks_to_feed f.id f.request; reply = f.reply } ∷ f.behind) (entries w (applied w now.id now.says events)))
             (each_joined (IsNoRequest f.id) f.behind (entries w (applied w now.id now.says events)) f.no_more
@@ -378,7 +263,7 @@ module _ (settled : IsSettled ShowsRequest) (within : HeadsLieWithin ShowsReques
             ∙ ap (λ (xs : List ℕ). pushed (events_of f.behind) ++ xs) e
             ∙ sym (append_assoc (pushed (events_of f.behind)) f.rest (coming more))
             ∙ ap (λ (xs : List ℕ). xs ++ coming more) f.front
-            ∙ sym (more_data bytes more f.request f.length f.start f.reading)),
+            ∙ sym (more_data settled within joined places data_joined bytes more f.request f.length f.start f.reading)),
         refl,
         refl,
         refl,
@@ -396,7 +281,7 @@ module _ (settled : IsSettled ShowsRequest) (within : HeadsLieWithin ShowsReques
 
       -- more of the body comes
       body_comes : f.rest ≡ [] → (more : List ℕ) (heard : Heard)
-          → Delivers (nothing_held conversation) [] (after f.start (drop f.length bytes)) more heard
+          → Delivers settled within joined places data_joined (nothing_held conversation) [] (after f.start (drop f.length bytes)) more heard
           → Came (bytes ++ more) heard.conversation heard.events
       body_comes none more heard d =
           settled_in heard.conversation (bytes ++ more) heard.events d.his d.peer
@@ -415,7 +300,7 @@ module _ (settled : IsSettled ShowsRequest) (within : HeadsLieWithin ShowsReques
                 (given ++ (exchanged w heard.conversation.id heard.conversation.says heard.events).exchange.bytes) (saying_now heard.conversation (exchanged w heard.conversation.id heard.conversation.says heard.events).exchange.says)
             stage run (inl h) = AtBody fed.0 (fed.1 ∙ p.whole run) (h ∙ ap (λ (place : Place). Body (unfed place))
                 (sym (places f.start (drop f.length bytes) more)
-                ∙ ap (after f.start) (sym (behind_head bytes more f.request f.length f.reading))
+                ∙ ap (after f.start) (sym (behind_head settled within joined places data_joined bytes more f.request f.length f.reading))
                 ∙ ap (λ (n : ℕ). after f.start (drop n (bytes ++ more))) (sym fed.3)
                 ∙ ap (λ (q : Place). after q (drop fed.0.length (bytes ++ more))) (sym fed.2)))
             stage run (inr h) = AfterBody fed.0 h
@@ -472,7 +357,7 @@ module _ (settled : IsSettled ShowsRequest) (within : HeadsLieWithin ShowsReques
           let r = subst (λ (s : Hears). HearsAs s conversation more heard) hears h in
           subst (λ (x : Heard). Came (bytes ++ more) x.conversation x.events) (sym (r.2 ∙ ap (λ (b : List ℕ). head_heard conversation (b ++ more) r.0) held))
           (head_comes idle arrived idles t (bytes ++ more) (head_heard conversation (bytes ++ more) r.0)
-          (of_reading conversation (bytes ++ more) r.0 (subst (λ (b : List ℕ). IsReading ShowsRequest (b ++ more) r.0) held r.1)) hears)
+          (of_reading settled within joined places data_joined conversation (bytes ++ more) r.0 (subst (λ (b : List ℕ). IsReading ShowsRequest (b ++ more) r.0) held r.1)) hears)
       by_stage (AfterGet g hears t) =
           nothing_heard hears (behind_get g (same_arrival g.peer g.id _ g.in_order) t hears more [] tt)
       by_stage (AtBody f none hears) =
@@ -480,7 +365,7 @@ module _ (settled : IsSettled ShowsRequest) (within : HeadsLieWithin ShowsReques
           let place = after f.start (drop f.length bytes) in
           subst (λ (x : Heard). Came (bytes ++ more) x.conversation x.events) (sym r)
           (body_comes f (same_arrival f.peer f.id _ f.in_order) none more _
-          (delivers_by (nothing_held conversation) [] place more (body_closes (has_ended (after place more)) (fault_at (after place more)))))
+          (delivers_by settled within joined places data_joined (nothing_held conversation) [] place more (body_closes (has_ended (after place more)) (fault_at (after place more)))))
       by_stage (AfterBody f hears) = nothing_heard hears (after_body f (same_arrival f.peer f.id _ f.in_order) hears more [] tt)
       by_stage (Refused nothing hears) = nothing_heard hears (after_refusal nothing hears (bytes ++ more) [] tt)
 
@@ -519,7 +404,7 @@ module _ (settled : IsSettled ShowsRequest) (within : HeadsLieWithin ShowsReques
           ∙ ap (λ (rs : List Reply). told asking rs) (sym (replies_joined log (entry w (Leave id) ∷ [])))
 
       more_get : ByGet bytes log given → IsTold conversation log given → Facts (bytes ++ []) (log ++ (entry w (Leave id) ∷ [])) given
-      more_get g t = HasSentGet (get_with bytes (bytes ++ []) log (log ++ (entry w (Leave id) ∷ [])) given given g (read_more bytes [] g.request g.length g.reading) (g.behind ++ (entry w (Leave id) ∷ []))
+      more_get g t = HasSentGet (get_with bytes (bytes ++ []) log (log ++ (entry w (Leave id) ∷ [])) given given g (read_more settled within joined places data_joined bytes [] g.request g.length g.reading) (g.behind ++ (entry w (Leave id) ∷ []))
           (ap (λ (xs : List Entry). xs ++ (entry w (Leave id) ∷ [])) g.in_order
           ∙ logged (arrival g.peer g.id) g.idle (record { event = asks_by_get g.id g.request; reply = g.reply } ∷ g.behind) (entry w (Leave id) ∷ []))
           (each_joined (IsIdleOrLeaving g.id) g.behind (entry w (Leave id) ∷ []) g.no_more (inr (ap (λ (n : ℕ). Leave n) (sym (same_arrival g.peer g.id _ g.in_order))), tt))
@@ -527,7 +412,7 @@ module _ (settled : IsSettled ShowsRequest) (within : HeadsLieWithin ShowsReques
 
       more_source : Feeds bytes log → Facts (bytes ++ []) (log ++ (entry w (Leave id) ∷ [])) given
       more_source f =
-          let m = more_for_source bytes [] log f in
+          let m = more_for_source settled within joined places data_joined bytes [] log f in
           IsSource (feeds_with (bytes ++ []) (bytes ++ []) log (log ++ (entry w (Leave id) ∷ [])) m m.reading (m.behind ++ (entry w (Leave id) ∷ []))
           (ap (λ (xs : List Entry). xs ++ (entry w (Leave id) ∷ [])) m.in_order
           ∙ logged (arrival m.peer m.id) m.idle (record { event = asks_to_feed m.id m.request; reply = m.reply } ∷ m.behind) (entry w (Leave id) ∷ []))

@@ -3,69 +3,32 @@ use Rattle.std.proofs.Common.{◌≡◌, ◌⊎◌, inl, inr, ℕ, ◌==◌, Boo
 use Rattle.std.specs.Prelude.{if◌then◌else◌}
 use Rattle.std.specs.List.{AllByRecursion, flat_map}
 use Rattle.std.proofs.lemmas.Bool.Decides.{nat_tests}
-use Rattle.std.proofs.lemmas.List.{append-nil}
-use Rattle.std.proofs.lemmas.List.Concat.{flat_map-append}
-use Rattle.radio_addr.specs.declared.peer.Peer.{Peer}
-use Rattle.radio_settings.specs.declared.settings.Settings.{Settings}
-use Rattle.radio_settings.specs.Web.{web_path}
-use Rattle.radio_settings.specs.declared.web.WebPath.{WebPath}
-use Rattle.radio_access.specs.Lists.{Lists}
 use Rattle.radio_policy.specs.declared.rule.Rule.{Rule}
-use Rattle.radio_policy.specs.declared.judgement.Verdict.{Verdict}
-use Rattle.radio_policy.specs.declared.judgement.Verdict.TheVariants.{Allow, Deny as Denied}
-use Rattle.radio_policy.specs.Table.{Row}
-use Rattle.radio_policy.specs.Verdicts.{Allows, verdict_in}
 use Rattle.radio_events.specs.declared.event.Event.{Event}
 use Rattle.radio_events.specs.declared.event.Event.TheVariants.{Arrive, Source, Push, SourceEnd, Title, Listen, Draw, Command, Leave, RelayUp, RelayDown, Clock}
-use Rattle.radio_core.specs.Ways.{rows_for}
-use Rattle.radio_policy.specs.Verdicts.{Denies}
-use Rattle.radio_events.specs.declared.command.CommandRequest.{CommandRequest}
-use Rattle.radio_events.specs.declared.text.Text.{Text as CommandText}
 use Rattle.radio_events.specs.declared.event.ListenRequest.{ListenRequest}
 use Rattle.radio_events.specs.declared.reply.Reply.{Reply}
 use Rattle.radio_events.specs.declared.reply.Reply.TheVariants.{Arrived, Feeding, Seated, Drawn, Noted, Text, Deny, Finished, Stray}
 use Rattle.radio_events.specs.declared.reply.StreamHead.{StreamHead}
 use Rattle.radio_events.specs.Events.{client_in}
 use Rattle.radio_icy.specs.Weaving.{Call}
-use Rattle.radio_core.specs.declared.standing.Standing.{Standing}
-use Rattle.radio_core.specs.declared.standing.Standing.TheVariants.{Unknown, Undecided, Feeds, Sits, Answered as IsAnswered, Finished as HasFinished}
-use Rattle.radio_core.specs.ClientSteps.{ClientsStep}
 use Rattle.radio_core.specs.Handing.{is_number}
-use Rattle.radio_core.specs.Others.{RepliesFit}
-use Rattle.radio_core.specs.declared.outcome.Change.TheVariants.{Answer}
-use Rattle.radio_core.specs.declared.outcome.Outcome.{Outcome}
-use Rattle.radio_core.specs.Listen.{sits_where}
-use Rattle.radio_core.specs.Outcomes.{if_undecided, on_verdict}
-use Rattle.radio_core.specs.Pages.{asks_by, shows_page}
-use Rattle.radio_core.specs.Facts.{rows_to_listen, walks_to}
-use Rattle.radio_core.specs.Run.{run_after}
-use Rattle.radio_core.specs.Step.{outcome, reply_to, world_after}
-use Rattle.radio_core.specs.Totals.{AddsUp}
-use Rattle.radio_core.specs.World.{World, opening, standing_of}
-use Rattle.radio_laws.specs.Access.{AccessIsKept}
-use Rattle.radio_laws.specs.Admission.{BeginsAtABlock, IsSeated}
-use Rattle.radio_laws.specs.Stretches.{sittings}
-use Rattle.radio_laws.specs.Denials.{DenialsAreThePolicys}
-use Rattle.radio_laws.specs.Service.{Serves}
+use Rattle.radio_core.specs.Step.{reply_to, world_after}
+use Rattle.radio_core.specs.World.{World}
 use Rattle.radio_heads.specs.Head.{RequestParts}
 use Rattle.radio_session.specs.Asking.{asks_by_get, asks_to_hear, gives_command, is_for_commands, path_in}
 use Rattle.radio_session.specs.Conversation.{asking}
-use Rattle.radio_session.specs.declared.session.Says.{Says}
-use Rattle.radio_session.specs.Draws.{draw, joined_draws}
-use Rattle.radio_session.specs.Saying.{denial, head_text, said, text_answer}
-use Rattle.radio_session.specs.Told.{AdmitNobody, DrawsFollowTheHead, draws_of, told}
+use Rattle.radio_session.specs.Draws.{draw}
+use Rattle.radio_session.specs.Saying.{said}
+use Rattle.radio_session.specs.Told.{AdmitNobody, draws_of, told}
 use Rattle.radio_floor.specs.declared.labelled.Connection.{Connection}
 use Rattle.radio_floor.specs.declared.labelled.Connection.TheVariants.{Client, Relay}
-use Rattle.radio_floor.specs.ScriptState.{ScriptState, connection_of}
-use Rattle.radio_script.specs.declared.delivery.Delivery.{Delivery}
-use Rattle.radio_script.specs.Given.{TranscriptLine, given}
+use Rattle.radio_script.specs.Given.{given}
 use Rattle.radio_headline.specs.Course.{Happening, events_in, on}
-use Rattle.radio_headline.specs.Listeners.{CommandIsAnswered, DrawsAreStretches, SitsWithASource, Hears, IsDenied, IsGiven, IsShown, IsTooLate, draws_to}
-use Rattle.radio_headline.specs.Sources.{HasItsSource, brought}
-use Rattle.radio_headline.proofs.Logs.{Entry, entry, after_joined, log_on, log_joined, replies, replies_joined, Each, each_as, each_joined, each_second, itself}
-use Rattle.radio_headline.proofs.AppliedLemmas.{IsLast, IsLeaving, IsOpen, IsOrderly, said_all, told_joined}
-use Rattle.radio_headline.proofs.ReplyForms.{ListenReply, IsOutOfPlace, HasFinished as IsFinishedReply, WasDenied, WasShown, WasSeated, listen_reply}
-use Rattle.radio_headline.proofs.RunLemmas.{HasNumber, IsOwn, IsIdling, IsNew, AllNowhere, IsMoment, moments_are_nobodys, are_on_first, arrives_and_idles, each_happening, one_owner, reached_opening}
+use Rattle.radio_headline.specs.Listeners.{draws_to}
+use Rattle.radio_headline.proofs.Logs.{Entry, entry, log_on, replies, Each, each_as, each_joined, each_second, itself}
+use Rattle.radio_headline.proofs.AppliedLemmas.{IsLast, IsLeaving, IsOpen, IsOrderly, said_all}
+use Rattle.radio_headline.proofs.RunLemmas.{IsOwn, IsIdling}
 use Rattle.radio_headline.proofs.Connections.{arrival, AsksForMount, AsksNothing, ByGet, Feeds as IsFeeding, IsIdleOrLeaving, IsBehindRequest, IsNoRequest}
 use Rattle.radio_headline.proofs.Connections.{Facts, HasAskedNothing, HasSentGet, IsSource, IsPulling, IsSo, Stage, AtHead, AfterGet, AtBody, AfterBody, Refused}
 use Rattle.radio_headline.proofs.ClientEvents.{client_owns, idle_asks_nothing, idle_is_his}

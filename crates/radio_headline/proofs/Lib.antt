@@ -7,10 +7,14 @@ mod RunLemmas
 mod OwnLogs
 mod Connections
 mod ClientEvents
+mod HeardLemmas
 mod ConnectionSteps
+mod PullParts
 mod PullSteps
 mod LabelLemmas
+mod FaultLemmas
 mod CourseLemmas
+mod RunOfCourses
 mod DrawLemmas
 mod GetLogs
 mod ListenerLemmas

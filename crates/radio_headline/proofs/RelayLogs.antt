@@ -5,9 +5,8 @@ use Rattle.std.specs.List.{flat_map}
 use Rattle.std.proofs.lemmas.List.{append-nil}
 use Rattle.std.proofs.lemmas.List.Concat.{flat_map-append}
 use Rattle.radio_events.specs.declared.event.Event.{Event}
-use Rattle.radio_events.specs.declared.event.Event.TheVariants.{Push, Title, Draw, Leave, RelayUp, RelayDown}
+use Rattle.radio_events.specs.declared.event.Event.TheVariants.{RelayUp, RelayDown}
 use Rattle.radio_events.specs.declared.reply.Reply.{Reply}
-use Rattle.radio_events.specs.declared.reply.Reply.TheVariants.{Arrived, Feeding, Seated, Drawn, Noted as WasNoted, Text, Deny, Finished, Stray}
 use Rattle.radio_core.specs.Run.{world_after_all}
 use Rattle.radio_core.specs.Step.{Step, reply_to, world_after}
 use Rattle.radio_core.specs.World.{World}
@@ -21,7 +20,7 @@ use Rattle.radio_pull.specs.Course.{Asks, AsksIf, Brings, Follows, GoesDown, Goe
 use Rattle.radio_headline.specs.Course.{Noted, noting}
 use Rattle.radio_headline.specs.Sources.{pushed, pushed_by}
 use Rattle.radio_settings.specs.declared.field.Shown.{Shown}
-use Rattle.radio_headline.proofs.Logs.{Each, Entry, entry, entries}
+use Rattle.radio_headline.proofs.Logs.{Each, entry, entries}
 use Rattle.radio_headline.proofs.AppliedLemmas.{EachAsked}
 use Rattle.radio_headline.proofs.RelayWords.{IsCut, IsGoing, IsNoUp, IsNotRefused, OfRelay, OwnRelay, Ups, number_after, plain_ups, refused_shuts}
 

@@ -1,27 +1,14 @@
 -- Words of what a relay asks for.
-use Rattle.std.proofs.Common.{◌≡◌, ◌⊎◌, ℕ, zero, List, [], ◌∷◌, ◌++◌, Option, None, Some, inl, inr, refl, sym, ap, subst, ◌∙◌, append_assoc}
-use Rattle.std.specs.Option.{option_map}
-use Rattle.std.specs.List.{flat_map}
-use Rattle.std.proofs.lemmas.List.{append-nil}
-use Rattle.std.proofs.lemmas.List.Concat.{flat_map-append}
+use Rattle.std.proofs.Common.{◌≡◌, ℕ, List, [], ◌∷◌, ◌++◌, Option, None, Some, refl, sym, subst}
 use Rattle.radio_events.specs.declared.event.Event.{Event}
 use Rattle.radio_events.specs.declared.event.Event.TheVariants.{Push, Title, Draw, Leave, RelayUp, RelayDown}
 use Rattle.radio_events.specs.declared.reply.Reply.{Reply}
 use Rattle.radio_events.specs.declared.reply.Reply.TheVariants.{Arrived, Feeding, Seated, Drawn, Noted as WasNoted, Text, Deny, Finished, Stray}
-use Rattle.radio_core.specs.Run.{world_after_all}
-use Rattle.radio_core.specs.Step.{Step, reply_to, world_after}
-use Rattle.radio_core.specs.World.{World}
 use Rattle.radio_relay.specs.declared.items.PullItem.{PullItem}
 use Rattle.radio_relay.specs.declared.items.PullItem.TheVariants.{Up, Sound, Title as Named}
-use Rattle.radio_session.specs.declared.state.State.{State}
-use Rattle.radio_session.specs.declared.state.State.TheVariants.{Running, Shut}
-use Rattle.radio_session.specs.declared.state.Ending.{Ending}
-use Rattle.radio_pull.specs.Pulling.{Standing, answered, event_of, going_on}
-use Rattle.radio_pull.specs.Course.{Asks, AsksIf, Brings, Follows, GoesDown, GoesDownIfShut}
-use Rattle.radio_headline.specs.Course.{Noted, noting}
-use Rattle.radio_headline.specs.Sources.{pushed, pushed_by}
-use Rattle.radio_settings.specs.declared.field.Shown.{Shown}
-use Rattle.radio_headline.proofs.Logs.{Each, Entry, entry, entries}
+use Rattle.radio_session.specs.declared.state.State.TheVariants.{Running}
+use Rattle.radio_pull.specs.Pulling.{answered}
+use Rattle.radio_headline.proofs.Logs.{Each, Entry}
 use Rattle.radio_headline.proofs.AppliedLemmas.{EachAsked}
 
 -- an event is of the relay of this number, or asks for one

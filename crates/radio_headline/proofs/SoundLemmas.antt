@@ -44,7 +44,7 @@ use Rattle.radio_headline.proofs.ClientEvents.{behind_is_his, idle_asks_nothing}
 use Rattle.radio_headline.proofs.CourseLemmas.{brought_joined}
 use Rattle.radio_headline.proofs.ListenerLemmas.{on_his}
 use Rattle.radio_headline.proofs.GetLogs.{IsOnIt, no_entry}
-use Rattle.radio_headline.proofs.PullSteps.{more_pulled}
+use Rattle.radio_headline.proofs.PullParts.{more_pulled}
 use Rattle.radio_headline.proofs.SourceLemmas.{Front, IsHisOrNotesNothing, brings_front, delivered_gathered, no_block, noted}
 
 -- by this event a relay comes up

@@ -2,7 +2,7 @@ use Rattle.std.proofs.Common.{[], sym, ◌∙◌}
 use Rattle.radio_floor.specs.ScriptState.{opening_script}
 use Rattle.radio_headline.specs.Course.{events_in}
 use Rattle.radio_headline.proofs.BodyLemmas.{delivers_body, listens_so}
-use Rattle.radio_headline.proofs.CourseLemmas.{comes, nothing_stands}
+use Rattle.radio_headline.proofs.RunOfCourses.{comes, nothing_stands}
 use Rattle.radio_headline.proofs.HeadlineLemmas.{shown_by_source, sit_with_sources}
 use Rattle.radio_headline.proofs.ListenerLemmas.{answered_by, given_by}
 use Rattle.radio_headline.proofs.SoundLemmas.{delivers_sound}
