@@ -51,7 +51,7 @@ use Rattle.radio_session.specs.Conversation.{asking}
 use Rattle.radio_session.specs.declared.session.Says.{Says}
 use Rattle.radio_session.specs.Draws.{joined_draws}
 use Rattle.radio_session.specs.Saying.{denial, head_text, text_answer}
-use Rattle.radio_session.specs.Told.{AdmitNobody, DrawsFollowTheHead, draws_of, told}
+use Rattle.radio_session.specs.Told.{AdmitNobody, DrawsFollowTheHead, draws_of, told, PlainDrawsAreTheirData, JoinedDrawsAreWoven, DrawsAreTakenOutAgain}
 use Rattle.radio_floor.specs.ScriptState.{ScriptState, connection_of}
 use Rattle.radio_script.specs.declared.delivery.Delivery.{Delivery}
 use Rattle.radio_script.specs.Given.{TranscriptLine, given}
@@ -181,7 +181,7 @@ module _ (settings : Settings) (lists : Lists)
   module _ (denied : (events : List Event) (event : Event) → DenialsAreThePolicys (run_after settings lists events) event)
       (begins : (events : List Event) (event : Event) → BeginsAtABlock (run_after settings lists events) event)
       (stretches : (events : List Event) (id : ℕ) → DrawsAreStretches settings lists events id)
-      (follow : DrawsFollowTheHead)
+      (follow : DrawsFollowTheHead) (plainly : PlainDrawsAreTheirData) (weave : JoinedDrawsAreWoven) (take : DrawsAreTakenOutAgain)
       (done : List Delivery) (last : ScriptState) (course : List Happening) (lines : List TranscriptLine)
       (world : last.world ≡ run_after settings lists (events_in course))
       (each : (label : ℕ) → IsSo (connection_of last.connections label) (brought done label) (log_on (opening settings lists) course label) (given lines label))
@@ -341,9 +341,14 @@ module _ (settings : Settings) (lists : Lists)
           is_seated = begins (events_in past) (Listen asked) interval head e;
           shows_his_source = shown_by_source past interval head asked (on label (Listen asked) ∷ later) parts (begins (events_in past) (Listen asked) interval head e);
           sits_with_sources = sit asked.id;
-          head_and_draws = told_as label (Listen asked) tt past later parts (Seated interval head) e
+          behind = joined_draws interval (draws_to w0 (events_in course) asked.id);
+          head_first = told_as label (Listen asked) tt past later parts (Seated interval head) e
               ∙ follow asking interval head (replies later_log) refl (nobody label (Listen asked) tt past later parts)
               ∙ ap (λ (ds : List Call). head_text interval head ++ joined_draws interval ds)
               (all_draws label (Listen asked) tt past later parts interval head e ∙ ap (draws_to w0 (events_in course)) (sym his_number));
+          are_draws = refl;
+          plain = λ none. plainly interval (draws_to w0 (events_in course) asked.id) none;
+          woven = λ n some. weave interval n (draws_to w0 (events_in course) asked.id) some;
+          taken_out_again = λ n some. (take interval n (draws_to w0 (events_in course) asked.id) some).0;
           are_slices = stretches (events_in course) asked.id;
         })
