@@ -35,6 +35,7 @@ use Rattle.radio_headline.proofs.ClientEvents.{client_owns, idle_asks_nothing, i
 use Rattle.radio_headline.proofs.OwnLogs.{relay_owns}
 use Rattle.radio_headline.proofs.RelayWords.{OfRelay, OwnRelay}
 use Rattle.radio_pull.specs.Pulling.{answered}
+use Rattle.radio_headline.proofs.Partings.{none_there, parted}
 
 pub idle_or_leaving_is_his : (id : ℕ) (e : Entry) → IsIdleOrLeaving id e → client_in e.event ≡ Some id
 idle_or_leaving_is_his id e (inl h) = idle_is_his id e.event h
@@ -132,9 +133,6 @@ relay_listens_not number (e ∷ log) own = (by_event e.event own.0, relay_listen
   by_event (Draw him room) h a = a
   by_event (RelayDown him) h a = a
 
-none_there : (before behind : List Entry) (e : Entry) → Each GetsNot (before ++ e ∷ behind) → IsGetting e.event → ⊥
-none_there before behind e h l = (each_second GetsNot before (e ∷ behind) h).0 l
-
 pub no_entry : (before behind : List Entry) (e : Entry) → [] ≡ before ++ e ∷ behind → ⊥
 no_entry [] behind e h = cc
 no_entry (x ∷ before) behind e h = cc
@@ -143,7 +141,7 @@ no_entry (x ∷ before) behind e h = cc
 module _ (bytes : List ℕ) (log : List Entry) (given : List ℕ) (before behind : List Entry) (e : Entry) (parts : log ≡ before ++ e ∷ behind)
     (listens : IsGetting e.event) where
   never : {A : Type 0} → Each GetsNot log → A
-  never h = absurd (none_there before behind e (subst (Each GetsNot) parts h) listens)
+  never h = absurd (none_there IsGetting before behind e (subst (Each GetsNot) parts h) listens)
 
   of_facts : Facts bytes log given → ByGet bytes log given
   of_facts (HasAskedNothing h) = never (nothing_listened log h)
@@ -169,30 +167,11 @@ pub idle_or_leaving_not : (id : ℕ) (e : Entry) → IsIdleOrLeaving id e → Is
 idle_or_leaving_not id e (inl h) l = idle_asks_nothing id e.event h (listening_asks e.event l)
 idle_or_leaving_not id e (inr h) l = subst IsGetting h l
 
--- the one entry of a log by which a mount is asked for
-pub record Parted (xs ys : List Entry) (e a : Entry) (cs ds : List Entry) : Type 0 where
-  pub before : xs ≡ ys
-  pub here : e ≡ a
-  pub behind : cs ≡ ds
-
-pub parted : (xs ys cs ds : List Entry) (e a : Entry) → xs ++ e ∷ cs ≡ ys ++ a ∷ ds → IsGetting e.event → Each GetsNot ys → Each GetsNot ds
-    → Parted xs ys e a cs ds
-parted [] [] cs ds e a h l none later = record { before = refl; here = cc; behind = cc }
-parted [] (y ∷ ys) cs ds e a h l none later = let same : e ≡ y = cc in absurd (none.0 (subst (λ (x : Entry). IsGetting x.event) same l))
-parted (x ∷ xs) [] cs ds e a h l none later =
-    let others : xs ++ e ∷ cs ≡ ds = cc in
-    absurd (none_there xs cs e (subst (Each GetsNot) (sym others) later) l)
-parted (x ∷ xs) (y ∷ ys) cs ds e a h l none later =
-    let first : x ≡ y = cc in
-    let others : xs ++ e ∷ cs ≡ ys ++ a ∷ ds = cc in
-    let p = parted xs ys cs ds e a others l none.1 later in
-    record { before = ap (λ (z : Entry). z ∷ xs) first ∙ ap (λ (zs : List Entry). y ∷ zs) p.before; here = p.here; behind = p.behind }
-
 -- what was asked for was asked for by that GET
 pub parted_at_get : (bytes : List ℕ) (log : List Entry) (given : List ℕ) (g : ByGet bytes log given) (before behind : List Entry) (e : Entry)
     → log ≡ before ++ e ∷ behind → IsGetting e.event → e.event ≡ asks_by_get g.id g.request
 parted_at_get bytes log given g before behind e parts l =
-    ap (λ (x : Entry). x.event) (parted before (arrival g.peer g.id ∷ g.idle) behind g.behind e _ (sym parts ∙ g.in_order) l
+    ap (λ (x : Entry). x.event) (parted IsGetting before (arrival g.peer g.id ∷ g.idle) behind g.behind e _ (sym parts ∙ g.in_order) l
     ((λ k. k), each_as (IsIdling g.id) GetsNot (idle_not g.id) g.idle g.idles)
     (each_as (IsIdleOrLeaving g.id) GetsNot (idle_or_leaving_not g.id) g.behind g.no_more)).here
 

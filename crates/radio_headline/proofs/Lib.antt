@@ -16,6 +16,7 @@ mod FaultLemmas
 mod CourseLemmas
 mod RunOfCourses
 mod DrawLemmas
+mod Partings
 mod GetLogs
 mod ListenerLemmas
 mod SourceLemmas

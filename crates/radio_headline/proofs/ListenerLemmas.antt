@@ -64,7 +64,8 @@ use Rattle.radio_headline.proofs.ReplyForms.{ListenReply, IsOutOfPlace, HasFinis
 use Rattle.radio_headline.proofs.RunLemmas.{HasNumber, IsIdling, IsNew, AllNowhere, IsMoment, moments_are_nobodys, are_on_first, arrives_and_idles, each_happening, one_owner, reached_opening}
 use Rattle.radio_headline.proofs.Connections.{arrival, AsksForMount, ByGet, IsIdleOrLeaving}
 use Rattle.radio_headline.proofs.Connections.{IsSo}
-use Rattle.radio_headline.proofs.GetLogs.{DrawsNothing, EntryFits, FitsEvent, GetsNot, IsGetting, IsHisOrDrawsNothing, IsMute, IsOnIt, Parted, Waited, admit_nobody, by_get, calls, calls_of, draws_gathered, get_is_his, idle_not, idle_or_leaving_is_his, idle_or_leaving_not, mute_draws, no_calls, none_admitted, orderly_draws, orderly_second, parted, so_owns, waited}
+use Rattle.radio_headline.proofs.GetLogs.{DrawsNothing, EntryFits, FitsEvent, GetsNot, IsGetting, IsHisOrDrawsNothing, IsMute, IsOnIt, Waited, admit_nobody, by_get, calls, calls_of, draws_gathered, get_is_his, idle_not, idle_or_leaving_is_his, idle_or_leaving_not, mute_draws, no_calls, none_admitted, orderly_draws, orderly_second, so_owns, waited}
+use Rattle.radio_headline.proofs.Partings.{Parted, parted}
 
 -- the events of clients come each on one connection
 module _ (settings : Settings) (lists : Lists)
@@ -219,7 +220,7 @@ module _ (settings : Settings) (lists : Lists)
           (connection_of last.connections label) (each label)
 
       p : Parted before (arrival g.peer g.id ∷ g.idle) (entry w ask) (record { event = asks_by_get g.id g.request; reply = g.reply }) behind g.behind
-      p = parted before (arrival g.peer g.id ∷ g.idle) behind g.behind (entry w ask) _ (sym in_order ∙ g.in_order) gets
+      p = parted IsGetting before (arrival g.peer g.id ∷ g.idle) behind g.behind (entry w ask) _ (sym in_order ∙ g.in_order) gets
           ((λ l. l), each_as (IsIdling g.id) GetsNot (idle_not g.id) g.idle g.idles)
           (each_as (IsIdleOrLeaving g.id) GetsNot (idle_or_leaving_not g.id) g.behind g.no_more)
 

@@ -46,6 +46,7 @@ use Rattle.radio_headline.proofs.ListenerLemmas.{on_his}
 use Rattle.radio_headline.proofs.GetLogs.{IsOnIt, no_entry}
 use Rattle.radio_headline.proofs.PullParts.{more_pulled}
 use Rattle.radio_headline.proofs.SourceLemmas.{Front, IsHisOrNotesNothing, brings_front, delivered_gathered, no_block, noted}
+use Rattle.radio_headline.proofs.Partings.{none_there}
 
 -- by this event a relay comes up
 abbrev IsUp : Event → Type 0
@@ -121,14 +122,11 @@ client_not conversation bytes log given c =
     subst (Each UpNot) (sym c.arrived)
     ((λ l. l), each_as (λ e. client_in e.event ≡ Some conversation.id) UpNot (λ e h. his_up_not conversation.id e.event h) c.others c.his)
 
-none_there : (before behind : List Entry) (e : Entry) → Each UpNot (before ++ e ∷ behind) → IsUp e.event → ⊥
-none_there before behind e h l = (each_second UpNot before (e ∷ behind) h).0 l
-
 -- where a relay has come up, its master's answer was read
 module _ (bytes : List ℕ) (log : List Entry) (given : List ℕ) (before behind : List Entry) (e : Entry) (parts : log ≡ before ++ e ∷ behind)
     (up : IsUp e.event) where
   never : {A : Type 0} → Each UpNot log → A
-  never h = absurd (none_there before behind e (subst (Each UpNot) parts h) up)
+  never h = absurd (none_there IsUp before behind e (subst (Each UpNot) parts h) up)
 
   of_facts : Facts bytes log given → Pulls bytes log
   of_facts (HasAskedNothing h) = never (none_asked log h)
@@ -173,7 +171,7 @@ is_first : (before cs ds : List Entry) (e a : Entry) → before ++ e ∷ cs ≡ 
 is_first [] cs ds e a h l later = record { before_none = refl; here = cc; behind = cc }
 is_first (x ∷ before) cs ds e a h l later =
     let others : before ++ e ∷ cs ≡ ds = cc in
-    absurd (none_there before cs e (subst (Each UpNot) (sym others) later) l)
+    absurd (none_there IsUp before cs e (subst (Each UpNot) (sym others) later) l)
 
 -- whose events are behind it
 own_his : (number : ℕ) (log : List Entry) → OwnRelay (Some number) log → Each (λ e. IsNoUp e.event) log → Each (IsNoRequest number) log
