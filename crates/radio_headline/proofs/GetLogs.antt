@@ -26,7 +26,7 @@ use Rattle.radio_floor.specs.declared.labelled.Connection.TheVariants.{Client, R
 use Rattle.radio_script.specs.Given.{given}
 use Rattle.radio_headline.specs.Course.{Happening, events_in, on}
 use Rattle.radio_headline.specs.Listeners.{draws_to}
-use Rattle.radio_headline.proofs.Logs.{Entry, entry, log_on, replies, Each, each_as, each_joined, each_second, itself}
+use Rattle.radio_headline.proofs.Logs.{Entry, entry, log_on, replies, Each, each_as, each_joined, itself}
 use Rattle.radio_headline.proofs.AppliedLemmas.{IsLast, IsLeaving, IsOpen, IsOrderly, said_all}
 use Rattle.radio_headline.proofs.RunLemmas.{IsOwn, IsIdling}
 use Rattle.radio_headline.proofs.Connections.{arrival, AsksForMount, AsksNothing, ByGet, Feeds as IsFeeding, IsIdleOrLeaving, IsBehindRequest, IsNoRequest}

@@ -58,7 +58,7 @@ returns c settings lists deliveries text stop transcript =
       commands = λ label asked past later parts.
           answered_by settings lists fits adds steps access served (λ rows. (c.denials_name_the_first_rule.ensures.allows rows).0) denied seated
           (c.draws_are_stretches.ensures settings lists) c.listeners_are_told_what_they_draw.ensures.joined c.listeners_are_told_what_they_draw.ensures.plain
-            c.listeners_are_told_what_they_draw.ensures.woven c.listeners_are_told_what_they_draw.ensures.taken_out came.performed transcript.0 came.course came.told
+          c.listeners_are_told_what_they_draw.ensures.woven c.listeners_are_told_what_they_draw.ensures.taken_out came.performed transcript.0 came.course came.told
           stands.world stands.each stands.nowhere deliveries
           (shown_by_source settings lists sessions mounts deliveries came.course bodies sounds stands.nowhere)
           (sit_with_sources settings lists sessions mounts deliveries came.course bodies sounds stands.nowhere) label asked past later parts;
