@@ -35,17 +35,20 @@ use Rattle.radio_floor.specs.declared.labelled.Connection.TheVariants.{Client, R
 use Rattle.radio_floor.specs.ScriptState.{ScriptState, connection_of}
 use Rattle.radio_headline.specs.Course.{Happening, events_in, on}
 use Rattle.radio_headline.specs.Sources.{DeliversItsBody, IsRequest, brought, pushed}
-use Rattle.radio_headline.proofs.Logs.{Entry, entry, log_on, log_joined, Each, each_as, each_joined, each_second, itself}
+use Rattle.radio_headline.proofs.Logs.{Entry, entry, log_on, log_joined, Each, each_as, each_joined, itself}
 use Rattle.radio_headline.proofs.AppliedLemmas.{IsOrderly}
 use Rattle.radio_headline.proofs.RunLemmas.{AllNowhere, IsMoment, HasNumber, IsIdling, last_stays, reached_opening, reached_after, reached_all}
 use Rattle.radio_headline.proofs.Connections.{arrival, AsksForMount, AsksNothing, ByGet, Feeds, IsIdleOrLeaving, IsBehindRequest, IsNoRequest, events_of}
 use Rattle.radio_headline.proofs.Connections.{Facts, HasAskedNothing, HasSentGet, IsSource, IsPulling, IsSo, Stage, AtHead, AfterGet, AtBody, AfterBody, Refused}
-use Rattle.radio_headline.proofs.ConnectionSteps.{behind_is_his, delivers_by, idle_asks_nothing, idle_pushes_nothing, more_for_get, more_for_source}
+use Rattle.radio_headline.proofs.HeardLemmas.{delivers_by, more_for_get, more_for_source}
+use Rattle.radio_headline.proofs.ClientEvents.{behind_is_his, idle_asks_nothing, idle_pushes_nothing}
 use Rattle.radio_headline.proofs.CourseLemmas.{brought_joined}
-use Rattle.radio_headline.proofs.RelayLogs.{OfRelay, OwnRelay}
+use Rattle.radio_headline.proofs.RelayWords.{OfRelay, OwnRelay}
 use Rattle.radio_pull.specs.Pulling.{answered}
-use Rattle.radio_headline.proofs.ListenerLemmas.{IsOnIt, by_get, get_is_of, no_entry, on_his, orderly_second, parted_at_get}
+use Rattle.radio_headline.proofs.ListenerLemmas.{on_his}
+use Rattle.radio_headline.proofs.GetLogs.{IsOnIt, by_get, get_is_of, no_entry, orderly_second, parted_at_get}
 use Rattle.radio_headline.proofs.SourceLemmas.{orderly_is_cut, Front, IsHisOrNotesNothing, NotesNothing, brings_front, delivered_gathered, given_before, no_block, noted, noted_of, nothing_noted}
+use Rattle.radio_headline.proofs.Partings.{Parted, none_there, parted}
 
 -- by this event a mount is asked for, to feed it
 abbrev IsSourcing : Event → Type 0
@@ -125,14 +128,11 @@ relay_feeds_not number (e ∷ log) own = (by_event e.event own.0, relay_feeds_no
   by_event (Draw him room) h a = a
   by_event (RelayDown him) h a = a
 
-none_there : (before behind : List Entry) (e : Entry) → Each FeedsNot (before ++ e ∷ behind) → IsSourcing e.event → ⊥
-none_there before behind e h l = (each_second FeedsNot before (e ∷ behind) h).0 l
-
 -- where a mount is asked for, to feed it, a source's request was heard
 module _ (bytes : List ℕ) (log : List Entry) (given : List ℕ) (before behind : List Entry) (e : Entry) (parts : log ≡ before ++ e ∷ behind)
     (feeds : IsSourcing e.event) where
   never : {A : Type 0} → Each FeedsNot log → A
-  never h = absurd (none_there before behind e (subst (Each FeedsNot) parts h) feeds)
+  never h = absurd (none_there IsSourcing before behind e (subst (Each FeedsNot) parts h) feeds)
 
   of_facts : Facts bytes log given → Feeds bytes log
   of_facts (HasAskedNothing h) = never (nothing_fed log h)
@@ -154,25 +154,6 @@ module _ (bytes : List ℕ) (log : List Entry) (given : List ℕ) (before behind
   feeds_so (Some None) h = of_facts h.facts
   feeds_so (Some (Some (Client conversation))) h = of_stage conversation h.stage
   feeds_so (Some (Some (Relay pulling))) h = never (relay_feeds_not None log h.own)
-
--- the one entry of a log by which it is asked for
-record Parted (xs ys : List Entry) (e a : Entry) (cs ds : List Entry) : Type 0 where
-  pub before : xs ≡ ys
-  pub here : e ≡ a
-  pub behind : cs ≡ ds
-
-parted : (xs ys cs ds : List Entry) (e a : Entry) → xs ++ e ∷ cs ≡ ys ++ a ∷ ds → IsSourcing e.event → Each FeedsNot ys → Each FeedsNot ds
-    → Parted xs ys e a cs ds
-parted [] [] cs ds e a h l none later = record { before = refl; here = cc; behind = cc }
-parted [] (y ∷ ys) cs ds e a h l none later = let same : e ≡ y = cc in absurd (none.0 (subst (λ (x : Entry). IsSourcing x.event) same l))
-parted (x ∷ xs) [] cs ds e a h l none later =
-    let others : xs ++ e ∷ cs ≡ ds = cc in
-    absurd (none_there xs cs e (subst (Each FeedsNot) (sym others) later) l)
-parted (x ∷ xs) (y ∷ ys) cs ds e a h l none later =
-    let first : x ≡ y = cc in
-    let others : xs ++ e ∷ cs ≡ ys ++ a ∷ ds = cc in
-    let p = parted xs ys cs ds e a others l none.1 later in
-    record { before = ap (λ (z : Entry). z ∷ xs) first ∙ ap (λ (zs : List Entry). y ∷ zs) p.before; here = p.here; behind = p.behind }
 
 -- a source's request, as it is heard with the bytes behind it
 framed_so : {F : Type 0} (start_at : F → Place) (hears : Option F → Heard) (body : Place → Heard) → ((f : F) → hears (Some f) ≡ body (start_at f))
@@ -265,7 +246,7 @@ module _ (settled : IsSettled ShowsRequest) (within : HeadsLieWithin ShowsReques
           (connection_of last.connections label) (each label)
 
       p : Parted before (arrival f.peer f.id ∷ f.idle) (entry w (Source asked)) (record { event = asks_to_feed f.id f.request; reply = f.reply }) behind f.behind
-      p = parted before (arrival f.peer f.id ∷ f.idle) behind f.behind (entry w (Source asked)) _ (sym in_order ∙ f.in_order) tt
+      p = parted IsSourcing before (arrival f.peer f.id ∷ f.idle) behind f.behind (entry w (Source asked)) _ (sym in_order ∙ f.in_order) tt
           ((λ l. l), each_as (IsIdling f.id) FeedsNot (idle_feeds_not f.id) f.idle f.idles)
           (each_as (IsNoRequest f.id) FeedsNot (λ e h. behind_feeds_not f.id e.event h) f.behind f.no_more)
 
@@ -333,7 +314,7 @@ module _ (settled : IsSettled ShowsRequest) (within : HeadsLieWithin ShowsReques
       pub delivers_body : DeliversItsBody settings lists deliveries course label asked
       delivers_body =
           let h = heard_body (brought done label ++ brought rest label) (log label) whole in
-          let q = parted before (arrival whole.peer whole.id ∷ whole.idle) behind whole.behind (entry w (Source asked)) _ (sym in_order ∙ whole.in_order) tt
+          let q = parted IsSourcing before (arrival whole.peer whole.id ∷ whole.idle) behind whole.behind (entry w (Source asked)) _ (sym in_order ∙ whole.in_order) tt
           ((λ l. l), each_as (IsIdling whole.id) FeedsNot (idle_feeds_not whole.id) whole.idle whole.idles)
           (each_as (IsNoRequest whole.id) FeedsNot (λ e k. behind_feeds_not whole.id e.event k) whole.behind whole.no_more) in
           let event : Source asked ≡ asks_to_feed whole.id whole.request = ap (λ (x : Entry). x.event) q.here in

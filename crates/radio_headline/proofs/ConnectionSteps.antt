@@ -1,24 +1,20 @@
 -- What comes to a client's connection leaves it so.
-use Rattle.std.proofs.Common.{◌≡◌, ◌⊎◌, inl, inr, ℕ, Bool, true, false, List, [], ◌∷◌, ◌++◌, drop, Option, None, Some, Result, Ok, Err, refl, sym, ap, subst, ◌∙◌, append_assoc}
-use Rattle.std.specs.Prelude.{map, codes, if◌then◌else◌, option_map}
+use Rattle.std.proofs.Common.{◌≡◌, ◌⊎◌, inl, inr, ℕ, Bool, true, false, List, [], ◌∷◌, ◌++◌, drop, Some, Ok, refl, sym, ap, subst, ◌∙◌, append_assoc}
+use Rattle.std.specs.Prelude.{codes, if◌then◌else◌, option_map}
 use Rattle.std.specs.List.{concat}
 use Rattle.std.specs.Str.{bytes_eq}
-use Rattle.std.proofs.lemmas.List.{append-nil, drop-append-le}
-use Rattle.std.proofs.lemmas.List.Concat.{flat_map-append}
+use Rattle.std.proofs.lemmas.List.{append-nil}
 use Rattle.radio_addr.specs.declared.peer.Peer.{Peer}
 use Rattle.radio_blocks.specs.Cutting.{blocks_of}
 use Rattle.radio_policy.specs.declared.rule.Rule.{Rule}
-use Rattle.radio_policy.specs.declared.rule.Rule.TheVariants.{BadHead, BadMethod}
 use Rattle.radio_events.specs.declared.event.Event.{Event}
-use Rattle.radio_events.specs.declared.event.Event.TheVariants.{Arrive, Source, Push, SourceEnd, Title, Listen, Draw, Command, Leave, RelayUp, RelayDown, Clock}
+use Rattle.radio_events.specs.declared.event.Event.TheVariants.{Leave}
 use Rattle.radio_events.specs.declared.reply.Reply.{Reply}
 use Rattle.radio_events.specs.declared.reply.Reply.TheVariants.{Arrived}
 use Rattle.radio_events.specs.Events.{client_in}
-use Rattle.radio_core.specs.Step.{reply_to, world_after}
+use Rattle.radio_core.specs.Step.{reply_to}
 use Rattle.radio_house.specs.World.{World}
-use Rattle.radio_heads.specs.declared.outcome.Progress.{Progress}
-use Rattle.radio_heads.specs.declared.outcome.Progress.TheVariants.{More, Whole}
-use Rattle.radio_heads.specs.declared.outcome.HeadFault.{HeadFault}
+use Rattle.radio_heads.specs.declared.outcome.Progress.TheVariants.{Whole}
 use Rattle.radio_heads.specs.Head.{RequestParts, ShowsRequest}
 use Rattle.radio_heads.specs.Laws.{IsSettled, HeadsLieWithin}
 use Rattle.radio_heads.specs.Reading.{IsReading}
@@ -26,434 +22,31 @@ use Rattle.radio_source.specs.Feeding.{unfed}
 use Rattle.radio_source.specs.Place.{Place, after, data_of, has_ended, fault_at}
 use Rattle.radio_session.specs.declared.session.Hears.{Hears}
 use Rattle.radio_session.specs.declared.session.Hears.TheVariants.{Head, Body, Nothing}
-use Rattle.radio_session.specs.declared.session.LastWord.{LastWord}
-use Rattle.radio_session.specs.declared.session.Says.{Says}
-use Rattle.radio_session.specs.declared.state.State.{State}
-use Rattle.radio_session.specs.declared.state.State.TheVariants.{Running, Shut}
+use Rattle.radio_session.specs.declared.state.State.TheVariants.{Running}
 use Rattle.radio_session.specs.Asking.{asks_to_feed, asks_by_get, asks_to_hear, gives_command, is_for_commands, path_in}
 use Rattle.radio_session.specs.Conversation.{Conversation, asking, saying_now}
-use Rattle.radio_session.specs.Exchanges.{WorldExchange, exchanged, then_exchanged, is_leave}
+use Rattle.radio_session.specs.Exchanges.{exchanged}
 use Rattle.radio_session.specs.Framing.{is_source, framing_of, start_of}
-use Rattle.radio_session.specs.Hearing.{Heard, HearsAs, body_closes, body_heard, delivered, get_heard, greeted, head_heard, nothing_held, refuses, source_heard}
-use Rattle.radio_session.specs.Pushes.{pushes}
-use Rattle.radio_session.specs.Saying.{said}
+use Rattle.radio_session.specs.Hearing.{Heard, HearsAs, body_closes, get_heard, greeted, head_heard, nothing_held, refuses}
 use Rattle.radio_session.specs.Told.{told}
 use Rattle.radio_floor.specs.declared.labelled.Connection.TheVariants.{Client}
 use Rattle.radio_floor.specs.ScriptState.{connection_unless}
-use Rattle.radio_headline.specs.Course.{and_then, applied}
-use Rattle.radio_headline.specs.Sources.{pushed, pushed_by}
+use Rattle.radio_headline.specs.Course.{applied}
+use Rattle.radio_headline.specs.Sources.{pushed}
 use Rattle.radio_headline.proofs.Logs.{Entry, entry, entries, replies, replies_joined, Each, each_as, each_joined}
-use Rattle.radio_headline.proofs.AppliedLemmas.{EachAsked, applied_each, applied_orderly, applied_tell, goes_on, IsNotLast, IsOpen, IsOrderly, none_last}
-use Rattle.radio_headline.proofs.AppliedLemmas.{all_close_nothing, leaves_silently, open_joined, orderly_joined, said_all, said_joined, told_joined}
+use Rattle.radio_headline.proofs.AppliedLemmas.{EachAsked, applied_each, applied_orderly, goes_on, IsOpen, IsOrderly}
+use Rattle.radio_headline.proofs.AppliedLemmas.{all_close_nothing, leaves_silently, orderly_joined, said_all, told_joined}
 use Rattle.radio_headline.proofs.ReplyForms.{IsIdle, leave_reply}
-use Rattle.radio_headline.proofs.RunLemmas.{IsOwn, IsIdling}
+use Rattle.radio_headline.proofs.RunLemmas.{IsIdling}
 use Rattle.radio_headline.proofs.Connections.{arrival, events_of, IsIdleOrLeaving, IsBehindRequest, IsNoRequest, AsksForMount, AsksNothing, ByGet, Feeds}
 use Rattle.radio_headline.proofs.Connections.{Facts, HasAskedNothing, HasSentGet, IsSource, IsClosed, IsTold, Stage, AtHead, AfterGet, AtBody, AfterBody, Refused}
 use Rattle.radio_headline.proofs.Connections.{IsClient, IsSo}
-
-pub events_of_entries : (w : World) (events : List Event) → events_of (entries w events) ≡ events
-events_of_entries w [] = refl
-events_of_entries w (event ∷ events) = ap (λ (xs : List Event). event ∷ xs) (events_of_entries (world_after w event) events)
-
-pub events_of_joined : (log more : List Entry) → events_of (log ++ more) ≡ events_of log ++ events_of more
-events_of_joined [] more = refl
-events_of_joined (e ∷ log) more = ap (λ (xs : List Event). e.event ∷ xs) (events_of_joined log more)
-
-pub pushed_joined : (events more : List Event) → pushed (events ++ more) ≡ pushed events ++ pushed more
-pushed_joined events more = flat_map-append pushed_by events more
-
-abbrev PushesNothing : Event → Type 0
-PushesNothing event = pushed_by event ≡ []
-
-none_pushed : (log : List Entry) → Each (λ e. PushesNothing e.event) log → pushed (events_of log) ≡ []
-none_pushed [] h = refl
-none_pushed (e ∷ log) h = ap (λ (xs : List ℕ). xs ++ pushed (events_of log)) h.0 ∙ none_pushed log h.1
-
--- what is pushed is a front of what was asked to be, and all of it where the connection goes on
-pub record Pushed (w : World) (id : ℕ) (says : Says) (asked : List Event) : Type 0 where
-  pub rest : List ℕ
-  pub front : pushed (applied w id says asked) ++ rest ≡ pushed asked
-  pub whole : (exchanged w id says asked).exchange.state ≡ Running → rest ≡ []
-
-left_pushes : (leaves : Bool) (id : ℕ) → pushed (if leaves then [] else Leave id ∷ []) ≡ []
-left_pushes true id = refl
-left_pushes false id = refl
-
-then_pushed : (w : World) (id : ℕ) (says : Says) (event : Event) (asked : List Event) (state : State) → (said says (reply_to w event)).state ≡ state
-    → Pushed (world_after w event) id (said says (reply_to w event)).says asked → Pushed w id says (event ∷ asked)
-then_pushed w id says event asked Running e p =
-    let of = said says (reply_to w event) in
-    let later = world_after w event in
-    record {
-      rest = p.rest;
-      front = ap (λ (s : State). pushed (and_then id event s (applied later id of.says asked)) ++ p.rest) e
-          ∙ append_assoc (pushed_by event) (pushed (applied later id of.says asked)) p.rest
-          ∙ ap (λ (xs : List ℕ). pushed_by event ++ xs) p.front;
-      whole = λ run. p.whole (sym (ap (λ (s : State). (then_exchanged later id event of s (exchanged later id of.says asked)).exchange.state) e) ∙ run);
-    }
-then_pushed w id says event asked (Shut ending) e p =
-    let of = said says (reply_to w event) in
-    let later = world_after w event in
-    record {
-      rest = pushed asked;
-      front = ap (λ (s : State). pushed (and_then id event s (applied later id of.says asked)) ++ pushed asked) e
-          ∙ ap (λ (xs : List ℕ). (pushed_by event ++ xs) ++ pushed asked) (left_pushes (is_leave event) id)
-          ∙ ap (λ (xs : List ℕ). xs ++ pushed asked) (append-nil (pushed_by event));
-      whole = λ run. let stopped = sym (ap (λ (s : State). (then_exchanged later id event of s (exchanged later id of.says asked)).exchange.state) e) ∙ run in cc;
-    }
-
-applied_pushed : (w : World) (id : ℕ) (says : Says) (asked : List Event) → Pushed w id says asked
-applied_pushed w id says [] = record { rest = []; front = refl; whole = λ run. refl }
-applied_pushed w id says (event ∷ asked) =
-    then_pushed w id says event asked (said says (reply_to w event)).state refl
-    (applied_pushed (world_after w event) id (said says (reply_to w event)).says asked)
-
--- the first is applied, and then others
-record First (P : Event → Type 0) (w : World) (id : ℕ) (says : Says) (event : Event) (asked : List Event) : Type 0 where
-  pub others : List Entry
-  pub in_order : entries w (applied w id says (event ∷ asked)) ≡ entry w event ∷ others
-  pub each : Each (λ e. P e.event) others
-
-first_by : (P : Event → Type 0) (w : World) (id : ℕ) (says : Says) (event : Event) (asked : List Event) (state : State)
-    → (said says (reply_to w event)).state ≡ state → P (Leave id) → EachAsked P asked → First P w id says event asked
-first_by P w id says event asked Running e l h =
-    let of = said says (reply_to w event) in
-    let later = world_after w event in
-    record {
-      others = entries later (applied later id of.says asked);
-      in_order = ap (λ (s : State). entries w (and_then id event s (applied later id of.says asked))) e;
-      each = applied_each P later id of.says asked l h;
-    }
-first_by P w id says event asked (Shut ending) e l h =
-    let of = said says (reply_to w event) in
-    let later = world_after w event in
-    record {
-      others = entries later (if is_leave event then [] else Leave id ∷ []);
-      in_order = ap (λ (s : State). entries w (and_then id event s (applied later id of.says asked))) e;
-      each = either (is_leave event);
-    } where
-      either : (b : Bool) → Each (λ x. P x.event) (entries (world_after w event) (if b then [] else Leave id ∷ []))
-      either true = tt
-      either false = (l, tt)
-
-first_of_applied : (P : Event → Type 0) (w : World) (id : ℕ) (says : Says) (event : Event) (asked : List Event) → P (Leave id) → EachAsked P asked
-    → First P w id says event asked
-first_of_applied P w id says event asked l h = first_by P w id says event asked (said says (reply_to w event)).state refl l h
-
-asked_as : (P Q : Event → Type 0) → ((e : Event) → P e → Q e) → (events : List Event) → EachAsked P events → EachAsked Q events
-asked_as P Q f [] h = tt
-asked_as P Q f (e ∷ events) h = (f e h.0, asked_as P Q f events h.1)
-
-asked_joined : (P : Event → Type 0) (events more : List Event) → EachAsked P events → EachAsked P more → EachAsked P (events ++ more)
-asked_joined P [] more h k = k
-asked_joined P (e ∷ events) more h k = (h.0, asked_joined P events more h.1 k)
-
-pub entries_each : (P : Event → Type 0) (w : World) (events : List Event) → EachAsked P events → Each (λ e. P e.event) (entries w events)
-entries_each P w [] h = tt
-entries_each P w (e ∷ events) h = (h.0, entries_each P (world_after w e) events h.1)
-
--- whose events they are
-pub idle_is_his : (id : ℕ) (event : Event) → IsIdle id event → client_in event ≡ Some id
-idle_is_his id (Arrive peer) h = elim h [ ]
-idle_is_his id (Source asked) h = elim h [ ]
-idle_is_his id (Push him block) h = elim h [ ]
-idle_is_his id (SourceEnd him) h = elim h [ ]
-idle_is_his id (Listen asked) h = elim h [ ]
-idle_is_his id (Command asked) h = elim h [ ]
-idle_is_his id (Leave him) h = elim h [ ]
-idle_is_his id (RelayUp mount shown) h = elim h [ ]
-idle_is_his id (RelayDown him) h = elim h [ ]
-idle_is_his id (Clock ms) h = elim h [ ]
-idle_is_his id (Draw him room) h = ap (λ (n : ℕ). Some n) h
-idle_is_his id (Title him text) h = ap (λ (n : ℕ). Some n) h
-
-pub idle_asks_nothing : (id : ℕ) (event : Event) → IsIdle id event → AsksForMount event → ⊥
-idle_asks_nothing id (Arrive peer) h a = elim h [ ]
-idle_asks_nothing id (Source asked) h a = elim h [ ]
-idle_asks_nothing id (Push him block) h a = elim h [ ]
-idle_asks_nothing id (SourceEnd him) h a = elim h [ ]
-idle_asks_nothing id (Listen asked) h a = elim h [ ]
-idle_asks_nothing id (Command asked) h a = elim h [ ]
-idle_asks_nothing id (Leave him) h a = elim h [ ]
-idle_asks_nothing id (RelayUp mount shown) h a = elim h [ ]
-idle_asks_nothing id (RelayDown him) h a = elim h [ ]
-idle_asks_nothing id (Clock ms) h a = elim h [ ]
-idle_asks_nothing id (Draw him room) h a = a
-idle_asks_nothing id (Title him text) h a = a
-
-pub idle_pushes_nothing : (id : ℕ) (event : Event) → IsIdle id event → PushesNothing event
-idle_pushes_nothing id (Arrive peer) h = elim h [ ]
-idle_pushes_nothing id (Source asked) h = elim h [ ]
-idle_pushes_nothing id (Push him block) h = elim h [ ]
-idle_pushes_nothing id (SourceEnd him) h = elim h [ ]
-idle_pushes_nothing id (Listen asked) h = elim h [ ]
-idle_pushes_nothing id (Command asked) h = elim h [ ]
-idle_pushes_nothing id (Leave him) h = elim h [ ]
-idle_pushes_nothing id (RelayUp mount shown) h = elim h [ ]
-idle_pushes_nothing id (RelayDown him) h = elim h [ ]
-idle_pushes_nothing id (Clock ms) h = elim h [ ]
-idle_pushes_nothing id (Draw him room) h = refl
-idle_pushes_nothing id (Title him text) h = refl
-
-pub idle_is_behind : (id : ℕ) (event : Event) → IsIdle id event → IsBehindRequest id event
-idle_is_behind id (Arrive peer) h = elim h [ ]
-idle_is_behind id (Source asked) h = elim h [ ]
-idle_is_behind id (Push him block) h = elim h [ ]
-idle_is_behind id (SourceEnd him) h = elim h [ ]
-idle_is_behind id (Listen asked) h = elim h [ ]
-idle_is_behind id (Command asked) h = elim h [ ]
-idle_is_behind id (Leave him) h = elim h [ ]
-idle_is_behind id (RelayUp mount shown) h = elim h [ ]
-idle_is_behind id (RelayDown him) h = elim h [ ]
-idle_is_behind id (Clock ms) h = elim h [ ]
-idle_is_behind id (Draw him room) h = h
-idle_is_behind id (Title him text) h = h
-
-pub behind_is_his : (id : ℕ) (event : Event) → IsBehindRequest id event → client_in event ≡ Some id
-behind_is_his id (Arrive peer) h = elim h [ ]
-behind_is_his id (Source asked) h = elim h [ ]
-behind_is_his id (Listen asked) h = elim h [ ]
-behind_is_his id (Command asked) h = elim h [ ]
-behind_is_his id (RelayUp mount shown) h = elim h [ ]
-behind_is_his id (RelayDown him) h = ap (λ (n : ℕ). Some n) h
-behind_is_his id (Clock ms) h = elim h [ ]
-behind_is_his id (Push him block) h = ap (λ (n : ℕ). Some n) h
-behind_is_his id (SourceEnd him) h = ap (λ (n : ℕ). Some n) h
-behind_is_his id (Title him text) h = ap (λ (n : ℕ). Some n) h
-behind_is_his id (Draw him room) h = ap (λ (n : ℕ). Some n) h
-behind_is_his id (Leave him) h = ap (λ (n : ℕ). Some n) h
-
--- he draws, tells titles or leaves
-abbrev IsIdleOrLeave : ℕ → Event → Type 0
-IsIdleOrLeave id event = IsIdle id event ⊎ (event ≡ Leave id)
-
-idle_or_leaving_is_his : (id : ℕ) (event : Event) → IsIdleOrLeave id event → client_in event ≡ Some id
-idle_or_leaving_is_his id event (inl h) = idle_is_his id event h
-idle_or_leaving_is_his id event (inr e) = ap client_in e
-
-pub client_owns : (id : ℕ) (peer : Peer) (others log : List Entry) → log ≡ arrival peer id ∷ others → Each (λ e. client_in e.event ≡ Some id) others
-    → Each (IsOwn log) log
-client_owns id peer others log e his =
-    subst (λ (xs : List Entry). Each (IsOwn xs) xs) (sym e) (
-      (λ him h. cc),
-      each_as (λ x. client_in x.event ≡ Some id) (IsOwn (arrival peer id ∷ others))
-          (λ x h him k. let same : id ≡ him = let both : Some id ≡ Some him = sym h ∙ k in cc in inl (ap (λ (n : ℕ). Arrived n) same)) others his,
-    )
-
--- A client's events are exchanged.
-module _ (w : World) (bytes : List ℕ) (log : List Entry) (given : List ℕ) (now : Conversation) (events : List Event) where
-  abbrev x : WorldExchange
-  x = exchanged w now.id now.says events
-
-  abbrev new : List Entry
-  new = entries w (applied w now.id now.says events)
-
-  settles : (others : List Entry) → log ≡ arrival now.peer now.id ∷ others → Each (λ e. client_in e.event ≡ Some now.id) others → Each IsNotLast log
-      → EachAsked (λ e. client_in e ≡ Some now.id) events
-      → (x.exchange.state ≡ Running → Stage bytes (log ++ new) (given ++ x.exchange.bytes) (saying_now now x.exchange.says))
-      → Facts bytes (log ++ new) (given ++ x.exchange.bytes)
-      → IsSo (Some (connection_unless (Some (Client (saying_now now x.exchange.says))) x.exchange.state)) bytes (log ++ new) (given ++ x.exchange.bytes)
-  settles others arrived his goes asked stage facts = by_state x.exchange.state refl where
-    all_his : Each (λ e. client_in e.event ≡ Some now.id) (others ++ new)
-    all_his = each_joined (λ e. client_in e.event ≡ Some now.id) others new his
-        (applied_each (λ e. client_in e ≡ Some now.id) w now.id now.says events refl asked)
-
-    all : log ++ new ≡ arrival now.peer now.id ∷ (others ++ new)
-    all = ap (λ (xs : List Entry). xs ++ new) arrived
-
-    by_state : (state : State) → x.exchange.state ≡ state
-        → IsSo (Some (connection_unless (Some (Client (saying_now now x.exchange.says))) state)) bytes (log ++ new) (given ++ x.exchange.bytes)
-    by_state Running e = record {
-      others = others ++ new;
-      arrived = all;
-      his = all_his;
-      goes_on = each_joined IsNotLast log new goes (none_last now.says new (goes_on w now.id now.says events e).goes);
-      stage = stage e;
-    }
-    by_state (Shut ending) e = record { own = client_owns now.id now.peer (others ++ new) (log ++ new) all all_his; facts = facts }
-
-  -- what is given is told of the replies still
-  module _ (before : Conversation) (t : IsTold before log given) (same : now.says ≡ before.says) where
-    says_now : now.says ≡ said_all asking (replies log)
-    says_now = same ∙ t.says
-
-    told_now : given ++ x.exchange.bytes ≡ told asking (replies (log ++ new))
-    told_now =
-        ap (λ (xs : List ℕ). xs ++ x.exchange.bytes) t.is_told
-        ∙ ap (λ (xs : List ℕ). told asking (replies log) ++ xs) (applied_tell w now.id now.says events)
-        ∙ ap (λ (s : Says). told asking (replies log) ++ told s (replies new)) says_now
-        ∙ sym (told_joined asking (replies log) (replies new) t.goes)
-        ∙ ap (λ (rs : List Reply). told asking rs) (sym (replies_joined log new))
-
-    still_told : x.exchange.state ≡ Running → IsTold (saying_now now x.exchange.says) (log ++ new) (given ++ x.exchange.bytes)
-    still_told run =
-        let g = goes_on w now.id now.says events run in
-        record {
-          says = g.so ∙ ap (λ (s : Says). said_all s (replies new)) says_now ∙ sym (said_joined asking (replies log) (replies new))
-              ∙ ap (λ (rs : List Reply). said_all asking rs) (sym (replies_joined log new));
-          goes = subst (λ (rs : List Reply). IsOpen asking rs) (sym (replies_joined log new))
-              (open_joined asking (replies log) (replies new) t.goes (subst (λ (s : Says). IsOpen s (replies new)) says_now g.goes));
-          is_told = told_now;
-        }
-
--- the same client, of other bytes and another log
-get_with : (bytes bytes' : List ℕ) (log log' : List Entry) (given given' : List ℕ) (g : ByGet bytes log given)
-    → IsReading ShowsRequest bytes' (Ok (Whole g.request g.length)) → (behind : List Entry)
-    → log' ≡ arrival g.peer g.id ∷ g.idle ++ record { event = asks_by_get g.id g.request; reply = g.reply } ∷ behind
-    → Each (IsIdleOrLeaving g.id) behind → IsOrderly g.id log' → given' ≡ told asking (replies log') → ByGet bytes' log' given'
-get_with bytes bytes' log log' given given' g reading behind in_order no_more orderly is_told = record {
-  id = g.id;
-  peer = g.peer;
-  idle = g.idle;
-  request = g.request;
-  reply = g.reply;
-  behind = behind;
-  in_order = in_order;
-  idles = g.idles;
-  goes = g.goes;
-  no_more = no_more;
-  orderly = orderly;
-  length = g.length;
-  reading = reading;
-  no_source = g.no_source;
-  is_get = g.is_get;
-  is_told = is_told;
-}
-
-abbrev feeds_with : (bytes bytes' : List ℕ) (log log' : List Entry) (f : Feeds bytes log) → IsReading ShowsRequest bytes' (Ok (Whole f.request f.length))
-    → (behind : List Entry) → log' ≡ arrival f.peer f.id ∷ f.idle ++ record { event = asks_to_feed f.id f.request; reply = f.reply } ∷ behind
-    → Each (IsNoRequest f.id) behind → IsOrderly f.id log' → (rest : List ℕ)
-    → pushed (events_of behind) ++ rest ≡ data_of f.start (drop f.length bytes') → Feeds bytes' log'
-feeds_with bytes bytes' log log' f reading behind in_order no_more orderly rest front = record {
-  id = f.id;
-  peer = f.peer;
-  idle = f.idle;
-  request = f.request;
-  reply = f.reply;
-  behind = behind;
-  in_order = in_order;
-  idles = f.idles;
-  no_more = no_more;
-  orderly = orderly;
-  length = f.length;
-  reading = reading;
-  source = f.source;
-  start = f.start;
-  framed = f.framed;
-  rest = rest;
-  front = front;
-}
+use Rattle.radio_headline.proofs.ClientEvents.{First, IsIdleOrLeave, Pushed, PushesNothing, applied_pushed, asked_as, behind_is_his, client_owns, entries_each, events_of_entries, events_of_joined, feeds_with, first_of_applied, get_with, idle_asks_nothing, idle_is_behind, idle_is_his, idle_or_leaving_is_his, idle_pushes_nothing, new, none_pushed, pushed_joined, settles, still_told, told_now}
+use Rattle.radio_headline.proofs.HeardLemmas.{AGet, ASource, Delivers, HeadHeard, IsRefused, Unfinished, behind_head, delivers_by, more_data, more_for_source, of_reading, read_more}
 
 module _ (settled : IsSettled ShowsRequest) (within : HeadsLieWithin ShowsRequest) (joined : (bytes : List ℕ) → concat (blocks_of bytes) ≡ bytes)
     (places : (place : Place) (first second : List ℕ) → after place (first ++ second) ≡ after (after place first) second)
     (data_joined : (place : Place) (first second : List ℕ) → data_of place (first ++ second) ≡ data_of place first ++ data_of (after place first) second) where
-  -- more bytes may come
-  read_more : (bytes more : List ℕ) (request : RequestParts) (n : ℕ) → IsReading ShowsRequest bytes (Ok (Whole request n))
-      → IsReading ShowsRequest (bytes ++ more) (Ok (Whole request n))
-  read_more bytes more request n reading = settled bytes more (Ok (Whole request n)) reading (λ e. cc)
-
-  pub more_for_get : (bytes more : List ℕ) (log : List Entry) (given : List ℕ) → ByGet bytes log given → ByGet (bytes ++ more) log given
-  more_for_get bytes more log given g =
-      get_with bytes (bytes ++ more) log log given given g (read_more bytes more g.request g.length g.reading) g.behind g.in_order g.no_more g.orderly g.is_told
-
-  behind_head : (bytes more : List ℕ) (request : RequestParts) (n : ℕ) → IsReading ShowsRequest bytes (Ok (Whole request n))
-      → drop n (bytes ++ more) ≡ drop n bytes ++ more
-  behind_head bytes more request n reading = drop-append-le n bytes more (within bytes request n reading)
-
-  more_data : (bytes more : List ℕ) (request : RequestParts) (n : ℕ) (place : Place) → IsReading ShowsRequest bytes (Ok (Whole request n))
-      → data_of place (drop n (bytes ++ more)) ≡ data_of place (drop n bytes) ++ data_of (after place (drop n bytes)) more
-  more_data bytes more request n place reading =
-      ap (data_of place) (behind_head bytes more request n reading) ∙ data_joined place (drop n bytes) more
-
-  pub more_for_source : (bytes more : List ℕ) (log : List Entry) → Feeds bytes log → Feeds (bytes ++ more) log
-  more_for_source bytes more log f =
-      let later = data_of (after f.start (drop f.length bytes)) more in
-      feeds_with bytes (bytes ++ more) log log f (read_more bytes more f.request f.length f.reading) f.behind f.in_order f.no_more f.orderly (f.rest ++ later)
-      (sym (append_assoc (pushed (events_of f.behind)) f.rest later) ∙ ap (λ (xs : List ℕ). xs ++ later) f.front
-      ∙ sym (more_data bytes more f.request f.length f.start f.reading))
-
-  -- what a body is heard as
-  pub record Delivers (conversation : Conversation) (before : List Event) (place : Place) (bytes : List ℕ) (heard : Heard) : Type 0 where
-    pub asked : List Event
-    pub events : heard.events ≡ before ++ asked
-    pub each : EachAsked (IsBehindRequest conversation.id) asked
-    pub content : pushed asked ≡ data_of place bytes
-    pub his : heard.conversation.id ≡ conversation.id
-    pub peer : heard.conversation.peer ≡ conversation.peer
-    pub hears : (heard.conversation.hears ≡ Body (unfed (after place bytes))) ⊎ (heard.conversation.hears ≡ Nothing)
-
-  blocks_pushed : (id : ℕ) (blocks : List (List ℕ)) → pushed (map (Push id) blocks) ≡ concat blocks
-  blocks_pushed id [] = refl
-  blocks_pushed id (block ∷ blocks) = ap (λ (xs : List ℕ). block ++ xs) (blocks_pushed id blocks)
-
-  blocks_asked : (id : ℕ) (blocks : List (List ℕ)) → EachAsked (IsBehindRequest id) (map (Push id) blocks)
-  blocks_asked id [] = tt
-  blocks_asked id (block ∷ blocks) = (refl, blocks_asked id blocks)
-
-  pushes_all : (id : ℕ) (bytes : List ℕ) → pushed (pushes id bytes) ≡ bytes
-  pushes_all id bytes = blocks_pushed id (blocks_of bytes) ∙ joined bytes
-
-  pub delivers_by : (conversation : Conversation) (before : List Event) (place : Place) (bytes : List ℕ) (word : Option LastWord)
-      → Delivers conversation before place bytes (delivered conversation (before ++ pushes conversation.id (data_of place bytes)) (after place bytes) word)
-  delivers_by conversation before place bytes None = record {
-    asked = pushes conversation.id (data_of place bytes);
-    events = refl;
-    each = blocks_asked conversation.id (blocks_of (data_of place bytes));
-    content = pushes_all conversation.id (data_of place bytes);
-    his = refl;
-    peer = refl;
-    hears = inl refl;
-  }
-  delivers_by conversation before place bytes (Some word) =
-      let id = conversation.id in
-      let blocks = pushes id (data_of place bytes) in
-      record {
-        asked = blocks ++ SourceEnd id ∷ [];
-        events = append_assoc before blocks (SourceEnd id ∷ []);
-        each = asked_joined (IsBehindRequest id) blocks (SourceEnd id ∷ []) (blocks_asked id (blocks_of (data_of place bytes))) (refl, tt);
-        content = pushed_joined blocks (SourceEnd id ∷ []) ∙ append-nil (pushed blocks) ∙ pushes_all id (data_of place bytes);
-        his = refl;
-        peer = refl;
-        hears = inr refl;
-      }
-
-  -- what a head is heard as
-  data HeadHeard (conversation : Conversation) (bytes : List ℕ) : Heard → Type 0 where
-    Unfinished : HeadHeard conversation bytes (record { events = []; conversation = record conversation { held = bytes } })
-    IsRefused : (rule : Rule) → HeadHeard conversation bytes (refuses (nothing_held conversation) rule)
-    AGet : (request : RequestParts) (n : ℕ) → IsReading ShowsRequest bytes (Ok (Whole request n)) → is_source request ≡ false
-        → bytes_eq request.method (codes "GET") ≡ true → HeadHeard conversation bytes (get_heard (nothing_held conversation) request)
-    ASource : (request : RequestParts) (n : ℕ) (start : Place) → IsReading ShowsRequest bytes (Ok (Whole request n)) → is_source request ≡ true
-        → option_map start_of (framing_of request) ≡ Some start
-        → HeadHeard conversation bytes (body_heard (greeted (nothing_held conversation) request) (asks_to_feed conversation.id request ∷ []) start (drop n bytes))
-
-  module _ (conversation : Conversation) (bytes : List ℕ) where
-    of_framing : {F : Type 0} (start_at : F → Place) (hears : Option F → Heard) (request : RequestParts) (n : ℕ)
-        → IsReading ShowsRequest bytes (Ok (Whole request n)) → is_source request ≡ true → hears None ≡ refuses (nothing_held conversation) BadHead
-        → ((f : F) → hears (Some f)
-        ≡ body_heard (greeted (nothing_held conversation) request) (asks_to_feed conversation.id request ∷ []) (start_at f) (drop n bytes))
-        → (framing : Option F) → option_map start_at framing ≡ option_map start_of (framing_of request) → HeadHeard conversation bytes (hears framing)
-    of_framing start_at hears request n reading source none some None e =
-        subst (λ (x : Heard). HeadHeard conversation bytes x) (sym none) (IsRefused BadHead)
-    of_framing start_at hears request n reading source none some (Some framing) e =
-        subst (λ (x : Heard). HeadHeard conversation bytes x) (sym (some framing)) (ASource request n (start_at framing) reading source (sym e))
-
-    of_method : (request : RequestParts) (n : ℕ) → IsReading ShowsRequest bytes (Ok (Whole request n)) → (feeds : Bool) → is_source request ≡ feeds
-        → (gets : Bool) → bytes_eq request.method (codes "GET") ≡ gets
-        → HeadHeard conversation bytes
-        (if feeds then source_heard (nothing_held conversation) request (drop n bytes) (framing_of request)
-        else if gets then get_heard (nothing_held conversation) request else refuses (nothing_held conversation) BadMethod)
-    of_method request n reading true e gets g =
-        of_framing start_of (source_heard (nothing_held conversation) request (drop n bytes)) request n reading e refl (λ f. refl) (framing_of request) refl
-    of_method request n reading false e true g = AGet request n reading e g
-    of_method request n reading false e false g = IsRefused BadMethod
-
-    of_reading : (reading : Result (Progress RequestParts) HeadFault) → IsReading ShowsRequest bytes reading
-        → HeadHeard conversation bytes (head_heard conversation bytes reading)
-    of_reading (Ok More) r = Unfinished
-    of_reading (Ok (Whole request n)) r = of_method request n r (is_source request) refl (bytes_eq request.method (codes "GET")) refl
-    of_reading (Err fault) r = IsRefused BadHead
-
   -- Something comes to a client's connection, whose conversation stood so.
   module _ (w : World) (bytes : List ℕ) (log : List Entry) (given : List ℕ) (conversation : Conversation) (c : IsClient bytes log given conversation) where
     abbrev Came : List ℕ → Conversation → List Event → Type 0
@@ -548,7 +141,7 @@ module _ (settled : IsSettled ShowsRequest) (within : HeadsLieWithin ShowsReques
       -- a source's head is heard, and the first bytes of its body
       feeds_at_head : (later : List ℕ) (request : RequestParts) (n : ℕ) (start : Place) → IsReading ShowsRequest later (Ok (Whole request n))
           → is_source request ≡ true → option_map start_of (framing_of request) ≡ Some start → (heard : Heard)
-          → Delivers (greeted (nothing_held conversation) request) (asks_to_feed id request ∷ []) start (drop n later) heard
+          → Delivers settled within joined places data_joined (greeted (nothing_held conversation) request) (asks_to_feed id request ∷ []) start (drop n later) heard
           → Came later heard.conversation heard.events
       feeds_at_head later request n start reading source framed heard d =
           settled_in heard.conversation later heard.events d.his d.peer
@@ -613,13 +206,13 @@ module _ (settled : IsSettled ShowsRequest) (within : HeadsLieWithin ShowsReques
             nothing = each_joined AsksNothing log (entries w (applied w id ((refuses (nothing_held conversation) rule).conversation).says (Leave id ∷ []))) nothing_asked
                 (applied_each (λ e. AsksForMount e → ⊥) w id ((refuses (nothing_held conversation) rule).conversation).says (Leave id ∷ []) (λ a. a) ((λ a. a), tt))
 
-      head_comes : (later : List ℕ) (heard : Heard) → HeadHeard conversation later heard → conversation.hears ≡ Head → Came later heard.conversation heard.events
+      head_comes : (later : List ℕ) (heard : Heard) → HeadHeard settled within joined places data_joined conversation later heard → conversation.hears ≡ Head → Came later heard.conversation heard.events
       head_comes later heard Unfinished hears = idle_at_head later (record conversation { held = later }) [] refl refl refl hears refl tt
       head_comes later heard (IsRefused rule) hears = refused_at_head later rule
       head_comes later heard (AGet request n reading no_source is_get) hears = gets_at_head later request n reading no_source is_get
       head_comes later heard (ASource request n start reading source framed) hears =
           feeds_at_head later request n start reading source framed _
-          (delivers_by (greeted (nothing_held conversation) request) (asks_to_feed id request ∷ []) start (drop n later)
+          (delivers_by settled within joined places data_joined (greeted (nothing_held conversation) request) (asks_to_feed id request ∷ []) start (drop n later)
           (body_closes (has_ended (after start (drop n later))) (fault_at (after start (drop n later)))))
 
     -- what comes behind a GET
@@ -630,7 +223,7 @@ module _ (settled : IsSettled ShowsRequest) (within : HeadsLieWithin ShowsReques
         (λ run. AfterGet got hears (still_told w (bytes ++ more) log given conversation events conversation t refl run)) (HasSentGet got) where
           got : ByGet (bytes ++ more) (log ++ (entries w (applied w id conversation.says events))) (given ++ (exchanged w id conversation.says events).exchange.bytes)
           got = get_with bytes (bytes ++ more) log (log ++ (entries w (applied w id conversation.says events))) given
-              (given ++ (exchanged w id conversation.says events).exchange.bytes) g (read_more bytes more g.request g.length g.reading)
+              (given ++ (exchanged w id conversation.says events).exchange.bytes) g (read_more settled within joined places data_joined bytes more g.request g.length g.reading)
               (g.behind ++ (entries w (applied w id conversation.says events)))
               (ap (λ (xs : List Entry). xs ++ (entries w (applied w id conversation.says events))) g.in_order
               ∙ logged (arrival g.peer g.id) g.idle (record { event = asks_by_get g.id g.request; reply = g.reply } ∷ g.behind) (entries w (applied w id conversation.says events)))
@@ -654,7 +247,7 @@ module _ (settled : IsSettled ShowsRequest) (within : HeadsLieWithin ShowsReques
           → Fed (bytes ++ more) (log ++ (entries w (applied w now.id now.says events))) rest
       feeds_on more now events same asked rest e = (
         feeds_with bytes (bytes ++ more) log (log ++ (entries w (applied w now.id now.says events))) f
-            (read_more bytes more f.request f.length f.reading) (f.behind ++ (entries w (applied w now.id now.says events)))
+            (read_more settled within joined places data_joined bytes more f.request f.length f.reading) (f.behind ++ (entries w (applied w now.id now.says events)))
             (ap (λ (xs : List Entry). xs ++ (entries w (applied w now.id now.says events))) f.in_order
             ∙ logged (arrival f.peer f.id) f.idle (record { event = asks_to_feed f.id f.request; reply = f.reply } ∷ f.behind) (entries w (applied w now.id now.says events)))
             (each_joined (IsNoRequest f.id) f.behind (entries w (applied w now.id now.says events)) f.no_more
@@ -670,7 +263,7 @@ module _ (settled : IsSettled ShowsRequest) (within : HeadsLieWithin ShowsReques
             ∙ ap (λ (xs : List ℕ). pushed (events_of f.behind) ++ xs) e
             ∙ sym (append_assoc (pushed (events_of f.behind)) f.rest (coming more))
             ∙ ap (λ (xs : List ℕ). xs ++ coming more) f.front
-            ∙ sym (more_data bytes more f.request f.length f.start f.reading)),
+            ∙ sym (more_data settled within joined places data_joined bytes more f.request f.length f.start f.reading)),
         refl,
         refl,
         refl,
@@ -688,7 +281,7 @@ module _ (settled : IsSettled ShowsRequest) (within : HeadsLieWithin ShowsReques
 
       -- more of the body comes
       body_comes : f.rest ≡ [] → (more : List ℕ) (heard : Heard)
-          → Delivers (nothing_held conversation) [] (after f.start (drop f.length bytes)) more heard
+          → Delivers settled within joined places data_joined (nothing_held conversation) [] (after f.start (drop f.length bytes)) more heard
           → Came (bytes ++ more) heard.conversation heard.events
       body_comes none more heard d =
           settled_in heard.conversation (bytes ++ more) heard.events d.his d.peer
@@ -707,7 +300,7 @@ module _ (settled : IsSettled ShowsRequest) (within : HeadsLieWithin ShowsReques
                 (given ++ (exchanged w heard.conversation.id heard.conversation.says heard.events).exchange.bytes) (saying_now heard.conversation (exchanged w heard.conversation.id heard.conversation.says heard.events).exchange.says)
             stage run (inl h) = AtBody fed.0 (fed.1 ∙ p.whole run) (h ∙ ap (λ (place : Place). Body (unfed place))
                 (sym (places f.start (drop f.length bytes) more)
-                ∙ ap (after f.start) (sym (behind_head bytes more f.request f.length f.reading))
+                ∙ ap (after f.start) (sym (behind_head settled within joined places data_joined bytes more f.request f.length f.reading))
                 ∙ ap (λ (n : ℕ). after f.start (drop n (bytes ++ more))) (sym fed.3)
                 ∙ ap (λ (q : Place). after q (drop fed.0.length (bytes ++ more))) (sym fed.2)))
             stage run (inr h) = AfterBody fed.0 h
@@ -764,7 +357,7 @@ module _ (settled : IsSettled ShowsRequest) (within : HeadsLieWithin ShowsReques
           let r = subst (λ (s : Hears). HearsAs s conversation more heard) hears h in
           subst (λ (x : Heard). Came (bytes ++ more) x.conversation x.events) (sym (r.2 ∙ ap (λ (b : List ℕ). head_heard conversation (b ++ more) r.0) held))
           (head_comes idle arrived idles t (bytes ++ more) (head_heard conversation (bytes ++ more) r.0)
-          (of_reading conversation (bytes ++ more) r.0 (subst (λ (b : List ℕ). IsReading ShowsRequest (b ++ more) r.0) held r.1)) hears)
+          (of_reading settled within joined places data_joined conversation (bytes ++ more) r.0 (subst (λ (b : List ℕ). IsReading ShowsRequest (b ++ more) r.0) held r.1)) hears)
       by_stage (AfterGet g hears t) =
           nothing_heard hears (behind_get g (same_arrival g.peer g.id _ g.in_order) t hears more [] tt)
       by_stage (AtBody f none hears) =
@@ -772,7 +365,7 @@ module _ (settled : IsSettled ShowsRequest) (within : HeadsLieWithin ShowsReques
           let place = after f.start (drop f.length bytes) in
           subst (λ (x : Heard). Came (bytes ++ more) x.conversation x.events) (sym r)
           (body_comes f (same_arrival f.peer f.id _ f.in_order) none more _
-          (delivers_by (nothing_held conversation) [] place more (body_closes (has_ended (after place more)) (fault_at (after place more)))))
+          (delivers_by settled within joined places data_joined (nothing_held conversation) [] place more (body_closes (has_ended (after place more)) (fault_at (after place more)))))
       by_stage (AfterBody f hears) = nothing_heard hears (after_body f (same_arrival f.peer f.id _ f.in_order) hears more [] tt)
       by_stage (Refused nothing hears) = nothing_heard hears (after_refusal nothing hears (bytes ++ more) [] tt)
 
@@ -811,7 +404,7 @@ module _ (settled : IsSettled ShowsRequest) (within : HeadsLieWithin ShowsReques
           ∙ ap (λ (rs : List Reply). told asking rs) (sym (replies_joined log (entry w (Leave id) ∷ [])))
 
       more_get : ByGet bytes log given → IsTold conversation log given → Facts (bytes ++ []) (log ++ (entry w (Leave id) ∷ [])) given
-      more_get g t = HasSentGet (get_with bytes (bytes ++ []) log (log ++ (entry w (Leave id) ∷ [])) given given g (read_more bytes [] g.request g.length g.reading) (g.behind ++ (entry w (Leave id) ∷ []))
+      more_get g t = HasSentGet (get_with bytes (bytes ++ []) log (log ++ (entry w (Leave id) ∷ [])) given given g (read_more settled within joined places data_joined bytes [] g.request g.length g.reading) (g.behind ++ (entry w (Leave id) ∷ []))
           (ap (λ (xs : List Entry). xs ++ (entry w (Leave id) ∷ [])) g.in_order
           ∙ logged (arrival g.peer g.id) g.idle (record { event = asks_by_get g.id g.request; reply = g.reply } ∷ g.behind) (entry w (Leave id) ∷ []))
           (each_joined (IsIdleOrLeaving g.id) g.behind (entry w (Leave id) ∷ []) g.no_more (inr (ap (λ (n : ℕ). Leave n) (sym (same_arrival g.peer g.id _ g.in_order))), tt))
@@ -819,7 +412,7 @@ module _ (settled : IsSettled ShowsRequest) (within : HeadsLieWithin ShowsReques
 
       more_source : Feeds bytes log → Facts (bytes ++ []) (log ++ (entry w (Leave id) ∷ [])) given
       more_source f =
-          let m = more_for_source bytes [] log f in
+          let m = more_for_source settled within joined places data_joined bytes [] log f in
           IsSource (feeds_with (bytes ++ []) (bytes ++ []) log (log ++ (entry w (Leave id) ∷ [])) m m.reading (m.behind ++ (entry w (Leave id) ∷ []))
           (ap (λ (xs : List Entry). xs ++ (entry w (Leave id) ∷ [])) m.in_order
           ∙ logged (arrival m.peer m.id) m.idle (record { event = asks_to_feed m.id m.request; reply = m.reply } ∷ m.behind) (entry w (Leave id) ∷ []))

@@ -1,5 +1,5 @@
 -- A script's deliveries come to a course, and each connection stands by what has happened on it.
-use Rattle.std.proofs.Common.{◌≡◌, inl, inr, ℕ, ◌+◌, ◌==◌, Bool, true, false, List, [], ◌∷◌, ◌++◌, Option, None, Some, refl, sym, ap, subst, ◌∙◌, append_assoc}
+use Rattle.std.proofs.Common.{◌≡◌, ℕ, ◌==◌, Bool, true, false, List, [], ◌∷◌, ◌++◌, Option, None, Some, refl, sym, ap, subst, ◌∙◌}
 use Rattle.std.specs.Prelude.{map, if◌then◌else◌}
 use Rattle.std.specs.Option.{option_map}
 use Rattle.std.specs.List.{concat}
@@ -37,18 +37,17 @@ use Rattle.radio_script.specs.declared.delivery.Delivery.TheVariants.{Open, Pull
 use Rattle.radio_script.specs.declared.delivery.Input.{Input}
 use Rattle.radio_script.specs.declared.delivery.Input.TheVariants.{Data, Room, Title as Named, End}
 use Rattle.radio_script.specs.Given.{TranscriptLine, given, written}
-use Rattle.radio_script.specs.Runs.{Runs}
 use Rattle.radio_floor.specs.declared.labelled.Connection.{Connection}
 use Rattle.radio_floor.specs.declared.labelled.Connection.TheVariants.{Client, Relay}
 use Rattle.radio_floor.specs.declared.labelled.Labelled.{Labelled}
 use Rattle.radio_floor.specs.ScriptState.{ScriptState, Performed, AsksOn, ComesTo, ComesToClient, ComesToRelay, IsPerformed, closes, connection_of, connection_unless}
-use Rattle.radio_floor.specs.ScriptState.{connects, exchanges, for_new_label, kept_unless, last_word, on_connection, told_lines, opening_script, opens, with_connection, pulled_on, relay_named, taken_in}
-use Rattle.radio_floor.specs.Transcript.{conduct}
-use Rattle.radio_headline.specs.Course.{ComesToNoted, Happening, Happens, HappensThere, IsAsked, Noted, and_then, applied, arrivals, courses, events_in, noting, nothing_noted, on}
+use Rattle.radio_floor.specs.ScriptState.{connects, exchanges, for_new_label, kept_unless, last_word, on_connection, told_lines, opens, with_connection, pulled_on, relay_named, taken_in}
+use Rattle.radio_headline.specs.Course.{ComesToNoted, Happening, Happens, HappensThere, IsAsked, Noted, and_then, applied, arrivals, events_in, noting, nothing_noted, on}
 use Rattle.radio_headline.specs.Sources.{brought, brought_by, bytes_in, pushed}
 use Rattle.radio_headline.proofs.Logs.{Entry, entry, entries, log_on, log_joined, log_here, log_elsewhere, after_joined, events_joined, events_on, itself, other_number}
 use Rattle.radio_headline.proofs.AppliedLemmas.{applied_lead}
-use Rattle.radio_headline.proofs.RelayLogs.{IsNoUp, OfRelay, at, asks_lifts, down}
+use Rattle.radio_headline.proofs.RelayLogs.{at, asks_lifts, down}
+use Rattle.radio_headline.proofs.RelayWords.{IsNoUp, OfRelay}
 use Rattle.radio_headline.proofs.RunLemmas.{AllNowhere, IsMoment}
 use Rattle.radio_headline.proofs.Connections.{HasAskedNothing, IsClosed, IsClient, IsRelay, IsSo, AtAnswer, AtHead}
 use Rattle.radio_headline.proofs.ConnectionSteps.{data_come, idle_comes, end_comes}
@@ -56,7 +55,7 @@ use Rattle.radio_headline.proofs.PullSteps.{idles_so, more_facts, takes_so}
 use Rattle.radio_heads.specs.Response.{ShowsResponse}
 use Rattle.radio_relay.proofs.CutLemmas.{AfterPieces, HeardInPieces}
 use Rattle.radio_relay.specs.declared.pull.Stage.TheVariants.{Head}
-use Rattle.radio_headline.proofs.LabelLemmas.{answer, answer_here, answer_elsewhere, answer_written, given_joined, opened_here, opened_elsewhere, with_here, with_elsewhere, written_joined}
+use Rattle.radio_headline.proofs.LabelLemmas.{answer, answer_here, answer_elsewhere, answer_written, given_joined, opened_here, opened_elsewhere, with_here, with_elsewhere}
 use Rattle.radio_tables.proofs.KeyLaws.{by_number}
 
 pub brought_joined : (deliveries more : List Delivery) (label : ℕ) → brought (deliveries ++ more) label ≡ brought deliveries label ++ brought more label
@@ -462,121 +461,3 @@ module _ (settings : Settings) (lists : Lists) (settled : IsSettled ShowsRequest
         (connects_next label mount (relay_named state.world mount) (connection_of state.connections label) refl)
     performs_next (To label input) p h text told = there_next label input (connection_of state.connections label) refl p h text told
     performs_next (ClockIs ms) p h text told = next_as (ClockIs ms) text p _ h told (clock_next ms)
-
-  -- a delivery is at fault: nothing happens
-  module _ (state : ScriptState) where
-    abbrev FaultOf : Delivery → ScriptState → Type 0
-    FaultOf delivery later = Happens state delivery [] × (later ≡ state)
-
-    never_at_fault : {A : Type 0} (p : Performed) (text : List ℕ) → p.lines ≡ Some text → p.lines ≡ None → A
-    never_at_fault p text e f = let both : Some text ≡ None = sym e ∙ f in cc
-
-    opens_at_fault : (label : ℕ) (peer : Peer) (found : Option (Option Connection)) → connection_of state.connections label ≡ found → (p : Performed)
-        → p ≡ for_new_label state (opens state label peer) found → p.lines ≡ None → FaultOf (Open label peer) p.state
-    opens_at_fault label peer None known p e none =
-        never_at_fault p _ (ap (λ (x : Performed). x.lines) e) none
-    opens_at_fault label peer (Some connection) known p e none = (ap (arrivals label peer) (sym known), ap (λ (x : Performed). x.state) e)
-
-    connects_at_fault : (label : ℕ) (mount : List ℕ) (wanted : Option RelaySetting) (found : Option (Option Connection)) → (p : Performed)
-        → p ≡ for_new_label state (connects state label wanted) found → p.lines ≡ None → FaultOf (Pull label mount) p.state
-    connects_at_fault label mount wanted (Some connection) p e none = (refl, ap (λ (x : Performed). x.state) e)
-    connects_at_fault label mount None None p e none = (refl, ap (λ (x : Performed). x.state) e)
-    connects_at_fault label mount (Some setting) None p e none = never_at_fault p _ (ap (λ (x : Performed). x.lines) e) none
-
-    client_at_fault : {A : Type 0} (label : ℕ) (conversation : Conversation) (input : Input) (p : Performed) → ComesToClient state label conversation input p
-        → p.lines ≡ None → A
-    client_at_fault label conversation (Data bytes) p h none = never_at_fault p _ (ap (λ (x : Performed). x.lines) (sym h.2)) none
-    client_at_fault label conversation (Room room) p h none = never_at_fault p _ (ap (λ (x : Performed). x.lines) (sym h)) none
-    client_at_fault label conversation (Named text) p h none = never_at_fault p _ (ap (λ (x : Performed). x.lines) (sym h)) none
-    client_at_fault label conversation End p h none = never_at_fault p _ (ap (λ (x : Performed). x.lines) (sym h)) none
-
-    relay_at_fault : {A : Type 0} (label : ℕ) (pulling : Pulling) (input : Input) (p : Performed) → ComesToRelay state label pulling input p → p.lines ≡ None → A
-    relay_at_fault label pulling (Data bytes) p h none = never_at_fault p _ (ap (λ (x : Performed). x.lines) (sym h.4)) none
-    relay_at_fault label pulling (Room room) p h none = never_at_fault p _ (ap (λ (x : Performed). x.lines) (sym h.3)) none
-    relay_at_fault label pulling (Named text) p h none = never_at_fault p _ (ap (λ (x : Performed). x.lines) (sym h.3)) none
-    relay_at_fault label pulling End p h none = never_at_fault p _ (ap (λ (x : Performed). x.lines) (sym h.2)) none
-
-    there_at_fault : (label : ℕ) (input : Input) (found : Option (Option Connection)) → connection_of state.connections label ≡ found → (p : Performed)
-        → on_connection state (λ connection done. ComesTo state label connection input done) p found → p.lines ≡ None → FaultOf (To label input) p.state
-    there_at_fault label input None known p h none =
-        (subst (λ (o : Option (Option Connection)). HappensThere state label input [] o) (sym known) refl, ap (λ (x : Performed). x.state) h)
-    there_at_fault label input (Some None) known p h none = never_at_fault p _ (ap (λ (x : Performed). x.lines) h) none
-    there_at_fault label input (Some (Some (Client conversation))) known p h none = client_at_fault label conversation input p h none
-    there_at_fault label input (Some (Some (Relay pulling))) known p h none = relay_at_fault label pulling input p h none
-
-    at_fault_so : (delivery : Delivery) (p : Performed) → IsPerformed state delivery p → p.lines ≡ None → FaultOf delivery p.state
-    at_fault_so (Open label peer) p h none = opens_at_fault label peer (connection_of state.connections label) refl p h none
-    at_fault_so (Pull label mount) p h none =
-        connects_at_fault label mount (relay_named state.world mount) (connection_of state.connections label) p h none
-    at_fault_so (To label input) p h none = there_at_fault label input (connection_of state.connections label) refl p h none
-    at_fault_so (ClockIs ms) p h none = never_at_fault p _ (ap (λ (x : Performed). x.lines) h) none
-
-  -- the deliveries come to a course
-  pub record Came (done deliveries : List Delivery) (state last : ScriptState) (past : List Happening) (lines : List TranscriptLine) (number : ℕ)
-      (text : List ℕ) (stop : Option ℕ) : Type 0 where
-    pub course : List Happening
-    pub runs : Runs courses (record { state = state; past = past }) number deliveries text stop (record { state = last; past = course })
-    pub performed : List Delivery
-    pub rest : List Delivery
-    pub parts : deliveries ≡ performed ++ rest
-    pub told : List TranscriptLine
-    pub is_written : written told ≡ text
-    pub stands : Stands (done ++ performed) last course (lines ++ told)
-
-  pub comes : (deliveries done : List Delivery) (state last : ScriptState) (past : List Happening) (lines : List TranscriptLine) (number : ℕ)
-      (text : List ℕ) (stop : Option ℕ) → Stands done state past lines → Runs conduct state number deliveries text stop last
-      → Came done deliveries state last past lines number text stop
-  comes [] done state last past lines number text stop s r = record {
-    course = past;
-    runs = (r.0, r.1, ap (λ (x : ScriptState). record { state = x; past = past }) r.2);
-    performed = [];
-    rest = [];
-    parts = refl;
-    told = [];
-    is_written = sym r.0;
-    stands = subst (λ (x : ScriptState). Stands (done ++ []) x past (lines ++ [])) (sym r.2)
-        (subst (λ (ds : List Delivery). Stands ds state past (lines ++ [])) (sym (append-nil done))
-        (subst (λ (ls : List TranscriptLine). Stands done state past ls) (sym (append-nil lines)) s));
-  }
-  comes (delivery ∷ deliveries) done state last past lines number text stop s r = elim r [
-    | inl f ↦
-        let fault = at_fault_so state delivery (record { lines = None; state = last }) f.refused refl in
-        record {
-          course = past ++ [];
-          runs = inl (record { refused = (f.refused, [], fault.0, refl); nothing = f.nothing; here = f.here });
-          performed = [];
-          rest = delivery ∷ deliveries;
-          parts = refl;
-          told = [];
-          is_written = sym f.nothing;
-          stands = subst (λ (x : ScriptState). Stands (done ++ []) x (past ++ []) (lines ++ [])) (sym fault.1)
-              (subst (λ (ds : List Delivery). Stands ds state (past ++ []) (lines ++ [])) (sym (append-nil done))
-              (subst (λ (ls : List TranscriptLine). Stands done state (past ++ []) ls) (sym (append-nil lines))
-              (subst (λ (hs : List Happening). Stands done state hs lines) (sym (append-nil past)) s)));
-        }
-    | inr g ↦
-        let n = performs_next done state past lines s delivery (record { lines = Some g.first; state = g.between }) g.performed g.first refl in
-        let m = comes deliveries (done ++ delivery ∷ []) g.between last (past ++ n.happenings) (lines ++ n.told) (number + 1) g.rest stop n.stands g.others in
-        record {
-          course = m.course;
-          runs = inr (record {
-            first = g.first;
-            rest = g.rest;
-            between = record { state = g.between; past = past ++ n.happenings };
-            performed = (g.performed, n.happenings, n.happen, refl);
-            parts = g.parts;
-            others = m.runs;
-          });
-          performed = delivery ∷ m.performed;
-          rest = m.rest;
-          parts = ap (λ (ds : List Delivery). delivery ∷ ds) m.parts;
-          told = n.told ++ m.told;
-          is_written = written_joined n.told m.told ∙ ap (λ (xs : List ℕ). xs ++ written m.told) n.is_written
-              ∙ ap (λ (xs : List ℕ). g.first ++ xs) m.is_written ∙ sym g.parts;
-          stands = subst (λ (ds : List Delivery). Stands ds last m.course (lines ++ (n.told ++ m.told))) (append_assoc done (delivery ∷ []) m.performed)
-              (subst (λ (ls : List TranscriptLine). Stands ((done ++ delivery ∷ []) ++ m.performed) last m.course ls) (append_assoc lines n.told m.told) m.stands);
-        }
-  ]
-
-  pub nothing_stands : Stands [] (opening_script settings lists) [] []
-  nothing_stands = record { world = refl; each = λ label. (refl, refl, refl); nowhere = tt }

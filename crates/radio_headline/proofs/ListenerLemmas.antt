@@ -1,8 +1,7 @@
 -- What is given to one who asks to hear a mount.
-use Rattle.std.proofs.Common.{◌≡◌, ◌⊎◌, inl, inr, ℕ, ◌==◌, Bool, true, false, List, [], ◌∷◌, ◌++◌, Option, None, Some, refl, sym, ap, subst, ◌∙◌, arith}
+use Rattle.std.proofs.Common.{◌≡◌, inl, inr, ℕ, ◌==◌, Bool, true, false, List, [], ◌∷◌, ◌++◌, Option, None, Some, refl, sym, ap, subst, ◌∙◌}
 use Rattle.std.specs.Prelude.{if◌then◌else◌}
-use Rattle.std.specs.List.{AllByRecursion, flat_map}
-use Rattle.std.proofs.lemmas.Bool.Decides.{nat_tests}
+use Rattle.std.specs.List.{AllByRecursion}
 use Rattle.std.proofs.lemmas.List.{append-nil}
 use Rattle.std.proofs.lemmas.List.Concat.{flat_map-append}
 use Rattle.radio_addr.specs.declared.peer.Peer.{Peer}
@@ -16,7 +15,7 @@ use Rattle.radio_policy.specs.declared.judgement.Verdict.TheVariants.{Allow, Den
 use Rattle.radio_policy.specs.Table.{Row}
 use Rattle.radio_policy.specs.Verdicts.{Allows, verdict_in}
 use Rattle.radio_events.specs.declared.event.Event.{Event}
-use Rattle.radio_events.specs.declared.event.Event.TheVariants.{Arrive, Source, Push, SourceEnd, Title, Listen, Draw, Command, Leave, RelayUp, RelayDown, Clock}
+use Rattle.radio_events.specs.declared.event.Event.TheVariants.{Listen, Draw, Command, Leave}
 use Rattle.radio_core.specs.Ways.{rows_for}
 use Rattle.radio_policy.specs.Verdicts.{Denies}
 use Rattle.radio_events.specs.declared.command.CommandRequest.{CommandRequest}
@@ -47,15 +46,12 @@ use Rattle.radio_laws.specs.Admission.{BeginsAtABlock, IsSeated}
 use Rattle.radio_laws.specs.Stretches.{sittings}
 use Rattle.radio_laws.specs.Denials.{DenialsAreThePolicys}
 use Rattle.radio_laws.specs.Service.{Serves}
-use Rattle.radio_heads.specs.Head.{RequestParts}
-use Rattle.radio_session.specs.Asking.{asks_by_get, asks_to_hear, gives_command, is_for_commands, path_in}
+use Rattle.radio_session.specs.Asking.{asks_by_get}
 use Rattle.radio_session.specs.Conversation.{asking}
 use Rattle.radio_session.specs.declared.session.Says.{Says}
-use Rattle.radio_session.specs.Draws.{draw, joined_draws}
-use Rattle.radio_session.specs.Saying.{denial, head_text, said, text_answer}
-use Rattle.radio_session.specs.Told.{AdmitNobody, DrawsFollowTheHead, draws_of, told}
-use Rattle.radio_floor.specs.declared.labelled.Connection.{Connection}
-use Rattle.radio_floor.specs.declared.labelled.Connection.TheVariants.{Client, Relay}
+use Rattle.radio_session.specs.Draws.{joined_draws}
+use Rattle.radio_session.specs.Saying.{denial, head_text, text_answer}
+use Rattle.radio_session.specs.Told.{AdmitNobody, DrawsFollowTheHead, draws_of, told, PlainDrawsAreTheirData, JoinedDrawsAreWoven, DrawsAreTakenOutAgain}
 use Rattle.radio_floor.specs.ScriptState.{ScriptState, connection_of}
 use Rattle.radio_script.specs.declared.delivery.Delivery.{Delivery}
 use Rattle.radio_script.specs.Given.{TranscriptLine, given}
@@ -63,308 +59,13 @@ use Rattle.radio_headline.specs.Course.{Happening, events_in, on}
 use Rattle.radio_headline.specs.Listeners.{CommandIsAnswered, DrawsAreStretches, SitsWithASource, Hears, IsDenied, IsGiven, IsShown, IsTooLate, draws_to}
 use Rattle.radio_headline.specs.Sources.{HasItsSource, brought}
 use Rattle.radio_headline.proofs.Logs.{Entry, entry, after_joined, log_on, log_joined, replies, replies_joined, Each, each_as, each_joined, each_second, itself}
-use Rattle.radio_headline.proofs.AppliedLemmas.{IsLast, IsLeaving, IsOpen, IsOrderly, said_all, told_joined}
+use Rattle.radio_headline.proofs.AppliedLemmas.{IsOrderly, said_all, told_joined}
 use Rattle.radio_headline.proofs.ReplyForms.{ListenReply, IsOutOfPlace, HasFinished as IsFinishedReply, WasDenied, WasShown, WasSeated, listen_reply}
-use Rattle.radio_headline.proofs.RunLemmas.{HasNumber, IsOwn, IsIdling, IsNew, AllNowhere, IsMoment, moments_are_nobodys, are_on_first, arrives_and_idles, each_happening, one_owner, reached_opening}
-use Rattle.radio_headline.proofs.Connections.{arrival, AsksForMount, AsksNothing, ByGet, Feeds as IsFeeding, IsIdleOrLeaving, IsBehindRequest, IsNoRequest}
-use Rattle.radio_headline.proofs.Connections.{Facts, HasAskedNothing, HasSentGet, IsSource, IsPulling, IsSo, Stage, AtHead, AfterGet, AtBody, AfterBody, Refused}
-use Rattle.radio_headline.proofs.ConnectionSteps.{client_owns, idle_asks_nothing, idle_is_his}
-use Rattle.radio_headline.proofs.OwnLogs.{relay_owns}
-use Rattle.radio_headline.proofs.RelayLogs.{OfRelay, OwnRelay}
-use Rattle.radio_pull.specs.Pulling.{answered}
-
-idle_or_leaving_is_his : (id : ℕ) (e : Entry) → IsIdleOrLeaving id e → client_in e.event ≡ Some id
-idle_or_leaving_is_his id e (inl h) = idle_is_his id e.event h
-idle_or_leaving_is_his id e (inr h) = ap client_in h
-
-pub get_is_his : (id : ℕ) (request : RequestParts) → client_in (asks_by_get id request) ≡ Some id
-get_is_his id request = by_kind (is_for_commands (path_in request)) where
-  by_kind : (b : Bool) → client_in (if b then gives_command id request (path_in request) else asks_to_hear id request (path_in request)) ≡ Some id
-  by_kind true = refl
-  by_kind false = refl
-
-pub get_is_of : (id : ℕ) (request : RequestParts) {asked : ListenRequest} → asks_by_get id request ≡ Listen asked → asked.id ≡ id
-get_is_of id request {asked} e = by_kind (is_for_commands (path_in request)) e where
-  by_kind : (b : Bool) → (if b then gives_command id request (path_in request) else asks_to_hear id request (path_in request)) ≡ Listen asked → asked.id ≡ id
-  by_kind true e = cc
-  by_kind false e = let his : Some id ≡ Some asked.id = ap client_in e in cc
-
-pub orderly_second : (id : ℕ) (log more : List Entry) → IsOrderly id (log ++ more) → IsOrderly id more
-orderly_second id [] more h = h
-orderly_second id (e ∷ log) more h = orderly_second id log more h.1
-
--- whose events come on a connection
-pub so_owns : (c : Option (Option Connection)) (bytes : List ℕ) (log : List Entry) (given : List ℕ) → IsSo c bytes log given → Each (IsOwn log) log
-so_owns None bytes log given h = subst (λ (xs : List Entry). Each (IsOwn xs) xs) (sym h.1) tt
-so_owns (Some None) bytes log given h = h.own
-so_owns (Some (Some (Client conversation))) bytes log given h = client_owns conversation.id conversation.peer h.others log h.arrived h.his
-so_owns (Some (Some (Relay pulling))) bytes log given h = relay_owns log h.own
-
--- by this event a mount is asked for, to hear it
-abbrev pub IsGetting : Event → Type 0
-IsGetting (Listen asked) = Unit {0}
-IsGetting (Command asked) = Unit {0}
-IsGetting event = ⊥
-
-abbrev GetsNot : Entry → Type 0
-GetsNot e = IsGetting e.event → ⊥
-
-listening_asks : (event : Event) → IsGetting event → AsksForMount event
-listening_asks (Arrive peer) h = elim h [ ]
-listening_asks (Source asked) h = elim h [ ]
-listening_asks (Push him block) h = elim h [ ]
-listening_asks (SourceEnd him) h = elim h [ ]
-listening_asks (Title him text) h = elim h [ ]
-listening_asks (Draw him room) h = elim h [ ]
-listening_asks (Leave him) h = elim h [ ]
-listening_asks (RelayUp mount shown) h = elim h [ ]
-listening_asks (RelayDown him) h = elim h [ ]
-listening_asks (Clock ms) h = elim h [ ]
-listening_asks (Command asked) h = tt
-listening_asks (Listen asked) h = tt
-
-nothing_listened : (log : List Entry) → Each AsksNothing log → Each GetsNot log
-nothing_listened log h = each_as AsksNothing GetsNot (λ e f l. f (listening_asks e.event l)) log h
-
-not_behind : (id : ℕ) (event : Event) → IsBehindRequest id event → IsGetting event → ⊥
-not_behind id (Arrive peer) h l = elim h [ ]
-not_behind id (Source asked) h l = elim h [ ]
-not_behind id (Listen asked) h l = elim h [ ]
-not_behind id (Command asked) h l = elim h [ ]
-not_behind id (RelayUp mount shown) h l = elim h [ ]
-not_behind id (RelayDown him) h l = l
-not_behind id (Clock ms) h l = elim h [ ]
-not_behind id (Push him block) h l = l
-not_behind id (SourceEnd him) h l = l
-not_behind id (Title him text) h l = l
-not_behind id (Draw him room) h l = l
-not_behind id (Leave him) h l = l
-
-idle_not : (id : ℕ) (e : Entry) → IsIdling id e → GetsNot e
-idle_not id e h l = idle_asks_nothing id e.event h (listening_asks e.event l)
-
-source_not : (bytes : List ℕ) (log : List Entry) → IsFeeding bytes log → Each GetsNot log
-source_not bytes log f =
-    subst (Each GetsNot) (sym f.in_order) (
-      (λ l. l),
-      each_joined GetsNot f.idle _ (each_as (IsIdling f.id) GetsNot (idle_not f.id) f.idle f.idles)
-          ((λ l. l), each_as (IsNoRequest f.id) GetsNot (λ e h. not_behind f.id e.event h) f.behind f.no_more),
-    )
-
--- a relay asks for no mount
-relay_listens_not : (number : Option ℕ) (log : List Entry) → OwnRelay number log → Each GetsNot log
-relay_listens_not number [] own = tt
-relay_listens_not number (e ∷ log) own = (by_event e.event own.0, relay_listens_not (answered number e.reply).number log own.1) where
-  by_event : (event : Event) → OfRelay number event → IsGetting event → ⊥
-  by_event (Arrive peer) h a = elim h [ ]
-  by_event (Source asked) h a = elim h [ ]
-  by_event (SourceEnd him) h a = elim h [ ]
-  by_event (Listen asked) h a = elim h [ ]
-  by_event (Command asked) h a = elim h [ ]
-  by_event (Leave him) h a = elim h [ ]
-  by_event (Clock ms) h a = elim h [ ]
-  by_event (RelayUp mount shown) h a = a
-  by_event (Push him block) h a = a
-  by_event (Title him text) h a = a
-  by_event (Draw him room) h a = a
-  by_event (RelayDown him) h a = a
-
-none_there : (before behind : List Entry) (e : Entry) → Each GetsNot (before ++ e ∷ behind) → IsGetting e.event → ⊥
-none_there before behind e h l = (each_second GetsNot before (e ∷ behind) h).0 l
-
-pub no_entry : (before behind : List Entry) (e : Entry) → [] ≡ before ++ e ∷ behind → ⊥
-no_entry [] behind e h = cc
-no_entry (x ∷ before) behind e h = cc
-
--- where a mount is asked for, to hear it, a GET was heard
-module _ (bytes : List ℕ) (log : List Entry) (given : List ℕ) (before behind : List Entry) (e : Entry) (parts : log ≡ before ++ e ∷ behind)
-    (listens : IsGetting e.event) where
-  never : {A : Type 0} → Each GetsNot log → A
-  never h = absurd (none_there before behind e (subst (Each GetsNot) parts h) listens)
-
-  of_facts : Facts bytes log given → ByGet bytes log given
-  of_facts (HasAskedNothing h) = never (nothing_listened log h)
-  of_facts (HasSentGet g) = g
-  of_facts (IsSource f) = never (source_not bytes log f)
-  of_facts (IsPulling q) = never (relay_listens_not None log q.own)
-
-  of_stage : (conversation : _) → Stage bytes log given conversation → ByGet bytes log given
-  of_stage conversation (AtHead idle arrived idles hears held t) =
-      never (subst (Each GetsNot) (sym arrived) ((λ l. l), each_as (IsIdling conversation.id) GetsNot (idle_not conversation.id) idle idles))
-  of_stage conversation (AfterGet g hears t) = g
-  of_stage conversation (AtBody f none hears) = never (source_not bytes log f)
-  of_stage conversation (AfterBody f hears) = never (source_not bytes log f)
-  of_stage conversation (Refused h hears) = never (nothing_listened log h)
-
-  pub by_get : (c : Option (Option Connection)) → IsSo c bytes log given → ByGet bytes log given
-  by_get None h = absurd (no_entry before behind e (sym h.1 ∙ parts))
-  by_get (Some None) h = of_facts h.facts
-  by_get (Some (Some (Client conversation))) h = of_stage conversation h.stage
-  by_get (Some (Some (Relay pulling))) h = never (relay_listens_not None log h.own)
-
-idle_or_leaving_not : (id : ℕ) (e : Entry) → IsIdleOrLeaving id e → IsGetting e.event → ⊥
-idle_or_leaving_not id e (inl h) l = idle_asks_nothing id e.event h (listening_asks e.event l)
-idle_or_leaving_not id e (inr h) l = subst IsGetting h l
-
--- the one entry of a log by which a mount is asked for
-record Parted (xs ys : List Entry) (e a : Entry) (cs ds : List Entry) : Type 0 where
-  pub before : xs ≡ ys
-  pub here : e ≡ a
-  pub behind : cs ≡ ds
-
-parted : (xs ys cs ds : List Entry) (e a : Entry) → xs ++ e ∷ cs ≡ ys ++ a ∷ ds → IsGetting e.event → Each GetsNot ys → Each GetsNot ds
-    → Parted xs ys e a cs ds
-parted [] [] cs ds e a h l none later = record { before = refl; here = cc; behind = cc }
-parted [] (y ∷ ys) cs ds e a h l none later = let same : e ≡ y = cc in absurd (none.0 (subst (λ (x : Entry). IsGetting x.event) same l))
-parted (x ∷ xs) [] cs ds e a h l none later =
-    let others : xs ++ e ∷ cs ≡ ds = cc in
-    absurd (none_there xs cs e (subst (Each GetsNot) (sym others) later) l)
-parted (x ∷ xs) (y ∷ ys) cs ds e a h l none later =
-    let first : x ≡ y = cc in
-    let others : xs ++ e ∷ cs ≡ ys ++ a ∷ ds = cc in
-    let p = parted xs ys cs ds e a others l none.1 later in
-    record { before = ap (λ (z : Entry). z ∷ xs) first ∙ ap (λ (zs : List Entry). y ∷ zs) p.before; here = p.here; behind = p.behind }
-
--- what was asked for was asked for by that GET
-pub parted_at_get : (bytes : List ℕ) (log : List Entry) (given : List ℕ) (g : ByGet bytes log given) (before behind : List Entry) (e : Entry)
-    → log ≡ before ++ e ∷ behind → IsGetting e.event → e.event ≡ asks_by_get g.id g.request
-parted_at_get bytes log given g before behind e parts l =
-    ap (λ (x : Entry). x.event) (parted before (arrival g.peer g.id ∷ g.idle) behind g.behind e _ (sym parts ∙ g.in_order) l
-    ((λ k. k), each_as (IsIdling g.id) GetsNot (idle_not g.id) g.idle g.idles)
-    (each_as (IsIdleOrLeaving g.id) GetsNot (idle_or_leaving_not g.id) g.behind g.no_more)).here
-
--- nothing was told while he waited
-abbrev IsMute : Entry → Type 0
-IsMute e = (e.reply ≡ Stray) ⊎ ((rule : Rule) × (e.reply ≡ Finished rule))
-
-record Waited (idle : List Entry) : Type 0 where
-  pub untold : told asking (replies idle) ≡ []
-  pub says : said_all asking (replies idle) ≡ asking
-
-waited : (idle : List Entry) → IsOpen asking (replies idle) → Each IsMute idle → Waited idle
-waited [] goes mute = record { untold = refl; says = refl }
-waited (e ∷ idle) goes mute = elim mute.0 [
-  | inl stray ↦
-      let later = waited idle (subst (λ (r : Reply). IsOpen (said asking r).says (replies idle)) stray goes.1) mute.1 in
-      record {
-        untold = ap (λ (r : Reply). told asking (r ∷ replies idle)) stray ∙ later.untold;
-        says = ap (λ (r : Reply). said_all asking (r ∷ replies idle)) stray ∙ later.says;
-      }
-  | inr (rule, finished) ↦
-      let shut = ap (λ (r : Reply). (said asking r).state) (sym finished) ∙ goes.0 in absurd (cc)
-]
-
--- draws
-abbrev calls_of : Entry → List Call
-calls_of e = draws_of (e.reply ∷ [])
-
-abbrev calls : List Entry → List Call
-calls log = flat_map calls_of log
-
-abbrev DrawsNothing : Entry → Type 0
-DrawsNothing e = calls_of e ≡ []
-
-no_calls : (log : List Entry) → Each DrawsNothing log → calls log ≡ []
-no_calls [] h = refl
-no_calls (e ∷ log) h = ap (λ (xs : List Call). xs ++ calls log) h.0 ∙ no_calls log h.1
-
-mute_draws : (e : Entry) → IsMute e → DrawsNothing e
-mute_draws e (inl stray) = ap (λ (r : Reply). draws_of (r ∷ [])) stray
-mute_draws e (inr (rule, finished)) = ap (λ (r : Reply). draws_of (r ∷ [])) finished
-
--- a reply fits its event
-pub record FitsEvent (event : Event) (reply : Reply) : Type 0 where
-  pub feeding : reply ≡ Feeding → AsksForMount event
-  pub seated : (interval : Option ℕ) (head : StreamHead) → reply ≡ Seated interval head → AsksForMount event
-  pub drawn : (id : ℕ) → event ≡ Leave id → draws_of (reply ∷ []) ≡ []
-
-abbrev EntryFits : Entry → Type 0
-EntryFits e = FitsEvent e.event e.reply
-
-leaving_draws : (id : ℕ) (log : List Entry) → Each EntryFits log → Each (IsLeaving id) log → Each DrawsNothing log
-leaving_draws id [] fits h = tt
-leaving_draws id (e ∷ log) fits h = (fits.0.drawn id h.0, leaving_draws id log fits.1 h.1)
-
-orderly_draws : (id : ℕ) (log : List Entry) → IsOrderly id log → Each EntryFits log → draws_of (replies log) ≡ calls log
-orderly_draws id [] o fits = refl
-orderly_draws id (e ∷ log) o fits = by_reply (orderly_draws id log o.1 fits.1) e.reply refl where
-  last : IsLast e.reply → [] ≡ calls log
-  last l = sym (no_calls log (leaving_draws id log fits.1 (o.0 l)))
-
-  by_reply : draws_of (replies log) ≡ calls log → (r : Reply) → e.reply ≡ r → draws_of (r ∷ replies log) ≡ draws_of (r ∷ []) ++ calls log
-  by_reply later (Arrived him) h = later
-  by_reply later Feeding h = later
-  by_reply later (Seated interval head) h = later
-  by_reply later (Drawn bytes title) h = ap (λ (xs : List Call). draw bytes title ∷ xs) later
-  by_reply later Noted h = later
-  by_reply later (Text text) h = last (subst IsLast (sym h) tt)
-  by_reply later (Deny rule) h = last (subst IsLast (sym h) tt)
-  by_reply later (Finished rule) h = last (subst IsLast (sym h) tt)
-  by_reply later Stray h = later
-
-abbrev AdmitsNot : Entry → Type 0
-AdmitsNot e = (e.reply ≡ Feeding → ⊥) × ((interval : Option ℕ) (head : StreamHead) → e.reply ≡ Seated interval head → ⊥)
-
-admit_nobody : (log : List Entry) → Each AdmitsNot log → AdmitNobody (replies log)
-admit_nobody [] h = tt
-admit_nobody (e ∷ log) h = by_reply (admit_nobody log h.1) e.reply refl where
-  by_reply : AdmitNobody (replies log) → (r : Reply) → e.reply ≡ r → AdmitNobody (r ∷ replies log)
-  by_reply later (Arrived him) d = later
-  by_reply later Feeding d = h.0.0 d
-  by_reply later (Seated interval head) d = h.0.1 interval head d
-  by_reply later (Drawn bytes title) d = later
-  by_reply later Noted d = later
-  by_reply later (Text text) d = later
-  by_reply later (Deny rule) d = later
-  by_reply later (Finished rule) d = later
-  by_reply later Stray d = later
-
-none_admitted : (id : ℕ) (log : List Entry) → Each (IsIdleOrLeaving id) log → Each EntryFits log → Each AdmitsNot log
-none_admitted id [] h fits = tt
-none_admitted id (e ∷ log) h fits = (
-  ((λ d. asks e (fits.0.feeding d) h.0), λ interval head d. asks e (fits.0.seated interval head d) h.0),
-  none_admitted id log h.1 fits.1,
-) where
-  asks : (e : Entry) → AsksForMount e.event → IsIdleOrLeaving id e → ⊥
-  asks e a (inl i) = idle_asks_nothing id e.event i a
-  asks e a (inr l) = subst AsksForMount l a
-
--- the events of the client are those on his connection
-pub counts_as : (id : ℕ) (event : Event) → is_number id (client_in event) ≡ true → client_in event ≡ Some id
-counts_as id event h = by_client (client_in event) refl where
-  by_client : (c : Option ℕ) → client_in event ≡ c → client_in event ≡ Some id
-  by_client None e = let no : false ≡ true = ap (is_number id) (sym e) ∙ h in cc
-  by_client (Some him) e = e ∙ ap (λ (n : ℕ). Some n) (same him (ap (is_number id) (sym e) ∙ h)) where
-    same : (him : ℕ) → (him == id) ≡ true → him ≡ id
-    same him k = grind (arith, nat_tests)
-
-abbrev IsHisOrDrawsNothing : ℕ → Entry → Type 0
-IsHisOrDrawsNothing id e = (client_in e.event ≡ Some id) ⊎ DrawsNothing e
-
-abbrev pub IsOnIt : ℕ → ℕ → Happening → Type 0
-IsOnIt label id h = client_in h.event ≡ Some id → is_number label h.label ≡ true
-
-draws_gathered : (w : World) (past : List Happening) (label id : ℕ) → AllByRecursion (IsOnIt label id) past
-    → Each (IsHisOrDrawsNothing id) (log_on w past label) → draws_to w (events_in past) id ≡ calls (log_on w past label)
-draws_gathered w [] label id on his = refl
-draws_gathered w (h ∷ past) label id on his =
-    by_tests (draws_gathered (world_after w h.event) past label id on.1) (is_number label h.label) refl (is_number id (client_in h.event)) refl his where
-      by_tests : (Each (IsHisOrDrawsNothing id) (log_on (world_after w h.event) past label)
-          → draws_to (world_after w h.event) (events_in past) id ≡ calls (log_on (world_after w h.event) past label))
-          → (b : Bool) → is_number label h.label ≡ b → (c : Bool) → is_number id (client_in h.event) ≡ c
-          → Each (IsHisOrDrawsNothing id) ((if b then entry w h.event ∷ [] else []) ++ log_on (world_after w h.event) past label)
-          → (if c then (draws_of (reply_to w h.event ∷ [])) else []) ++ draws_to (world_after w h.event) (events_in past) id ≡ calls ((if b then entry w h.event ∷ [] else []) ++ log_on (world_after w h.event) past label)
-      by_tests ih true e true f k = ap (λ (xs : List Call). (draws_of (reply_to w h.event ∷ [])) ++ xs) (ih k.1)
-      by_tests ih true e false f k =
-          ih k.1 ∙ ap (λ (xs : List Call). xs ++ calls (log_on (world_after w h.event) past label)) (sym (none k.0)) where
-            none : IsHisOrDrawsNothing id (entry w h.event) → (draws_of (reply_to w h.event ∷ [])) ≡ []
-            none (inl mine) =
-                let yes : is_number id (client_in h.event) ≡ true = ap (is_number id) mine ∙ itself id in
-                let no : true ≡ false = sym yes ∙ f in
-                cc
-            none (inr d) = d
-      by_tests ih false e true f k = let no : true ≡ false = sym (on.0 (counts_as id h.event f)) ∙ e in cc
-      by_tests ih false e false f k = ih k
+use Rattle.radio_headline.proofs.RunLemmas.{HasNumber, IsIdling, IsNew, AllNowhere, IsMoment, moments_are_nobodys, are_on_first, arrives_and_idles, each_happening, one_owner, reached_opening}
+use Rattle.radio_headline.proofs.Connections.{arrival, AsksForMount, ByGet, IsIdleOrLeaving}
+use Rattle.radio_headline.proofs.Connections.{IsSo}
+use Rattle.radio_headline.proofs.GetLogs.{DrawsNothing, EntryFits, FitsEvent, GetsNot, IsGetting, IsHisOrDrawsNothing, IsMute, IsOnIt, Waited, admit_nobody, by_get, calls, calls_of, draws_gathered, get_is_his, idle_not, idle_or_leaving_is_his, idle_or_leaving_not, mute_draws, no_calls, none_admitted, orderly_draws, orderly_second, so_owns, waited}
+use Rattle.radio_headline.proofs.Partings.{Parted, parted}
 
 -- the events of clients come each on one connection
 module _ (settings : Settings) (lists : Lists)
@@ -481,7 +182,7 @@ module _ (settings : Settings) (lists : Lists)
   module _ (denied : (events : List Event) (event : Event) → DenialsAreThePolicys (run_after settings lists events) event)
       (begins : (events : List Event) (event : Event) → BeginsAtABlock (run_after settings lists events) event)
       (stretches : (events : List Event) (id : ℕ) → DrawsAreStretches settings lists events id)
-      (follow : DrawsFollowTheHead)
+      (follow : DrawsFollowTheHead) (plainly : PlainDrawsAreTheirData) (weave : JoinedDrawsAreWoven) (take : DrawsAreTakenOutAgain)
       (done : List Delivery) (last : ScriptState) (course : List Happening) (lines : List TranscriptLine)
       (world : last.world ≡ run_after settings lists (events_in course))
       (each : (label : ℕ) → IsSo (connection_of last.connections label) (brought done label) (log_on (opening settings lists) course label) (given lines label))
@@ -519,7 +220,7 @@ module _ (settings : Settings) (lists : Lists)
           (connection_of last.connections label) (each label)
 
       p : Parted before (arrival g.peer g.id ∷ g.idle) (entry w ask) (record { event = asks_by_get g.id g.request; reply = g.reply }) behind g.behind
-      p = parted before (arrival g.peer g.id ∷ g.idle) behind g.behind (entry w ask) _ (sym in_order ∙ g.in_order) gets
+      p = parted IsGetting before (arrival g.peer g.id ∷ g.idle) behind g.behind (entry w ask) _ (sym in_order ∙ g.in_order) gets
           ((λ l. l), each_as (IsIdling g.id) GetsNot (idle_not g.id) g.idle g.idles)
           (each_as (IsIdleOrLeaving g.id) GetsNot (idle_or_leaving_not g.id) g.behind g.no_more)
 
@@ -641,9 +342,14 @@ module _ (settings : Settings) (lists : Lists)
           is_seated = begins (events_in past) (Listen asked) interval head e;
           shows_his_source = shown_by_source past interval head asked (on label (Listen asked) ∷ later) parts (begins (events_in past) (Listen asked) interval head e);
           sits_with_sources = sit asked.id;
-          head_and_draws = told_as label (Listen asked) tt past later parts (Seated interval head) e
+          behind = joined_draws interval (draws_to w0 (events_in course) asked.id);
+          head_first = told_as label (Listen asked) tt past later parts (Seated interval head) e
               ∙ follow asking interval head (replies later_log) refl (nobody label (Listen asked) tt past later parts)
               ∙ ap (λ (ds : List Call). head_text interval head ++ joined_draws interval ds)
               (all_draws label (Listen asked) tt past later parts interval head e ∙ ap (draws_to w0 (events_in course)) (sym his_number));
+          are_draws = refl;
+          plain = λ none. plainly interval (draws_to w0 (events_in course) asked.id) none;
+          woven = λ n some. weave interval n (draws_to w0 (events_in course) asked.id) some;
+          taken_out_again = λ n some. (take interval n (draws_to w0 (events_in course) asked.id) some).0;
           are_slices = stretches (events_in course) asked.id;
         })

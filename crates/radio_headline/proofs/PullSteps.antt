@@ -1,15 +1,10 @@
 -- What comes to a relay's connection leaves it so.
 use Rattle.std.proofs.Common.{◌≡◌, ◌⊎◌, inl, inr, ℕ, List, [], ◌∷◌, ◌++◌, drop, Option, None, Some, Result, Ok, Err, refl, sym, ap, subst, ◌∙◌, append_assoc}
-use Rattle.std.specs.Prelude.{map}
 use Rattle.std.specs.List.{concat}
-use Rattle.std.proofs.lemmas.List.{append-nil, drop-append-le}
-use Rattle.std.proofs.lemmas.List.Concat.{flat_map-append}
+use Rattle.std.proofs.lemmas.List.{append-nil}
 use Rattle.radio_blocks.specs.Cutting.{blocks_of}
-use Rattle.radio_settings.specs.declared.field.Shown.{Shown}
-use Rattle.radio_icy.specs.Unweaving.{Atom, SoundByte, WholeText, heard}
-use Rattle.radio_icy.specs.Titles.{title_of}
 use Rattle.radio_events.specs.declared.event.Event.{Event}
-use Rattle.radio_events.specs.declared.event.Event.TheVariants.{Arrive, Source, Push, SourceEnd, Title, Listen, Draw, Command, Leave, RelayUp, RelayDown, Clock}
+use Rattle.radio_events.specs.declared.event.Event.TheVariants.{RelayUp}
 use Rattle.radio_core.specs.Run.{world_after_all}
 use Rattle.radio_core.specs.Step.{Step, reply_to, world_after}
 use Rattle.radio_house.specs.World.{World}
@@ -21,19 +16,17 @@ use Rattle.radio_heads.specs.Head.{ShowsRequest}
 use Rattle.radio_heads.specs.Reading.{IsReading}
 use Rattle.radio_heads.specs.Response.{ResponseParts, ShowsResponse}
 use Rattle.radio_relay.specs.Answer.{interval_in, shown_by}
-use Rattle.radio_relay.specs.Items.{Gathered, all_items, items_of, nothing_gathered, with_part, with_parts}
+use Rattle.radio_relay.specs.Items.{items_of, nothing_gathered}
 use Rattle.radio_relay.specs.Laws.{sound_in}
-use Rattle.radio_relay.specs.Pulled.{IsPulledAt, Part, Pulled, ShownPart, SoundPart, TitlePart, GoesOn, Stops}
-use Rattle.radio_relay.specs.Pulled.{after_bytes, goes_on, parts_heard, pulled_as, pulled_by_interval, stops, stream_parts, stream_pulled, stream_with, title_parts}
+use Rattle.radio_relay.specs.Pulled.{IsPulledAt, Pulled, ShownPart, GoesOn, Stops}
+use Rattle.radio_relay.specs.Pulled.{after_bytes, goes_on, pulled_as, pulled_by_interval, stops, stream_parts, stream_pulled, stream_with}
 use Rattle.radio_relay.specs.declared.fault.PullFault.{PullFault}
 use Rattle.radio_relay.specs.declared.fault.PullFault.TheVariants.{BadHead}
 use Rattle.radio_relay.specs.declared.items.PullItem.{PullItem}
-use Rattle.radio_relay.specs.declared.items.PullItem.TheVariants.{Up, Sound, Title as Named}
+use Rattle.radio_relay.specs.declared.items.PullItem.TheVariants.{Up}
 use Rattle.radio_relay.specs.declared.pull.Stage.{Stage}
 use Rattle.radio_relay.specs.declared.pull.Stage.TheVariants.{Head, Behind}
-use Rattle.radio_relay.specs.declared.stream.Stream.{Stream}
-use Rattle.radio_relay.specs.declared.stream.Stream.TheVariants.{Plain, Woven}
-use Rattle.radio_relay.proofs.CutLemmas.{AfterPieces, HeardInPieces, after-cut, parts-cut}
+use Rattle.radio_relay.proofs.CutLemmas.{AfterPieces, HeardInPieces, after-cut}
 use Rattle.radio_session.specs.declared.state.State.{State}
 use Rattle.radio_session.specs.declared.state.State.TheVariants.{Running, Shut}
 use Rattle.radio_session.specs.declared.state.Ending.TheVariants.{BadPull}
@@ -47,188 +40,18 @@ use Rattle.radio_headline.specs.Course.{ComesToNoted, noting, nothing_noted}
 use Rattle.radio_headline.specs.Sources.{pushed}
 use Rattle.radio_headline.proofs.Logs.{Entry, entry, entries, Each, each_joined}
 use Rattle.radio_headline.proofs.AppliedLemmas.{EachAsked}
-use Rattle.radio_headline.proofs.RelayLogs.{AreNoUps, IsCut, IsNoUp, IsNotRefused, Lifts, OwnRelay, Ups, at, brings_lifts, cut_joined, down}
-use Rattle.radio_headline.proofs.RelayLogs.{number_after, number_joined, own_joined, plain_ups, sound_of_item, sound_of_items}
+use Rattle.radio_headline.proofs.RelayLogs.{Lifts, at, brings_lifts, down}
+use Rattle.radio_headline.proofs.RelayWords.{IsCut, IsNoUp, IsNotRefused, OwnRelay, Ups, cut_joined}
+use Rattle.radio_headline.proofs.RelayLogs.{sound_of_items}
+use Rattle.radio_headline.proofs.RelayWords.{number_after, number_joined, own_joined, plain_ups}
 use Rattle.radio_headline.proofs.Connections.{AtAnswer, Facts, HasAskedNothing, HasSentGet, InAnswer, IsPulling, IsRelay, IsSo, IsSource, Pulls, RelayStage, events_of, stream_after}
-use Rattle.radio_headline.proofs.ConnectionSteps.{entries_each, events_of_entries, events_of_joined, more_for_get, more_for_source, pushed_joined}
+use Rattle.radio_headline.proofs.HeardLemmas.{more_for_get, more_for_source}
+use Rattle.radio_headline.proofs.ClientEvents.{entries_each, events_of_entries, events_of_joined, pushed_joined}
 use Rattle.radio_headline.proofs.OwnLogs.{relay_owns}
-
--- sound among parts, one after another
-sound_joined : (parts more : List Part) → sound_in (parts ++ more) ≡ sound_in parts ++ sound_in more
-sound_joined [] more = refl
-sound_joined (ShownPart shown ∷ parts) more = sound_joined parts more
-sound_joined (SoundPart b ∷ parts) more = ap (λ (xs : List ℕ). b ∷ xs) (sound_joined parts more)
-sound_joined (TitlePart title ∷ parts) more = sound_joined parts more
-
--- a stream shows nothing of itself behind its head
-abbrev ShowNothing : List Part → Type 0
-ShowNothing [] = Unit {0}
-ShowNothing (ShownPart shown ∷ parts) = ⊥
-ShowNothing (part ∷ parts) = ShowNothing parts
-
-show_joined : (parts more : List Part) → ShowNothing parts → ShowNothing more → ShowNothing (parts ++ more)
-show_joined [] more h k = k
-show_joined (ShownPart shown ∷ parts) more h k = elim h [ ]
-show_joined (SoundPart b ∷ parts) more h k = show_joined parts more h k
-show_joined (TitlePart title ∷ parts) more h k = show_joined parts more h k
-
-plain_shows : (bytes : List ℕ) → ShowNothing (map (λ b. SoundPart b) bytes)
-plain_shows [] = tt
-plain_shows (b ∷ bytes) = plain_shows bytes
-
-title_shows : (title : Option (List ℕ)) → ShowNothing (title_parts title)
-title_shows None = tt
-title_shows (Some title) = tt
-
-woven_shows : (atoms : List Atom) → ShowNothing (parts_heard atoms)
-woven_shows [] = tt
-woven_shows (SoundByte b ∷ atoms) = woven_shows atoms
-woven_shows (WholeText text ∷ atoms) = show_joined (title_parts (title_of text)) (parts_heard atoms) (title_shows (title_of text)) (woven_shows atoms)
-
-stream_shows : (stream : Stream) (bytes : List ℕ) → ShowNothing (stream_parts stream bytes)
-stream_shows Plain bytes = plain_shows bytes
-stream_shows (Woven reader) bytes = woven_shows (heard reader bytes)
-
--- items
-ups_joined : (items more : List PullItem) → AreNoUps items → AreNoUps more → AreNoUps (items ++ more)
-ups_joined [] more h k = k
-ups_joined (Up shown ∷ items) more h k = elim h [ ]
-ups_joined (Sound block ∷ items) more h k = ups_joined items more h k
-ups_joined (Named text ∷ items) more h k = ups_joined items more h k
-
-sounds_up : (blocks : List (List ℕ)) → AreNoUps (map Sound blocks)
-sounds_up [] = tt
-sounds_up (block ∷ blocks) = sounds_up blocks
-
-items_up : (g : Gathered) (parts : List Part) → AreNoUps g.complete → ShowNothing parts → AreNoUps (all_items (with_parts g parts))
-items_up g [] h s = ups_joined g.complete (map Sound (blocks_of g.run)) h (sounds_up (blocks_of g.run))
-items_up g (ShownPart shown ∷ parts) h s = elim s [ ]
-items_up g (SoundPart b ∷ parts) h s = items_up (with_part g (SoundPart b)) parts h s
-items_up g (TitlePart title ∷ parts) h s =
-    items_up (with_part g (TitlePart title)) parts
-    (ups_joined (all_items g) (Named title ∷ []) (ups_joined g.complete (map Sound (blocks_of g.run)) h (sounds_up (blocks_of g.run))) tt) s
-
-abbrev led_by : List PullItem → Gathered → Gathered
-led_by before g = record { complete = before ++ g.complete; run = g.run }
-
-led_items : (before : List PullItem) (g : Gathered) → all_items (led_by before g) ≡ before ++ all_items g
-led_items before g = append_assoc before g.complete (map Sound (blocks_of g.run))
-
-led_part : (before : List PullItem) (g : Gathered) (part : Part) → with_part (led_by before g) part ≡ led_by before (with_part g part)
-led_part before g (ShownPart shown) =
-    ap (λ (xs : List PullItem). record { complete = xs ++ Up shown ∷ []; run = [] }) (led_items before g)
-    ∙ ap (λ (xs : List PullItem). record { complete = xs; run = [] }) (append_assoc before (all_items g) (Up shown ∷ []))
-led_part before g (SoundPart b) = refl
-led_part before g (TitlePart title) =
-    ap (λ (xs : List PullItem). record { complete = xs ++ Named title ∷ []; run = [] }) (led_items before g)
-    ∙ ap (λ (xs : List PullItem). record { complete = xs; run = [] }) (append_assoc before (all_items g) (Named title ∷ []))
-
-led_parts : (before : List PullItem) (g : Gathered) (parts : List Part) → all_items (with_parts (led_by before g) parts) ≡ before ++ all_items (with_parts g parts)
-led_parts before g [] = led_items before g
-led_parts before g (part ∷ parts) =
-    ap (λ (x : Gathered). all_items (with_parts x parts)) (led_part before g part) ∙ led_parts before (with_part g part) parts
-
--- where no relay comes up, and none is up, nothing comes about
-none_up : (w : World) (events : List Event) → OwnRelay None (entries w events) → EachAsked IsNoUp events → events ≡ []
-none_up w [] own plain = refl
-none_up w (Arrive peer ∷ events) own plain = elim own.0 [ ]
-none_up w (Source asked ∷ events) own plain = elim own.0 [ ]
-none_up w (Push id block ∷ events) own plain = let e = own.0 in cc
-none_up w (SourceEnd id ∷ events) own plain = elim own.0 [ ]
-none_up w (Title id text ∷ events) own plain = let e = own.0 in cc
-none_up w (Listen asked ∷ events) own plain = elim own.0 [ ]
-none_up w (Draw id room ∷ events) own plain = let e = own.0 in cc
-none_up w (Command asked ∷ events) own plain = elim own.0 [ ]
-none_up w (Leave id ∷ events) own plain = elim own.0 [ ]
-none_up w (RelayUp mount shown ∷ events) own plain = elim plain.0 [ ]
-none_up w (RelayDown id ∷ events) own plain = let e = own.0 in cc
-none_up w (Clock ms ∷ events) own plain = elim own.0 [ ]
+use Rattle.radio_headline.proofs.PullParts.{behind_head, head_items, items_sound, items_up, more_pulled, more_sound, no_items, none_up, pulls_with, read_more, stream_shows}
 
 module _ (settled : IsSettled ShowsResponse) (within : HeadsLieWithin ShowsResponse) (joined : (bytes : List ℕ) → concat (blocks_of bytes) ≡ bytes)
     (none_blocks : blocks_of [] ≡ []) (in_pieces : HeardInPieces) (afters : AfterPieces) where
-  -- items have the sound of their parts
-  block_sounds : (blocks : List (List ℕ)) → sound_of_items (map Sound blocks) ≡ concat blocks
-  block_sounds [] = refl
-  block_sounds (block ∷ blocks) = ap (λ (xs : List ℕ). block ++ xs) (block_sounds blocks)
-
-  all_sounds : (g : Gathered) → sound_of_items (all_items g) ≡ sound_of_items g.complete ++ g.run
-  all_sounds g =
-      flat_map-append sound_of_item g.complete (map Sound (blocks_of g.run))
-      ∙ ap (λ (xs : List ℕ). sound_of_items g.complete ++ xs) (block_sounds (blocks_of g.run) ∙ joined g.run)
-
-  with_sounds : (g : Gathered) (parts : List Part)
-      → sound_of_items (all_items (with_parts g parts)) ≡ sound_of_items g.complete ++ g.run ++ sound_in parts
-  with_sounds g [] = all_sounds g ∙ sym (append-nil (sound_of_items g.complete ++ g.run))
-  with_sounds g (ShownPart shown ∷ parts) =
-      with_sounds (with_part g (ShownPart shown)) parts
-      ∙ ap (λ (xs : List ℕ). xs ++ [] ++ sound_in parts) (flat_map-append sound_of_item (all_items g) (Up shown ∷ []) ∙ append-nil (sound_of_items (all_items g)) ∙ all_sounds g)
-      ∙ ap (λ (xs : List ℕ). xs ++ sound_in parts) (append-nil (sound_of_items g.complete ++ g.run))
-  with_sounds g (SoundPart b ∷ parts) =
-      with_sounds (with_part g (SoundPart b)) parts
-      ∙ ap (λ (xs : List ℕ). xs ++ sound_in parts) (sym (append_assoc (sound_of_items g.complete) g.run (b ∷ [])))
-      ∙ append_assoc (sound_of_items g.complete ++ g.run) (b ∷ []) (sound_in parts)
-  with_sounds g (TitlePart title ∷ parts) =
-      with_sounds (with_part g (TitlePart title)) parts
-      ∙ ap (λ (xs : List ℕ). xs ++ [] ++ sound_in parts) (flat_map-append sound_of_item (all_items g) (Named title ∷ []) ∙ append-nil (sound_of_items (all_items g)) ∙ all_sounds g)
-      ∙ ap (λ (xs : List ℕ). xs ++ sound_in parts) (append-nil (sound_of_items g.complete ++ g.run))
-
-  items_sound : (parts : List Part) → sound_of_items (items_of parts) ≡ sound_in parts
-  items_sound parts = with_sounds nothing_gathered parts
-
-  -- the first of what comes with a head
-  head_items : (shown : Shown) (parts : List Part) → items_of (ShownPart shown ∷ parts) ≡ Up shown ∷ items_of parts
-  head_items shown parts =
-      ap (λ (blocks : List (List ℕ)). all_items (with_parts (record { complete = map Sound blocks ++ Up shown ∷ []; run = [] }) parts)) none_blocks
-      ∙ led_parts (Up shown ∷ []) nothing_gathered parts
-
-  no_items : items_of [] ≡ []
-  no_items = ap (map Sound) none_blocks
-
-  -- more of an answer
-  read_more : (bytes more : List ℕ) (head : ResponseParts) (n : ℕ) → IsReading ShowsResponse bytes (Ok (Whole head n))
-      → IsReading ShowsResponse (bytes ++ more) (Ok (Whole head n))
-  read_more bytes more head n reading = settled bytes more (Ok (Whole head n)) reading (λ e. cc)
-
-  behind_head : (bytes more : List ℕ) (head : ResponseParts) (n : ℕ) → IsReading ShowsResponse bytes (Ok (Whole head n))
-      → drop n (bytes ++ more) ≡ drop n bytes ++ more
-  behind_head bytes more head n reading = drop-append-le n bytes more (within bytes head n reading)
-
-  more_sound : (bytes more : List ℕ) (log : List Entry) (p : Pulls bytes log)
-      → sound_in (stream_parts (stream_with p.interval) (drop p.length (bytes ++ more)))
-      ≡ sound_in (stream_parts (stream_with p.interval) (drop p.length bytes)) ++ sound_in (stream_parts (stream_after p) more)
-  more_sound bytes more log p =
-      ap (λ (xs : List ℕ). sound_in (stream_parts (stream_with p.interval) xs)) (behind_head bytes more p.head p.length p.reading)
-      ∙ ap sound_in (parts-cut in_pieces afters (stream_with p.interval) (drop p.length bytes) more)
-      ∙ sound_joined (stream_parts (stream_with p.interval) (drop p.length bytes)) (stream_parts (stream_after p) more)
-
-  abbrev pulls_with : (bytes bytes' : List ℕ) (log log' : List Entry) (p : Pulls bytes log) → IsReading ShowsResponse bytes' (Ok (Whole p.head p.length))
-      → (behind : List Entry) → log' ≡ record { event = RelayUp p.mount (shown_by p.head); reply = p.reply } ∷ behind → OwnRelay None log'
-      → Each (λ e. IsNoUp e.event) behind → IsCut log' → (rest : List ℕ)
-      → pushed (events_of behind) ++ rest ≡ sound_in (stream_parts (stream_with p.interval) (drop p.length bytes')) → Pulls bytes' log'
-  pulls_with bytes bytes' log log' p reading behind in_order own no_more cut rest front = record {
-    mount = p.mount;
-    head = p.head;
-    reply = p.reply;
-    behind = behind;
-    in_order = in_order;
-    own = own;
-    no_more = no_more;
-    cut = cut;
-    length = p.length;
-    reading = reading;
-    interval = p.interval;
-    told = p.told;
-    rest = rest;
-    front = front;
-  }
-
-  pub more_pulled : (bytes more : List ℕ) (log : List Entry) → Pulls bytes log → Pulls (bytes ++ more) log
-  more_pulled bytes more log p =
-      pulls_with bytes (bytes ++ more) log log p (read_more bytes more p.head p.length p.reading) p.behind p.in_order p.own p.no_more p.cut
-      (p.rest ++ sound_in (stream_parts (stream_after p) more))
-      (sym (append_assoc (pushed (events_of p.behind)) p.rest (sound_in (stream_parts (stream_after p) more)))
-      ∙ ap (λ (xs : List ℕ). xs ++ sound_in (stream_parts (stream_after p) more)) p.front ∙ sym (more_sound bytes more log p))
-
   -- Something comes to a relay's connection, which stood so.
   module _ (w : World) (bytes : List ℕ) (log : List Entry) (pulling : Pulling) (r : IsRelay bytes log pulling) where
     abbrev newer : List Event → List Entry
@@ -246,7 +69,7 @@ module _ (settled : IsSettled ShowsResponse) (within : HeadsLieWithin ShowsRespo
         → EachAsked IsNoUp events → IsCut (entries w events) → (rest : List ℕ)
         → pushed events ++ rest ≡ p.rest ++ sound_in (stream_parts (stream_after p) more) → Pulled_more more events p rest
     pulls_on more events p quiet own plain cut rest e = (
-      pulls_with bytes (bytes ++ more) log (newer events) p (read_more bytes more p.head p.length p.reading) (p.behind ++ entries w events)
+      pulls_with settled within joined none_blocks in_pieces afters bytes (bytes ++ more) log (newer events) p (read_more settled within joined none_blocks in_pieces afters bytes more p.head p.length p.reading) (p.behind ++ entries w events)
           (ap (λ (xs : List Entry). xs ++ entries w events) p.in_order) (new_own events own)
           (each_joined (λ x. IsNoUp x.event) p.behind (entries w events) p.no_more (entries_each IsNoUp w events plain))
           (cut_joined log (entries w events) quiet cut) rest
@@ -256,9 +79,9 @@ module _ (settled : IsSettled ShowsResponse) (within : HeadsLieWithin ShowsRespo
           ∙ ap (λ (xs : List ℕ). pushed (events_of p.behind) ++ xs) e
           ∙ sym (append_assoc (pushed (events_of p.behind)) p.rest (sound_in (stream_parts (stream_after p) more)))
           ∙ ap (λ (xs : List ℕ). xs ++ sound_in (stream_parts (stream_after p) more)) p.front
-          ∙ sym (more_sound bytes more log p)),
+          ∙ sym (more_sound settled within joined none_blocks in_pieces afters bytes more log p)),
       refl,
-      ap (after_bytes (stream_with p.interval)) (behind_head bytes more p.head p.length p.reading)
+      ap (after_bytes (stream_with p.interval)) (behind_head settled within joined none_blocks in_pieces afters bytes more p.head p.length p.reading)
           ∙ after-cut in_pieces afters (stream_with p.interval) (drop p.length bytes) more,
     )
 
@@ -290,7 +113,7 @@ module _ (settled : IsSettled ShowsResponse) (within : HeadsLieWithin ShowsRespo
         → EachAsked IsNoUp events → IsCut (entries w events) → pushed events ≡ []
         → (q : Pulls bytes (newer events)) × (q.rest ≡ p.rest) × (stream_after q ≡ stream_after p)
     pulls_still events p quiet own plain cut silent = (
-      pulls_with bytes bytes log (newer events) p p.reading (p.behind ++ entries w events) (ap (λ (xs : List Entry). xs ++ entries w events) p.in_order)
+      pulls_with settled within joined none_blocks in_pieces afters bytes bytes log (newer events) p p.reading (p.behind ++ entries w events) (ap (λ (xs : List Entry). xs ++ entries w events) p.in_order)
           (new_own events own) (each_joined (λ x. IsNoUp x.event) p.behind (entries w events) p.no_more (entries_each IsNoUp w events plain))
           (cut_joined log (entries w events) quiet cut) p.rest
           (ap (λ (xs : List ℕ). xs ++ p.rest) (ap pushed (events_of_joined p.behind (entries w events)) ∙ pushed_joined (events_of p.behind) (events_of (entries w events))
@@ -374,7 +197,7 @@ module _ (settled : IsSettled ShowsResponse) (within : HeadsLieWithin ShowsRespo
             plain_by (Some id) events u = u tt
 
             plain_if : (events : List Event) → Ups pulling.mount pulling.number (items_of []) events → EachAsked IsNoUp events
-            plain_if events u = plain_by pulling.number events (subst (λ (is : List PullItem). Ups pulling.mount pulling.number is events) no_items u)
+            plain_if events u = plain_by pulling.number events (subst (λ (is : List PullItem). Ups pulling.mount pulling.number is events) (no_items settled within joined none_blocks in_pieces afters) u)
 
       -- its head has come
       head_comes : (head : ResponseParts) (n : ℕ) (interval : Option ℕ) → IsReading ShowsResponse (bytes ++ more) (Ok (Whole head n)) → interval_in head ≡ Ok interval
@@ -405,7 +228,7 @@ module _ (settled : IsSettled ShowsResponse) (within : HeadsLieWithin ShowsRespo
             ups = (subst (λ (number : Option ℕ). Ups pulling.mount number (Up (shown_by head) ∷ items_of (stream_parts (stream_with interval) (drop n (bytes ++ more)))) l.events)
                 (no_number lg)
                 (subst (λ (is : List PullItem). Ups pulling.mount pulling.number is l.events)
-                (head_items (shown_by head) (stream_parts (stream_with interval) (drop n (bytes ++ more)))) l.holds))
+                (head_items settled within joined none_blocks in_pieces afters (shown_by head) (stream_parts (stream_with interval) (drop n (bytes ++ more)))) l.holds))
                 (items_up nothing_gathered (stream_parts (stream_with interval) (drop n (bytes ++ more))) tt
                 (stream_shows (stream_with interval) (drop n (bytes ++ more))))
 
@@ -431,7 +254,7 @@ module _ (settled : IsSettled ShowsResponse) (within : HeadsLieWithin ShowsRespo
                 rest = l.rest;
                 front = ap (λ (es : List Event). pushed es ++ l.rest) (events_of_entries (world_after w (RelayUp pulling.mount (shown_by head))) ups.0)
                     ∙ ap (λ (es : List Event). pushed es ++ l.rest) (sym ups.1) ∙ l.front
-                    ∙ items_sound (ShownPart (shown_by head) ∷ stream_parts (stream_with interval) (drop n (bytes ++ more)));
+                    ∙ items_sound settled within joined none_blocks in_pieces afters (ShownPart (shown_by head) ∷ stream_parts (stream_with interval) (drop n (bytes ++ more)));
               },
               refl,
               refl,
@@ -452,7 +275,7 @@ module _ (settled : IsSettled ShowsResponse) (within : HeadsLieWithin ShowsRespo
             (items_up nothing_gathered (stream_parts (stream_after p) more) tt (stream_shows (stream_after p) more))
 
         l_front : pushed l.events ++ l.rest ≡ sound_in (stream_parts (stream_after p) more)
-        l_front = l.front ∙ items_sound (stream_parts (stream_after p) more)
+        l_front = l.front ∙ items_sound settled within joined none_blocks in_pieces afters (stream_parts (stream_after p) more)
 
         number_now : ends ≡ Running → now.number ≡ number_after pulling.number (entries w l.events)
         number_now run = ap (λ (x : Pulling). x.number) so ∙ l.stands (sym goes ∙ run)
@@ -526,4 +349,4 @@ module _ (settled : IsSettled ShowsResponse) (within : HeadsLieWithin ShowsRespo
         HasSentGet (more_for_get settled_requests within_requests joined places data_joined bytes more log given g)
     more_facts bytes more log given (IsSource f) =
         IsSource (more_for_source settled_requests within_requests joined places data_joined bytes more log f)
-    more_facts bytes more log given (IsPulling p) = IsPulling (more_pulled bytes more log p)
+    more_facts bytes more log given (IsPulling p) = IsPulling (more_pulled settled within joined none_blocks in_pieces afters bytes more log p)

@@ -5,9 +5,8 @@ use Rattle.std.specs.List.{flat_map}
 use Rattle.std.proofs.lemmas.List.{append-nil}
 use Rattle.std.proofs.lemmas.List.Concat.{flat_map-append}
 use Rattle.radio_events.specs.declared.event.Event.{Event}
-use Rattle.radio_events.specs.declared.event.Event.TheVariants.{Push, Title, Draw, Leave, RelayUp, RelayDown}
+use Rattle.radio_events.specs.declared.event.Event.TheVariants.{RelayUp, RelayDown}
 use Rattle.radio_events.specs.declared.reply.Reply.{Reply}
-use Rattle.radio_events.specs.declared.reply.Reply.TheVariants.{Arrived, Feeding, Seated, Drawn, Noted as WasNoted, Text, Deny, Finished, Stray}
 use Rattle.radio_core.specs.Run.{world_after_all}
 use Rattle.radio_core.specs.Step.{Step, reply_to, world_after}
 use Rattle.radio_house.specs.World.{World}
@@ -21,106 +20,9 @@ use Rattle.radio_pull.specs.Course.{Asks, AsksIf, Brings, Follows, GoesDown, Goe
 use Rattle.radio_headline.specs.Course.{Noted, noting}
 use Rattle.radio_headline.specs.Sources.{pushed, pushed_by}
 use Rattle.radio_settings.specs.declared.field.Shown.{Shown}
-use Rattle.radio_headline.proofs.Logs.{Each, Entry, entry, entries}
+use Rattle.radio_headline.proofs.Logs.{Each, entry, entries}
 use Rattle.radio_headline.proofs.AppliedLemmas.{EachAsked}
-
--- an event is of the relay of this number, or asks for one
-abbrev pub OfRelay : Option ℕ → Event → Type 0
-OfRelay number (RelayUp mount shown) = Unit {0}
-OfRelay number (Push id block) = number ≡ Some id
-OfRelay number (Title id text) = number ≡ Some id
-OfRelay number (Draw id room) = number ≡ Some id
-OfRelay number (RelayDown id) = number ≡ Some id
-OfRelay number event = ⊥
-
--- each event is of the relay, by the number that it has then
-abbrev pub OwnRelay : Option ℕ → List Entry → Type 0
-OwnRelay number [] = Unit {0}
-OwnRelay number (e ∷ log) = OfRelay number e.event × OwnRelay (answered number e.reply).number log
-
-abbrev pub number_after : Option ℕ → List Entry → Option ℕ
-number_after number [] = number
-number_after number (e ∷ log) = number_after (answered number e.reply).number log
-
-pub number_joined : (number : Option ℕ) (log more : List Entry) → number_after number (log ++ more) ≡ number_after (number_after number log) more
-number_joined number [] more = refl
-number_joined number (e ∷ log) more = number_joined (answered number e.reply).number log more
-
-pub own_joined : (number : Option ℕ) (log more : List Entry) → OwnRelay number log → OwnRelay (number_after number log) more → OwnRelay number (log ++ more)
-own_joined number [] more h k = k
-own_joined number (e ∷ log) more h k = (h.0, own_joined (answered number e.reply).number log more h.1 k)
-
--- a number stays
-pub number_stays : (number : ℕ) (reply : Reply) → (answered (Some number) reply).number ≡ Some number
-number_stays number (Arrived id) = refl
-number_stays number Feeding = refl
-number_stays number (Seated interval shown) = refl
-number_stays number (Drawn bytes title) = refl
-number_stays number WasNoted = refl
-number_stays number (Text text) = refl
-number_stays number (Deny rule) = refl
-number_stays number (Finished rule) = refl
-number_stays number Stray = refl
-
--- the policy denied it, or he had been finished
-abbrev pub IsRefusal : Reply → Type 0
-IsRefusal (Deny rule) = Unit {0}
-IsRefusal (Finished rule) = Unit {0}
-IsRefusal reply = ⊥
-
-abbrev pub IsNotRefused : Entry → Type 0
-IsNotRefused e = IsRefusal e.reply → ⊥
-
--- a client leaves, or a relay goes down
-abbrev pub IsGoing : Event → Type 0
-IsGoing (Leave id) = Unit {0}
-IsGoing (RelayDown id) = Unit {0}
-IsGoing event = ⊥
-
--- behind a refusal nothing comes but that one goes
-abbrev pub IsCut : List Entry → Type 0
-IsCut [] = Unit {0}
-IsCut (e ∷ log) = (IsRefusal e.reply → Each (λ x. IsGoing x.event) log) × IsCut log
-
-pub cut_joined : (log more : List Entry) → Each IsNotRefused log → IsCut more → IsCut (log ++ more)
-cut_joined [] more h k = k
-cut_joined (e ∷ log) more h k = ((λ r. absurd (h.0 r)), cut_joined log more h.1 k)
-
--- no relay comes up
-abbrev pub IsNoUp : Event → Type 0
-IsNoUp (RelayUp mount shown) = ⊥
-IsNoUp event = Unit {0}
-
-abbrev pub AreNoUps : List PullItem → Type 0
-AreNoUps [] = Unit {0}
-AreNoUps (Up shown ∷ items) = ⊥
-AreNoUps (item ∷ items) = AreNoUps items
-
--- of the events by which items come about: a relay comes up where the first item says so, and not again
-abbrev pub Ups : List ℕ → Option ℕ → List PullItem → List Event → Type 0
-Ups mount None [] events = events ≡ []
-Ups mount None (Up shown ∷ items) events =
-    AreNoUps items → (behind : List Event) × (events ≡ RelayUp mount shown ∷ behind) × EachAsked IsNoUp behind
-Ups mount number items events = AreNoUps items → EachAsked IsNoUp events
-
-pub plain_ups : (mount : List ℕ) (number : Option ℕ) (items : List PullItem) (events : List Event) → Ups mount number items events → AreNoUps items
-    → EachAsked IsNoUp events
-plain_ups mount None [] events u none = subst (EachAsked IsNoUp) (sym u) tt
-plain_ups mount None (Up shown ∷ items) events u none = elim none [ ]
-plain_ups mount None (Sound block ∷ items) events u none = u none
-plain_ups mount None (Named text ∷ items) events u none = u none
-plain_ups mount (Some id) items events u none = u none
-
-refused_shuts : (number : Option ℕ) (reply : Reply) → (answered number reply).state ≡ Running → IsRefusal reply → ⊥
-refused_shuts number (Arrived id) e h = h
-refused_shuts number Feeding e h = h
-refused_shuts number (Seated interval head) e h = h
-refused_shuts number (Drawn bytes title) e h = h
-refused_shuts number WasNoted e h = h
-refused_shuts number (Text text) e h = h
-refused_shuts number (Deny rule) e h = cc
-refused_shuts number (Finished rule) e h = cc
-refused_shuts number Stray e h = h
+use Rattle.radio_headline.proofs.RelayWords.{IsCut, IsGoing, IsNoUp, IsNotRefused, OfRelay, OwnRelay, Ups, number_after, plain_ups, refused_shuts}
 
 abbrev pub at : World → List Event → Noted
 at w events = record { world = w; events = events }

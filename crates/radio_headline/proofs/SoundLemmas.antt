@@ -35,16 +35,18 @@ use Rattle.radio_floor.specs.declared.labelled.Connection.TheVariants.{Client, R
 use Rattle.radio_floor.specs.ScriptState.{ScriptState, connection_of}
 use Rattle.radio_headline.specs.Course.{Happening, events_in, on}
 use Rattle.radio_headline.specs.Sources.{DeliversItsSound, RelaysDeliverTheirSound, brought, pushed}
-use Rattle.radio_headline.proofs.Logs.{Entry, entry, log_on, log_joined, Each, each_as, each_joined, each_second, itself}
-use Rattle.radio_headline.proofs.RelayLogs.{IsCut, IsNoUp, OfRelay, OwnRelay, number_stays}
+use Rattle.radio_headline.proofs.Logs.{Entry, entry, log_on, log_joined, Each, each_as, each_joined, itself}
+use Rattle.radio_headline.proofs.RelayWords.{IsCut, IsNoUp, OfRelay, OwnRelay, number_stays}
 use Rattle.radio_headline.proofs.RunLemmas.{AllNowhere, IsMoment, HasNumber, IsIdling, Reached, given_here, reached_after, reached_all, reached_opening}
 use Rattle.radio_headline.proofs.Connections.{AsksForMount, AsksNothing, AtAnswer, ByGet, Facts, Feeds, HasAskedNothing, HasSentGet}
 use Rattle.radio_headline.proofs.Connections.{InAnswer, IsBehindRequest, IsClient, IsIdleOrLeaving, IsNoRequest, IsPulling, IsSo, IsSource, Pulls, RelayStage, events_of}
-use Rattle.radio_headline.proofs.ConnectionSteps.{behind_is_his, idle_asks_nothing}
+use Rattle.radio_headline.proofs.ClientEvents.{behind_is_his, idle_asks_nothing}
 use Rattle.radio_headline.proofs.CourseLemmas.{brought_joined}
-use Rattle.radio_headline.proofs.ListenerLemmas.{IsOnIt, no_entry, on_his}
-use Rattle.radio_headline.proofs.PullSteps.{more_pulled}
+use Rattle.radio_headline.proofs.ListenerLemmas.{on_his}
+use Rattle.radio_headline.proofs.GetLogs.{IsOnIt, no_entry}
+use Rattle.radio_headline.proofs.PullParts.{more_pulled}
 use Rattle.radio_headline.proofs.SourceLemmas.{Front, IsHisOrNotesNothing, brings_front, delivered_gathered, no_block, noted}
+use Rattle.radio_headline.proofs.Partings.{none_there}
 
 -- by this event a relay comes up
 abbrev IsUp : Event → Type 0
@@ -120,14 +122,11 @@ client_not conversation bytes log given c =
     subst (Each UpNot) (sym c.arrived)
     ((λ l. l), each_as (λ e. client_in e.event ≡ Some conversation.id) UpNot (λ e h. his_up_not conversation.id e.event h) c.others c.his)
 
-none_there : (before behind : List Entry) (e : Entry) → Each UpNot (before ++ e ∷ behind) → IsUp e.event → ⊥
-none_there before behind e h l = (each_second UpNot before (e ∷ behind) h).0 l
-
 -- where a relay has come up, its master's answer was read
 module _ (bytes : List ℕ) (log : List Entry) (given : List ℕ) (before behind : List Entry) (e : Entry) (parts : log ≡ before ++ e ∷ behind)
     (up : IsUp e.event) where
   never : {A : Type 0} → Each UpNot log → A
-  never h = absurd (none_there before behind e (subst (Each UpNot) parts h) up)
+  never h = absurd (none_there IsUp before behind e (subst (Each UpNot) parts h) up)
 
   of_facts : Facts bytes log given → Pulls bytes log
   of_facts (HasAskedNothing h) = never (none_asked log h)
@@ -172,7 +171,7 @@ is_first : (before cs ds : List Entry) (e a : Entry) → before ++ e ∷ cs ≡ 
 is_first [] cs ds e a h l later = record { before_none = refl; here = cc; behind = cc }
 is_first (x ∷ before) cs ds e a h l later =
     let others : before ++ e ∷ cs ≡ ds = cc in
-    absurd (none_there before cs e (subst (Each UpNot) (sym others) later) l)
+    absurd (none_there IsUp before cs e (subst (Each UpNot) (sym others) later) l)
 
 -- whose events are behind it
 own_his : (number : ℕ) (log : List Entry) → OwnRelay (Some number) log → Each (λ e. IsNoUp e.event) log → Each (IsNoRequest number) log

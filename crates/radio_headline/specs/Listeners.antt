@@ -1,5 +1,5 @@
 -- What each listener of a script is given, from the bytes of the script to those of its transcript.
-use Rattle.std.specs.Prelude.{◌≡◌, ℕ, List, [], ◌∷◌, ◌++◌, Option, None, Ok}
+use Rattle.std.specs.Prelude.{◌≡◌, ℕ, List, [], ◌∷◌, ◌++◌, Option, None, Some, Ok}
 use Rattle.std.specs.List.{AllByRecursion}
 use Rattle.radio_settings.specs.declared.field.Shown.{Shown}
 use Rattle.radio_settings.specs.declared.settings.Settings.{Settings}
@@ -15,7 +15,8 @@ use Rattle.radio_events.specs.declared.reply.Reply.TheVariants.{Seated, Text, De
 use Rattle.radio_events.specs.declared.reply.StreamHead.{StreamHead}
 use Rattle.radio_events.specs.declared.text.Text.{Text as ShownText}
 use Rattle.radio_icy.specs.Weaving.{Call}
-use Rattle.radio_icy.specs.Stream.{sound_of_calls}
+use Rattle.radio_icy.specs.Bare.{sound_in}
+use Rattle.radio_icy.specs.Stream.{IsWoven, sound_of_calls}
 use Rattle.radio_core.specs.Handing.{of_client, delivered}
 use Rattle.radio_core.specs.Run.{run_after}
 use Rattle.radio_core.specs.Step.{reply_to, world_after}
@@ -30,9 +31,9 @@ use Rattle.radio_laws.specs.Shown.{OnlyWhoMayIsShown}
 use Rattle.radio_laws.specs.Stretches.{AreStretches, SeatsKeepTheirMounts, Sitting, sittings}
 use Rattle.radio_laws.specs.TitlesTold.{TitlesAreTold}
 use Rattle.radio_laws.specs.WalkingOn.{ListenersWalkOn}
-use Rattle.radio_session.specs.Draws.{joined_draws}
+use Rattle.radio_session.specs.Draws.{interval_told, joined_draws}
 use Rattle.radio_session.specs.Saying.{denial, head_text, text_answer}
-use Rattle.radio_session.specs.Told.{draws_of}
+use Rattle.radio_session.specs.Told.{draws_of, taken_out}
 use Rattle.radio_script.specs.declared.delivery.Delivery.{Delivery}
 use Rattle.radio_script.specs.Given.{TranscriptLine, AreLines, given, written}
 use Rattle.radio_script.specs.Script.{deliveries_from, lines_of}
@@ -62,13 +63,19 @@ module _ (settings : Settings) (lists : Lists) (deliveries : List Delivery) (cou
   abbrev pub SitsWithASource : Sitting → Type 0
   SitsWithASource sitting = (shown : Shown) × HasItsSource settings lists deliveries course sitting.mount sitting.source shown
 
-  -- he is seated in the session of a source, and given a head that shows what that shows; then his draws, woven at his interval, of which the data
-  -- are slices, one for each time that he sat down, each time with a source
+  -- he is seated in the session of a source, and given a head that shows what that shows; then his draws, woven as one stream at the interval that
+  -- the head tells, or their data alone where it tells none; these data are slices, one for each time that he sat down, each time with a source
   pub record IsHearing (w : World) (asked : ListenRequest) (interval : Option ℕ) (head : StreamHead) (bytes : List ℕ) : Type 0 where
     pub is_seated : IsSeated w (Listen asked) interval head
     pub shows_his_source :
         HasItsSource settings lists deliveries course is_seated.session.mount is_seated.session.number head.shown
-    pub head_and_draws : bytes ≡ head_text interval head ++ joined_draws interval (draws_to (opening settings lists) (events_in course) asked.id)
+    pub behind : List ℕ
+    pub head_first : bytes ≡ head_text interval head ++ behind
+    pub are_draws : behind ≡ joined_draws interval (draws_to (opening settings lists) (events_in course) asked.id)
+    pub plain : interval_told interval ≡ None → behind ≡ sound_of_calls (draws_to (opening settings lists) (events_in course) asked.id)
+    pub woven : (n : ℕ) → interval_told interval ≡ Some n → IsWoven n (draws_to (opening settings lists) (events_in course) asked.id) behind
+    pub taken_out_again : (n : ℕ) → interval_told interval ≡ Some n
+        → sound_in (taken_out n behind) ≡ sound_of_calls (draws_to (opening settings lists) (events_in course) asked.id)
     pub are_slices : DrawsAreStretches settings lists (events_in course) asked.id
     pub sits_with_sources : AllByRecursion SitsWithASource (sittings (opening settings lists) (events_in course) asked.id)
 

@@ -2,7 +2,7 @@ use Rattle.std.proofs.Common.{[], sym, ◌∙◌}
 use Rattle.radio_floor.specs.ScriptState.{opening_script}
 use Rattle.radio_headline.specs.Course.{events_in}
 use Rattle.radio_headline.proofs.BodyLemmas.{delivers_body, listens_so}
-use Rattle.radio_headline.proofs.CourseLemmas.{comes, nothing_stands}
+use Rattle.radio_headline.proofs.RunOfCourses.{comes, nothing_stands}
 use Rattle.radio_headline.proofs.HeadlineLemmas.{shown_by_source, sit_with_sources}
 use Rattle.radio_headline.proofs.ListenerLemmas.{answered_by, given_by}
 use Rattle.radio_headline.proofs.SoundLemmas.{delivers_sound}
@@ -49,14 +49,16 @@ returns c settings lists deliveries text stop transcript =
         is_request = listens_so settled within joined places found settings lists fits adds steps deliveries came.performed came.rest came.parts transcript.0
             came.course came.told stands.each stands.nowhere label asked past later parts;
         is_given = given_by settings lists fits adds steps access served (λ rows. (c.denials_name_the_first_rule.ensures.allows rows).0) denied seated
-            (c.draws_are_stretches.ensures settings lists) c.listeners_are_told_what_they_draw.ensures.joined came.performed transcript.0 came.course came.told
+            (c.draws_are_stretches.ensures settings lists) c.listeners_are_told_what_they_draw.ensures.joined c.listeners_are_told_what_they_draw.ensures.plain
+            c.listeners_are_told_what_they_draw.ensures.woven c.listeners_are_told_what_they_draw.ensures.taken_out came.performed transcript.0 came.course came.told
             stands.world stands.each stands.nowhere deliveries
             (shown_by_source settings lists sessions mounts deliveries came.course bodies sounds stands.nowhere)
             (sit_with_sources settings lists sessions mounts deliveries came.course bodies sounds stands.nowhere) label asked past later parts;
       };
       commands = λ label asked past later parts.
           answered_by settings lists fits adds steps access served (λ rows. (c.denials_name_the_first_rule.ensures.allows rows).0) denied seated
-          (c.draws_are_stretches.ensures settings lists) c.listeners_are_told_what_they_draw.ensures.joined came.performed transcript.0 came.course came.told
+          (c.draws_are_stretches.ensures settings lists) c.listeners_are_told_what_they_draw.ensures.joined c.listeners_are_told_what_they_draw.ensures.plain
+          c.listeners_are_told_what_they_draw.ensures.woven c.listeners_are_told_what_they_draw.ensures.taken_out came.performed transcript.0 came.course came.told
           stands.world stands.each stands.nowhere deliveries
           (shown_by_source settings lists sessions mounts deliveries came.course bodies sounds stands.nowhere)
           (sit_with_sources settings lists sessions mounts deliveries came.course bodies sounds stands.nowhere) label asked past later parts;

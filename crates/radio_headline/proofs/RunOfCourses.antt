@@ -1,0 +1,97 @@
+-- Deliveries that come to a transcript come to a course.
+use Rattle.std.proofs.Common.{◌≡◌, inl, inr, ℕ, ◌+◌, List, [], ◌∷◌, ◌++◌, Option, None, Some, refl, sym, ap, subst, ◌∙◌, append_assoc}
+use Rattle.std.specs.List.{concat}
+use Rattle.std.proofs.lemmas.List.{append-nil}
+use Rattle.radio_blocks.specs.Cutting.{blocks_of}
+use Rattle.radio_settings.specs.declared.settings.Settings.{Settings}
+use Rattle.radio_access.specs.Lists.{Lists}
+use Rattle.radio_heads.specs.Head.{ShowsRequest}
+use Rattle.radio_heads.specs.Laws.{IsSettled, HeadsLieWithin}
+use Rattle.radio_source.specs.Place.{Place, after, data_of}
+use Rattle.radio_script.specs.declared.delivery.Delivery.{Delivery}
+use Rattle.radio_script.specs.Given.{TranscriptLine, written}
+use Rattle.radio_script.specs.Runs.{Runs}
+use Rattle.radio_floor.specs.ScriptState.{ScriptState}
+use Rattle.radio_floor.specs.ScriptState.{opening_script}
+use Rattle.radio_floor.specs.Transcript.{conduct}
+use Rattle.radio_headline.specs.Course.{Happening, courses}
+use Rattle.radio_heads.specs.Response.{ShowsResponse}
+use Rattle.radio_relay.proofs.CutLemmas.{AfterPieces, HeardInPieces}
+use Rattle.radio_headline.proofs.LabelLemmas.{written_joined}
+use Rattle.radio_headline.proofs.FaultLemmas.{at_fault_so}
+use Rattle.radio_headline.proofs.CourseLemmas.{Stands, performs_next}
+
+module _ (settings : Settings) (lists : Lists) (settled : IsSettled ShowsRequest) (within : HeadsLieWithin ShowsRequest)
+    (settled_answers : IsSettled ShowsResponse) (within_answers : HeadsLieWithin ShowsResponse) (none_blocks : blocks_of [] ≡ []) (in_pieces : HeardInPieces)
+    (afters : AfterPieces) (joined : (bytes : List ℕ) → concat (blocks_of bytes) ≡ bytes)
+    (places : (place : Place) (first second : List ℕ) → after place (first ++ second) ≡ after (after place first) second)
+    (data_joined : (place : Place) (first second : List ℕ) → data_of place (first ++ second) ≡ data_of place first ++ data_of (after place first) second) where
+  -- the deliveries come to a course
+  pub record Came (done deliveries : List Delivery) (state last : ScriptState) (past : List Happening) (lines : List TranscriptLine) (number : ℕ)
+      (text : List ℕ) (stop : Option ℕ) : Type 0 where
+    pub course : List Happening
+    pub runs : Runs courses (record { state = state; past = past }) number deliveries text stop (record { state = last; past = course })
+    pub performed : List Delivery
+    pub rest : List Delivery
+    pub parts : deliveries ≡ performed ++ rest
+    pub told : List TranscriptLine
+    pub is_written : written told ≡ text
+    pub stands : Stands settings lists settled within settled_answers within_answers none_blocks in_pieces afters joined places data_joined (done ++ performed) last course (lines ++ told)
+
+  pub comes : (deliveries done : List Delivery) (state last : ScriptState) (past : List Happening) (lines : List TranscriptLine) (number : ℕ)
+      (text : List ℕ) (stop : Option ℕ) → Stands settings lists settled within settled_answers within_answers none_blocks in_pieces afters joined places data_joined done state past lines → Runs conduct state number deliveries text stop last
+      → Came done deliveries state last past lines number text stop
+  comes [] done state last past lines number text stop s r = record {
+    course = past;
+    runs = (r.0, r.1, ap (λ (x : ScriptState). record { state = x; past = past }) r.2);
+    performed = [];
+    rest = [];
+    parts = refl;
+    told = [];
+    is_written = sym r.0;
+    stands = subst (λ (x : ScriptState). Stands settings lists settled within settled_answers within_answers none_blocks in_pieces afters joined places data_joined (done ++ []) x past (lines ++ [])) (sym r.2)
+        (subst (λ (ds : List Delivery). Stands settings lists settled within settled_answers within_answers none_blocks in_pieces afters joined places data_joined ds state past (lines ++ [])) (sym (append-nil done))
+        (subst (λ (ls : List TranscriptLine). Stands settings lists settled within settled_answers within_answers none_blocks in_pieces afters joined places data_joined done state past ls) (sym (append-nil lines)) s));
+  }
+  comes (delivery ∷ deliveries) done state last past lines number text stop s r = elim r [
+    | inl f ↦
+        let fault = at_fault_so state delivery (record { lines = None; state = last }) f.refused refl in
+        record {
+          course = past ++ [];
+          runs = inl (record { refused = (f.refused, [], fault.0, refl); nothing = f.nothing; here = f.here });
+          performed = [];
+          rest = delivery ∷ deliveries;
+          parts = refl;
+          told = [];
+          is_written = sym f.nothing;
+          stands = subst (λ (x : ScriptState). Stands settings lists settled within settled_answers within_answers none_blocks in_pieces afters joined places data_joined (done ++ []) x (past ++ []) (lines ++ [])) (sym fault.1)
+              (subst (λ (ds : List Delivery). Stands settings lists settled within settled_answers within_answers none_blocks in_pieces afters joined places data_joined ds state (past ++ []) (lines ++ [])) (sym (append-nil done))
+              (subst (λ (ls : List TranscriptLine). Stands settings lists settled within settled_answers within_answers none_blocks in_pieces afters joined places data_joined done state (past ++ []) ls) (sym (append-nil lines))
+              (subst (λ (hs : List Happening). Stands settings lists settled within settled_answers within_answers none_blocks in_pieces afters joined places data_joined done state hs lines) (sym (append-nil past)) s)));
+        }
+    | inr g ↦
+        let n = performs_next settings lists settled within settled_answers within_answers none_blocks in_pieces afters joined places data_joined done state past lines s delivery (record { lines = Some g.first; state = g.between }) g.performed g.first refl in
+        let m = comes deliveries (done ++ delivery ∷ []) g.between last (past ++ n.happenings) (lines ++ n.told) (number + 1) g.rest stop n.stands g.others in
+        record {
+          course = m.course;
+          runs = inr (record {
+            first = g.first;
+            rest = g.rest;
+            between = record { state = g.between; past = past ++ n.happenings };
+            performed = (g.performed, n.happenings, n.happen, refl);
+            parts = g.parts;
+            others = m.runs;
+          });
+          performed = delivery ∷ m.performed;
+          rest = m.rest;
+          parts = ap (λ (ds : List Delivery). delivery ∷ ds) m.parts;
+          told = n.told ++ m.told;
+          is_written = written_joined n.told m.told ∙ ap (λ (xs : List ℕ). xs ++ written m.told) n.is_written
+              ∙ ap (λ (xs : List ℕ). g.first ++ xs) m.is_written ∙ sym g.parts;
+          stands = subst (λ (ds : List Delivery). Stands settings lists settled within settled_answers within_answers none_blocks in_pieces afters joined places data_joined ds last m.course (lines ++ (n.told ++ m.told))) (append_assoc done (delivery ∷ []) m.performed)
+              (subst (λ (ls : List TranscriptLine). Stands settings lists settled within settled_answers within_answers none_blocks in_pieces afters joined places data_joined ((done ++ delivery ∷ []) ++ m.performed) last m.course ls) (append_assoc lines n.told m.told) m.stands);
+        }
+  ]
+
+  pub nothing_stands : Stands settings lists settled within settled_answers within_answers none_blocks in_pieces afters joined places data_joined [] (opening_script settings lists) [] []
+  nothing_stands = record { world = refl; each = λ label. (refl, refl, refl); nowhere = tt }
