@@ -26,11 +26,7 @@ impl<S: Server + Drop> Model for Asked<S> {
 
 impl<S: Server + Drop> Asked<S> {
     /// This server, as this relay asks it. `OutOfMemory` where memory was refused; the server is gone then.
-    pub fn new(
-        alloc: Global,
-        server: S,
-        relay: &RelaySetting,
-    ) -> Result<Asked<S>, OutOfMemory>
+    pub fn new(alloc: Global, server: S, relay: &RelaySetting) -> Result<Asked<S>, OutOfMemory>
         ensures { IfOk result (λ asked. asked ≡ server) }
     {
         let log = RelayLog::new(alloc, relay)?;

@@ -84,11 +84,7 @@ fn body_of(bytes: &[u8], has_closed: bool) -> Result<&[u8], ListFault>
 }
 
 /// The body behind a whole head.
-fn body_in<'b>(
-    head: &ResponseHead,
-    rest: &'b [u8],
-    has_closed: bool,
-) -> Result<&'b [u8], ListFault>
+fn body_in<'b>(head: &ResponseHead, rest: &'b [u8], has_closed: bool) -> Result<&'b [u8], ListFault>
     ensures body { IfOk result (λ body. body_in has_closed head.now rest.now ≡ Ok body.now) }
     ensures fault { IfErr result (λ fault. body_in has_closed head.now rest.now ≡ Err fault) }
 {

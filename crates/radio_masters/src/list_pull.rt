@@ -7,9 +7,9 @@ ghost use Rattle.radio_masters.specs.declared.list_answer.ListFault.TheVariants.
 ghost use Rattle.radio_masters.specs.ListAnswers.{IsListBody, WhyNoList, most_held};
 ghost use Rattle.radio_masters.specs.Pulls.{IsWritten};
 
+use crate::OutOfMemory;
 use crate::asking::Asking;
 use crate::list_answer::{ListFault, MAX_LIST, read_list_answer};
-use crate::OutOfMemory;
 use radio_hall::{Line, Received};
 use radio_relay::list_request;
 use radio_settings::{MountName, SlaveSetting};
@@ -80,7 +80,6 @@ impl<L: Line> ListPull<L> {
             Received::Fault => Err(ListFault::Cut),
         }
     }
-
 }
 
 /// These bytes have come behind those that are held.

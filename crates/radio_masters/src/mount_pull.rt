@@ -52,13 +52,14 @@ impl<L: Line> Model for MountPull<L> {
 impl<L: Line> MountPull<L> {
     /// The pull of this relay over this line, which is connected to its master. Nothing was written.
     /// `OutOfMemory` where memory was refused; the line is closed then.
-    pub fn new(
-        alloc: Global,
-        relay: &RelaySetting,
-        line: L,
-    ) -> Result<MountPull<L>, OutOfMemory>
-        ensures { IfOk result (λ pull. pull ≡ record { relay = begun relay.now.local_mount; owed = request_text relay.now;
-            given = L.given line; taken = L.taken line; calls = L.calls line }) }
+    pub fn new(alloc: Global, relay: &RelaySetting, line: L) -> Result<MountPull<L>, OutOfMemory>
+        ensures { IfOk result (λ pull. pull ≡ record {
+          relay = begun relay.now.local_mount;
+          owed = request_text relay.now;
+          given = L.given line;
+          taken = L.taken line;
+          calls = L.calls line;
+        }) }
     {
         let text = request_text(alloc, relay)?;
         Ok(MountPull {

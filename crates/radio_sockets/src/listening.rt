@@ -213,7 +213,13 @@ where
     }
     let (_, are_seated) = join_mut(
         rt,
-        &mut || keep_relays(rt, station.net, station.hall, station.board, station.settings),
+        &mut || keep_relays(
+            rt,
+            station.net,
+            station.hall,
+            station.board,
+            station.settings,
+        ),
         &mut || -> bool
             requires { (pass.now.intake ≡ intake.now) × (all_parts ≤ pass.now.parts + 1) }
         { work_at(rt, station, intake, pass, sockets) },

@@ -113,21 +113,27 @@ where
     C: Chronicle + Send + Sync,
     H: House + Send + Sync,
 {
-    thread::scope(thread::scope_env(), rt, move |scope|
-        requires { IsSync R.row × IsSync N.row × IsSend C.row × IsSync C.row × IsSend H.row × IsSync H.row }
-    {
-        let mut keeper = Keeper::new(board.alloc());
-        'rounds: for _ in rt.forever() {
-            if board.is_over() {
-                return;
+    thread::scope(
+        thread::scope_env(),
+        rt,
+        move |scope|
+            requires { IsSync R.row × IsSync N.row × IsSend C.row × IsSync C.row × IsSend H.row × IsSync H.row }
+        {
+            let mut keeper = Keeper::new(board.alloc());
+            'rounds: for _ in rt.forever() {
+                if board.is_over() {
+                    return;
+                }
+                if let Some((relay, sign)) = keeper.next_start(rt, net, board, settings) {
+                    let mount = relay.local_mount;
+                    let begun = scope.spawn(move || pull_relay(
+                        rt, net, hall, board, &relay, &sign,
+                    ));
+                    keeper.note_start(&mount, begun.is_ok());
+                } else {
+                    let _ = sleep(rt, Duration::from_millis(ROUND_MS));
+                }
             }
-            if let Some((relay, sign)) = keeper.next_start(rt, net, board, settings) {
-                let mount = relay.local_mount;
-                let begun = scope.spawn(move || pull_relay(rt, net, hall, board, &relay, &sign));
-                keeper.note_start(&mount, begun.is_ok());
-            } else {
-                let _ = sleep(rt, Duration::from_millis(ROUND_MS));
-            }
-        }
-    })
+        },
+    )
 }

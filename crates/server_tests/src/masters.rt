@@ -4,9 +4,7 @@ use crate::memory_line::{Look, Manners, MemoryLine, SILENT};
 use crate::rows::{HEARD, LISTENER};
 use crate::stations::{Station, core, settings};
 use radio_core::Core;
-use radio_masters::{
-    Asked, ListFault, ListPull, MountPull, PullTurn, read_list_answer,
-};
+use radio_masters::{Asked, ListFault, ListPull, MountPull, PullTurn, read_list_answer};
 use radio_session::Ending;
 use radio_settings::{MountName, Settings};
 use std::alloc::Global;
@@ -218,7 +216,12 @@ fn are_named(alloc: Global, names: &BTreeSet<MountName>, wanted: &[u8]) -> bool 
 }
 
 /// Whether an answer is read so. It need not be where memory is refused.
-fn is_read(alloc: Global, answer: &[u8], has_closed: bool, wanted: Result<&[u8], ListFault>) -> bool {
+fn is_read(
+    alloc: Global,
+    answer: &[u8],
+    has_closed: bool,
+    wanted: Result<&[u8], ListFault>,
+) -> bool {
     match (read_list_answer(alloc, answer, has_closed), wanted) {
         (Ok(names), Ok(wanted)) => are_named(alloc, &names, wanted),
         (Err(ListFault::OutOfMemory), _) => true,

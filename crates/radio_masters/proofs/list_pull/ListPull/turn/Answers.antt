@@ -11,13 +11,13 @@ returns-after-hold-clause-came g c =
     let held = c.hold.new.held.items in
     let pull = c.args.self.now in
     elim c.match-hold.branch [
-      in-Ok w ↦
+      | in-Ok w ↦
           let came : Came given held pull = (
             bytes,
             c.in-Bytes.ensures.given.1 ∙ ap (λ (xs : List ℕ). xs ++ bytes) (c.write.ensures.given ∙ ap (λ (o : ListOver). o.given) c.self.view_is),
             w.in-Ok.ensures.held ∙ ap (λ (xs : List ℕ). xs ++ bytes) (ap (λ (o : ListOver). o.came) c.self.view_is),
           ) in subst (λ r. OnOk r (Came given held pull)) (sym w.result-is) came
-    | in-Err w ↦ subst (λ r. OnOk r (Came given held pull)) (sym w.result-is) tt
+      | in-Err w ↦ subst (λ r. OnOk r (Came given held pull)) (sym w.result-is) tt
     ]
 
 pub returns-after-read_list_answer-clause-came : goal.returns-after-read_list_answer-clause-came
@@ -26,11 +26,11 @@ returns-after-read_list_answer-clause-came g c =
     let held = c.self.inside.held.items in
     let pull = c.args.self.now in
     elim c.match-read_list_answer.branch [
-      in-Ok-read_list_answer w ↦
+      | in-Ok-read_list_answer w ↦
           let came : Came given held pull = (
             [],
             c.in-Closed.ensures.given ∙ c.write.ensures.given ∙ ap (λ (o : ListOver). o.given) c.self.view_is ∙ sym (append-nil pull.given),
             ap (λ (o : ListOver). o.came) c.self.view_is ∙ sym (append-nil pull.came),
           ) in subst (λ r. OnOk r (Came given held pull)) (sym w.result-is) came
-    | in-Err-read_list_answer w ↦ subst (λ r. OnOk r (Came given held pull)) (sym w.result-is) tt
+      | in-Err-read_list_answer w ↦ subst (λ r. OnOk r (Came given held pull)) (sym w.result-is) tt
     ]
