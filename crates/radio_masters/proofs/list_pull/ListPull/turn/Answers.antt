@@ -1,4 +1,4 @@
-use Rattle.std.proofs.Common.{◌≡◌, ◌∙◌, sym, ap, subst, ℕ, List, [], ◌++◌, append-nil, take, OnOk}
+use Rattle.std.proofs.Common.{◌∙◌, sym, ap, subst, ℕ, List, [], ◌++◌, append-nil, take, OnOk}
 use Rattle.radio_masters.specs.ListAnswers.{ListOver}
 use Rattle.radio_masters.proofs.Called.{Came}
 use Rattle.radio_masters.proofs.list_pull.ListPull.turn.Goals as goal
