@@ -7,13 +7,7 @@ use Rattle.std.proofs.lemmas.Bool.{ltb-true, lt-ltb, le-ltb}
 use Rattle.radio_blocks.specs.Block.{IsBlock}
 use Rattle.radio_policy.specs.declared.rule.Rule.TheVariants.{NumbersSpent}
 use Rattle.radio_tables.specs.Lists.{update_first}
-use Rattle.radio_seats.specs.declared.seat.Listener.{Listener}
-use Rattle.radio_seats.specs.declared.seat.Seating.{Seating}
-use Rattle.radio_seats.specs.declared.seat.Seating.TheVariants.{Sits as HasSeat, Finished as HasFinished}
 use Rattle.radio_seats.specs.Seats.{listener_of}
-use Rattle.radio_addr.specs.declared.peer.Peer.{Peer}
-use Rattle.radio_house.specs.declared.clients.ClientState.{ClientState}
-use Rattle.radio_house.specs.declared.clients.ClientState.TheVariants.{Undecided, Feeds, Listens, Answered, Ended}
 use Rattle.radio_house.specs.House.{House}
 use Rattle.radio_events.specs.declared.reply.Reply.{Reply}
 use Rattle.radio_events.specs.declared.reply.Reply.TheVariants.{Noted, Deny, Finished, Stray}
@@ -36,7 +30,8 @@ use Rattle.radio_core.specs.SourceReplies.{unless_spent, to_session, to_data_fro
 use Rattle.radio_core.specs.SourceReplies.{SourcesAreToldByTheirData, EndsAreTold}
 use Rattle.radio_core.specs.Step.{outcome, reply_to, world_after}
 use Rattle.radio_parts.specs.Stream.{end_of}
-use Rattle.radio_house.specs.World.{World, standing_of, has_relay, standing_in, standing_by, standing_seated, standing_of_listener}
+use Rattle.radio_house.specs.World.{World, standing_of, has_relay, standing_in}
+use Rattle.radio_core.proofs.Standings.{feeds_in}
 
 -- the first that is sought, after a change of it
 find-updated : {X : Type 0} (p : X → Bool) (f : X → X) → ((x : X) → p (f x) ≡ p x) → (xs : List X) → find p (update_first p f xs) ≡ option_map f (find p xs)

@@ -1,10 +1,10 @@
 //! What of the station a client is shown.
 
 ghost use Rattle.std.specs.Prelude.{◌≡◌, [], map, unwrap_or, IfOk};
-ghost use Rattle.std.specs.Option.{option_copied, option_map};
+ghost use Rattle.std.specs.Option.{option_map};
 ghost use Rattle.radio_listing.specs.Listeners.{listeners_text};
 ghost use Rattle.radio_seats.specs.Listed.{lent_guest};
-ghost use Rattle.radio_house.specs.Listings.{shown, public_row, mount_row, mount_rows, listener_row, listener_rows, seconds_since, user_of};
+ghost use Rattle.radio_house.specs.Listings.{shown, public_row, mount_row, mount_rows, listener_row, listener_rows, user_of};
 ghost use Rattle.radio_house.specs.World.{world};
 ghost use Rattle.radio_events.specs.declared.command.Listing.TheVariants.{Status, Stats, Mounts, Streams};
 ghost use Rattle.radio_events.specs.declared.text.Text.{Text as TextOf};

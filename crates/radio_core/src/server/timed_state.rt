@@ -4,7 +4,7 @@ ghost use Rattle.std.specs.Prelude.{◌≡◌, map, IsOk, IfOk, OnOk, OnErr};
 ghost use Rattle.radio_core.specs.Changes.{ticked};
 ghost use Rattle.radio_core.specs.Counts.{counted};
 ghost use Rattle.radio_core.specs.Due.{at_moment, due_by};
-ghost use Rattle.radio_house.specs.Due.{client_due, first_due};
+ghost use Rattle.radio_house.specs.Due.{first_due};
 ghost use Rattle.radio_core.specs.KeptChanges.{kept_changed};
 ghost use Rattle.radio_core.specs.Planned.{planned, with_count};
 ghost use Rattle.radio_events.specs.declared.reply.Reply.{Reply as ReplyOf};

@@ -1,4 +1,4 @@
-use Rattle.std.proofs.Common.{ap, subst, sym, ◌∙◌}
+use Rattle.std.proofs.Common.{subst, sym, ◌∙◌}
 use Rattle.radio_core.specs.Step.{Represents}
 use Rattle.radio_house.specs.World.{World}
 use Rattle.radio_core.proofs.StepLemmas.{keeps_settings}
