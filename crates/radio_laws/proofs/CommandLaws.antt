@@ -23,8 +23,6 @@ use Rattle.radio_events.specs.declared.command.Command.{Command as TheCommand}
 use Rattle.radio_events.specs.declared.command.Command.TheVariants.{MoveClients, KillClient, KillSource, SetTitle, SetFallback}
 use Rattle.radio_events.specs.declared.event.Event.{Event}
 use Rattle.radio_events.specs.declared.reply.Reply.TheVariants.{Text as SaysText}
-use Rattle.radio_events.specs.declared.text.Text.{Text}
-use Rattle.radio_events.specs.Texts.{IsShort}
 use Rattle.radio_core.specs.declared.outcome.Change.TheVariants.{Answer, Obey}
 use Rattle.radio_core.specs.declared.outcome.Outcome.{Outcome}
 use Rattle.radio_house.specs.declared.standing.Standing.{Standing}
@@ -56,12 +54,9 @@ use Rattle.radio_laws.specs.Walks.{FallsBack, ByTheSettings, ByACommand}
 use Rattle.radio_core.specs.Outcomes.{on_verdict, if_undecided}
 use Rattle.radio_core.specs.Sound.{IsSound}
 use Rattle.radio_core.specs.Step.{outcome, reply_to, world_after}
-use Rattle.radio_core.specs.Ways.{Way, Misplaced, IsFinished, IsDenied, IsRefused, IsAdmitted, Begins, ComesUp, Receives, SetsTitle, TakesSeat, HandsOut, Ends}
-use Rattle.radio_core.specs.Ways.{EndsAndLeaves, Leaves, GoesDown, Obeys, Shows, HasPassed, Ticks}
 use Rattle.radio_house.specs.World.{World, standing_of}
 use Rattle.radio_core.proofs.Obeyed.{is_another, his_seat, has_been_killed, sits_no_more, beside_him, live, is_cut, named, turned, title_live, is_answered}
 use Rattle.radio_core.proofs.SoundRuns.{sound_after}
-use Rattle.radio_core.proofs.Ways.{way_of}
 use Rattle.radio_laws.proofs.GoneLemmas.{last_rises}
 use Rattle.radio_laws.proofs.KilledLemmas.{IsOver, hears_no_more}
 use Rattle.radio_laws.specs.Commanded.{MayGive, IsLive, IsThere, AsTheAdmin, ItsTitle, ItsFallback, IsGivenByRight, OnlyWhoMayCommands, IsSourceKilled, HasDone, mount_of, StaysBeside, CommandsAreKept, KilledHearNothing}

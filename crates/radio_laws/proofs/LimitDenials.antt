@@ -1,12 +1,12 @@
 -- a listener, a client or a source is denied by a limit only where the limit is reached
-use Rattle.std.proofs.Common.{◌≡◌, Bool, true, false, ℕ, ◌<◌, ◌≤◌, not, Some, None, List, [], ◌∷◌, length, refl, ap, sym, ◌∙◌, arith}
+use Rattle.std.proofs.Common.{Option, ◌≡◌, Bool, true, false, ℕ, ◌<◌, ◌≤◌, not, Some, None, List, [], ◌∷◌, length, refl, ap, sym, ◌∙◌, arith}
 use Rattle.std.specs.Prelude.{if◌then◌else◌}
 use Rattle.std.proofs.lemmas.Bool.Decides.{nat_tests}
 use Rattle.radio_policy.specs.declared.judgement.Verdict.TheVariants.{Deny as Denied}
 use Rattle.radio_policy.specs.declared.rule.Rule.{Rule}
 use Rattle.radio_policy.specs.declared.rule.Rule.TheVariants.{TooManyClients, TooManySources, MountFull, UserTwice, NumbersSpent, FallbackDepth}
 use Rattle.radio_policy.specs.declared.rule.Rule.TheVariants.{BadMount, MountInUse, ContentType}
-use Rattle.radio_policy.specs.Table.{Row, arrive_rows, source_rows, relay_rows}
+use Rattle.radio_policy.specs.Table.{Row, arrive_rows, source_rows, relay_rows, command_rows}
 use Rattle.radio_policy.specs.Verdicts.{verdict_in}
 use Rattle.radio_tables.specs.Lists.{Each}
 use Rattle.radio_events.specs.declared.event.Event.{Event}
@@ -22,6 +22,7 @@ use Rattle.radio_events.specs.declared.reply.Reply.TheVariants.{Arrived, Feeding
 use Rattle.radio_house.specs.declared.standing.Standing.{Standing}
 use Rattle.radio_house.specs.declared.standing.Standing.TheVariants.{Unknown, Undecided, Feeds, Sits, Answered, Finished}
 use Rattle.radio_house.specs.CommandFacts.{facts_asked, rows_to_command}
+use Rattle.radio_policy.specs.declared.facts.CommandFacts.{CommandFacts}
 use Rattle.radio_house.specs.Facts.{is_full as is_too_many, arrive_facts, source_facts_at, relay_facts_at, rows_to_raise, names_mount}
 use Rattle.radio_laws.specs.Limits.{IsFullAt, AdmitsByLimits}
 use Rattle.radio_laws.specs.LimitDenials.{HasUserAt, ByAMount, DeniesByLimits}

@@ -28,7 +28,7 @@ use Rattle.radio_core.specs.declared.outcome.Outcome.{Outcome}
 use Rattle.radio_house.specs.declared.standing.Standing.{Standing}
 use Rattle.radio_house.specs.declared.standing.Standing.TheVariants.{Undecided, Answered}
 use Rattle.radio_core.specs.Changes.{changed}
-use Rattle.radio_core.specs.Command.{does_asked, said_of, shows}
+use Rattle.radio_core.specs.Command.{does_asked, shows}
 use Rattle.radio_core.specs.Allowed.{IsListed}
 use Rattle.radio_house.specs.CommandFacts.{is_live, facts_asked, rows_to_command}
 use Rattle.radio_core.specs.Counts.{counts_by}
@@ -38,12 +38,9 @@ use Rattle.radio_house.specs.Pages.{page_at}
 use Rattle.radio_events.specs.Events.{client_in}
 use Rattle.radio_core.specs.Outcomes.{if_undecided, on_verdict}
 use Rattle.radio_core.specs.Step.{outcome, reply_to, world_after}
-use Rattle.radio_core.specs.Ways.{Way, Misplaced, IsFinished, IsDenied, IsRefused, IsAdmitted, Begins, ComesUp, Receives, SetsTitle, TakesSeat, HandsOut, Ends}
-use Rattle.radio_core.specs.Ways.{EndsAndLeaves, Leaves, GoesDown, Obeys, Shows, HasPassed, Ticks}
 use Rattle.radio_house.specs.World.{World, standing_of}
 use Rattle.radio_core.proofs.Standings.{asks, turns_answered}
 use Rattle.radio_core.proofs.AllowedCommands.{may_act, past_sent}
-use Rattle.radio_core.proofs.Ways.{way_of}
 use Rattle.radio_laws.proofs.ToldTexts.{IsToldFor, ByShowing, ByDoing, told_for}
 use Rattle.radio_laws.specs.Shown.{IsTheRelays, MaySee, AsAnybody, AsARelay, AsTheAdmin, IsThereToSee, IsShownByRight, IsShownAtPath, OnlyWhoMayIsShown, WhoMayIsShown, Tells}
 use Rattle.radio_laws.proofs.CommandLaws.{lives_by, login_sent, one_of}

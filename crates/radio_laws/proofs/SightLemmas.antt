@@ -27,14 +27,10 @@ use Rattle.radio_house.specs.Pages.{page_at, server_as}
 use Rattle.radio_events.specs.declared.reply.Reply.TheVariants.{Text as SaysText}
 use Rattle.radio_events.specs.declared.text.Text.{Text}
 use Rattle.radio_events.specs.declared.text.Text.TheVariants.{Json, Streams as StreamList, Public}
-use Rattle.radio_core.specs.declared.outcome.Outcome.{Outcome}
 use Rattle.radio_house.specs.Listings.{shown, mount_row, mount_rows, public_row}
 use Rattle.radio_parts.specs.Sessions.{Session}
-use Rattle.radio_core.specs.Step.{outcome, reply_to}
-use Rattle.radio_core.specs.Ways.{Way, Misplaced, IsFinished, IsDenied, IsRefused, IsAdmitted, Begins, ComesUp, Receives, SetsTitle, TakesSeat, HandsOut, Ends}
-use Rattle.radio_core.specs.Ways.{EndsAndLeaves, Leaves, GoesDown, Obeys, Shows, HasPassed, Ticks}
+use Rattle.radio_core.specs.Step.{reply_to}
 use Rattle.radio_house.specs.World.{World}
-use Rattle.radio_core.proofs.Ways.{way_of}
 use Rattle.radio_laws.proofs.ToldTexts.{IsToldFor, ByShowing, ByDoing, told_for}
 use Rattle.radio_laws.specs.Shown.{Seen, seen, is_public, public_live, seen_by_all, LooksAlike, AreAnsweredAlike, AreVisitedAlike, SightIsKept}
 use Rattle.radio_laws.specs.Shown.{HiddenAreLeftOut, HiddenAreNotToldOnTheWeb}

@@ -14,3 +14,4 @@ pub mod Gone
 pub mod Service
 pub mod Outstaying
 pub mod Shown
+pub mod Locality

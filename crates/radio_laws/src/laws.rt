@@ -1,7 +1,7 @@
 //! The laws of every run: each holds after every list of events from the opening state, over the
 //! definitions that `Core::step` follows.
 
-ghost use Rattle.std.specs.Prelude.{◌≡◌, ◌≤◌, ℕ, List, [], ◌∷◌, ◌++◌, Some};
+ghost use Rattle.std.specs.Prelude.{◌≡◌, ◌≤◌, Bool, ℕ, List, [], ◌∷◌, ◌++◌, Some};
 ghost use Rattle.radio_settings.specs.declared.settings.Settings.{Settings};
 ghost use Rattle.radio_laws.specs.Shown.{OnlyWhoMayIsShown, WhoMayIsShown, WhoVisitsIsShown, NobodyFeedsAPath, HiddenAreLeftOut, HiddenAreNotToldOnTheWeb, SightIsKept};
 ghost use Rattle.radio_access.specs.Lists.{Lists};
@@ -22,6 +22,7 @@ ghost use Rattle.radio_laws.specs.Commanded.{OnlyWhoMayCommands, WhoMayIsServed,
 ghost use Rattle.radio_laws.specs.TitlesTold.{TitlesAreTold};
 ghost use Rattle.radio_house.specs.Timeouts.{TestsAreInNumbers};
 ghost use Rattle.radio_laws.specs.Outstaying.{NobodyOutstays};
+ghost use Rattle.radio_laws.specs.Locality.{AnswersAlike, LeavesAlone};
 ghost use Rattle.radio_laws.specs.Gone.{Leaving, HasLeft, IsOutOfPlace, StaysGone};
 
 use radio_policy::denials_name_the_first_rule;
@@ -182,4 +183,15 @@ pub fn who_left_is_gone()
     // and whatever else happens, he does not come back: his number is given to nobody, he is handed nothing more, and nothing more comes from him
     ensures gone { (settings : Settings) (lists : Lists) (events more : List Event) (id : ℕ) → HasLeft (run_after settings lists events) id
         → StaysGone (run_after settings lists events) more id }
+{}
+
+/// The law of locality.
+pub fn events_go_by_their_mounts()
+    // of any two stations, after whatever has happened to each: where they agree on all that an event can reach, they
+    // answer it alike, and agree on that still; what streams and listeners there are at other mounts does not matter
+    ensures alike { (settings others : Settings) (lists files : Lists) (events more : List Event) (within : List ℕ → Bool) (event : Event)
+        → AnswersAlike within (run_after others files more) (run_after settings lists events) event }
+    // and what an event cannot reach is left alone: each other mount has the session that it had, and those sit there who sat there
+    ensures alone { (settings : Settings) (lists : Lists) (events : List Event) (within : List ℕ → Bool) (event : Event)
+        → LeavesAlone within (run_after settings lists events) event }
 {}

@@ -1,0 +1,193 @@
+-- what an event does goes by the mounts that it can reach
+use Rattle.std.proofs.Common.{◌≡◌, Bool, true, false, ℕ, Option, Some, None, List, refl, ap, sym, subst, ◌∙◌}
+use Rattle.std.specs.Prelude.{◌+◌, length}
+use Rattle.std.proofs.lemmas.Slice.Eq.{bytes_eq-Decides}
+use Rattle.radio_tables.proofs.FindLaws.{found_passes}
+use Rattle.radio_settings.specs.declared.field.Shown.{Shown}
+use Rattle.radio_settings.specs.Options.{options_for}
+use Rattle.radio_policy.specs.declared.rule.Rule.TheVariants.{Lagged, Killed}
+use Rattle.radio_seats.specs.declared.seat.Listener.{Listener}
+use Rattle.radio_seats.specs.declared.seat.Seat.{Seat}
+use Rattle.radio_parts.specs.Sessions.{Session, is_of, session_of, opened, fed}
+use Rattle.radio_parts.specs.Timeouts.{lags_behind}
+use Rattle.radio_fallback.specs.declared.moves.Move.TheVariants.{Ended as HasEnded, To}
+use Rattle.radio_events.specs.declared.command.Asked.TheVariants.{Command as Asks}
+use Rattle.radio_events.specs.declared.command.Command.{Command as TheCommand}
+use Rattle.radio_events.specs.declared.command.Command.TheVariants.{MoveClients, KillClient, KillSource, SetTitle as NewTitle, SetFallback}
+use Rattle.radio_events.specs.declared.event.Event.{Event}
+use Rattle.radio_events.specs.declared.event.Event.TheVariants.{Command}
+use Rattle.radio_core.specs.declared.outcome.Change.{Change}
+use Rattle.radio_core.specs.declared.outcome.Change.TheVariants.{Nothing, Begin, Raise, Receive, End}
+use Rattle.radio_core.specs.declared.outcome.Change.TheVariants.{EndAndLeave, Tick, Obey}
+use Rattle.radio_core.specs.declared.outcome.Outcome.{Outcome}
+use Rattle.radio_house.specs.declared.standing.Standing.TheVariants.{Feeds}
+use Rattle.radio_core.specs.Changes.{changed, session_over, session_ended, session_killed, answered}
+use Rattle.radio_house.specs.HouseChanges.{received}
+use Rattle.radio_core.specs.Closing.{Closes, OfClient, OfRelay}
+use Rattle.radio_core.specs.Allowed.{IsCommanded}
+use Rattle.radio_house.specs.Facts.{live_end}
+use Rattle.radio_core.specs.Listen.{first_seat}
+use Rattle.radio_house.specs.Streams.{shown_for}
+use Rattle.radio_parts.specs.Stream.{data_at}
+use Rattle.radio_house.specs.House.{House}
+use Rattle.radio_core.specs.Step.{outcome, reply_to, world_after}
+use Rattle.radio_core.specs.Ways.{Way, Misplaced, IsFinished, IsDenied, IsRefused, IsAdmitted, Begins, ComesUp, Receives, SetsTitle, TakesSeat, HandsOut, Ends}
+use Rattle.radio_core.specs.Ways.{EndsAndLeaves, Leaves, GoesDown, Obeys, Shows, HasPassed, Ticks}
+use Rattle.radio_house.specs.World.{World, standing_of}
+use Rattle.radio_core.proofs.Ways.{way_of}
+use Rattle.radio_laws.specs.Locality.{AgreeWithin, SessionsAgree, SameSession, ListenersAgree, SameListener, IsAll, IsWithin, AsksWithin, ComesUpWithin, WalksWithin}
+use Rattle.radio_laws.specs.Locality.{AnswersAlike}
+use Rattle.radio_laws.proofs.AgreeingLists.{agree_all}
+use Rattle.radio_laws.proofs.Agreeing.{beyond, SessionsDo, session_alike, with_session_alike, without_session_alike, fed_alike, titled_alike, ListenersDo}
+use Rattle.radio_laws.proofs.Agreeing.{with_seat_alike, without_alike, with_place_alike, with_end_alike, with_ended_alike}
+use Rattle.radio_laws.proofs.AgreeingWalks.{carried_alike}
+use Rattle.radio_laws.proofs.AgreeingOutcomes.{in_place, onward_by, all_one, outcome_alike}
+
+-- a state agrees with itself
+pub agrees : (within : List ℕ → Bool) (w : World) → AgreeWithin within w w
+agrees within w = record {
+  house = refl;
+  sessions = agree_all (SessionsAgree within) (λ a. SameSession refl) w.house.live;
+  listeners = agree_all (ListenersAgree within) (λ a. SameListener refl) w.seats;
+}
+
+-- what an allowed command reaches is what was asked
+pub asks_within : (within : List ℕ → Bool) (w : World) (event : Event) (command : TheCommand) → IsCommanded w event command → IsWithin w within event
+    → AsksWithin w within (Asks command)
+asks_within within w event command c near =
+    let its : IsWithin w within (Command c.asked) = subst (IsWithin w within) c.is_event near in
+    subst (AsksWithin w within) c.is_asked its
+
+module _ (within : List ℕ → Bool) (w : World) (live : List Session) (seats : List Listener) (r : SessionsDo within live w.house.live) (s : ListenersDo within seats w.seats) where
+  abbrev v : World
+  v = in_place w live seats
+
+  abbrev Agree : Change → Type 0
+  Agree change = AgreeWithin within (changed v change) (changed w change)
+
+  all_agree : IsAll within → (change : Change) → Agree change
+  all_agree all change =
+      subst (λ (x : World). AgreeWithin within (changed x change) (changed w change)) (sym (all_one within w live seats r s all)) (agrees within (changed w change))
+
+  -- a session begins, and where its mount calls its listeners home, all is within reach
+  begins : (id : ℕ) (mount : List ℕ) (shown : Shown) → ComesUpWithin w within mount → Agree (Begin id mount shown)
+  begins id mount shown near = by_home (options_for w.house.settings mount).listeners.fallback_override refl where
+    by_home : (home : Bool) → (options_for w.house.settings mount).listeners.fallback_override ≡ home → Agree (Begin id mount shown)
+    by_home true e = all_agree (near.home e) (Begin id mount shown)
+    by_home false e = rw e (record { house = refl; sessions = with_session_alike within live w.house.live r (opened mount id shown w.house.time); listeners = s })
+
+  raises : (id : ℕ) (mount : List ℕ) (shown : Shown) → ComesUpWithin w within mount → Agree (Raise id mount shown)
+  raises id mount shown near = by_home (options_for w.house.settings mount).listeners.fallback_override refl where
+    by_home : (home : Bool) → (options_for w.house.settings mount).listeners.fallback_override ≡ home → Agree (Raise id mount shown)
+    by_home true e = all_agree (near.home e) (Raise id mount shown)
+    by_home false e = rw e (record { house = refl; sessions = with_session_alike within live w.house.live r (opened mount id shown w.house.time); listeners = s })
+
+  -- a block comes, and who is too far behind loses his seat
+  receives : (mount block : List ℕ) → within mount ≡ true → Agree (Receive mount block)
+  receives mount block near =
+      let longer = fed_alike within live w.house.live r mount block w.house.time in
+      let same = session_alike within (fed live mount block w.house.time) (fed w.house.live mount block w.house.time) longer mount near in
+      record {
+        house = refl;
+        sessions = longer;
+        listeners = rw same (with_ended_alike within seats w.seats s
+            (lags_behind mount (live_end (received w.house mount block) mount) w.house.settings.limits.queue_size) Lagged (none (live_end (received w.house mount block) mount)));
+      } where
+        none : (end : ℕ) (seat : Seat) → within seat.mount ≡ false → lags_behind mount end w.house.settings.limits.queue_size seat ≡ false
+        none end seat out = rw (beyond within seat.mount mount out near) refl
+
+  -- a session ends, and its listeners walk on
+  over : (mount : List ℕ) → SessionsDo within (session_over v mount).house.live (session_over w mount).house.live
+  over mount = without_session_alike within live w.house.live r mount
+
+  walked : (mount : List ℕ) → WalksWithin w within mount → ListenersDo within (session_ended v mount).seats (session_ended w mount).seats
+  walked mount near =
+      carried_alike within (session_over w mount) (session_over v mount).house.live (over mount) (HasEnded mount)
+      (near.there, onward_by within w near.onward live r) seats w.seats s
+
+  ends : (id : ℕ) (mount : List ℕ) → WalksWithin w within mount → Agree (End id mount)
+  ends id mount near = record { house = refl; sessions = over mount; listeners = walked mount near }
+
+  ends_and_leaves : (id : ℕ) (mount : List ℕ) → WalksWithin w within mount → Agree (EndAndLeave id mount)
+  ends_and_leaves id mount near = record {
+    house = refl;
+    sessions = over mount;
+    listeners = without_alike within (session_ended v mount).seats (session_ended w mount).seats (walked mount near) id;
+  }
+
+  -- a command is done
+  obeys : (id : ℕ) (command : TheCommand) → AsksWithin w within (Asks command) → Agree (Obey id command)
+  obeys id (MoveClients mount destination) near = record {
+    house = refl;
+    sessions = r;
+    listeners = carried_alike within (answered w id) live r (To mount destination) near seats w.seats s;
+  }
+  obeys id (KillClient mount listener) near = record { house = refl; sessions = r; listeners = with_end_alike within seats w.seats s listener Killed }
+  obeys id (KillSource mount) near =
+      rw (session_alike within live w.house.live r mount near.there) (by_session (session_of w.house.live mount) refl) where
+        by_session : (session : Option Session) → session_of w.house.live mount ≡ session
+            → AgreeWithin within (session_killed (answered v id) session) (session_killed (answered w id) session)
+        by_session None e = record { house = refl; sessions = r; listeners = s }
+        by_session (Some session) e =
+            let named : session.mount ≡ mount = (bytes_eq-Decides session.mount mount).0 (found_passes (is_of mount) w.house.live session e) in
+            record {
+              house = refl;
+              sessions = over session.mount;
+              listeners = walked session.mount (record { there = ap within named ∙ near.there; onward = near.onward });
+            }
+  obeys id (NewTitle mount title) near = record { house = refl; sessions = titled_alike within live w.house.live r mount title; listeners = s }
+  obeys id (SetFallback mount fallback) near = record { house = refl; sessions = r; listeners = s }
+
+  -- what the event changes
+  unchanged : Agree Nothing
+  unchanged = record { house = refl; sessions = r; listeners = s }
+
+  closes : (event : Event) (id : ℕ) (mount : List ℕ) → Closes w id event → standing_of w id ≡ Feeds mount → IsWithin w within event → WalksWithin w within mount
+  closes _ id mount (OfClient no_relay) feeding near = near.0 mount feeding
+  closes _ id mount (OfRelay relay) feeding near = near mount feeding
+
+  by_way : (event : Event) (o : Outcome) → Way w event o → IsWithin w within event → Agree o.change
+  by_way event o (Misplaced _) near = unchanged
+  by_way event o (IsFinished _ him by its known) near = unchanged
+  by_way event o (IsDenied _ by verdict nobody) near = unchanged
+  by_way event o (IsRefused _ him by verdict its undecided) near = record { house = refl; sessions = r; listeners = s }
+  by_way event o (IsAdmitted peer allowed) near = record { house = refl; sessions = r; listeners = s }
+  by_way event o (Begins asked undecided none allowed) near = begins asked.id asked.mount (shown_for w.house asked.mount asked.shown) near
+  by_way event o (ComesUp mount shown unfed allowed) near = raises (w.house.last_id + 1) mount (shown_for w.house mount shown) near
+  by_way event o (Receives him mount block feeding) near = receives mount block (near mount feeding)
+  by_way event o (SetsTitle him mount title feeding) near = record {
+    house = refl;
+    sessions = titled_alike within live w.house.live r mount title;
+    listeners = s;
+  }
+  by_way event o (TakesSeat asked peer session undecided lands is_live allowed) near = record {
+    house = refl;
+    sessions = r;
+    listeners = with_seat_alike within seats w.seats s asked.id (first_seat w.house asked peer session);
+  }
+  by_way event o (HandsOut him room seat session sits has is_live) near = record {
+    house = refl;
+    sessions = r;
+    listeners = with_place_alike within seats w.seats s him (seat.place + length (data_at session.stream seat.place room));
+  }
+  by_way event o (Ends him mount feeding no_relay) near = ends him mount (near mount feeding)
+  by_way event o (EndsAndLeaves _ him mount closing feeding) near = ends_and_leaves him mount (closes event him mount closing feeding near)
+  by_way event o (Leaves him no_relay other) near = record { house = refl; sessions = r; listeners = without_alike within seats w.seats s him }
+  by_way event o (GoesDown him by relay over_by) near = record { house = refl; sessions = r; listeners = without_alike within seats w.seats s him }
+  by_way event o (Obeys _ command c) near = obeys c.asked.id command (asks_within within w event command c near)
+  by_way event o (Shows _ him peer text its undecided what) near = record { house = refl; sessions = r; listeners = s }
+  by_way event o (HasPassed ms past) near = unchanged
+  by_way event o (Ticks ms past) near = all_agree near (Tick ms)
+
+  in_step : (event : Event) → IsWithin w within event
+      → (reply_to v event ≡ reply_to w event) × AgreeWithin within (world_after v event) (world_after w event)
+  unfolding reply_to world_after
+  in_step event near =
+      let same = outcome_alike within w live seats r s event near in
+      (ap (λ (o : Outcome). o.reply) same, rw same (by_way event (outcome w event) (way_of w event) near))
+
+pub answers_alike : (within : List ℕ → Bool) (v w : World) (event : Event) → AnswersAlike within v w event
+answers_alike within v w event agree near =
+    let is : v ≡ in_place w v.house.live v.seats = ap (λ (h : House). record { house = h; seats = v.seats }) agree.house in
+    subst (λ (x : World). (reply_to x event ≡ reply_to w event) × AgreeWithin within (world_after x event) (world_after w event)) (sym is)
+    (in_step within w v.house.live v.seats agree.sessions agree.listeners event near)

@@ -1,0 +1,123 @@
+-- What an event does goes by the mounts that it can reach, and by no other: states that agree on these answer it alike, and agree on them still.
+use Rattle.std.specs.Prelude.{◌≡◌, ◌↔◌, Bool, true, false, ℕ, List, [], ◌∷◌, Some}
+use Rattle.radio_settings.specs.Options.{options_for}
+use Rattle.radio_seats.specs.declared.seat.Listener.{Listener}
+use Rattle.radio_seats.specs.declared.seat.Seat.{Seat}
+use Rattle.radio_seats.specs.declared.seat.Seating.TheVariants.{Sits}
+use Rattle.radio_seats.specs.Seats.{seat_of}
+use Rattle.radio_parts.specs.Sessions.{Session, session_of}
+use Rattle.radio_events.specs.declared.event.Event.{Event}
+use Rattle.radio_events.specs.declared.event.Event.TheVariants.{Arrive, Source, Push, SourceEnd, Title, Listen, Draw, Command, Leave}
+use Rattle.radio_events.specs.declared.event.Event.TheVariants.{RelayUp, RelayDown, Clock}
+use Rattle.radio_events.specs.declared.command.Asked.{Asked}
+use Rattle.radio_events.specs.declared.command.Asked.TheVariants.{NoCommand, MissingArgument, Listing as AsksFor, Command as Asks}
+use Rattle.radio_events.specs.declared.command.Command.TheVariants.{MoveClients, KillClient, KillSource, SetTitle, SetFallback}
+use Rattle.radio_events.specs.declared.command.Listing.TheVariants.{Clients}
+use Rattle.radio_house.specs.declared.standing.Standing.TheVariants.{Feeds}
+use Rattle.radio_core.specs.Step.{reply_to, world_after}
+use Rattle.radio_house.specs.World.{World, standing_of}
+use Rattle.radio_laws.specs.Shown.{IsPath}
+use Rattle.radio_laws.specs.Walks.{FallsBack}
+use Rattle.radio_settings.specs.declared.web.WebPath.TheVariants.{IcecastStatus}
+
+-- In all that follows some mounts are within reach, and the others beyond it.
+
+-- two sessions of one mount and one source, and where the mount is within reach, the same in all
+pub data SessionsAgree (within : List ℕ → Bool) (a b : Session) : Type 0 where
+  SameSession : a ≡ b → SessionsAgree within a b
+  FedBeyond : a.mount ≡ b.mount → a.number ≡ b.number → within a.mount ≡ false → SessionsAgree within a b
+
+-- one listener, who sits beyond reach in both states, or has the same seat, or none
+pub data ListenersAgree (within : List ℕ → Bool) (a b : Listener) : Type 0 where
+  SameListener : a ≡ b → ListenersAgree within a b
+  SitsBeyond : a.id ≡ b.id → (one other : Seat) → a.seating ≡ Sits one → within one.mount ≡ false → b.seating ≡ Sits other → within other.mount ≡ false
+      → ListenersAgree within a b
+
+-- each element of a list goes with that of the other at its place
+abbrev pub AllAgree : {X : Type 0} → (X → X → Type 0) → List X → List X → Type 0
+AllAgree R [] [] = Unit {0}
+AllAgree R (x ∷ xs) (y ∷ ys) = R x y × AllAgree R xs ys
+AllAgree R [] (y ∷ ys) = ⊥
+AllAgree R (x ∷ xs) [] = ⊥
+
+-- The states agree within reach, and on what is no mount's own: the moment, settings and lists, the fallbacks that were set, clients and relays. Beyond
+-- it the same mounts are live, fed by the same sources; what they have sent, their titles, and who sits there, may differ.
+pub record AgreeWithin (within : List ℕ → Bool) (v w : World) : Type 0 where
+  pub house : v.house ≡ record w.house { live = v.house.live }
+  pub sessions : AllAgree (SessionsAgree within) v.house.live w.house.live
+  pub listeners : AllAgree (ListenersAgree within) v.seats w.seats
+
+abbrev pub IsAll : (List ℕ → Bool) → Type 0
+IsAll within = (mount : List ℕ) → within mount ≡ true
+
+-- whoever walks from a mount within reach stays there: so is each mount to which its listeners fall back
+abbrev pub FallBackWithin : World → (List ℕ → Bool) → Type 0
+FallBackWithin w within = (mount next : List ℕ) → within mount ≡ true → FallsBack w mount next → within next ≡ true
+
+-- the mount on which a source comes up, or a relay; where it calls its listeners home, they may sit at any
+pub record ComesUpWithin (w : World) (within : List ℕ → Bool) (mount : List ℕ) : Type 0 where
+  pub there : within mount ≡ true
+  pub home : (options_for w.house.settings mount).listeners.fallback_override ≡ true → IsAll within
+
+-- the mount from which a walk begins, and those by which it may come
+pub record WalksWithin (w : World) (within : List ℕ → Bool) (mount : List ℕ) : Type 0 where
+  pub there : within mount ≡ true
+  pub onward : FallBackWithin w within
+
+-- the mount that the client, or the relay, of this number feeds, if he feeds one
+abbrev pub FeedsWithin : World → (List ℕ → Bool) → ℕ → Type 0
+FeedsWithin w within id = (mount : List ℕ) → standing_of w id ≡ Feeds mount → within mount ≡ true
+
+-- the mount that he feeds, and those by which its listeners may come once it has ended
+abbrev pub EndsWithin : World → (List ℕ → Bool) → ℕ → Type 0
+EndsWithin w within id = (mount : List ℕ) → standing_of w id ≡ Feeds mount → WalksWithin w within mount
+
+-- the mount where the listener of this number sits, if he sits
+abbrev pub SitsWithin : World → (List ℕ → Bool) → ℕ → Type 0
+SitsWithin w within id = (seat : Seat) → seat_of w.seats id ≡ Some seat → within seat.mount ≡ true
+
+-- what a command can reach, and what is seen in a listing; a fallback is no mount's own
+abbrev pub AsksWithin : World → (List ℕ → Bool) → Asked → Type 0
+AsksWithin w within NoCommand = Unit {0}
+AsksWithin w within (MissingArgument by) = Unit {0}
+AsksWithin w within (AsksFor (Clients mount)) = within mount ≡ true
+AsksWithin w within (AsksFor listing) = IsAll within
+AsksWithin w within (Asks (MoveClients mount destination)) = (within mount ≡ true) × (within destination ≡ true)
+AsksWithin w within (Asks (KillClient mount listener)) = within mount ≡ true
+AsksWithin w within (Asks (KillSource mount)) = WalksWithin w within mount
+AsksWithin w within (Asks (SetTitle mount title)) = within mount ≡ true
+AsksWithin w within (Asks (SetFallback mount fallback)) = Unit {0}
+
+-- whoever asks to hear a mount walks from it; Icecast's status, where it is asked for, shows all
+pub record HearsWithin (w : World) (within : List ℕ → Bool) (path : List ℕ) : Type 0 where
+  pub walks : WalksWithin w within path
+  pub status : IsPath w path IcecastStatus → IsAll within
+
+-- what the event can reach is within reach
+abbrev pub IsWithin : World → (List ℕ → Bool) → Event → Type 0
+IsWithin w within (Arrive peer) = Unit {0}
+IsWithin w within (Source asked) = ComesUpWithin w within asked.mount
+IsWithin w within (Push id block) = FeedsWithin w within id
+IsWithin w within (SourceEnd id) = EndsWithin w within id
+IsWithin w within (Title id text) = FeedsWithin w within id
+IsWithin w within (Listen asked) = HearsWithin w within asked.mount
+IsWithin w within (Draw id room) = SitsWithin w within id
+IsWithin w within (Command asked) = AsksWithin w within asked.asked
+IsWithin w within (Leave id) = EndsWithin w within id × SitsWithin w within id
+IsWithin w within (RelayUp mount shown) = ComesUpWithin w within mount
+IsWithin w within (RelayDown id) = EndsWithin w within id
+IsWithin w within (Clock ms) = IsAll within
+
+-- beyond reach each mount has the session that it had, and those sit there who sat there, each in his seat
+pub record IsLeftAlone (within : List ℕ → Bool) (w later : World) : Type 0 where
+  pub sessions : (mount : List ℕ) → within mount ≡ false → session_of later.house.live mount ≡ session_of w.house.live mount
+  pub seats : (id : ℕ) (seat : Seat) → within seat.mount ≡ false → (seat_of later.seats id ≡ Some seat) ↔ (seat_of w.seats id ≡ Some seat)
+
+-- states that agree on all that the event can reach answer it alike, and agree on that still
+abbrev pub AnswersAlike : (List ℕ → Bool) → World → World → Event → Type 0
+AnswersAlike within v w event = AgreeWithin within v w → IsWithin w within event
+    → (reply_to v event ≡ reply_to w event) × AgreeWithin within (world_after v event) (world_after w event)
+
+-- and what it cannot reach is left alone
+abbrev pub LeavesAlone : (List ℕ → Bool) → World → Event → Type 0
+LeavesAlone within w event = IsWithin w within event → IsLeftAlone within w (world_after w event)
