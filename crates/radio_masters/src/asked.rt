@@ -5,7 +5,6 @@ ghost use Rattle.std.specs.Prelude.{◌≡◌, IfOk};
 use crate::OutOfMemory;
 use crate::relay_log::{RelayEnd, RelayLog};
 use radio_events::{Event, Reply};
-use radio_hall::Server;
 use radio_session::Server;
 use radio_settings::RelaySetting;
 use std::alloc::Global;
