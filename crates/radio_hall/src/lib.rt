@@ -36,11 +36,10 @@ pub use history::History;
 pub use laws::{open_sessions_have_not_failed, passes_gain_what_was_applied};
 pub use line::{Gate, Line, OpenGate, Received, Sent};
 pub use lingering::{close_first_lingering, count_lingering};
+pub use radio_session::Server;
 pub use turn::Turn;
 pub use watched::Watched;
 pub use worker::Worker;
-
-pub use radio_session::Server;
 
 /// What a call answers where memory was refused.
 pub type OutOfMemory = std::alloc::AllocError;
