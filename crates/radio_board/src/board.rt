@@ -1,10 +1,10 @@
 //! What the workers and the acceptor tell each other.
 
-use crate::Service;
 use crate::desk::Desk;
 use crate::lines::Lines;
-use crate::pace::{Pace, slow_from};
+use crate::pace::{pace_of, slow_from};
 use mio::Waker;
+use radio_lines::Pace;
 use std::alloc::Global;
 use std::sync::atomic::{AtomicBool, AtomicU64, Ordering};
 use std::sync::{Mutex, Wait};
@@ -12,9 +12,18 @@ use std::sync::{Mutex, Wait};
 /// How often it is tried to raise the moment; where another raises it at the same time, it is tried again.
 const TRIES: usize = 16;
 
+/// What a station's service bounds.
+#[derive(Clone, Copy)]
+pub struct Limits {
+    /// How many connections may linger, of all workers together.
+    pub most_lingering: usize,
+    /// How many bytes of a stream are kept at least.
+    pub queue_size: u64,
+}
+
 /// What the workers and the acceptor tell each other. It is shared by reference.
 #[derive(Drop)]
-pub(crate) struct Board {
+pub struct Board {
     alloc: Global,
     desks: Vec<Desk>,
     acceptor: Waker,
@@ -43,7 +52,7 @@ pub(crate) struct Board {
 
 impl Board {
     /// Of these workers, and the acceptor with this waker. It takes no memory.
-    pub(crate) fn new(alloc: Global, desks: Vec<Desk>, acceptor: Waker, service: Service) -> Board {
+    pub fn new(alloc: Global, desks: Vec<Desk>, acceptor: Waker, limits: Limits) -> Board {
         Board {
             alloc,
             desks,
@@ -55,25 +64,25 @@ impl Board {
             is_over: AtomicBool::new(false),
             has_closed: AtomicBool::new(false),
             wants_closing: AtomicBool::new(false),
-            most_lingering: service.most_lingering,
-            slow_from: slow_from(service.queue_size),
+            most_lingering: limits.most_lingering,
+            slow_from: slow_from(limits.queue_size),
             has_lines: AtomicBool::new(false),
             lines: Mutex::new(Lines::new(alloc)),
         }
     }
 
     /// Where memory comes from.
-    pub(crate) fn alloc(&self) -> Global {
+    pub fn alloc(&self) -> Global {
         self.alloc
     }
 
     /// The desk of this worker.
-    pub(crate) fn desk(&self, number: usize) -> Option<&Desk> {
+    pub fn desk(&self, number: usize) -> Option<&Desk> {
         self.desks.get(number)
     }
 
     /// Up to which moment each of those who have begun has read his sockets. It never goes back.
-    pub(crate) fn moment(&self) -> u64 {
+    pub fn moment(&self) -> u64 {
         let mut least = u64::MAX;
         for desk in &self.desks {
             if desk.works() {
@@ -88,7 +97,7 @@ impl Board {
     }
 
     /// The latest moment that was told.
-    pub(crate) fn told_ms(&self) -> u64 {
+    pub fn told_ms(&self) -> u64 {
         self.moment_ms.load(Ordering::SeqCst)
     }
 
@@ -110,36 +119,36 @@ impl Board {
     }
 
     /// Listeners may have news, whoever serves them.
-    pub(crate) fn tell_news(&self) {
+    pub fn tell_news(&self) {
         for desk in &self.desks {
             desk.tell_news();
         }
     }
 
     /// So many bytes have come from a worker's sources.
-    pub(crate) fn note_received(&self, count: u64) {
+    pub fn note_received(&self, count: u64) {
         if count > 0 {
             self.received.fetch_add(count, Ordering::SeqCst);
         }
     }
 
     /// How many bytes have come from sources.
-    pub(crate) fn received(&self) -> u64 {
+    pub fn received(&self) -> u64 {
         self.received.load(Ordering::SeqCst)
     }
 
     /// How fast sources are read, by what the listeners of each worker have still to draw.
-    pub(crate) fn pace(&self) -> Pace {
+    pub fn pace(&self) -> Pace {
         let received = self.received();
         let mut most = 0u64;
         for desk in &self.desks {
             most = most.max(desk.behind(received));
         }
-        Pace::of(most, self.slow_from)
+        pace_of(most, self.slow_from)
     }
 
     /// How many of this worker's connections may linger, where so many do.
-    pub(crate) fn most_lingering(&self, desk: &Desk, count: usize) -> usize {
+    pub fn most_lingering(&self, desk: &Desk, count: usize) -> usize {
         desk.set_lingering(count);
         let mut all = 0usize;
         for each in &self.desks {
@@ -152,7 +161,7 @@ impl Board {
     }
 
     /// For which worker the next connection is: of those who have begun one who has the fewest, the first from this number on.
-    pub(crate) fn next_desk(&self, from: usize) -> Option<usize> {
+    pub fn next_desk(&self, from: usize) -> Option<usize> {
         let count = self.desks.len();
         let mut best = None;
         let mut fewest = usize::MAX;
@@ -169,7 +178,7 @@ impl Board {
     }
 
     /// How many connections were accepted that no worker has taken yet.
-    pub(crate) fn comings(&self) -> usize {
+    pub fn comings(&self) -> usize {
         let mut all = 0usize;
         for desk in &self.desks {
             all = all.saturating_add(desk.comings());
@@ -188,7 +197,7 @@ impl Board {
     }
 
     /// All stop.
-    pub(crate) fn stop(&self) {
+    pub fn stop(&self) {
         self.is_over.store(true, Ordering::SeqCst);
         for desk in &self.desks {
             desk.wake();
@@ -197,12 +206,12 @@ impl Board {
     }
 
     /// Whether all are to stop.
-    pub(crate) fn is_over(&self) -> bool {
+    pub fn is_over(&self) -> bool {
         self.is_over.load(Ordering::SeqCst)
     }
 
     /// A connection was closed.
-    pub(crate) fn note_closed(&self) {
+    pub fn note_closed(&self) {
         self.has_closed.store(true, Ordering::SeqCst);
         if self.wants_closing.load(Ordering::SeqCst) {
             self.wake_acceptor();
@@ -210,27 +219,27 @@ impl Board {
     }
 
     /// Whether a connection was closed since this was asked the last time.
-    pub(crate) fn take_closed(&self) -> bool {
+    pub fn take_closed(&self) -> bool {
         self.has_closed.swap(false, Ordering::SeqCst)
     }
 
     /// The acceptor waits for a connection to be closed, or he does not.
-    pub(crate) fn set_wants_closing(&self, wants: bool) {
+    pub fn set_wants_closing(&self, wants: bool) {
         self.wants_closing.store(wants, Ordering::SeqCst);
     }
 
     /// The acceptor begins.
-    pub(crate) fn note_acceptor(&self) {
+    pub fn note_acceptor(&self) {
         self.has_acceptor.store(true, Ordering::SeqCst);
     }
 
     /// Whether the acceptor has begun.
-    pub(crate) fn has_acceptor(&self) -> bool {
+    pub fn has_acceptor(&self) -> bool {
         self.has_acceptor.load(Ordering::SeqCst)
     }
 
     /// From now on the acceptor waits, unless there is something to do: whether there is. He may want lines of the log.
-    pub(crate) fn acceptor_lies_down(&self, wants_lines: bool) -> bool {
+    pub fn acceptor_lies_down(&self, wants_lines: bool) -> bool {
         self.acceptor_sleeps.store(true, Ordering::SeqCst);
         let has_closed = self.wants_closing.load(Ordering::SeqCst)
             && self.has_closed.load(Ordering::SeqCst);
@@ -239,26 +248,26 @@ impl Board {
     }
 
     /// The acceptor does not wait any more.
-    pub(crate) fn acceptor_gets_up(&self) {
+    pub fn acceptor_gets_up(&self) {
         self.acceptor_sleeps.store(false, Ordering::SeqCst);
     }
 
     /// Ends the acceptor's wait, if he waits.
-    pub(crate) fn wake_acceptor(&self) {
+    pub fn wake_acceptor(&self) {
         if self.acceptor_sleeps.swap(false, Ordering::SeqCst) {
             let _ = self.acceptor.wake();
         }
     }
 
     /// These lines of the log, of the moment so many seconds after the beginning of 1970, are to be written.
-    pub(crate) fn add_lines<W: Wait>(&self, waits: &W, lines: &[u8], seconds: u64) {
+    pub fn add_lines<W: Wait>(&self, waits: &W, lines: &[u8], seconds: u64) {
         self.lines.lock(waits).add(lines, seconds);
         self.has_lines.store(true, Ordering::SeqCst);
         self.wake_acceptor();
     }
 
     /// The lines that wait. None waits then.
-    pub(crate) fn take_lines<W: Wait>(&self, waits: &W) -> Vec<u8> {
+    pub fn take_lines<W: Wait>(&self, waits: &W) -> Vec<u8> {
         if self.has_lines.swap(false, Ordering::SeqCst) {
             self.lines.lock(waits).take()
         } else {

@@ -2,7 +2,7 @@
 
 ghost use Rattle.std.specs.Prelude.{◌≡◌, ◌<◌, length};
 ghost use Rattle.radio_hall.specs.Lines.{HasGiven, HasTaken};
-ghost use Rattle.radio_sockets.specs.Streams.{IsGivenBy, IsTakenBy};
+ghost use Rattle.radio_lines.specs.Streams.{IsGivenBy, IsTakenBy};
 
 use crate::activity::Activity;
 use crate::pace::Pace;

@@ -1,7 +1,7 @@
 //! The time that was served.
 
 ghost use Rattle.std.specs.Prelude.{◌≡◌, ◌≤◌, ◌+◌};
-ghost use Rattle.radio_sockets.specs.Serving.{Served, most_step, served_by};
+ghost use Rattle.radio_board.specs.Serving.{Served, most_step, served_by};
 
 use std::marker::Model;
 
@@ -17,7 +17,7 @@ pub struct ServedTime {
 }
 
 impl Model for ServedTime {
-    ghost use Rattle.radio_sockets.specs.Serving.{Served};
+    ghost use Rattle.radio_board.specs.Serving.{Served};
 
     ghost Value = { Served };
 

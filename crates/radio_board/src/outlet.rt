@@ -10,7 +10,7 @@ use std::os::fd::RawFd;
 use std::time::Duration;
 
 /// The name of standard output among what the system tells of.
-pub(crate) const OUTLET: Token = Token(usize::MAX - 1);
+pub const OUTLET: Token = Token(usize::MAX - 1);
 
 /// The descriptor of standard output.
 const STANDARD_OUTPUT: RawFd = 1;
@@ -41,7 +41,7 @@ enum Way {
 
 /// Standard output, and lines that wait for it. It is written to only where that does not wait.
 #[derive(Drop)]
-pub(crate) struct Outlet<W: Write + Drop> {
+pub struct Outlet<W: Write + Drop> {
     stream: W,
     way: Way,
     lines: Vec<u8>,
@@ -55,7 +55,7 @@ pub(crate) struct Outlet<W: Write + Drop> {
 
 impl<W: Write + Drop> Outlet<W> {
     /// Standard output. From now on the system tells when it has room, if a write may wait.
-    pub(crate) fn new(alloc: Global, registry: &Registry, output: LogOutput<W>) -> Outlet<W> {
+    pub fn new(alloc: Global, registry: &Registry, output: LogOutput<W>) -> Outlet<W> {
         let way = if output.may_wait && ask(registry, true).is_ok() {
             Way::WithRoom
         } else {
@@ -72,23 +72,23 @@ impl<W: Write + Drop> Outlet<W> {
     }
 
     /// Whether all lines were written.
-    pub(crate) fn is_empty(&self) -> bool {
+    pub fn is_empty(&self) -> bool {
         self.start >= self.lines.len()
     }
 
     /// These lines are to be written, and no others wait.
-    pub(crate) fn set_lines(&mut self, lines: Vec<u8>) {
+    pub fn set_lines(&mut self, lines: Vec<u8>) {
         self.lines = lines;
         self.start = 0;
     }
 
     /// The system has told that there is room.
-    pub(crate) fn note_room(&mut self) {
+    pub fn note_room(&mut self) {
         self.has_room = true;
     }
 
     /// Writes of the lines what can be written without waiting.
-    pub(crate) fn write(&mut self, registry: &Registry) {
+    pub fn write(&mut self, registry: &Registry) {
         if self.is_empty() {
             return;
         }
@@ -131,6 +131,28 @@ impl<W: Write + Drop> Outlet<W> {
     }
 }
 
+/// What the system tells of standard output.
+#[derive(Drop)]
+struct Ear {
+    poll: Poll,
+    events: Events<Global>,
+}
+
+impl Ear {
+    /// The system's fault where it tells nothing, or memory was refused.
+    fn new<R: Net>(rt: &R, alloc: Global) -> io::Result<Ear> {
+        let events = Events::with_capacity(alloc, 1)?;
+        let poll = Poll::new(rt)?;
+        Ok(Ear { poll, events })
+    }
+
+    /// Whether the system tells at this moment that there is room.
+    fn hears_room(&mut self) -> bool {
+        let told = self.poll.poll(&mut self.events, Some(Duration::ZERO));
+        told.is_ok() && !self.events.is_empty()
+    }
+}
+
 /// Writes these bytes on standard output where that does not wait: what can't be written so is dropped.
 pub fn write_at_once<R: Net, W: Write + Drop>(
     rt: &R,
@@ -138,21 +160,15 @@ pub fn write_at_once<R: Net, W: Write + Drop>(
     output: LogOutput<W>,
     bytes: Vec<u8>,
 ) {
-    let Ok(mut poll) = Poll::new(rt) else {
-        drop(output);
+    let Ok(mut ear) = Ear::new(rt, alloc) else {
         return;
     };
-    let Ok(mut events) = Events::with_capacity(alloc, 1) else {
-        drop(output);
-        return;
-    };
-    let mut outlet = Outlet::new(alloc, poll.registry(), output);
+    let mut outlet = Outlet::new(alloc, ear.poll.registry(), output);
     outlet.set_lines(bytes);
-    if poll.poll(&mut events, Some(Duration::ZERO)).is_ok() && !events.is_empty() {
+    if ear.hears_room() {
         outlet.note_room();
     }
-    outlet.write(poll.registry());
-    drop(outlet);
+    outlet.write(ear.poll.registry());
 }
 
 /// Asks the system to tell when standard output has room, the first time or again.

@@ -8,7 +8,7 @@ const DRAW_ROOM: u64 = 16_384;
 
 /// What one worker tells the others, and what they tell him. Moments are in milliseconds.
 #[derive(Drop)]
-pub(crate) struct Desk {
+pub struct Desk {
     waker: Waker,
     /// Whether he has begun.
     works: AtomicBool,
@@ -32,7 +32,7 @@ pub(crate) struct Desk {
 
 impl Desk {
     /// Of one who has not begun.
-    pub(crate) fn new(waker: Waker) -> Desk {
+    pub fn new(waker: Waker) -> Desk {
         Desk {
             waker,
             works: AtomicBool::new(false),
@@ -48,7 +48,7 @@ impl Desk {
     }
 
     /// He begins, and has read all up to this moment.
-    pub(crate) fn begin(&self, ms: u64) {
+    pub fn begin(&self, ms: u64) {
         self.set_read(ms);
         self.works.store(true, Ordering::SeqCst);
     }
@@ -59,7 +59,7 @@ impl Desk {
     }
 
     /// He has read all up to this moment.
-    pub(crate) fn set_read(&self, ms: u64) {
+    pub fn set_read(&self, ms: u64) {
         self.read_ms.store(ms, Ordering::SeqCst);
     }
 
@@ -69,13 +69,13 @@ impl Desk {
     }
 
     /// From now on he waits, unless there is something to do: whether there is.
-    pub(crate) fn lies_down(&self) -> bool {
+    pub fn lies_down(&self) -> bool {
         self.sleeps.store(true, Ordering::SeqCst);
         self.has_to_do()
     }
 
     /// He does not wait any more.
-    pub(crate) fn gets_up(&self) {
+    pub fn gets_up(&self) {
         self.sleeps.store(false, Ordering::SeqCst);
     }
 
@@ -100,28 +100,28 @@ impl Desk {
     }
 
     /// Whether his listeners may have news since this was asked the last time.
-    pub(crate) fn take_news(&self) -> bool {
+    pub fn take_news(&self) -> bool {
         self.has_news.load(Ordering::SeqCst) && self.has_news.swap(false, Ordering::SeqCst)
     }
 
     /// A connection was put for him.
-    pub(crate) fn send(&self) {
+    pub fn send(&self) {
         self.comings.fetch_add(1, Ordering::SeqCst);
         self.wake();
     }
 
     /// He has taken one that was put for him.
-    pub(crate) fn note_taken(&self) {
+    pub fn note_taken(&self) {
         self.comings.fetch_sub(1, Ordering::SeqCst);
     }
 
     /// How many were put for him that he has not taken.
-    pub(crate) fn comings(&self) -> usize {
+    pub fn comings(&self) -> usize {
         self.comings.load(Ordering::SeqCst)
     }
 
     /// So many connections he has, and whether one of them is a listener's.
-    pub(crate) fn set_connections(&self, connections: usize, has_listeners: bool) {
+    pub fn set_connections(&self, connections: usize, has_listeners: bool) {
         self.connections.store(connections, Ordering::SeqCst);
         if has_listeners != self.has_listeners() {
             self.has_listeners.store(has_listeners, Ordering::SeqCst);
@@ -153,7 +153,7 @@ impl Desk {
 
     /// A turn is over at whose beginning so many bytes had come. All of them were drawn, or there is more than a draw brings:
     /// then so many of them as a draw brings.
-    pub(crate) fn note_drawn(&self, received: u64, has_more: bool) {
+    pub fn note_drawn(&self, received: u64, has_more: bool) {
         let before = self.drawn.load(Ordering::SeqCst);
         let drawn = if has_more {
             received.min(before.saturating_add(DRAW_ROOM))

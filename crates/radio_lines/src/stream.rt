@@ -1,6 +1,6 @@
 //! One call of a stream that never waits, and what it came to.
 
-ghost use Rattle.radio_sockets.specs.Streams.{IsGivenBy, IsTakenBy};
+ghost use Rattle.radio_lines.specs.Streams.{IsGivenBy, IsTakenBy};
 
 use crate::readiness::Readiness;
 use mio::net::TcpStream;

@@ -1,4 +1,4 @@
-//! The net, as relays reach their masters on it.
+//! The net, as threads reach it.
 
 use mio::Poll;
 use mio::net::TcpStream;
@@ -6,7 +6,7 @@ use std::alloc::Global;
 use std::io;
 use std::net::{Net, SocketAddr, ToSocketAddrs};
 
-/// The net, as relays reach their masters on it, from threads of their own.
+/// The net, as threads reach it.
 pub trait Reach {
     /// The addresses that the system knows of a host, with this port. None where it knows none, or memory is refused.
     fn addresses(&self, alloc: Global, host: &str, port: u16) -> Vec<SocketAddr>;

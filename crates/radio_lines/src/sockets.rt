@@ -1,17 +1,19 @@
-//! A worker's sockets, as the system tells of them.
+//! A thread's sockets, as the system tells of them.
 
 use crate::activity::Activity;
+use crate::clock::moment;
 use crate::reach::Reach;
 use crate::readiness::Readiness;
-use crate::{OutOfMemory, ServeFault, SocketLine};
+use crate::{OutOfMemory, SocketLine};
 use mio::net::TcpStream;
 use mio::{Events, Interest, Poll, Token, Waker};
-use std::alloc::{AllocError, Global};
+use std::alloc::Global;
 use std::io;
+use std::net::SocketAddr;
 use std::sync::Arc;
 use std::time::{Clock, Duration};
 
-/// The name of the worker's waker among what the system tells of; any other is the number of a line.
+/// The name of the thread's waker among what the system tells of; any other is the number of a line.
 const WAKER: Token = Token(usize::MAX);
 
 /// Of how many sockets the system tells at once.
@@ -22,16 +24,16 @@ const FEW_EVENTS: usize = 8;
 
 /// What was heard of the system.
 #[derive(Clone, Copy)]
-pub(crate) struct Heard {
+pub struct Heard {
     /// The clock's moment then, in milliseconds.
-    pub(crate) ms: u64,
+    pub ms: u64,
     /// Whether there is something to do.
-    pub(crate) is_ready: bool,
+    pub is_ready: bool,
 }
 
-/// What the system has told of a worker's lines.
+/// What the system has told of a thread's lines.
 #[derive(Drop)]
-pub(crate) struct Sockets {
+pub struct Sockets {
     alloc: Global,
     poll: Poll,
     events: Events<Global>,
@@ -43,57 +45,59 @@ pub(crate) struct Sockets {
 }
 
 impl Sockets {
-    /// Those of a worker who has none yet, and his waker; the system's fault where it tells nothing of sockets.
-    pub(crate) fn new<N: Reach>(
+    /// Those of a thread that has none yet, and its waker, which ends a wait of [`hear`](Sockets::hear) from another
+    /// thread; the system's fault where it tells nothing of sockets.
+    ///
+    /// `OutOfMemory` where memory was refused.
+    pub fn new<N: Reach>(
         net: &N,
         alloc: Global,
     ) -> Result<io::Result<(Sockets, Waker)>, OutOfMemory> {
-        let events = Events::with_capacity(alloc, EVENTS)?;
-        let activity = Arc::new(alloc, Activity::new())?;
-        let poll = match net.poll() {
-            Ok(poll) => poll,
+        let sockets = match Sockets::with_room(net, alloc, EVENTS)? {
+            Ok(sockets) => sockets,
             Err(error) => return Ok(Err(error)),
         };
-        let waker = match Waker::new(poll.registry(), WAKER) {
-            Ok(waker) => waker,
-            Err(error) => return Ok(Err(error)),
-        };
-        let sockets = Sockets {
-            alloc,
-            poll,
-            events,
-            readiness: Vec::new(alloc),
-            next: 0,
-            activity,
-        };
-        Ok(Ok((sockets, waker)))
+        match Waker::new(sockets.poll.registry(), WAKER) {
+            Ok(waker) => Ok(Ok((sockets, waker))),
+            Err(error) => Ok(Err(error)),
+        }
     }
 
-    /// Those of one who is woken by nobody. `OutOfMemory` where memory was refused, or the system tells nothing of sockets.
-    pub(crate) fn alone<N: Reach>(net: &N, alloc: Global) -> Result<Sockets, OutOfMemory> {
-        let events = Events::with_capacity(alloc, FEW_EVENTS)?;
+    /// Those of one who has none yet, will have few, and is woken by nobody; the system's fault where it tells nothing of
+    /// sockets, or memory was refused.
+    pub fn alone<N: Reach>(net: &N, alloc: Global) -> io::Result<Sockets> {
+        Sockets::with_room(net, alloc, FEW_EVENTS)?
+    }
+
+    /// Those of one who is told of so many at once.
+    fn with_room<N: Reach>(
+        net: &N,
+        alloc: Global,
+        events: usize,
+    ) -> Result<io::Result<Sockets>, OutOfMemory> {
+        let events = Events::with_capacity(alloc, events)?;
         let activity = Arc::new(alloc, Activity::new())?;
         match net.poll() {
-            Ok(poll) => Ok(Sockets {
+            Ok(poll) => Ok(Ok(Sockets {
                 alloc,
                 poll,
                 events,
                 readiness: Vec::new(alloc),
                 next: 0,
                 activity,
-            }),
-            Err(_) => Err(AllocError),
+            })),
+            Err(error) => Ok(Err(error)),
         }
     }
 
     /// What the lines share.
-    pub(crate) fn activity(&self) -> &Activity {
+    pub fn activity(&self) -> &Activity {
         &self.activity
     }
 
     /// Hears from the system what is ready, and waits until there is something to do, so many
-    /// milliseconds at most.
-    pub(crate) fn hear<C: Clock>(&mut self, clock: &C, wait_ms: u64) -> Result<Heard, ServeFault> {
+    /// milliseconds at most. The system's fault where it tells nothing any more.
+    pub fn hear<C: Clock>(&mut self, clock: &C, wait_ms: u64) -> io::Result<Heard> {
         let mut ms = moment(clock);
         let ends_ms = ms.saturating_add(wait_ms);
         for _ in 0..EVENTS {
@@ -110,11 +114,9 @@ impl Sockets {
     }
 
     /// Notes what the system tells within so many milliseconds. Whether there is something to do.
-    fn poll(&mut self, wait_ms: u64) -> Result<bool, ServeFault> {
+    fn poll(&mut self, wait_ms: u64) -> io::Result<bool> {
         let wait = Duration::from_millis(wait_ms);
-        if self.poll.poll(&mut self.events, Some(wait)).is_err() {
-            return Err(ServeFault::Accept);
-        }
+        self.poll.poll(&mut self.events, Some(wait))?;
         let mut is_woken = false;
         for event in &self.events {
             if event.token() == WAKER {
@@ -128,8 +130,22 @@ impl Sockets {
         Ok(is_woken)
     }
 
-    /// The line of a socket that was accepted. Its bytes are sent as they come.
-    pub(crate) fn line_of(&mut self, mut stream: TcpStream) -> io::Result<SocketLine<TcpStream>> {
+    /// The line to this address. It is being connected: until it is, the line takes and gives nothing. The system's fault
+    /// where it does not connect at all, or memory was refused.
+    pub fn connect<N: Reach>(
+        &mut self,
+        net: &N,
+        address: SocketAddr,
+    ) -> io::Result<SocketLine<TcpStream>> {
+        let stream = net.connect(address)?;
+        let line = self.line_of(stream)?;
+        self.activity.note_more();
+        Ok(line)
+    }
+
+    /// The line of a socket that does not wait. Its bytes are sent as they come. The system's fault where it does not tell
+    /// of it, or memory was refused.
+    pub fn line_of(&mut self, mut stream: TcpStream) -> io::Result<SocketLine<TcpStream>> {
         stream.set_nodelay(true)?;
         let (number, readiness) = self.free_readiness()?;
         self.register(&mut stream, number)?;
@@ -173,13 +189,5 @@ impl Sockets {
         let number = self.readiness.len();
         self.readiness.push(readiness)?;
         Ok((number, shared))
-    }
-}
-
-/// The clock's moment, in milliseconds; 0 where it tells none.
-pub(crate) fn moment<C: Clock>(clock: &C) -> u64 {
-    match clock.monotonic() {
-        Ok(since) => u64::try_from(since.as_millis()).unwrap_or(u64::MAX),
-        Err(_) => 0,
     }
 }

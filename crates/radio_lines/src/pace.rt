@@ -1,13 +1,10 @@
-//! How fast sources are read, so that listeners of other workers can follow.
+//! How fast sources are read.
 
 use std::sync::atomic::{AtomicU64, Ordering};
 
-/// How many bytes a worker's listeners may have still to draw at most, before sources are read slowly.
-const MOST_BEHIND: u64 = 131_072;
-
-/// How fast sources are read.
+/// How fast sources are read, so that listeners can follow.
 #[derive(Clone, Copy)]
-pub(crate) enum Pace {
+pub enum Pace {
     /// As they come.
     Free,
     /// Once in a millisecond.
@@ -16,24 +13,7 @@ pub(crate) enum Pace {
     Stopped,
 }
 
-/// From where on sources are read slowly: a quarter of what is kept of a stream, if that is less.
-pub(crate) fn slow_from(queue_size: u64) -> u64 {
-    MOST_BEHIND.min(queue_size / 4)
-}
-
 impl Pace {
-    /// That where the listeners of a worker are so many bytes behind, and sources are read slowly from so many on. They
-    /// stand still from twice as many on.
-    pub(crate) fn of(behind: u64, slow_from: u64) -> Pace {
-        if behind <= slow_from {
-            Pace::Free
-        } else if behind <= slow_from.saturating_mul(2) {
-            Pace::Slow
-        } else {
-            Pace::Stopped
-        }
-    }
-
     fn number(self) -> u64 {
         match self {
             Pace::Free => 0,
