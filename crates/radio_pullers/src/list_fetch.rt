@@ -1,11 +1,9 @@
 //! The list of streams that a slave is told by its master.
 
-use crate::SocketLine;
-use crate::board::Board;
-use crate::master::{MOST_SILENT_MS, addresses_of, line_to};
-use crate::reach::Reach;
-use crate::sockets::{Sockets, moment};
+use crate::master::{MOST_SILENT_MS, addresses_of};
 use mio::net::TcpStream;
+use radio_board::Board;
+use radio_lines::{Reach, SocketLine, Sockets, moment};
 use radio_masters::ListPull;
 use radio_settings::{MountName, SlaveSetting};
 use std::alloc::Global;
@@ -85,7 +83,7 @@ impl Listed {
         sockets: &mut Sockets,
         address: SocketAddr,
     ) -> Option<BTreeSet<MountName>> {
-        let line = line_to(net, sockets, address).ok()?;
+        let line = sockets.connect(net, address).ok()?;
         let mut pull = ListPull::new(self.alloc, slave, line).ok()?;
         list_in(rt, board, sockets, &mut pull)
     }
@@ -101,11 +99,7 @@ fn list_in<R: Clock + Wait>(
     let ends_ms = moment(rt).saturating_add(MOST_SILENT_MS);
     let mut buffer = [0u8; READ_ROOM];
     'turns: for _ in rt.forever() {
-        let wait_ms = if sockets.activity().take_more() {
-            0
-        } else {
-            WAIT_MS
-        };
+        let wait_ms = sockets.activity().wait_ms(WAIT_MS);
         let heard = sockets.hear(rt, wait_ms).ok()?;
         if board.is_over() || heard.ms >= ends_ms {
             return None;

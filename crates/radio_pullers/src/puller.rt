@@ -1,16 +1,14 @@
 //! A relay's thread: a pull of its master, again and again.
 
-use crate::board::Board;
-use crate::master::{MOST_SILENT_MS, addresses_of, line_to};
-use crate::reach::Reach;
-use crate::sign::Sign;
-use crate::sockets::{Sockets, moment};
-use crate::{OutOfMemory, SocketLine};
+use crate::master::{MOST_SILENT_MS, addresses_of};
+use crate::running::RunningRelay;
 use mio::net::TcpStream;
+use radio_board::Board;
 use radio_book::{Chronicle, House};
 use radio_hall::{Caller, Hall, Server, Watched};
+use radio_lines::{Reach, SocketLine, Sockets, moment};
 use radio_masters::{Asked, MountPull, PullTurn, RelayEnd};
-use radio_settings::RelaySetting;
+use std::io;
 use std::net::SocketAddr;
 use std::sync::Wait;
 use std::thread::sleep;
@@ -32,7 +30,7 @@ struct Puller<'a, R: Clock + Wait, N: Reach, S: Server + Drop> {
     rt: &'a R,
     net: &'a N,
     board: &'a Board,
-    sign: &'a Sign,
+    relay: &'a RunningRelay,
     sockets: Sockets,
     asked: Asked<Watched<S>>,
     /// When the pull began, in milliseconds.
@@ -48,37 +46,45 @@ pub(crate) fn pull_relay<R: Clock + Wait, N: Reach, C: Chronicle, H: House>(
     net: &N,
     hall: &Hall<C, H>,
     board: &Board,
-    relay: &RelaySetting,
-    sign: &Sign,
+    relay: &RunningRelay,
 ) {
     if let Some(pass) = hall.pass(rt) {
-        let caller = Caller::new(rt, hall, pass);
-        if let Ok(mut puller) = Puller::new(rt, net, board, sign, caller, relay) {
-            puller.work(relay);
-        }
+        pull_as(rt, net, board, relay, Caller::new(rt, hall, pass));
     }
-    sign.note_end();
+    relay.note_end();
+}
+
+/// The same, by asking this server.
+fn pull_as<R: Clock + Wait, N: Reach, S: Server + Drop>(
+    rt: &R,
+    net: &N,
+    board: &Board,
+    relay: &RunningRelay,
+    server: S,
+) {
+    if let Ok(mut puller) = Puller::new(rt, net, board, relay, server) {
+        puller.work();
+    }
 }
 
 impl<'a, R: Clock + Wait, N: Reach, S: Server + Drop> Puller<'a, R, N, S> {
-    /// That of this relay, who asks this server. `OutOfMemory` where memory was refused, or the system tells nothing of
-    /// sockets.
+    /// That of this relay, who asks this server. The system's fault where it tells nothing of sockets, or memory was
+    /// refused.
     fn new(
         rt: &'a R,
         net: &'a N,
         board: &'a Board,
-        sign: &'a Sign,
+        relay: &'a RunningRelay,
         server: S,
-        relay: &RelaySetting,
-    ) -> Result<Puller<'a, R, N, S>, OutOfMemory> {
+    ) -> io::Result<Puller<'a, R, N, S>> {
         let alloc = board.alloc();
-        let asked = Asked::new(alloc, Watched::new(alloc, server), relay)?;
+        let asked = Asked::new(alloc, Watched::new(alloc, server), relay.setting())?;
         let sockets = Sockets::alone(net, alloc)?;
         Ok(Puller {
             rt,
             net,
             board,
-            sign,
+            relay,
             sockets,
             asked,
             began_ms: 0,
@@ -87,9 +93,9 @@ impl<'a, R: Clock + Wait, N: Reach, S: Server + Drop> Puller<'a, R, N, S> {
     }
 
     /// Pull after pull, until it is to stop.
-    fn work(&mut self, relay: &RelaySetting) {
+    fn work(&mut self) {
         'pulls: for _ in self.rt.forever() {
-            let why = self.pull(relay);
+            let why = self.pull();
             self.tell_end(why);
             if !self.rests() {
                 return;
@@ -98,11 +104,12 @@ impl<'a, R: Clock + Wait, N: Reach, S: Server + Drop> Puller<'a, R, N, S> {
     }
 
     /// Pulls from the first address of the master that answers. Why the pull has ended.
-    fn pull(&mut self, relay: &RelaySetting) -> RelayEnd {
-        let addresses = addresses_of(self.net, self.board.alloc(), &relay.master);
+    fn pull(&mut self) -> RelayEnd {
+        let master = &self.relay.setting().master;
+        let addresses = addresses_of(self.net, self.board.alloc(), master);
         let mut why = RelayEnd::NoAddress;
         'addresses: for address in addresses {
-            why = self.pull_at(relay, address);
+            why = self.pull_at(address);
             if why != RelayEnd::NoAnswer {
                 return why;
             }
@@ -110,15 +117,23 @@ impl<'a, R: Clock + Wait, N: Reach, S: Server + Drop> Puller<'a, R, N, S> {
         why
     }
 
-    fn pull_at(&mut self, relay: &RelaySetting, address: SocketAddr) -> RelayEnd {
+    fn pull_at(&mut self, address: SocketAddr) -> RelayEnd {
         self.began_ms = moment(self.rt);
-        let Ok(line) = line_to(self.net, &mut self.sockets, address) else {
-            return RelayEnd::NoAnswer;
-        };
-        let Ok(mut pull) = MountPull::new(self.board.alloc(), relay, line) else {
-            return RelayEnd::OutOfMemory;
-        };
-        let why = self.turns(&mut pull);
+        match self.sockets.connect(self.net, address) {
+            Ok(line) => self.pull_over(line),
+            Err(_) => RelayEnd::NoAnswer,
+        }
+    }
+
+    fn pull_over(&mut self, line: SocketLine<TcpStream>) -> RelayEnd {
+        match MountPull::new(self.board.alloc(), self.relay.setting(), line) {
+            Ok(mut pull) => self.pull_through(&mut pull),
+            Err(_) => RelayEnd::OutOfMemory,
+        }
+    }
+
+    fn pull_through(&mut self, pull: &mut MountPull<SocketLine<TcpStream>>) -> RelayEnd {
+        let why = self.turns(pull);
         // No end is refused. Who has gone down already is not known any more.
         let _ = pull.close(&mut self.asked);
         self.tell_others();
@@ -129,25 +144,34 @@ impl<'a, R: Clock + Wait, N: Reach, S: Server + Drop> Puller<'a, R, N, S> {
     fn turns(&mut self, pull: &mut MountPull<SocketLine<TcpStream>>) -> RelayEnd {
         let mut buffer = [0u8; READ_ROOM];
         'turns: for _ in self.rt.forever() {
-            let Some(ms) = self.hear() else {
-                return RelayEnd::Left;
-            };
-            if self.is_over() {
-                return RelayEnd::NotWished;
-            }
-            let turn = pull.turn(&mut self.asked, &mut buffer);
-            self.tell_others();
-            let is_late = ms.saturating_sub(self.began_ms) >= MOST_SILENT_MS;
-            if let Some(why) = end_of(turn, pull.number().is_some(), is_late) {
+            if let Some(why) = self.turn(pull, &mut buffer) {
                 return why;
             }
         }
         RelayEnd::Left
     }
 
+    /// Waits until there is something to do, and does it. Why the pull has ended, if it has.
+    fn turn(
+        &mut self,
+        pull: &mut MountPull<SocketLine<TcpStream>>,
+        buffer: &mut [u8],
+    ) -> Option<RelayEnd> {
+        let Some(ms) = self.hear() else {
+            return Some(RelayEnd::Left);
+        };
+        if self.is_over() {
+            return Some(RelayEnd::NotWished);
+        }
+        let turn = pull.turn(&mut self.asked, buffer);
+        self.tell_others();
+        let is_late = ms.saturating_sub(self.began_ms) >= MOST_SILENT_MS;
+        end_of(turn, pull.number().is_some(), is_late)
+    }
+
     /// Hears what there is on the socket, and waits for it. The moment then; `None` where the system tells nothing.
     fn hear(&mut self) -> Option<u64> {
-        let wait_ms = self.wait_ms();
+        let wait_ms = self.sockets.activity().wait_ms(WAIT_MS);
         let heard = self.sockets.hear(self.rt, wait_ms).ok()?;
         self.sockets
             .activity()
@@ -157,19 +181,6 @@ impl<'a, R: Clock + Wait, N: Reach, S: Server + Drop> Puller<'a, R, N, S> {
             self.asked.log().lines().set_moment(self.seconds);
         }
         Some(heard.ms)
-    }
-
-    /// How long the next turn waits at most: not at all where there may be more.
-    fn wait_ms(&self) -> u64 {
-        let activity = self.sockets.activity();
-        let was_held = activity.take_held();
-        if activity.take_more() {
-            0
-        } else if was_held {
-            1
-        } else {
-            WAIT_MS
-        }
     }
 
     /// Tells the workers of news, and hands the lines of the log on.
@@ -206,7 +217,7 @@ impl<'a, R: Clock + Wait, N: Reach, S: Server + Drop> Puller<'a, R, N, S> {
 
     /// Whether the relay is to stop.
     fn is_over(&self) -> bool {
-        self.sign.is_stopped() || self.board.is_over()
+        self.relay.is_stopped() || self.board.is_over()
     }
 }
 

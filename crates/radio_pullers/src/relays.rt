@@ -3,16 +3,16 @@
 ghost use Rattle.std.specs.Thread.{IsSend, IsSync};
 
 use crate::OutOfMemory;
-use crate::board::Board;
 use crate::list_fetch::Listed;
 use crate::puller::pull_relay;
-use crate::reach::Reach;
 use crate::roster::Roster;
-use crate::sign::Sign;
+use crate::running::RunningRelay;
+use radio_board::Board;
 use radio_book::{Chronicle, House};
 use radio_hall::Hall;
+use radio_lines::Reach;
 use radio_relay::{RelayOrder, plan};
-use radio_settings::{MountName, RelaySetting, Settings};
+use radio_settings::{RelaySetting, Settings};
 use std::alloc::Global;
 use std::sync::{Arc, Wait};
 use std::thread;
@@ -23,7 +23,7 @@ use std::time::{Clock, Duration};
 const ROUND_MS: u64 = 500;
 
 /// Whether these settings wish relays, now or later.
-pub(crate) fn has_relays(settings: &Settings) -> bool {
+pub fn has_relays(settings: &Settings) -> bool {
     !settings.relays.as_slice().is_empty() || settings.slave.is_some()
 }
 
@@ -46,15 +46,15 @@ impl Keeper {
         }
     }
 
-    /// A relay that is to start now, and what its thread is told by; those are told that are to stop. `None` where none is
-    /// to start, or memory is refused for it.
+    /// A relay that is to start now; those are told that are to stop. `None` where none is to start, or memory is refused
+    /// for it.
     fn next_start<R: Clock + Wait, N: Reach>(
         &mut self,
         rt: &R,
         net: &N,
         board: &Board,
         settings: &Settings,
-    ) -> Option<(RelaySetting, Arc<Sign>)> {
+    ) -> Option<Arc<RunningRelay>> {
         if self.has_failed {
             self.has_failed = false;
             return None;
@@ -64,8 +64,7 @@ impl Keeper {
         }
         let orders = self.orders(board.alloc(), settings).ok()?;
         let relay = self.first_start(orders)?;
-        let sign = self.roster.add(relay.local_mount).ok()?;
-        Some((relay, sign))
+        self.roster.add(relay).ok()
     }
 
     /// What is to be done now.
@@ -89,10 +88,10 @@ impl Keeper {
         None
     }
 
-    /// Notes whether a thread was had for the relay that feeds this mount.
-    fn note_start(&mut self, mount: &MountName, has_begun: bool) {
+    /// Notes whether a thread was had for the relay that was to start last.
+    fn note_start(&mut self, has_begun: bool) {
         if !has_begun {
-            self.roster.forget(mount);
+            self.roster.forget_last();
             self.has_failed = true;
         }
     }
@@ -100,7 +99,7 @@ impl Keeper {
 
 /// Keeps the relays running that the settings and the slave's list wish, until all are to stop. Where memory is refused for
 /// one, or no thread can be had, it is tried again.
-pub(crate) fn keep_relays<R, N, C, H>(
+pub fn keep_relays<R, N, C, H>(
     rt: &R,
     net: &N,
     hall: &Hall<C, H>,
@@ -124,12 +123,9 @@ where
                 if board.is_over() {
                     return;
                 }
-                if let Some((relay, sign)) = keeper.next_start(rt, net, board, settings) {
-                    let mount = relay.local_mount;
-                    let begun = scope.spawn(move || pull_relay(
-                        rt, net, hall, board, &relay, &sign,
-                    ));
-                    keeper.note_start(&mount, begun.is_ok());
+                if let Some(relay) = keeper.next_start(rt, net, board, settings) {
+                    let begun = scope.spawn(move || pull_relay(rt, net, hall, board, &relay));
+                    keeper.note_start(begun.is_ok());
                 } else {
                     let _ = sleep(rt, Duration::from_millis(ROUND_MS));
                 }

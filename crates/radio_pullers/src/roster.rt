@@ -1,24 +1,16 @@
 //! Which relays run.
 
 use crate::OutOfMemory;
-use crate::sign::Sign;
-use radio_settings::MountName;
+use crate::running::RunningRelay;
+use radio_settings::{MountName, RelaySetting};
 use std::alloc::Global;
 use std::sync::Arc;
-
-/// A relay that runs.
-#[derive(Drop)]
-struct Running {
-    /// The mount that it feeds.
-    mount: MountName,
-    sign: Arc<Sign>,
-}
 
 /// The relays that run.
 #[derive(Drop)]
 pub(crate) struct Roster {
     alloc: Global,
-    running: Vec<Running>,
+    running: Vec<Arc<RunningRelay>>,
 }
 
 impl Roster {
@@ -32,32 +24,31 @@ impl Roster {
 
     /// The mounts of those that run. Those whose threads have ended do not, from now on.
     pub(crate) fn live(&mut self) -> Result<Vec<MountName>, OutOfMemory> {
-        self.running.retain(|relay| !relay.sign.has_ended());
+        self.running.retain(|relay| !relay.has_ended());
         let mut mounts = Vec::new(self.alloc);
         for relay in &self.running {
-            mounts.push(relay.mount)?;
+            mounts.push(*relay.mount())?;
         }
         Ok(mounts)
     }
 
-    /// The relay that feeds this mount runs from now on: what its thread is told by.
-    pub(crate) fn add(&mut self, mount: MountName) -> Result<Arc<Sign>, OutOfMemory> {
-        let sign = Arc::new(self.alloc, Sign::new())?;
-        let own = sign.clone()?;
-        self.running.push(Running { mount, sign: own })?;
-        Ok(sign)
+    /// This relay runs from now on.
+    pub(crate) fn add(&mut self, setting: RelaySetting) -> Result<Arc<RunningRelay>, OutOfMemory> {
+        let relay = Arc::new(self.alloc, RunningRelay::new(setting))?;
+        self.running.push(relay.clone()?)?;
+        Ok(relay)
     }
 
-    /// The relay that feeds this mount does not run.
-    pub(crate) fn forget(&mut self, mount: &MountName) {
-        self.running.retain(|relay| relay.mount != *mount);
+    /// The relay that was added last does not run.
+    pub(crate) fn forget_last(&mut self) {
+        let _ = self.running.pop();
     }
 
     /// The relay that feeds this mount is to stop, if one does.
     pub(crate) fn stop(&self, mount: &MountName) {
         for relay in &self.running {
-            if relay.mount == *mount {
-                relay.sign.stop();
+            if relay.mount() == mount {
+                relay.stop();
             }
         }
     }

@@ -1,4 +1,4 @@
-use Rattle.radio_sockets.proofs.relays.fn.keep_relays.scope.Given as goal
+use Rattle.radio_pullers.proofs.relays.fn.keep_relays.scope.Given as goal
 
 -- the rounds have no end
 abbrev pub invariant-rounds : goal.invariant-rounds
