@@ -5,9 +5,14 @@ ghost use Rattle.radio_log.specs.Lines.{spaced, word};
 
 use crate::shown::push_shown;
 use crate::{OutOfMemory, Text};
+use itoa::Buffer;
 use radio_addr::Peer;
 use std::alloc::Global;
+use std::fmt::Write;
 use std::marker::Model;
+
+/// How many bytes an address has at most: eight groups of IPv6, with colons between them.
+const LONGEST_ADDRESS: usize = 39;
 
 /// A line in the making. In contracts it is its bytes.
 #[derive(Drop)]
@@ -72,15 +77,16 @@ impl Fields {
     pub(crate) fn put_count(&mut self, name: &str, number: u64) -> Result<(), OutOfMemory>
         ensures { OnOk result (self.new ≡ self.old ++ spaced (word (name.now, decimal number))) }
     {
-        let digits = number.to_string(self.alloc)?;
-        self.put(name, digits.as_bytes())
+        let mut digits = Buffer::new();
+        self.put(name, digits.format(number).as_bytes())
     }
 
     /// Adds an address.
     pub(crate) fn put_peer(&mut self, name: &str, peer: Peer) -> Result<(), OutOfMemory>
         ensures { OnOk result (self.new ≡ self.old ++ spaced (word (name.now, written peer))) }
     {
-        let address = peer.to_string(self.alloc)?;
+        let mut address = String::with_capacity(self.alloc, LONGEST_ADDRESS)?;
+        write!(address, "{peer}")?;
         self.put(name, address.as_bytes())
     }
 }
