@@ -2,7 +2,7 @@ use Rattle.std.proofs.Common.{List, subst}
 use Rattle.radio_book.specs.Stamp.{Stamp}
 use Rattle.radio_hall.specs.Callers.{IsCalled}
 use Rattle.radio_hall.proofs.PassLemmas.{called}
-use Rattle.radio_hall.proofs.server.CallerServer.apply.Goals as goal
+use Rattle.radio_hall.proofs.caller.CallerServer.apply.Goals as goal
 
 pub returns-clause-ok : goal.returns-clause-ok
 returns-clause-ok g c =
