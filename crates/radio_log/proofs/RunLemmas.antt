@@ -1,10 +1,15 @@
 -- Values that are shown run by run.
-use Rattle.std.proofs.Common.{◌≡◌, ℕ, ◌+◌, ◌≤◌, Bool, true, false, List, [], ◌∷◌, ◌++◌, Some, None, refl, ap, subst, ◌∙◌, arith, take, drop, length, get_or}
+use Rattle.std.proofs.Common.{◌≡◌, ℕ, ◌+◌, ◌^◌, ◌<◌, ◌≤◌, Bool, true, false, List, [], ◌∷◌, ◌++◌, Some, None, refl, ap, subst, ◌∙◌, arith, take, drop, length, get_or}
 use Rattle.std.specs.Prelude.{cond, not, position}
-use Rattle.std.specs.List.{position_or_len}
+use Rattle.std.specs.List.{AllByRecursion, position_or_len}
 use Rattle.std.proofs.lemmas.Grind.{common_steps}
 use Rattle.std.proofs.lemmas.List.Quantifiers.{position-Some}
 use Rattle.std.proofs.lemmas.List.{drop_more}
+use Rattle.std.specs.Fmt.{decimal}
+use Rattle.std.specs.Char.{digit_value}
+use Rattle.std.specs.Str.Parse.{AllDigits}
+use Rattle.std.proofs.lemmas.Bool.Decides.{nat_tests}
+use Rattle.std.proofs.lemmas.Fmt.{decimal_is_IsNumeral}
 use Rattle.percent_encoding.specs.Percent.{percent_encode_byte}
 use Rattle.radio_log.specs.Shown.{is_plain, shown}
 
@@ -50,3 +55,19 @@ pub shown_plain : (value : List ℕ) → position is_encoded value ≡ None → 
 shown_plain value e =
     let end : length value ≤ position_or_len is_encoded value = grind (arith, common_steps) in
     shown_front value ∙ ends value _ end
+
+plain_shown : (value : List ℕ) → AllByRecursion (λ b. is_plain b ≡ true) value → shown value ≡ value
+unfolding shown
+plain_shown [] h = refl
+plain_shown (b ∷ value) h = rw h.0 (ap (λ (bytes : List ℕ). b ∷ bytes) (plain_shown value h.1))
+
+digit_plain : (d : ℕ) → digit_value d < 10 → is_plain d ≡ true
+digit_plain d small = grind (arith, nat_tests)
+
+digits_plain : (ds : List ℕ) → AllDigits 10 ds → AllByRecursion (λ b. is_plain b ≡ true) ds
+digits_plain [] h = tt
+digits_plain (d ∷ ds) h = (digit_plain d h.0, digits_plain ds h.1)
+
+-- the digits of a number stand for themselves
+pub count_shown : (n : ℕ) → n < 2 ^ 64 → shown (decimal n) ≡ decimal n
+count_shown n h = plain_shown (decimal n) (digits_plain (decimal n) (decimal_is_IsNumeral n h).0.1)

@@ -3,9 +3,8 @@ ghost use Rattle.std.specs.Prelude.{◌≡◌, ◌++◌, codes, decimal, IfOk, O
 ghost use Rattle.radio_addr.specs.Writing.{written};
 ghost use Rattle.radio_log.specs.Lines.{spaced, word};
 
-use crate::shown::push_shown;
+use crate::shown::{push_count, push_shown};
 use crate::{OutOfMemory, Text};
-use itoa::Buffer;
 use radio_addr::Peer;
 use std::alloc::Global;
 use std::fmt::Write;
@@ -55,14 +54,22 @@ impl Fields {
         self.bytes.extend_from_slice(kind.as_bytes())
     }
 
+    /// Adds the name of a field, behind a space, and `=`.
+    fn put_name(&mut self, name: &str) -> Result<(), OutOfMemory>
+        ensures { OnOk result (self.new ≡ self.old ++ codes " " ++ name.now ++ codes "=") }
+    {
+        self.bytes.push(b' ')?;
+        self.bytes.extend_from_slice(name.as_bytes())?;
+        self.bytes.push(b'=')?;
+        Ok(())
+    }
+
     /// Adds a field whose value is these bytes.
     #[tactic(auto, unfolding(crate::specs::Lines::spaced, crate::specs::Lines::word))]
     fn put(&mut self, name: &str, value: &[u8]) -> Result<(), OutOfMemory>
         ensures { OnOk result (self.new ≡ self.old ++ spaced (word (name.now, value.now))) }
     {
-        self.bytes.push(b' ')?;
-        self.bytes.extend_from_slice(name.as_bytes())?;
-        self.bytes.push(b'=')?;
+        self.put_name(name)?;
         push_shown(&mut self.bytes, value)
     }
 
@@ -74,11 +81,12 @@ impl Fields {
     }
 
     /// Adds a number.
+    #[tactic(auto, unfolding(crate::specs::Lines::spaced, crate::specs::Lines::word))]
     pub(crate) fn put_count(&mut self, name: &str, number: u64) -> Result<(), OutOfMemory>
         ensures { OnOk result (self.new ≡ self.old ++ spaced (word (name.now, decimal number))) }
     {
-        let mut digits = Buffer::new();
-        self.put(name, digits.format(number).as_bytes())
+        self.put_name(name)?;
+        push_count(&mut self.bytes, number)
     }
 
     /// Adds an address.

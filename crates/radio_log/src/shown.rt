@@ -1,8 +1,9 @@
 //! How the bytes of a value stand in a line.
-ghost use Rattle.std.specs.Prelude.{◌≡◌, ◌++◌, OnOk, not, position};
+ghost use Rattle.std.specs.Prelude.{◌≡◌, ◌++◌, OnOk, decimal, not, position};
 ghost use Rattle.radio_log.specs.Shown.{is_plain, shown};
 
 use crate::OutOfMemory;
+use itoa::Buffer;
 use percent_encoding::percent_encode_byte;
 
 /// Adds the bytes of a value: those that stand for themselves, and `%` with two digits for each other.
@@ -16,6 +17,15 @@ pub(crate) fn push_shown(line: &mut Vec<u8>, value: &[u8]) -> Result<(), OutOfMe
         rest = &rest[at + 1..];
     }
     line.extend_from_slice(rest)
+}
+
+/// Adds a number. Its digits stand for themselves.
+#[tactic(auto, using(crate::proofs::RunLemmas::count_shown))]
+pub(crate) fn push_count(line: &mut Vec<u8>, number: u64) -> Result<(), OutOfMemory>
+    ensures { OnOk result (line.new.items ≡ line.old.items ++ shown (decimal number)) }
+{
+    let mut digits = Buffer::new();
+    line.extend_from_slice(digits.format(number).as_bytes())
 }
 
 /// Where the first byte is that does not stand for itself.
