@@ -55,6 +55,7 @@ impl Fields {
     }
 
     /// Adds the name of a field, behind a space, and `=`.
+    #[inline(always)]
     fn put_name(&mut self, name: &str) -> Result<(), OutOfMemory>
         ensures { OnOk result (self.new ≡ self.old ++ codes " " ++ name.now ++ codes "=") }
     {
