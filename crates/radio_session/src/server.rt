@@ -25,7 +25,6 @@ pub trait Server {
 }
 
 impl Server for Core {
-    ghost use Rattle.std.specs.Prelude.{⊥};
     ghost use Rattle.radio_events.specs.Events.{TakesNoMemory};
     ghost use Rattle.radio_session.specs.Exchanges.{core_steps};
 
