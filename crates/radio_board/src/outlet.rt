@@ -151,6 +151,14 @@ impl Ear {
         let told = self.poll.poll(&mut self.events, Some(Duration::ZERO));
         told.is_ok() && !self.events.is_empty()
     }
+
+    /// Writes of the lines what there is room for at this moment.
+    fn write<W: Write + Drop>(&mut self, outlet: &mut Outlet<W>) {
+        if self.hears_room() {
+            outlet.note_room();
+        }
+        outlet.write(self.poll.registry());
+    }
 }
 
 /// Writes these bytes on standard output where that does not wait: what can't be written so is dropped.
@@ -165,10 +173,7 @@ pub fn write_at_once<R: Net, W: Write + Drop>(
     };
     let mut outlet = Outlet::new(alloc, ear.poll.registry(), output);
     outlet.set_lines(bytes);
-    if ear.hears_room() {
-        outlet.note_room();
-    }
-    outlet.write(ear.poll.registry());
+    ear.write(&mut outlet);
 }
 
 /// Asks the system to tell when standard output has room, the first time or again.
