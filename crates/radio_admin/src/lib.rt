@@ -18,7 +18,7 @@ mod reading;
 #[cfg(test)]
 mod tests;
 
-pub use command::{Command, Kill, Move, NewFallback, NewTitle, RawTitle};
+pub use command::{Command, Kill, Move, NewFallback, NewTitle, NewUser, OldUser, RawText};
 pub use fault::AdminFault;
 pub use kind::CommandKind;
 pub use reading::{read_command, read_path};

@@ -1,6 +1,7 @@
 //! Whether events, and whether replies, are equal.
 
 ghost use Rattle.std.specs.Prelude.{◌≡◌, ◌↔◌, IsTrue};
+ghost use Rattle.radio_events.specs.declared.command.Command.{Command as CommandOf};
 ghost use Rattle.radio_events.specs.Events.{TakesNoMemory};
 
 use crate::data::is_same_data;
@@ -229,40 +230,103 @@ fn is_same_listing(a: &Listing, b: &Listing) -> bool
 fn is_same_command(a: &Command, b: &Command) -> bool
     ensures { IsTrue result ↔ a.now ≡ b.now }
 {
-    match (a, b) {
-        (
-            Command::MoveClients {
-                mount: a,
-                destination: x,
-            },
-            Command::MoveClients {
-                mount: b,
-                destination: y,
-            },
-        ) => is_same_name(a, b) && is_same_name(x, y),
-        (
-            Command::KillClient {
-                mount: a,
-                listener: x,
-            },
-            Command::KillClient {
-                mount: b,
-                listener: y,
-            },
-        ) => is_same_name(a, b) && *x == *y,
-        (Command::KillSource { mount: a }, Command::KillSource { mount: b }) => is_same_name(a, b),
-        (Command::SetTitle { mount: a, title: x }, Command::SetTitle { mount: b, title: y }) =>
-            is_same_name(a, b) && is_same_bytes(x.as_slice(), y.as_slice()),
-        (
-            Command::SetFallback {
-                mount: a,
-                fallback: x,
-            },
-            Command::SetFallback {
-                mount: b,
-                fallback: y,
-            },
-        ) => is_same_name(a, b) && is_same_mount(x, y),
+    match a {
+        Command::MoveClients { mount, destination } => is_move(b, mount, destination),
+        Command::KillClient { mount, listener } => is_kill(b, mount, *listener),
+        Command::KillSource { mount } => is_end(b, mount),
+        Command::SetTitle { mount, title } => is_new_title(b, mount, title.as_slice()),
+        Command::SetFallback { mount, fallback } => is_new_fallback(b, mount, fallback),
+        Command::AddUser {
+            mount,
+            user,
+            password,
+        } => is_new_user(b, mount, user.as_slice(), password.as_slice()),
+        Command::DeleteUser { mount, user } => is_old_user(b, mount, user.as_slice()),
+    }
+}
+
+/// Whether it moves the listeners of this mount there.
+fn is_move(command: &Command, from: &MountName, onto: &MountName) -> bool
+    ensures { IsTrue result ↔ CommandOf.MoveClients from.now onto.now ≡ command.now }
+{
+    match command {
+        Command::MoveClients { mount, destination } => {
+            is_same_name(from, mount) && is_same_name(onto, destination)
+        }
+        _ => false,
+    }
+}
+
+/// Whether it finishes this listener of this mount.
+fn is_kill(command: &Command, at: &MountName, id: u64) -> bool
+    ensures { IsTrue result ↔ CommandOf.KillClient at.now id ≡ command.now }
+{
+    match command {
+        Command::KillClient { mount, listener } => is_same_name(at, mount) && id == *listener,
+        _ => false,
+    }
+}
+
+/// Whether it ends the session of this mount.
+fn is_end(command: &Command, at: &MountName) -> bool
+    ensures { IsTrue result ↔ CommandOf.KillSource at.now ≡ command.now }
+{
+    match command {
+        Command::KillSource { mount } => is_same_name(at, mount),
+        _ => false,
+    }
+}
+
+/// Whether it gives this mount this title.
+fn is_new_title(command: &Command, at: &MountName, text: &[u8]) -> bool
+    ensures { IsTrue result ↔ CommandOf.SetTitle at.now text.now ≡ command.now }
+{
+    match command {
+        Command::SetTitle { mount, title } => {
+            is_same_name(at, mount) && is_same_bytes(text, title.as_slice())
+        }
+        _ => false,
+    }
+}
+
+/// Whether it gives this mount this fallback, or none.
+fn is_new_fallback(command: &Command, at: &MountName, next: &Option<MountName>) -> bool
+    ensures { IsTrue result ↔ CommandOf.SetFallback at.now next.now ≡ command.now }
+{
+    match command {
+        Command::SetFallback { mount, fallback } => {
+            is_same_name(at, mount) && is_same_mount(next, fallback)
+        }
+        _ => false,
+    }
+}
+
+/// Whether it lets this user in at this mount with this password.
+fn is_new_user(command: &Command, at: &MountName, name: &[u8], secret: &[u8]) -> bool
+    ensures { IsTrue result ↔ CommandOf.AddUser at.now name.now secret.now ≡ command.now }
+{
+    match command {
+        Command::AddUser {
+            mount,
+            user,
+            password,
+        } => {
+            is_same_name(at, mount)
+                && is_same_bytes(name, user.as_slice())
+                && is_same_bytes(secret, password.as_slice())
+        }
+        _ => false,
+    }
+}
+
+/// Whether it takes this user of this mount away.
+fn is_old_user(command: &Command, at: &MountName, name: &[u8]) -> bool
+    ensures { IsTrue result ↔ CommandOf.DeleteUser at.now name.now ≡ command.now }
+{
+    match command {
+        Command::DeleteUser { mount, user } => {
+            is_same_name(at, mount) && is_same_bytes(name, user.as_slice())
+        }
         _ => false,
     }
 }
@@ -314,6 +378,7 @@ fn is_same_text(a: &Text, b: &Text) -> bool
     match (a, b) {
         (Text::Done, Text::Done) => true,
         (Text::Moved(a), Text::Moved(b)) => *a == *b,
+        (Text::Ended(a), Text::Ended(b)) => *a == *b,
         (Text::Json(a), Text::Json(b)) => is_same_bytes(a.as_slice(), b.as_slice()),
         (Text::Streams(a), Text::Streams(b)) => is_same_bytes(a.as_slice(), b.as_slice()),
         (
