@@ -1,6 +1,5 @@
 -- What each change makes of the state.
-use Rattle.std.specs.Prelude.{ℕ, Bool, ◌&&◌, not, if◌then◌else◌, List, Option, None, Some, filter, fold}
-use Rattle.std.specs.Str.{bytes_eq}
+use Rattle.std.specs.Prelude.{ℕ, if◌then◌else◌, List, Option, None, Some, filter, fold}
 use Rattle.radio_policy.specs.declared.rule.Rule.{Rule}
 use Rattle.radio_policy.specs.declared.rule.Rule.TheVariants.{Lagged, TimeOver, SourceSilent, Killed, SourceKilled, ListenerPassword}
 use Rattle.radio_settings.specs.Options.{options_for}
@@ -16,8 +15,7 @@ use Rattle.radio_core.specs.declared.outcome.Change.TheVariants.{EndAndLeave, Fo
 use Rattle.radio_house.specs.Clients.{without_client}
 use Rattle.radio_house.specs.Relays.{without_relay}
 use Rattle.radio_house.specs.HouseChanges.{now_in_state, admitted, begun, raised, finished_in, received, retitled, falling_back, timed_out_by, with_user, without_user}
-use Rattle.radio_access.specs.Lists.{Lists, lets_in}
-use Rattle.radio_seats.specs.declared.seat.Seat.{Seat}
+use Rattle.radio_house.specs.Outsiders.{is_shut_out}
 use Rattle.radio_parts.specs.Sessions.{Session, session_of, without_session}
 use Rattle.radio_seats.specs.Seats.{with_seat, with_place, with_end, with_ended, without_listener}
 use Rattle.radio_house.specs.Facts.{live_end, sight_of}
@@ -83,10 +81,6 @@ ticked w ms = let later = before_silence w ms in fold session_silenced later (si
 abbrev pub session_killed : World → Option Session → World
 session_killed w None = w
 session_killed w (Some session) = session_ended_by SourceKilled w session
-
--- it is a seat at the mount, of one whom its users do not let in
-abbrev pub is_shut_out : Lists → List ℕ → Seat → Bool
-is_shut_out lists mount seat = bytes_eq seat.mount mount && not (lets_in lists mount seat.pair)
 
 -- those have lost their seats at the mount whom its users do not let in
 abbrev pub outsiders_ended : World → List ℕ → World

@@ -10,7 +10,8 @@ use Rattle.radio_events.specs.declared.command.Command.TheVariants.{MoveClients,
 use Rattle.radio_core.specs.declared.outcome.Change.{Change}
 use Rattle.radio_core.specs.declared.outcome.Change.TheVariants.{Begin, Raise, End, EndAndLeave, Obey}
 use Rattle.radio_house.specs.HouseChanges.{begun, raised}
-use Rattle.radio_core.specs.Changes.{session_over, is_shut_out, user_added, user_deleted}
+use Rattle.radio_core.specs.Changes.{session_over, user_added, user_deleted}
+use Rattle.radio_house.specs.Outsiders.{is_shut_out}
 use Rattle.radio_seats.specs.Rests.{how_many}
 use Rattle.radio_house.specs.Facts.{sight_of}
 use Rattle.radio_house.specs.World.{World}
