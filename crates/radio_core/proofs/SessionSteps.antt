@@ -20,7 +20,7 @@ use Rattle.radio_house.specs.House.{House}
 use Rattle.radio_core.specs.Changes.{answered, changed, called_home, session_ended, session_killed, ticked}
 use Rattle.radio_house.specs.HouseChanges.{begun, raised}
 use Rattle.radio_core.specs.Moves.{TakesTo}
-use Rattle.radio_core.specs.Finishes.{Cause, SessionIsOver, IsFarBehind, HasSatOut, HasAskedNothing, HasSentNothing, IsKilled, HisSessionIsKilled}
+use Rattle.radio_core.specs.Finishes.{Cause, SessionIsOver, IsFarBehind, HasSatOut, HasAskedNothing, HasSentNothing, IsKilled, HisSessionIsKilled, IsNotAccepted}
 use Rattle.radio_parts.specs.Sessions.{Session, session_of, opened, with_session, titled, without_session}
 use Rattle.radio_core.specs.SessionSteps.{IsShownAs, OfTheSettings, OfTheSource, HasBegun, SessionStep, Stays, Begins as ItBegins, BeginsForRelay, Grows, IsTitled}
 use Rattle.radio_core.specs.SessionSteps.{Ends as ItEnds, IsRetitled, IsKilled as ItIsKilled, SessionsStep, KeepsSettings}
@@ -186,6 +186,10 @@ module _ (w : World) (s : IsSound w) (mount : List ℕ) where
     is_silenced session here (IsFarBehind him block seat e feeds has behind) gone = cc
     is_silenced session here (IsKilled seat has named) gone = let e = named.is_event in cc
     is_silenced session here (HisSessionIsKilled other feeds live named) gone = let e = named.is_event in cc
+    is_silenced session here (IsNotAccepted seat has changes out) gone =
+        let sat : standing_of w session.number ≡ Sits = s.sitting session.number seat has in
+        let feeds : standing_of w session.number ≡ Feeds mount = s.fed mount session here in
+        cc
     is_silenced session here (HasSatOut moment seat e has out) gone =
         let sat : standing_of w session.number ≡ Sits = s.sitting session.number seat has in
         let feeds : standing_of w session.number ≡ Feeds mount = s.fed mount session here in
