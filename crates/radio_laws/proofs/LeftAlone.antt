@@ -7,7 +7,7 @@ use Rattle.radio_seats.specs.declared.seat.Seat.{Seat}
 use Rattle.radio_seats.specs.Seats.{seat_in, seat_of}
 use Rattle.radio_parts.specs.Sessions.{Session, session_of}
 use Rattle.radio_fallback.specs.declared.moves.Move.{Move}
-use Rattle.radio_events.specs.declared.command.Command.TheVariants.{MoveClients, KillClient, KillSource, SetTitle}
+use Rattle.radio_events.specs.declared.command.Command.TheVariants.{MoveClients, KillClient, KillSource, SetTitle, AddUser, DeleteUser}
 use Rattle.radio_events.specs.declared.event.Event.{Event}
 use Rattle.radio_events.specs.declared.event.Event.TheVariants.{Source, Push, SourceEnd, Title, Listen, Draw, Leave, RelayUp, RelayDown, Clock}
 use Rattle.radio_house.specs.declared.standing.Standing.TheVariants.{Feeds}
@@ -37,6 +37,7 @@ use Rattle.radio_laws.proofs.AgreeingWalks.{Onward, MovesWithin, lands_within, g
 use Rattle.radio_laws.proofs.AgreeingOutcomes.{onward_by}
 use Rattle.radio_laws.specs.Locality.{IsWithin, EndsWithin, WalksWithin, IsAll, LeavesAlone}
 use Rattle.radio_laws.proofs.LocalityLemmas.{agrees, asks_within}
+use Rattle.radio_core.specs.Allowed.{ChangesUsers, Adds, Deletes}
 
 module _ (within : List ℕ → Bool) (w : World) (s : IsSound w) (event : Event) (near : IsWithin w within event) where
   -- it is within reach after all
