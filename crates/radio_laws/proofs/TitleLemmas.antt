@@ -27,7 +27,7 @@ use Rattle.radio_house.specs.World.{World, opening, standing_of}
 use Rattle.radio_core.specs.Changes.{answered, changed, session_killed}
 use Rattle.radio_core.specs.Command.{obeys as obeys_it}
 use Rattle.radio_events.specs.declared.text.Text.{Text}
-use Rattle.radio_events.specs.declared.text.Text.TheVariants.{Done, Moved, Json, Streams, Public, Page}
+use Rattle.radio_events.specs.declared.text.Text.TheVariants.{Done, Moved, Json, Streams, Public, Page, Ended as ListenersEnded}
 use Rattle.radio_events.specs.Texts.{IsShort}
 use Rattle.radio_core.specs.Allowed.{IsCommanded}
 use Rattle.radio_core.specs.Handing.{is_number, of_client}
@@ -127,6 +127,7 @@ module _ (w : World) (s : IsSound w) (told : ℕ → List (List ℕ)) (h : Told 
   long_sets_none : (event : Event) (text : Text) → (IsShort text → ⊥) → (asker id : ℕ) → sets w event (says (SaysText text) (Answer asker)) id ≡ []
   long_sets_none event Done long asker id = absurd (long tt)
   long_sets_none event (Moved count) long asker id = nothing_of event id [] refl
+  long_sets_none event (ListenersEnded count) long asker id = nothing_of event id [] refl
   long_sets_none event (Json bytes) long asker id = nothing_of event id [] refl
   long_sets_none event (Streams bytes) long asker id = nothing_of event id [] refl
   long_sets_none event (Public bytes origin) long asker id = nothing_of event id [] refl
