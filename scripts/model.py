@@ -11,7 +11,7 @@ STATUSES = {
     400: ("Bad Request", ["bad-mount", "missing-argument", "same-mount"]),
     401: ("Unauthorized", ["source-password", "listener-password", "admin-password", "relay-password"]),
     403: ("Forbidden", ["too-many-clients", "too-many-sources", "mount-in-use", "user-twice", "mount-full"]),
-    404: ("Not Found", ["no-mount", "not-live", "fallback-depth", "no-command", "no-destination", "no-client"]),
+    404: ("Not Found", ["no-mount", "not-live", "fallback-depth", "no-command", "no-destination", "no-client", "no-users", "no-user"]),
 }
 STATUS_OF = {rule: status for status, (_, rules) in STATUSES.items() for rule in rules}
 WELCOME = b"HTTP/1.0 200 OK\r\n\r\n"
@@ -23,6 +23,7 @@ COMMANDS = {
     "killsource": ["mount"],
     "metadata": ["mount", "song"],
     "fallbacks": ["mount", "fallback"],
+    "users": ["mount", "action", "username"],
 }
 OF_SOURCES = ["metadata", "fallbacks"]
 # what is shown of the station, and the arguments of each
@@ -56,14 +57,11 @@ class Mount:
         self.name = name
         self.most, self.duration = table.get("max-listeners"), table.get("max-listener-duration")
         self.fallback, self.override = table.get("fallback-mount"), table.get("fallback-override", False)
-        self.when_full, self.users = table.get("fallback-when-full", False), table.get("users")
+        self.when_full = table.get("fallback-when-full", False)
         self.duplicates = table.get("allow_duplicate_users", True)
         self.burst = min(table.get("burst-size", limits["burst-size"]), limits["queue-size"])
         self.interval, self.shown = table.get("mp3-metadata-interval", 16000), table.get("stream-name", "")
         self.hidden = table.get("hidden", False)
-
-    def lets_in(self, pair):
-        return self.users is None or (pair is not None and (pair in self.users))
 
 
 class Session:
@@ -89,6 +87,8 @@ class Model:
         self.now, self.last, self.clients, self.live, self.labels = 0, 0, {}, {}, {}
         # the fallbacks that commands have set
         self.fallbacks = {}
+        # of each mount that has users, their passwords
+        self.users = {name: dict(reversed(table["users"])) for name, table in self.tables.items() if "users" in table}
         # how often what was met, so that it can be seen what scripts try
         self.met = collections.Counter()
 
@@ -96,6 +96,9 @@ class Model:
         mount = Mount(name, self.tables.get(name, {}), self.limits)
         mount.fallback = self.fallbacks.get(name, mount.fallback)
         return mount
+
+    def lets_in(self, name, pair):
+        return name not in self.users or (pair is not None and self.users[name].get(pair[0]) == pair[1])
 
     # who sits where
 
@@ -118,7 +121,7 @@ class Model:
             return "not-live"
         if self.is_full(name, but):
             return "mount-full"
-        if not self.mount(name).lets_in(pair):
+        if not self.lets_in(name, pair):
             return "listener-password"
         return "user-twice" if self.is_twice(name, pair, but) else None
 
@@ -172,6 +175,8 @@ class Model:
             return "source-password" if of_source else "admin-password", None
         if any(name not in arguments for name in COMMANDS[command]):
             return "missing-argument", None
+        if command == "users":
+            return self.changes_users(arguments["mount"], arguments["action"], arguments["username"], arguments.get("password"))
         mount, other = [arguments[name] for name in COMMANDS[command]][0], [arguments[name] for name in COMMANDS[command]][-1]
         if mount not in self.live:
             return "no-mount", None
@@ -182,6 +187,25 @@ class Model:
         if command == "killclient" and all(one.number != other for one in self.at(mount)):
             return "no-client", None
         return None, self.does(command, mount, other)
+
+    def changes_users(self, mount, action, user, password):
+        """The rule that denies it, or how many have finished by it."""
+        if action == "add" and password is None:
+            return "missing-argument", None
+        if mount not in self.users:
+            return "no-users", None
+        users = self.users[mount]
+        if action == "delete" and user not in users:
+            return "no-user", None
+        if action == "add":
+            users[user] = password
+        else:
+            del users[user]
+        ended = [one for one in self.at(mount) if not self.lets_in(mount, one.pair)]
+        for one in ended:
+            one.rule = "listener-password"
+        self.met["shut out"] += len(ended)
+        return None, f"ended: {len(ended)}\n"
 
     # what is shown
 
@@ -263,7 +287,7 @@ class Model:
     def listens(self, client, name, pair):
         if name not in self.tables and name not in self.live:
             return "no-mount"
-        if not self.mount(name).lets_in(pair):
+        if not self.lets_in(name, pair):
             return "listener-password"
         if self.is_twice(name, pair):
             return "user-twice"

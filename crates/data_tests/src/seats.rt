@@ -135,20 +135,22 @@ fn are_counted(alloc: Global, seats: &mut Seats) -> Result<bool, OutOfMemory> {
     Ok(begun && moved && gone && are_there(seats, &mounts, (27, 22)))
 }
 
-/// Those of the mount who came before this moment are finished.
-fn finishes_at(seats: &mut Seats, mount: &MountName, moment: u64, rule: Rule) {
-    seats.finish_at_if(mount, &CameBefore { moment }, rule);
+/// Those of the mount who came before this moment are finished; how many they are.
+fn finishes_at(seats: &mut Seats, mount: &MountName, moment: u64, rule: Rule) -> u64 {
+    seats.finish_at_if(mount, &CameBefore { moment }, rule)
 }
 
 /// Those of a mount who came before a moment, then those of all mounts, then the rest.
 fn are_finished(seats: &mut Seats) -> Result<bool, OutOfMemory> {
     let mounts = two_mounts()?;
-    finishes_at(seats, &mounts.one, 11, Rule::Lagged);
-    let some = are_there(seats, &mounts, (20, 22)) && has_lost(seats, 10, Rule::Lagged);
+    let lost = finishes_at(seats, &mounts.one, 11, Rule::Lagged);
+    let some =
+        lost == 7 && are_there(seats, &mounts, (20, 22)) && has_lost(seats, 10, Rule::Lagged);
     seats.finish_if(&CameBefore { moment: 41 }, Rule::TimeOver);
     let more = are_there(seats, &mounts, (0, 10)) && has_lost(seats, 40, Rule::TimeOver);
-    finishes_at(seats, &mounts.other, 51, Rule::NotLive);
-    Ok(some && more && are_there(seats, &mounts, (0, 0)) && has_lost(seats, 50, Rule::NotLive))
+    let last = finishes_at(seats, &mounts.other, 51, Rule::NotLive);
+    let all = last == 10 && are_there(seats, &mounts, (0, 0));
+    Ok(some && more && all && has_lost(seats, 50, Rule::NotLive))
 }
 
 #[test]

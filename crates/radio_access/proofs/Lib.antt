@@ -1,1 +1,2 @@
 pub mod AcceptsLemmas
+pub mod UserLaws

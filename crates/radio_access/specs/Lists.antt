@@ -1,5 +1,5 @@
 -- Who is let in by the files that the settings name.
-use Rattle.std.specs.Prelude.{ℕ, Bool, true, false, not, ◌&&◌, List, [], Option, None, Some, find}
+use Rattle.std.specs.Prelude.{ℕ, Bool, true, false, not, ◌&&◌, List, [], Option, None, Some, is_some, find}
 use Rattle.std.specs.declared.cmp.Ordering.{Ordering}
 use Rattle.std.specs.Cmp.Lexicographic.{slice_cmp}
 use Rattle.std.specs.FinMap as map
@@ -11,8 +11,8 @@ use Rattle.radio_addr.specs.declared.address.Address.{Address}
 use Rattle.radio_addr.specs.declared.lines.AddressRange.{AddressRange}
 use Rattle.radio_addr.specs.Lists.{is_listed}
 use Rattle.radio_creds.specs.Credentials.{Credentials}
-use Rattle.radio_creds.specs.UserList.{UserList}
-use Rattle.radio_tables.specs.Lists.{placed}
+use Rattle.radio_creds.specs.UserList.{UserList, has_user, with_user, without_user}
+use Rattle.radio_tables.specs.Lists.{placed, update_first}
 use Rattle.radio_access.specs.declared.lists.MountUsers.{MountUsers}
 
 pub record Lists : Type 0 where
@@ -51,6 +51,30 @@ by_mount a b = slice_cmp nat_cmp a.mount b.mount
 -- the mount has these users from now on
 abbrev pub with_users : Lists → List ℕ → UserList → Lists
 with_users lists mount users = record lists { users = placed by_mount (record { mount = mount; users = users }) lists.users }
+
+-- the mount has users
+abbrev pub has_users : Lists → List ℕ → Bool
+has_users lists mount = is_some (users_at lists mount)
+
+-- the mount has users, and this is one of them
+abbrev pub has_user_at : Lists → List ℕ → List ℕ → Bool
+has_user_at lists mount user = option_map_or (λ listed. has_user listed.users user) (users_at lists mount) false
+
+-- the user of this name has this password
+abbrev pub listing : List ℕ → List ℕ → MountUsers → MountUsers
+listing user password listed = record listed { users = with_user listed.users user password }
+
+-- the user is none of them
+abbrev pub unlisting : List ℕ → MountUsers → MountUsers
+unlisting user listed = record listed { users = without_user listed.users user }
+
+-- the users of the mount, if it has users, let this one in with this password, and no more as they did before
+abbrev pub with_user_at : Lists → List ℕ → List ℕ → List ℕ → Lists
+with_user_at lists mount user password = record lists { users = update_first (is_of mount) (listing user password) lists.users }
+
+-- the users of the mount do not let this one in
+abbrev pub without_user_at : Lists → List ℕ → List ℕ → Lists
+without_user_at lists mount user = record lists { users = update_first (is_of mount) (unlisting user) lists.users }
 
 -- a digest is listed, and is that of the password
 abbrev pub is_digest_of : List ℕ → Option (List ℕ) → Bool

@@ -1,13 +1,13 @@
 //! The address lists and user lists of a station.
 ghost use Rattle.std.specs.Prelude.{◌≡◌, ◌↔◌, IsTrue, None, Some, [], OnOk, OnErr};
 ghost use Rattle.std.specs.Option.{option_copied};
-ghost use Rattle.radio_access.specs.Lists.{no_lists, is_denied, is_allowed, users_at, accepts, lets_in, with_users};
+ghost use Rattle.radio_access.specs.Lists.{no_lists, is_denied, is_allowed, users_at, accepts, lets_in, with_users, has_users, has_user_at, with_user_at, without_user_at};
 
 use crate::OutOfMemory;
 use radio_addr::{AddressList, Peer};
 use radio_creds::{Pair, Users};
 use radio_settings::MountName;
-use radio_tables::{Row, Table};
+use radio_tables::{Change, Row, Table, TryChange};
 use std::alloc::Global;
 use std::marker::Model;
 
@@ -34,6 +34,46 @@ impl Row for MountUsers {
 
     fn key(&self) -> MountName {
         self.mount
+    }
+}
+
+/// A user who is let in with this password from now on.
+#[derive(Drop)]
+struct SetUser<'a> {
+    alloc: Global,
+    user: &'a [u8],
+    password: &'a [u8],
+}
+
+impl TryChange<MountUsers> for SetUser<'_> {
+    ghost use Rattle.std.specs.Prelude.{refl};
+    ghost use Rattle.radio_access.specs.Lists.{listing};
+
+    ghost gives = { λ change listed. listing change.user.now change.password.now listed };
+
+    ghost keeps_key = { λ change listed. refl };
+
+    fn try_apply(&self, row: &mut MountUsers) -> Result<(), OutOfMemory> {
+        row.users.set(self.alloc, self.user, self.password)
+    }
+}
+
+/// A user who is let in no more.
+#[derive(Drop)]
+struct RemoveUser<'a> {
+    user: &'a [u8],
+}
+
+impl Change<MountUsers> for RemoveUser<'_> {
+    ghost use Rattle.std.specs.Prelude.{refl};
+    ghost use Rattle.radio_access.specs.Lists.{unlisting};
+
+    ghost gives = { λ change listed. unlisting change.user.now listed };
+
+    ghost keeps_key = { λ change listed. refl };
+
+    fn apply(&self, row: &mut MountUsers) {
+        let _ = row.users.remove(self.user);
     }
 }
 
@@ -90,6 +130,45 @@ impl Lists {
         ensures err { OnErr result (self.new ≡ self.old) }
     {
         self.users.insert(MountUsers { mount, users })
+    }
+
+    /// Whether the mount has users.
+    pub fn has_users(&self, mount: &MountName) -> bool
+        ensures { result ≡ has_users self.now mount.now }
+    {
+        self.users.get(mount).is_some()
+    }
+
+    /// Whether the mount has users, and this is one of them.
+    pub fn has_user(&self, mount: &MountName, user: &[u8]) -> bool
+        ensures { result ≡ has_user_at self.now mount.now user.now }
+    {
+        match self.users.get(mount) {
+            Some(listed) => listed.users.has(user),
+            None => false,
+        }
+    }
+
+    /// Lets the user in with this password, and no more as it was before; where the mount has no users, nothing changes.
+    /// `OutOfMemory` where memory was refused; nothing has changed then.
+    pub fn set_user(
+        &mut self,
+        alloc: Global,
+        mount: &MountName,
+        user: &[u8],
+        password: &[u8],
+    ) -> Result<(), OutOfMemory>
+        ensures ok { OnOk result (self.new ≡ with_user_at self.old mount.now user.now password.now) }
+        ensures err { OnErr result (self.new ≡ self.old) }
+    {
+        self.users.try_change(mount, &SetUser { alloc, user, password })
+    }
+
+    /// Lets the user in no more; where the mount has no users, or not this one, nothing changes. It takes no memory.
+    pub fn remove_user(&mut self, mount: &MountName, user: &[u8])
+        ensures { self.new ≡ without_user_at self.old mount.now user.now }
+    {
+        self.users.change(mount, &RemoveUser { user });
     }
 
     /// Whether the deny list has the peer. Without a deny list nobody is denied.

@@ -1,8 +1,8 @@
 -- What the laws rest on.
 use Rattle.std.proofs.Common.{◌≡◌, ℕ, Bool, true, false, cond, List, [], ◌∷◌, Option, None, Some, Ok, Err, refl, ap, sym, subst, ◌∙◌}
 use Rattle.std.specs.List.{find}
-use Rattle.std.specs.Option.{option_map, ok_or}
-use Rattle.std.specs.Prelude.{All, map, codes}
+use Rattle.std.specs.Option.{option_map, option_and_then, ok_or}
+use Rattle.std.specs.Prelude.{All, map, codes, if◌then◌else◌}
 use Rattle.std.specs.Str.{bytes_eq}
 use Rattle.std.specs.Str.Lossy.{utf8_lossy}
 use Rattle.std.proofs.lemmas.Slice.Eq.{bytes_eq-Decides}
@@ -14,8 +14,8 @@ use Rattle.radio_admin.specs.declared.kind.CommandKind.{CommandKind}
 use Rattle.radio_admin.specs.declared.kind.CommandKind.TheVariants as kind
 use Rattle.radio_admin.specs.declared.fault.AdminFault.TheVariants.{NoCommand, MissingArgument}
 use Rattle.radio_admin.specs.Kinds.{path_of, kinds, kind_of}
-use Rattle.radio_admin.specs.Arguments.{both, argument, is_named, text_of, mount_in, number_in, fallback_in, title_in}
-use Rattle.radio_admin.specs.Commands.{command_of, command_at, command_in, kind_in}
+use Rattle.radio_admin.specs.Arguments.{both, argument, is_named, text_of, mount_in, number_in, fallback_in, title_in, user_in}
+use Rattle.radio_admin.specs.Commands.{add_user, users_command, command_of, command_at, command_in, kind_in}
 use Rattle.radio_admin.specs.Laws.{AreBytes, AsksFor, LacksAnArgument, NamesNoCommand, first_value}
 
 found_at : {X : Type 0} (p : X → Bool) (x y : X) (rest : Option X) (b : Bool) → p x ≡ b → (rest ≡ Some y → p y ≡ true) → cond b (Some x) rest ≡ Some y → p y ≡ true
@@ -42,6 +42,7 @@ kind_at kind.KillSource = refl
 kind_at kind.Metadata = refl
 kind_at kind.Fallbacks = refl
 kind_at kind.StreamList = refl
+kind_at kind.Users = refl
 
 pub kind_of_path : (path : List ℕ) (k : CommandKind) → path ≡ path_of k → kind_of path ≡ Some k
 kind_of_path path k e = ap kind_of e ∙ kind_at k
@@ -56,6 +57,26 @@ both_makes P f h (Some a) (Some b) c e = let same : f a b ≡ c = cc in subst P 
 both_makes P f h (Some a) None c e = absurd (cc)
 both_makes P f h None p c e = absurd (cc)
 
+-- a command on users is of their kind
+add_made : (mount user password : Option (List ℕ)) (command : Command) → add_user mount user password ≡ Some command → kind_in command ≡ kind.Users
+add_made (Some m) (Some u) (Some p) command e = let same : asks.AddUser (record { mount = m; user = u; password = p }) ≡ command = cc in ap kind_in (sym same)
+add_made (Some m) (Some u) None command e = absurd (cc)
+add_made (Some m) None password command e = absurd (cc)
+add_made None user password command e = absurd (cc)
+
+users_made : (mount : Option (List ℕ)) (query : List ℕ) (command : Command) (add delete : Bool)
+    → (if add then add_user mount (user_in query) (argument (codes "password") query)
+      else if delete then both (λ m user. asks.DeleteUser (record { mount = m; user = user })) mount (user_in query) else None) ≡ Some command
+    → kind_in command ≡ kind.Users
+users_made mount query command true delete e = add_made mount (user_in query) (argument (codes "password") query) command e
+users_made mount query command false true e = both_makes (λ (c : Command). kind_in c ≡ kind.Users) _ (λ m u. refl) mount (user_in query) command e
+users_made mount query command false false e = absurd (cc)
+
+action_made : (mount : Option (List ℕ)) (query : List ℕ) (command : Command) (action : Option (List ℕ))
+    → option_and_then (λ a. users_command a mount query) action ≡ Some command → kind_in command ≡ kind.Users
+action_made mount query command (Some action) e = users_made mount query command (bytes_eq action (codes "add")) (bytes_eq action (codes "delete")) e
+action_made mount query command None e = absurd (cc)
+
 -- a command is of the kind that made it
 kind_made : (k : CommandKind) (mount : Option (List ℕ)) (query : List ℕ) (command : Command) → command_of k mount query ≡ Some command → kind_in command ≡ k
 kind_made kind.Stats mount query command e = let same : asks.Stats ≡ command = cc in ap kind_in (sym same)
@@ -67,6 +88,7 @@ kind_made kind.KillSource mount query command e = map_makes (λ (c : Command). k
 kind_made kind.Metadata mount query command e = both_makes (λ (c : Command). kind_in c ≡ kind.Metadata) _ (λ m d. refl) mount (title_in query) command e
 kind_made kind.Fallbacks mount query command e = both_makes (λ (c : Command). kind_in c ≡ kind.Fallbacks) _ (λ m d. refl) mount (fallback_in (codes "fallback") query) command e
 kind_made kind.StreamList mount query command e = let same : asks.StreamList ≡ command = cc in ap kind_in (sym same)
+kind_made kind.Users mount query command e = action_made mount query command (argument (codes "action") query) e
 
 ok_from : {A F : Type 0} (o : Option A) (fault : F) (x : A) → ok_or o fault ≡ Ok x → o ≡ Some x
 ok_from (Some y) fault x e = cc

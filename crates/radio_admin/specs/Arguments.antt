@@ -1,6 +1,6 @@
 -- The arguments of a query (WHATWG URL Standard, section 5.1), and what each must be.
-use Rattle.std.specs.Prelude.{ℕ, ◌-◌, ◌^◌, Bool, ◌==◌, List, ◌++◌, length, Option, None, Some, codes, if◌then◌else◌}
-use Rattle.std.specs.List.{find}
+use Rattle.std.specs.Prelude.{ℕ, ◌-◌, ◌^◌, Bool, ◌==◌, ◌&&◌, ◌||◌, not, nat_lt, slice_index, List, ◌++◌, length, Option, None, Some, codes, if◌then◌else◌}
+use Rattle.std.specs.List.{find, list_any}
 use Rattle.std.specs.Option.{option_map, option_and_then}
 use Rattle.std.specs.Str.{bytes_eq}
 use Rattle.std.specs.Str.Lossy.{utf8_lossy}
@@ -65,3 +65,16 @@ title_in query =
     then song_title (argument (codes "song") query) (argument (codes "artist") query) (argument (codes "title") query)
     else None)
     (argument (codes "mode") query)
+
+-- the name of a user, as it stands in a file of users: 1 to 255 bytes, of which none is a colon or a line end, and the first is no `#`
+abbrev pub is_user_name : List ℕ → Bool
+is_user_name text =
+    nat_lt 0 (length text) && nat_lt (length text) 256 && not (slice_index text 0 == 35)
+    && not (list_any (λ b. (b == 58) || (b == 10) || (b == 13)) text)
+
+abbrev pub as_user : List ℕ → Option (List ℕ)
+as_user text = if is_user_name text then Some text else None
+
+-- the user that a query names
+abbrev pub user_in : List ℕ → Option (List ℕ)
+user_in query = option_and_then as_user (argument (codes "username") query)

@@ -1,14 +1,29 @@
 -- The commands that paths and queries ask for: the table of the commands.
-use Rattle.std.specs.Prelude.{ℕ, List, Option, None, Some, Result, Err, codes}
-use Rattle.std.specs.Option.{option_map, ok_or}
+use Rattle.std.specs.Prelude.{ℕ, List, Option, None, Some, Result, Err, codes, if◌then◌else◌}
+use Rattle.std.specs.Option.{option_map, option_and_then, ok_or}
+use Rattle.std.specs.Str.{bytes_eq}
 use Rattle.radio_admin.specs.declared.command.Command.{Command}
 use Rattle.radio_admin.specs.declared.command.Command.TheVariants as asks
 use Rattle.radio_admin.specs.declared.kind.CommandKind.{CommandKind}
 use Rattle.radio_admin.specs.declared.kind.CommandKind.TheVariants as kind
 use Rattle.radio_admin.specs.declared.fault.AdminFault.{AdminFault}
 use Rattle.radio_admin.specs.declared.fault.AdminFault.TheVariants.{NoCommand, MissingArgument}
-use Rattle.radio_admin.specs.Arguments.{both, mount_in, number_in, fallback_in, title_in}
+use Rattle.radio_admin.specs.Arguments.{argument, both, mount_in, number_in, fallback_in, title_in, user_in}
 use Rattle.radio_admin.specs.Kinds.{kind_of}
+
+-- the user is to be added where all three are there
+abbrev pub add_user : Option (List ℕ) → Option (List ℕ) → Option (List ℕ) → Option Command
+add_user (Some mount) (Some user) (Some password) = Some (asks.AddUser (record { mount = mount; user = user; password = password }))
+add_user (Some mount) (Some user) None = None
+add_user (Some mount) None password = None
+add_user None user password = None
+
+-- a user is added with a password, which may be empty, or is deleted; there is no other action
+abbrev pub users_command : List ℕ → Option (List ℕ) → List ℕ → Option Command
+users_command action mount query =
+    if bytes_eq action (codes "add") then add_user mount (user_in query) (argument (codes "password") query) else
+    if bytes_eq action (codes "delete") then both (λ m user. asks.DeleteUser (record { mount = m; user = user })) mount (user_in query) else
+    None
 
 -- the command of a kind, with its arguments, of which `mount` has been read
 abbrev pub command_of : CommandKind → Option (List ℕ) → List ℕ → Option Command
@@ -27,6 +42,7 @@ command_of kind.Fallbacks mount query =
     both (λ m fallback. asks.Fallbacks (record { mount = m; fallback = fallback }))
     mount (fallback_in (codes "fallback") query)
 command_of kind.StreamList mount query = Some asks.StreamList
+command_of kind.Users mount query = option_and_then (λ action. users_command action mount query) (argument (codes "action") query)
 
 -- the command of a kind that a path named, or why there is none
 abbrev pub command_at : Option CommandKind → Option (List ℕ) → List ℕ → Result Command AdminFault
@@ -48,6 +64,8 @@ kind_in (asks.KillSource mount) = kind.KillSource
 kind_in (asks.Metadata asked) = kind.Metadata
 kind_in (asks.Fallbacks asked) = kind.Fallbacks
 kind_in asks.StreamList = kind.StreamList
+kind_in (asks.AddUser asked) = kind.Users
+kind_in (asks.DeleteUser asked) = kind.Users
 
 -- the mount that a command names
 abbrev pub mount_named : Command → Option (List ℕ)
@@ -60,3 +78,5 @@ mount_named (asks.KillSource mount) = Some mount
 mount_named (asks.Metadata asked) = Some asked.mount
 mount_named (asks.Fallbacks asked) = Some asked.mount
 mount_named asks.StreamList = None
+mount_named (asks.AddUser asked) = Some asked.mount
+mount_named (asks.DeleteUser asked) = Some asked.mount

@@ -4,7 +4,7 @@ use Rattle.std.specs.List.{find}
 use Rattle.std.specs.Str.{bytes_eq}
 use Rattle.radio_admin.specs.declared.kind.CommandKind.{CommandKind}
 use Rattle.radio_admin.specs.declared.kind.CommandKind.TheVariants.{Stats, ListMounts, ListClients, MoveClients, KillClient}
-use Rattle.radio_admin.specs.declared.kind.CommandKind.TheVariants.{KillSource, Metadata, Fallbacks, StreamList}
+use Rattle.radio_admin.specs.declared.kind.CommandKind.TheVariants.{KillSource, Metadata, Fallbacks, StreamList, Users}
 
 -- the path of each command
 abbrev pub path_of : CommandKind → List ℕ
@@ -17,12 +17,13 @@ path_of KillSource = codes "/admin/killsource"
 path_of Metadata = codes "/admin/metadata"
 path_of Fallbacks = codes "/admin/fallbacks"
 path_of StreamList = codes "/admin/streamlist.txt"
+path_of Users = codes "/admin/users"
 
 -- every command
 abbrev pub kinds : List CommandKind
 kinds =
     Stats ∷ ListMounts ∷ ListClients ∷ MoveClients ∷ KillClient
-    ∷ KillSource ∷ Metadata ∷ Fallbacks ∷ StreamList ∷ []
+    ∷ KillSource ∷ Metadata ∷ Fallbacks ∷ StreamList ∷ Users ∷ []
 
 -- the command that a path names
 unfoldable pub kind_of : List ℕ → Option CommandKind

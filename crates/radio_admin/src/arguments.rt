@@ -1,8 +1,9 @@
 //! What the arguments of a query must be.
-ghost use Rattle.std.specs.Prelude.{◌≡◌, ◌++◌, IfOk, codes};
+ghost use Rattle.std.specs.Prelude.{◌≡◌, ◌==◌, ◌||◌, ◌++◌, IfOk, codes};
+ghost use Rattle.std.specs.List.{list_any};
 ghost use Rattle.std.specs.Option.{option_map};
 ghost use Rattle.std.specs.String.{string_bytes};
-ghost use Rattle.radio_admin.specs.Arguments.{argument, as_fallback, fallback_in, mount_in, number_in, song_title, title_in};
+ghost use Rattle.radio_admin.specs.Arguments.{argument, as_fallback, fallback_in, is_user_name, mount_in, number_in, song_title, title_in, user_in};
 
 use crate::OutOfMemory;
 use crate::query::argument;
@@ -61,6 +62,40 @@ fn as_fallback(text: &[u8]) -> Option<Option<MountName>>
         Some(mount) => Some(Some(mount)),
         None => None,
     }
+}
+
+/// The user that a query names, as `username`; `None` where it is absent, or no file of users can name him so: he has 1
+/// to 255 bytes, of which none is a colon or a line end, and the first is no `#`.
+pub fn user_in(alloc: Global, query: &[u8]) -> Result<Option<String>, OutOfMemory>
+    ensures { IfOk result (λ found. option_map (λ text. string_bytes text) found ≡ user_in query.now) }
+{
+    match argument(alloc, "username", query)? {
+        Some(text) if is_user_name(text.as_bytes()) => Ok(Some(text)),
+        _ => Ok(None),
+    }
+}
+
+fn is_user_name(text: &[u8]) -> bool
+    ensures { result ≡ is_user_name text.now }
+{
+    match text.first() {
+        Some(first) => *first != b'#' && text.len() < 256 && !has_mark(text),
+        None => false,
+    }
+}
+
+/// Whether one of the bytes parts a file of users.
+fn has_mark(text: &[u8]) -> bool
+    ensures { result ≡ list_any (λ b. (b == 58) || (b == 10) || (b == 13)) text.now }
+{
+    text.iter().any(|b| is_mark(*b))
+}
+
+/// Whether the byte is a colon or a line end, which part a file of users.
+fn is_mark(byte: u8) -> bool
+    ensures { result ≡ ((byte == 58) || (byte == 10) || (byte == 13)) }
+{
+    byte == b':' || byte == b'\n' || byte == b'\r'
 }
 
 /// The title that a query sets: `song`, else `artist` and `title` with ` - ` between them, else `title`. `None` where

@@ -27,6 +27,10 @@ pub enum Command {
     Fallbacks(NewFallback),
     /// Asks for the names of the mounts that a relay may pull.
     StreamList,
+    /// Lets a user listen to a mount.
+    AddUser(NewUser),
+    /// Takes a user of a mount away.
+    DeleteUser(OldUser),
 }
 
 /// The listeners of `mount` go to `destination`.
@@ -47,7 +51,7 @@ pub struct Kill {
 #[derive(Drop)]
 pub struct NewTitle {
     pub mount: MountName,
-    pub title: RawTitle,
+    pub title: RawText,
 }
 
 /// The listeners of `mount` are to fall back to `fallback`; to none where it is `None`.
@@ -57,31 +61,47 @@ pub struct NewFallback {
     pub fallback: Option<MountName>,
 }
 
-/// A title as it was sent, decoded and UTF-8, but not cleaned: it may have any bytes and any length, line ends and
-/// zero bytes too. `radio_icy::clean_title` makes of it what may be sent to listeners.
-///
-/// In contracts a raw title is its bytes.
+/// The user of the name `user` may listen to `mount` with this password, which may be empty.
 #[derive(Drop)]
-pub struct RawTitle {
+pub struct NewUser {
+    pub mount: MountName,
+    pub user: RawText,
+    pub password: RawText,
+}
+
+/// The user of the name `user` may listen to `mount` no more.
+#[derive(Drop)]
+pub struct OldUser {
+    pub mount: MountName,
+    pub user: RawText,
+}
+
+/// A text as it was sent, decoded and UTF-8, but not cleaned. A title may have any bytes and any length, line ends and
+/// zero bytes too: `radio_icy::clean_title` makes of it what may be sent to listeners. The name of a user has the form
+/// that it has in a file of users.
+///
+/// In contracts it is its bytes.
+#[derive(Drop)]
+pub struct RawText {
     text: String,
 }
 
-impl Model for RawTitle {
+impl Model for RawText {
     ghost use Rattle.std.specs.Prelude.{ℕ, List};
     ghost use Rattle.std.specs.String.{string_bytes};
 
     ghost Value = { List ℕ };
 
-    ghost view = { λ title. string_bytes title.text };
+    ghost view = { λ sent. string_bytes sent.text };
 }
 
-impl RawTitle {
+impl RawText {
     ghost use Rattle.std.specs.String.{string_bytes};
 
-    pub(crate) fn new(text: String) -> RawTitle
+    pub(crate) fn new(text: String) -> RawText
         ensures { result ≡ string_bytes text }
     {
-        RawTitle { text }
+        RawText { text }
     }
 
     /// Its bytes.
@@ -107,6 +127,7 @@ impl Command {
             Command::Metadata(_) => CommandKind::Metadata,
             Command::Fallbacks(_) => CommandKind::Fallbacks,
             Command::StreamList => CommandKind::StreamList,
+            Command::AddUser(_) | Command::DeleteUser(_) => CommandKind::Users,
         }
     }
 
@@ -121,6 +142,8 @@ impl Command {
             Command::KillClient(asked) => Some(asked.mount),
             Command::Metadata(asked) => Some(asked.mount),
             Command::Fallbacks(asked) => Some(asked.mount),
+            Command::AddUser(asked) => Some(asked.mount),
+            Command::DeleteUser(asked) => Some(asked.mount),
         }
     }
 }

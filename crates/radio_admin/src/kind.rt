@@ -28,10 +28,12 @@ pub enum CommandKind {
     Fallbacks,
     /// The names of the mounts that a relay may pull.
     StreamList,
+    /// Adds a user of a mount, or takes one away.
+    Users,
 }
 
 /// Every command, in the order of the table in `docs/FORMATS.md`.
-const KINDS: [CommandKind; 9] = [
+const KINDS: [CommandKind; 10] = [
     CommandKind::Stats,
     CommandKind::ListMounts,
     CommandKind::ListClients,
@@ -41,6 +43,7 @@ const KINDS: [CommandKind; 9] = [
     CommandKind::Metadata,
     CommandKind::Fallbacks,
     CommandKind::StreamList,
+    CommandKind::Users,
 ];
 
 impl CommandKind {
@@ -58,6 +61,7 @@ impl CommandKind {
             CommandKind::Metadata => "/admin/metadata",
             CommandKind::Fallbacks => "/admin/fallbacks",
             CommandKind::StreamList => "/admin/streamlist.txt",
+            CommandKind::Users => "/admin/users",
         }
     }
 

@@ -1,12 +1,15 @@
 //! The command that a target asks for.
-ghost use Rattle.std.specs.Prelude.{◌≡◌, ◌⊎◌, IfOk};
+ghost use Rattle.std.specs.Prelude.{◌≡◌, ◌⊎◌, IfOk, codes};
 ghost use Rattle.percent_encoding.specs.Percent.{percent_decode as decoded_path};
 ghost use Rattle.std.specs.Option.{option_map};
-ghost use Rattle.radio_admin.specs.Commands.{command_at, command_in, command_of};
+ghost use Rattle.radio_admin.specs.Commands.{add_user, command_at, command_in, command_of, users_command};
+ghost use Rattle.radio_admin.specs.Arguments.{argument, both, user_in};
 
-use crate::arguments::{fallback_in, mount_in, number_in, title_in};
+use crate::arguments::{fallback_in, mount_in, number_in, title_in, user_in};
+use crate::query::argument;
 use crate::{
-    AdminFault, Command, CommandKind, Kill, Move, NewFallback, NewTitle, OutOfMemory, RawTitle,
+    AdminFault, Command, CommandKind, Kill, Move, NewFallback, NewTitle, NewUser, OldUser,
+    OutOfMemory, RawText,
 };
 use percent_encoding::percent_decode;
 use radio_settings::MountName;
@@ -77,6 +80,7 @@ fn command_of(
         CommandKind::Metadata => set_title(alloc, mount, query),
         CommandKind::Fallbacks => set_fallback(alloc, mount, query),
         CommandKind::StreamList => Ok(Some(Command::StreamList)),
+        CommandKind::Users => change_users(alloc, mount, query),
     }
 }
 
@@ -132,7 +136,7 @@ fn set_title(
 {
     match (mount, title_in(alloc, query)?) {
         (Some(mount), Some(text)) => {
-            let title = RawTitle::new(text);
+            let title = RawText::new(text);
             Ok(Some(Command::Metadata(NewTitle { mount, title })))
         }
         _ => Ok(None),
@@ -150,6 +154,72 @@ fn set_fallback(
         (Some(mount), Some(fallback)) => Ok(Some(Command::Fallbacks(NewFallback {
             mount,
             fallback,
+        }))),
+        _ => Ok(None),
+    }
+}
+
+fn change_users(
+    alloc: Global,
+    mount: Option<MountName>,
+    query: &[u8],
+) -> Result<Option<Command>, OutOfMemory>
+    ensures { IfOk result (λ command. command ≡ command_of CommandKind.Users mount query.now) }
+{
+    match argument(alloc, "action", query)? {
+        Some(action) => users_command(alloc, action.as_str(), mount, query),
+        None => Ok(None),
+    }
+}
+
+fn users_command(
+    alloc: Global,
+    action: &str,
+    mount: Option<MountName>,
+    query: &[u8],
+) -> Result<Option<Command>, OutOfMemory>
+    ensures { IfOk result (λ command. command ≡ users_command action.now mount query.now) }
+{
+    if action == "add" {
+        add_user(alloc, mount, query)
+    } else if action == "delete" {
+        delete_user(alloc, mount, query)
+    } else {
+        Ok(None)
+    }
+}
+
+fn add_user(
+    alloc: Global,
+    mount: Option<MountName>,
+    query: &[u8],
+) -> Result<Option<Command>, OutOfMemory>
+    ensures { IfOk result (λ command. command ≡ add_user mount (user_in query.now) (argument (codes "password") query.now)) }
+{
+    let Some(mount) = mount else {
+        return Ok(None);
+    };
+    match (user_in(alloc, query)?, argument(alloc, "password", query)?) {
+        (Some(user), Some(password)) => Ok(Some(Command::AddUser(NewUser {
+            mount,
+            user: RawText::new(user),
+            password: RawText::new(password),
+        }))),
+        _ => Ok(None),
+    }
+}
+
+fn delete_user(
+    alloc: Global,
+    mount: Option<MountName>,
+    query: &[u8],
+) -> Result<Option<Command>, OutOfMemory>
+    ensures { IfOk result (λ command. command ≡ both (λ m user. Command.DeleteUser (record { mount = m; user = user })) mount (user_in query.now)) }
+{
+    match (mount, user_in(alloc, query)?) {
+        (Some(mount), Some(user)) => Ok(Some(Command::DeleteUser(OldUser {
+            mount,
+            user: RawText::new(user),
         }))),
         _ => Ok(None),
     }

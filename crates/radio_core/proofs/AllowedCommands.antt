@@ -3,7 +3,7 @@ use Rattle.std.proofs.Common.{◌≡◌, ◌∙◌, Bool, true, false, List, [],
 use Rattle.std.specs.Prelude.{not}
 use Rattle.radio_policy.specs.declared.judgement.Verdict.TheVariants.{Allow}
 use Rattle.radio_policy.specs.declared.rule.Rule.{Rule}
-use Rattle.radio_policy.specs.declared.rule.Rule.TheVariants.{NoMount, NoDestination, SameMount, NoClient}
+use Rattle.radio_policy.specs.declared.rule.Rule.TheVariants.{NoMount, NoDestination, SameMount, NoClient, NoUsers, NoUser}
 use Rattle.radio_policy.specs.Table.{Row, row, needs_rows, password_rule, command_rows}
 use Rattle.radio_policy.specs.Verdicts.{verdict_in}
 use Rattle.radio_events.specs.declared.command.Asked.{Asked}
@@ -34,6 +34,15 @@ may_move true true false e = refl
 may_move true true true e = cc
 may_move true false same e = cc
 may_move false there same e = cc
+
+pub may_add : (has_users : Bool) → verdict_in (row NoUsers (not has_users) ∷ []) ≡ Allow → has_users ≡ true
+may_add true e = refl
+may_add false e = cc
+
+pub may_delete : (has_users is_listed : Bool) → verdict_in (row NoUsers (not has_users) ∷ row NoUser (not is_listed) ∷ []) ≡ Allow → is_listed ≡ true
+may_delete true true e = refl
+may_delete true false e = cc
+may_delete false is_listed e = cc
 
 module _ (w : World) (event : Event) {command : Command} (c : IsCommanded w event command) where
   opened_past : (opens w.house.settings (opened_by command) c.asked.pair ≡ true) × (verdict_in (needs_rows (needs_of w command)) ≡ Allow)

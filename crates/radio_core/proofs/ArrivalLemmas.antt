@@ -6,7 +6,7 @@ use Rattle.std.proofs.lemmas.Bool.Decides.{nat_tests}
 use Rattle.radio_addr.specs.declared.peer.Peer.{Peer}
 use Rattle.radio_tables.proofs.KeyLaws.{by_number}
 use Rattle.radio_events.specs.declared.command.Command.{Command}
-use Rattle.radio_events.specs.declared.command.Command.TheVariants.{MoveClients, KillClient, KillSource, SetTitle, SetFallback}
+use Rattle.radio_events.specs.declared.command.Command.TheVariants.{MoveClients, KillClient, KillSource, SetTitle, SetFallback, AddUser, DeleteUser}
 use Rattle.radio_events.specs.declared.event.Event.{Event}
 use Rattle.radio_house.specs.declared.clients.ClientState.{ClientState}
 use Rattle.radio_house.specs.declared.clients.ClientState.TheVariants.{Undecided as IsNew, Feeds as IsSource, Listens, Answered as HasHisAnswer}
@@ -120,6 +120,8 @@ keeps_obeyed w him command =
       by_command (KillSource mount) = keeps_killed (answered w him) (session_of w.house.live mount)
       by_command (SetTitle mount text) = same_clients (answered w him).house.clients
       by_command (SetFallback mount fallback) = same_clients (answered w him).house.clients
+      by_command (AddUser mount user password) = same_clients (answered w him).house.clients
+      by_command (DeleteUser mount user) = same_clients (answered w him).house.clients
 
 module _ (w : World) (s : IsSound w) where
   abbrev Stay : World → Type 0

@@ -2,7 +2,7 @@
 use Rattle.std.proofs.Common.{◌≡◌, ℕ, Option, None, Some, List, refl, ap, sym, ◌∙◌}
 use Rattle.radio_policy.specs.declared.rule.Rule.TheVariants.{SourceKilled}
 use Rattle.radio_events.specs.declared.command.Command.{Command}
-use Rattle.radio_events.specs.declared.command.Command.TheVariants.{MoveClients, KillClient, KillSource, SetTitle, SetFallback}
+use Rattle.radio_events.specs.declared.command.Command.TheVariants.{MoveClients, KillClient, KillSource, SetTitle, SetFallback, AddUser, DeleteUser}
 use Rattle.radio_house.specs.House.{House}
 use Rattle.radio_core.specs.declared.outcome.Change.TheVariants.{Obey}
 use Rattle.radio_core.specs.Changes.{answered, changed, session_ended, session_killed}
@@ -23,19 +23,24 @@ killed_so w after mount session number house found same ended now =
     (sym (found_named w.house.live mount session found))
     ∙ ap (session_killed w) (sym found)
 
--- no command changes the settings, or what the files hold that they name
-killed_keeps : (w : World) (found : Option Session)
-    → ((session_killed w found).house.settings ≡ w.house.settings) × ((session_killed w found).house.lists ≡ w.house.lists)
-killed_keeps w None = (refl, refl)
-killed_keeps w (Some session) = (refl, refl)
+-- no command changes the settings
+killed_keeps : (w : World) (found : Option Session) → (session_killed w found).house.settings ≡ w.house.settings
+killed_keeps w None = refl
+killed_keeps w (Some session) = refl
 
-pub obeyed_keeps : (w : World) (id : ℕ) (command : Command)
-    → ((changed w (Obey id command)).house.settings ≡ w.house.settings) × ((changed w (Obey id command)).house.lists ≡ w.house.lists)
-obeyed_keeps w id (MoveClients mount destination) = (refl, refl)
-obeyed_keeps w id (KillClient mount listener) = (refl, refl)
+pub obeyed_keeps : (w : World) (id : ℕ) (command : Command) → (changed w (Obey id command)).house.settings ≡ w.house.settings
+obeyed_keeps w id (MoveClients mount destination) = refl
+obeyed_keeps w id (KillClient mount listener) = refl
 obeyed_keeps w id (KillSource mount) = killed_keeps (answered w id) (session_of w.house.live mount)
-obeyed_keeps w id (SetTitle mount text) = (refl, refl)
-obeyed_keeps w id (SetFallback mount fallback) = (refl, refl)
+obeyed_keeps w id (SetTitle mount text) = refl
+obeyed_keeps w id (SetFallback mount fallback) = refl
+obeyed_keeps w id (AddUser mount user password) = refl
+obeyed_keeps w id (DeleteUser mount user) = refl
+
+-- or, but for those that change users, who is let in
+pub killed_lists : (w : World) (found : Option Session) → (session_killed w found).house.lists ≡ w.house.lists
+killed_lists w None = refl
+killed_lists w (Some session) = refl
 
 -- or gives a number
 killed_last : (w : World) (found : Option Session) → (session_killed w found).house.last_id ≡ w.house.last_id
@@ -48,3 +53,5 @@ obeyed_last w id (KillClient mount listener) = refl
 obeyed_last w id (KillSource mount) = killed_last (answered w id) (session_of w.house.live mount)
 obeyed_last w id (SetTitle mount text) = refl
 obeyed_last w id (SetFallback mount fallback) = refl
+obeyed_last w id (AddUser mount user password) = refl
+obeyed_last w id (DeleteUser mount user) = refl

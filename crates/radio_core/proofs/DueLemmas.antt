@@ -11,7 +11,7 @@ use Rattle.radio_seats.specs.declared.seat.Seating.TheVariants.{Finished}
 use Rattle.radio_seats.specs.declared.seat.Listener.{Listener}
 use Rattle.radio_seats.specs.Seats.{is_listener, by_listener, seated, advanced, loses, holds_of, finished_if, with_ended}
 use Rattle.radio_events.specs.declared.command.Command.{Command}
-use Rattle.radio_events.specs.declared.command.Command.TheVariants.{MoveClients, KillClient, KillSource, SetTitle as NewTitle, SetFallback}
+use Rattle.radio_events.specs.declared.command.Command.TheVariants.{MoveClients, KillClient, KillSource, SetTitle as NewTitle, SetFallback, AddUser, DeleteUser}
 use Rattle.radio_house.specs.declared.clients.ClientState.{ClientState}
 use Rattle.radio_house.specs.declared.clients.ClientState.TheVariants.{Undecided, Feeds, Listens, Answered, Ended}
 use Rattle.radio_core.specs.declared.outcome.Change.{Change}
@@ -37,6 +37,9 @@ use Rattle.radio_house.specs.Timeouts.{asks_nothing, asks_too_late, timed_out}
 use Rattle.radio_parts.proofs.DueLemmas.{not_yet, has_not_sat_out, from_earliest, due_by_last, duration_by_last, ended_due, heard_due, moved_due, lost_due}
 use Rattle.radio_parts.proofs.SilentSessions.{none_pass}
 use Rattle.radio_house.specs.World.{World}
+use Rattle.radio_access.specs.Lists.{with_user_at, without_user_at}
+use Rattle.radio_house.specs.Outsiders.{is_shut_out}
+use Rattle.radio_policy.specs.declared.rule.Rule.TheVariants.{ListenerPassword}
 
 -- before it is due, nothing has had its time
 
@@ -201,6 +204,16 @@ module _ (moment : ℕ) (last : moment ≤ last_moment) where
     sessions = Each_updated _ (is_of mount) (with_title (Some text)) (λ session h. h) w.house.live due.sessions;
   }
   done_due w (SetFallback mount fallback) due = record { clients = due.clients; listeners = due.listeners; sessions = due.sessions }
+  done_due w (AddUser mount user password) due = record {
+    clients = due.clients;
+    listeners = ended_are_due w (is_shut_out (with_user_at w.house.lists mount user password) mount) ListenerPassword due.listeners;
+    sessions = due.sessions;
+  }
+  done_due w (DeleteUser mount user) due = record {
+    clients = due.clients;
+    listeners = ended_are_due w (is_shut_out (without_user_at w.house.lists mount user) mount) ListenerPassword due.listeners;
+    sessions = due.sessions;
+  }
 
   silence_due : (sessions : List Session) (w : World) → IsDueFrom moment w → IsDueFrom moment (fold session_silenced w sessions)
   silence_due [] w due = due

@@ -15,7 +15,7 @@ use Rattle.radio_events.specs.declared.reply.Reply.TheVariants.{Arrived, Finishe
 use Rattle.radio_house.specs.declared.standing.Standing.{Standing}
 use Rattle.radio_house.specs.declared.standing.Standing.TheVariants.{Unknown, Undecided, Feeds, Sits, Answered, Finished as HasFinished}
 use Rattle.radio_house.specs.World.{World, standing_of, standing_in}
-use Rattle.radio_core.specs.Finishes.{Cause, SessionIsOver, IsFarBehind, HasSatOut, HasAskedNothing, HasSentNothing, IsKilled, HisSessionIsKilled, Finishes}
+use Rattle.radio_core.specs.Finishes.{Cause, SessionIsOver, IsFarBehind, HasSatOut, HasAskedNothing, HasSentNothing, IsKilled, HisSessionIsKilled, Finishes, IsNotAccepted}
 use Rattle.radio_core.specs.Others.{StandsOn, OthersStandOn}
 use Rattle.radio_seats.specs.Seats.{listener_of, seat_of}
 use Rattle.radio_core.specs.Sound.{IsSound}
@@ -43,6 +43,7 @@ known_before w s event id rule finishes unknown = by_cause finishes.cause where
       (ap (standing_in (relay_of w.house.relays id) (listener_of w.seats id)) (sym found) ∙ unknown)
   by_cause (HasSentNothing ms session e feeds live silent) = cc
   by_cause (IsKilled seat has named) = no_seat seat has
+  by_cause (IsNotAccepted seat has changes out) = no_seat seat has
   by_cause (HisSessionIsKilled session feeds live named) = cc
 
 -- two clients are one, or apart

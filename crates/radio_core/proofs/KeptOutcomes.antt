@@ -35,7 +35,7 @@ use Rattle.radio_creds.specs.Credentials.{Credentials}
 use Rattle.radio_events.specs.declared.command.Asked.{Asked}
 use Rattle.radio_events.specs.declared.command.Asked.TheVariants.{NoCommand, MissingArgument, Listing as AsksFor, Command as Asks}
 use Rattle.radio_events.specs.declared.command.Command.{Command as TheCommand}
-use Rattle.radio_events.specs.declared.command.Command.TheVariants.{MoveClients, KillClient, KillSource, SetTitle, SetFallback}
+use Rattle.radio_events.specs.declared.command.Command.TheVariants.{MoveClients, KillClient, KillSource, SetTitle, SetFallback, AddUser, DeleteUser}
 use Rattle.radio_events.specs.declared.command.CommandRequest.{CommandRequest}
 use Rattle.radio_events.specs.declared.command.Listing.{Listing}
 use Rattle.radio_events.specs.declared.command.Listing.TheVariants.{Status, Stats, Mounts, Clients, Streams}
@@ -163,6 +163,8 @@ module _ (w : World) (rise : Each HasRisingStarts w.house.live) (kept : SeatsAre
   needs_alike (KillSource mount) = ap (λ (here : Bool). MountNeeds here) (has_session w rise mount)
   needs_alike (SetTitle mount text) = ap (λ (here : Bool). MountNeeds here) (has_session w rise mount)
   needs_alike (SetFallback mount fallback) = ap (λ (here : Bool). MountNeeds here) (has_session w rise mount)
+  needs_alike (AddUser mount user password) = refl
+  needs_alike (DeleteUser mount user) = refl
 
   list_needs_alike : (listing : Listing) → needs_to_list (kept_of w) listing ≡ needs_to_list w listing
   list_needs_alike Status = refl
@@ -184,6 +186,8 @@ module _ (w : World) (rise : Each HasRisingStarts w.house.live) (kept : SeatsAre
   counts_alike (KillSource mount) = refl
   counts_alike (SetTitle mount text) = refl
   counts_alike (SetFallback mount fallback) = refl
+  counts_alike (AddUser mount user password) = refl
+  counts_alike (DeleteUser mount user) = refl
 
   does_alike : (id : ℕ) (asked : Asked) → does_asked (kept_of w) id asked ≡ does_asked w id asked
   does_alike id NoCommand = refl

@@ -8,7 +8,7 @@ use Rattle.std.proofs.lemmas.Bool.{ltb-false}
 use Rattle.std.proofs.lemmas.Bool.Decides.{nat_tests}
 use Rattle.std.proofs.lemmas.Slice.Eq.{bytes_eq-Decides}
 use Rattle.radio_policy.specs.declared.rule.Rule.{Rule}
-use Rattle.radio_policy.specs.declared.rule.Rule.TheVariants.{Lagged, TimeOver, Killed}
+use Rattle.radio_policy.specs.declared.rule.Rule.TheVariants.{Lagged, TimeOver, Killed, ListenerPassword}
 use Rattle.radio_addr.specs.declared.peer.Peer.{Peer}
 use Rattle.radio_settings.specs.declared.field.Shown.{Shown}
 use Rattle.radio_tables.proofs.FindLaws.{find_here, find_later, find_apart}
@@ -21,7 +21,7 @@ use Rattle.radio_seats.proofs.EndLaws.{had_seat, kept_seat}
 use Rattle.radio_seats.specs.Seats.{is_listener, listener_of, seat_held, loses, lost_by, with_end, seat_of, seat_in, with_seat, with_place, without_listener, AreByNumber}
 use Rattle.radio_seats.proofs.SeatLaws.{beside_moved, beside_left, beside_seated, is_no_listener, has_sat_down, has_heard}
 use Rattle.radio_events.specs.declared.command.Command.{Command}
-use Rattle.radio_events.specs.declared.command.Command.TheVariants.{MoveClients, KillClient, KillSource, SetTitle as NewTitle, SetFallback}
+use Rattle.radio_events.specs.declared.command.Command.TheVariants.{MoveClients, KillClient, KillSource, SetTitle as NewTitle, SetFallback, AddUser, DeleteUser}
 use Rattle.radio_events.specs.declared.event.Event.{Event}
 use Rattle.radio_events.specs.declared.event.ListenRequest.{ListenRequest}
 use Rattle.radio_core.specs.declared.outcome.Change.TheVariants.{Receive, SetTitle, TakeSeat, Advance, End, EndAndLeave, Forget, Obey}
@@ -32,7 +32,9 @@ use Rattle.radio_fallback.specs.declared.moves.Move.TheVariants.{Ended as Sessio
 use Rattle.radio_fallback.specs.Fares.{seat_at_end}
 use Rattle.radio_fallback.proofs.Faring.{Faring, HasStayed, HasGone, HasLost, fares}
 use Rattle.radio_house.specs.House.{House}
-use Rattle.radio_core.specs.Changes.{answered, session_killed, changed, carried_along, session_over, session_ended, called_home}
+use Rattle.radio_access.specs.Lists.{Lists, with_user_at, without_user_at}
+use Rattle.radio_house.specs.Outsiders.{is_shut_out}
+use Rattle.radio_core.specs.Changes.{answered, outsiders_ended, session_killed, changed, carried_along, session_over, session_ended, called_home}
 use Rattle.radio_house.specs.HouseChanges.{begun, raised, received}
 use Rattle.radio_core.specs.Changes.{before_silence, session_silenced, silent_in, ticked}
 use Rattle.radio_house.specs.Facts.{live_end, sight_of}
@@ -48,6 +50,7 @@ use Rattle.radio_core.specs.Ways.{Way, Misplaced, IsFinished, IsDenied, IsRefuse
 use Rattle.radio_core.specs.Ways.{EndsAndLeaves, Leaves, GoesDown, Obeys, Shows, HasPassed, Ticks}
 use Rattle.radio_house.specs.World.{World}
 use Rattle.radio_core.proofs.CalledHome.{house_called}
+use Rattle.radio_core.proofs.ChangedUsers.{with_lists}
 use Rattle.radio_core.proofs.CommandLemmas.{obeyed_keeps}
 use Rattle.radio_core.proofs.CarriedFates.{order_carried}
 use Rattle.radio_parts.proofs.SessionLookups.{beside_fed, beside_titled, beside_begun, is_new_session}
@@ -192,7 +195,7 @@ settings_by w order event o (ComesUp mount shown none allowed) =
     ap (λ (h : House). h.settings) (house_called (record w { house = raised w.house (w.house.last_id + 1) mount (shown_for w.house mount shown) }) mount)
 settings_by w order event o (Receives id mount block feeding) = refl
 settings_by w order event o (Shows _ asker peer text its undecided what) = refl
-settings_by w order event o (Obeys _ command c) = (obeyed_keeps w c.asked.id command).0
+settings_by w order event o (Obeys _ command c) = obeyed_keeps w c.asked.id command
 settings_by w order event o (HasPassed ms e) = refl
 settings_by w order event o (Ticks ms e) = (fewer_ticked w ms order).settings
 settings_by w order event o (SetsTitle id mount text feeding) = refl
@@ -344,6 +347,9 @@ module _ (P : WholeStream → ℕ → Type 0) (w : World) (order : AreByNumber w
       let ended = fewer_ended (answered w him) session.mount order in
       each_fewer (session_killed (answered w him) (Some session)) (record { settings = refl; seats = ended.seats; sessions = ended.sessions })
 
+  each_left : (mount : List ℕ) (lists : Lists) → EachSeat P (outsiders_ended (with_lists w lists) mount)
+  each_left mount lists id seat session has live = all id seat session (had_seat (is_shut_out lists mount) ListenerPassword w.seats id seat has) live
+
   each_obeyed : (command : Command) (him : ℕ) → EachSeat P (changed w (Obey him command))
   each_obeyed (MoveClients mount destination) him =
       let moved = fewer_carried (answered w him) (To mount destination) order in
@@ -354,6 +360,8 @@ module _ (P : WholeStream → ℕ → Type 0) (w : World) (order : AreByNumber w
   each_obeyed (KillSource mount) him = each_killed him (session_of w.house.live mount)
   each_obeyed (NewTitle mount text) him = each_titled mount text
   each_obeyed (SetFallback mount fallback) him = all
+  each_obeyed (AddUser mount user password) him = each_left mount (with_user_at w.house.lists mount user password)
+  each_obeyed (DeleteUser mount user) him = each_left mount (without_user_at w.house.lists mount user)
 
   each_by : (event : Event) (o : Outcome) → Way w event o → EachSeat P (changed w o.change)
   each_by event o (Misplaced _) = all

@@ -5,7 +5,7 @@ use Rattle.std.specs.Option.{option_map}
 use Rattle.radio_policy.specs.declared.rule.Rule.{Rule}
 use Rattle.radio_policy.specs.declared.rule.Rule.TheVariants.{Lagged, SourceSilent, SourceKilled}
 use Rattle.radio_events.specs.declared.command.Command.{Command}
-use Rattle.radio_events.specs.declared.command.Command.TheVariants.{MoveClients, KillClient, KillSource, SetTitle as NewTitle, SetFallback}
+use Rattle.radio_events.specs.declared.command.Command.TheVariants.{MoveClients, KillClient, KillSource, SetTitle as NewTitle, SetFallback, AddUser, DeleteUser}
 use Rattle.radio_tables.specs.Lists.{Each}
 use Rattle.radio_tables.proofs.EachLaws.{Each_kept, Each_updated, Each_placed}
 use Rattle.radio_seats.specs.Seats.{with_ended}
@@ -68,6 +68,8 @@ rise_done w rise (KillClient mount listener) = rise
 rise_done w rise (KillSource mount) = rise_killed w rise (session_of w.house.live mount)
 rise_done w rise (NewTitle mount text) = Each_updated HasRisingStarts (is_of mount) (with_title (Some text)) (λ x r. r) w.house.live rise
 rise_done w rise (SetFallback mount fallback) = rise
+rise_done w rise (AddUser mount user password) = rise
+rise_done w rise (DeleteUser mount user) = rise
 
 pub rise_changed : (w : World) → Each HasRisingStarts w.house.live → (change : Change) → Each HasRisingStarts (changed w change).house.live
 rise_changed w rise Nothing = rise
@@ -122,6 +124,8 @@ module _ (w : World) where
   done_alike rise (NewTitle mount text) =
       ap (λ (live : List Session). with_live w live) (titled_kept queue w.house.live mount text)
   done_alike rise (SetFallback mount fallback) = refl
+  done_alike rise (AddUser mount user password) = refl
+  done_alike rise (DeleteUser mount user) = refl
 
 silence_kept : (sessions : List Session) (w : World) → Each HasRisingStarts w.house.live
     → fold session_silenced (kept_of w) (kept_live w.house.settings.limits.queue_size sessions) ≡ kept_of (fold session_silenced w sessions)

@@ -8,6 +8,8 @@ mod KeptRuns
 pub mod KeptSeats
 mod KeptSights
 mod KeptSteps
+pub mod ChangedUsers
+pub mod ListsSteps
 pub mod Obeyed
 mod PlannedLemmas
 mod SourceReplyLemmas

@@ -4,7 +4,7 @@ use Rattle.std.specs.Prelude.{map, length}
 use Rattle.radio_events.specs.declared.command.Listing.{Listing}
 use Rattle.radio_events.specs.declared.command.Listing.TheVariants.{Status, Stats, Mounts, Clients, Streams}
 use Rattle.radio_events.specs.declared.text.Text.{Text}
-use Rattle.radio_events.specs.declared.text.Text.TheVariants.{Done, Moved, Json, Streams as StreamList, Public, Page}
+use Rattle.radio_events.specs.declared.text.Text.TheVariants.{Done, Moved, Ended, Json, Streams as StreamList, Public, Page}
 use Rattle.radio_listing.specs.declared.rows.MountRow.{MountRow}
 use Rattle.radio_listing.specs.Admin.{stats_text, mounts_text}
 use Rattle.radio_listing.specs.Public.{status_text, stream_text}
@@ -13,7 +13,7 @@ use Rattle.radio_core.specs.Kept.{kept_of}
 use Rattle.radio_house.specs.Listings.{shown, mount_row, mount_rows}
 use Rattle.radio_core.specs.Pages.{IsShownBy, IsListing, IsAtPath}
 use Rattle.radio_house.specs.Pages.{page_at, server_as}
-use Rattle.radio_core.specs.Planned.{told_moved}
+use Rattle.radio_core.specs.Planned.{told_counts}
 use Rattle.radio_settings.specs.declared.web.WebPath.{WebPath}
 use Rattle.radio_settings.specs.declared.web.WebPath.TheVariants.{IcecastStatus, Page as AtPage}
 use Rattle.radio_listing.specs.Icecast.{icecast_text}
@@ -21,6 +21,7 @@ use Rattle.radio_events.specs.declared.event.Event.{Event}
 use Rattle.radio_events.specs.Texts.{IsShort}
 use Rattle.radio_parts.specs.Sessions.{Session}
 use Rattle.radio_house.specs.World.{World}
+use Rattle.radio_fallback.specs.declared.moves.Carried.{Carried}
 
 module _ (w : World) where
   rows_of : (live : List Session) → map (mount_row (kept_of w)) (kept_live w.house.settings.limits.queue_size live) ≡ map (mount_row w) live
@@ -59,12 +60,13 @@ module _ (w : World) where
   shown_long event text (IsListing listing c) short = no_short listing short
   shown_long event text (IsAtPath asked path is_event is_path) short = no_short_page path asked.host short
 
-  -- so it tells no number of those who were moved
-  pub shown_untold : (event : Event) (text : Text) → IsShownBy w event text → (count : ℕ) → told_moved text count ≡ text
-  shown_untold event text shown count = untold text (shown_long event text shown) where
-    untold : (text : Text) → (IsShort text → ⊥) → told_moved text count ≡ text
+  -- so it tells no number of those who were moved, or have finished
+  pub shown_untold : (event : Event) (text : Text) → IsShownBy w event text → (counts : Carried) → told_counts text counts ≡ text
+  shown_untold event text shown counts = untold text (shown_long event text shown) where
+    untold : (text : Text) → (IsShort text → ⊥) → told_counts text counts ≡ text
     untold Done long = absurd (long tt)
     untold (Moved other) long = absurd (long tt)
+    untold (Ended other) long = absurd (long tt)
     untold (Json bytes) long = refl
     untold (StreamList bytes) long = refl
     untold (Public bytes origin) long = refl

@@ -10,7 +10,7 @@ use Rattle.radio_seats.specs.Seats.{is_listener, finished_if, loses, with_ended}
 use Rattle.radio_house.specs.declared.clients.ClientState.{ClientState}
 use Rattle.radio_house.specs.declared.clients.ClientState.TheVariants.{Feeds as IsSource, Answered as HasHisAnswer, Ended}
 use Rattle.radio_events.specs.declared.command.Command.{Command}
-use Rattle.radio_events.specs.declared.command.Command.TheVariants.{MoveClients, KillClient, KillSource, SetTitle, SetFallback}
+use Rattle.radio_events.specs.declared.command.Command.TheVariants.{MoveClients, KillClient, KillSource, SetTitle, SetFallback, AddUser, DeleteUser}
 use Rattle.radio_core.specs.declared.outcome.Change.TheVariants.{Begin, Obey}
 use Rattle.radio_house.specs.Clients.{Client, is_client, in_state, with_state}
 use Rattle.radio_house.specs.Relays.{Relay, is_relay, ended, with_relay_ended}
@@ -28,6 +28,11 @@ use Rattle.radio_parts.specs.Timeouts.{lags_behind, has_sat_out}
 use Rattle.radio_house.specs.Timeouts.{timed_out}
 use Rattle.radio_house.specs.World.{World}
 use Rattle.radio_parts.proofs.NumberLists.{numbers_updated, numbers_mapped}
+use Rattle.radio_access.specs.Lists.{Lists, with_user_at, without_user_at}
+use Rattle.radio_house.specs.Outsiders.{is_shut_out}
+use Rattle.radio_core.proofs.ChangedUsers.{with_lists}
+use Rattle.radio_policy.specs.declared.rule.Rule.TheVariants.{ListenerPassword}
+use Rattle.radio_core.specs.Changes.{outsiders_ended}
 
 -- the numbers of the clients, those of the relays, and those of the listeners
 abbrev pub number_of : Client → ℕ
@@ -92,6 +97,10 @@ pub same_obeyed : (w : World) (id : ℕ) (command : Command) → AreTheSame w (c
 same_obeyed w id command =
     then_the_same w (answered w id) (changed w (Obey id command))
     (record { same_ids = same_state id HasHisAnswer w.house.clients; same_relays = refl; same_rows = refl; same_last = refl }) (by_command command) where
+      same_but_seats : (lists : Lists) (mount : List ℕ) → AreTheSame (answered w id) (outsiders_ended (with_lists (answered w id) lists) mount)
+      same_but_seats lists mount =
+          record { same_ids = refl; same_relays = refl; same_rows = same_ended (is_shut_out lists mount) ListenerPassword w.seats; same_last = refl }
+
       by_command : (command : Command) → AreTheSame (answered w id) (changed w (Obey id command))
       by_command (MoveClients mount destination) = record { same_ids = refl; same_relays = refl; same_rows = same_carried (answered w id) (To mount destination); same_last = refl }
       by_command (KillClient mount listener) =
@@ -99,6 +108,8 @@ same_obeyed w id command =
       by_command (KillSource mount) = same_killed (answered w id) (session_of w.house.live mount)
       by_command (SetTitle mount text) = record { same_ids = refl; same_relays = refl; same_rows = refl; same_last = refl }
       by_command (SetFallback mount fallback) = record { same_ids = refl; same_relays = refl; same_rows = refl; same_last = refl }
+      by_command (AddUser mount user password) = same_but_seats (with_user_at w.house.lists mount user password) mount
+      by_command (DeleteUser mount user) = same_but_seats (without_user_at w.house.lists mount user) mount
 
 pub same_over_rows : (w : World) (mount : List ℕ) → map row_of (session_ended w mount).seats ≡ map row_of w.seats
 same_over_rows w mount = same_carried (session_over w mount) (SessionEnds mount)

@@ -17,16 +17,18 @@ use Rattle.radio_fallback.specs.declared.moves.Move.TheVariants.{Ended as Sessio
 use Rattle.radio_fallback.specs.Carry.{at_his_turn}
 use Rattle.radio_fallback.proofs.Faring.{goes_there, never_out_there}
 use Rattle.radio_events.specs.declared.command.Command.{Command}
-use Rattle.radio_events.specs.declared.command.Command.TheVariants.{MoveClients, KillClient, KillSource, SetTitle, SetFallback}
+use Rattle.radio_events.specs.declared.command.Command.TheVariants.{MoveClients, KillClient, KillSource, SetTitle, SetFallback, AddUser, DeleteUser}
 use Rattle.radio_events.specs.declared.event.Event.{Event}
 use Rattle.radio_house.specs.declared.clients.ClientState.TheVariants.{Ended}
 use Rattle.radio_core.specs.declared.outcome.Change.TheVariants.{Obey}
 use Rattle.radio_house.specs.declared.standing.Standing.{Standing}
 use Rattle.radio_house.specs.declared.standing.Standing.TheVariants.{Unknown, Undecided, Feeds, Sits, Answered, Finished}
-use Rattle.radio_core.specs.Changes.{answered, changed, session_over, session_ended, session_ended_by, session_killed}
+use Rattle.radio_core.specs.Changes.{answered, changed, session_over, session_ended, session_ended_by, session_killed, outsiders_ended}
 use Rattle.radio_house.specs.Clients.{client_of}
 use Rattle.radio_house.specs.Relays.{relay_of}
-use Rattle.radio_core.specs.Allowed.{IsCommanded}
+use Rattle.radio_access.specs.Lists.{Lists, with_user_at, without_user_at}
+use Rattle.radio_core.specs.Allowed.{IsCommanded, ChangesUsers, Adds, Deletes}
+use Rattle.radio_core.proofs.ChangedUsers.{with_lists, sound_lists, users_fates}
 use Rattle.radio_house.specs.CommandFacts.{is_live, sits_at, opens}
 use Rattle.radio_house.specs.Facts.{sight_of}
 use Rattle.radio_core.specs.Finishes.{Cause, SessionIsOver, IsKilled, HisSessionIsKilled}
@@ -57,7 +59,6 @@ pub record IsObeyed (w : World) (event : Event) (him : ℕ) (later : World) : Ty
   pub base : World
   pub stands : (id : ℕ) → standing_of base id ≡ standing_of (answered w him) id
   pub seats : (id : ℕ) → seat_of base.seats id ≡ seat_of w.seats id
-  pub lists : base.house.lists ≡ w.house.lists
   pub sound : IsSound base
   pub fates : Fates (Cause w later event) (Takes w event) Nobody (LeavesFor w event) base later
 
@@ -81,7 +82,6 @@ module _ (w : World) (s : IsSound w) (event : Event) where
         base = heard;
         stands = λ id. refl;
         seats = λ id. refl;
-        lists = refl;
         sound = sound_heard;
         fates = record {
           last = refl;
@@ -264,7 +264,6 @@ module _ (w : World) (s : IsSound w) (event : Event) where
       base = heard c;
       stands = λ id. refl;
       seats = λ id. refl;
-      lists = refl;
       sound = sound_heard c;
       fates = subst (λ (v : World). Fates (Cause w cut_world event) (Takes w event) Nobody (LeavesFor w event) (heard c) v) (sym is_cut) (record {
         last = over.last;
@@ -301,7 +300,6 @@ module _ (w : World) (s : IsSound w) (event : Event) where
       base = titled_world;
       stands = λ id. refl;
       seats = λ id. refl;
-      lists = refl;
       sound = sound_text;
       fates = fates_none (Cause w titled_world event) (Takes w event) Nobody (LeavesFor w event) titled_world sound_text;
     }
@@ -332,9 +330,22 @@ module _ (w : World) (s : IsSound w) (event : Event) where
       base = set_world;
       stands = λ id. refl;
       seats = λ id. refl;
-      lists = refl;
       sound = sound_set;
       fates = fates_none (Cause w set_world event) (Takes w event) Nobody (LeavesFor w event) set_world sound_set;
+    }
+
+  -- the users of a mount are changed
+  module _ {command : Command} (c : IsCommanded w event command) (mount : List ℕ) (changes : ChangesUsers w event mount) (lists : Lists) where
+    abbrev listed_world : World
+    listed_world = with_lists (heard c) lists
+
+    obeyed_users : IsObeyed w event c.asked.id (outsiders_ended listed_world mount)
+    obeyed_users = record {
+      base = listed_world;
+      stands = λ id. refl;
+      seats = λ id. refl;
+      sound = sound_lists (heard c) (sound_heard c) lists;
+      fates = users_fates w listed_world event mount (sound_lists (heard c) (sound_heard c) lists) (λ id. refl) changes (Takes w event) (LeavesFor w event);
     }
 
   pub obeyed : (command : Command) (c : IsCommanded w event command) → IsObeyed w event c.asked.id (changed w (Obey c.asked.id command))
@@ -343,6 +354,8 @@ module _ (w : World) (s : IsSound w) (event : Event) where
   obeyed (KillSource mount) c = obeyed_cut mount c
   obeyed (SetTitle mount text) c = obeyed_title mount text c
   obeyed (SetFallback mount fallback) c = obeyed_fallback mount fallback c
+  obeyed (AddUser mount user password) c = obeyed_users c mount (Adds user password c) (with_user_at w.house.lists mount user password)
+  obeyed (DeleteUser mount user) c = obeyed_users c mount (Deletes user c) (without_user_at w.house.lists mount user)
 
   -- the client who gave it has had his answer, and is no listener
   module _ (command : Command) (c : IsCommanded w event command) where

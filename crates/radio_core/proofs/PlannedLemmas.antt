@@ -1,18 +1,19 @@
--- what was worked out of an event and told how many were moved is what comes of it
+-- what was worked out of an event and told how many were moved, or have finished, is what comes of it
 use Rattle.std.proofs.Common.{◌≡◌, ◌∙◌, ℕ, refl, ap, sym}
 use Rattle.radio_events.specs.declared.command.Command.{Command as TheCommand}
-use Rattle.radio_events.specs.declared.command.Command.TheVariants.{MoveClients, KillClient, KillSource, SetTitle, SetFallback}
+use Rattle.radio_events.specs.declared.command.Command.TheVariants.{MoveClients, KillClient, KillSource, SetTitle, SetFallback, AddUser, DeleteUser}
 use Rattle.radio_events.specs.declared.command.CommandRequest.{CommandRequest}
 use Rattle.radio_events.specs.declared.event.Event.{Event}
 use Rattle.radio_events.specs.declared.event.Event.TheVariants.{Arrive, Source, Push, SourceEnd, Title, Listen, Draw, Command, Leave, RelayUp, RelayDown, Clock}
 use Rattle.radio_events.specs.declared.reply.Reply.{Reply}
 use Rattle.radio_events.specs.declared.reply.Reply.TheVariants.{Text as SaysText}
 use Rattle.radio_events.specs.declared.text.Text.{Text}
+use Rattle.radio_fallback.specs.declared.moves.Carried.{Carried}
 use Rattle.radio_core.specs.declared.outcome.Outcome.{Outcome}
 use Rattle.radio_core.specs.Command.{obeys}
 use Rattle.radio_core.specs.Pages.{IsShownBy}
-use Rattle.radio_core.specs.Counts.{counted}
-use Rattle.radio_core.specs.Planned.{told_moved, with_count, uncounted, planned}
+use Rattle.radio_core.specs.Counts.{counted, nobody}
+use Rattle.radio_core.specs.Planned.{told_counts, with_counts, uncounted, planned}
 use Rattle.radio_core.specs.Step.{outcome}
 use Rattle.radio_core.specs.Ways.{Way, Misplaced, IsFinished, IsDenied, IsRefused, IsAdmitted, Begins, ComesUp, Receives, SetsTitle, TakesSeat, HandsOut, Ends}
 use Rattle.radio_core.specs.Ways.{EndsAndLeaves, Leaves, GoesDown, Obeys, Shows, HasPassed, Ticks}
@@ -22,30 +23,30 @@ use Rattle.radio_core.proofs.Ways.{way_of}
 
 module _ (w : World) where
   -- what no command brings tells no number
-  plain_by : (event : Event) (o : Outcome) → Way w event o → ((asked : CommandRequest) → event ≡ Command asked → ⊥) → (count : ℕ)
-      → with_count o.reply count ≡ o.reply
-  plain_by event o (Misplaced _) other_than count = refl
-  plain_by event o (IsFinished _ id rule his told) other_than count = refl
-  plain_by event o (IsDenied _ rule v other) other_than count = refl
-  plain_by event o (IsRefused _ id rule v his undecided) other_than count = refl
-  plain_by event o (IsAdmitted peer allowed) other_than count = refl
-  plain_by event o (Begins asked undecided none allowed) other_than count = refl
-  plain_by event o (ComesUp mount shown none allowed) other_than count = refl
-  plain_by event o (Receives id mount block feeding) other_than count = refl
-  plain_by event o (SetsTitle id mount text feeding) other_than count = refl
-  plain_by event o (TakesSeat asked peer session undecided lands live allowed) other_than count = refl
-  plain_by event o (HandsOut id room seat session sits has live) other_than count = refl
-  plain_by event o (Ends id mount feeding no_relay) other_than count = refl
-  plain_by event o (EndsAndLeaves _ id mount closes feeding) other_than count = refl
-  plain_by event o (Leaves id no_relay other) other_than count = refl
-  plain_by event o (GoesDown id rule relay told) other_than count = refl
-  plain_by event o (Shows _ asker peer text its undecided what) other_than count = ap (λ (t : Text). SaysText t) (shown_untold w event text what count)
-  plain_by event o (Obeys _ command c) other_than count = absurd (other_than c.asked c.is_event)
-  plain_by event o (HasPassed ms e) other_than count = refl
-  plain_by event o (Ticks ms e) other_than count = refl
+  plain_by : (event : Event) (o : Outcome) → Way w event o → ((asked : CommandRequest) → event ≡ Command asked → ⊥) → (counts : Carried)
+      → with_counts o.reply counts ≡ o.reply
+  plain_by event o (Misplaced _) other_than counts = refl
+  plain_by event o (IsFinished _ id rule his told) other_than counts = refl
+  plain_by event o (IsDenied _ rule v other) other_than counts = refl
+  plain_by event o (IsRefused _ id rule v his undecided) other_than counts = refl
+  plain_by event o (IsAdmitted peer allowed) other_than counts = refl
+  plain_by event o (Begins asked undecided none allowed) other_than counts = refl
+  plain_by event o (ComesUp mount shown none allowed) other_than counts = refl
+  plain_by event o (Receives id mount block feeding) other_than counts = refl
+  plain_by event o (SetsTitle id mount text feeding) other_than counts = refl
+  plain_by event o (TakesSeat asked peer session undecided lands live allowed) other_than counts = refl
+  plain_by event o (HandsOut id room seat session sits has live) other_than counts = refl
+  plain_by event o (Ends id mount feeding no_relay) other_than counts = refl
+  plain_by event o (EndsAndLeaves _ id mount closes feeding) other_than counts = refl
+  plain_by event o (Leaves id no_relay other) other_than counts = refl
+  plain_by event o (GoesDown id rule relay told) other_than counts = refl
+  plain_by event o (Shows _ asker peer text its undecided what) other_than counts = ap (λ (t : Text). SaysText t) (shown_untold w event text what counts)
+  plain_by event o (Obeys _ command c) other_than counts = absurd (other_than c.asked c.is_event)
+  plain_by event o (HasPassed ms e) other_than counts = refl
+  plain_by event o (Ticks ms e) other_than counts = refl
 
   plain : (event : Event) → ((asked : CommandRequest) → event ≡ Command asked → ⊥) → outcome w event ≡ uncounted (outcome w event)
-  plain event other_than = ap (λ (reply : Reply). record (outcome w event) { reply = reply }) (sym (plain_by event (outcome w event) (way_of w event) other_than 0))
+  plain event other_than = ap (λ (reply : Reply). record (outcome w event) { reply = reply }) (sym (plain_by event (outcome w event) (way_of w event) other_than nobody))
 
   pub planned_so : (event : Event) → planned w event ≡ uncounted (outcome w event)
   unfolding planned outcome
@@ -63,7 +64,7 @@ module _ (w : World) where
   planned_so (Clock ms) = plain (Clock ms) (λ asked e. cc)
 
   abbrev IsCompleted : Outcome → Type 0
-  IsCompleted o = with_count (uncounted o).reply (counted w o.change).moved ≡ o.reply
+  IsCompleted o = with_counts (uncounted o).reply (counted w o.change) ≡ o.reply
 
   obeys_completed : (id : ℕ) (command : TheCommand) → IsCompleted (obeys w id command)
   obeys_completed id (MoveClients mount destination) = refl
@@ -71,10 +72,12 @@ module _ (w : World) where
   obeys_completed id (KillSource mount) = refl
   obeys_completed id (SetTitle mount text) = refl
   obeys_completed id (SetFallback mount fallback) = refl
+  obeys_completed id (AddUser mount user password) = refl
+  obeys_completed id (DeleteUser mount user) = refl
 
-  shows_completed : (event : Event) (text : Text) → IsShownBy w event text → with_count (with_count (SaysText text) 0) 0 ≡ SaysText text
+  shows_completed : (event : Event) (text : Text) → IsShownBy w event text → with_counts (with_counts (SaysText text) nobody) nobody ≡ SaysText text
   shows_completed event text what =
-      ap (λ (t : Text). SaysText (told_moved t 0)) (shown_untold w event text what 0) ∙ ap (λ (t : Text). SaysText t) (shown_untold w event text what 0)
+      ap (λ (t : Text). SaysText (told_counts t nobody)) (shown_untold w event text what nobody) ∙ ap (λ (t : Text). SaysText t) (shown_untold w event text what nobody)
 
   completed_by : (event : Event) (o : Outcome) → Way w event o → IsCompleted o
   completed_by event o (Misplaced _) = refl

@@ -68,7 +68,7 @@ data Turn (w later : World) (event : Event) (id : ℕ) : Option Seat → List �
       → walks_to w.house w.seats asked.mount asked.pair ≡ Lands session.mount → session_of w.house.live session.mount ≡ Some session
       → verdict_in (rows_to_listen w asked) ≡ Allow → Turn w later event id None [] (Some (first_seat w.house asked peer session))
   Moves : (seat : Seat) (session : Session) → TakesTo w event id session.mount → IsSent w later event seat session.mount → session_of later.house.live session.mount ≡ Some session
-      → lets_in w.house.lists session.mount seat.pair ≡ true → (seat.session == session.number) ≡ false
+      → lets_in later.house.lists session.mount seat.pair ≡ true → (seat.session == session.number) ≡ false
       → Turn w later event id (Some seat) [] (Some (moved_into session seat))
   Goes : (before : Option Seat) → Turn w later event id before [] None
 
@@ -109,7 +109,7 @@ module _ (w : World) (s : IsSound w) (id : ℕ) where
     moves : (bytes : List ℕ) (old : Seat) (session : Session) → bytes ≡ [] → TakesTo w event id session.mount
         → IsSent w now event old session.mount → mine ≡ Some old
         → seat_of now.seats id ≡ Some (moved_into session old) → session_of now.house.live session.mount ≡ Some session
-        → lets_in w.house.lists session.mount old.pair ≡ true → (old.session == session.number) ≡ false
+        → lets_in now.house.lists session.mount old.pair ≡ true → (old.session == session.number) ≡ false
         → Turn w now event id mine bytes (seat_of now.seats id)
     moves bytes old session none takes sent had has live opens apart =
         adapted w now event id (sym had) (sym none) (sym has) (Moves old session takes sent live opens apart)
@@ -125,7 +125,7 @@ module _ (w : World) (s : IsSound w) (id : ℕ) where
       by_fate (IsEnded rule cause active ended gone over) = loses bytes (seat_of now.seats id) none gone
       by_fate (HasStopped mount why feeding done gone over) = loses bytes (seat_of now.seats id) none gone
       by_fate (IsMoved old session takes left had has same live opens) =
-          moves bytes old session none takes (HisSessionIsOver left) had has live opens
+          moves bytes old session none takes (HisSessionIsOver left) had has live (ap (λ (x : Lists). lets_in x session.mount old.pair) f.lists ∙ opens)
           (apart_sessions w s id old session had (f.live session.mount session live)
           (by_name old.mount session.mount
           (λ here. let gone : session_of now.house.live session.mount ≡ None = ap (session_of now.house.live) (sym here) ∙ left in cc)
@@ -187,7 +187,7 @@ module _ (w : World) (s : IsSound w) (id : ℕ) where
     by_fate (IsMoved old session carries left had has same live opens) = absurd carries
 
   -- a source, or a relay, comes up: he rests where he is, or comes home
-  module _ (event : Event) (mount : List ℕ) (house : House) (settings : house.settings ≡ w.house.settings) (lists : house.lists ≡ w.house.lists)
+  module _ (event : Event) (mount : List ℕ) (house : House) (settings : house.settings ≡ w.house.settings)
       (sound_then : IsSound (record w { house = house })) (coming : ComesUpOn event mount)
       (brings : (options_for w.house.settings mount).listeners.fallback_override ≡ true → Brings w event (Up mount) (record w { house = house }))
       (bytes : List ℕ) (none : bytes ≡ []) where
@@ -207,7 +207,7 @@ module _ (w : World) (s : IsSound w) (id : ℕ) where
         moves come_up event bytes old session none takes.0
         (HeIsCalledHome (subst (λ (m : List ℕ). ComesUpOn event m) (sym takes.1) coming) left.1
         (ap (λ (m : List ℕ). (options_for w.house.settings m).listeners.fallback_override) takes.1 ∙ takes.2)) had has live
-        (ap (λ (x : Lists). lets_in x session.mount old.pair) (sym lists) ∙ opens)
+        (ap (λ (h : House). lets_in h.lists session.mount old.pair) (house_called up mount) ∙ opens)
         (apart_sessions up sound_then id old session had (ap (λ (h : House). session_of h.live session.mount) (sym (house_called up mount)) ∙ live) left.0)
 
     comes_up : Turn w come_up event id mine bytes (seat_of come_up.seats id)
@@ -239,7 +239,7 @@ module _ (w : World) (s : IsSound w) (id : ℕ) where
     by_fate (HasStopped mount why feeding done gone over) = absurd why
     by_fate (IsMoved old session takes left had has same live opens) =
         moves later event bytes old session none takes left.0 (sym (did.seats id) ∙ had) has live
-        (ap (λ (x : Lists). lets_in x session.mount old.pair) (sym did.lists) ∙ opens)
+        (ap (λ (x : Lists). lets_in x session.mount old.pair) did.fates.lists ∙ opens)
         (apart_sessions did.base did.sound id old session had (did.fates.live session.mount session live) left.1)
 
   -- a client leaves, or a relay goes down
@@ -261,11 +261,11 @@ module _ (w : World) (s : IsSound w) (id : ℕ) where
       stays (changed w o.change) event (of_client event id []) mine (nothing_of event id [] refl) refl
   step_by event o (IsAdmitted peer allowed) = stays (changed w o.change) event [] mine refl refl
   step_by event o (Begins asked undecided none allowed) =
-      comes_up event asked.mount (begun w.house asked.id asked.mount (shown_for w.house asked.mount asked.shown)) refl refl
+      comes_up event asked.mount (begun w.house asked.id asked.mount (shown_for w.house asked.mount asked.shown)) refl
       (sound_just_begun w s asked.id asked.mount (shown_for w.house asked.mount asked.shown) undecided.0 undecided.1 none) (ASource asked)
       (λ calls. ByComingUp asked undecided.0 undecided.1 allowed calls) (of_client event id []) (nothing_of event id [] refl)
   step_by event o (ComesUp mount shown none allowed) =
-      comes_up event mount (raised w.house (w.house.last_id + 1) mount (shown_for w.house mount shown)) refl refl
+      comes_up event mount (raised w.house (w.house.last_id + 1) mount (shown_for w.house mount shown)) refl
       (sound_just_raised w s mount (shown_for w.house mount shown) none) (ARelay mount shown)
       (λ calls. ByRelayUp mount shown allowed calls) [] refl
   step_by event o (Receives him mount block feeding) = lags him mount block feeding (of_client event id []) (nothing_of event id [] refl)

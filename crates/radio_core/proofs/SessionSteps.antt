@@ -20,12 +20,12 @@ use Rattle.radio_house.specs.House.{House}
 use Rattle.radio_core.specs.Changes.{answered, changed, called_home, session_ended, session_killed, ticked}
 use Rattle.radio_house.specs.HouseChanges.{begun, raised}
 use Rattle.radio_core.specs.Moves.{TakesTo}
-use Rattle.radio_core.specs.Finishes.{Cause, SessionIsOver, IsFarBehind, HasSatOut, HasAskedNothing, HasSentNothing, IsKilled, HisSessionIsKilled}
+use Rattle.radio_core.specs.Finishes.{Cause, SessionIsOver, IsFarBehind, HasSatOut, HasAskedNothing, HasSentNothing, IsKilled, HisSessionIsKilled, IsNotAccepted}
 use Rattle.radio_parts.specs.Sessions.{Session, session_of, opened, with_session, titled, without_session}
 use Rattle.radio_core.specs.SessionSteps.{IsShownAs, OfTheSettings, OfTheSource, HasBegun, SessionStep, Stays, Begins as ItBegins, BeginsForRelay, Grows, IsTitled}
 use Rattle.radio_core.specs.SessionSteps.{Ends as ItEnds, IsRetitled, IsKilled as ItIsKilled, SessionsStep, KeepsSettings}
 use Rattle.radio_events.specs.declared.command.Command.{Command}
-use Rattle.radio_events.specs.declared.command.Command.TheVariants.{MoveClients, KillClient, KillSource, SetTitle as SetTitleOf, SetFallback}
+use Rattle.radio_events.specs.declared.command.Command.TheVariants.{MoveClients, KillClient, KillSource, SetTitle as SetTitleOf, SetFallback, AddUser, DeleteUser}
 use Rattle.radio_core.specs.Allowed.{IsCommanded}
 use Rattle.radio_core.specs.Sound.{IsSound}
 use Rattle.radio_house.specs.Streams.{shown_for}
@@ -35,7 +35,7 @@ use Rattle.radio_core.specs.Ways.{EndsAndLeaves, Leaves, GoesDown, Obeys, Shows,
 use Rattle.radio_house.specs.World.{World, standing_of, standing_in}
 use Rattle.radio_core.proofs.CalledHome.{house_called}
 use Rattle.radio_core.proofs.Fates.{Fate, GoesOn, IsEnded, HasStopped, IsMoved, HasEnded, Nobody}
-use Rattle.radio_core.proofs.CommandLemmas.{obeyed_keeps}
+use Rattle.radio_core.proofs.KeptSeats.{settings_stay}
 use Rattle.radio_core.proofs.Obeyed.{title_live as command_finds}
 use Rattle.radio_parts.proofs.SessionLookups.{found_named, is_new_session, beside_begun, is_longer, beside_fed, is_titled, beside_titled, is_over, beside_ended}
 use Rattle.radio_core.proofs.TickLemmas.{asking_at, ticked_fates}
@@ -169,6 +169,8 @@ module _ (w : World) (s : IsSound w) (mount : List ℕ) where
   obeys event (KillSource named) c = is_killed event named c (session_of w.house.live named) refl
   obeys event (SetTitleOf named text) c = title_live event named text c (session_of w.house.live named) refl
   obeys event (SetFallback named fallback) c = Stays mine
+  obeys event (AddUser named user password) c = Stays mine
+  obeys event (DeleteUser named user) c = Stays mine
 
   -- at a moment: it stays, or its source was silent
   module _ (ms : ℕ) where
@@ -184,6 +186,10 @@ module _ (w : World) (s : IsSound w) (mount : List ℕ) where
     is_silenced session here (IsFarBehind him block seat e feeds has behind) gone = cc
     is_silenced session here (IsKilled seat has named) gone = let e = named.is_event in cc
     is_silenced session here (HisSessionIsKilled other feeds live named) gone = let e = named.is_event in cc
+    is_silenced session here (IsNotAccepted seat has changes out) gone =
+        let sat : standing_of w session.number ≡ Sits = s.sitting session.number seat has in
+        let feeds : standing_of w session.number ≡ Feeds mount = s.fed mount session here in
+        cc
     is_silenced session here (HasSatOut moment seat e has out) gone =
         let sat : standing_of w session.number ≡ Sits = s.sitting session.number seat has in
         let feeds : standing_of w session.number ≡ Feeds mount = s.fed mount session here in
@@ -259,33 +265,6 @@ pub sessions_step : (w : World) → IsSound w → (event : Event) → SessionsSt
 unfolding world_after
 sessions_step w s event mount = step_by w s mount event (outcome w event) (way_of w event)
 
-module _ (w : World) (s : IsSound w) where
-  keeps_by : (event : Event) (o : Outcome) → Way w event o
-      → ((changed w o.change).house.settings ≡ w.house.settings) × ((changed w o.change).house.lists ≡ w.house.lists)
-  keeps_by event o (Ticks ms e) = ((ticked_fates w s ms).settings, (ticked_fates w s ms).lists)
-  keeps_by event o (Misplaced _) = (refl, refl)
-  keeps_by event o (IsFinished _ him by its known) = (refl, refl)
-  keeps_by event o (IsDenied _ by v nobody) = (refl, refl)
-  keeps_by event o (IsRefused _ him by v its undecided) = (refl, refl)
-  keeps_by event o (IsAdmitted peer allowed) = (refl, refl)
-  keeps_by event o (Begins asked undecided none allowed) =
-      let same = house_called (record w { house = begun w.house asked.id asked.mount (shown_for w.house asked.mount asked.shown) }) asked.mount in
-      (ap (λ (h : House). h.settings) same, ap (λ (h : House). h.lists) same)
-  keeps_by event o (ComesUp there shown none allowed) =
-      let same = house_called (record w { house = raised w.house (w.house.last_id + 1) there (shown_for w.house there shown) }) there in
-      (ap (λ (h : House). h.settings) same, ap (λ (h : House). h.lists) same)
-  keeps_by event o (Receives him fed block feeding) = (refl, refl)
-  keeps_by event o (SetsTitle him fed text feeding) = (refl, refl)
-  keeps_by event o (TakesSeat asked peer session undecided lands live allowed) = (refl, refl)
-  keeps_by event o (HandsOut him room seat session sits has live) = (refl, refl)
-  keeps_by event o (Ends him fed feeding no_relay) = (refl, refl)
-  keeps_by event o (EndsAndLeaves _ him fed closes feeding) = (refl, refl)
-  keeps_by event o (Leaves him no_relay other) = (refl, refl)
-  keeps_by event o (GoesDown him rule relay told) = (refl, refl)
-  keeps_by event o (Shows _ asker peer text its undecided what) = (refl, refl)
-  keeps_by event o (Obeys _ command c) = obeyed_keeps w c.asked.id command
-  keeps_by event o (HasPassed ms e) = (refl, refl)
-
-  pub keeps_settings : (event : Event) → KeepsSettings w event
-  unfolding world_after
-  keeps_settings event = let kept = keeps_by event (outcome w event) (way_of w event) in record { settings = kept.0; lists = kept.1 }
+pub keeps_settings : (w : World) → IsSound w → (event : Event) → KeepsSettings w event
+unfolding world_after
+keeps_settings w s event = settings_stay w s.by_number event

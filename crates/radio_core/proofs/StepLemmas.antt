@@ -18,7 +18,7 @@ use Rattle.radio_core.specs.Changes.{changed}
 use Rattle.radio_parts.specs.Kept.{first_start}
 use Rattle.radio_core.specs.KeptChanges.{kept_changed}
 use Rattle.radio_core.specs.Counts.{counted}
-use Rattle.radio_core.specs.Planned.{with_count, uncounted, planned}
+use Rattle.radio_core.specs.Planned.{with_counts, uncounted, planned}
 use Rattle.radio_parts.specs.Sessions.{Session, session_of}
 use Rattle.radio_core.specs.Step.{outcome, reply_to, world_after, Step, Represents, StandsForSome, NeedsNoMemory}
 use Rattle.radio_events.specs.Events.{TakesNoMemory}
@@ -124,15 +124,15 @@ seat_sits now stands id seat has =
 
 -- an outcome that was worked out and committed is a step, from whatever state the core stood for
 module _ (now later : World) (event : Event) (o : Outcome) (is_planned : o ≡ planned now event) where
-  -- the reply, with the number of those who were moved
+  -- the reply, with the number of those who were moved, or have finished
   abbrev told_reply : Reply
-  told_reply = with_count o.reply (counted now o.change).moved
+  told_reply = with_counts o.reply (counted now o.change)
 
   is_uncounted : o ≡ uncounted (outcome now event)
   is_uncounted = is_planned ∙ planned_so now event
 
   is_told : told_reply ≡ (outcome now event).reply
-  is_told = ap (λ (x : Outcome). with_count x.reply (counted now x.change).moved) is_uncounted ∙ completed_so now event
+  is_told = ap (λ (x : Outcome). with_counts x.reply (counted now x.change)) is_uncounted ∙ completed_so now event
 
   steps_to : later ≡ kept_changed now o.change → (w : World) → Represents now w → (w' : World) × Step w event told_reply w' × Represents later w'
   unfolding Represents reply_to world_after

@@ -1,20 +1,21 @@
 -- What each change makes of the state.
 use Rattle.std.specs.Prelude.{ℕ, if◌then◌else◌, List, Option, None, Some, filter, fold}
 use Rattle.radio_policy.specs.declared.rule.Rule.{Rule}
-use Rattle.radio_policy.specs.declared.rule.Rule.TheVariants.{Lagged, TimeOver, SourceSilent, Killed, SourceKilled}
+use Rattle.radio_policy.specs.declared.rule.Rule.TheVariants.{Lagged, TimeOver, SourceSilent, Killed, SourceKilled, ListenerPassword}
 use Rattle.radio_settings.specs.Options.{options_for}
 use Rattle.radio_fallback.specs.declared.moves.Move.{Move}
 use Rattle.radio_fallback.specs.declared.moves.Move.TheVariants.{Ended as HasEnded, Up, To}
 use Rattle.radio_fallback.specs.Carry.{carried}
 use Rattle.radio_events.specs.declared.command.Command.{Command}
-use Rattle.radio_events.specs.declared.command.Command.TheVariants.{MoveClients, KillClient, KillSource, SetTitle as NewTitle, SetFallback}
+use Rattle.radio_events.specs.declared.command.Command.TheVariants.{MoveClients, KillClient, KillSource, SetTitle as NewTitle, SetFallback, AddUser, DeleteUser}
 use Rattle.radio_house.specs.declared.clients.ClientState.TheVariants.{Listens, Answered}
 use Rattle.radio_core.specs.declared.outcome.Change.{Change}
 use Rattle.radio_core.specs.declared.outcome.Change.TheVariants.{Nothing, Answer, Admit, Begin, Raise, Receive, SetTitle, TakeSeat, Advance, End}
 use Rattle.radio_core.specs.declared.outcome.Change.TheVariants.{EndAndLeave, Forget, Tick, Obey}
 use Rattle.radio_house.specs.Clients.{without_client}
 use Rattle.radio_house.specs.Relays.{without_relay}
-use Rattle.radio_house.specs.HouseChanges.{now_in_state, admitted, begun, raised, finished_in, received, retitled, falling_back, timed_out_by}
+use Rattle.radio_house.specs.HouseChanges.{now_in_state, admitted, begun, raised, finished_in, received, retitled, falling_back, timed_out_by, with_user, without_user}
+use Rattle.radio_house.specs.Outsiders.{is_shut_out}
 use Rattle.radio_parts.specs.Sessions.{Session, session_of, without_session}
 use Rattle.radio_seats.specs.Seats.{with_seat, with_place, with_end, with_ended, without_listener}
 use Rattle.radio_house.specs.Facts.{live_end, sight_of}
@@ -81,6 +82,18 @@ abbrev pub session_killed : World → Option Session → World
 session_killed w None = w
 session_killed w (Some session) = session_ended_by SourceKilled w session
 
+-- those have lost their seats at the mount whom its users do not let in
+abbrev pub outsiders_ended : World → List ℕ → World
+outsiders_ended w mount = record w { seats = with_ended w.seats (is_shut_out w.house.lists mount) ListenerPassword }
+
+-- the users of the mount let this one in with this password, and nobody has lost his seat yet
+abbrev pub user_added : World → List ℕ → List ℕ → List ℕ → World
+user_added w mount user password = record w { house = with_user w.house mount user password }
+
+-- the users of the mount do not let this one in, and nobody has lost his seat yet
+abbrev pub user_deleted : World → List ℕ → List ℕ → World
+user_deleted w mount user = record w { house = without_user w.house mount user }
+
 -- what a command does
 abbrev pub done : World → Command → World
 done w (MoveClients mount destination) = carried_along w (To mount destination)
@@ -88,10 +101,13 @@ done w (KillClient mount listener) = record w { seats = with_end w.seats listene
 done w (KillSource mount) = session_killed w (session_of w.house.live mount)
 done w (NewTitle mount title) = record w { house = retitled w.house mount title }
 done w (SetFallback mount fallback) = record w { house = falling_back w.house mount fallback }
+done w (AddUser mount user password) = outsiders_ended (user_added w mount user password) mount
+done w (DeleteUser mount user) = outsiders_ended (user_deleted w mount user) mount
 
--- all but the setting of a fallback takes no memory
+-- all but the setting of a fallback and of a user takes no memory
 abbrev pub TakesNoRoom : Command → Type 0
 TakesNoRoom (SetFallback mount fallback) = ⊥
+TakesNoRoom (AddUser mount user password) = ⊥
 TakesNoRoom command = Unit {0}
 
 -- the client has had his answer

@@ -4,12 +4,12 @@ use Rattle.radio_fallback.specs.declared.moves.Carried.{Carried}
 use Rattle.radio_events.specs.declared.command.Asked.{Asked}
 use Rattle.radio_events.specs.declared.command.Asked.TheVariants.{Listing as AsksFor, Command as Asks}
 use Rattle.radio_events.specs.declared.command.Command.{Command as TheCommand}
-use Rattle.radio_events.specs.declared.command.Command.TheVariants.{MoveClients}
+use Rattle.radio_events.specs.declared.command.Command.TheVariants.{MoveClients, AddUser, DeleteUser}
 use Rattle.radio_events.specs.declared.command.CommandRequest.{CommandRequest}
 use Rattle.radio_events.specs.declared.command.Listing.{Listing}
 use Rattle.radio_events.specs.declared.reply.Reply.TheVariants.{Text as SaysText, Stray}
 use Rattle.radio_events.specs.declared.text.Text.{Text}
-use Rattle.radio_events.specs.declared.text.Text.TheVariants.{Done, Moved}
+use Rattle.radio_events.specs.declared.text.Text.TheVariants.{Done, Moved, Ended}
 use Rattle.radio_core.specs.declared.outcome.Change.TheVariants.{Nothing, Answer, Obey}
 use Rattle.radio_core.specs.declared.outcome.Outcome.{Outcome}
 use Rattle.radio_house.specs.CommandFacts.{rows_to_command}
@@ -18,9 +18,11 @@ use Rattle.radio_house.specs.Listings.{shown}
 use Rattle.radio_house.specs.World.{World, standing_of}
 use Rattle.radio_core.specs.Outcomes.{says, on_verdict, if_undecided}
 
--- what is said of a command that was done: how many it has moved, or that it was done
+-- what is said of a command that was done: how many it has moved, how many have finished since it changed the users of their mount, or that it was done
 abbrev pub said_of : TheCommand → Carried → Text
 said_of (MoveClients mount destination) counts = Moved counts.moved
+said_of (AddUser mount user password) counts = Ended counts.ended
+said_of (DeleteUser mount user) counts = Ended counts.ended
 said_of command counts = Done
 
 -- the command is done, and the client who gave it has had his answer

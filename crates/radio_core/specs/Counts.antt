@@ -6,11 +6,13 @@ use Rattle.radio_fallback.specs.declared.moves.Move.{Move}
 use Rattle.radio_fallback.specs.declared.moves.Move.TheVariants.{Ended as HasEnded, Up, To}
 use Rattle.radio_fallback.specs.Carry.{carried}
 use Rattle.radio_events.specs.declared.command.Command.{Command}
-use Rattle.radio_events.specs.declared.command.Command.TheVariants.{MoveClients}
+use Rattle.radio_events.specs.declared.command.Command.TheVariants.{MoveClients, AddUser, DeleteUser}
 use Rattle.radio_core.specs.declared.outcome.Change.{Change}
 use Rattle.radio_core.specs.declared.outcome.Change.TheVariants.{Begin, Raise, End, EndAndLeave, Obey}
 use Rattle.radio_house.specs.HouseChanges.{begun, raised}
-use Rattle.radio_core.specs.Changes.{session_over}
+use Rattle.radio_core.specs.Changes.{session_over, user_added, user_deleted}
+use Rattle.radio_house.specs.Outsiders.{is_shut_out}
+use Rattle.radio_seats.specs.Rests.{how_many}
 use Rattle.radio_house.specs.Facts.{sight_of}
 use Rattle.radio_house.specs.World.{World}
 
@@ -29,9 +31,15 @@ counts_ended w mount = counts_along (session_over w mount) (HasEnded mount)
 abbrev pub counts_home : World → List ℕ → Carried
 counts_home w mount = (if (options_for w.house.settings mount).listeners.fallback_override then counts_along w (Up mount) else nobody)
 
--- how many a command moves; what else it brings is told to nobody and not counted
+-- how many sit at the mount whom its users do not let in
+abbrev pub counts_out : World → List ℕ → Carried
+counts_out w mount = record { moved = 0; ended = how_many (is_shut_out w.house.lists mount) w.seats }
+
+-- how many a command moves, or finishes since the users of their mount have changed; what else it brings is told to nobody and not counted
 abbrev pub counts_by : World → Command → Carried
 counts_by w (MoveClients mount destination) = counts_along w (To mount destination)
+counts_by w (AddUser mount user password) = counts_out (user_added w mount user password) mount
+counts_by w (DeleteUser mount user) = counts_out (user_deleted w mount user) mount
 counts_by w command = nobody
 
 -- how many the move shifts and finishes that the change is, or brings; the moves of a clock, of which there may be several, are told to nobody and not

@@ -1,12 +1,13 @@
-use Rattle.std.specs.Prelude.{◌≡◌, ℕ, true, Some, None, List}
+use Rattle.std.specs.Prelude.{◌≡◌, ℕ, true, false, Some, None, List}
 use Rattle.radio_policy.specs.declared.rule.Rule.{Rule}
-use Rattle.radio_policy.specs.declared.rule.Rule.TheVariants.{Lagged, TimeOver, HeaderTimeout, SourceSilent, Killed, SourceKilled}
+use Rattle.radio_policy.specs.declared.rule.Rule.TheVariants.{Lagged, TimeOver, HeaderTimeout, SourceSilent, Killed, SourceKilled, ListenerPassword}
 use Rattle.radio_events.specs.declared.event.Event.{Event}
 use Rattle.radio_events.specs.declared.event.Event.TheVariants.{Push, Clock}
 use Rattle.radio_house.specs.declared.standing.Standing.TheVariants.{Feeds, Finished as HasFinished}
 use Rattle.radio_seats.specs.declared.seat.Seat.{Seat}
 use Rattle.radio_events.specs.declared.command.Command.TheVariants.{KillClient, KillSource}
-use Rattle.radio_core.specs.Allowed.{IsCommanded}
+use Rattle.radio_access.specs.Lists.{lets_in}
+use Rattle.radio_core.specs.Allowed.{IsCommanded, ChangesUsers}
 use Rattle.radio_house.specs.Clients.{Client, client_of}
 use Rattle.radio_house.specs.Facts.{live_end}
 use Rattle.radio_core.specs.Moves.{LeavesOut}
@@ -36,6 +37,9 @@ pub data Cause (w later : World) (event : Event) (id : ℕ) : Rule → Type 0 wh
       → Cause w later event id SourceSilent
   -- a command names him, and the mount where he sits
   IsKilled : (seat : Seat) → seat_of w.seats id ≡ Some seat → IsCommanded w event (KillClient seat.mount id) → Cause w later event id Killed
+  -- a command changes the users of the mount where he sits, and they do not let him in then
+  IsNotAccepted : (seat : Seat) → seat_of w.seats id ≡ Some seat → ChangesUsers w event seat.mount
+      → lets_in later.house.lists seat.mount seat.pair ≡ false → Cause w later event id ListenerPassword
   -- a command ends the session that he feeds
   HisSessionIsKilled : (session : Session) → standing_of w id ≡ Feeds session.mount → session_of w.house.live session.mount ≡ Some session
       → IsCommanded w event (KillSource session.mount) → Cause w later event id SourceKilled

@@ -26,6 +26,7 @@ pub mod Lagging
 pub mod StandsFor
 pub mod Step
 pub mod SessionSteps
+pub mod ListsSteps
 pub mod SeatSteps
 pub mod ClientSteps
 pub mod Run

@@ -1,28 +1,30 @@
--- What is worked out of an event before its change is made: a reply that tells how many were moved is completed then.
-use Rattle.std.specs.Prelude.{ℕ}
+-- What is worked out of an event before its change is made: a reply that tells how many were moved, or have finished, is completed then.
 use Rattle.radio_events.specs.declared.event.Event.{Event}
 use Rattle.radio_events.specs.declared.event.Event.TheVariants.{Command}
 use Rattle.radio_events.specs.declared.reply.Reply.{Reply}
 use Rattle.radio_events.specs.declared.reply.Reply.TheVariants.{Text as SaysText}
 use Rattle.radio_events.specs.declared.text.Text.{Text}
-use Rattle.radio_events.specs.declared.text.Text.TheVariants.{Moved}
+use Rattle.radio_events.specs.declared.text.Text.TheVariants.{Moved, Ended}
 use Rattle.radio_core.specs.declared.outcome.Outcome.{Outcome}
+use Rattle.radio_fallback.specs.declared.moves.Carried.{Carried}
 use Rattle.radio_core.specs.Command.{gives_command}
+use Rattle.radio_core.specs.Counts.{nobody}
 use Rattle.radio_core.specs.Step.{outcome}
 use Rattle.radio_house.specs.World.{World}
 
-abbrev pub told_moved : Text → ℕ → Text
-told_moved (Moved other) count = Moved count
-told_moved text count = text
+abbrev pub told_counts : Text → Carried → Text
+told_counts (Moved other) counts = Moved counts.moved
+told_counts (Ended other) counts = Ended counts.ended
+told_counts text counts = text
 
--- the reply, with this for the number of those who were moved, if it tells it
-abbrev pub with_count : Reply → ℕ → Reply
-with_count (SaysText text) count = SaysText (told_moved text count)
-with_count reply count = reply
+-- the reply, with these for the number of those who were moved, or have finished, if it tells one
+abbrev pub with_counts : Reply → Carried → Reply
+with_counts (SaysText text) counts = SaysText (told_counts text counts)
+with_counts reply counts = reply
 
 -- the outcome, with no number in the reply yet
 abbrev pub uncounted : Outcome → Outcome
-uncounted o = record o { reply = with_count o.reply 0 }
+uncounted o = record o { reply = with_counts o.reply nobody }
 
 -- what is worked out beforehand
 unfoldable pub planned : World → Event → Outcome

@@ -56,7 +56,7 @@ pub data SeatStep (w : World) (Cause : Rule → Type 0) (event : Event) (id : �
       → SeatStep w Cause event id None [] (Some (first_seat w.house asked peer session))
   -- a move that the event brings takes him, at his turn, to the end of the stream of another mount, which is live and lets him in
   IsMoved : (seat : Seat) (session : Session) → TakesTo w event id session.mount → IsSent w (world_after w event) event seat session.mount
-      → session_of (world_after w event).house.live session.mount ≡ Some session → lets_in w.house.lists session.mount seat.pair ≡ true
+      → session_of (world_after w event).house.live session.mount ≡ Some session → lets_in (world_after w event).house.lists session.mount seat.pair ≡ true
       → (seat.session == session.number) ≡ false → SeatStep w Cause event id (Some seat) [] (Some (moved_into session seat))
   -- he leaves
   Leaves : (seat : Seat) → event ≡ Leave id → SeatStep w Cause event id (Some seat) [] None

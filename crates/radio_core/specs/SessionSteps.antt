@@ -59,7 +59,6 @@ pub data SessionStep (w : World) (event : Event) (mount : List ℕ) : Option Ses
 abbrev pub SessionsStep : World → Event → Type 0
 SessionsStep w event = (mount : List ℕ) → SessionStep w event mount (session_of w.house.live mount) (session_of (world_after w event).house.live mount)
 
--- no event changes the settings or what the files hold that they name
-pub record KeepsSettings (w : World) (event : Event) : Type 0 where
-  pub settings : (world_after w event).house.settings ≡ w.house.settings
-  pub lists : (world_after w event).house.lists ≡ w.house.lists
+-- no event changes the settings
+abbrev pub KeepsSettings : World → Event → Type 0
+KeepsSettings w event = (world_after w event).house.settings ≡ w.house.settings

@@ -8,6 +8,7 @@ ghost use Rattle.radio_events.specs.declared.event.Event.{Event};
 ghost use Rattle.radio_core.specs.Run.{run_after};
 ghost use Rattle.radio_core.specs.Lagging.{NobodyLags};
 ghost use Rattle.radio_core.specs.SessionSteps.{SessionsStep, KeepsSettings};
+ghost use Rattle.radio_core.specs.ListsSteps.{ListsAreStepped};
 ghost use Rattle.radio_core.specs.SeatSteps.{SeatsStep};
 ghost use Rattle.radio_core.specs.ClientSteps.{ClientsStep, ArrivalsStay};
 ghost use Rattle.radio_core.specs.Others.{OthersStandOn, RepliesFit, LosesNoSeatElse};
@@ -21,8 +22,15 @@ pub fn sessions_are_their_sources()
     // that asked for the mount, shows what the settings and that source say, and ends only with its
     // source, when that was silent, or by a command
     ensures steps { (settings : Settings) (lists : Lists) (events : List Event) (event : Event) → SessionsStep (run_after settings lists events) event }
-    // and no event changes the settings, or the lists of who is let in
+    // and no event changes the settings
     ensures settings { (settings : Settings) (lists : Lists) (events : List Event) (event : Event) → KeepsSettings (run_after settings lists events) event }
+{}
+
+/// The law of lists.
+pub fn lists_are_their_commands()
+    // whatever has happened, the lists of who is let in stay as they are, but where a command sets a user of a mount, or
+    // takes one away, as the policy allows
+    ensures steps { (settings : Settings) (lists : Lists) (events : List Event) (event : Event) → ListsAreStepped (run_after settings lists events) event }
 {}
 
 /// The law of seats.

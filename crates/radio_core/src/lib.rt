@@ -19,7 +19,7 @@ mod totals;
 
 pub use laws::{
     clients_stand_by_their_events, cores_go_by_their_states, events_are_of_their_clients,
-    nobody_lags, seats_are_their_listeners, sessions_are_their_sources,
+    lists_are_their_commands, nobody_lags, seats_are_their_listeners, sessions_are_their_sources,
     sources_are_told_by_their_data,
 };
 pub use outcome::{Change, Outcome};

@@ -35,6 +35,7 @@ mod telling;
 mod tick;
 mod timed_state;
 mod title;
+mod users;
 
 /// The server's state, seen as a `World` in which of each stream the last blocks are kept. There is
 /// always a state of a server that keeps whole streams for which it stands.

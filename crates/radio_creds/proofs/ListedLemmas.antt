@@ -1,5 +1,5 @@
 -- A map of users as the tree that holds it.
-use Rattle.std.proofs.Common.{◌≡◌, ℕ, Bool, true, false, cond, List, [], ◌∷◌, Option, Some, refl, sym, ap, subst, ◌∙◌}
+use Rattle.std.proofs.Common.{◌≡◌, ℕ, Bool, true, false, cond, List, [], ◌∷◌, Option, None, Some, refl, sym, ap, subst, ◌∙◌}
 use Rattle.std.specs.declared.cmp.Ordering.{Ordering}
 use Rattle.std.specs.declared.cmp.Ordering.TheVariants.{Less, Equal, Greater}
 use Rattle.std.proofs.lemmas.Bool.{false≢true}
@@ -7,9 +7,9 @@ use Rattle.std.specs.Cmp.{tied_itself}
 use Rattle.std.specs.Ordering.{nat_cmp, is_eq, match_ordering}
 use Rattle.std.specs.Cmp.Lexicographic.{slice_cmp, nat_list_cmp_total}
 use Rattle.std.specs.BTreeMap.{is_at, insert_entry}
-use Rattle.std.specs.Map.{lookup}
+use Rattle.std.specs.Map.{lookup, remove_entry}
 use Rattle.std.specs.FinMap as finite
-use Rattle.std.specs.FinMap.{get-from_entries, get-insert, find, same_map, nat_cmp-IsAntisymmetric, slice_cmp-IsAntisymmetric}
+use Rattle.std.specs.FinMap.{get-from_entries, get-insert, get-remove, find, same_map, nat_cmp-IsAntisymmetric, slice_cmp-IsAntisymmetric}
 use Rattle.radio_creds.specs.UserList.{listed, UserList, with_line}
 
 abbrev pub order : List ℕ → List ℕ → Ordering
@@ -79,6 +79,40 @@ module _ {K : Type 0} (read : K → List ℕ) where
   listed-inserted k v entries =
       same_map nat_list_cmp_total same_user _ _ (λ q. get-from_entries nat_list_cmp_total _ q ∙ find-inserted q k v entries
       ∙ sym (get-insert nat_list_cmp_total _ (read k) v q ∙ ap (cond (is_eq (order q (read k))) (Some v)) (get-from_entries nat_list_cmp_total _ q)))
+
+  -- a user who is taken out of the tree, and what is found of others then
+  passed_over : (q user : List ℕ) → is_eq (order q user) ≡ false → (e : K × List ℕ) (es : List (K × List ℕ)) (b : Bool) → is_eq (order user (read e.0)) ≡ b
+      → find order q (listed read (remove_entry (is_at (λ key. order user (read key))) es)) ≡ find order q (listed read es)
+      → find order q (listed read (cond b es (e ∷ remove_entry (is_at (λ key. order user (read key))) es))) ≡ find order q (listed read (e ∷ es))
+  passed_over q user other e es true h later =
+      let same : user ≡ read e.0 = same_user user (read e.0) (equal _ h) in
+      let passed : is_eq (order q (read e.0)) ≡ false = ap (λ (x : List ℕ). is_eq (order q x)) (sym same) ∙ other in
+      sym (ap (λ b. cond b (Some e.1) (find order q (listed read es))) passed)
+  passed_over q user other e es false h later = ap (cond (is_eq (order q (read e.0))) (Some e.1)) later
+
+  find-removed : (q user : List ℕ) → is_eq (order q user) ≡ false → (entries : List (K × List ℕ))
+      → find order q (listed read (remove_entry (is_at (λ key. order user (read key))) entries)) ≡ find order q (listed read entries)
+  find-removed q user other [] = refl
+  find-removed q user other (e ∷ es) = passed_over q user other e es (is_eq (order user (read e.0))) refl (find-removed q user other es)
+
+  -- an entry less in the tree is a user less in the map
+  pub listed-removed : (user : List ℕ) (entries : List (K × List ℕ))
+      → lookup (is_at (λ key. order user (read key))) (remove_entry (is_at (λ key. order user (read key))) entries) ≡ None
+      → finite.from_entries {R = slice_cmp nat_cmp} (listed read (remove_entry (is_at (λ key. order user (read key))) entries))
+      ≡ finite.remove (finite.from_entries (listed read entries)) user
+  listed-removed user entries none =
+      same_map nat_list_cmp_total same_user _ _ (λ q. by_user q (is_eq (order q user)) refl ∙ sym (get-remove nat_list_cmp_total _ user q)) where
+        by_user : (q : List ℕ) (b : Bool) → is_eq (order q user) ≡ b
+            → finite.get (finite.from_entries {R = slice_cmp nat_cmp} (listed read (remove_entry (is_at (λ key. order user (read key))) entries))) q
+            ≡ cond (is_eq (order q user)) None (finite.get (finite.from_entries {R = slice_cmp nat_cmp} (listed read entries)) q)
+        by_user q true h =
+            let same : q ≡ user = same_user q user (equal _ h) in
+            get-listed q (remove_entry (is_at (λ key. order user (read key))) entries)
+            ∙ ap (λ (x : List ℕ). lookup (is_at (λ key. order x (read key))) (remove_entry (is_at (λ key. order user (read key))) entries)) same
+            ∙ none ∙ sym (ap (λ b. cond b None (finite.get (finite.from_entries {R = slice_cmp nat_cmp} (listed read entries)) q)) h)
+        by_user q false h =
+            get-from_entries nat_list_cmp_total _ q ∙ find-removed q user h entries ∙ sym (get-from_entries nat_list_cmp_total _ q)
+            ∙ sym (ap (λ b. cond b None (finite.get (finite.from_entries {R = slice_cmp nat_cmp} (listed read entries)) q)) h)
 
 -- a line of a user who is not listed adds him
 pub with_new_line : (users : UserList) (line : Option (List ℕ × List ℕ)) (user digest : List ℕ)

@@ -44,6 +44,14 @@ with_line users (Some line) =
 abbrev pub users_of : List ℕ → UserList
 users_of text = map.from_entries (user_lines text)
 
+-- the user is listed with the digest of this password, and no more as he was
+abbrev pub with_user : UserList → List ℕ → List ℕ → UserList
+with_user users user password = map.insert users user (md5 password)
+
+-- the user is not listed any more
+abbrev pub without_user : UserList → List ℕ → UserList
+without_user users user = map.remove users user
+
 -- the pair's user is listed with the MD5 digest of the pair's password
 abbrev pub Accepts : UserList → Credentials → Type 0
 Accepts users pair = map.get users pair.user ≡ Some (md5 pair.password)

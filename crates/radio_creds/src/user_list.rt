@@ -1,9 +1,9 @@
 //! User lists.
-ghost use Rattle.std.specs.Prelude.{◌≡◌, ◌↔◌, IsTrue, IfOk, OnOk};
+ghost use Rattle.std.specs.Prelude.{◌≡◌, ◌↔◌, IsTrue, IfOk, OnOk, OnErr};
 ghost use Rattle.std.specs.FinMap as finite;
 ghost use Rattle.std.specs.Option.{option_copied};
 ghost use Rattle.radio_creds.specs.UserLine.{user_line};
-ghost use Rattle.radio_creds.specs.UserList.{Accepts, has_user, users_of, with_line};
+ghost use Rattle.radio_creds.specs.UserList.{Accepts, has_user, users_of, with_line, with_user, without_user};
 
 use crate::OutOfMemory;
 use crate::digest::{PasswordDigest, is_same_secret};
@@ -82,6 +82,25 @@ impl Users {
         ensures { result ≡ has_user self.now user.now }
     {
         self.digest_of(user).is_some()
+    }
+
+    /// Lists the user with this password, whatever was listed of him before. `OutOfMemory` where memory was refused;
+    /// nothing has changed then.
+    pub fn set(&mut self, alloc: Global, user: &[u8], password: &[u8]) -> Result<(), OutOfMemory>
+        ensures ok { OnOk result (self.new ≡ with_user self.old user.now password.now) }
+        ensures err { OnErr result (self.new ≡ self.old) }
+    {
+        let user = Vec::from_slice(alloc, user)?;
+        self.digests.insert(user, Md5::digest(password))?;
+        Ok(())
+    }
+
+    /// Lists the user no more. Whether he was listed. It takes no memory.
+    pub fn remove(&mut self, user: &[u8]) -> bool
+        ensures was_listed { result ≡ has_user self.old user.now }
+        ensures without { self.new ≡ without_user self.old user.now }
+    {
+        self.digests.remove(user).is_some()
     }
 
     fn digest_of(&self, user: &[u8]) -> Option<&PasswordDigest>

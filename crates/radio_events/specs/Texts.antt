@@ -1,7 +1,7 @@
 -- What is answered to a command, or to one who is shown something of the station.
 use Rattle.std.specs.Prelude.{ℕ, List, ◌++◌, codes, decimal}
 use Rattle.radio_events.specs.declared.text.Text.{Text}
-use Rattle.radio_events.specs.declared.text.Text.TheVariants.{Done, Moved, Json, Streams, Public, Page}
+use Rattle.radio_events.specs.declared.text.Text.TheVariants.{Done, Moved, Ended, Json, Streams, Public, Page}
 
 -- a line that a command was done
 abbrev pub done_line : List ℕ
@@ -11,10 +11,15 @@ done_line = codes "done\n"
 abbrev pub moved_line : ℕ → List ℕ
 moved_line count = codes "moved: " ++ decimal count ++ codes "\n"
 
+-- a line that tells how many listeners have finished
+abbrev pub ended_line : ℕ → List ℕ
+ended_line count = codes "ended: " ++ decimal count ++ codes "\n"
+
 -- it is neither a listing nor the page
 abbrev pub IsShort : Text → Type 0
 IsShort Done = Unit {0}
 IsShort (Moved count) = Unit {0}
+IsShort (Ended count) = Unit {0}
 IsShort (Json bytes) = ⊥
 IsShort (Streams bytes) = ⊥
 IsShort (Public bytes origin) = ⊥

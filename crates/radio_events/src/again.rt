@@ -137,6 +137,19 @@ fn command_again(command: &Command) -> Result<Command, OutOfMemory>
             mount: *mount,
             fallback: *fallback,
         }),
+        Command::AddUser {
+            mount,
+            user,
+            password,
+        } => Ok(Command::AddUser {
+            mount: *mount,
+            user: user.clone()?,
+            password: password.clone()?,
+        }),
+        Command::DeleteUser { mount, user } => Ok(Command::DeleteUser {
+            mount: *mount,
+            user: user.clone()?,
+        }),
     }
 }
 

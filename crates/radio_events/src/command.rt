@@ -1,5 +1,6 @@
 //! What a client asks for who gives a command, or wants to be shown something of the station.
 
+use bytes::Bytes;
 use radio_creds::Pair;
 use radio_icy::Title;
 use radio_settings::MountName;
@@ -79,5 +80,16 @@ pub enum Command {
     SetFallback {
         mount: MountName,
         fallback: Option<MountName>,
+    },
+    /// The users of the mount let this one in with this password from now on, and no more as they did before.
+    AddUser {
+        mount: MountName,
+        user: Bytes,
+        password: Bytes,
+    },
+    /// The users of the mount let this one in no more.
+    DeleteUser {
+        mount: MountName,
+        user: Bytes,
     },
 }

@@ -13,6 +13,8 @@ mod data;
 mod event;
 mod reply;
 mod same;
+mod same_commands;
+mod same_values;
 mod text;
 
 pub use command::{Asked, Command, CommandRequest, Listing, OpenedBy};

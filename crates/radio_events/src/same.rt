@@ -4,15 +4,14 @@ ghost use Rattle.std.specs.Prelude.{◌≡◌, ◌↔◌, IsTrue};
 ghost use Rattle.radio_events.specs.Events.{TakesNoMemory};
 
 use crate::data::is_same_data;
-use crate::{
-    Asked, Command, CommandRequest, Event, ListenRequest, Listing, OpenedBy, Reply, SourceRequest,
-    StreamHead, Text,
+use crate::same_commands::is_same_request;
+use crate::same_values::{
+    is_same_bytes, is_same_origin, is_same_pair, is_same_peer, is_same_rule, is_same_shown,
+    is_same_title,
 };
+use crate::{CommandRequest, Event, ListenRequest, Reply, SourceRequest, StreamHead, Text};
 use radio_addr::Peer;
-use radio_creds::Pair;
-use radio_icy::Title;
-use radio_policy::Rule;
-use radio_settings::{AllowedOrigin, MountName, Shown};
+use radio_settings::Shown;
 
 impl Event {
     /// Whether the two events are equal.
@@ -185,127 +184,11 @@ fn is_same_listener(a: &ListenRequest, b: &ListenRequest) -> bool
         && is_same_bytes(a.host.as_slice(), b.host.as_slice())
 }
 
-fn is_same_request(a: &CommandRequest, b: &CommandRequest) -> bool
-    ensures { IsTrue result ↔ a.now ≡ b.now }
-{
-    a.id == b.id && is_same_asked(&a.asked, &b.asked) && is_same_pair(&a.pair, &b.pair)
-}
-
-fn is_same_asked(a: &Asked, b: &Asked) -> bool
-    ensures { IsTrue result ↔ a.now ≡ b.now }
-{
-    match (a, b) {
-        (Asked::NoCommand, Asked::NoCommand) => true,
-        (Asked::MissingArgument(a), Asked::MissingArgument(b)) => is_same_opener(a, b),
-        (Asked::Listing(a), Asked::Listing(b)) => is_same_listing(a, b),
-        (Asked::Command(a), Asked::Command(b)) => is_same_command(a, b),
-        _ => false,
-    }
-}
-
-fn is_same_opener(a: &OpenedBy, b: &OpenedBy) -> bool
-    ensures { IsTrue result ↔ a.now ≡ b.now }
-{
-    match (a, b) {
-        (OpenedBy::Admin, OpenedBy::Admin) => true,
-        (OpenedBy::Source(a), OpenedBy::Source(b)) => is_same_mount(a, b),
-        _ => false,
-    }
-}
-
-fn is_same_listing(a: &Listing, b: &Listing) -> bool
-    ensures { IsTrue result ↔ a.now ≡ b.now }
-{
-    match (a, b) {
-        (Listing::Status, Listing::Status) => true,
-        (Listing::Stats, Listing::Stats) => true,
-        (Listing::Mounts, Listing::Mounts) => true,
-        (Listing::Clients(a), Listing::Clients(b)) => is_same_name(a, b),
-        (Listing::Streams, Listing::Streams) => true,
-        _ => false,
-    }
-}
-
-fn is_same_command(a: &Command, b: &Command) -> bool
-    ensures { IsTrue result ↔ a.now ≡ b.now }
-{
-    match (a, b) {
-        (
-            Command::MoveClients {
-                mount: a,
-                destination: x,
-            },
-            Command::MoveClients {
-                mount: b,
-                destination: y,
-            },
-        ) => is_same_name(a, b) && is_same_name(x, y),
-        (
-            Command::KillClient {
-                mount: a,
-                listener: x,
-            },
-            Command::KillClient {
-                mount: b,
-                listener: y,
-            },
-        ) => is_same_name(a, b) && *x == *y,
-        (Command::KillSource { mount: a }, Command::KillSource { mount: b }) => is_same_name(a, b),
-        (Command::SetTitle { mount: a, title: x }, Command::SetTitle { mount: b, title: y }) =>
-            is_same_name(a, b) && is_same_bytes(x.as_slice(), y.as_slice()),
-        (
-            Command::SetFallback {
-                mount: a,
-                fallback: x,
-            },
-            Command::SetFallback {
-                mount: b,
-                fallback: y,
-            },
-        ) => is_same_name(a, b) && is_same_mount(x, y),
-        _ => false,
-    }
-}
-
-fn is_same_name(a: &MountName, b: &MountName) -> bool
-    ensures { IsTrue result ↔ a.now ≡ b.now }
-{
-    is_same_bytes(a.as_bytes(), b.as_bytes())
-}
-
-fn is_same_mount(a: &Option<MountName>, b: &Option<MountName>) -> bool
-    ensures { IsTrue result ↔ a.now ≡ b.now }
-{
-    match (a, b) {
-        (Some(a), Some(b)) => is_same_name(a, b),
-        (None, None) => true,
-        _ => false,
-    }
-}
-
 /// Whether the numbers and the bytes are the same.
 fn are_same(a: u64, x: &[u8], b: u64, y: &[u8]) -> bool
     ensures { IsTrue result ↔ (a ≡ b) × (x.now ≡ y.now) }
 {
     a == b && is_same_bytes(x, y)
-}
-
-fn is_same_bytes(a: &[u8], b: &[u8]) -> bool
-    ensures { IsTrue result ↔ a.now ≡ b.now }
-{
-    a == b
-}
-
-fn is_same_peer(a: Peer, b: Peer) -> bool
-    ensures { IsTrue result ↔ a ≡ b }
-{
-    a == b
-}
-
-fn is_same_rule(a: Rule, b: Rule) -> bool
-    ensures { IsTrue result ↔ a ≡ b }
-{
-    a == b
 }
 
 fn is_same_text(a: &Text, b: &Text) -> bool
@@ -314,6 +197,7 @@ fn is_same_text(a: &Text, b: &Text) -> bool
     match (a, b) {
         (Text::Done, Text::Done) => true,
         (Text::Moved(a), Text::Moved(b)) => *a == *b,
+        (Text::Ended(a), Text::Ended(b)) => *a == *b,
         (Text::Json(a), Text::Json(b)) => is_same_bytes(a.as_slice(), b.as_slice()),
         (Text::Streams(a), Text::Streams(b)) => is_same_bytes(a.as_slice(), b.as_slice()),
         (
@@ -335,44 +219,4 @@ fn is_same_head(a: &StreamHead, b: &StreamHead) -> bool
     ensures { IsTrue result ↔ a.now ≡ b.now }
 {
     is_same_shown(&a.shown, &b.shown) && is_same_origin(&a.allow_origin, &b.allow_origin)
-}
-
-fn is_same_origin(a: &Option<AllowedOrigin>, b: &Option<AllowedOrigin>) -> bool
-    ensures { IsTrue result ↔ a.now ≡ b.now }
-{
-    match (a, b) {
-        (Some(a), Some(b)) => is_same_bytes(a.as_bytes(), b.as_bytes()),
-        (None, None) => true,
-        _ => false,
-    }
-}
-
-fn is_same_pair(a: &Option<Pair>, b: &Option<Pair>) -> bool
-    ensures { IsTrue result ↔ a.now ≡ b.now }
-{
-    match (a, b) {
-        (Some(a), Some(b)) => {
-            is_same_bytes(a.user(), b.user()) && is_same_bytes(a.password(), b.password())
-        }
-        (None, None) => true,
-        _ => false,
-    }
-}
-
-fn is_same_shown(a: &Shown, b: &Shown) -> bool
-    ensures { IsTrue result ↔ a.now ≡ b.now }
-{
-    is_same_bytes(a.content_type.as_bytes(), b.content_type.as_bytes())
-        && is_same_bytes(a.name.as_bytes(), b.name.as_bytes())
-        && is_same_bytes(a.genre.as_bytes(), b.genre.as_bytes())
-}
-
-fn is_same_title(a: &Option<Title>, b: &Option<Title>) -> bool
-    ensures { IsTrue result ↔ a.now ≡ b.now }
-{
-    match (a, b) {
-        (Some(a), Some(b)) => is_same_bytes(a.as_slice(), b.as_slice()),
-        (None, None) => true,
-        _ => false,
-    }
 }

@@ -15,6 +15,8 @@ pub enum Text {
     Done,
     /// How many listeners went to another mount.
     Moved(u64),
+    /// How many listeners have finished by it.
+    Ended(u64),
     /// A listing, in JSON (RFC 8259).
     Json(Bytes),
     /// The names of the mounts that a relay may pull, with CR LF behind each.
@@ -42,6 +44,7 @@ impl Text {
         match self {
             Text::Done => Ok(Text::Done),
             Text::Moved(count) => Ok(Text::Moved(*count)),
+            Text::Ended(count) => Ok(Text::Ended(*count)),
             Text::Json(bytes) => Ok(Text::Json(bytes.clone()?)),
             Text::Streams(bytes) => Ok(Text::Streams(bytes.clone()?)),
             Text::Public {

@@ -4,7 +4,7 @@ use Rattle.std.specs.Option.{option_map_or}
 use Rattle.std.specs.Str.{bytes_eq}
 use Rattle.radio_policy.specs.declared.facts.CommandFacts.{CommandFacts}
 use Rattle.radio_policy.specs.declared.facts.CommandNeeds.{CommandNeeds}
-use Rattle.radio_policy.specs.declared.facts.CommandNeeds.TheVariants.{Argument, Nothing, Mount, Destination, Client}
+use Rattle.radio_policy.specs.declared.facts.CommandNeeds.TheVariants.{Argument, Nothing, Mount, Destination, Client, Users, User}
 use Rattle.radio_policy.specs.declared.facts.CommandAccess.{CommandAccess}
 use Rattle.radio_policy.specs.declared.facts.CommandAccess.TheVariants.{Everybody, Pair}
 use Rattle.radio_policy.specs.declared.facts.Opener.{Opener}
@@ -13,12 +13,13 @@ use Rattle.radio_policy.specs.Table.{Row, command_rows}
 use Rattle.radio_creds.specs.Credentials.{Credentials}
 use Rattle.radio_settings.specs.declared.settings.Settings.{Settings}
 use Rattle.radio_access.specs.CommandPairs.{is_admin_pair, is_named_source_pair, is_relay_pair}
+use Rattle.radio_access.specs.Lists.{has_users, has_user_at}
 use Rattle.radio_seats.specs.declared.seat.Listener.{Listener}
 use Rattle.radio_seats.specs.Seats.{seat_of}
 use Rattle.radio_events.specs.declared.command.Asked.{Asked}
 use Rattle.radio_events.specs.declared.command.Asked.TheVariants.{NoCommand, MissingArgument, Listing as AsksFor, Command as Asks}
 use Rattle.radio_events.specs.declared.command.Command.{Command as TheCommand}
-use Rattle.radio_events.specs.declared.command.Command.TheVariants.{MoveClients, KillClient, KillSource, SetTitle, SetFallback}
+use Rattle.radio_events.specs.declared.command.Command.TheVariants.{MoveClients, KillClient, KillSource, SetTitle, SetFallback, AddUser, DeleteUser}
 use Rattle.radio_events.specs.declared.command.CommandRequest.{CommandRequest}
 use Rattle.radio_events.specs.declared.command.Listing.{Listing}
 use Rattle.radio_events.specs.declared.command.Listing.TheVariants.{Status, Clients, Streams}
@@ -33,6 +34,8 @@ abbrev pub opened_by : TheCommand → OpenedBy
 opened_by (MoveClients mount destination) = Admin
 opened_by (KillClient mount listener) = Admin
 opened_by (KillSource mount) = Admin
+opened_by (AddUser mount user password) = Admin
+opened_by (DeleteUser mount user) = Admin
 opened_by (SetTitle mount title) = Source (Some mount)
 opened_by (SetFallback mount fallback) = Source (Some mount)
 
@@ -67,6 +70,8 @@ needs_of w (KillClient mount listener) = Client (is_live w.house mount) (sits_at
 needs_of w (KillSource mount) = Mount (is_live w.house mount)
 needs_of w (SetTitle mount title) = Mount (is_live w.house mount)
 needs_of w (SetFallback mount fallback) = Mount (is_live w.house mount)
+needs_of w (AddUser mount user password) = Users (has_users w.house.lists mount)
+needs_of w (DeleteUser mount user) = User (has_users w.house.lists mount) (has_user_at w.house.lists mount user)
 
 abbrev pub facts_for : World → OpenedBy → CommandNeeds → Option Credentials → CommandFacts
 facts_for w by needs pair = record { access = Pair (opener_in by) (opens w.house.settings by pair); needs = needs }

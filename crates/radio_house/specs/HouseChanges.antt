@@ -5,6 +5,7 @@ use Rattle.radio_addr.specs.declared.peer.Peer.{Peer}
 use Rattle.radio_settings.specs.declared.field.Shown.{Shown}
 use Rattle.radio_parts.specs.Kept.{kept_fed}
 use Rattle.radio_parts.specs.Sessions.{opened, with_session, fed, titled}
+use Rattle.radio_access.specs.Lists.{with_user_at, without_user_at}
 use Rattle.radio_house.specs.declared.clients.ClientState.{ClientState}
 use Rattle.radio_house.specs.declared.clients.ClientState.TheVariants.{Feeds, Ended}
 use Rattle.radio_house.specs.Clients.{newcomer, with_client, in_state}
@@ -60,3 +61,11 @@ falling_back house mount fallback = record house { fallbacks = with_fallback hou
 -- it is this moment, and the clients who have asked for nothing in their time are finished
 abbrev pub timed_out_by : House → ℕ → House
 timed_out_by house ms = record house { time = ms; clients = map (timed_out house.settings.limits.header_timeout ms) house.clients }
+
+-- the users of the mount let this one in with this password
+abbrev pub with_user : House → List ℕ → List ℕ → List ℕ → House
+with_user house mount user password = record house { lists = with_user_at house.lists mount user password }
+
+-- the users of the mount do not let this one in
+abbrev pub without_user : House → List ℕ → List ℕ → House
+without_user house mount user = record house { lists = without_user_at house.lists mount user }

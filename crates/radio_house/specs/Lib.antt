@@ -11,3 +11,4 @@ pub mod Streams
 pub mod Timeouts
 pub mod Due
 pub mod HouseChanges
+pub mod Outsiders

@@ -4,7 +4,7 @@ ghost use Rattle.std.specs.Prelude.{◌≡◌, OnOk, OnErr};
 ghost use Rattle.std.specs.Option.{option_map};
 ghost use Rattle.radio_parts.specs.Sessions.{with_session, without_session};
 ghost use Rattle.radio_house.specs.Clients.{without_client};
-ghost use Rattle.radio_house.specs.HouseChanges.{now_in_state, admitted, begun, raised, finished_in, retitled, falling_back, timed_out_by, kept_received};
+ghost use Rattle.radio_house.specs.HouseChanges.{now_in_state, admitted, begun, raised, finished_in, retitled, falling_back, timed_out_by, kept_received, with_user, without_user};
 ghost use Rattle.radio_house.specs.Relays.{Relay as RelayOf, relay_of, risen, with_relay, without_relay, put_back};
 
 use crate::OutOfMemory;
@@ -80,6 +80,28 @@ impl House {
         insert_both(&mut self.relays, &mut self.live, id, mount, session)?;
         self.last_id = id;
         Ok(())
+    }
+
+    /// The users of the mount let this one in with this password from now on, and no more as they did before; where it has
+    /// no users, nothing changes. `OutOfMemory` where memory was refused; nothing has changed then.
+    pub fn add_user(
+        &mut self,
+        alloc: Global,
+        mount: &MountName,
+        user: &[u8],
+        password: &[u8],
+    ) -> Result<(), OutOfMemory>
+        ensures ok { OnOk result (self.new ≡ with_user self.old mount.now user.now password.now) }
+        ensures err { OnErr result (self.new ≡ self.old) }
+    {
+        self.lists.set_user(alloc, mount, user, password)
+    }
+
+    /// The users of the mount let this one in no more. It takes no memory.
+    pub fn delete_user(&mut self, mount: &MountName, user: &[u8])
+        ensures { self.new ≡ without_user self.old mount.now user.now }
+    {
+        self.lists.remove_user(mount, user);
     }
 
     /// The rule finishes the client, or the relay, of this number. It takes no memory.

@@ -79,6 +79,13 @@ impl House {
             | Command::SetFallback { mount, .. } => CommandNeeds::Mount {
                 is_live: self.has_session(mount),
             },
+            Command::AddUser { mount, .. } => CommandNeeds::Users {
+                has_users: self.lists.has_users(mount),
+            },
+            Command::DeleteUser { mount, user } => CommandNeeds::User {
+                has_users: self.lists.has_users(mount),
+                is_listed: self.lists.has_user(mount, user.as_slice()),
+            },
         }
     }
 
@@ -128,9 +135,11 @@ fn opened_by(command: &Command) -> OpenedBy
     ensures { result ≡ opened_by command.now }
 {
     match command {
-        Command::MoveClients { .. } | Command::KillClient { .. } | Command::KillSource { .. } => {
-            OpenedBy::Admin
-        }
+        Command::MoveClients { .. }
+        | Command::KillClient { .. }
+        | Command::KillSource { .. }
+        | Command::AddUser { .. }
+        | Command::DeleteUser { .. } => OpenedBy::Admin,
         Command::SetTitle { mount, .. } | Command::SetFallback { mount, .. } => {
             OpenedBy::Source(Some(*mount))
         }

@@ -28,7 +28,7 @@ pub struct House {
     /// The moment, in milliseconds.
     pub(crate) time: u64,
     pub(crate) settings: Settings,
-    /// What the files that the settings name hold.
+    /// What the files that the settings name hold, and the users who were set or taken away since.
     pub(crate) lists: Lists,
     /// The live mounts' sessions, in the order of the mounts' names.
     pub(crate) live: Table<Session>,

@@ -4,7 +4,8 @@
 //! - [`House`]: the moment, the settings and their lists, the live mounts' sessions, the fallbacks
 //!   that were set, clients and relays. It is looked at by [`House::standing`], `*_facts`,
 //!   [`House::shown`] and others, beside the listeners where these are asked for, and is what a
-//!   walk sees (`View` of `radio_fallback`). Each other call makes one change.
+//!   walk sees (`View` of `radio_fallback`). Each other call makes one change; [`House::end_outsiders`]
+//!   makes it among the listeners, who are lent.
 //! - [`ClientState`], [`RelayState`], [`Standing`]: what clients and relays do, and how they stand.
 #![tactic(auto)]
 
@@ -16,6 +17,7 @@ mod facts;
 mod fallbacks;
 mod house;
 mod listings;
+mod outsiders;
 mod pages;
 mod relays;
 mod standing;

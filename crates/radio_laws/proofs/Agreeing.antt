@@ -16,6 +16,10 @@ use Rattle.radio_parts.specs.Sessions.{Session, is_of, session_of, by_mount, wit
 use Rattle.radio_laws.specs.Locality.{SessionsAgree, SameSession, FedBeyond, ListenersAgree, SameListener, SitsBeyond, AllAgree, IsAll}
 use Rattle.radio_laws.proofs.AgreeingLists.{FoundAgree, NoneFound, BothFound, agree_length, agree_equal, agree_mapped, agree_kept, agree_any, agree_filtered, agree_found}
 use Rattle.radio_laws.proofs.AgreeingLists.{agree_updated, agree_picked, agree_each, agree_placed}
+use Rattle.radio_access.specs.Lists.{Lists}
+use Rattle.radio_seats.specs.Rests.{how_many}
+use Rattle.radio_seats.specs.Seats.{holds_of}
+use Rattle.radio_house.specs.Outsiders.{is_shut_out}
 
 module _ (within : List ℕ → Bool) where
   -- what is beyond reach is at no mount within it
@@ -24,6 +28,10 @@ module _ (within : List ℕ → Bool) where
     by_test : (b : Bool) → bytes_eq here mount ≡ b → b ≡ false
     by_test false e = refl
     by_test true e = let same : here ≡ mount = (bytes_eq-Decides here mount).0 e in let clash : within mount ≡ false = ap within (sym same) ∙ out in cc
+
+  -- and nobody who sits there is shut out of one
+  pub none_out : (lists : Lists) (mount : List ℕ) (seat : Seat) → within seat.mount ≡ false → within mount ≡ true → is_shut_out lists mount seat ≡ false
+  none_out lists mount seat out there = rw (beyond seat.mount mount out there) refl
 
   -- sessions
 
@@ -170,6 +178,15 @@ module _ (within : List ℕ → Bool) where
     pub with_end_alike : (id : ℕ) (rule : Rule) → ListenersDo (with_end xs id rule) (with_end ys id rule)
     with_end_alike id rule =
         agree_updated (ListenersAgree within) (is_listener id) (is_alike id) (loses rule) xs ys (λ a b agree found. lost_alike rule a b agree) r
+
+    -- as many seats are there of which something holds, where it holds of none beyond reach
+    module _ (p : Seat → Bool) (none : (seat : Seat) → within seat.mount ≡ false → p seat ≡ false) where
+      holds_alike : (a b : Listener) → ListenersAgree within a b → (a ≡ b) ⊎ ((holds_of p a.seating ≡ false) × (holds_of p b.seating ≡ false))
+      holds_alike a b (SameListener same) = inl same
+      holds_alike a b (SitsBeyond id one other sits out his away) = inr (rw sits (none one out), rw his (none other away))
+
+      pub how_many_alike : how_many p xs ≡ how_many p ys
+      how_many_alike = ap length (agree_picked (ListenersAgree within) (λ (l : Listener). holds_of p l.seating) holds_alike xs ys r)
 
     -- seats of which something holds are lost, where it holds of none beyond reach
     module _ (p : Seat → Bool) (rule : Rule) (none : (seat : Seat) → within seat.mount ≡ false → p seat ≡ false) where

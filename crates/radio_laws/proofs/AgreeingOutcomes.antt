@@ -19,7 +19,7 @@ use Rattle.radio_fallback.specs.declared.moves.Move.TheVariants.{To}
 use Rattle.radio_events.specs.declared.command.Asked.{Asked}
 use Rattle.radio_events.specs.declared.command.Asked.TheVariants.{NoCommand, MissingArgument, Listing as AsksFor, Command as Asks}
 use Rattle.radio_events.specs.declared.command.Command.{Command as TheCommand}
-use Rattle.radio_events.specs.declared.command.Command.TheVariants.{MoveClients, KillClient, KillSource, SetTitle, SetFallback}
+use Rattle.radio_events.specs.declared.command.Command.TheVariants.{MoveClients, KillClient, KillSource, SetTitle, SetFallback, AddUser, DeleteUser}
 use Rattle.radio_events.specs.declared.command.Listing.TheVariants.{Status, Stats, Mounts, Clients, Streams}
 use Rattle.radio_events.specs.declared.event.Event.{Event}
 use Rattle.radio_events.specs.declared.event.Event.TheVariants.{Arrive, Source, Push, SourceEnd, Title, Listen, Draw, Command, Leave}
@@ -49,6 +49,10 @@ use Rattle.radio_laws.proofs.Agreeing.{found_alike as listener_alike, seat_alike
 use Rattle.radio_laws.proofs.AgreeingWalks.{Onward, found_alike, landing_alike, lands_within, counts_alike}
 use Rattle.radio_laws.proofs.WalkLemmas.{falls_back}
 use Rattle.radio_laws.proofs.WebLaws.{is_path}
+use Rattle.radio_access.specs.Lists.{Lists, with_user_at, without_user_at}
+use Rattle.radio_seats.specs.Rests.{how_many}
+use Rattle.radio_house.specs.Outsiders.{is_shut_out}
+use Rattle.radio_laws.proofs.Agreeing.{none_out, how_many_alike}
 
 -- the state with these sessions and listeners in place of its own
 abbrev pub in_place : World → List Session → List Listener → World
@@ -168,6 +172,8 @@ module _ (within : List ℕ → Bool) (w : World) (live : List Session) (seats :
   needs_alike (KillSource mount) near = rw (live_alike within live w.house.live r mount) refl
   needs_alike (SetTitle mount title) near = rw (live_alike within live w.house.live r mount) refl
   needs_alike (SetFallback mount fallback) near = rw (live_alike within live w.house.live r mount) refl
+  needs_alike (AddUser mount user password) near = refl
+  needs_alike (DeleteUser mount user) near = refl
 
   facts_alike : (asked : Asked) (pair : Option Credentials) → AsksWithin w within asked → facts_asked v asked pair ≡ facts_asked w asked pair
   facts_alike NoCommand pair near = refl
@@ -178,6 +184,10 @@ module _ (within : List ℕ → Bool) (w : World) (live : List Session) (seats :
   facts_alike (AsksFor Mounts) pair near = refl
   facts_alike (AsksFor Streams) pair near = refl
   facts_alike (Asks command) pair near = rw (needs_alike command near) refl
+
+  -- those whom the users of a mount within reach do not let in sit there
+  out_alike : (lists : Lists) (mount : List ℕ) → within mount ≡ true → how_many (is_shut_out lists mount) seats ≡ how_many (is_shut_out lists mount) w.seats
+  out_alike lists mount near = how_many_alike within seats w.seats s (is_shut_out lists mount) (λ seat out. none_out within lists mount seat out near)
 
   does_alike : (asked : Asked) (id : ℕ) → AsksWithin w within asked → does_asked v id asked ≡ does_asked w id asked
   does_alike NoCommand id near = refl
@@ -193,6 +203,9 @@ module _ (within : List ℕ → Bool) (w : World) (live : List Session) (seats :
   does_alike (Asks (KillSource mount)) id near = refl
   does_alike (Asks (SetTitle mount title)) id near = refl
   does_alike (Asks (SetFallback mount fallback)) id near = refl
+  does_alike (Asks (AddUser mount user password)) id near =
+      rw (out_alike (with_user_at w.house.lists mount user password) mount near) refl
+  does_alike (Asks (DeleteUser mount user)) id near = rw (out_alike (without_user_at w.house.lists mount user) mount near) refl
 
   pub outcome_alike : (event : Event) → IsWithin w within event → outcome v event ≡ outcome w event
   unfolding outcome

@@ -20,7 +20,7 @@ use Rattle.radio_fallback.proofs.MovedCounts.{moved_as_counted}
 use Rattle.radio_events.specs.declared.command.Asked.{Asked}
 use Rattle.radio_events.specs.declared.command.Asked.TheVariants.{Command as Asks}
 use Rattle.radio_events.specs.declared.command.Command.{Command as TheCommand}
-use Rattle.radio_events.specs.declared.command.Command.TheVariants.{MoveClients, KillClient, KillSource, SetTitle, SetFallback}
+use Rattle.radio_events.specs.declared.command.Command.TheVariants.{MoveClients, KillClient, KillSource, SetTitle, SetFallback, AddUser, DeleteUser}
 use Rattle.radio_events.specs.declared.event.Event.{Event}
 use Rattle.radio_events.specs.declared.reply.Reply.TheVariants.{Text as SaysText}
 use Rattle.radio_core.specs.declared.outcome.Change.TheVariants.{Answer, Obey}
@@ -46,7 +46,7 @@ use Rattle.radio_house.specs.Fallbacks.{Fallback, set_for}
 use Rattle.radio_parts.specs.Sessions.{Session, session_of, without_session}
 use Rattle.radio_parts.proofs.ApartLemmas.{bytes_apart}
 use Rattle.radio_parts.proofs.SessionLookups.{is_over, is_titled, beside_titled, beside_ended}
-use Rattle.radio_core.proofs.AllowedCommands.{is_opened, may_act, needs_hold}
+use Rattle.radio_core.proofs.AllowedCommands.{is_opened, may_act, may_add, may_delete, needs_hold}
 use Rattle.radio_core.proofs.ListingLemmas.{shown_long}
 use Rattle.radio_house.proofs.Lookups.{is_set, beside_set}
 use Rattle.radio_laws.proofs.ToldTexts.{IsToldFor, ByShowing, ByDoing, told_for}
@@ -60,6 +60,12 @@ use Rattle.radio_core.proofs.SoundRuns.{sound_after}
 use Rattle.radio_laws.proofs.GoneLemmas.{last_rises}
 use Rattle.radio_laws.proofs.KilledLemmas.{IsOver, hears_no_more}
 use Rattle.radio_laws.specs.Commanded.{MayGive, IsLive, IsThere, AsTheAdmin, ItsTitle, ItsFallback, IsGivenByRight, OnlyWhoMayCommands, IsSourceKilled, HasDone, mount_of, StaysBeside, CommandsAreKept, KilledHearNothing}
+use Rattle.radio_creds.specs.UserList.{UserList, with_user, without_user}
+use Rattle.radio_access.specs.Lists.{has_users, has_user_at, with_user_at, without_user_at}
+use Rattle.radio_core.specs.Allowed.{Adds, Deletes}
+use Rattle.radio_laws.specs.Commanded.{HasPassword, IsNoUser}
+use Rattle.radio_laws.proofs.CommandSteps.{later_so, told_so, after}
+use Rattle.radio_laws.proofs.UserChanges.{have_changed, password_set, user_gone, deleted_has_users, users_beside}
 
 -- a login that was sent has its user and its password
 pub record HasLogin (login : Login) (sent : Option Credentials) : Type 0 where
@@ -127,6 +133,8 @@ module _ (w : World) (s : IsSound w) (event : Event) where
   was_there (KillSource mount) c = lives_by w mount (may_act (is_live w.house mount) (needs_hold w event c))
   was_there (SetTitle mount text) c = lives_by w mount (may_act (is_live w.house mount) (needs_hold w event c))
   was_there (SetFallback mount fallback) c = lives_by w mount (may_act (is_live w.house mount) (needs_hold w event c))
+  was_there (AddUser mount user password) c = may_add (has_users w.house.lists mount) (needs_hold w event c)
+  was_there (DeleteUser mount user) c = may_delete (has_users w.house.lists mount) (has_user_at w.house.lists mount user) (needs_hold w event c)
 
   -- so who sent a login that may give it gave it by right
   given : (command : TheCommand) (c : IsCommanded w event command) (login : Login) (has : HasLogin login c.asked.pair) → MayGive w has.pair command
@@ -151,6 +159,8 @@ module _ (w : World) (s : IsSound w) (event : Event) where
   by_source (MoveClients mount destination) c e = cc
   by_source (KillClient mount listener) c e = cc
   by_source (KillSource mount) c e = cc
+  by_source (AddUser mount user password) c e = cc
+  by_source (DeleteUser mount user) c e = cc
   by_source (SetTitle mount text) c e =
       let has = its_sources mount c.asked.pair e in
       given (SetTitle mount text) c (options_for w.house.settings mount).source has (ItsTitle mount text (record { user = has.user; password = has.password }))
@@ -174,31 +184,7 @@ only_who_may w s event text d short = by_cause (told_for w event text d) where
       by_right w s event command c (one_of (is_admin_pair w.house.settings c.asked.pair) (opens_as_source w.house.settings (opened_by command) c.asked.pair)
       (is_opened w event c))
 
--- what comes of a command that the policy allows
-does_so : (w : World) (id : ℕ) (command : TheCommand) (now : Standing) (peer : Peer) (verdict : Verdict) (asked : Asked) → now ≡ Undecided peer → verdict ≡ Allow
-    → asked ≡ Asks command → if_undecided now (λ _. on_verdict verdict (Answer id) (does_asked w id asked)) ≡ obeys w id command
-does_so w id command now peer verdict asked e v is = rw (e, v, is) refl
-
 module _ (w : World) (s : IsSound w) (event : Event) where
-  module _ {command : TheCommand} (c : IsCommanded w event command) where
-    comes_of : outcome w event ≡ obeys w c.asked.id command
-    unfolding outcome
-    comes_of =
-        ap (outcome w) c.is_event
-        ∙ does_so w c.asked.id command (standing_of w c.asked.id) c.peer (verdict_in (rows_to_command w c.asked)) c.asked.asked c.undecided c.allowed c.is_asked
-
-    pub later_so : world_after w event ≡ changed w (Obey c.asked.id command)
-    unfolding world_after
-    later_so = ap (λ (o : Outcome). changed w o.change) comes_of
-
-    pub told_so : reply_to w event ≡ SaysText (said_of command (counts_by w command))
-    unfolding reply_to
-    told_so = ap (λ (o : Outcome). o.reply) comes_of
-
-    -- what holds of the world that the command makes holds after the event
-    pub after : (P : World → Type 0) → P (changed w (Obey c.asked.id command)) → P (world_after w event)
-    after P holds = subst P (sym later_so) holds
-
   is_live_still : (mount : List ℕ) (fallback : Option (List ℕ)) (later : World) → set_for later.house.fallbacks mount ≡ Some (record { mount = mount; fallback = fallback })
       → (next : List ℕ) → FallsBack later mount next ↔ (fallback ≡ Some next)
   is_live_still mount fallback later set next = (by_fall, λ e. ByACommand (record { mount = mount; fallback = fallback }) set e) where
@@ -212,16 +198,16 @@ module _ (w : World) (s : IsSound w) (event : Event) where
   has_done : (command : TheCommand) (c : IsCommanded w event command) → HasDone w event command
   has_done (MoveClients mount destination) c = (
     (counts_by w (MoveClients mount destination)).moved,
-    told_so c,
+    told_so w event c,
     moved_as_counted (sight_of w.house) mount destination (is_another w s event mount destination c) w.seats
-        ∙ sym (ap (λ (x : World). count_at x.seats destination) (later_so c)),
+        ∙ sym (ap (λ (x : World). count_at x.seats destination) (later_so w event c)),
   )
   has_done (KillClient mount listener) c = (
-    told_so c,
-    after c (λ later. standing_of later listener ≡ Finished Killed) (has_been_killed w s event mount listener c),
-    after c (λ later. seat_of later.seats listener ≡ None) (sits_no_more w s event mount listener c),
+    told_so w event c,
+    after w event c (λ later. standing_of later listener ≡ Finished Killed) (has_been_killed w s event mount listener c),
+    after w event c (λ later. seat_of later.seats listener ≡ None) (sits_no_more w s event mount listener c),
   )
-  has_done (KillSource mount) c = (told_so c, after c (λ later. IsSourceKilled w later mount) killed) where
+  has_done (KillSource mount) c = (told_so w event c, after w event c (λ later. IsSourceKilled w later mount) killed) where
     cut : Session
     cut = (live w s event mount c).0
 
@@ -235,16 +221,26 @@ module _ (w : World) (s : IsSound w) (event : Event) where
     }
   has_done (SetTitle mount text) c =
       let there = title_live w s event mount text c in (
-        told_so c,
+        told_so w event c,
         there.0,
         there.1,
-        after c (λ later. session_of later.house.live mount ≡ Some (record there.0 { title = Some text })) (is_titled w.house.live mount text there.0 there.1),
+        after w event c (λ later. session_of later.house.live mount ≡ Some (record there.0 { title = Some text })) (is_titled w.house.live mount text there.0 there.1),
       )
   has_done (SetFallback mount fallback) c = (
-    told_so c,
-    after c (λ later. (next : List ℕ) → FallsBack later mount next ↔ (fallback ≡ Some next))
+    told_so w event c,
+    after w event c (λ later. (next : List ℕ) → FallsBack later mount next ↔ (fallback ≡ Some next))
         (is_live_still mount fallback (changed w (Obey c.asked.id (SetFallback mount fallback)))
         (is_set w.house.fallbacks mount mount fallback ((bytes_eq-Decides mount mount).1 refl))),
+  )
+
+  has_done (AddUser mount user password) c = (
+    have_changed w s event c mount (Adds user password c) (with_user_at w.house.lists mount user password) (later_so w event c) (told_so w event c),
+    after w event c (λ later. HasPassword later mount user password)
+        (λ pair his. password_set w.house.lists mount user (may_add (has_users w.house.lists mount) (needs_hold w event c)) pair his password),
+  )
+  has_done (DeleteUser mount user) c = (
+    have_changed w s event c mount (Deletes user c) (without_user_at w.house.lists mount user) (later_so w event c) (told_so w event c),
+    after w event c (λ later. IsNoUser later mount user) (user_gone w.house.lists mount user (deleted_has_users w event c)),
   )
 
   -- whoever sits elsewhere keeps his seat
@@ -271,7 +267,8 @@ module _ (w : World) (s : IsSound w) (event : Event) where
     seats = λ id seat has away. keeps_away w (To mount destination) mount s.by_number (λ x there. there) id seat has away;
     fallbacks = λ other apart. refl;
     settings = refl;
-    lists = refl;
+    users = λ other pair apart. refl;
+    addresses = λ peer. refl;
     time = refl;
   }
   stays_beside (KillClient mount listener) c = record {
@@ -287,7 +284,8 @@ module _ (w : World) (s : IsSound w) (event : Event) where
         (λ apart. ap seat_in (beside_him w s event mount listener c id apart) ∙ has);
     fallbacks = λ other apart. refl;
     settings = refl;
-    lists = refl;
+    users = λ other pair apart. refl;
+    addresses = λ peer. refl;
     time = refl;
   }
   stays_beside (KillSource mount) c = subst (λ (x : World). StaysBeside w x mount) (sym (is_cut w s event mount c)) (record {
@@ -297,7 +295,8 @@ module _ (w : World) (s : IsSound w) (event : Event) where
         (λ x there. ap (bytes_eq x.mount) (sym is_named) ∙ there) id seat has away;
     fallbacks = λ other apart. refl;
     settings = refl;
-    lists = refl;
+    users = λ other pair apart. refl;
+    addresses = λ peer. refl;
     time = refl;
   }) where
     cut : Session
@@ -310,7 +309,8 @@ module _ (w : World) (s : IsSound w) (event : Event) where
     seats = λ id seat has away. has;
     fallbacks = λ other apart. refl;
     settings = refl;
-    lists = refl;
+    users = λ other pair apart. refl;
+    addresses = λ peer. refl;
     time = refl;
   }
   stays_beside (SetFallback mount fallback) c = record {
@@ -318,15 +318,19 @@ module _ (w : World) (s : IsSound w) (event : Event) where
     seats = λ id seat has away. has;
     fallbacks = λ other apart. beside_set w.house.fallbacks mount other fallback apart;
     settings = refl;
-    lists = refl;
+    users = λ other pair apart. refl;
+    addresses = λ peer. refl;
     time = refl;
   }
+  stays_beside (AddUser mount user password) c =
+      users_beside w c.asked.id mount (λ (users : UserList). with_user users user password)
+  stays_beside (DeleteUser mount user) c = users_beside w c.asked.id mount (λ (users : UserList). without_user users user)
 
 pub commands_are_kept : (w : World) → IsSound w → (event : Event) → CommandsAreKept w event
 commands_are_kept w s event command c = record {
   done = has_done w s event command c;
-  answered = after w s event c (λ later. standing_of later c.asked.id ≡ Answered) (is_answered w s event command c);
-  beside = after w s event c (λ later. StaysBeside w later (mount_of command)) (stays_beside w s event command c);
+  answered = after w event c (λ later. standing_of later c.asked.id ≡ Answered) (is_answered w s event command c);
+  beside = after w event c (λ later. StaysBeside w later (mount_of command)) (stays_beside w s event command c);
 }
 
 -- who has a seat has a number that was given
@@ -346,4 +350,4 @@ killed_hear_nothing w s event mount id c more =
     let given = given_number w s id his.0 his.1 in
     let rises = last_rises w s event in
     hears_no_more (world_after w event) (sound_after w s event) id (omega (arith, given, rises))
-    (after w s event c (λ later. IsOver (standing_of later id)) (subst IsOver (sym (has_been_killed w s event mount id c)) tt)) more
+    (after w event c (λ later. IsOver (standing_of later id)) (subst IsOver (sym (has_been_killed w s event mount id c)) tt)) more

@@ -2,12 +2,12 @@
 use Rattle.std.proofs.Common.{◌≡◌, ◌++◌, false, Bool, Option, Some, None}
 use Rattle.radio_policy.specs.declared.rule.Rule.{Rule}
 use Rattle.radio_policy.specs.declared.rule.Rule.TheVariants.{NoCommand, AdminPassword, SourcePassword, RelayPassword, MissingArgument, NoMount, NoDestination}
-use Rattle.radio_policy.specs.declared.rule.Rule.TheVariants.{SameMount, NoClient}
+use Rattle.radio_policy.specs.declared.rule.Rule.TheVariants.{SameMount, NoClient, NoUsers, NoUser}
 use Rattle.radio_policy.specs.declared.facts.CommandFacts.{CommandFacts}
 use Rattle.radio_policy.specs.declared.facts.CommandAccess.{CommandAccess}
 use Rattle.radio_policy.specs.declared.facts.CommandAccess.TheVariants.{Everybody, Pair}
 use Rattle.radio_policy.specs.declared.facts.CommandNeeds.{CommandNeeds}
-use Rattle.radio_policy.specs.declared.facts.CommandNeeds.TheVariants.{Argument, Nothing, Mount, Destination, Client}
+use Rattle.radio_policy.specs.declared.facts.CommandNeeds.TheVariants.{Argument, Nothing, Mount, Destination, Client, Users, User}
 use Rattle.radio_policy.specs.declared.facts.Opener.{Opener}
 use Rattle.radio_policy.specs.declared.facts.Opener.TheVariants.{Admin, Source, Relay}
 use Rattle.radio_policy.specs.Table.{access_rows, needs_rows, password_rule, command_rows}
@@ -16,13 +16,15 @@ use Rattle.radio_tables.specs.Lists.{Each}
 -- none of them is meant
 module _ (meant : Rule → Bool) (no_command : meant NoCommand ≡ false) (admin : meant AdminPassword ≡ false) (source : meant SourcePassword ≡ false)
     (relay : meant RelayPassword ≡ false) (argument : meant MissingArgument ≡ false) (mount : meant NoMount ≡ false)
-    (destination : meant NoDestination ≡ false) (same : meant SameMount ≡ false) (client : meant NoClient ≡ false) where
+    (destination : meant NoDestination ≡ false) (same : meant SameMount ≡ false) (client : meant NoClient ≡ false) (users : meant NoUsers ≡ false) (user : meant NoUser ≡ false) where
   needed : (needs : CommandNeeds) → Each (λ row. meant row.rule ≡ false) (needs_rows needs)
   needed Argument = (argument, tt)
   needed Nothing = tt
   needed (Mount live) = (mount, tt)
   needed (Destination facts) = (mount, (destination, (same, tt)))
   needed (Client live sits) = (mount, (client, tt))
+  needed (Users has_users) = (users, tt)
+  needed (User has_users is_listed) = (users, (user, tt))
 
   to_open : (opener : Opener) → meant (password_rule opener) ≡ false
   to_open Admin = admin

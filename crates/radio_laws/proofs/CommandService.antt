@@ -5,7 +5,7 @@ use Rattle.std.specs.Option.{option_map_or}
 use Rattle.std.specs.Str.{bytes_eq}
 use Rattle.std.proofs.lemmas.Slice.Eq.{bytes_eq-Decides}
 use Rattle.radio_policy.specs.declared.rule.Rule.{Rule}
-use Rattle.radio_policy.specs.declared.rule.Rule.TheVariants.{NoMount, NoDestination, SameMount, NoClient}
+use Rattle.radio_policy.specs.declared.rule.Rule.TheVariants.{NoMount, NoDestination, SameMount, NoClient, NoUsers, NoUser}
 use Rattle.radio_policy.specs.declared.judgement.Verdict.TheVariants.{Allow}
 use Rattle.radio_policy.specs.Table.{Row, row, needs_rows, password_rule, command_rows}
 use Rattle.radio_policy.specs.Verdicts.{verdict_in}
@@ -17,7 +17,7 @@ use Rattle.radio_tables.proofs.KeyLaws.{by_name}
 use Rattle.radio_seats.specs.declared.seat.Seat.{Seat}
 use Rattle.radio_events.specs.declared.command.Asked.{Asked}
 use Rattle.radio_events.specs.declared.command.Command.{Command as TheCommand}
-use Rattle.radio_events.specs.declared.command.Command.TheVariants.{MoveClients, KillClient, KillSource, SetTitle, SetFallback}
+use Rattle.radio_events.specs.declared.command.Command.TheVariants.{MoveClients, KillClient, KillSource, SetTitle, SetFallback, AddUser, DeleteUser}
 use Rattle.radio_events.specs.declared.event.Event.TheVariants.{Command}
 use Rattle.radio_core.specs.Command.{said_of}
 use Rattle.radio_house.specs.CommandFacts.{opened_by, opener_in, opens, opens_as_source, is_live, sits_at, needs_of, facts_asked}
@@ -27,7 +27,10 @@ use Rattle.radio_events.specs.Texts.{IsShort}
 use Rattle.radio_core.specs.Sound.{IsSound}
 use Rattle.radio_house.specs.World.{World}
 use Rattle.radio_laws.specs.Commanded.{IsLive, IsThere, MayGive, AsTheAdmin, ItsTitle, ItsFallback, WhoMayIsServed}
-use Rattle.radio_laws.proofs.CommandLaws.{told_so}
+use Rattle.radio_laws.proofs.CommandSteps.{told_so}
+use Rattle.radio_creds.specs.UserList.{has_user}
+use Rattle.radio_access.specs.declared.lists.MountUsers.{MountUsers}
+use Rattle.radio_access.specs.Lists.{users_at, has_users}
 
 -- a login is the user and the password that it has
 pub is_its : (login : Login) (pair : Credentials) → pair.user ≡ login.username → pair.password ≡ login.password → is_login login pair ≡ true
@@ -42,6 +45,8 @@ said_short (KillClient mount listener) counts = tt
 said_short (KillSource mount) counts = tt
 said_short (SetTitle mount text) counts = tt
 said_short (SetFallback mount fallback) counts = tt
+said_short (AddUser mount user password) counts = tt
+said_short (DeleteUser mount user) counts = tt
 
 pub or_true : (a : Bool) → (a || true) ≡ true
 or_true true = refl
@@ -71,6 +76,16 @@ module _ (w : World) where
   with_client true false e f = cc
   with_client false sits e f = cc
 
+  with_users : (has_users : Bool) → has_users ≡ true → verdict_in (row NoUsers (not has_users) ∷ []) ≡ Allow
+  with_users true e = refl
+  with_users false e = cc
+
+  -- a mount that has this user has users
+  with_user : (listed : Option MountUsers) (user : List ℕ) → option_map_or (λ (l : MountUsers). has_user l.users user) listed false ≡ true
+      → verdict_in (row NoUsers (not (is_some listed)) ∷ row NoUser (not (option_map_or (λ (l : MountUsers). has_user l.users user) listed false)) ∷ []) ≡ Allow
+  with_user None user e = cc
+  with_user (Some listed) user e = rw e refl
+
   with_destination : (live there same : Bool) → live ≡ true → there ≡ true → same ≡ false
       → verdict_in (row NoMount (not live) ∷ row NoDestination (not there) ∷ row SameMount same ∷ []) ≡ Allow
   with_destination true true false e f g = refl
@@ -89,6 +104,8 @@ module _ (w : World) where
   needs_are_there (KillSource mount) there = with_mount (is_live w.house mount) (lives mount there)
   needs_are_there (SetTitle mount text) there = with_mount (is_live w.house mount) (lives mount there)
   needs_are_there (SetFallback mount fallback) there = with_mount (is_live w.house mount) (lives mount there)
+  needs_are_there (AddUser mount user password) there = with_users (has_users w.house.lists mount) there
+  needs_are_there (DeleteUser mount user) there = with_user (users_at w.house.lists mount) user there
 
   -- an open command is judged by what it needs
   pub judged : (rule : Rule) (opened : Bool) (rows : List Row) → opened ≡ true → verdict_in rows ≡ Allow → verdict_in (row rule (not opened) ∷ rows) ≡ Allow
@@ -98,7 +115,7 @@ module _ (w : World) where
   pub who_may_is_served : IsSound w → WhoMayIsServed w
   who_may_is_served s asked peer command pair undecided is_asked sent may there = (
     said_of command (counts_by w command),
-    told_so w s (Command asked) (record { asked = asked; is_event = refl; is_asked = is_asked; peer = peer; undecided = undecided; allowed = allowed }),
+    told_so w (Command asked) (record { asked = asked; is_event = refl; is_asked = is_asked; peer = peer; undecided = undecided; allowed = allowed }),
     said_short command (counts_by w command),
   ) where
     opened : opens w.house.settings (opened_by command) asked.pair ≡ true

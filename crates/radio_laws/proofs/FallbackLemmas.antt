@@ -2,7 +2,7 @@
 use Rattle.std.proofs.Common.{◌+◌, ◌≡◌, ◌⊎◌, inl, inr, Option, Some, None, ℕ, List, refl, ap, subst}
 use Rattle.radio_tables.proofs.KeyLaws.{by_name}
 use Rattle.radio_events.specs.declared.command.Command.{Command as TheCommand}
-use Rattle.radio_events.specs.declared.command.Command.TheVariants.{MoveClients, KillClient, KillSource, SetTitle as NewTitle, SetFallback}
+use Rattle.radio_events.specs.declared.command.Command.TheVariants.{MoveClients, KillClient, KillSource, SetTitle as NewTitle, SetFallback, AddUser, DeleteUser}
 use Rattle.radio_events.specs.declared.event.Event.{Event}
 use Rattle.radio_house.specs.House.{House}
 use Rattle.radio_core.specs.declared.outcome.Change.TheVariants.{Obey}
@@ -62,6 +62,8 @@ module _ (w : World) (mount : List ℕ) where
     by_command (KillClient at listener) c = inl refl
     by_command (KillSource at) c = inl (killed_stays c.asked.id (session_of w.house.live at))
     by_command (NewTitle at text) c = inl refl
+    by_command (AddUser at user password) c = inl refl
+    by_command (DeleteUser at user) c = inl refl
     by_command (SetFallback at fallback) c =
         by_name at mount
         (λ same. inr (fallback, subst (λ (m : List ℕ). IsCommanded w event (SetFallback m fallback)) same c))

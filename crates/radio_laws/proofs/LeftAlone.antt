@@ -7,11 +7,11 @@ use Rattle.radio_seats.specs.declared.seat.Seat.{Seat}
 use Rattle.radio_seats.specs.Seats.{seat_in, seat_of}
 use Rattle.radio_parts.specs.Sessions.{Session, session_of}
 use Rattle.radio_fallback.specs.declared.moves.Move.{Move}
-use Rattle.radio_events.specs.declared.command.Command.TheVariants.{MoveClients, KillClient, KillSource, SetTitle}
+use Rattle.radio_events.specs.declared.command.Command.TheVariants.{MoveClients, KillClient, KillSource, SetTitle, AddUser, DeleteUser}
 use Rattle.radio_events.specs.declared.event.Event.{Event}
 use Rattle.radio_events.specs.declared.event.Event.TheVariants.{Source, Push, SourceEnd, Title, Listen, Draw, Leave, RelayUp, RelayDown, Clock}
 use Rattle.radio_house.specs.declared.standing.Standing.TheVariants.{Feeds}
-use Rattle.radio_core.specs.Finishes.{Cause, Finishes, SessionIsOver, IsFarBehind, HasSatOut, HasAskedNothing, HasSentNothing, IsKilled as ByACommand, HisSessionIsKilled}
+use Rattle.radio_core.specs.Finishes.{Cause, Finishes, SessionIsOver, IsFarBehind, HasSatOut, HasAskedNothing, HasSentNothing, IsKilled as ByACommand, HisSessionIsKilled, IsNotAccepted}
 use Rattle.radio_core.specs.Moves.{Brings, ByItsEnd, ByItsLeaving, BySilence, ByComingUp, ByRelayUp, ByKilling, ByMoving, TakesTo, LeavesOut}
 use Rattle.radio_core.specs.SeatSteps.{SeatStep, Stays as SeatStays, IsHanded, SitsDown, IsMoved, Leaves, IsEnded, ComesUpOn, ASource, ARelay}
 use Rattle.radio_core.specs.SeatSteps.{IsSent, HisSessionIsOver, HeIsCalledHome, IsCommandedThere}
@@ -37,6 +37,7 @@ use Rattle.radio_laws.proofs.AgreeingWalks.{Onward, MovesWithin, lands_within, g
 use Rattle.radio_laws.proofs.AgreeingOutcomes.{onward_by}
 use Rattle.radio_laws.specs.Locality.{IsWithin, EndsWithin, WalksWithin, IsAll, LeavesAlone}
 use Rattle.radio_laws.proofs.LocalityLemmas.{agrees, asks_within}
+use Rattle.radio_core.specs.Allowed.{ChangesUsers, Adds, Deletes}
 
 module _ (within : List ℕ → Bool) (w : World) (s : IsSound w) (event : Event) (near : IsWithin w within event) where
   -- it is within reach after all
@@ -131,6 +132,10 @@ module _ (within : List ℕ → Bool) (w : World) (s : IsSound w) (event : Event
       by_event _ (ARelay name shown) its = its.home override seat.mount
     sent_near seat mount has (IsCommandedThere c) = (asks_within within w event (MoveClients seat.mount mount) c near).0
 
+    changed_near : (mount : List ℕ) → ChangesUsers w event mount → Near mount
+    changed_near mount (Adds user password c) = asks_within within w event (AddUser mount user password) c near
+    changed_near mount (Deletes user c) = asks_within within w event (DeleteUser mount user) c near
+
     caused_near : (rule : Rule) (seat : Seat) → seat_of w.seats id ≡ Some seat → Cause w (world_after w event) event id rule → Near seat.mount
     caused_near _ seat has (SessionIsOver rule his sits out) = left_near id rule seat out has
     caused_near _ seat has (IsFarBehind him block his is_event feeding sits lags) =
@@ -144,6 +149,10 @@ module _ (within : List ℕ → Bool) (w : World) (s : IsSound w) (event : Event
         let one : Some his ≡ Some seat = sym sits ∙ has in
         let same : his ≡ seat = cc in
         ap (λ (x : Seat). within x.mount) (sym same) ∙ asks_within within w event (KillClient his.mount id) c near
+    caused_near _ seat has (IsNotAccepted his sits changes shut) =
+        let one : Some his ≡ Some seat = sym sits ∙ has in
+        let same : his ≡ seat = cc in
+        ap (λ (x : Seat). within x.mount) (sym same) ∙ changed_near his.mount changes
     caused_near _ seat has (HisSessionIsKilled session feeding is_live c) = let sits = s.sitting id seat has in cc
 
     -- a seat that is within reach is not this one

@@ -7,6 +7,7 @@ mod BegunLemmas
 mod CommandLaws
 mod CommandRows
 mod CommandService
+mod CommandSteps
 mod DenialLemmas
 mod FallbackLemmas
 mod GoneLemmas
@@ -29,6 +30,7 @@ mod TickOrder
 mod TitleLemmas
 mod ToldLemmas
 mod ToldTexts
+mod UserChanges
 mod WalkLemmas
 mod WalkingOnLemmas
 mod WebLaws

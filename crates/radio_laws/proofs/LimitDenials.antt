@@ -159,7 +159,7 @@ module _ (w : World) where
   only_listeners : {A : Type 0} (rule : Rule) → is_limit rule ≡ true → (event : Event) → verdict_in (rows_for w event) ≡ Denied rule
       → ((asked : ListenRequest) → event ≡ Listen asked → verdict_in (rows_for w (Listen asked)) ≡ Denied rule → A) → A
   only_listeners rule limit event v goes =
-      by_asking is_limit rule limit refl (of_no_command is_limit refl refl refl refl refl refl refl refl refl) event v
+      by_asking is_limit rule limit refl (of_no_command is_limit refl refl refl refl refl refl refl refl refl refl refl) event v
       (λ peer denied. absurd (no_limit is_limit (rows_for w (Arrive peer)) (refl, (refl, (refl, (refl, tt)))) rule denied limit))
       (λ asked denied.
       absurd (no_limit is_limit (rows_for w (Source asked)) (no_limit_to_feed asked (names_mount w.house.settings asked.mount)) rule denied limit))
@@ -186,7 +186,7 @@ module _ (w : World) where
   -- whoever may not arrive since there are as many clients as may be, or not feed since there are as many sources
   many_clients : (event : Event) → verdict_in (rows_for w event) ≡ Denied TooManyClients → w.house.settings.limits.clients ≤ length w.house.clients
   many_clients event v =
-      by_asking is_of_clients TooManyClients refl refl (of_no_command is_of_clients refl refl refl refl refl refl refl refl refl) event v
+      by_asking is_of_clients TooManyClients refl refl (of_no_command is_of_clients refl refl refl refl refl refl refl refl refl refl refl) event v
       (λ peer denied. let facts = arrive_facts w.house peer in
       reached (length w.house.clients) w.house.settings.limits.clients
       (clients_by facts.address_is_denied facts.address_is_allowed facts.clients_are_full facts.number_is_spent denied))
@@ -203,7 +203,7 @@ module _ (w : World) where
 
   many_sources : (event : Event) → verdict_in (rows_for w event) ≡ Denied TooManySources → w.house.settings.limits.sources ≤ length w.house.live
   many_sources event v =
-      by_asking is_of_sources TooManySources refl refl (of_no_command is_of_sources refl refl refl refl refl refl refl refl refl) event v
+      by_asking is_of_sources TooManySources refl refl (of_no_command is_of_sources refl refl refl refl refl refl refl refl refl refl refl) event v
       (λ peer denied. absurd (no_limit is_of_sources (rows_for w (Arrive peer)) (refl, (refl, (refl, (refl, tt)))) TooManySources denied refl))
       (λ asked denied. let facts = source_facts_at w.house asked.mount asked in
       reached (length w.house.live) w.house.settings.limits.sources

@@ -29,7 +29,7 @@ use Rattle.radio_fallback.proofs.FaresLemmas.{keeps_limit, sit_once}
 use Rattle.radio_fallback.proofs.TurnLemmas.{lands_where_he_fits}
 use Rattle.radio_house.specs.Streams.{shown_for}
 use Rattle.radio_events.specs.declared.command.Command.{Command as TheCommand}
-use Rattle.radio_events.specs.declared.command.Command.TheVariants.{MoveClients, KillClient, KillSource, SetTitle as NewTitle, SetFallback}
+use Rattle.radio_events.specs.declared.command.Command.TheVariants.{MoveClients, KillClient, KillSource, SetTitle as NewTitle, SetFallback, AddUser, DeleteUser}
 use Rattle.radio_core.specs.Changes.{answered, session_killed, changed, carried_along, session_over, session_ended, called_home, before_silence, session_silenced, silent_in}
 use Rattle.radio_house.specs.HouseChanges.{begun, raised, received}
 use Rattle.radio_laws.specs.Limits.{IsWithinLimits, SentUser, SitsThereAs, most_at, allows_duplicates_at}
@@ -51,6 +51,9 @@ use Rattle.radio_house.specs.Facts.{live_end, sight_of}
 use Rattle.radio_parts.specs.Timeouts.{lags_behind, has_sat_out}
 use Rattle.radio_core.proofs.Soundness.{has_new_seat, beside_new_seat}
 use Rattle.radio_core.proofs.Ways.{way_of}
+use Rattle.radio_access.specs.Lists.{with_user_at, without_user_at}
+use Rattle.radio_policy.specs.declared.rule.Rule.TheVariants.{ListenerPassword}
+use Rattle.radio_house.specs.Outsiders.{is_shut_out}
 
 -- the limits, with users compared as the table does it
 pub record Within (w : World) : Type 0 where
@@ -215,6 +218,12 @@ module _ (w : World) (s : IsSound w) (l : Within w) where
       within_still (changed w (Obey him (KillClient mount listener))) refl (nobody_came_losing w listener Killed)
   within_obeyed him (KillSource mount) = within_killed him (session_of w.house.live mount)
   within_obeyed him (NewTitle mount text) = within_still (changed w (Obey him (NewTitle mount text))) refl (nobody_came w.seats)
+  within_obeyed him (AddUser mount user password) =
+      within_still (changed w (Obey him (AddUser mount user password))) refl
+      (nobody_came_ending (is_shut_out (with_user_at w.house.lists mount user password) mount) ListenerPassword w.seats)
+  within_obeyed him (DeleteUser mount user) =
+      within_still (changed w (Obey him (DeleteUser mount user))) refl
+      (nobody_came_ending (is_shut_out (without_user_at w.house.lists mount user) mount) ListenerPassword w.seats)
   within_obeyed him (SetFallback mount fallback) = within_still (changed w (Obey him (SetFallback mount fallback))) refl (nobody_came w.seats)
 
   within_by : (event : Event) (o : Outcome) → Way w event o → Within (changed w o.change)

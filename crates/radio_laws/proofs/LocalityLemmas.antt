@@ -13,7 +13,7 @@ use Rattle.radio_parts.specs.Timeouts.{lags_behind}
 use Rattle.radio_fallback.specs.declared.moves.Move.TheVariants.{Ended as HasEnded, To}
 use Rattle.radio_events.specs.declared.command.Asked.TheVariants.{Command as Asks}
 use Rattle.radio_events.specs.declared.command.Command.{Command as TheCommand}
-use Rattle.radio_events.specs.declared.command.Command.TheVariants.{MoveClients, KillClient, KillSource, SetTitle as NewTitle, SetFallback}
+use Rattle.radio_events.specs.declared.command.Command.TheVariants.{MoveClients, KillClient, KillSource, SetTitle as NewTitle, SetFallback, AddUser, DeleteUser}
 use Rattle.radio_events.specs.declared.event.Event.{Event}
 use Rattle.radio_events.specs.declared.event.Event.TheVariants.{Command}
 use Rattle.radio_core.specs.declared.outcome.Change.{Change}
@@ -42,6 +42,11 @@ use Rattle.radio_laws.proofs.Agreeing.{beyond, SessionsDo, session_alike, with_s
 use Rattle.radio_laws.proofs.Agreeing.{with_seat_alike, without_alike, with_place_alike, with_end_alike, with_ended_alike}
 use Rattle.radio_laws.proofs.AgreeingWalks.{carried_alike}
 use Rattle.radio_laws.proofs.AgreeingOutcomes.{in_place, onward_by, all_one, outcome_alike}
+use Rattle.radio_access.specs.Lists.{Lists, with_user_at, without_user_at}
+use Rattle.radio_policy.specs.declared.rule.Rule.TheVariants.{ListenerPassword}
+use Rattle.radio_seats.specs.Seats.{with_ended}
+use Rattle.radio_house.specs.Outsiders.{is_shut_out}
+use Rattle.radio_laws.proofs.Agreeing.{none_out}
 
 -- a state agrees with itself
 pub agrees : (within : List ℕ → Bool) (w : World) → AgreeWithin within w w
@@ -115,6 +120,12 @@ module _ (within : List ℕ → Bool) (w : World) (live : List Session) (seats :
     listeners = without_alike within (session_ended v mount).seats (session_ended w mount).seats (walked mount near) id;
   }
 
+  -- those lose their seats at the mount whom its users do not let in
+  outsiders_alike : (lists : Lists) (mount : List ℕ) → within mount ≡ true
+      → ListenersDo within (with_ended seats (is_shut_out lists mount) ListenerPassword) (with_ended w.seats (is_shut_out lists mount) ListenerPassword)
+  outsiders_alike lists mount near =
+      with_ended_alike within seats w.seats s (is_shut_out lists mount) ListenerPassword (λ seat out. none_out within lists mount seat out near)
+
   -- a command is done
   obeys : (id : ℕ) (command : TheCommand) → AsksWithin w within (Asks command) → Agree (Obey id command)
   obeys id (MoveClients mount destination) near = record {
@@ -137,6 +148,16 @@ module _ (within : List ℕ → Bool) (w : World) (live : List Session) (seats :
             }
   obeys id (NewTitle mount title) near = record { house = refl; sessions = titled_alike within live w.house.live r mount title; listeners = s }
   obeys id (SetFallback mount fallback) near = record { house = refl; sessions = r; listeners = s }
+  obeys id (AddUser mount user password) near = record {
+    house = refl;
+    sessions = r;
+    listeners = outsiders_alike (with_user_at w.house.lists mount user password) mount near;
+  }
+  obeys id (DeleteUser mount user) near = record {
+    house = refl;
+    sessions = r;
+    listeners = outsiders_alike (without_user_at w.house.lists mount user) mount near;
+  }
 
   -- what the event changes
   unchanged : Agree Nothing

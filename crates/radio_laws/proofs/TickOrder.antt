@@ -36,7 +36,7 @@ use Rattle.radio_core.specs.Changes.{changed, session_over, session_ended, befor
 use Rattle.radio_house.specs.Clients.{Client, client_of, with_state}
 use Rattle.radio_house.specs.Relays.{Relay, relay_of}
 use Rattle.radio_house.specs.Facts.{sight_of, fallback_of}
-use Rattle.radio_core.specs.Finishes.{Cause, SessionIsOver, IsFarBehind, HasSatOut, HasAskedNothing, HasSentNothing, IsKilled, HisSessionIsKilled}
+use Rattle.radio_core.specs.Finishes.{Cause, SessionIsOver, IsFarBehind, HasSatOut, HasAskedNothing, HasSentNothing, IsKilled, HisSessionIsKilled, IsNotAccepted}
 use Rattle.radio_core.specs.Moves.{TakesTo, his_turn}
 use Rattle.radio_laws.specs.Outstaying.{IsInTime, IsEndedInOrder, NobodyOutstays}
 use Rattle.radio_parts.specs.Sessions.{Session, session_of}
@@ -139,6 +139,9 @@ module _ (w : World) (s : IsSound w) (ms : ℕ) where
         let feeds : standing_of w session.number ≡ Feeds mount = feeding in cc
     by_cause (IsFarBehind him block seat e feeds has behind) = cc
     by_cause (HasSatOut moment seat e has out) =
+        let sat : standing_of w session.number ≡ Sits = s.sitting session.number seat has in
+        let feeds : standing_of w session.number ≡ Feeds mount = feeding in cc
+    by_cause (IsNotAccepted seat has changes out) =
         let sat : standing_of w session.number ≡ Sits = s.sitting session.number seat has in
         let feeds : standing_of w session.number ≡ Feeds mount = feeding in cc
     by_cause (HasAskedNothing moment client e found late) =

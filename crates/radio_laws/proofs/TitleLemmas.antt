@@ -14,7 +14,7 @@ use Rattle.radio_tables.proofs.KeyLaws.{by_number, by_name}
 use Rattle.radio_events.specs.declared.command.Asked.{Asked}
 use Rattle.radio_events.specs.declared.command.Asked.TheVariants.{Command as Asks}
 use Rattle.radio_events.specs.declared.command.Command.{Command as TheCommand}
-use Rattle.radio_events.specs.declared.command.Command.TheVariants.{MoveClients, KillClient, KillSource, SetTitle as CommandsTitle, SetFallback}
+use Rattle.radio_events.specs.declared.command.Command.TheVariants.{MoveClients, KillClient, KillSource, SetTitle as CommandsTitle, SetFallback, AddUser, DeleteUser}
 use Rattle.radio_events.specs.declared.event.Event.{Event}
 use Rattle.radio_events.specs.declared.event.Event.TheVariants.{Push, Title}
 use Rattle.radio_laws.proofs.BegunLemmas.{source_begins, relay_begins}
@@ -27,7 +27,7 @@ use Rattle.radio_house.specs.World.{World, opening, standing_of}
 use Rattle.radio_core.specs.Changes.{answered, changed, session_killed}
 use Rattle.radio_core.specs.Command.{obeys as obeys_it}
 use Rattle.radio_events.specs.declared.text.Text.{Text}
-use Rattle.radio_events.specs.declared.text.Text.TheVariants.{Done, Moved, Json, Streams, Public, Page}
+use Rattle.radio_events.specs.declared.text.Text.TheVariants.{Done, Moved, Json, Streams, Public, Page, Ended as ListenersEnded}
 use Rattle.radio_events.specs.Texts.{IsShort}
 use Rattle.radio_core.specs.Allowed.{IsCommanded}
 use Rattle.radio_core.specs.Handing.{is_number, of_client}
@@ -114,6 +114,8 @@ module _ (w : World) (s : IsSound w) (told : ℕ → List (List ℕ)) (h : Told 
   commands_nothing event (KillClient mount listener) c id not = sets_no_title event (KillClient mount listener) c id refl
   commands_nothing event (KillSource mount) c id not = sets_no_title event (KillSource mount) c id refl
   commands_nothing event (SetFallback mount fallback) c id not = sets_no_title event (SetFallback mount fallback) c id refl
+  commands_nothing event (AddUser mount user password) c id not = sets_no_title event (AddUser mount user password) c id refl
+  commands_nothing event (DeleteUser mount user) c id not = sets_no_title event (DeleteUser mount user) c id refl
   commands_nothing event (CommandsTitle mount text) c id not =
       let there = title_live w s event mount text c in
       title_of_command event mount text c there.0 id there.1 false
@@ -125,6 +127,7 @@ module _ (w : World) (s : IsSound w) (told : ℕ → List (List ℕ)) (h : Told 
   long_sets_none : (event : Event) (text : Text) → (IsShort text → ⊥) → (asker id : ℕ) → sets w event (says (SaysText text) (Answer asker)) id ≡ []
   long_sets_none event Done long asker id = absurd (long tt)
   long_sets_none event (Moved count) long asker id = nothing_of event id [] refl
+  long_sets_none event (ListenersEnded count) long asker id = nothing_of event id [] refl
   long_sets_none event (Json bytes) long asker id = nothing_of event id [] refl
   long_sets_none event (Streams bytes) long asker id = nothing_of event id [] refl
   long_sets_none event (Public bytes origin) long asker id = nothing_of event id [] refl
@@ -260,6 +263,8 @@ module _ (w : World) (s : IsSound w) (told : ℕ → List (List ℕ)) (h : Told 
   command_title event (KillSource mount) c = λ other session e.
       none_set event (KillSource mount) c (λ id. refl) other session (still_live (session_of w.house.live mount) c.asked.id other session e)
   command_title event (SetFallback mount fallback) c = none_set event (SetFallback mount fallback) c (λ id. refl)
+  command_title event (AddUser mount user password) c = none_set event (AddUser mount user password) c (λ id. refl)
+  command_title event (DeleteUser mount user) c = none_set event (DeleteUser mount user) c (λ id. refl)
   command_title event (CommandsTitle mount text) c = command_sets event mount text c
 
   abbrev has_last : Event → Session → Type 0

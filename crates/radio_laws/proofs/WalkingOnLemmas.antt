@@ -45,7 +45,7 @@ use Rattle.radio_core.specs.Step.{outcome, world_after}
 use Rattle.radio_parts.specs.Stream.{end_of}
 use Rattle.radio_house.specs.World.{World, standing_of, has_relay}
 use Rattle.radio_laws.specs.WalkingOn.{FaresByHisTurn, ListenersWalkOn, MovesAreWhole}
-use Rattle.radio_laws.proofs.CommandLaws.{later_so}
+use Rattle.radio_laws.proofs.CommandSteps.{later_so}
 use Rattle.radio_core.proofs.Obeyed.{is_cut, named}
 use Rattle.radio_core.proofs.CarriedFates.{order_carried}
 use Rattle.radio_core.proofs.TickLemmas.{sound_sat_out}
@@ -230,9 +230,9 @@ module _ (w : World) where
 
   pub moves_are_whole : IsSound w → (event : Event) → MovesAreWhole w event
   moves_are_whole s event = record {
-    at_a_move = λ mount destination c. ap (λ (x : World). x.seats) (later_so w s event c);
+    at_a_move = λ mount destination c. ap (λ (x : World). x.seats) (later_so w event c);
     at_a_kill = λ mount c.
-        ap (λ (x : World). x.seats) (later_so w s event c ∙ is_cut w s event mount c)
+        ap (λ (x : World). x.seats) (later_so w event c ∙ is_cut w s event mount c)
         ∙ ap (λ (m : List ℕ). (carried_along (session_over w m) (Ended m)).seats) (named w s event mount c);
     at_its_coming = λ asked move before e brings. coming asked event move before e brings;
     at_a_relays_coming = λ mount shown move before e brings. rising mount shown event move before e brings;

@@ -1,21 +1,24 @@
 -- Who may give a command, what it does, and what it leaves as it is.
-use Rattle.std.specs.Prelude.{◌≡◌, ◌⊎◌, ◌↔◌, ℕ, ◌+◌, false, List, [], Option, Some, None}
+use Rattle.std.specs.Prelude.{◌≡◌, ◌⊎◌, ◌↔◌, ℕ, ◌+◌, true, false, List, [], Option, Some, None}
 use Rattle.std.specs.Str.{bytes_eq}
-use Rattle.radio_policy.specs.declared.rule.Rule.TheVariants.{Killed, SourceKilled}
+use Rattle.radio_policy.specs.declared.rule.Rule.TheVariants.{Killed, SourceKilled, ListenerPassword}
 use Rattle.radio_addr.specs.declared.peer.Peer.{Peer}
 use Rattle.radio_creds.specs.Credentials.{Credentials}
+use Rattle.md5.specs.Md5.{md5}
+use Rattle.radio_addr.specs.declared.address.Address.{Address}
+use Rattle.radio_access.specs.Lists.{passes, lets_in, has_users, has_user_at}
 use Rattle.radio_settings.specs.Options.{options_for}
 use Rattle.radio_seats.specs.declared.seat.Seat.{Seat}
 use Rattle.radio_seats.specs.Seats.{seat_of, count_at}
 use Rattle.radio_events.specs.declared.command.Asked.TheVariants.{Command as Asks}
 use Rattle.radio_events.specs.declared.command.Command.{Command as TheCommand}
-use Rattle.radio_events.specs.declared.command.Command.TheVariants.{MoveClients, KillClient, KillSource, SetTitle, SetFallback}
+use Rattle.radio_events.specs.declared.command.Command.TheVariants.{MoveClients, KillClient, KillSource, SetTitle, SetFallback, AddUser, DeleteUser}
 use Rattle.radio_events.specs.declared.command.CommandRequest.{CommandRequest}
 use Rattle.radio_events.specs.declared.event.Event.{Event}
 use Rattle.radio_events.specs.declared.event.Event.TheVariants.{Command}
 use Rattle.radio_events.specs.declared.reply.Reply.TheVariants.{Text as SaysText}
 use Rattle.radio_events.specs.declared.text.Text.{Text}
-use Rattle.radio_events.specs.declared.text.Text.TheVariants.{Done, Moved}
+use Rattle.radio_events.specs.declared.text.Text.TheVariants.{Done, Moved, Ended as EndedText}
 use Rattle.radio_events.specs.Texts.{IsShort}
 use Rattle.radio_house.specs.declared.standing.Standing.TheVariants.{Undecided, Answered, Finished}
 use Rattle.radio_core.specs.Allowed.{IsCommanded}
@@ -46,13 +49,16 @@ pub data MayGive (w : World) (pair : Credentials) : TheCommand → Type 0 where
 abbrev pub IsLive : World → List ℕ → Type 0
 IsLive w mount = (session : Session) × (session_of w.house.live mount ≡ Some session)
 
--- what a command needs is there: a live mount; to move its listeners, another one; to finish a listener, that he sits there
+-- what a command needs is there: a live mount; to move its listeners, another one; to finish a listener, that he sits there; to change users, a mount
+-- that has users, live or not, and to take one away, that he is one of them
 abbrev pub IsThere : World → TheCommand → Type 0
 IsThere w (MoveClients mount destination) = IsLive w mount × IsLive w destination × (mount ≡ destination → ⊥)
 IsThere w (KillClient mount listener) = IsLive w mount × (seat : Seat) × (seat_of w.seats listener ≡ Some seat) × (seat.mount ≡ mount)
 IsThere w (KillSource mount) = IsLive w mount
 IsThere w (SetTitle mount text) = IsLive w mount
 IsThere w (SetFallback mount fallback) = IsLive w mount
+IsThere w (AddUser mount user password) = has_users w.house.lists mount ≡ true
+IsThere w (DeleteUser mount user) = has_user_at w.house.lists mount user ≡ true
 
 -- one who has asked for nothing yet, and may give the command, is told that it was done where what it needs is there
 abbrev pub WhoMayIsServed : World → Type 0
@@ -82,7 +88,29 @@ pub record IsSourceKilled (w later : World) (mount : List ℕ) : Type 0 where
   pub is_over : session_of later.house.live mount ≡ None
   pub has_finished : standing_of later session.number ≡ Finished SourceKilled
 
--- what a command is to do is so afterwards, and what is said of it is true: as many have gone to the destination as the text tells
+-- how one fares who sat at a mount whose users have changed: he keeps his seat where they let him in, and else has lost it by `listener-password`
+pub data FaresByUsers (later : World) (mount : List ℕ) (id : ℕ) (seat : Seat) : Type 0 where
+  IsLetIn : lets_in later.house.lists mount seat.pair ≡ true → seat_of later.seats id ≡ Some seat → FaresByUsers later mount id seat
+  IsShutOut : lets_in later.house.lists mount seat.pair ≡ false → seat_of later.seats id ≡ None → standing_of later id ≡ Finished ListenerPassword
+      → FaresByUsers later mount id seat
+
+-- the users of the mount have changed: as many have lost their seats there as the text tells, and each who sat there fares by the users as they are now
+pub record HaveChanged (w : World) (event : Event) (mount : List ℕ) : Type 0 where
+  pub count : ℕ
+  pub told : reply_to w event ≡ SaysText (EndedText count)
+  pub counted : count_at (world_after w event).seats mount + count ≡ count_at w.seats mount
+  pub fares : (id : ℕ) (seat : Seat) → seat_of w.seats id ≡ Some seat → seat.mount ≡ mount → FaresByUsers (world_after w event) mount id seat
+
+-- this user is let in with what has the MD5 digest of this password
+abbrev pub HasPassword : World → List ℕ → List ℕ → List ℕ → Type 0
+HasPassword w mount user password = (pair : Credentials) → pair.user ≡ user
+    → (lets_in w.house.lists mount (Some pair) ≡ true) ↔ (md5 pair.password ≡ md5 password)
+
+-- this user is let in with nothing
+abbrev pub IsNoUser : World → List ℕ → List ℕ → Type 0
+IsNoUser w mount user = (pair : Credentials) → pair.user ≡ user → lets_in w.house.lists mount (Some pair) ≡ false
+
+-- what a command is to do is so afterwards, and what is said of it is true: as many have gone to the destination, or have finished, as the text tells
 abbrev pub HasDone : World → Event → TheCommand → Type 0
 HasDone w event (MoveClients mount destination) = (count : ℕ) × (reply_to w event ≡ SaysText (Moved count))
     × (count_at w.seats destination + count ≡ count_at (world_after w event).seats destination)
@@ -93,6 +121,8 @@ HasDone w event (SetTitle mount text) = (reply_to w event ≡ SaysText Done) × 
     × (session_of (world_after w event).house.live mount ≡ Some (record session { title = Some text }))
 HasDone w event (SetFallback mount fallback) = (reply_to w event ≡ SaysText Done)
     × ((next : List ℕ) → FallsBack (world_after w event) mount next ↔ (fallback ≡ Some next))
+HasDone w event (AddUser mount user password) = HaveChanged w event mount × HasPassword (world_after w event) mount user password
+HasDone w event (DeleteUser mount user) = HaveChanged w event mount × IsNoUser (world_after w event) mount user
 
 -- the mount that a command names, from which it moves and at which it kills or sets something
 abbrev pub mount_of : TheCommand → List ℕ
@@ -101,14 +131,19 @@ mount_of (KillClient mount listener) = mount
 mount_of (KillSource mount) = mount
 mount_of (SetTitle mount text) = mount
 mount_of (SetFallback mount fallback) = mount
+mount_of (AddUser mount user password) = mount
+mount_of (DeleteUser mount user) = mount
 
--- all else is as it was: other mounts' sessions, with their titles, their listeners, and where these fall back; and the settings
+-- all else is as it was: other mounts' sessions, with their titles, their listeners, where these fall back, and who is let in there; the addresses that
+-- are let in; and the settings
 pub record StaysBeside (w later : World) (mount : List ℕ) : Type 0 where
   pub sessions : (other : List ℕ) → bytes_eq mount other ≡ false → session_of later.house.live other ≡ session_of w.house.live other
   pub seats : (id : ℕ) (seat : Seat) → seat_of w.seats id ≡ Some seat → bytes_eq mount seat.mount ≡ false → seat_of later.seats id ≡ Some seat
   pub fallbacks : (other : List ℕ) → bytes_eq mount other ≡ false → set_for later.house.fallbacks other ≡ set_for w.house.fallbacks other
   pub settings : later.house.settings ≡ w.house.settings
-  pub lists : later.house.lists ≡ w.house.lists
+  pub users : (other : List ℕ) (pair : Option Credentials) → bytes_eq mount other ≡ false
+      → lets_in later.house.lists other pair ≡ lets_in w.house.lists other pair
+  pub addresses : (peer : Address) → passes later.house.lists peer ≡ passes w.house.lists peer
   pub time : later.house.time ≡ w.house.time
 
 -- a command that the policy allows is done, the client who gave it has had his answer, and nothing changes beyond the mount that it names

@@ -15,3 +15,4 @@ pub mod Service
 pub mod Outstaying
 pub mod Shown
 pub mod Locality
+pub mod Users

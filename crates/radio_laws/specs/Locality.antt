@@ -11,7 +11,7 @@ use Rattle.radio_events.specs.declared.event.Event.TheVariants.{Arrive, Source, 
 use Rattle.radio_events.specs.declared.event.Event.TheVariants.{RelayUp, RelayDown, Clock}
 use Rattle.radio_events.specs.declared.command.Asked.{Asked}
 use Rattle.radio_events.specs.declared.command.Asked.TheVariants.{NoCommand, MissingArgument, Listing as AsksFor, Command as Asks}
-use Rattle.radio_events.specs.declared.command.Command.TheVariants.{MoveClients, KillClient, KillSource, SetTitle, SetFallback}
+use Rattle.radio_events.specs.declared.command.Command.TheVariants.{MoveClients, KillClient, KillSource, SetTitle, SetFallback, AddUser, DeleteUser}
 use Rattle.radio_events.specs.declared.command.Listing.TheVariants.{Clients}
 use Rattle.radio_house.specs.declared.standing.Standing.TheVariants.{Feeds}
 use Rattle.radio_core.specs.Step.{reply_to, world_after}
@@ -87,6 +87,8 @@ AsksWithin w within (Asks (KillClient mount listener)) = within mount ≡ true
 AsksWithin w within (Asks (KillSource mount)) = WalksWithin w within mount
 AsksWithin w within (Asks (SetTitle mount title)) = within mount ≡ true
 AsksWithin w within (Asks (SetFallback mount fallback)) = Unit {0}
+AsksWithin w within (Asks (AddUser mount user password)) = within mount ≡ true
+AsksWithin w within (Asks (DeleteUser mount user)) = within mount ≡ true
 
 -- whoever asks to hear a mount walks from it; Icecast's status, where it is asked for, shows all
 pub record HearsWithin (w : World) (within : List ℕ → Bool) (path : List ℕ) : Type 0 where

@@ -19,6 +19,7 @@ ghost use Rattle.radio_laws.specs.Service.{Serves, ChangesNothing};
 ghost use Rattle.radio_laws.specs.Stretches.{StretchesAreWhole, SeatsKeepTheirMounts};
 ghost use Rattle.radio_laws.specs.WalkingOn.{ListenersWalkOn, MovesAreWhole};
 ghost use Rattle.radio_laws.specs.Commanded.{OnlyWhoMayCommands, WhoMayIsServed, CommandsAreKept, FallbacksStay, KilledHearNothing};
+ghost use Rattle.radio_laws.specs.Users.{UsersStep, SittersAreLetIn};
 ghost use Rattle.radio_laws.specs.TitlesTold.{TitlesAreTold};
 ghost use Rattle.radio_house.specs.Timeouts.{TestsAreInNumbers};
 ghost use Rattle.radio_laws.specs.Outstaying.{NobodyOutstays};
@@ -118,14 +119,23 @@ pub fn commands_are_done()
     ensures may { (settings : Settings) (lists : Lists) (events : List Event) (event : Event) → OnlyWhoMayCommands (run_after settings lists events) event }
     // and whoever may give one is told that it was done, where what it needs is there
     ensures served { (settings : Settings) (lists : Lists) (events : List Event) → WhoMayIsServed (run_after settings lists events) }
-    // and one that the policy allows is done, as many are moved as its text tells, the client has had
-    // his answer, and nothing changes beyond the mount that it names
+    // and one that the policy allows is done, as many are moved, or have finished, as its text tells, the client has
+    // had his answer, and nothing changes beyond the mount that it names
     ensures kept { (settings : Settings) (lists : Lists) (events : List Event) (event : Event) → CommandsAreKept (run_after settings lists events) event }
     // and a fallback that was set for a mount stays, whatever happens, until a command sets another for it
     ensures fallbacks { (settings : Settings) (lists : Lists) (events : List Event) (event : Event) → FallbacksStay (run_after settings lists events) event }
     // and whom a command has finished is handed nothing from then on, whatever happens
     ensures silent { (settings : Settings) (lists : Lists) (events : List Event) (event : Event)
         → KilledHearNothing (run_after settings lists events) event }
+{}
+
+/// The law of users.
+pub fn users_change_one_by_one()
+    // whatever has happened, who is let in at a mount stays as it is, but for a user to whom a command gives a password,
+    // and for one whom a command takes away; no mount has users that had none, and the addresses that are let in stay
+    ensures steps { (settings : Settings) (lists : Lists) (events : List Event) (event : Event) → UsersStep (run_after settings lists events) event }
+    // and nobody sits at a mount whose users, as they are now, do not let him in
+    ensures sitters { (settings : Settings) (lists : Lists) (events : List Event) → SittersAreLetIn (run_after settings lists events) }
 {}
 
 /// The law of sight.

@@ -138,6 +138,7 @@ fn name_of(command: &Command) -> &'static str {
         Command::KillSource { .. } => "killsource",
         Command::SetTitle { .. } => "metadata",
         Command::SetFallback { .. } => "fallbacks",
+        Command::AddUser { .. } | Command::DeleteUser { .. } => "users",
     }
 }
 
@@ -148,11 +149,13 @@ fn mount_of(command: &Command) -> &MountName {
         | Command::KillClient { mount, .. }
         | Command::KillSource { mount }
         | Command::SetTitle { mount, .. }
-        | Command::SetFallback { mount, .. } => mount,
+        | Command::SetFallback { mount, .. }
+        | Command::AddUser { mount, .. }
+        | Command::DeleteUser { mount, .. } => mount,
     }
 }
 
-/// What else a command is told; a title has a line of its own.
+/// What else a command is told; a title has a line of its own, and a password is not written.
 fn argument_of(alloc: Global, command: &Command) -> Result<Vec<u8>, OutOfMemory> {
     match command {
         Command::MoveClients { destination, .. } => Vec::from_slice(alloc, destination.as_bytes()),
@@ -164,6 +167,15 @@ fn argument_of(alloc: Global, command: &Command) -> Result<Vec<u8>, OutOfMemory>
             fallback: Some(fallback),
             ..
         } => Vec::from_slice(alloc, fallback.as_bytes()),
+        Command::AddUser { user, .. } => action_on(alloc, b"add ", user.as_slice()),
+        Command::DeleteUser { user, .. } => action_on(alloc, b"delete ", user.as_slice()),
         _ => Ok(Vec::new(alloc)),
     }
+}
+
+/// What is done to a user, and his name.
+fn action_on(alloc: Global, action: &[u8], user: &[u8]) -> Result<Vec<u8>, OutOfMemory> {
+    let mut argument = Vec::from_slice(alloc, action)?;
+    argument.extend_from_slice(user)?;
+    Ok(argument)
 }

@@ -8,10 +8,10 @@ use Rattle.radio_policy.specs.declared.facts.SourceFacts.{SourceFacts}
 use Rattle.radio_policy.specs.declared.facts.RelayFacts.{RelayFacts}
 use Rattle.radio_policy.specs.declared.facts.PushFacts.{PushFacts}
 use Rattle.radio_policy.specs.declared.facts.ListenFacts.{ListenFacts}
-use Rattle.radio_policy.specs.declared.rule.Rule.TheVariants.{NoCommand, AdminPassword, RelayPassword, MissingArgument, NoDestination, SameMount, NoClient}
+use Rattle.radio_policy.specs.declared.rule.Rule.TheVariants.{NoCommand, AdminPassword, RelayPassword, MissingArgument, NoDestination, SameMount, NoClient, NoUsers, NoUser}
 use Rattle.radio_policy.specs.declared.facts.CommandFacts.{CommandFacts}
 use Rattle.radio_policy.specs.declared.facts.CommandNeeds.{CommandNeeds}
-use Rattle.radio_policy.specs.declared.facts.CommandNeeds.TheVariants.{Argument, Nothing, Mount, Destination, Client}
+use Rattle.radio_policy.specs.declared.facts.CommandNeeds.TheVariants.{Argument, Nothing, Mount, Destination, Client, Users, User}
 use Rattle.radio_policy.specs.declared.facts.CommandAccess.{CommandAccess}
 use Rattle.radio_policy.specs.declared.facts.CommandAccess.TheVariants.{Everybody, Pair}
 use Rattle.radio_policy.specs.declared.facts.Opener.{Opener}
@@ -104,6 +104,11 @@ needs_rows (Destination facts) =
 needs_rows (Client mount_is_live sits_there) =
     row NoMount (not mount_is_live) ∷
     row NoClient (not sits_there) ∷
+    []
+needs_rows (Users has_users) = row NoUsers (not has_users) ∷ []
+needs_rows (User has_users is_listed) =
+    row NoUsers (not has_users) ∷
+    row NoUser (not is_listed) ∷
     []
 
 -- a client gives the command of a path

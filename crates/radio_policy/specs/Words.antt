@@ -4,7 +4,7 @@ use Rattle.radio_policy.specs.declared.rule.Rule.TheVariants.{AddressDenied, Add
 use Rattle.radio_policy.specs.declared.rule.Rule.TheVariants.{TooManySources, MountInUse}
 use Rattle.radio_policy.specs.declared.rule.Rule.TheVariants.{ContentType, NoMount, ListenerPassword, UserTwice, NotLive, MountFull, FallbackDepth}
 use Rattle.radio_policy.specs.declared.rule.Rule.TheVariants.{NumbersSpent, BadHead, BadMethod}
-use Rattle.radio_policy.specs.declared.rule.Rule.TheVariants.{NoCommand, AdminPassword, RelayPassword, MissingArgument, NoDestination, SameMount, NoClient}
+use Rattle.radio_policy.specs.declared.rule.Rule.TheVariants.{NoCommand, AdminPassword, RelayPassword, MissingArgument, NoDestination, SameMount, NoClient, NoUsers, NoUser}
 use Rattle.radio_policy.specs.declared.rule.Rule.TheVariants.{Lagged, TimeOver, HeaderTimeout, SourceSilent, Killed, SourceKilled}
 use Rattle.radio_policy.specs.declared.rule.Status.{Status}
 use Rattle.radio_policy.specs.declared.rule.Status.TheVariants.{BadRequest, Unauthorized, Forbidden, NotFound}
@@ -32,6 +32,8 @@ word_of MissingArgument = codes "missing-argument"
 word_of NoDestination = codes "no-destination"
 word_of SameMount = codes "same-mount"
 word_of NoClient = codes "no-client"
+word_of NoUsers = codes "no-users"
+word_of NoUser = codes "no-user"
 word_of NumbersSpent = codes "numbers-spent"
 word_of BadHead = codes "bad-head"
 word_of BadMethod = codes "bad-method"
@@ -65,6 +67,8 @@ status_of MissingArgument = Some BadRequest
 status_of NoDestination = Some NotFound
 status_of SameMount = Some BadRequest
 status_of NoClient = Some NotFound
+status_of NoUsers = Some NotFound
+status_of NoUser = Some NotFound
 status_of NumbersSpent = Some Forbidden
 status_of BadHead = Some BadRequest
 status_of BadMethod = Some BadRequest

@@ -130,6 +130,15 @@ pub enum CommandNeeds {
         mount_is_live: bool,
         sits_there: bool,
     },
+    /// A mount that has users.
+    Users {
+        has_users: bool,
+    },
+    /// A mount that has users, and this one among them.
+    User {
+        has_users: bool,
+        is_listed: bool,
+    },
 }
 
 /// What is looked up for a command that moves listeners.

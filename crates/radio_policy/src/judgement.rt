@@ -154,6 +154,11 @@ fn judge_needs(needs: &CommandNeeds) -> Verdict
             mount_is_live,
             sits_there,
         } => judge_client(*mount_is_live, *sits_there),
+        CommandNeeds::Users { has_users } => judge_users(*has_users),
+        CommandNeeds::User {
+            has_users,
+            is_listed,
+        } => judge_user(*has_users, *is_listed),
     }
 }
 
@@ -174,6 +179,28 @@ fn judge_client(mount_is_live: bool, sits_there: bool) -> Verdict
         Verdict::Deny(Rule::NoMount)
     } else if !sits_there {
         Verdict::Deny(Rule::NoClient)
+    } else {
+        Verdict::Allow
+    }
+}
+
+fn judge_users(has_users: bool) -> Verdict
+    ensures { result ≡ verdict_in (needs_rows (CommandNeeds.Users has_users)) }
+{
+    if has_users {
+        Verdict::Allow
+    } else {
+        Verdict::Deny(Rule::NoUsers)
+    }
+}
+
+fn judge_user(has_users: bool, is_listed: bool) -> Verdict
+    ensures { result ≡ verdict_in (needs_rows (CommandNeeds.User has_users is_listed)) }
+{
+    if !has_users {
+        Verdict::Deny(Rule::NoUsers)
+    } else if !is_listed {
+        Verdict::Deny(Rule::NoUser)
     } else {
         Verdict::Allow
     }

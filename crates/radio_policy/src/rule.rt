@@ -61,6 +61,10 @@ pub enum Rule {
     SameMount,
     /// No listener of that number sits at that mount.
     NoClient,
+    /// The mount has no users in the settings.
+    NoUsers,
+    /// The mount's users have none of this name.
+    NoUser,
     /// A count would pass the largest number of 64 bits.
     NumbersSpent,
     /// What came is no head of a request.
@@ -110,6 +114,8 @@ impl Rule {
             Rule::NoDestination => "no-destination",
             Rule::SameMount => "same-mount",
             Rule::NoClient => "no-client",
+            Rule::NoUsers => "no-users",
+            Rule::NoUser => "no-user",
             Rule::NumbersSpent => "numbers-spent",
             Rule::BadHead => "bad-head",
             Rule::BadMethod => "bad-method",
@@ -156,7 +162,9 @@ impl Rule {
             | Rule::FallbackDepth
             | Rule::NoCommand
             | Rule::NoDestination
-            | Rule::NoClient => Some(Status::NotFound),
+            | Rule::NoClient
+            | Rule::NoUsers
+            | Rule::NoUser => Some(Status::NotFound),
         }
     }
 }

@@ -238,6 +238,10 @@ module _ (name : ℕ → List ℕ) (mount : List ℕ) (only : (k : ℕ) → byte
     nobody_ends [] = refl
     nobody_ends (row ∷ rows) = rw (holds_nowhere row.state) (ap (λ seats. named name row ∷ seats) (nobody_ends rows))
 
+    pub none_to_end : (rows : List ListenerRow) → 0 ≡ how_many (passes_at mount p) (map (named name) rows)
+    none_to_end [] = refl
+    none_to_end (row ∷ rows) = rw (holds_nowhere row.state) (none_to_end rows)
+
 -- where the listeners of one mount after another end
 module _ (p : ℕ → Guest → Bool) (rule : Rule) where
   seat_absorbs : (seat : Seat) (b c : Bool) → passes_in p seat ≡ c

@@ -11,6 +11,7 @@ ghost use Rattle.radio_seats.specs.Seats.{count_at, sits_there, AreByNumber};
 ghost use Rattle.radio_seats.specs.Board.{is_prepared};
 ghost use Rattle.radio_seats.specs.Guests.{passes_in, passes_at, first_moment};
 ghost use Rattle.radio_seats.specs.Lent.{lent_seat, standing_in};
+ghost use Rattle.radio_seats.specs.Rests.{how_many};
 ghost use Rattle.radio_seats.specs.Rows.{is_row, number_in, holds_in, holds_at, state_moment};
 
 use crate::changes::{Advances, Ends, FinishesAt, Moves};
@@ -183,20 +184,22 @@ impl Seats {
         self.mounts.leave(from);
     }
 
-    /// All who sit at the mount, and of whom the test holds, lose their seats by the rule. It takes
-    /// no memory. The listeners are looked at once where it holds of nobody.
-    pub fn finish_at_if<T: SeatTest>(&mut self, mount: &MountName, test: &T, rule: Rule)
-        ensures { self.new ≡ record self.old { seats = with_ended self.old.seats (passes_at mount.now (T.passes test.now)) rule } }
+    /// All who sit at the mount, and of whom the test holds, lose their seats by the rule; how many they
+    /// are. It takes no memory. The listeners are looked at once where it holds of nobody.
+    pub fn finish_at_if<T: SeatTest>(&mut self, mount: &MountName, test: &T, rule: Rule) -> u64
+        ensures seats { self.new ≡ record self.old { seats = with_ended self.old.seats (passes_at mount.now (T.passes test.now)) rule } }
+        ensures count { result ≡ how_many (passes_at mount.now (T.passes test.now)) self.old.seats }
     {
         let Some(number) = self.mounts.number(mount) else {
-            return;
+            return 0;
         };
         let count = count_where(&self.rows, number, test);
         if count == 0 {
-            return;
+            return 0;
         }
         self.rows.change_all(&FinishesAt { number, test, rule });
-        self.mounts.lose(number, count as u64);
+        self.mounts.lose(number, count);
+        count
     }
 
     /// All who have a seat of which the test holds lose it by the rule. It takes no memory. The
@@ -205,7 +208,7 @@ impl Seats {
         ensures { self.new ≡ record self.old { seats = with_ended self.old.seats (passes_in (T.passes test.now)) rule } }
     {
         'mounts: while let Some(mount) = self.first_mount_where(test) {
-            self.finish_at_if(&mount, test, rule);
+            let _ = self.finish_at_if(&mount, test, rule);
         }
     }
 
@@ -302,10 +305,10 @@ fn first_in<M: GuestMoment>(rows: &Rows, moment: &M, last: u64) -> u64
 }
 
 /// How many sit at the mount of this number, of whom the test holds.
-fn count_where<T: SeatTest>(rows: &Rows, number: u64, test: &T) -> usize
+fn count_where<T: SeatTest>(rows: &Rows, number: u64, test: &T) -> u64
     ensures { result ≡ length (filter (λ row. holds_at (T.passes test.now) number row.state) rows.now) }
 {
     rows.iter()
         .filter(|row| row.state.passes_at(number, test))
-        .count()
+        .count() as u64
 }

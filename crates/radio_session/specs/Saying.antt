@@ -6,8 +6,8 @@ use Rattle.radio_policy.specs.Words.{word_of, status_of}
 use Rattle.radio_events.specs.declared.reply.Reply.{Reply}
 use Rattle.radio_events.specs.declared.reply.Reply.TheVariants.{Arrived, Feeding, Seated, Drawn, Noted, Text, Deny, Finished, Stray}
 use Rattle.radio_events.specs.declared.text.Text.{Text as CommandText}
-use Rattle.radio_events.specs.declared.text.Text.TheVariants.{Done as CommandDone, Moved, Json, Streams, Public, Page}
-use Rattle.radio_events.specs.Texts.{done_line, moved_line}
+use Rattle.radio_events.specs.declared.text.Text.TheVariants.{Done as CommandDone, Moved, Ended as ListenersEnded, Json, Streams, Public, Page}
+use Rattle.radio_events.specs.Texts.{done_line, moved_line, ended_line}
 use Rattle.radio_events.specs.declared.reply.StreamHead.{StreamHead}
 use Rattle.radio_heads.specs.Answer.{source_text, continue_text, denial_text, sized_text, content_type}
 use Rattle.radio_heads.specs.declared.answer.TextKind.TheVariants.{Plain, Json as InJson}
@@ -94,6 +94,7 @@ head_text interval head = stream_text head.allow_origin (record {
 abbrev pub text_answer : CommandText → List ℕ
 text_answer CommandDone = sized_text 200 (content_type Plain) done_line
 text_answer (Moved count) = sized_text 200 (content_type Plain) (moved_line count)
+text_answer (ListenersEnded count) = sized_text 200 (content_type Plain) (ended_line count)
 text_answer (Json bytes) = sized_text 200 (content_type InJson) bytes
 text_answer (Streams bytes) = sized_text 200 (content_type Plain) bytes
 text_answer (Public bytes origin) = shared_text origin (content_type InJson) bytes

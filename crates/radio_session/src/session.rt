@@ -10,6 +10,7 @@ use radio_policy::Rule;
 use std::alloc::Global;
 use std::marker::Model;
 
+mod answers;
 mod asking;
 mod commands;
 mod feeding;

@@ -2,7 +2,8 @@ ghost use Rattle.std.specs.Prelude.{◌≡◌, IfOk};
 ghost use Rattle.radio_core.specs.Command.{gives_command, does_asked, said_of};
 ghost use Rattle.radio_house.specs.CommandFacts.{rows_to_command};
 ghost use Rattle.radio_core.specs.Outcomes.{on_verdict};
-ghost use Rattle.radio_core.specs.Planned.{uncounted, told_moved};
+ghost use Rattle.radio_core.specs.Counts.{nobody};
+ghost use Rattle.radio_core.specs.Planned.{uncounted, told_counts};
 ghost use Rattle.radio_fallback.specs.declared.moves.Carried.{Carried as CarriedOf};
 ghost use Rattle.radio_policy.specs.Verdicts.{verdict_in};
 
@@ -14,8 +15,8 @@ use radio_house::Standing;
 use radio_policy::{Action, Verdict, judge};
 
 impl State {
-    /// A client gives a command. Where its reply tells how many were moved, that is known only when
-    /// the change is made: it tells none here. `OutOfMemory` where memory was refused.
+    /// A client gives a command. Where its reply tells how many were moved, or have finished, that is
+    /// known only when the change is made: it tells none here. `OutOfMemory` where memory was refused.
     pub(super) fn command(&self, asked: CommandRequest) -> Result<Outcome, OutOfMemory>
         ensures { IfOk result (λ o. o ≡ uncounted (gives_command self.now asked)) }
     {
@@ -60,12 +61,13 @@ impl State {
     }
 }
 
-/// What is said of a command, before it is known how many it has moved.
+/// What is said of a command, before it is known how many it has moved or finished.
 fn said_of(command: &Command) -> Text
-    ensures { (counts : CarriedOf) → result ≡ told_moved (said_of command.now counts) 0 }
+    ensures { (counts : CarriedOf) → result ≡ told_counts (said_of command.now counts) nobody }
 {
     match command {
         Command::MoveClients { .. } => Text::Moved(0),
+        Command::AddUser { .. } | Command::DeleteUser { .. } => Text::Ended(0),
         _ => Text::Done,
     }
 }

@@ -23,7 +23,7 @@ use radio_settings::{MountName, Shown};
 pub(super) const NOBODY: Carried = Carried { moved: 0, ended: 0 };
 
 impl State {
-    /// Makes a change, and answers how many listeners its move has carried along. `OutOfMemory` where
+    /// Makes a change, and answers how many listeners it has moved and finished. `OutOfMemory` where
     /// memory was refused; nothing has changed then.
     pub(super) fn commit(&mut self, change: Change) -> Result<Carried, OutOfMemory>
         ensures ok { OnOk result (self.new ≡ kept_changed self.old change) }
@@ -51,8 +51,7 @@ impl State {
         }
     }
 
-    /// Makes a change that takes no memory, and answers how many listeners its move has carried
-    /// along.
+    /// Makes a change that takes no memory, and answers how many listeners it has moved and finished.
     fn commit_in_place(&mut self, change: Change) -> Carried
         ensures state { NeedsNoMemory change → self.new ≡ changed self.old change }
         ensures counts { NeedsNoMemory change → result ≡ counted self.old change }
@@ -119,7 +118,8 @@ impl State {
     {
         let end = Place::new(self.house.live_end(&mount));
         let queue = self.house.settings().limits.queue_size.get() as u64;
-        self.seats
+        let _lost = self
+            .seats
             .finish_at_if(&mount, &LagsBehind { end, queue }, Rule::Lagged);
     }
 

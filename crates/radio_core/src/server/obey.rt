@@ -16,7 +16,7 @@ use radio_policy::Rule;
 use radio_settings::MountName;
 
 impl State {
-    /// The command is done, and the client who gave it has had his answer; how many it has moved.
+    /// The command is done, and the client who gave it has had his answer; how many it has moved or finished.
     /// `OutOfMemory` where memory was refused; nothing has changed then.
     pub(super) fn obey(&mut self, id: u64, command: Command) -> Result<Carried, OutOfMemory>
         ensures ok { OnOk result (self.new ≡ changed self.old (Change.Obey id command)) }
@@ -29,6 +29,15 @@ impl State {
                 self.house.set_state(id, ClientState::Answered);
                 Ok(NOBODY)
             }
+            Command::AddUser {
+                mount,
+                user,
+                password,
+            } => {
+                let counts = self.add_user(&mount, user.as_slice(), password.as_slice())?;
+                self.house.set_state(id, ClientState::Answered);
+                Ok(counts)
+            }
             command => {
                 self.house.set_state(id, ClientState::Answered);
                 Ok(self.do_in_place(command))
@@ -36,7 +45,7 @@ impl State {
         }
     }
 
-    /// A command is done that takes no memory; how many it has moved.
+    /// A command is done that takes no memory; how many it has moved or finished.
     fn do_in_place(&mut self, command: Command) -> Carried
         ensures state { TakesNoRoom command → self.new ≡ done self.old command }
         ensures counts { TakesNoRoom command → result ≡ counts_by self.old command }
@@ -61,7 +70,8 @@ impl State {
                 self.set_title(&mount, title);
                 NOBODY
             }
-            Command::SetFallback { .. } => NOBODY,
+            Command::DeleteUser { mount, user } => self.delete_user(&mount, user.as_slice()),
+            Command::SetFallback { .. } | Command::AddUser { .. } => NOBODY,
         }
     }
 

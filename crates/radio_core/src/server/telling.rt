@@ -1,38 +1,40 @@
-//! Replies that tell how many a command has moved, which is known once its change is made.
+//! Replies that tell how many a command has moved or finished, which is known once its change is made.
 
 ghost use Rattle.std.specs.Prelude.{◌≡◌, map};
-ghost use Rattle.radio_core.specs.Planned.{told_moved, with_count};
+ghost use Rattle.radio_core.specs.Planned.{told_counts, with_counts};
 ghost use Rattle.radio_events.specs.declared.reply.Reply.{Reply as ReplyOf};
 
 use radio_events::{Reply, Text};
+use radio_fallback::Carried;
 
-/// The reply, with this for the number of those who were moved, if it tells it.
-pub(super) fn with_count(reply: Reply, count: u64) -> Reply
-    ensures { result ≡ with_count reply count }
+/// The reply, with these for the number of those who were moved, or have finished, if it tells one.
+pub(super) fn with_counts(reply: Reply, counts: Carried) -> Reply
+    ensures { result ≡ with_counts reply counts }
 {
     match reply {
-        Reply::Text(text) => Reply::Text(told_moved(text, count)),
+        Reply::Text(text) => Reply::Text(told_counts(text, counts)),
         reply => reply,
     }
 }
 
-fn told_moved(text: Text, count: u64) -> Text
-    ensures { result ≡ told_moved text count }
+fn told_counts(text: Text, counts: Carried) -> Text
+    ensures { result ≡ told_counts text counts }
 {
     match text {
-        Text::Moved(_) => Text::Moved(count),
+        Text::Moved(_) => Text::Moved(counts.moved),
+        Text::Ended(_) => Text::Ended(counts.ended),
         text => text,
     }
 }
 
-/// Each of the replies with it.
-pub(super) fn all_with_count(replies: [Reply; 3], count: u64) -> [Reply; 3]
-    ensures { result ≡ map (λ (reply : ReplyOf). with_count reply count) replies }
+/// Each of the replies with them.
+pub(super) fn all_with_counts(replies: [Reply; 3], counts: Carried) -> [Reply; 3]
+    ensures { result ≡ map (λ (reply : ReplyOf). with_counts reply counts) replies }
 {
     let [first, second, third] = replies;
     [
-        with_count(first, count),
-        with_count(second, count),
-        with_count(third, count),
+        with_counts(first, counts),
+        with_counts(second, counts),
+        with_counts(third, counts),
     ]
 }

@@ -6,7 +6,7 @@ ghost use Rattle.radio_core.specs.Counts.{counted};
 ghost use Rattle.radio_core.specs.Due.{at_moment, due_by};
 ghost use Rattle.radio_house.specs.Due.{first_due};
 ghost use Rattle.radio_core.specs.KeptChanges.{kept_changed};
-ghost use Rattle.radio_core.specs.Planned.{planned, with_count};
+ghost use Rattle.radio_core.specs.Planned.{planned, with_counts};
 ghost use Rattle.radio_events.specs.declared.reply.Reply.{Reply as ReplyOf};
 ghost use Rattle.radio_core.specs.Step.{StandsForSome, NeedsNoMemory};
 ghost use Rattle.radio_house.specs.World.{opening};
@@ -14,7 +14,7 @@ ghost use Rattle.radio_events.specs.Events.{TakesNoMemory};
 
 use super::commit::NOBODY;
 use super::state::State;
-use super::telling::{all_with_count, with_count};
+use super::telling::{all_with_counts, with_counts};
 use crate::OutOfMemory;
 use crate::outcome::{Change, Outcome};
 use radio_access::Lists;
@@ -77,15 +77,15 @@ impl TimedState {
     }
 
     /// Makes a change, and gives back the reply that was worked out for it, which tells how many were
-    /// moved, if it is such a one. `OutOfMemory` where memory was refused; nothing has changed then.
+    /// moved or have finished, if it is such a one. `OutOfMemory` where memory was refused; nothing has changed then.
     pub(super) fn commit_for(&mut self, change: Change, reply: Reply) -> Result<Reply, OutOfMemory>
         ensures ok { OnOk result (self.new ≡ kept_changed self.old change) }
-        ensures told { IfOk result (λ told. told ≡ with_count reply (counted self.old change).moved) }
+        ensures told { IfOk result (λ told. told ≡ with_counts reply (counted self.old change)) }
         ensures err { OnErr result (self.new ≡ self.old) }
         ensures frees { NeedsNoMemory change → IsOk result }
     {
         match self.commit(change) {
-            Ok(counts) => Ok(with_count(reply, counts.moved)),
+            Ok(counts) => Ok(with_counts(reply, counts)),
             Err(refused) => {
                 drop(reply);
                 Err(refused)
@@ -101,12 +101,12 @@ impl TimedState {
         replies: [Reply; 3],
     ) -> Result<[Reply; 3], OutOfMemory>
         ensures ok { OnOk result (self.new ≡ kept_changed self.old change) }
-        ensures told { IfOk result (λ told. told ≡ map (λ (reply : ReplyOf). with_count reply (counted self.old change).moved) replies) }
+        ensures told { IfOk result (λ told. told ≡ map (λ (reply : ReplyOf). with_counts reply (counted self.old change)) replies) }
         ensures err { OnErr result (self.new ≡ self.old) }
         ensures frees { NeedsNoMemory change → IsOk result }
     {
         match self.commit(change) {
-            Ok(counts) => Ok(all_with_count(replies, counts.moved)),
+            Ok(counts) => Ok(all_with_counts(replies, counts)),
             Err(refused) => {
                 drop(replies);
                 Err(refused)
@@ -114,7 +114,7 @@ impl TimedState {
         }
     }
 
-    /// Makes a change, and answers how many listeners its move has carried along. `OutOfMemory` where
+    /// Makes a change, and answers how many listeners it has moved and finished. `OutOfMemory` where
     /// memory was refused; nothing has changed then.
     fn commit(&mut self, change: Change) -> Result<Carried, OutOfMemory>
         ensures ok { OnOk result (self.new ≡ kept_changed self.old change) }
@@ -131,8 +131,8 @@ impl TimedState {
         }
     }
 
-    /// Makes a change, and notes when what it brings is due; answers how many listeners its move has
-    /// carried along. `OutOfMemory` where memory was refused; nothing has changed then.
+    /// Makes a change, and notes when what it brings is due; answers how many listeners it has moved
+    /// and finished. `OutOfMemory` where memory was refused; nothing has changed then.
     fn commit_noting_due(&mut self, change: Change) -> Result<Carried, OutOfMemory>
         ensures ok { OnOk result (self.new ≡ kept_changed self.old change) }
         ensures counts { IfOk result (λ counts. counts ≡ counted self.old change) }

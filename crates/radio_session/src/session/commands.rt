@@ -1,10 +1,12 @@
 //! What the path of a command and its arguments ask of the server.
 
 ghost use Rattle.std.specs.Prelude.{◌≡◌, IfOk};
+ghost use Rattle.radio_admin.specs.declared.command.Command.{Command as ReadOf};
 ghost use Rattle.radio_session.specs.Commands.{asked_in, asked_with, lacking};
 
 use crate::OutOfMemory;
-use radio_admin::{AdminFault, Command as Read, CommandKind, read_command};
+use bytes::Bytes;
+use radio_admin::{AdminFault, Command as Read, CommandKind, NewUser, read_command};
 use radio_events::{Asked, Command, Listing, OpenedBy};
 use radio_icy::Title;
 use radio_settings::MountName;
@@ -51,11 +53,26 @@ fn asked_with(alloc: Global, command: &Read) -> Result<Asked, OutOfMemory>
             mount: sent.mount,
             fallback: sent.fallback,
         })),
+        Read::AddUser(sent) => add_user(alloc, sent),
+        Read::DeleteUser(sent) => Ok(Asked::Command(Command::DeleteUser {
+            mount: sent.mount,
+            user: Bytes::copy_from_slice(alloc, sent.user.as_bytes())?,
+        })),
         Read::Stats => Ok(Asked::Listing(Listing::Stats)),
         Read::ListMounts => Ok(Asked::Listing(Listing::Mounts)),
         Read::ListClients(mount) => Ok(Asked::Listing(Listing::Clients(*mount))),
         Read::StreamList => Ok(Asked::Listing(Listing::Streams)),
     }
+}
+
+fn add_user(alloc: Global, sent: &NewUser) -> Result<Asked, OutOfMemory>
+    ensures { IfOk result (λ asked. asked ≡ asked_with (ReadOf.AddUser sent.now)) }
+{
+    Ok(Asked::Command(Command::AddUser {
+        mount: sent.mount,
+        user: Bytes::copy_from_slice(alloc, sent.user.as_bytes())?,
+        password: Bytes::copy_from_slice(alloc, sent.password.as_bytes())?,
+    }))
 }
 
 /// What is asked for where a command of this kind lacks an argument, and names this mount, if any.

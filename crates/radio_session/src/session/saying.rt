@@ -1,11 +1,6 @@
 ghost use Rattle.std.specs.Prelude.{◌≡◌, ◌≤◌, ◌++◌, length, true, Some, option_copied, option_map, IfOk, IfSome, IsErr, OnOk, OnErr};
-ghost use Rattle.radio_heads.specs.Answer.{answer_text, sized_text, content_type};
+ghost use Rattle.radio_heads.specs.Answer.{answer_text};
 ghost use Rattle.radio_heads.specs.WebAnswer.{shared_text, web_answer_text};
-ghost use Rattle.radio_heads.specs.declared.answer.TextKind.{TextKind};
-ghost use Rattle.radio_page.specs.Page.{page_answer};
-ghost use Rattle.radio_events.specs.declared.text.Text.{Text as TextOf};
-ghost use Rattle.radio_events.specs.Texts.{moved_line};
-ghost use Rattle.std.specs.String.{string_bytes};
 ghost use Rattle.radio_session.specs.Conversation.{saying_now};
 ghost use Rattle.radio_session.specs.Saying.{said, texted, denied, noted, counted, one_less, admitted, seated, drew, last_text, last_ending, greeting_text, text_answer, head_text, denial};
 ghost use Rattle.radio_session.specs.Draws.{draw, drawn, weaver_at};
@@ -13,6 +8,7 @@ ghost use Rattle.radio_icy.specs.Limits.{max_title};
 ghost use Rattle.radio_session.specs.declared.state.State.TheVariants.{Running, Shut};
 
 use crate::OutOfMemory;
+use crate::session::answers::tell_answer;
 use crate::session::weaving::{interval_told, tell_draw, text_of, weaver_at};
 use crate::session::{Closing, Greeting, LastWord, Session};
 use crate::state::{Ending, State};
@@ -21,7 +17,6 @@ use radio_events::{Reply, StreamHead, Text};
 use radio_heads::{
     Answer, FieldValue, TextKind, WebAnswer, Welcome, write_answer, write_web_answer,
 };
-use radio_page::page;
 use radio_policy::Rule;
 use radio_settings::AllowedOrigin;
 use std::alloc::{AllocError, Global};
@@ -252,7 +247,7 @@ fn greet(alloc: Global, greeting: Greeting, out: &mut Vec<u8>) -> Result<(), Out
 }
 
 /// Appends an answer's text. `OutOfMemory` where memory was refused: nothing was appended then.
-fn tell(alloc: Global, answer: &Answer, out: &mut Vec<u8>) -> Result<(), OutOfMemory>
+pub(super) fn tell(alloc: Global, answer: &Answer, out: &mut Vec<u8>) -> Result<(), OutOfMemory>
     ensures ok { OnOk result (out.new.items ≡ out.old.items ++ answer_text answer.now) }
     ensures err { OnErr result (out.new.items ≡ out.old.items) }
 {
@@ -262,7 +257,7 @@ fn tell(alloc: Global, answer: &Answer, out: &mut Vec<u8>) -> Result<(), OutOfMe
 
 /// Appends an answer that the pages of web sites read, of the origin where one is given.
 /// `OutOfMemory` where memory was refused: nothing was appended then.
-fn tell_pages(
+pub(super) fn tell_pages(
     alloc: Global,
     answer: &WebAnswer,
     allow_origin: &Option<AllowedOrigin>,
@@ -305,78 +300,6 @@ fn welcome(
         interval: interval_told(interval),
     });
     tell_pages(alloc, &answer, &head.allow_origin, out)
-}
-
-/// Appends the answer to a command, or to one who is shown something of the station.
-fn tell_answer(alloc: Global, text: &Text, out: &mut Vec<u8>) -> Result<(), OutOfMemory>
-    ensures ok { OnOk result (out.new.items ≡ out.old.items ++ text_answer text.now) }
-    ensures err { OnErr result (out.new.items ≡ out.old.items) }
-{
-    match text {
-        Text::Done => tell_body(alloc, TextKind::Plain, b"done\n", out),
-        Text::Moved(count) => tell_moved(alloc, *count, out),
-        Text::Json(bytes) => tell_body(alloc, TextKind::Json, bytes.as_slice(), out),
-        Text::Streams(bytes) => tell_body(alloc, TextKind::Plain, bytes.as_slice(), out),
-        Text::Public {
-            bytes,
-            allow_origin,
-        } => tell_everybody(alloc, bytes.as_slice(), allow_origin, out),
-        Text::Page { allow_origin } => tell_page(alloc, allow_origin, out),
-    }
-}
-
-/// Appends what everybody may see of the station.
-fn tell_everybody(
-    alloc: Global,
-    body: &[u8],
-    allow_origin: &Option<AllowedOrigin>,
-    out: &mut Vec<u8>,
-) -> Result<(), OutOfMemory>
-    ensures ok { OnOk result (out.new.items ≡ out.old.items ++ shared_text allow_origin.now (content_type TextKind.Json) body.now) }
-    ensures err { OnErr result (out.new.items ≡ out.old.items) }
-{
-    let kind = TextKind::Json;
-    tell_pages(alloc, &WebAnswer::Text { kind, body }, allow_origin, out)
-}
-
-/// Appends the page of what is on air.
-fn tell_page(
-    alloc: Global,
-    allow_origin: &Option<AllowedOrigin>,
-    out: &mut Vec<u8>,
-) -> Result<(), OutOfMemory>
-    ensures ok { OnOk result (out.new.items ≡ out.old.items ++ page_answer allow_origin.now) }
-    ensures err { OnErr result (out.new.items ≡ out.old.items) }
-{
-    tell_pages(alloc, &page(), allow_origin, out)
-}
-
-/// Appends how many listeners went to another mount.
-fn tell_moved(alloc: Global, count: u64, out: &mut Vec<u8>) -> Result<(), OutOfMemory>
-    ensures ok { OnOk result (out.new.items ≡ out.old.items ++ text_answer (TextOf.Moved count)) }
-    ensures err { OnErr result (out.new.items ≡ out.old.items) }
-{
-    let line = moved_line(alloc, count)?;
-    tell_body(alloc, TextKind::Plain, line.as_bytes(), out)
-}
-
-fn moved_line(alloc: Global, count: u64) -> Result<String, OutOfMemory>
-    ensures { IfOk result (λ line. string_bytes line ≡ moved_line count) }
-{
-    format!(in alloc; "moved: {count}\n")
-}
-
-/// Appends an answer with this body.
-fn tell_body(
-    alloc: Global,
-    kind: TextKind,
-    body: &[u8],
-    out: &mut Vec<u8>,
-) -> Result<(), OutOfMemory>
-    ensures ok { OnOk result (out.new.items ≡ out.old.items ++ sized_text 200 (content_type kind) body.now) }
-    ensures err { OnErr result (out.new.items ≡ out.old.items) }
-{
-    tell(alloc, &Answer::Text { kind, body }, out)
 }
 
 /// Appends the answer that names the rule, if the rule has one.

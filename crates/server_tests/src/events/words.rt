@@ -190,6 +190,7 @@ fn told_text(alloc: Global, answer: &Text) -> Result<String, OutOfMemory> {
     match answer {
         Text::Done => "done".to_string(alloc),
         Text::Moved(count) => format!(in alloc; "moved {count}"),
+        Text::Ended(count) => format!(in alloc; "ended {count}"),
         Text::Json(bytes) | Text::Streams(bytes) | Text::Public { bytes, .. } => {
             text(bytes.as_slice()).to_string(alloc)
         }

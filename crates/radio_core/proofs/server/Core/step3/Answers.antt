@@ -2,7 +2,7 @@ use Rattle.std.proofs.Common.{◌≡◌, [], ◌∷◌, ◌∙◌, ap, sym, subs
 use Rattle.std.specs.Prelude.{map}
 use Rattle.radio_events.specs.declared.reply.Reply.{Reply}
 use Rattle.radio_core.specs.Counts.{counted}
-use Rattle.radio_core.specs.Planned.{with_count}
+use Rattle.radio_core.specs.Planned.{with_counts}
 use Rattle.std.proofs.lemmas.Result.{IfOk-weaker}
 use Rattle.radio_core.specs.Step.{Represents}
 use Rattle.radio_house.specs.World.{World}
@@ -12,7 +12,7 @@ use Rattle.radio_core.proofs.server.Core.step3.Goals as goal
 pub returns-in-Ok-clause-step : goal.returns-in-Ok-clause-step
 returns-in-Ok-clause-step c w stands =
     let o = c.in_ok-reply.field-0 in
-    let told : Reply → Reply = λ reply. with_count reply (counted c.self.inside.state o.change).moved in
+    let told : Reply → Reply = λ reply. with_counts reply (counted c.self.inside.state o.change) in
     steps_done c.self.inside.state c.commit_for_each.new.self c.args.event o c.in_ok-reply.ensures.value c.commit_for_each.result c.commit_for_each.ensures.ok
     (IfOk-weaker c.commit_for_each.result (λ replies. replies ≡ map told c.in-Ok.replies) (λ replies. replies ≡ told o.reply ∷ told o.reply ∷ told o.reply ∷ [])
     (λ replies e. e ∙ ap (map told) c.in-Ok.ensures.value) c.commit_for_each.ensures.told) w (subst (λ (core : World). Represents core w) (sym c.self.view_is) stands)

@@ -5,12 +5,13 @@ use Rattle.radio_seats.specs.Guests.{passes_at}
 use Rattle.radio_seats.specs.Mounts.{is_number, name_in}
 use Rattle.radio_seats.specs.Rows.{named, AreCounted}
 use Rattle.radio_seats.specs.Seats.{with_ended}
-use Rattle.radio_seats.proofs.RowLemmas.{all_end_there, none_end_there, nobody_ends, same_board, shown_same}
+use Rattle.radio_seats.specs.Rests.{how_many}
+use Rattle.radio_seats.proofs.RowLemmas.{all_end_there, none_end_there, nobody_ends, none_to_end, how_many_there, same_board, shown_same}
 use Rattle.radio_seats.proofs.EndedRows.{counted_ended}
 use Rattle.radio_seats.proofs.seats.Seats.finish_at_if.Goals as goal
 
-pub returns-in_default : goal.returns-in_default
-returns-in_default g c =
+pub returns-in_default-clause-seats : goal.returns-in_default-clause-seats
+returns-in_default-clause-seats g c =
     let p = g.T.SeatTest.passes c.args.test.now in
     let mounts = c.self.inside.mounts in
     let name = name_in mounts.mounts in
@@ -19,8 +20,8 @@ returns-in_default g c =
     (same_board mounts.names mounts.names _ _ refl
     (nobody_ends name mount (λ k. c.number.ensures.only k ∙ ap (λ n. is_number n k) c.in_default.is) p c.args.rule c.self.inside.rows))
 
-pub returns-then-count-eq0 : goal.returns-then-count-eq0
-returns-then-count-eq0 g c =
+pub returns-then-count-eq0-clause-seats : goal.returns-then-count-eq0-clause-seats
+returns-then-count-eq0-clause-seats g c =
     let p = g.T.SeatTest.passes c.args.test.now in
     let mounts = c.self.inside.mounts in
     let name = name_in mounts.mounts in
@@ -37,8 +38,8 @@ invariant_of-self g c =
     (counted_ended p c.args.rule c.in-Some.number c.self.inside.mounts.mounts c.lose.new.self.mounts c.self.inside.rows c.count_where-count.result
     c.self.invariant c.count_where-count.ensures c.lose.ensures.sitting)
 
-pub returns : goal.returns
-returns g c =
+pub returns-clause-seats : goal.returns-clause-seats
+returns-clause-seats g c =
     let p = g.T.SeatTest.passes c.args.test.now in
     let mounts = c.self.inside.mounts in
     let name = name_in mounts.mounts in
@@ -48,3 +49,29 @@ returns g c =
     ∙ ap (map (named name)) c.change_all.ensures
     ∙ all_end_there name mount c.in-Some.number (λ k. c.number.ensures.only k ∙ ap (λ n. is_number n k) c.in-Some.is) p c.args.rule c.self.inside.rows
     ∙ ap (λ (b : Board). with_ended b.seats (passes_at mount p) c.args.rule) c.self.view_is)
+
+pub returns-in_default-clause-count : goal.returns-in_default-clause-count
+returns-in_default-clause-count g c =
+    let p = g.T.SeatTest.passes c.args.test.now in
+    let name = name_in c.self.inside.mounts.mounts in
+    let mount = c.args.mount.now in
+    subst (λ (b : Board). 0 ≡ how_many (passes_at mount p) b.seats) c.self.view_is
+    (none_to_end name mount (λ k. c.number.ensures.only k ∙ ap (λ n. is_number n k) c.in_default.is) p c.args.rule c.self.inside.rows)
+
+pub returns-then-count-eq0-clause-count : goal.returns-then-count-eq0-clause-count
+returns-then-count-eq0-clause-count g c =
+    let p = g.T.SeatTest.passes c.args.test.now in
+    let name = name_in c.self.inside.mounts.mounts in
+    let mount = c.args.mount.now in
+    subst (λ (b : Board). 0 ≡ how_many (passes_at mount p) b.seats) c.self.view_is
+    (sym c.if-count-eq0.true ∙ c.count_where-count.ensures
+    ∙ sym (how_many_there name mount c.in-Some.number (λ k. c.number.ensures.only k ∙ ap (λ n. is_number n k) c.in-Some.is) p c.args.rule c.self.inside.rows))
+
+pub returns-clause-count : goal.returns-clause-count
+returns-clause-count g c =
+    let p = g.T.SeatTest.passes c.args.test.now in
+    let name = name_in c.self.inside.mounts.mounts in
+    let mount = c.args.mount.now in
+    subst (λ (b : Board). c.count_where-count.result ≡ how_many (passes_at mount p) b.seats) c.self.view_is
+    (c.count_where-count.ensures
+    ∙ sym (how_many_there name mount c.in-Some.number (λ k. c.number.ensures.only k ∙ ap (λ n. is_number n k) c.in-Some.is) p c.args.rule c.self.inside.rows))

@@ -9,14 +9,14 @@ use Rattle.radio_seats.proofs.seats.Seats.finish_if.Goals as goal
 pub mounts-smaller : goal.mounts-smaller
 mounts-smaller g c =
     let p = g.T.SeatTest.passes c.args.test.now in
-    subst (λ (b : Board). how_many (passes_in p) b.seats < how_many (passes_in p) c.mounts.self.seats) (sym c.finish_at_if.ensures)
+    subst (λ (b : Board). how_many (passes_in p) b.seats < how_many (passes_in p) c.mounts.self.seats) (sym c.finish_at_if.ensures.seats)
     (fewer_left p c.args.rule c.in-Some.mount c.mounts.self.seats c.in-Some.ensures)
 
 pub mounts-preserved : goal.mounts-preserved
 mounts-preserved g c =
     let p = g.T.SeatTest.passes c.args.test.now in (
-      ap (λ (b : Board). b.prepared) c.finish_at_if.ensures ∙ c.mounts.invariant.0,
-      ap (λ (b : Board). with_ended b.seats (passes_in p) c.args.rule) c.finish_at_if.ensures
+      ap (λ (b : Board). b.prepared) c.finish_at_if.ensures.seats ∙ c.mounts.invariant.0,
+      ap (λ (b : Board). with_ended b.seats (passes_in p) c.args.rule) c.finish_at_if.ensures.seats
           ∙ end_at_one p c.args.rule c.in-Some.mount c.mounts.self.seats ∙ c.mounts.invariant.1,
     )
 

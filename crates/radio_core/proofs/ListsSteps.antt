@@ -1,0 +1,68 @@
+-- what an event does to the lists of who is let in
+use Rattle.std.proofs.Common.{◌≡◌, ℕ, ◌+◌, refl, ap, sym, subst}
+use Rattle.radio_access.specs.Lists.{Lists}
+use Rattle.radio_events.specs.declared.command.Command.{Command}
+use Rattle.radio_events.specs.declared.command.Command.TheVariants.{MoveClients, KillClient, KillSource, SetTitle, SetFallback, AddUser, DeleteUser}
+use Rattle.radio_events.specs.declared.event.Event.{Event}
+use Rattle.radio_core.specs.declared.outcome.Change.TheVariants.{Obey}
+use Rattle.radio_core.specs.declared.outcome.Outcome.{Outcome}
+use Rattle.radio_house.specs.House.{House}
+use Rattle.radio_house.specs.HouseChanges.{begun, raised}
+use Rattle.radio_house.specs.Streams.{shown_for}
+use Rattle.radio_house.specs.World.{World}
+use Rattle.radio_parts.specs.Sessions.{session_of}
+use Rattle.radio_core.specs.Allowed.{IsCommanded}
+use Rattle.radio_core.specs.Changes.{answered, changed}
+use Rattle.radio_core.specs.ListsSteps.{ListsStep, Stay, IsAdded, IsDeleted, ListsAreStepped}
+use Rattle.radio_core.specs.Sound.{IsSound}
+use Rattle.radio_core.specs.Step.{outcome, world_after}
+use Rattle.radio_core.specs.Ways.{Way, Misplaced, IsFinished, IsDenied, IsRefused, IsAdmitted, Begins, ComesUp, Receives, SetsTitle, TakesSeat, HandsOut, Ends}
+use Rattle.radio_core.specs.Ways.{EndsAndLeaves, Leaves, GoesDown, Obeys, Shows, HasPassed, Ticks}
+use Rattle.radio_core.proofs.CalledHome.{house_called}
+use Rattle.radio_core.proofs.CommandLemmas.{killed_lists}
+use Rattle.radio_core.proofs.TickLemmas.{ticked_fates}
+use Rattle.radio_core.proofs.Ways.{way_of}
+
+module _ (w : World) (s : IsSound w) where
+  -- they stay as they are
+  stays : (event : Event) {later : Lists} → later ≡ w.house.lists → ListsStep w event w.house.lists later
+  stays event same = subst (λ (x : Lists). ListsStep w event w.house.lists x) (sym same) Stay
+
+  obeys : (event : Event) (command : Command) (c : IsCommanded w event command)
+      → ListsStep w event w.house.lists (changed w (Obey c.asked.id command)).house.lists
+  obeys event (MoveClients mount destination) c = Stay
+  obeys event (KillClient mount listener) c = Stay
+  obeys event (KillSource mount) c = stays event (killed_lists (answered w c.asked.id) (session_of w.house.live mount))
+  obeys event (SetTitle mount text) c = Stay
+  obeys event (SetFallback mount fallback) c = Stay
+  obeys event (AddUser mount user password) c = IsAdded mount user password c
+  obeys event (DeleteUser mount user) c = IsDeleted mount user c
+
+  step_by : (event : Event) (o : Outcome) → Way w event o → ListsStep w event w.house.lists (changed w o.change).house.lists
+  step_by event o (Ticks ms e) = stays event (ticked_fates w s ms).lists
+  step_by event o (Misplaced _) = Stay
+  step_by event o (IsFinished _ him by its known) = Stay
+  step_by event o (IsDenied _ by v nobody) = Stay
+  step_by event o (IsRefused _ him by v its undecided) = Stay
+  step_by event o (IsAdmitted peer allowed) = Stay
+  step_by event o (Begins asked undecided none allowed) =
+      let same = house_called (record w { house = begun w.house asked.id asked.mount (shown_for w.house asked.mount asked.shown) }) asked.mount in
+      stays event (ap (λ (h : House). h.lists) same)
+  step_by event o (ComesUp there shown none allowed) =
+      let same = house_called (record w { house = raised w.house (w.house.last_id + 1) there (shown_for w.house there shown) }) there in
+      stays event (ap (λ (h : House). h.lists) same)
+  step_by event o (Receives him fed block feeding) = Stay
+  step_by event o (SetsTitle him fed text feeding) = Stay
+  step_by event o (TakesSeat asked peer session undecided lands live allowed) = Stay
+  step_by event o (HandsOut him room seat session sits has live) = Stay
+  step_by event o (Ends him fed feeding no_relay) = Stay
+  step_by event o (EndsAndLeaves _ him fed closes feeding) = Stay
+  step_by event o (Leaves him no_relay other) = Stay
+  step_by event o (GoesDown him rule relay told) = Stay
+  step_by event o (Shows _ asker peer text its undecided what) = Stay
+  step_by event o (Obeys _ command c) = obeys event command c
+  step_by event o (HasPassed ms e) = Stay
+
+  pub lists_step : (event : Event) → ListsAreStepped w event
+  unfolding world_after
+  lists_step event = step_by event (outcome w event) (way_of w event)

@@ -1,0 +1,11 @@
+use Rattle.radio_core.specs.Run.{run_after}
+use Rattle.radio_core.proofs.SoundRuns.{sound_run}
+use Rattle.radio_laws.proofs.ListsLemmas.{sitters_run}
+use Rattle.radio_laws.proofs.UserChanges.{users_step}
+use Rattle.radio_laws.proofs.laws.users_change_one_by_one.Goals as goal
+
+pub returns-clause-steps : goal.returns-clause-steps
+returns-clause-steps c settings lists events event = users_step (run_after settings lists events) (sound_run settings lists events) event
+
+pub returns-clause-sitters : goal.returns-clause-sitters
+returns-clause-sitters c settings lists events = sitters_run settings lists events
