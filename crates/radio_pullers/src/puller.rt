@@ -119,16 +119,20 @@ impl<'a, R: Clock + Wait, N: Reach, S: Server + Drop> Puller<'a, R, N, S> {
 
     fn pull_at(&mut self, address: SocketAddr) -> RelayEnd {
         self.began_ms = moment(self.rt);
-        match self.sockets.connect(self.net, address) {
-            Ok(line) => self.pull_over(line),
-            Err(_) => RelayEnd::NoAnswer,
+        match self.begin(address) {
+            Ok(mut pull) => self.pull_through(&mut pull),
+            Err(why) => why,
         }
     }
 
-    fn pull_over(&mut self, line: SocketLine<TcpStream>) -> RelayEnd {
+    /// A pull from this address, of which nothing has come yet; why there is none.
+    fn begin(&mut self, address: SocketAddr) -> Result<MountPull<SocketLine<TcpStream>>, RelayEnd> {
+        let Ok(line) = self.sockets.connect(self.net, address) else {
+            return Err(RelayEnd::NoAnswer);
+        };
         match MountPull::new(self.board.alloc(), self.relay.setting(), line) {
-            Ok(mut pull) => self.pull_through(&mut pull),
-            Err(_) => RelayEnd::OutOfMemory,
+            Ok(pull) => Ok(pull),
+            Err(_) => Err(RelayEnd::OutOfMemory),
         }
     }
 
