@@ -1,10 +1,10 @@
 //! What no clause says: that calls with ample memory succeed, and what they write of worked rows.
 
-use crate::{
+use radio_addr::Peer;
+use radio_listing::{
     ListenerRow, MountRow, PublicRow, Server, Text, base_url, icecast_status, list_clients,
     list_mounts, stats, status, stream_list,
 };
-use radio_addr::Peer;
 use std::alloc::Global;
 use std::test::Fail;
 

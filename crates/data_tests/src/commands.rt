@@ -1,6 +1,6 @@
 //! What no clause says: that calls with ample memory succeed, and what they answer to real clients.
 
-use crate::{AdminFault, Command, OutOfMemory, read_command, read_path};
+use radio_admin::{AdminFault, Command, OutOfMemory, read_command, read_path};
 use radio_settings::MountName;
 use std::alloc::Global;
 use std::test::Fail;

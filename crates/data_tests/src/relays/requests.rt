@@ -1,7 +1,7 @@
 //! What relays and slaves send.
 
 use super::*;
-use crate::{list_request, request_text};
+use radio_relay::{list_request, request_text};
 use radio_settings::{RelaySetting, SlaveSetting};
 
 /// Settings, and what their relay and their slave send.

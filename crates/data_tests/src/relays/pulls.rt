@@ -1,7 +1,7 @@
 //! What masters answer, as a whole and cut at each byte.
 
 use super::*;
-use crate::Pull;
+use radio_relay::Pull;
 
 /// Answers, what is told of them, and their fault.
 const ANSWERS: &[(&[u8], &[u8], Option<PullFault>)] = &[

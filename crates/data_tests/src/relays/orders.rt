@@ -1,7 +1,7 @@
 //! Lists of streams, and what is started and stopped.
 
 use super::*;
-use crate::{RelayOrder, plan, read_stream_list};
+use radio_relay::{RelayOrder, plan, read_stream_list};
 use radio_settings::{MountName, RelaySetting};
 use std::collections::BTreeSet;
 

@@ -6,7 +6,7 @@ mod orders;
 mod pulls;
 mod requests;
 
-use crate::{OutOfMemory, PullFault, PullItem};
+use radio_relay::{OutOfMemory, PullFault, PullItem};
 use radio_settings::{Settings, Shown};
 use std::alloc::{AllocError, Global};
 use std::process::Abort;

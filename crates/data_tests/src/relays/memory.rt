@@ -2,7 +2,7 @@
 //! `rt try --test --fail-alloc N`.
 
 use super::*;
-use crate::Pull;
+use radio_relay::Pull;
 
 /// Pieces of an answer that ask for memory: for the head, for items, for a title and for a block that is held.
 const PIECES: &[&[u8]] = &[
