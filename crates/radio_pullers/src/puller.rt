@@ -120,7 +120,7 @@ impl<'a, R: Clock + Wait, N: Reach, S: Server + Drop> Puller<'a, R, N, S> {
     fn pull_at(&mut self, address: SocketAddr) -> RelayEnd {
         self.began_ms = moment(self.rt);
         match self.begin(address) {
-            Ok(mut pull) => self.pull_through(&mut pull),
+            Ok(pull) => self.pull_through(pull),
             Err(why) => why,
         }
     }
@@ -136,12 +136,18 @@ impl<'a, R: Clock + Wait, N: Reach, S: Server + Drop> Puller<'a, R, N, S> {
         }
     }
 
-    fn pull_through(&mut self, pull: &mut MountPull<SocketLine<TcpStream>>) -> RelayEnd {
-        let why = self.turns(pull);
+    fn pull_through(&mut self, pull: MountPull<SocketLine<TcpStream>>) -> RelayEnd {
+        let mut pull = pull;
+        let why = self.turns(&mut pull);
+        self.go_down(&pull);
+        why
+    }
+
+    /// The relay goes down, if it is up.
+    fn go_down(&mut self, pull: &MountPull<SocketLine<TcpStream>>) {
         // No end is refused. Who has gone down already is not known any more.
         let _ = pull.close(&mut self.asked);
         self.tell_others();
-        why
     }
 
     /// Turn after turn, until the pull has ended. Why.

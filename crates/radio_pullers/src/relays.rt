@@ -125,8 +125,10 @@ where
                     return;
                 }
                 if let Some(relay) = kept.next_start(rt, net, board, settings) {
-                    let begun = scope.spawn(move || pull_relay(rt, net, hall, board, &relay));
-                    kept.note_start(begun.is_ok());
+                    let has_begun = scope
+                        .spawn(move || pull_relay(rt, net, hall, board, &relay))
+                        .is_ok();
+                    kept.note_start(has_begun);
                 } else {
                     let _ = sleep(rt, Duration::from_millis(ROUND_MS));
                 }
