@@ -65,9 +65,22 @@ impl Listed {
         board: &Board,
         slave: &SlaveSetting,
     ) -> Option<BTreeSet<MountName>> {
-        let mut sockets = Sockets::alone(net, self.alloc).ok()?;
+        match Sockets::alone(net, self.alloc) {
+            Ok(mut sockets) => self.fetch_by(rt, net, board, slave, &mut sockets),
+            Err(_) => None,
+        }
+    }
+
+    fn fetch_by<R: Clock + Wait, N: Reach>(
+        &self,
+        rt: &R,
+        net: &N,
+        board: &Board,
+        slave: &SlaveSetting,
+        sockets: &mut Sockets,
+    ) -> Option<BTreeSet<MountName>> {
         'addresses: for address in addresses_of(net, self.alloc, &slave.master) {
-            if let Some(names) = self.fetch_at(rt, net, board, slave, &mut sockets, address) {
+            if let Some(names) = self.fetch_at(rt, net, board, slave, sockets, address) {
                 return Some(names);
             }
         }
@@ -99,14 +112,23 @@ fn list_in<R: Clock + Wait>(
     let ends_ms = moment(rt).saturating_add(MOST_SILENT_MS);
     let mut buffer = [0u8; READ_ROOM];
     'turns: for _ in rt.forever() {
-        let wait_ms = sockets.activity().wait_ms(WAIT_MS);
-        let heard = sockets.hear(rt, wait_ms).ok()?;
-        if board.is_over() || heard.ms >= ends_ms {
+        if !has_time(rt, board, sockets, ends_ms) {
             return None;
         }
-        if let Some(names) = pull.turn(&mut buffer).ok()? {
-            return Some(names);
+        match pull.turn(&mut buffer) {
+            Ok(None) => (),
+            Ok(names) => return names,
+            Err(_) => return None,
         }
     }
     None
+}
+
+/// Waits until something may have come. Whether it is in time, and not all are to stop.
+fn has_time<R: Clock + Wait>(rt: &R, board: &Board, sockets: &mut Sockets, ends_ms: u64) -> bool {
+    let wait_ms = sockets.activity().wait_ms(WAIT_MS);
+    match sockets.hear(rt, wait_ms) {
+        Ok(heard) => heard.ms < ends_ms && !board.is_over(),
+        Err(_) => false,
+    }
 }

@@ -119,25 +119,35 @@ impl<'a, R: Clock + Wait, N: Reach, S: Server + Drop> Puller<'a, R, N, S> {
 
     fn pull_at(&mut self, address: SocketAddr) -> RelayEnd {
         self.began_ms = moment(self.rt);
-        match self.sockets.connect(self.net, address) {
-            Ok(line) => self.pull_over(line),
-            Err(_) => RelayEnd::NoAnswer,
+        match self.begin(address) {
+            Ok(pull) => self.pull_through(pull),
+            Err(why) => why,
         }
     }
 
-    fn pull_over(&mut self, line: SocketLine<TcpStream>) -> RelayEnd {
+    /// A pull from this address, of which nothing has come yet; why there is none.
+    fn begin(&mut self, address: SocketAddr) -> Result<MountPull<SocketLine<TcpStream>>, RelayEnd> {
+        let Ok(line) = self.sockets.connect(self.net, address) else {
+            return Err(RelayEnd::NoAnswer);
+        };
         match MountPull::new(self.board.alloc(), self.relay.setting(), line) {
-            Ok(mut pull) => self.pull_through(&mut pull),
-            Err(_) => RelayEnd::OutOfMemory,
+            Ok(pull) => Ok(pull),
+            Err(_) => Err(RelayEnd::OutOfMemory),
         }
     }
 
-    fn pull_through(&mut self, pull: &mut MountPull<SocketLine<TcpStream>>) -> RelayEnd {
-        let why = self.turns(pull);
+    fn pull_through(&mut self, pull: MountPull<SocketLine<TcpStream>>) -> RelayEnd {
+        let mut pull = pull;
+        let why = self.turns(&mut pull);
+        self.go_down(&pull);
+        why
+    }
+
+    /// The relay goes down, if it is up.
+    fn go_down(&mut self, pull: &MountPull<SocketLine<TcpStream>>) {
         // No end is refused. Who has gone down already is not known any more.
         let _ = pull.close(&mut self.asked);
         self.tell_others();
-        why
     }
 
     /// Turn after turn, until the pull has ended. Why.

@@ -112,20 +112,23 @@ where
     C: Chronicle + Send + Sync,
     H: House + Send + Sync,
 {
+    let mut keeper = Keeper::new(board.alloc());
+    let kept = &mut keeper;
     thread::scope(
         thread::scope_env(),
         rt,
         move |scope|
             requires { IsSync R.row × IsSync N.row × IsSend C.row × IsSync C.row × IsSend H.row × IsSync H.row }
         {
-            let mut keeper = Keeper::new(board.alloc());
             'rounds: for _ in rt.forever() {
                 if board.is_over() {
                     return;
                 }
-                if let Some(relay) = keeper.next_start(rt, net, board, settings) {
-                    let begun = scope.spawn(move || pull_relay(rt, net, hall, board, &relay));
-                    keeper.note_start(begun.is_ok());
+                if let Some(relay) = kept.next_start(rt, net, board, settings) {
+                    let has_begun = scope
+                        .spawn(move || pull_relay(rt, net, hall, board, &relay))
+                        .is_ok();
+                    kept.note_start(has_begun);
                 } else {
                     let _ = sleep(rt, Duration::from_millis(ROUND_MS));
                 }

@@ -1,6 +1,6 @@
 //! A bound socket, and the service behind it.
 
-ghost use Rattle.std.specs.Prelude.{◌≡◌, ◌+◌, ◌≤◌};
+ghost use Rattle.std.specs.Prelude.{◌≡◌, ◌+◌, ◌≤◌, All};
 ghost use Rattle.radio_intake.specs.Passes.{all_parts};
 
 use crate::acceptor::Acceptor;
@@ -16,7 +16,7 @@ use radio_intake::{Intake, IntakePass};
 use radio_lines::{Reach, SocketLine, Sockets};
 use radio_pullers::{has_relays, keep_relays};
 use radio_settings::Settings;
-use radio_workers::{Workplace, run_workers};
+use radio_workers::{Seat, Workplace, run_workers};
 use std::alloc::Global;
 use std::io;
 use std::io::Write;
@@ -91,19 +91,39 @@ impl Listening {
     {
         let Listening { alloc, doors } = self;
         let mut acceptor = Acceptor::new(alloc, doors, output);
-        match open_board(net, alloc, &acceptor, service) {
-            Ok((board, sockets)) => {
-                let station = Station {
-                    net,
-                    hall,
-                    settings,
-                    service,
-                    board: &board,
-                };
-                serve_at(rt, &station, sockets, &mut acceptor)
-            }
-            Err(fault) => fault,
+        serve_by(rt, net, alloc, hall, settings, service, &mut acceptor)
+    }
+}
+
+/// Serves connections that this acceptor accepts, in this hall.
+fn serve_by<R, N, C, H, O>(
+    rt: &R,
+    net: &N,
+    alloc: Global,
+    hall: &Hall<C, H>,
+    settings: &Settings,
+    service: Service,
+    acceptor: &mut Acceptor<O>,
+) -> ServeFault
+where
+    R: Clock + Threads + Wait + Sync,
+    N: Reach + Sync,
+    C: Chronicle + Send + Sync,
+    H: House + Send + Sync,
+    O: Write + Drop + Send,
+{
+    match open_board(net, alloc, acceptor, service) {
+        Ok((board, mut sockets)) => {
+            let station = Station {
+                net,
+                hall,
+                settings,
+                service,
+                board: &board,
+            };
+            serve_at(rt, &station, &mut sockets, acceptor)
         }
+        Err(fault) => fault,
     }
 }
 
@@ -139,7 +159,7 @@ struct Station<'a, N: Reach, C: Chronicle, H: House> {
 fn serve_at<R, N, C, H, O>(
     rt: &R,
     station: &Station<'_, N, C, H>,
-    mut sockets: Vec<Sockets>,
+    sockets: &mut Vec<Sockets>,
     acceptor: &mut Acceptor<O>,
 ) -> ServeFault
 where
@@ -149,14 +169,29 @@ where
     H: House + Send + Sync,
     O: Write + Drop + Send,
 {
-    let fault = match Intake::new(station.board.alloc()) {
-        Ok((intake, mut pass)) => {
-            serve_from(rt, station, &intake, &mut pass, &mut sockets, acceptor)
-        }
-        Err(_) => ServeFault::OutOfMemory,
-    };
+    let fault = serve_all(rt, station, sockets, acceptor);
     acceptor.write_rest(rt, station.board);
     fault
+}
+
+/// The same, without the rest of the log.
+fn serve_all<R, N, C, H, O>(
+    rt: &R,
+    station: &Station<'_, N, C, H>,
+    sockets: &mut Vec<Sockets>,
+    acceptor: &mut Acceptor<O>,
+) -> ServeFault
+where
+    R: Clock + Threads + Wait + Sync,
+    N: Reach + Sync,
+    C: Chronicle + Send + Sync,
+    H: House + Send + Sync,
+    O: Write + Drop + Send,
+{
+    match Intake::new(station.board.alloc()) {
+        Ok((intake, mut pass)) => serve_from(rt, station, &intake, &mut pass, sockets, acceptor),
+        Err(_) => ServeFault::OutOfMemory,
+    }
 }
 
 /// The acceptor puts connections into this intake, and workers with these sockets take them out, until all stop.
@@ -246,11 +281,32 @@ where
     requires own { pass.old.intake ≡ intake.now }
     requires parts { all_parts ≤ pass.old.parts + 1 }
 {
-    let board = station.board;
-    let Ok(mut seats) = seats_of(rt, station.hall, board, intake, pass, sockets) else {
-        board.stop();
-        return false;
-    };
+    match seats_of(rt, station.hall, station.board, intake, pass, sockets) {
+        Ok(mut seats) => {
+            run_at(rt, station, intake, seats.as_mut_slice());
+            true
+        }
+        Err(_) => {
+            station.board.stop();
+            false
+        }
+    }
+}
+
+/// Workers at these seats work, until all are to stop.
+fn run_at<R, N, C, H>(
+    rt: &R,
+    station: &Station<'_, N, C, H>,
+    intake: &Intake<Coming>,
+    seats: &mut [Seat<C, H, Coming, SocketPost<'_, R>>],
+)
+where
+    R: Clock + Threads + Wait + Sync,
+    N: Reach + Sync,
+    C: Chronicle + Send + Sync,
+    H: House + Send + Sync,
+    requires { All (λ seat. seat.hand.intake ≡ intake.now) seats.old }
+{
     let place = Workplace {
         hall: station.hall,
         intake,
@@ -260,11 +316,8 @@ where
     };
     run_workers::<R, C, H, Coming, SocketLine<TcpStream>, SocketPost<'_, R>, OpenGate>(
         rt,
-        board.alloc(),
+        station.board.alloc(),
         &place,
-        seats.as_mut_slice(),
+        seats,
     );
-    drop(place);
-    drop(seats);
-    true
 }

@@ -1,6 +1,6 @@
 //! The workers' seats, before they begin.
 
-ghost use Rattle.std.specs.Prelude.{◌≡◌, ◌+◌, ◌≤◌, All, IfOk};
+ghost use Rattle.std.specs.Prelude.{◌≡◌, ◌+◌, ◌≤◌, All, IfOk, OnOk};
 ghost use Rattle.radio_intake.specs.Passes.{all_parts};
 
 use crate::doors::Coming;
@@ -67,13 +67,33 @@ pub(crate) fn seats_of<'a, R: Clock + Wait, C: Chronicle, H: House>(
     ensures seats { IfOk result (λ seats. All (λ seat. seat.hand.intake ≡ intake.now) seats.items) }
 {
     let mut seats = Vec::new(board.alloc());
+    fill_seats(rt, hall, board, intake, pass, sockets, &mut seats)?;
+    Ok(seats)
+}
+
+/// Adds those seats.
+fn fill_seats<'a, R: Clock + Wait, C: Chronicle, H: House>(
+    rt: &'a R,
+    hall: &Hall<C, H>,
+    board: &'a Board,
+    intake: &Intake<Coming>,
+    pass: &mut IntakePass<Coming>,
+    sockets: &mut Vec<Sockets>,
+    seats: &mut Vec<Seat<C, H, Coming, SocketPost<'a, R>>>,
+) -> Result<(), OutOfMemory>
+    requires own { pass.old.intake ≡ intake.now }
+    requires parts { all_parts ≤ pass.old.parts + 1 }
+    requires seats { All (λ seat. seat.hand.intake ≡ intake.now) seats.old.items }
+    ensures own { pass.new.intake ≡ intake.now }
+    ensures seats { OnOk result (All (λ seat. seat.hand.intake ≡ intake.now) seats.new.items) }
+{
     'seats: for taken in 0..MOST_WORKERS {
         let Some(post) = next_post(rt, board, sockets) else {
-            break;
+            return Ok(());
         };
-        add_seat(&mut seats, intake, pass, hall.pass(rt), post)?;
+        add_seat(seats, intake, pass, hall.pass(rt), post)?;
     }
-    Ok(seats)
+    Ok(())
 }
 
 /// The post of the worker with the last of these sockets, if there are any.

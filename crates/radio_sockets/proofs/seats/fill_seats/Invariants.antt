@@ -1,6 +1,6 @@
 use Rattle.std.proofs.Common.{◌≡◌, ◌+◌, ◌≤◌, All}
 use Rattle.radio_intake.specs.Passes.{all_parts}
-use Rattle.radio_sockets.proofs.seats.seats_of.Given as goal
+use Rattle.radio_sockets.proofs.seats.fill_seats.Given as goal
 
 -- each seat is of this intake, and at most as many parts of it are gone as seats were made
 abbrev pub invariant-seats : goal.invariant-seats
