@@ -82,7 +82,9 @@ fn no_memory(rt: HostRuntime) {
 
 /// What `ann` sends with the password `abc`, and with `new`, and `bob` with `abc`.
 const ANN: &[u8] = b"Basic YW5uOmFiYw==";
+
 const NEW_ANN: &[u8] = b"Basic YW5uOm5ldw==";
+
 const BOB: &[u8] = b"Basic Ym9iOmFiYw==";
 
 /// Whether the users accept what was sent.
