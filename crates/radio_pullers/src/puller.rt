@@ -138,16 +138,16 @@ impl<'a, R: Clock + Wait, N: Reach, S: Server + Drop> Puller<'a, R, N, S> {
 
     fn pull_through(&mut self, pull: MountPull<SocketLine<TcpStream>>) -> RelayEnd {
         let mut pull = pull;
-        let why = self.turns(&mut pull);
-        self.go_down(&pull);
-        why
+        self.pull_to_end(&mut pull)
     }
 
-    /// The relay goes down, if it is up.
-    fn go_down(&mut self, pull: &MountPull<SocketLine<TcpStream>>) {
+    /// Turn after turn, until the pull has ended; then the relay goes down, if it is up. Why.
+    fn pull_to_end(&mut self, pull: &mut MountPull<SocketLine<TcpStream>>) -> RelayEnd {
+        let why = self.turns(pull);
         // No end is refused. Who has gone down already is not known any more.
         let _ = pull.close(&mut self.asked);
         self.tell_others();
+        why
     }
 
     /// Turn after turn, until the pull has ended. Why.

@@ -46,6 +46,26 @@ impl Keeper {
         }
     }
 
+    /// Waits for a relay that is to start; those are told that are to stop. `None` where all are to stop.
+    fn await_start<R: Clock + Wait, N: Reach>(
+        &mut self,
+        rt: &R,
+        net: &N,
+        board: &Board,
+        settings: &Settings,
+    ) -> Option<Arc<RunningRelay>> {
+        'rounds: for _ in rt.forever() {
+            if board.is_over() {
+                return None;
+            }
+            if let Some(relay) = self.next_start(rt, net, board, settings) {
+                return Some(relay);
+            }
+            let _ = sleep(rt, Duration::from_millis(ROUND_MS));
+        }
+        None
+    }
+
     /// A relay that is to start now; those are told that are to stop. `None` where none is to start, or memory is refused
     /// for it.
     fn next_start<R: Clock + Wait, N: Reach>(
@@ -121,17 +141,13 @@ where
             requires { IsSync R.row × IsSync N.row × IsSend C.row × IsSync C.row × IsSend H.row × IsSync H.row }
         {
             'rounds: for _ in rt.forever() {
-                if board.is_over() {
+                let Some(relay) = kept.await_start(rt, net, board, settings) else {
                     return;
-                }
-                if let Some(relay) = kept.next_start(rt, net, board, settings) {
-                    let has_begun = scope
-                        .spawn(move || pull_relay(rt, net, hall, board, &relay))
-                        .is_ok();
-                    kept.note_start(has_begun);
-                } else {
-                    let _ = sleep(rt, Duration::from_millis(ROUND_MS));
-                }
+                };
+                let has_begun = scope
+                    .spawn(move || pull_relay(rt, net, hall, board, &relay))
+                    .is_ok();
+                kept.note_start(has_begun);
             }
         },
     )

@@ -113,7 +113,7 @@ where
     O: Write + Drop + Send,
 {
     match open_board(net, alloc, acceptor, service) {
-        Ok((board, mut sockets)) => {
+        Ok((board, sockets)) => {
             let station = Station {
                 net,
                 hall,
@@ -121,7 +121,7 @@ where
                 service,
                 board: &board,
             };
-            serve_at(rt, &station, &mut sockets, acceptor)
+            serve_at(rt, &station, sockets, acceptor)
         }
         Err(fault) => fault,
     }
@@ -159,7 +159,7 @@ struct Station<'a, N: Reach, C: Chronicle, H: House> {
 fn serve_at<R, N, C, H, O>(
     rt: &R,
     station: &Station<'_, N, C, H>,
-    sockets: &mut Vec<Sockets>,
+    mut sockets: Vec<Sockets>,
     acceptor: &mut Acceptor<O>,
 ) -> ServeFault
 where
@@ -169,7 +169,7 @@ where
     H: House + Send + Sync,
     O: Write + Drop + Send,
 {
-    let fault = serve_all(rt, station, sockets, acceptor);
+    let fault = serve_all(rt, station, &mut sockets, acceptor);
     acceptor.write_rest(rt, station.board);
     fault
 }
