@@ -5,11 +5,9 @@ use Rattle.std.specs.Str.{bytes_eq}
 use Rattle.std.proofs.lemmas.Bool.{and_parts}
 use Rattle.std.proofs.lemmas.Bool.Decides.{nat_tests}
 use Rattle.std.proofs.lemmas.Slice.Eq.{bytes_eq-Decides}
-use Rattle.radio_policy.specs.declared.judgement.Verdict.{Verdict}
 use Rattle.radio_policy.specs.declared.judgement.Verdict.TheVariants.{Allow}
 use Rattle.radio_policy.specs.Table.{row}
 use Rattle.radio_policy.specs.Verdicts.{verdict_in}
-use Rattle.radio_addr.specs.declared.peer.Peer.{Peer}
 use Rattle.radio_creds.specs.Credentials.{Credentials}
 use Rattle.radio_settings.specs.declared.settings.Login.{Login}
 use Rattle.radio_settings.specs.declared.settings.Settings.{Settings}
@@ -17,20 +15,14 @@ use Rattle.radio_settings.specs.Options.{options_for}
 use Rattle.radio_events.specs.declared.command.OpenedBy.TheVariants.{Source}
 use Rattle.radio_access.specs.CommandPairs.{is_login_sent, is_admin_pair}
 use Rattle.radio_fallback.proofs.MovedCounts.{moved_as_counted}
-use Rattle.radio_events.specs.declared.command.Asked.{Asked}
-use Rattle.radio_events.specs.declared.command.Asked.TheVariants.{Command as Asks}
 use Rattle.radio_events.specs.declared.command.Command.{Command as TheCommand}
 use Rattle.radio_events.specs.declared.command.Command.TheVariants.{MoveClients, KillClient, KillSource, SetTitle, SetFallback, AddUser, DeleteUser}
 use Rattle.radio_events.specs.declared.event.Event.{Event}
-use Rattle.radio_events.specs.declared.reply.Reply.TheVariants.{Text as SaysText}
-use Rattle.radio_core.specs.declared.outcome.Change.TheVariants.{Answer, Obey}
-use Rattle.radio_core.specs.declared.outcome.Outcome.{Outcome}
-use Rattle.radio_house.specs.declared.standing.Standing.{Standing}
-use Rattle.radio_house.specs.declared.standing.Standing.TheVariants.{Unknown, Undecided, Sits, Answered, Finished}
+use Rattle.radio_core.specs.declared.outcome.Change.TheVariants.{Obey}
+use Rattle.radio_house.specs.declared.standing.Standing.TheVariants.{Unknown, Sits, Answered, Finished}
 use Rattle.radio_core.specs.Changes.{answered, carried_along, changed, session_over}
-use Rattle.radio_core.specs.Command.{obeys, does_asked}
 use Rattle.radio_core.specs.Allowed.{IsCommanded}
-use Rattle.radio_house.specs.CommandFacts.{opened_by, opens_as_source, rows_to_command, is_live, sits_at}
+use Rattle.radio_house.specs.CommandFacts.{opened_by, opens_as_source, is_live, sits_at}
 use Rattle.radio_policy.specs.declared.rule.Rule.TheVariants.{NoMount, NoDestination, SameMount, NoClient, Killed}
 use Rattle.radio_seats.specs.declared.seat.Seat.{Seat}
 use Rattle.radio_seats.specs.Seats.{seat_in, seat_of, count_at, AreByNumber}
@@ -39,7 +31,6 @@ use Rattle.radio_fallback.specs.declared.moves.Move.{Move}
 use Rattle.radio_fallback.specs.declared.moves.Move.TheVariants.{Ended, To}
 use Rattle.radio_fallback.specs.Carry.{concerns}
 use Rattle.radio_fallback.proofs.Faring.{Faring, HasStayed, HasGone, HasLost, fares}
-use Rattle.radio_core.specs.Command.{said_of}
 use Rattle.radio_core.specs.Counts.{counts_by}
 use Rattle.radio_house.specs.Facts.{sight_of}
 use Rattle.radio_house.specs.Fallbacks.{Fallback, set_for}
@@ -51,9 +42,8 @@ use Rattle.radio_core.proofs.ListingLemmas.{shown_long}
 use Rattle.radio_house.proofs.Lookups.{is_set, beside_set}
 use Rattle.radio_laws.proofs.ToldTexts.{IsToldFor, ByShowing, ByDoing, told_for}
 use Rattle.radio_laws.specs.Walks.{FallsBack, ByTheSettings, ByACommand}
-use Rattle.radio_core.specs.Outcomes.{on_verdict, if_undecided}
 use Rattle.radio_core.specs.Sound.{IsSound}
-use Rattle.radio_core.specs.Step.{outcome, reply_to, world_after}
+use Rattle.radio_core.specs.Step.{world_after}
 use Rattle.radio_house.specs.World.{World, standing_of}
 use Rattle.radio_core.proofs.Obeyed.{is_another, his_seat, has_been_killed, sits_no_more, beside_him, live, is_cut, named, turned, title_live, is_answered}
 use Rattle.radio_core.proofs.SoundRuns.{sound_after}

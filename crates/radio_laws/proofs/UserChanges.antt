@@ -41,7 +41,7 @@ use Rattle.radio_core.proofs.ChangedUsers.{with_lists, shut_out_there}
 use Rattle.radio_core.proofs.Fates.{lost_in}
 use Rattle.radio_core.proofs.ListsSteps.{lists_step}
 use Rattle.radio_core.proofs.Soundness.{sound_answered}
-use Rattle.radio_laws.specs.Commanded.{FaresByUsers, IsLetIn, IsShutOut, HaveChanged, HasPassword, IsNoUser, StaysBeside}
+use Rattle.radio_laws.specs.Commanded.{FaresByUsers, IsLetIn, IsShutOut, HaveChanged, StaysBeside}
 use Rattle.radio_laws.specs.Users.{LetInStep, Stays, IsSet, IsTakenAway, UsersStep}
 
 is_let_in : (b : Bool) → not b ≡ false → b ≡ true
