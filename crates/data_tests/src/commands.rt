@@ -1,6 +1,6 @@
 //! What no clause says: that calls with ample memory succeed, and what they answer to real clients.
 
-use radio_admin::{AdminFault, Command, OutOfMemory, read_command, read_path};
+use radio_admin::{AdminFault, Command, OutOfMemory, RawText, read_command, read_path};
 use radio_settings::MountName;
 use std::alloc::Global;
 use std::test::Fail;
@@ -64,6 +64,31 @@ const ROWS: &[(&[u8], &[u8], &str)] = &[
         b"/admin/fallbacks",
         b"mount=/a",
         "missing argument of /admin/fallbacks at /a",
+    ),
+    (
+        b"/admin/users",
+        b"mount=%2Fa&action=add&username=ann&password=",
+        "add ann /a",
+    ),
+    (
+        b"/admin/users",
+        b"mount=/a&action=delete&username=ann&password=x",
+        "delete ann /a",
+    ),
+    (
+        b"/admin/users",
+        b"mount=/a&action=add&username=ann",
+        "missing argument of /admin/users at /a",
+    ),
+    (
+        b"/admin/users",
+        b"mount=/a&action=add&username=a:b&password=x",
+        "missing argument of /admin/users at /a",
+    ),
+    (
+        b"/admin/users",
+        b"mount=/a&action=set&username=ann&password=x",
+        "missing argument of /admin/users at /a",
     ),
     (b"/status.json", b"", "no command"),
     (b"/admin/", b"mount=/a", "no command"),
@@ -187,6 +212,8 @@ fn shown_command(alloc: Global, command: &Command) -> Result<String, OutOfMemory
         Command::MoveClients(asked) => shown_to(alloc, "move", &asked.mount, &asked.destination),
         Command::KillClient(asked) => shown_kill(alloc, &asked.mount, asked.id),
         Command::Fallbacks(asked) => shown_fallback(alloc, &asked.mount, &asked.fallback),
+        Command::AddUser(asked) => shown_user(alloc, "add", &asked.user, &asked.mount),
+        Command::DeleteUser(asked) => shown_user(alloc, "delete", &asked.user, &asked.mount),
     }
 }
 
@@ -215,5 +242,17 @@ fn shown_fallback(
     match fallback {
         Some(fallback) => shown_to(alloc, "fallback", mount, fallback),
         None => shown_at(alloc, "no fallback", mount),
+    }
+}
+
+fn shown_user(
+    alloc: Global,
+    words: &str,
+    user: &RawText,
+    mount: &MountName,
+) -> Result<String, OutOfMemory> {
+    match std::str::from_utf8(user.as_bytes()) {
+        Ok(user) => format!(in alloc; "{words} {user} {mount}"),
+        Err(_) => shown_at(alloc, words, mount),
     }
 }
