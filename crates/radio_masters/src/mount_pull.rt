@@ -11,7 +11,7 @@ use crate::asking::Asking;
 use radio_hall::{Line, Received};
 use radio_pull::{RelayPull, ask, close, take};
 use radio_relay::request_text;
-use radio_session::{Server, Ending, State};
+use radio_session::{Ending, Server, State};
 use radio_settings::RelaySetting;
 use std::alloc::Global;
 use std::marker::Model;

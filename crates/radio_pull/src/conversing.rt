@@ -11,7 +11,7 @@ use crate::OutOfMemory;
 use crate::relay_pull::RelayPull;
 use radio_events::Event;
 use radio_relay::{PullFault, PullItem};
-use radio_session::{Server, Ending, State};
+use radio_session::{Ending, Server, State};
 use std::alloc::AllocError;
 
 /// The next bytes of the master's answer come: what they bring is applied, one event after another.

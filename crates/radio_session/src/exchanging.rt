@@ -6,10 +6,10 @@ ghost use Rattle.radio_session.specs.Saying.{said};
 ghost use Rattle.radio_session.specs.Exchanges.{Exchange, Exchanges, LeavesAfter, is_leave};
 ghost use Rattle.radio_session.specs.Conversation.{saying_now};
 
+use crate::OutOfMemory;
 use crate::server::Server;
 use crate::session::Session;
 use crate::state::State;
-use crate::OutOfMemory;
 use radio_events::{Event, Reply};
 
 /// Applies the events of the connection's client, one after another, and tells each reply behind the
