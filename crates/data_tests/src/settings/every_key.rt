@@ -52,7 +52,7 @@ mount = \"/c\"
 local-mount = \"/e\"
 username = \"u\"
 password = \"p\"
-on-demand = false
+on-demand = true
 [slave]
 master-server = \"m\\u007f\"
 master-port = 14
@@ -291,7 +291,7 @@ fn has_mount(settings: &Settings, path: &[u8], want: &Mount) -> bool {
 
 fn is_relay(relay: &RelaySetting, want: &Station) -> bool {
     relay_texts(relay) == want.relay
-        && !relay.on_demand
+        && relay.on_demand
         && relay.master.port.get() == want.relay_port
 }
 
