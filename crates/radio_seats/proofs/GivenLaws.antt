@@ -1,7 +1,6 @@
 -- who sits where, and in which session, when all at a mount hear a session that has begun there
-use Rattle.std.proofs.Common.{◌≡◌, Bool, true, false, ℕ, ◌==◌, Option, Some, None, List, [], ◌∷◌, length, refl, ap, sym, ◌∙◌, arith}
-use Rattle.std.specs.Prelude.{map, filter, if◌then◌else◌}
-use Rattle.std.specs.List.{list_any}
+use Rattle.std.proofs.Common.{◌≡◌, Bool, true, false, ℕ, Option, Some, None, List, [], ◌∷◌, length, refl, ap, ◌∙◌, arith}
+use Rattle.std.specs.Prelude.{map, if◌then◌else◌}
 use Rattle.std.specs.Option.{option_map}
 use Rattle.std.specs.Str.{bytes_eq}
 use Rattle.radio_tables.proofs.FindLaws.{find_mapped}
@@ -10,7 +9,7 @@ use Rattle.radio_seats.specs.declared.seat.Seat.{Seat}
 use Rattle.radio_seats.specs.declared.seat.Seating.{Seating}
 use Rattle.radio_seats.specs.declared.seat.Seating.TheVariants.{Sits, Finished}
 use Rattle.radio_seats.specs.Seats.{is_listener, listener_of, seat_held, seat_in, seat_of, hears_session, in_session_at, with_session_at}
-use Rattle.radio_seats.specs.Seats.{is_seat_at, seats_at, count_at, has_user, is_user_at, sits_there, AreByNumber}
+use Rattle.radio_seats.specs.Seats.{is_seat_at, seats_at, count_at, is_user_at, sits_there}
 
 -- the seat of one who hears the session, if he sits at the mount
 abbrev pub seat_hearing : List ℕ → ℕ → Seat → Seat

@@ -1,5 +1,5 @@
 -- rows whose listeners hear a session that has begun at their mount
-use Rattle.std.proofs.Common.{◌≡◌, Bool, true, false, ℕ, ◌==◌, List, [], ◌∷◌, refl, ap, sym, ◌∙◌, arith}
+use Rattle.std.proofs.Common.{◌≡◌, false, ℕ, ◌==◌, List, [], ◌∷◌, refl, ap, sym, arith}
 use Rattle.std.specs.Prelude.{map, if◌then◌else◌}
 use Rattle.std.specs.Str.{bytes_eq}
 use Rattle.radio_seats.specs.declared.mounts.Mount.{Mount}
@@ -9,10 +9,9 @@ use Rattle.radio_seats.specs.declared.row.RowState.TheVariants.{Seated, Ended}
 use Rattle.radio_seats.specs.declared.seat.Seating.{Seating}
 use Rattle.radio_seats.specs.declared.seat.Seating.TheVariants.{Sits}
 use Rattle.radio_seats.specs.Guests.{seat_of_guest}
-use Rattle.radio_seats.specs.Mounts.{sitting_in}
 use Rattle.radio_seats.specs.Rows.{hears, named, named_state, state_at, sits_by, with_state, AreCounted}
 use Rattle.radio_seats.specs.Seats.{hears_session, in_session_at, with_session_at}
-use Rattle.radio_seats.proofs.Lists.{passing, passing_same, map_both}
+use Rattle.radio_seats.proofs.Lists.{passing_same, map_both}
 
 abbrev pub hearing : ℕ → ℕ → ListenerRow → ListenerRow
 hearing number session row = with_state (hears number session row.state) row

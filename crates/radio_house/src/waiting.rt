@@ -1,0 +1,81 @@
+//! Mounts that wait for a session: relays feed them on demand, and listeners may sit there before
+//! anything is to be heard.
+
+ghost use Rattle.std.specs.Prelude.{◌≡◌, true, is_some, IfOk, OnOk};
+ghost use Rattle.radio_seats.specs.Board.{is_prepared};
+ghost use Rattle.radio_house.specs.Waiting.{is_on_demand, feeds_on_demand, heard_at, silence_at};
+
+use crate::OutOfMemory;
+use crate::house::House;
+use radio_parts::Session;
+use radio_seats::Seats;
+use radio_settings::{MountName, RelaySetting, Shown};
+use std::alloc::Global;
+
+impl House {
+    /// Whether a relay of the settings feeds the mount on demand.
+    pub fn is_on_demand(&self, mount: &MountName) -> bool
+        ensures { result ≡ is_on_demand self.now.settings mount.now }
+    {
+        match self.settings.relays.get(mount) {
+            Some(relay) => relay.on_demand,
+            None => false,
+        }
+    }
+
+    /// Whether there is something to be heard at the mount, or will be once a session begins for
+    /// which it waits.
+    pub(crate) fn can_be_heard(&self, mount: &MountName) -> bool
+        ensures { result ≡ is_some (heard_at self.now mount.now) }
+    {
+        match self.session(mount) {
+            Some(_) => true,
+            None => self.is_on_demand(mount),
+        }
+    }
+
+    /// What is heard at a mount that waits for a session. `OutOfMemory` where memory was refused.
+    pub fn silence(&self, alloc: Global, mount: MountName) -> Result<Session, OutOfMemory>
+        ensures { IfOk result (λ session. session ≡ silence_at self.now mount) }
+    {
+        let shown = self.shown_for(&mount, &Shown::clean(alloc, b"audio/mpeg", b"", b"")?)?;
+        Session::new(alloc, mount, 0, shown, 0)
+    }
+
+    /// Listeners can be seated from now on at each mount that a relay feeds on demand. `OutOfMemory`
+    /// where memory was refused; then they can be at some of these.
+    pub fn prepare_on_demand(&self, seats: &mut Seats) -> Result<(), OutOfMemory>
+        ensures each { OnOk result ((mount : _) → is_on_demand self.now.settings mount ≡ true → is_prepared seats.new.prepared mount ≡ true) }
+        ensures others { (mount : _) → is_prepared seats.old.prepared mount ≡ true → is_prepared seats.new.prepared mount ≡ true }
+        ensures seats { seats.new.seats ≡ seats.old.seats }
+    {
+        prepare_each(self.settings.relays.as_slice(), seats)
+    }
+}
+
+/// Listeners can be seated from now on where these relays feed on demand. `OutOfMemory` where memory
+/// was refused; then they can be at some of these mounts.
+fn prepare_each(relays: &[RelaySetting], seats: &mut Seats) -> Result<(), OutOfMemory>
+    ensures each { OnOk result ((mount : _) → feeds_on_demand relays.now mount ≡ true → is_prepared seats.new.prepared mount ≡ true) }
+    ensures others { (mount : _) → is_prepared seats.old.prepared mount ≡ true → is_prepared seats.new.prepared mount ≡ true }
+    ensures seats { seats.new.seats ≡ seats.old.seats }
+{
+    for relay in relays {
+        prepare_for(relay, seats)?;
+    }
+    Ok(())
+}
+
+/// Listeners can be seated from now on where this relay feeds on demand, if it does. `OutOfMemory`
+/// where memory was refused; nothing has changed then.
+fn prepare_for(relay: &RelaySetting, seats: &mut Seats) -> Result<(), OutOfMemory>
+    ensures its { OnOk result (relay.now.on_demand ≡ true → is_prepared seats.new.prepared relay.now.local_mount ≡ true) }
+    ensures others { (mount : _) → is_prepared seats.old.prepared mount ≡ true → is_prepared seats.new.prepared mount ≡ true }
+    ensures seats { seats.new.seats ≡ seats.old.seats }
+{
+    if relay.on_demand {
+        seats.prepare(&relay.local_mount)
+    } else {
+        Ok(())
+    }
+}
