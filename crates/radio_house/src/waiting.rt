@@ -25,7 +25,7 @@ impl House {
 
     /// Whether there is something to be heard at the mount, or will be once a session begins for
     /// which it waits.
-    pub(crate) fn can_be_heard(&self, mount: &MountName) -> bool
+    pub fn can_be_heard(&self, mount: &MountName) -> bool
         ensures { result ≡ is_some (heard_at self.now mount.now) }
     {
         match self.session(mount) {

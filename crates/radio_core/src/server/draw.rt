@@ -3,7 +3,7 @@ ghost use Rattle.radio_core.specs.Draw.{draws, hands_out};
 ghost use Rattle.radio_core.specs.Outcomes.{out_of_place};
 ghost use Rattle.radio_seats.specs.Seats.{seat_of};
 ghost use Rattle.radio_seats.specs.Lent.{lent_seat};
-ghost use Rattle.radio_parts.specs.Sessions.{session_of};
+ghost use Rattle.radio_house.specs.Waiting.{heard_at, silence_of};
 ghost use Rattle.radio_core.specs.Step.{StandsForSome};
 ghost use Rattle.radio_house.specs.World.{standing_of};
 
@@ -42,10 +42,10 @@ impl State {
     fn hand_out(&self, id: u64, seat: LentSeat<'_>, room: u32) -> Result<Outcome, OutOfMemory>
         requires stands { StandsForSome self.now }
         requires sits { seat_of self.now.seats id ≡ Some (lent_seat seat) }
-        ensures { IfOk result (λ o. o ≡ hands_out id (lent_seat seat.entry) room (session_of self.now.house.live seat.entry.mount.now)) }
+        ensures { IfOk result (λ o. o ≡ hands_out id (lent_seat seat.entry) room (heard_at self.now.house seat.entry.mount.now)) }
     {
         let Some(session) = self.house.session(seat.mount) else {
-            return Ok(Outcome::stray());
+            return Ok(self.hand_out_nothing(id, seat));
         };
         let mut pieces = Pieces::new(self.alloc);
         let place = session.stream.draw(seat.place, room, &mut pieces)?;
@@ -54,5 +54,24 @@ impl State {
             reply: Reply::Drawn { pieces, title },
             change: Change::Advance { id, place },
         })
+    }
+
+    /// At a mount that waits for a session he is handed nothing.
+    fn hand_out_nothing(&self, id: u64, seat: LentSeat<'_>) -> Outcome
+        ensures { (room : _) → result ≡ hands_out id (lent_seat seat) room (silence_of self.now.house seat.mount.now) }
+    {
+        if !self.house.is_on_demand(seat.mount) {
+            return Outcome::stray();
+        }
+        Outcome {
+            reply: Reply::Drawn {
+                pieces: Pieces::new(self.alloc),
+                title: None,
+            },
+            change: Change::Advance {
+                id,
+                place: seat.place,
+            },
+        }
     }
 }

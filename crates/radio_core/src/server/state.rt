@@ -17,7 +17,8 @@ use std::alloc::Global;
 use std::marker::Model;
 
 /// The house, and the table of those who listen in it. Contracts see it as a `World` in which of
-/// each stream the last blocks are kept. Each live mount is prepared for listeners.
+/// each stream the last blocks are kept. Each live mount is prepared for listeners, and as long as
+/// there are some, so is each that waits for a session.
 #[derive(Drop)]
 pub(super) struct State {
     pub(super) alloc: Global,
@@ -27,7 +28,7 @@ pub(super) struct State {
 
 impl Model for State {
     ghost use Rattle.radio_house.specs.World.{World};
-    ghost use Rattle.radio_parts.specs.Prepared.{LiveArePrepared};
+    ghost use Rattle.radio_core.specs.Prepared.{ArePrepared};
     ghost use Rattle.std.specs.Coded.{codes};
     ghost use Rattle.radio_creds.specs.contracts.user_list.Users as creds_users;
 
@@ -37,7 +38,7 @@ impl Model for State {
 
     ghost view = { λ c. record { house = c.house; seats = c.seats.seats } };
 
-    ghost invariant = { λ c. LiveArePrepared c.house.live c.seats.prepared };
+    ghost invariant = { λ c. ArePrepared c.house.settings c.house.live c.seats };
 }
 
 impl State {
