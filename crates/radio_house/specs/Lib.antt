@@ -5,6 +5,7 @@ pub mod House
 pub mod World
 pub mod Streams
 pub mod Waiting
+pub mod Wanted
 pub mod Facts
 pub mod CommandFacts
 pub mod Listings

@@ -1,6 +1,7 @@
 //! All of the server's state, and what an event does to it.
 
 ghost use Rattle.std.specs.Prelude.{◌≡◌, IsOk, IfOk};
+ghost use Rattle.radio_house.specs.Wanted.{wanted};
 ghost use Rattle.radio_house.specs.World.{opening, standing_of, has_relay};
 ghost use Rattle.radio_core.specs.Planned.{planned};
 ghost use Rattle.radio_core.specs.Step.{StandsForSome};
@@ -12,7 +13,7 @@ use radio_access::Lists;
 use radio_events::Event;
 use radio_house::{House, Standing};
 use radio_seats::Seats;
-use radio_settings::Settings;
+use radio_settings::{MountName, Settings};
 use std::alloc::Global;
 use std::marker::Model;
 
@@ -74,6 +75,14 @@ impl State {
             Event::RelayDown { id } => Ok(self.relay_down(id)),
             Event::Clock { ms } => Ok(self.clock(ms)),
         }
+    }
+
+    /// The mounts where somebody sits, which relays feed on demand, in the order of their bytes.
+    /// `OutOfMemory` where memory was refused.
+    pub(super) fn wanted(&self) -> Result<Vec<MountName>, OutOfMemory>
+        ensures { IfOk result (λ mounts. mounts.items ≡ wanted self.now) }
+    {
+        self.house.wanted(self.alloc, &self.seats)
     }
 
     /// How the client, or the relay, of this number stands.
