@@ -250,12 +250,12 @@ module _ (moment : ℕ) (last : moment ≤ last_moment) where
     listeners = due.listeners;
     sessions = due.sessions;
   }
-  stays_due w (Begin id mount shown) due h = called_due (record w { house = begun w.house id mount shown }) mount (record {
+  stays_due w (Begin id mount shown) due h = called_due (session_begun w id mount shown) mount (record {
     clients = Each_updated _ (is_client id) (with_state (Feeds mount)) (λ client k. last) w.house.clients due.clients;
     listeners = due.listeners;
     sessions = Each_placed _ by_mount (opened mount id shown w.house.time) w.house.live h due.sessions;
   })
-  stays_due w (Raise id mount shown) due h = called_due (record w { house = raised w.house id mount shown }) mount (record {
+  stays_due w (Raise id mount shown) due h = called_due (session_raised w id mount shown) mount (record {
     clients = due.clients;
     listeners = due.listeners;
     sessions = Each_placed _ by_mount (opened mount id shown w.house.time) w.house.live h due.sessions;

@@ -190,9 +190,9 @@ settings_by w order event o (IsDenied _ rule v other) = refl
 settings_by w order event o (IsRefused _ id rule v his undecided) = refl
 settings_by w order event o (IsAdmitted peer allowed) = refl
 settings_by w order event o (Begins asked undecided none allowed) =
-    ap (λ (h : House). h.settings) (house_called (record w { house = begun w.house asked.id asked.mount (shown_for w.house asked.mount asked.shown) }) asked.mount)
+    ap (λ (h : House). h.settings) (house_called (session_begun w asked.id asked.mount (shown_for w.house asked.mount asked.shown)) asked.mount)
 settings_by w order event o (ComesUp mount shown none allowed) =
-    ap (λ (h : House). h.settings) (house_called (record w { house = raised w.house (w.house.last_id + 1) mount (shown_for w.house mount shown) }) mount)
+    ap (λ (h : House). h.settings) (house_called (session_raised w (w.house.last_id + 1) mount (shown_for w.house mount shown)) mount)
 settings_by w order event o (Receives id mount block feeding) = refl
 settings_by w order event o (Shows _ asker peer text its undecided what) = refl
 settings_by w order event o (Obeys _ command c) = obeyed_keeps w c.asked.id command

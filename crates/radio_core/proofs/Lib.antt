@@ -2,6 +2,8 @@ pub mod AllowedCommands
 pub mod CommandLemmas
 mod CoreReplyLemmas
 mod DueLemmas
+pub mod HeardLemmas
+pub mod HeardApart
 pub mod ListingLemmas
 mod KeptOutcomes
 mod KeptRuns

@@ -145,7 +145,7 @@ same_called w mount = by_test (options_for w.house.settings mount).listeners.fal
 
 pub same_begun : (w : World) (id : ℕ) (mount : List ℕ) (shown : Shown) → AreTheSame w (changed w (Begin id mount shown))
 same_begun w id mount shown =
-    let up = record w { house = begun w.house id mount shown } in
+    let up = session_begun w id mount shown in
     then_the_same w up (changed w (Begin id mount shown))
     (record { same_ids = same_state id (IsSource mount) w.house.clients; same_relays = refl; same_rows = refl; same_last = refl }) (same_called up mount)
 

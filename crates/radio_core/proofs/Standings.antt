@@ -232,6 +232,38 @@ stays_hearing w him place listener found id = by_number him id his others where
   others : (him == id) ≡ false → standing_of (changed w (Advance him place)) id ≡ standing_of w id
   others other = ap (λ l. standing_in (relay_of w.house.relays id) l (client_of w.house.clients id)) (beside_moved w.seats him id other place)
 
+-- who hears a session that begins at his mount stands as before
+given_seated : (mount : List ℕ) (session : ℕ) (seating : Seating) → standing_seated (in_session_at mount session seating) ≡ standing_seated seating
+given_seated mount session (HasSeat seat) = refl
+given_seated mount session (HasFinished rule) = refl
+
+given_by : (mount : List ℕ) (session : ℕ) (listener : Listener) (peer : Peer) (state : ClientState)
+    → standing_by (Some (hears_session mount session listener)) peer state ≡ standing_by (Some listener) peer state
+given_by mount session listener peer Undecided = refl
+given_by mount session listener peer (Feeds at) = refl
+given_by mount session listener peer Listens = given_seated mount session listener.seating
+given_by mount session listener peer Answered = refl
+given_by mount session listener peer (Ended rule) = refl
+
+given_in : (relay : Option Relay) (mount : List ℕ) (session : ℕ) (listener : Option Listener) (client : Option Client)
+    → standing_in relay (option_map (hears_session mount session) listener) client ≡ standing_in relay listener client
+given_in relay mount session None client = refl
+given_in relay mount session (Some listener) None = refl
+given_in relay mount session (Some listener) (Some client) = given_by mount session listener client.peer client.state
+
+pub stays_given : (house : House) (seats : List Listener) (mount : List ℕ) (session id : ℕ)
+    → standing_of (world house (with_session_at seats mount session)) id ≡ standing_of (world house seats) id
+stays_given house seats mount session id =
+    ap (λ l. standing_in (relay_of house.relays id) l (client_of house.clients id)) (listener_hearing mount session seats id)
+    ∙ given_in (relay_of house.relays id) mount session (listener_of seats id) (client_of house.clients id)
+
+pub turns_given : (w : World) (house : House) (mount : List ℕ) (session him : ℕ) (now : Standing) → Turns w (record w { house = house }) him now
+    → Turns w (world house (with_session_at w.seats mount session)) him now
+turns_given w house mount session him now t = record {
+  his = stays_given house w.seats mount session him ∙ t.his;
+  others = λ id other. stays_given house w.seats mount session id ∙ t.others id other;
+}
+
 -- who feeds feeds whoever listens
 no_source : (seating : Seating) (mount : List ℕ) → standing_seated seating ≡ IsFeeding mount → ⊥
 no_source (HasSeat seat) mount e = cc
