@@ -60,16 +60,19 @@ use Rattle.radio_core.proofs.Ways.{way_of}
 -- all that an event can do to a seat: nothing, hand out what stands at its place, give one to who had none, carry it along, take it away
 data Turn (w later : World) (event : Event) (id : ℕ) : Option Seat → List ℕ → Option Seat → Type 0 where
   Rests : (seat : Option Seat) → Turn w later event id seat [] seat
-  Draws : (seat : Seat) (session : Session) (room : ℕ) → event ≡ Draw id room → session_of w.house.live seat.mount ≡ Some session
+  Draws : (seat : Seat) (session : Session) (room : ℕ) → event ≡ Draw id room → heard_at w.house seat.mount ≡ Some session
       → session.number ≡ seat.session → seat.place + length (data_at session.stream seat.place room) ≤ end_of session.stream
       → Turn w later event id (Some seat) (data_at session.stream seat.place room)
       (Some (record seat { place = seat.place + length (data_at session.stream seat.place room) }))
   Comes : (asked : ListenRequest) (peer : Peer) (session : Session) → event ≡ Listen asked → asked.id ≡ id → standing_of w id ≡ Undecided peer
-      → walks_to w.house w.seats asked.mount asked.pair ≡ Lands session.mount → session_of w.house.live session.mount ≡ Some session
+      → walks_to w.house w.seats asked.mount asked.pair ≡ Lands session.mount → heard_at w.house session.mount ≡ Some session
       → verdict_in (rows_to_listen w asked) ≡ Allow → Turn w later event id None [] (Some (first_seat w.house asked peer session))
-  Moves : (seat : Seat) (session : Session) → TakesTo w event id session.mount → IsSent w later event seat session.mount → session_of later.house.live session.mount ≡ Some session
+  Moves : (seat : Seat) (session : Session) → TakesTo w event id session.mount → IsSent w later event seat session.mount → heard_at later.house session.mount ≡ Some session
       → lets_in later.house.lists session.mount seat.pair ≡ true → (seat.session == session.number) ≡ false
       → Turn w later event id (Some seat) [] (Some (moved_into session seat))
+  Begins : (seat : Seat) (session : Session) → ComesUpOn event seat.mount → session_of w.house.live seat.mount ≡ None
+      → session_of later.house.live seat.mount ≡ Some session → session.stream.bytes ≡ [] → seat.session ≡ 0 → seat.place ≡ 0
+      → (0 == session.number) ≡ false → Turn w later event id (Some seat) [] (Some (record seat { session = session.number }))
   Goes : (before : Option Seat) → Turn w later event id before [] None
 
 adapted : (w now : World) (event : Event) (id : ℕ) {a before : Option Seat} {x bytes : List ℕ} {b later : Option Seat} → a ≡ before → x ≡ bytes → b ≡ later
@@ -77,21 +80,6 @@ adapted : (w now : World) (event : Event) (id : ℕ) {a before : Option Seat} {x
 adapted w now event id {a} {before} {x} {bytes} {b} {later} ea ex eb step =
     subst (λ (o : Option Seat). Turn w now event id o bytes later) ea (subst (λ (xs : List ℕ). Turn w now event id a xs later) ex
     (subst (λ (o : Option Seat). Turn w now event id a x o) eb step))
-
--- who sits in the session of one mount does not sit in that of another
-apart_sessions : (w : World) → IsSound w → (id : ℕ) (seat : Seat) (session : Session) → seat_of w.seats id ≡ Some seat
-    → session_of w.house.live session.mount ≡ Some session → bytes_eq seat.mount session.mount ≡ false → (seat.session == session.number) ≡ false
-apart_sessions w s id seat session has live away =
-    by_number seat.session session.number
-    (λ same.
-    let old = s.seated id seat has in
-    let feeds : standing_of w session.number ≡ Feeds session.mount = s.fed session.mount session live in
-    let fed : standing_of w old.session.number ≡ Feeds seat.mount = s.fed seat.mount old.session old.is_live in
-    let both : Feeds seat.mount ≡ Feeds session.mount = sym fed ∙ ap (standing_of w) (old.his_session ∙ same) ∙ feeds in
-    let one : seat.mount ≡ session.mount = cc in
-    let there : bytes_eq seat.mount session.mount ≡ true = (bytes_eq-Decides seat.mount session.mount).1 one in
-    cc)
-    (λ apart. apart)
 
 module _ (w : World) (s : IsSound w) (id : ℕ) where
   abbrev mine : Option Seat
@@ -108,7 +96,7 @@ module _ (w : World) (s : IsSound w) (id : ℕ) where
     -- he is carried along
     moves : (bytes : List ℕ) (old : Seat) (session : Session) → bytes ≡ [] → TakesTo w event id session.mount
         → IsSent w now event old session.mount → mine ≡ Some old
-        → seat_of now.seats id ≡ Some (moved_into session old) → session_of now.house.live session.mount ≡ Some session
+        → seat_of now.seats id ≡ Some (moved_into session old) → heard_at now.house session.mount ≡ Some session
         → lets_in now.house.lists session.mount old.pair ≡ true → (old.session == session.number) ≡ false
         → Turn w now event id mine bytes (seat_of now.seats id)
     moves bytes old session none takes sent had has live opens apart =
@@ -125,15 +113,12 @@ module _ (w : World) (s : IsSound w) (id : ℕ) where
       by_fate (IsEnded rule cause active ended gone over) = loses bytes (seat_of now.seats id) none gone
       by_fate (HasStopped mount why feeding done gone over) = loses bytes (seat_of now.seats id) none gone
       by_fate (IsMoved old session takes left had has same live opens) =
-          moves bytes old session none takes (HisSessionIsOver left) had has live (ap (λ (x : Lists). lets_in x session.mount old.pair) f.lists ∙ opens)
-          (apart_sessions w s id old session had (f.live session.mount session live)
-          (by_name old.mount session.mount
-          (λ here. let gone : session_of now.house.live session.mount ≡ None = ap (session_of now.house.live) (sym here) ∙ left in cc)
-          (λ away. away)))
+          moves bytes old session none takes (HisSessionIsOver left.0) had has live (ap (λ (x : Lists). lets_in x session.mount old.pair) f.lists ∙ opens)
+          (apart_then w now s f.live id old session had left live)
 
   -- he sits down
   takes_seat_at : (asked : ListenRequest) (peer : Peer) (session : Session) → standing_of w asked.id ≡ Undecided peer
-      → walks_to w.house w.seats asked.mount asked.pair ≡ Lands session.mount → session_of w.house.live session.mount ≡ Some session
+      → walks_to w.house w.seats asked.mount asked.pair ≡ Lands session.mount → heard_at w.house session.mount ≡ Some session
       → verdict_in (rows_to_listen w asked) ≡ Allow → (bytes : List ℕ) → bytes ≡ []
       → Turn w (changed w (TakeSeat asked.id (first_seat w.house asked peer session))) (Listen asked) id mine bytes
       (seat_of (changed w (TakeSeat asked.id (first_seat w.house asked peer session))).seats id)
@@ -152,7 +137,7 @@ module _ (w : World) (s : IsSound w) (id : ℕ) where
 
   -- he is handed what stands at his place
   hands_at : (him room : ℕ) (seat : Seat) (session : Session) → standing_of w him ≡ Sits → seat_of w.seats him ≡ Some seat
-      → session_of w.house.live seat.mount ≡ Some session
+      → heard_at w.house seat.mount ≡ Some session
       → Turn w (changed w (Advance him (seat.place + length (data_at session.stream seat.place room)))) (Draw him room) id mine
       (of_client (Draw him room) id (data_at session.stream seat.place room))
       (seat_of (changed w (Advance him (seat.place + length (data_at session.stream seat.place room)))).seats id)
@@ -163,7 +148,7 @@ module _ (w : World) (s : IsSound w) (id : ℕ) where
       (λ same.
       let itself : (him == id) ≡ true = grind (arith, nat_tests) in
       let old = s.seated him seat has in
-      let both : Some old.session ≡ Some session = sym old.is_live ∙ live in
+      let both : Some old.session ≡ Some session = sym old.is_heard ∙ live in
       let one : old.session ≡ session = cc in
       adapted w later (Draw him room) id (sym has ∙ ap (seat_of w.seats) same) (sym (his_bytes (him == id) bytes itself))
       (sym (has_advanced w s him room seat session sits has live) ∙ ap (seat_of later.seats) same)
@@ -240,7 +225,7 @@ module _ (w : World) (s : IsSound w) (id : ℕ) where
     by_fate (IsMoved old session takes left had has same live opens) =
         moves later event bytes old session none takes left.0 (sym (did.seats id) ∙ had) has live
         (ap (λ (x : Lists). lets_in x session.mount old.pair) did.fates.lists ∙ opens)
-        (apart_sessions did.base did.sound id old session had (did.fates.live session.mount session live) left.1)
+        left.1
 
   -- a client leaves, or a relay goes down
   goes : (event : Event) (him : ℕ)
@@ -300,6 +285,8 @@ module _ (w : World) (s : IsSound w) (id : ℕ) where
   by_turn event before bytes later had has (Comes asked peer session e his undecided lands live allowed) =
       SitsDown asked peer session e his undecided lands live allowed
   by_turn event before bytes later had has (Moves seat session takes sent live opens apart) = HeIsMoved seat session takes sent live opens apart
+  by_turn event before bytes later had has (Begins seat session coming none live empty zero start past) =
+      IsGiven seat session coming none live empty zero start past
   by_turn event before bytes later had has (Goes None) = Stays None
   by_turn event before bytes later had has (Goes (Some seat)) = by_loss (loses_no_seat_else w s event id seat had has) where
     by_loss : (event ≡ Leave id) ⊎ ((rule : Rule) × Finishes w event id rule) → SeatStep w (Finishes w event id) event id (Some seat) [] None

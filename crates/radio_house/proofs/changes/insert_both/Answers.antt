@@ -1,5 +1,4 @@
-use Rattle.std.proofs.Common.{Option, List, ap, ◌∙◌}
-use Rattle.radio_house.specs.declared.relays.RelayState.{RelayState}
+use Rattle.std.proofs.Common.{List, ap, ◌∙◌}
 use Rattle.radio_house.specs.Relays.{Relay, risen, with_relay, put_back}
 use Rattle.radio_house.proofs.RelayRows.{restored}
 use Rattle.radio_house.proofs.changes.insert_both.Goals as goal

@@ -1,4 +1,4 @@
-use Rattle.std.proofs.Common.{◌≡◌, ◌⊎◌, inl, inr, true, ℕ, ◌+◌, List, [], ◌∷◌, drop, length, ap, sym, subst, refl, absurd, ◌∙◌, arith}
+use Rattle.std.proofs.Common.{◌≡◌, ◌⊎◌, inl, inr, true, ℕ, ◌+◌, List, [], ◌∷◌, drop, length, ap, sym, subst, refl, ◌∙◌, arith}
 use Rattle.std.proofs.lemmas.List.{drop_all, drop_more}
 use Rattle.radio_settings.specs.declared.settings.RelaySetting.{RelaySetting}
 use Rattle.radio_seats.specs.Board.{is_prepared}
