@@ -143,6 +143,18 @@ module _ (moment : ℕ) (last : moment ≤ last_moment) where
   ended_are_due w p rule all =
       Each_mapped _ _ (finished_if p rule) (λ listener h. ended_due moment last w.house.settings rule listener.id listener.seating (holds_of p listener.seating) h) w.seats all
 
+  same_due : (w : World) (mount : List ℕ) (session : ℕ) (listener : Listener)
+      → listener_due w.house.settings (hears_session mount session listener) ≡ listener_due w.house.settings listener
+  same_due w mount session listener = by_seating listener.seating where
+    by_seating : (seating : Seating) → listener_due w.house.settings (record { id = listener.id; seating = in_session_at mount session seating })
+        ≡ listener_due w.house.settings (record { id = listener.id; seating = seating })
+    by_seating (Sits seat) = refl
+    by_seating (Finished rule) = refl
+
+  given_are_due : (w : World) (mount : List ℕ) (session : ℕ) → ListenersAreDue w w.seats → ListenersAreDue w (with_session_at w.seats mount session)
+  given_are_due w mount session all =
+      Each_mapped _ _ (hears_session mount session) (λ listener h. omega (arith, h, same_due w mount session listener)) w.seats all
+
   carried_due : (w : World) (move : Move) → ListenersAreDue w w.seats → ListenersAreDue w (carried_along w move).seats
   carried_due w move all =
       each_carried (λ listener. moment ≤ listener_due w.house.settings listener)
@@ -252,12 +264,12 @@ module _ (moment : ℕ) (last : moment ≤ last_moment) where
   }
   stays_due w (Begin id mount shown) due h = called_due (session_begun w id mount shown) mount (record {
     clients = Each_updated _ (is_client id) (with_state (Feeds mount)) (λ client k. last) w.house.clients due.clients;
-    listeners = due.listeners;
+    listeners = given_are_due w mount id due.listeners;
     sessions = Each_placed _ by_mount (opened mount id shown w.house.time) w.house.live h due.sessions;
   })
   stays_due w (Raise id mount shown) due h = called_due (session_raised w id mount shown) mount (record {
     clients = due.clients;
-    listeners = due.listeners;
+    listeners = given_are_due w mount id due.listeners;
     sessions = Each_placed _ by_mount (opened mount id shown w.house.time) w.house.live h due.sessions;
   })
   stays_due w (Receive mount block) due h = received_due w mount block due h

@@ -241,7 +241,7 @@ module _ (P : WholeStream → ℕ → Type 0) (w : World) (order : AreByNumber w
     fresh = opened mount him shown w.house.time
 
     abbrev up : World
-    up = record w { house = house }
+    up = world house (with_session_at w.seats mount him)
 
     is_fresh : (at : List ℕ) (session : Session) → mount ≡ at → session_of house.live at ≡ Some session → fresh ≡ session
     is_fresh at session same live =
@@ -254,22 +254,23 @@ module _ (P : WholeStream → ℕ → Type 0) (w : World) (order : AreByNumber w
     was_there at session apart live =
         sym (beside_begun w.house.live fresh at apart) ∙ ap (λ (xs : List Session). session_of xs at) (sym begins) ∙ live
 
-    each_begun : EachSeat P (record w { house = house })
+    each_begun : EachSeat P (world house (with_session_at w.seats mount him))
     each_begun id seat session has live =
         by_name mount seat.mount
         (λ same. subst (λ (x : Session). P x.stream seat.place) (is_fresh seat.mount session same live) (holds.at_none seat.place))
-        (λ apart. all id seat session has (was_there seat.mount session apart live))
+        (λ apart. all id seat session (sat_elsewhere mount him w.seats id seat has (bytes_apart mount seat.mount apart)) (was_there seat.mount session apart live))
 
     -- and those come home whom it calls
-    each_up : EachSeat P (called_home (record w { house = house }) mount)
+    each_up : EachSeat P (called_home (world house (with_session_at w.seats mount him)) mount)
     each_up id seat session has live = by_seat (called.seats id seat has) where
-      called : HasFewer (record w { house = house }) (called_home (record w { house = house }) mount)
-      called = fewer_called (record w { house = house }) mount order
+      called : HasFewer up (called_home (world house (with_session_at w.seats mount him)) mount)
+      called = fewer_called up mount (same_order w.seats up.seats (numbers_hearing mount him w.seats) order)
 
       before : session_of house.live seat.mount ≡ Some session
       before = called.sessions seat.mount session live
 
-      by_seat : (seat_of w.seats id ≡ Some seat) ⊎ SitsAtEnd (called_home (record w { house = house }) mount) seat → P session.stream seat.place
+      by_seat : (seat_of up.seats id ≡ Some seat) ⊎ SitsAtEnd (called_home (world house (with_session_at w.seats mount him)) mount) seat
+          → P session.stream seat.place
       by_seat (inl had) = each_begun id seat session had before
       by_seat (inr ends) =
           subst (λ (n : ℕ). P session.stream n) (sym (ends session live))
@@ -311,7 +312,7 @@ module _ (P : WholeStream → ℕ → Type 0) (w : World) (order : AreByNumber w
         had id seat e = had_seat (lags_behind mount (live_end (received w.house mount block) mount) w.house.settings.limits.queue_size) Lagged w.seats id seat e
 
   -- a listener sits down
-  each_seated : (asked : ListenRequest) (peer : Peer) (session : Session) → session_of w.house.live session.mount ≡ Some session
+  each_seated : (asked : ListenRequest) (peer : Peer) (session : Session) → heard_at w.house session.mount ≡ Some session
       → EachSeat P (changed w (TakeSeat asked.id (first_seat w.house asked peer session)))
   each_seated asked peer session live id seat other has found =
       let new = first_seat w.house asked peer session in
@@ -320,12 +321,12 @@ module _ (P : WholeStream → ℕ → Type 0) (w : World) (order : AreByNumber w
       let itself : (asked.id == asked.id) ≡ true = grind (arith, nat_tests) in
       let his : Some new ≡ Some seat = sym (ap seat_in (has_sat_down w.seats asked.id new itself)) ∙ ap (seat_of (with_seat w.seats asked.id new)) same ∙ has in
       let one : new ≡ seat = cc in
-      let here : session_of w.house.live seat.mount ≡ Some session = ap (λ (x : Seat). session_of w.house.live x.mount) (sym one) ∙ live in
-      let both : Some session ≡ Some other = sym here ∙ found in
+      let there : session_of w.house.live session.mount ≡ Some other = ap (λ (x : Seat). session_of w.house.live x.mount) one ∙ found in
+      let both : Some session ≡ Some other = sym live ∙ heard_live w.house session.mount other there in
       let its : session ≡ other = cc in
       subst (λ (x : Session). P x.stream seat.place) its
       (subst (λ (x : Seat). P session.stream x.place) one
-      (holds.at_burst session.mount session (burst_of w.house session.mount) live (omega arith))))
+      (holds.at_burst session.mount session (burst_of w.house session.mount) (there ∙ ap (λ (x : Session). Some x) (sym its)) (omega arith))))
       (λ apart. all id seat other (sym (ap seat_in (beside_seated w.seats asked.id id apart new)) ∙ has) found)
 
   -- a listener hears on

@@ -3,6 +3,7 @@ pub mod CommandLemmas
 mod CoreReplyLemmas
 mod DueLemmas
 pub mod HeardLemmas
+pub mod GivenSeats
 pub mod HeardApart
 pub mod ListingLemmas
 mod KeptOutcomes

@@ -147,7 +147,12 @@ pub same_begun : (w : World) (id : ℕ) (mount : List ℕ) (shown : Shown) → A
 same_begun w id mount shown =
     let up = session_begun w id mount shown in
     then_the_same w up (changed w (Begin id mount shown))
-    (record { same_ids = same_state id (IsSource mount) w.house.clients; same_relays = refl; same_rows = refl; same_last = refl }) (same_called up mount)
+    (record {
+      same_ids = same_state id (IsSource mount) w.house.clients;
+      same_relays = refl;
+      same_rows = numbers_hearing mount id w.seats;
+      same_last = refl;
+    }) (same_called up mount)
 
 pub same_received : (w : World) (mount block : List ℕ) → AreTheSame w (taken_in w mount block)
 same_received w mount block = record {

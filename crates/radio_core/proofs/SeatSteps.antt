@@ -81,6 +81,9 @@ adapted w now event id {a} {before} {x} {bytes} {b} {later} ea ex eb step =
     subst (λ (o : Option Seat). Turn w now event id o bytes later) ea (subst (λ (xs : List ℕ). Turn w now event id a xs later) ex
     (subst (λ (o : Option Seat). Turn w now event id a x o) eb step))
 
+zero_apart : (n : ℕ) → (n == 0) ≡ false → (0 == n) ≡ false
+zero_apart n e = grind (arith, nat_tests, e)
+
 module _ (w : World) (s : IsSound w) (id : ℕ) where
   abbrev mine : Option Seat
   mine = seat_of w.seats id
@@ -171,40 +174,93 @@ module _ (w : World) (s : IsSound w) (id : ℕ) where
     by_fate (HasStopped other why feeds done gone over) = absurd why
     by_fate (IsMoved old session carries left had has same live opens) = absurd carries
 
-  -- a source, or a relay, comes up: he rests where he is, or comes home
-  module _ (event : Event) (mount : List ℕ) (house : House) (settings : house.settings ≡ w.house.settings)
-      (sound_then : IsSound (record w { house = house })) (coming : ComesUpOn event mount)
-      (brings : (options_for w.house.settings mount).listeners.fallback_override ≡ true → Brings w event (Up mount) (record w { house = house }))
+  -- a source, or a relay, comes up: he hears it where he waited for it, rests where he is, or comes home
+  module _ (event : Event) (him : ℕ) (mount : List ℕ) (shown : Shown) (house : House) (settings : house.settings ≡ w.house.settings)
+      (begins : house.live ≡ with_session w.house.live (opened mount him shown w.house.time)) (not_live : session_of w.house.live mount ≡ None)
+      (past : (him == 0) ≡ false)
+      (sound_then : IsSound (world house (with_session_at w.seats mount him))) (coming : ComesUpOn event mount)
+      (brings : (options_for w.house.settings mount).listeners.fallback_override ≡ true
+      → Brings w event (Up mount) (world house (with_session_at w.seats mount him)))
       (bytes : List ℕ) (none : bytes ≡ []) where
     abbrev up : World
-    up = record w { house = house }
+    up = world house (with_session_at w.seats mount him)
 
     abbrev come_up : World
-    come_up = called_home (record w { house = house }) mount
+    come_up = called_home (world house (with_session_at w.seats mount him)) mount
+
+    abbrev fresh : Session
+    fresh = opened mount him shown w.house.time
+
+    -- it is there
+    there : (at : List ℕ) → mount ≡ at → session_of house.live at ≡ Some fresh
+    there at same =
+        ap (λ (sessions : List Session). session_of sessions at) begins
+        ∙ is_new_session w.house.live fresh at ((bytes_eq-Decides mount at).1 same)
+
+    there_then : (at : List ℕ) → mount ≡ at → session_of come_up.house.live at ≡ Some fresh
+    there_then at same = ap (λ (h : House). session_of h.live at) (house_called up mount) ∙ there at same
 
     abbrev Takes : ℕ → Session → Type 0
-    Takes him session = TakesTo w event him session.mount × (session.mount ≡ mount)
+    Takes who session = TakesTo w event who session.mount × (session.mount ≡ mount)
         × ((options_for w.house.settings mount).listeners.fallback_override ≡ true)
 
+    -- who sat there had heard nothing
+    waited : (old : Seat) → seat_of w.seats id ≡ Some old → old.mount ≡ mount → (old.session ≡ 0) × (old.place ≡ 0)
+    waited old had same =
+        let before = s.seated id old had in
+        heard_cases w.house old.mount before.session before.is_heard
+        (λ live. let gone : session_of w.house.live old.mount ≡ None = ap (session_of w.house.live) same ∙ not_live in cc)
+        (λ gone silent.
+        let low : old.place ≤ 0 = subst (λ (x : Session). old.place ≤ end_of x.stream) (sym silent) before.within in (
+          sym before.his_session ∙ sym (ap (λ (x : Session). x.number) silent),
+          omega (arith, low),
+        ))
+
+    rests_at : (old : Seat) → seat_of w.seats id ≡ Some old → (at : Bool) → bytes_eq old.mount mount ≡ at
+        → seat_of come_up.seats id ≡ Some (record old { session = (if at then him else old.session) })
+        → Turn w come_up event id mine bytes (seat_of come_up.seats id)
+    rests_at old had true at now =
+        let same : old.mount ≡ mount = (bytes_eq-Decides old.mount mount).0 at in
+        let nothing = waited old had same in
+        adapted w come_up event id (sym had) (sym none) (sym now)
+        (Begins old fresh (subst (λ (m : List ℕ). ComesUpOn event m) (sym same) coming) (ap (session_of w.house.live) same ∙ not_live)
+        (there_then old.mount (sym same)) refl nothing.0 nothing.1 (zero_apart him past))
+    rests_at old had false away now = adapted w come_up event id (sym had) (sym none) (sym now) (Rests (Some old))
+
+    rests_by : (found : Option Seat) → seat_of w.seats id ≡ found → seat_of come_up.seats id ≡ option_map (seat_hearing mount him) found
+        → Turn w come_up event id mine bytes (seat_of come_up.seats id)
+    rests_by None had now = adapted w come_up event id (sym had) (sym none) (sym now) (Rests None)
+    rests_by (Some old) had now = rests_at old had (bytes_eq old.mount mount) refl now
+
     by_call : IsCalled Takes up come_up id → Turn w come_up event id mine bytes (seat_of come_up.seats id)
-    by_call (CalledRests same seat) = stays come_up event bytes (seat_of come_up.seats id) none seat
+    by_call (CalledRests same seat) = rests_by (seat_of w.seats id) refl (seat ∙ seat_of_hearing mount him w.seats id)
     by_call (CalledComes old session takes left had has same live opens) =
+        let here : session_of house.live session.mount ≡ Some fresh = there session.mount (sym takes.1) in
+        let both : Some session ≡ Some fresh
+        = sym live ∙ heard_live come_up.house session.mount fresh (there_then session.mount (sym takes.1)) in
+        let one : session ≡ fresh = cc in
         moves come_up event bytes old session none takes.0
         (HeIsCalledHome (subst (λ (m : List ℕ). ComesUpOn event m) (sym takes.1) coming) left.1
-        (ap (λ (m : List ℕ). (options_for w.house.settings m).listeners.fallback_override) takes.1 ∙ takes.2)) had has live
+        (ap (λ (m : List ℕ). (options_for w.house.settings m).listeners.fallback_override) takes.1 ∙ takes.2))
+        (sat_elsewhere mount him w.seats id old had (ap (bytes_eq old.mount) (sym takes.1) ∙ left.0)) has live
         (ap (λ (h : House). lets_in h.lists session.mount old.pair) (house_called up mount) ∙ opens)
-        (apart_sessions up sound_then id old session had (ap (λ (h : House). session_of h.live session.mount) (sym (house_called up mount)) ∙ live) left.0)
+        (apart_sessions up sound_then id old session had (here ∙ ap (λ (x : Session). Some x) (sym one)) left.0)
 
     comes_up : Turn w come_up event id mine bytes (seat_of come_up.seats id)
     comes_up =
         by_call (is_called up sound_then mount Takes
-        (λ calls him session turn.
+        (λ calls who session turn.
         let here : (options_for w.house.settings mount).listeners.fallback_override ≡ true
         = ap (λ (set : Settings). (options_for set mount).listeners.fallback_override) (sym settings) ∙ calls in (
           (Up mount, up, brings here, turn),
-          sym (comes_home (sight_of house) mount (at_his_turn (sight_of house) (Up mount) w.seats him) him session.mount turn),
+          sym (comes_home (sight_of house) mount (at_his_turn (sight_of house) (Up mount) up.seats who) who session.mount turn),
           here,
         )) id)
+
+  -- nobody has the number 0
+  asks_past_zero : (him : ℕ) (peer : Peer) → standing_of w him ≡ Undecided peer → (him == 0) ≡ false
+  asks_past_zero him peer e =
+      by_number him 0 (λ same. let unknown : standing_of w him ≡ Unknown = ap (standing_of w) same ∙ s.from_one in cc) (λ apart. apart)
 
   -- a command is done: he rests, or is finished, or is carried along
   obeys : (event : Event) (command : Command) (c : IsCommanded w event command) (bytes : List ℕ) → bytes ≡ []
@@ -246,11 +302,13 @@ module _ (w : World) (s : IsSound w) (id : ℕ) where
       stays (changed w o.change) event (of_client event id []) mine (nothing_of event id [] refl) refl
   step_by event o (IsAdmitted peer allowed) = stays (changed w o.change) event [] mine refl refl
   step_by event o (Begins asked undecided none allowed) =
-      comes_up event asked.mount (begun w.house asked.id asked.mount (shown_for w.house asked.mount asked.shown)) refl
+      comes_up event asked.id asked.mount (shown_for w.house asked.mount asked.shown)
+      (begun w.house asked.id asked.mount (shown_for w.house asked.mount asked.shown)) refl refl none (asks_past_zero asked.id undecided.0 undecided.1)
       (sound_just_begun w s asked.id asked.mount (shown_for w.house asked.mount asked.shown) undecided.0 undecided.1 none) (ASource asked)
       (λ calls. ByComingUp asked undecided.0 undecided.1 allowed calls) (of_client event id []) (nothing_of event id [] refl)
   step_by event o (ComesUp mount shown none allowed) =
-      comes_up event mount (raised w.house (w.house.last_id + 1) mount (shown_for w.house mount shown)) refl
+      comes_up event (w.house.last_id + 1) mount (shown_for w.house mount shown)
+      (raised w.house (w.house.last_id + 1) mount (shown_for w.house mount shown)) refl refl none (grind (arith, nat_tests))
       (sound_just_raised w s mount (shown_for w.house mount shown) none) (ARelay mount shown)
       (λ calls. ByRelayUp mount shown allowed calls) [] refl
   step_by event o (Receives him mount block feeding) = lags him mount block feeding (of_client event id []) (nothing_of event id [] refl)

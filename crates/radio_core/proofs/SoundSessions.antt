@@ -57,18 +57,6 @@ module _ (w : World) (s : IsSound w) (him : ℕ) (mount : List ℕ) (shown : Sho
   t' : Turns w after_given him (Feeds mount)
   t' = turns_given w house mount him him (Feeds mount) t
 
-  -- each has the seat that he had, in the new session where it is at the mount
-  pub given_from : (id : ℕ) (seat : Seat) → seat_of after_given.seats id ≡ Some seat
-      → (old : Seat) × (seat_of w.seats id ≡ Some old) × (seat_hearing mount him old ≡ seat)
-  given_from id seat e = by_found (seat_of w.seats id) refl (sym (seat_of_hearing mount him w.seats id) ∙ e) where
-    by_found : (found : Option Seat) → seat_of w.seats id ≡ found → option_map (seat_hearing mount him) (seat_of w.seats id) ≡ Some seat
-        → (old : Seat) × (seat_of w.seats id ≡ Some old) × (seat_hearing mount him old ≡ seat)
-    by_found None none h = let nothing : option_map (seat_hearing mount him) (seat_of w.seats id) ≡ None = ap (option_map (seat_hearing mount him)) none in cc
-    by_found (Some old) had h =
-        let both : Some (seat_hearing mount him old) ≡ Some seat = sym (ap (option_map (seat_hearing mount him)) had) ∙ h in
-        let one : seat_hearing mount him old ≡ seat = cc in
-        (old, had, one)
-
   -- who sat there had heard nothing
   pub waited : (id : ℕ) (old : Seat) → seat_of w.seats id ≡ Some old → old.mount ≡ mount → (old.session ≡ 0) × (old.place ≡ 0)
   waited id old had same =
@@ -145,11 +133,11 @@ module _ (w : World) (s : IsSound w) (him : ℕ) (mount : List ℕ) (shown : Sho
           (λ old. s.starts other session old);
       by_number = same_order w.seats after_given.seats (numbers_hearing mount him w.seats) s.by_number;
       sitting = λ id seat e.
-          let had = given_from id seat e in
+          let had = given_from mount him w.seats id seat e in
           let sat : standing_of w id ≡ Sits = s.sitting id had.0 had.1 in
           by_number him id (λ same. absurd (sat_nowhere (ap (standing_of w) same ∙ sat))) (λ apart. t'.others id apart ∙ sat);
       seated = λ id seat e.
-          let had = given_from id seat e in
+          let had = given_from mount him w.seats id seat e in
           subst (λ (x : Seat). IsSeatedIn after_given x) had.2 (seated_by id had.0 had.1 (bytes_eq had.0.mount mount) refl);
     }
 

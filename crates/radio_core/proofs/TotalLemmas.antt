@@ -163,7 +163,8 @@ module _ (w : World) (s : IsSound w) (inv : AreInOrder w) where
       let more = placed_length (w.house.last_id + 1) (relay_ids w) (number_free relay_number (w.house.last_id + 1) w.house.relays none) in
       let placed_now = numbers_placed relay_number (risen (w.house.last_id + 1) mount) w.house.relays in
       adds (changed w o.change) event o.reply called.same_last (omega (arith, ap length called.same_ids))
-      (omega (arith, ap length called.same_relays, ap length placed_now, more)) (omega (arith, ap length called.same_rows))
+      (omega (arith, ap length called.same_relays, ap length placed_now, more))
+      (omega (arith, ap length called.same_rows, ap length (numbers_hearing mount (w.house.last_id + 1) w.seats)))
   adds_by event o (Begins asked undecided none allowed) known =
       nobody_moves (changed w o.change) event o.reply
       (same_begun w asked.id asked.mount (shown_for w.house asked.mount asked.shown)) refl refl refl refl refl refl refl

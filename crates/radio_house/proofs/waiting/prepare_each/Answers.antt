@@ -46,7 +46,7 @@ loop-relay-preserved c = (
 pub returns-clause-each : goal.returns-clause-each
 returns-clause-each c = λ mount feeds. all mount (c.loop-relay.invariant.2 mount feeds) where
   none : drop c.loop-relay.relay-index c.args.relays.now ≡ []
-  none = drop_all c.args.relays.now c.loop-relay.relay-index c.loop-relay-test.false
+  none = drop_all c.loop-relay.relay-index c.args.relays.now c.loop-relay-test.false
 
   all : (mount : List ℕ) → (is_prepared c.loop-relay.seats.prepared mount ≡ true)
       ⊎ (feeds_on_demand (drop c.loop-relay.relay-index c.args.relays.now) mount ≡ true)
