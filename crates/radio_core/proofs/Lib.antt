@@ -15,6 +15,7 @@ pub mod ChangedUsers
 pub mod ListsSteps
 pub mod Obeyed
 mod PlannedLemmas
+mod PreparedSeats
 mod SourceReplyLemmas
 pub mod ArrivalLemmas
 pub mod CalledHome

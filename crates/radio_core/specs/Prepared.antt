@@ -2,11 +2,8 @@
 use Rattle.std.specs.Prelude.{◌≡◌, ℕ, ◌<◌, true, List, length}
 use Rattle.radio_settings.specs.declared.settings.Settings.{Settings}
 use Rattle.radio_seats.specs.Board.{Board, is_prepared}
-use Rattle.radio_parts.specs.Prepared.{LiveArePrepared}
-use Rattle.radio_parts.specs.Sessions.{Session}
 use Rattle.radio_house.specs.Waiting.{is_on_demand}
 
--- each live mount is prepared, and as long as there are listeners, so is each that a relay feeds on demand
-pub record ArePrepared (settings : Settings) (live : List Session) (board : Board) : Type 0 where
-  pub live : LiveArePrepared live board.prepared
-  pub on_demand : 0 < length board.seats → (mount : List ℕ) → is_on_demand settings mount ≡ true → is_prepared board.prepared mount ≡ true
+-- as long as there are listeners, each mount is prepared that a relay feeds on demand
+pub record OnDemandArePrepared (settings : Settings) (board : Board) : Type 0 where
+  pub each : 0 < length board.seats → (mount : List ℕ) → is_on_demand settings mount ≡ true → is_prepared board.prepared mount ≡ true

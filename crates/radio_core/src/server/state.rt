@@ -29,7 +29,8 @@ pub(super) struct State {
 
 impl Model for State {
     ghost use Rattle.radio_house.specs.World.{World};
-    ghost use Rattle.radio_core.specs.Prepared.{ArePrepared};
+    ghost use Rattle.radio_parts.specs.Prepared.{LiveArePrepared};
+    ghost use Rattle.radio_core.specs.Prepared.{OnDemandArePrepared};
     ghost use Rattle.std.specs.Coded.{codes};
     ghost use Rattle.radio_creds.specs.contracts.user_list.Users as creds_users;
 
@@ -39,7 +40,7 @@ impl Model for State {
 
     ghost view = { λ c. record { house = c.house; seats = c.seats.seats } };
 
-    ghost invariant = { λ c. ArePrepared c.house.settings c.house.live c.seats };
+    ghost invariant = { λ c. LiveArePrepared c.house.live c.seats.prepared × OnDemandArePrepared c.house.settings c.seats };
 }
 
 impl State {
