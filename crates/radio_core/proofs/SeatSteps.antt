@@ -70,7 +70,7 @@ data Turn (w later : World) (event : Event) (id : ℕ) : Option Seat → List �
   Moves : (seat : Seat) (session : Session) → TakesTo w event id session.mount → IsSent w later event seat session.mount → heard_at later.house session.mount ≡ Some session
       → lets_in later.house.lists session.mount seat.pair ≡ true → (seat.session == session.number) ≡ false
       → Turn w later event id (Some seat) [] (Some (moved_into session seat))
-  Begins : (seat : Seat) (session : Session) → ComesUpOn event seat.mount → session_of w.house.live seat.mount ≡ None
+  Hears : (seat : Seat) (session : Session) → ComesUpOn event seat.mount → session_of w.house.live seat.mount ≡ None
       → session_of later.house.live seat.mount ≡ Some session → session.stream.bytes ≡ [] → seat.session ≡ 0 → seat.place ≡ 0
       → (0 == session.number) ≡ false → Turn w later event id (Some seat) [] (Some (record seat { session = session.number }))
   Goes : (before : Option Seat) → Turn w later event id before [] None
@@ -223,7 +223,7 @@ module _ (w : World) (s : IsSound w) (id : ℕ) where
         let same : old.mount ≡ mount = (bytes_eq-Decides old.mount mount).0 at in
         let nothing = waited old had same in
         adapted w come_up event id (sym had) (sym none) (sym now)
-        (Begins old fresh (subst (λ (m : List ℕ). ComesUpOn event m) (sym same) coming) (ap (session_of w.house.live) same ∙ not_live)
+        (Hears old fresh (subst (λ (m : List ℕ). ComesUpOn event m) (sym same) coming) (ap (session_of w.house.live) same ∙ not_live)
         (there_then old.mount (sym same)) refl nothing.0 nothing.1 (zero_apart him past))
     rests_at old had false away now = adapted w come_up event id (sym had) (sym none) (sym now) (Rests (Some old))
 
@@ -343,7 +343,7 @@ module _ (w : World) (s : IsSound w) (id : ℕ) where
   by_turn event before bytes later had has (Comes asked peer session e his undecided lands live allowed) =
       SitsDown asked peer session e his undecided lands live allowed
   by_turn event before bytes later had has (Moves seat session takes sent live opens apart) = HeIsMoved seat session takes sent live opens apart
-  by_turn event before bytes later had has (Begins seat session coming none live empty zero start past) =
+  by_turn event before bytes later had has (Hears seat session coming none live empty zero start past) =
       IsGiven seat session coming none live empty zero start past
   by_turn event before bytes later had has (Goes None) = Stays None
   by_turn event before bytes later had has (Goes (Some seat)) = by_loss (loses_no_seat_else w s event id seat had has) where

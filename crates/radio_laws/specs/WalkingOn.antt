@@ -20,11 +20,12 @@ use Rattle.radio_parts.specs.Sessions.{Session, session_of}
 use Rattle.radio_core.specs.Step.{world_after}
 use Rattle.radio_parts.specs.Stream.{end_of}
 use Rattle.radio_house.specs.World.{World}
+use Rattle.radio_house.specs.Waiting.{heard_at}
 
 -- one who had this seat before the move: he goes on at the end of the stream of the mount to which his turn takes him, or has finished by the rule that leaves
 -- him out, or keeps his seat; and where the session of his mount has ended he does not stay
 pub record FaresByHisTurn (before : World) (move : Move) (id : ℕ) (seat : Seat) : Type 0 where
-  pub goes : (mount : List ℕ) → his_turn before move id ≡ GoesTo mount → (session : Session) × (session_of before.house.live mount ≡ Some session)
+  pub goes : (mount : List ℕ) → his_turn before move id ≡ GoesTo mount → (session : Session) × (heard_at before.house mount ≡ Some session)
       × (seat_of (carried_along before move).seats id ≡ Some (record seat { mount = mount; session = session.number; place = end_of session.stream }))
   pub is_out : (rule : Rule) → his_turn before move id ≡ IsOut rule
       → listener_of (carried_along before move).seats id ≡ Some (record { id = id; seating = Finished rule })

@@ -48,10 +48,11 @@ impl Keeper {
 
     /// A relay that is to start now, and what its thread is told by; those are told that are to stop. `None` where none is
     /// to start, or memory is refused for it.
-    fn next_start<R: Clock + Wait, N: Reach>(
+    fn next_start<R: Clock + Wait, N: Reach, C: Chronicle, H: House>(
         &mut self,
         rt: &R,
         net: &N,
+        hall: &Hall<C, H>,
         board: &Board,
         settings: &Settings,
     ) -> Option<(RelaySetting, Arc<Sign>)> {
@@ -62,20 +63,29 @@ impl Keeper {
         if let Some(slave) = &settings.slave {
             self.listed.refresh(rt, net, board, slave);
         }
-        let orders = self.orders(board.alloc(), settings).ok()?;
+        let wanted = hall.wanted(rt).ok()?;
+        let orders = self.orders(board.alloc(), settings, wanted).ok()?;
         let relay = self.first_start(orders)?;
         let sign = self.roster.add(relay.local_mount).ok()?;
         Some((relay, sign))
     }
 
-    /// What is to be done now.
+    /// What is to be done now, where these mounts are wanted.
     fn orders(
         &mut self,
         alloc: Global,
         settings: &Settings,
+        wanted: Vec<MountName>,
     ) -> Result<Vec<RelayOrder>, OutOfMemory> {
         let live = self.roster.live()?;
-        plan(alloc, settings, &self.listed.names, live.as_slice(), &[])
+        let names = &self.listed.names;
+        plan(
+            alloc,
+            settings,
+            names,
+            live.as_slice(),
+            wanted.as_slice(),
+        )
     }
 
     /// The first relay that is to start; those are told that are to stop before it.
@@ -98,7 +108,8 @@ impl Keeper {
     }
 }
 
-/// Keeps the relays running that the settings and the slave's list wish, until all are to stop. Where memory is refused for
+/// Keeps the relays running that the settings and the slave's list wish, those that are on demand while
+/// somebody sits at their mounts, until all are to stop. Where memory is refused for
 /// one, or no thread can be had, it is tried again.
 pub(crate) fn keep_relays<R, N, C, H>(
     rt: &R,
@@ -124,7 +135,7 @@ where
                 if board.is_over() {
                     return;
                 }
-                if let Some((relay, sign)) = keeper.next_start(rt, net, board, settings) {
+                if let Some((relay, sign)) = keeper.next_start(rt, net, hall, board, settings) {
                     let mount = relay.local_mount;
                     let begun = scope.spawn(move || pull_relay(
                         rt, net, hall, board, &relay, &sign,
