@@ -18,7 +18,7 @@ use Rattle.radio_core.specs.declared.outcome.Change.TheVariants.{Begin, Raise}
 use Rattle.radio_house.specs.declared.standing.Standing.TheVariants.{Undecided, Feeds}
 use Rattle.radio_addr.specs.declared.peer.Peer.{Peer}
 use Rattle.radio_settings.specs.declared.field.Shown.{Shown}
-use Rattle.radio_core.specs.Changes.{changed, carried_along, called_home}
+use Rattle.radio_core.specs.Changes.{changed, carried_along, called_home, session_begun, session_raised}
 use Rattle.radio_house.specs.HouseChanges.{begun, raised}
 use Rattle.radio_house.specs.Facts.{sight_of}
 use Rattle.radio_core.specs.Moves.{his_turn, moved_into}
@@ -27,8 +27,9 @@ use Rattle.radio_core.specs.Sound.{IsSound}
 use Rattle.radio_house.specs.World.{World, standing_of}
 use Rattle.radio_core.proofs.CarriedFates.{order_carried, carried_fate}
 use Rattle.radio_core.proofs.SoundSessions.{sound_begun, sound_raised}
-use Rattle.radio_core.proofs.Standings.{Turns, asks, turns_feeding, turns_raised}
+use Rattle.radio_core.proofs.Standings.{Turns, asks, turns_feeding, turns_raised, turns_given}
 use Rattle.radio_core.proofs.Fates.{Fate, GoesOn, IsEnded, HasStopped, IsMoved, Fates, Nobody, sound_fates}
+use Rattle.radio_house.specs.Waiting.{heard_at}
 
 abbrev Nothing : ℕ → Rule → Type 0
 Nothing id rule = ⊥

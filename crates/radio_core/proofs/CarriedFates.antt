@@ -30,6 +30,8 @@ use Rattle.radio_core.proofs.Fates.{Fate, IsEnded, IsMoved, lost_in, active_sitt
 use Rattle.radio_parts.proofs.SessionLookups.{found_named}
 use Rattle.radio_parts.proofs.NumberOrder.{same_order}
 use Rattle.radio_core.proofs.Standings.{sits_in}
+use Rattle.radio_core.proofs.HeardLemmas.{heard_end, heard_named, heard_number}
+use Rattle.radio_house.specs.Waiting.{heard_at}
 
 -- a carry leaves the listeners in their order
 pub order_carried : (w : World) (move : Move) → AreByNumber w.seats → AreByNumber (carried_along w move).seats

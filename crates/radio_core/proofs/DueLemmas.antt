@@ -9,7 +9,7 @@ use Rattle.radio_tables.proofs.EachLaws.{Each_each, Each_kept, Each_updated, Eac
 use Rattle.radio_seats.specs.declared.seat.Seat.{Seat}
 use Rattle.radio_seats.specs.declared.seat.Seating.TheVariants.{Finished}
 use Rattle.radio_seats.specs.declared.seat.Listener.{Listener}
-use Rattle.radio_seats.specs.Seats.{is_listener, by_listener, seated, advanced, loses, holds_of, finished_if, with_ended}
+use Rattle.radio_seats.specs.Seats.{is_listener, by_listener, seated, advanced, loses, holds_of, finished_if, with_ended, hears_session, in_session_at, with_session_at}
 use Rattle.radio_events.specs.declared.command.Command.{Command}
 use Rattle.radio_events.specs.declared.command.Command.TheVariants.{MoveClients, KillClient, KillSource, SetTitle as NewTitle, SetFallback, AddUser, DeleteUser}
 use Rattle.radio_house.specs.declared.clients.ClientState.{ClientState}
@@ -20,7 +20,7 @@ use Rattle.radio_core.specs.declared.outcome.Change.TheVariants.{EndAndLeave, Fo
 use Rattle.radio_fallback.specs.declared.moves.Move.{Move}
 use Rattle.radio_fallback.specs.declared.moves.Move.TheVariants.{Ended as SessionEnds, Up, To}
 use Rattle.radio_fallback.proofs.Faring.{each_carried}
-use Rattle.radio_core.specs.Changes.{answered, done, session_ended_by, session_killed, carried_along, session_over, session_ended, called_home, client_gone, before_silence}
+use Rattle.radio_core.specs.Changes.{answered, done, session_ended_by, session_killed, carried_along, session_over, session_ended, called_home, client_gone, before_silence, session_begun, session_raised}
 use Rattle.radio_house.specs.HouseChanges.{begun, raised}
 use Rattle.radio_core.specs.Changes.{session_silenced, silent_in, ticked}
 use Rattle.radio_house.specs.Clients.{Client, newcomer, is_client, by_number, with_state, in_state}
@@ -40,6 +40,7 @@ use Rattle.radio_house.specs.World.{World}
 use Rattle.radio_access.specs.Lists.{with_user_at, without_user_at}
 use Rattle.radio_house.specs.Outsiders.{is_shut_out}
 use Rattle.radio_policy.specs.declared.rule.Rule.TheVariants.{ListenerPassword}
+use Rattle.radio_seats.specs.declared.seat.Seating.{Seating}
 
 -- before it is due, nothing has had its time
 

@@ -1,5 +1,5 @@
 -- how each client fares by an event that ends something, or carries listeners along
-use Rattle.std.proofs.Common.{◌≡◌, ◌⊎◌, inl, inr, Bool, true, ℕ, ◌<◌, Option, Some, None, List, refl, ap, sym, subst, ◌∙◌, arith}
+use Rattle.std.proofs.Common.{◌≡◌, ◌⊎◌, inl, inr, Bool, true, ℕ, ◌<◌, Option, Some, None, List, refl, ap, sym, subst, ◌∙◌, arith, false, ◌==◌}
 use Rattle.radio_policy.specs.declared.rule.Rule.{Rule}
 use Rattle.radio_access.specs.Lists.{Lists, lets_in}
 use Rattle.radio_seats.specs.declared.seat.Listener.{Listener}
@@ -20,6 +20,8 @@ use Rattle.radio_house.specs.Timeouts.{asks_too_late}
 use Rattle.radio_house.specs.World.{World, standing_of, standing_in, standing_by}
 use Rattle.radio_parts.proofs.NumberOrder.{order_ended}
 use Rattle.radio_core.proofs.Standings.{no_relay_sits}
+use Rattle.radio_house.specs.Waiting.{heard_at}
+use Rattle.radio_core.proofs.HeardLemmas.{heard_same}
 
 -- there is something that can end for him
 abbrev pub IsActive : Standing → Type 0

@@ -31,10 +31,10 @@ module _ (house : House) (mount : List ℕ) where
   heard_named session e =
       heard_cases session e (λ live. found_named house.live mount session live) (λ none silent. sym (ap (λ (x : Session). x.mount) silent))
 
-  number_in : Option Session → ℕ
+  abbrev number_in : Option Session → ℕ
   number_in found = option_map_or (λ (x : Session). x.number) found 0
 
-  end_in : Option Session → ℕ
+  abbrev end_in : Option Session → ℕ
   end_in found = option_map_or (λ (x : Session). end_of x.stream) found 0
 
   pub heard_number : (session : Session) → heard_at house mount ≡ Some session → live_number house mount ≡ session.number

@@ -1,5 +1,5 @@
 -- what comes of an event is the same where only a queue is kept of each stream
-use Rattle.std.proofs.Common.{◌≡◌, Bool, ℕ, ◌+◌, ◌==◌, ◌||◌, Option, Some, None, is_some, List, length, refl, ap, ◌∙◌, arith}
+use Rattle.std.proofs.Common.{◌≡◌, Bool, ℕ, ◌+◌, ◌==◌, ◌||◌, Option, Some, None, is_some, List, length, refl, ap, ◌∙◌, arith, subst}
 use Rattle.std.proofs.Math.Path.{fun_ext}
 use Rattle.std.specs.Prelude.{nat_lt, if◌then◌else◌}
 use Rattle.std.specs.Option.{option_map}
@@ -64,11 +64,13 @@ use Rattle.radio_core.specs.Step.{outcome}
 use Rattle.radio_house.specs.World.{World, standing_of}
 use Rattle.radio_parts.proofs.KeptStreams.{kept_data, kept_burst}
 use Rattle.radio_parts.proofs.KeptLists.{kept_found, kept_ends}
-use Rattle.radio_core.proofs.KeptSights.{has_session, same_sight}
+use Rattle.radio_core.proofs.KeptSights.{has_session, same_sight, heard_kept}
 use Rattle.radio_core.proofs.ListingLemmas.{shown_kept, page_kept}
 use Rattle.radio_core.specs.Pages.{asks_by}
 use Rattle.radio_settings.specs.declared.web.WebPath.{WebPath}
 use Rattle.radio_settings.specs.Web.{web_path}
+use Rattle.radio_house.specs.Waiting.{heard_at}
+use Rattle.radio_core.proofs.HeardLemmas.{heard_cases}
 
 module _ (w : World) (rise : Each HasRisingStarts w.house.live) (kept : SeatsAreKept w) where
   abbrev queue : ℕ

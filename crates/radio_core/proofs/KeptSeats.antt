@@ -18,7 +18,7 @@ use Rattle.radio_seats.specs.declared.seat.Seat.{Seat}
 use Rattle.radio_seats.specs.declared.seat.Seating.{Seating}
 use Rattle.radio_seats.specs.declared.seat.Seating.TheVariants.{Sits as HasSeat, Finished as HasFinished}
 use Rattle.radio_seats.proofs.EndLaws.{had_seat, kept_seat}
-use Rattle.radio_seats.specs.Seats.{is_listener, listener_of, seat_held, loses, lost_by, with_end, seat_of, seat_in, with_seat, with_place, without_listener, AreByNumber}
+use Rattle.radio_seats.specs.Seats.{is_listener, listener_of, seat_held, loses, lost_by, with_end, seat_of, seat_in, with_seat, with_place, without_listener, AreByNumber, with_session_at}
 use Rattle.radio_seats.proofs.SeatLaws.{beside_moved, beside_left, beside_seated, is_no_listener, has_sat_down, has_heard}
 use Rattle.radio_events.specs.declared.command.Command.{Command}
 use Rattle.radio_events.specs.declared.command.Command.TheVariants.{MoveClients, KillClient, KillSource, SetTitle as NewTitle, SetFallback, AddUser, DeleteUser}
@@ -34,7 +34,7 @@ use Rattle.radio_fallback.proofs.Faring.{Faring, HasStayed, HasGone, HasLost, fa
 use Rattle.radio_house.specs.House.{House}
 use Rattle.radio_access.specs.Lists.{Lists, with_user_at, without_user_at}
 use Rattle.radio_house.specs.Outsiders.{is_shut_out}
-use Rattle.radio_core.specs.Changes.{answered, outsiders_ended, session_killed, changed, carried_along, session_over, session_ended, called_home}
+use Rattle.radio_core.specs.Changes.{answered, outsiders_ended, session_killed, changed, carried_along, session_over, session_ended, called_home, session_begun, session_raised}
 use Rattle.radio_house.specs.HouseChanges.{begun, raised, received}
 use Rattle.radio_core.specs.Changes.{before_silence, session_silenced, silent_in, ticked}
 use Rattle.radio_house.specs.Facts.{live_end, sight_of}
@@ -48,16 +48,21 @@ use Rattle.radio_parts.specs.Stream.{WholeStream, no_data, end_of, with_block, b
 use Rattle.radio_parts.specs.Timeouts.{lags_behind, has_sat_out}
 use Rattle.radio_core.specs.Ways.{Way, Misplaced, IsFinished, IsDenied, IsRefused, IsAdmitted, Begins, ComesUp, Receives, SetsTitle, TakesSeat, HandsOut, Ends}
 use Rattle.radio_core.specs.Ways.{EndsAndLeaves, Leaves, GoesDown, Obeys, Shows, HasPassed, Ticks}
-use Rattle.radio_house.specs.World.{World}
+use Rattle.radio_house.specs.World.{World, world}
 use Rattle.radio_core.proofs.CalledHome.{house_called}
 use Rattle.radio_core.proofs.ChangedUsers.{with_lists}
 use Rattle.radio_core.proofs.CommandLemmas.{obeyed_keeps}
 use Rattle.radio_core.proofs.CarriedFates.{order_carried}
 use Rattle.radio_parts.proofs.SessionLookups.{beside_fed, beside_titled, beside_begun, is_new_session}
-use Rattle.radio_parts.proofs.NumberOrder.{order_ended}
+use Rattle.radio_parts.proofs.NumberOrder.{order_ended, same_order}
 use Rattle.radio_core.proofs.SoundEnds.{was_live}
 use Rattle.radio_core.proofs.UpdatedSessions.{session_updated}
 use Rattle.radio_core.proofs.Ways.{way_of}
+use Rattle.radio_house.specs.Waiting.{heard_at}
+use Rattle.radio_core.proofs.HeardLemmas.{heard_live}
+use Rattle.radio_core.proofs.GivenSeats.{sat_elsewhere}
+use Rattle.radio_parts.proofs.ApartLemmas.{bytes_apart}
+use Rattle.radio_seats.proofs.GivenLaws.{numbers_hearing}
 
 -- he sits at the end of his session's stream
 abbrev pub SitsAtEnd : World → Seat → Type 0

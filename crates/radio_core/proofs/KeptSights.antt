@@ -2,7 +2,7 @@
 use Rattle.std.proofs.Common.{◌≡◌, Bool, true, false, ℕ, Option, Some, None, is_some, List, refl, ap, ◌∙◌}
 use Rattle.std.proofs.Math.Path.{fun_ext}
 use Rattle.std.specs.Prelude.{if◌then◌else◌}
-use Rattle.std.specs.Option.{option_map, option_map_or}
+use Rattle.std.specs.Option.{option_map, option_map_or, option_or}
 use Rattle.radio_settings.specs.Options.{options_for}
 use Rattle.radio_access.specs.Lists.{lets_in}
 use Rattle.radio_tables.specs.Lists.{Each}
@@ -18,6 +18,7 @@ use Rattle.radio_core.specs.Kept.{kept_of}
 use Rattle.radio_parts.specs.Sessions.{Session, session_of, HasRisingStarts}
 use Rattle.radio_house.specs.World.{World}
 use Rattle.radio_parts.proofs.KeptLists.{kept_found, kept_ends}
+use Rattle.radio_house.specs.Waiting.{heard_at, is_on_demand, silence_at, silence_of}
 
 is_some_mapped : {A B : Type 0} (f : A → B) (found : Option A) → is_some (option_map f found) ≡ is_some found
 is_some_mapped f None = refl

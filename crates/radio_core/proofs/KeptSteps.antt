@@ -14,7 +14,7 @@ use Rattle.radio_core.specs.declared.outcome.Change.{Change}
 use Rattle.radio_core.specs.declared.outcome.Change.TheVariants.{Nothing, Answer, Admit, Begin, Raise, Receive, SetTitle, TakeSeat, Advance, End}
 use Rattle.radio_core.specs.declared.outcome.Change.TheVariants.{EndAndLeave, Forget, Tick, Obey}
 use Rattle.radio_house.specs.House.{House}
-use Rattle.radio_core.specs.Changes.{answered, done, session_ended_by, session_killed, changed, carried_along, session_over, session_ended, called_home, client_gone, laggards_ended}
+use Rattle.radio_core.specs.Changes.{answered, done, session_ended_by, session_killed, changed, carried_along, session_over, session_ended, called_home, client_gone, laggards_ended, session_begun, session_raised}
 use Rattle.radio_house.specs.HouseChanges.{finished_in, begun, raised}
 use Rattle.radio_core.specs.Changes.{before_silence, session_silenced, silent_in, ticked}
 use Rattle.radio_house.specs.Clients.{in_state}

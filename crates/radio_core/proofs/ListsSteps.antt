@@ -12,7 +12,7 @@ use Rattle.radio_house.specs.Streams.{shown_for}
 use Rattle.radio_house.specs.World.{World}
 use Rattle.radio_parts.specs.Sessions.{session_of}
 use Rattle.radio_core.specs.Allowed.{IsCommanded}
-use Rattle.radio_core.specs.Changes.{answered, changed}
+use Rattle.radio_core.specs.Changes.{answered, changed, session_begun, session_raised}
 use Rattle.radio_core.specs.ListsSteps.{ListsStep, Stay, IsAdded, IsDeleted, ListsAreStepped}
 use Rattle.radio_core.specs.Sound.{IsSound}
 use Rattle.radio_core.specs.Step.{outcome, world_after}

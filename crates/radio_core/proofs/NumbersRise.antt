@@ -45,11 +45,13 @@ use Rattle.radio_parts.proofs.NumberLists.{taken_free, numbers_updated, numbers_
 use Rattle.radio_core.proofs.Obeyed.{is_answered}
 use Rattle.radio_core.proofs.SoundEnds.{turns_ended}
 use Rattle.radio_core.proofs.SoundRuns.{grown_world, NoMove, lag_fates}
-use Rattle.radio_core.proofs.Standings.{Turns, IsThere, asks, no_client_there, no_relay_there, turns_answered, turns_sitting, turns_forgotten, turns_admitted, turns_raised}
+use Rattle.radio_core.proofs.Standings.{Turns, IsThere, asks, no_client_there, no_relay_there, turns_answered, turns_sitting, turns_forgotten, turns_admitted, turns_raised, stays_given}
 use Rattle.radio_core.proofs.Standings.{stays_hearing}
 use Rattle.radio_core.proofs.Ways.{way_of}
 use Rattle.radio_seats.proofs.SeatLaws.{listener_seated}
 use Rattle.radio_core.proofs.NumbersStay.{number_of, relay_number, row_of, ids, relay_ids, rows, AreTheSame, same_called, same_state, same_obeyed, same_over_rows, same_ticked, same_begun, same_received}
+use Rattle.radio_house.specs.HouseChanges.{raised}
+use Rattle.radio_seats.proofs.GivenLaws.{numbers_hearing}
 
 -- he has not asked for anything yet, if he is there at all
 abbrev pub IsYetToAsk : Standing → Type 0

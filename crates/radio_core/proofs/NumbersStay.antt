@@ -19,7 +19,7 @@ use Rattle.radio_settings.specs.declared.field.Shown.{Shown}
 use Rattle.radio_fallback.specs.declared.moves.Move.{Move}
 use Rattle.radio_fallback.specs.declared.moves.Move.TheVariants.{Ended as SessionEnds, Up, To}
 use Rattle.radio_fallback.proofs.FaresLemmas.{numbers_kept}
-use Rattle.radio_core.specs.Changes.{answered, session_killed, changed, carried_along, session_over, session_ended, called_home, taken_in}
+use Rattle.radio_core.specs.Changes.{answered, session_killed, changed, carried_along, session_over, session_ended, called_home, taken_in, session_begun}
 use Rattle.radio_house.specs.HouseChanges.{begun, received}
 use Rattle.radio_core.specs.Changes.{before_silence, session_silenced, silent_in, ticked}
 use Rattle.radio_house.specs.Facts.{live_end, sight_of}
@@ -33,6 +33,7 @@ use Rattle.radio_house.specs.Outsiders.{is_shut_out}
 use Rattle.radio_core.proofs.ChangedUsers.{with_lists}
 use Rattle.radio_policy.specs.declared.rule.Rule.TheVariants.{ListenerPassword}
 use Rattle.radio_core.specs.Changes.{outsiders_ended}
+use Rattle.radio_seats.proofs.GivenLaws.{numbers_hearing}
 
 -- the numbers of the clients, those of the relays, and those of the listeners
 abbrev pub number_of : Client → ℕ

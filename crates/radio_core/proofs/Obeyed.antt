@@ -37,7 +37,7 @@ use Rattle.radio_core.specs.SeatSteps.{IsSent, HisSessionIsOver, IsCommandedTher
 use Rattle.radio_parts.specs.Sessions.{Session, session_of}
 use Rattle.radio_core.specs.Sound.{IsSound}
 use Rattle.radio_house.specs.World.{World, standing_of, standing_in}
-use Rattle.radio_core.proofs.AllowedCommands.{may_act, may_kill, may_move, needs_hold}
+use Rattle.radio_core.proofs.AllowedCommands.{may_act, may_kill, may_move, needs_hold, may_go}
 use Rattle.radio_core.proofs.CarriedFates.{order_carried, carried_fate}
 use Rattle.radio_core.proofs.Fates.{IsActive, Fate, GoesOn, IsEnded, HasStopped, IsMoved, Fates, HasEnded, Nobody, sound_fates, fates_none, lost_in, active_sitter}
 use Rattle.radio_parts.proofs.SessionLookups.{found_named, is_over}
@@ -46,6 +46,9 @@ use Rattle.radio_core.proofs.SoundEnds.{over_fates, late_beside, still_feeds, ha
 use Rattle.radio_core.proofs.SoundTitles.{sound_titled}
 use Rattle.radio_core.proofs.Soundness.{sound_answered}
 use Rattle.radio_core.proofs.Standings.{Turns, asks, turns_answered, turns_ended_by}
+use Rattle.radio_house.specs.Waiting.{heard_at}
+use Rattle.radio_core.proofs.HeardApart.{apart_sessions, apart_then}
+use Rattle.radio_core.proofs.HeardLemmas.{heard_cases}
 
 -- whoever is moved by a command, or since his session is over, goes on in another
 abbrev pub LeavesFor : World → Event → World → Seat → Session → Type 0

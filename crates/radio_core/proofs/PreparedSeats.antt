@@ -14,9 +14,11 @@ use Rattle.radio_fallback.specs.Walk.{Sight}
 use Rattle.radio_fallback.proofs.FaresLemmas.{numbers_kept}
 use Rattle.radio_parts.specs.Prepared.{LiveArePrepared}
 use Rattle.radio_house.specs.House.{House}
-use Rattle.radio_house.specs.Waiting.{is_on_demand, heard_at}
+use Rattle.radio_house.specs.Waiting.{is_on_demand, heard_at, silence_at, silence_of}
 use Rattle.radio_core.specs.Prepared.{OnDemandArePrepared}
 use Rattle.radio_core.proofs.HeardLemmas.{heard_cases}
+use Rattle.radio_parts.specs.Sessions.{session_of}
+use Rattle.std.specs.Option.{option_or}
 
 -- of as many listeners, or fewer
 pub fewer_seated : (settings : Settings) (board later : Board) (seats : List Listener) → later ≡ record board { seats = seats }

@@ -14,8 +14,8 @@ use Rattle.radio_events.specs.declared.event.ListenRequest.{ListenRequest}
 use Rattle.radio_core.specs.declared.outcome.Change.TheVariants.{TakeSeat, Advance, End, EndAndLeave, Forget, Obey}
 use Rattle.radio_core.specs.declared.outcome.Outcome.{Outcome}
 use Rattle.radio_seats.specs.declared.seat.Seat.{Seat}
-use Rattle.radio_house.specs.declared.standing.Standing.TheVariants.{Undecided, Feeds, Sits}
-use Rattle.radio_house.specs.World.{World, standing_of}
+use Rattle.radio_house.specs.declared.standing.Standing.TheVariants.{Undecided, Feeds, Sits, Unknown}
+use Rattle.radio_house.specs.World.{World, standing_of, world}
 use Rattle.radio_core.specs.Changes.{changed, called_home, taken_in, ticked}
 use Rattle.radio_house.specs.HouseChanges.{begun, raised}
 use Rattle.radio_core.specs.Handing.{data_in, of_client, handed_at}
@@ -36,9 +36,9 @@ use Rattle.radio_settings.specs.Options.{options_for}
 use Rattle.radio_fallback.specs.declared.walking.Landing.TheVariants.{Lands}
 use Rattle.std.proofs.lemmas.Slice.Eq.{bytes_eq-Decides}
 use Rattle.radio_core.specs.Listen.{first_seat}
-use Rattle.radio_core.specs.SeatSteps.{ComesUpOn, ASource, ARelay, IsSent, HisSessionIsOver, HeIsCalledHome, SeatStep, Stays, IsHanded, SitsDown, IsMoved as HeIsMoved, Leaves as HeLeaves, IsEnded as HeIsEnded, SeatsStep}
-use Rattle.radio_seats.specs.Seats.{seat_of, seat_in}
-use Rattle.radio_parts.specs.Sessions.{Session, session_of}
+use Rattle.radio_core.specs.SeatSteps.{ComesUpOn, ASource, ARelay, IsSent, HisSessionIsOver, HeIsCalledHome, SeatStep, Stays, IsHanded, SitsDown, IsMoved as HeIsMoved, Leaves as HeLeaves, IsEnded as HeIsEnded, SeatsStep, IsGiven}
+use Rattle.radio_seats.specs.Seats.{seat_of, seat_in, with_session_at}
+use Rattle.radio_parts.specs.Sessions.{Session, session_of, opened, with_session}
 use Rattle.radio_core.specs.Sound.{IsSound}
 use Rattle.radio_core.specs.Step.{outcome, reply_to, world_after}
 use Rattle.radio_parts.specs.Stream.{data_at, end_of}
@@ -56,6 +56,14 @@ use Rattle.radio_core.proofs.Fates.{Fate, GoesOn, IsEnded, HasStopped, IsMoved, 
 use Rattle.radio_core.proofs.TickLemmas.{ticked_fates}
 use Rattle.radio_core.proofs.SoundRuns.{grown_world, NoMove, lag_fates}
 use Rattle.radio_core.proofs.Ways.{way_of}
+use Rattle.std.specs.Option.{option_map}
+use Rattle.radio_house.specs.Waiting.{heard_at}
+use Rattle.radio_parts.proofs.SessionLookups.{is_new_session}
+use Rattle.radio_core.proofs.HeardLemmas.{heard_cases, heard_live}
+use Rattle.radio_core.proofs.HeardApart.{apart_sessions, apart_then}
+use Rattle.radio_seats.proofs.GivenLaws.{seat_hearing, seat_of_hearing}
+use Rattle.radio_core.proofs.GivenSeats.{sat_elsewhere}
+use Rattle.radio_settings.specs.declared.field.Shown.{Shown}
 
 -- all that an event can do to a seat: nothing, hand out what stands at its place, give one to who had none, carry it along, take it away
 data Turn (w later : World) (event : Event) (id : ℕ) : Option Seat → List ℕ → Option Seat → Type 0 where

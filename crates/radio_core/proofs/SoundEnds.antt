@@ -39,6 +39,8 @@ use Rattle.radio_house.proofs.Lookups.{beside_state, beside_forgotten, does, sti
 use Rattle.radio_core.proofs.ClosingLemmas.{closes_his}
 use Rattle.radio_parts.proofs.NumberOrder.{order_left}
 use Rattle.radio_core.proofs.Standings.{Turns, is_client_there, turns_answered, turns_forgotten, feeds_whoever_sits}
+use Rattle.radio_core.proofs.HeardApart.{sits_past_zero}
+use Rattle.radio_core.proofs.HeardLemmas.{heard_same}
 
 -- who has no seat has none when a move has carried the others along
 pub no_seat_carried : (w : World) (move : Move) → AreByNumber w.seats → (id : ℕ) → seat_of w.seats id ≡ None → seat_of (carried_along w move).seats id ≡ None

@@ -1,5 +1,5 @@
 -- what holds of every state of a run holds still when a source has set a title
-use Rattle.std.proofs.Common.{◌≡◌, ◌≤◌, false, ℕ, Some, List, refl, ap, sym, subst, ◌∙◌}
+use Rattle.std.proofs.Common.{◌≡◌, ◌≤◌, false, ℕ, Some, List, refl, ap, sym, subst, ◌∙◌, None}
 use Rattle.std.specs.Str.{bytes_eq}
 use Rattle.radio_tables.proofs.KeyLaws.{by_name}
 use Rattle.radio_core.specs.declared.outcome.Change.TheVariants.{SetTitle}
@@ -11,6 +11,7 @@ use Rattle.radio_parts.specs.Stream.{AreRising, WholeStream, end_of}
 use Rattle.radio_core.specs.Sound.{IsSound}
 use Rattle.radio_parts.proofs.ApartLemmas.{updated_apart}
 use Rattle.radio_parts.proofs.SessionLookups.{beside_titled, is_titled}
+use Rattle.radio_core.proofs.HeardLemmas.{heard_cases, heard_live, heard_same}
 
 -- a session is as it was, but that it may have another title
 pub record IsBut (session now : Session) : Type 0 where

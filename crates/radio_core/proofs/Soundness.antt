@@ -19,6 +19,9 @@ use Rattle.radio_seats.proofs.SeatLaws.{beside_left, beside_seated, is_no_listen
 use Rattle.radio_parts.proofs.RisingLemmas.{burst_within}
 use Rattle.radio_parts.proofs.NumberOrder.{order_left, order_seated}
 use Rattle.radio_core.proofs.Standings.{Turns, asks, turns_answered, turns_sitting, turns_forgotten, turns_admitted}
+use Rattle.radio_house.specs.Waiting.{heard_at}
+use Rattle.radio_parts.specs.Stream.{AreRising, end_of}
+use Rattle.radio_core.proofs.HeardLemmas.{heard_cases}
 
 module _ (w : World) (s : IsSound w) where
   -- who is seated is seated still, where there is the same to be heard

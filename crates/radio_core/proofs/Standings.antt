@@ -19,13 +19,16 @@ use Rattle.radio_house.specs.declared.relays.RelayState.{RelayState}
 use Rattle.radio_house.specs.declared.relays.RelayState.TheVariants.{Feeds as RelayFeeds, Ended as RelayEnded}
 use Rattle.radio_house.specs.Clients.{Client, client_of, in_state, with_state}
 use Rattle.radio_house.specs.Relays.{Relay, relay_of, risen, ended}
-use Rattle.radio_seats.specs.Seats.{listener_of, advanced, heard_to}
-use Rattle.radio_house.specs.World.{World, standing_of, standing_in, standing_by, standing_seated, standing_of_listener, standing_relayed, standing_of_relay, has_relay}
+use Rattle.radio_seats.specs.Seats.{listener_of, advanced, heard_to, hears_session, in_session_at, with_session_at}
+use Rattle.radio_house.specs.World.{World, standing_of, standing_in, standing_by, standing_seated, standing_of_listener, standing_relayed, standing_of_relay, has_relay, world}
 use Rattle.radio_core.specs.Changes.{changed}
 use Rattle.radio_house.specs.HouseChanges.{begun, raised, finished_in}
 use Rattle.radio_seats.proofs.SeatLaws.{beside_moved, beside_left, beside_seated, has_moved, is_no_listener, has_sat_down}
 use Rattle.radio_house.proofs.Lookups.{beside_state, beside_forgotten, does, still_none, is_no_client, is_new_client, beside_new}
 use Rattle.radio_house.proofs.Lookups.{relay_beside_ended, relay_beside_gone, is_ended_relay, is_no_relay, is_new_relay, beside_new_relay}
+use Rattle.radio_seats.proofs.GivenLaws.{listener_hearing}
+use Rattle.std.specs.Option.{option_map}
+use Rattle.radio_house.specs.House.{House}
 
 -- one client stands so from now on, and the others as before
 pub record Turns (w later : World) (him : ℕ) (now : Standing) : Type 0 where

@@ -40,6 +40,7 @@ use Rattle.radio_core.proofs.Standings.{is_client_there, no_client_there, no_rel
 use Rattle.radio_core.proofs.Ways.{way_of}
 use Rattle.radio_core.proofs.NumbersStay.{number_of, relay_number, row_of, ids, relay_ids, rows, AreTheSame, same_called, nobody_else, same_state, same_obeyed, same_over_rows, same_ticked, same_begun, same_received}
 use Rattle.radio_core.proofs.NumbersRise.{IsYetToAsk, AreInOrder, order_after, order_opening}
+use Rattle.radio_seats.proofs.GivenLaws.{numbers_hearing}
 
 -- what came and went, and how many are there then
 record Adds (w later : World) (event : Event) (reply : Reply) : Type 0 where

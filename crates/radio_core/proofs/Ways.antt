@@ -59,6 +59,8 @@ use Rattle.radio_core.specs.Ways.{Way, Misplaced, IsFinished, IsDenied, IsRefuse
 use Rattle.radio_core.specs.Ways.{EndsAndLeaves, Leaves, GoesDown, Obeys, Shows, HasPassed, Ticks, rows_for, IsUndecided}
 use Rattle.radio_events.specs.Events.{client_in}
 use Rattle.radio_parts.proofs.SessionLookups.{found_named}
+use Rattle.radio_core.proofs.HeardLemmas.{heard_named}
+use Rattle.radio_house.specs.Waiting.{heard_at}
 
 module _ (w : World) (event : Event) where
   by_verdict : (denied : Change) (allowed : Outcome) (v : Verdict) → ((rule : Rule) → v ≡ Denied rule → Way w event (says (Deny rule) denied))
