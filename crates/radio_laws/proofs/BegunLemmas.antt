@@ -22,7 +22,7 @@ module _ (w : World) (s : IsSound w) (P : Session → Type 0)
   -- those who are called home change no session
   begins_so : (him : ℕ) (there : List ℕ) (shown : Shown) (house : House) → house.live ≡ with_session w.house.live (opened there him shown w.house.time)
       → Turns w (record w { house = house }) him (Feeds there) → session_of w.house.live there ≡ None → P (opened there him shown w.house.time)
-      → (mount : List ℕ) (session : Session) → session_of (called_home (record w { house = house }) there).house.live mount ≡ Some session → P session
+      → (mount : List ℕ) (session : Session) → session_of (called_home (world house (with_session_at w.seats there him)) there).house.live mount ≡ Some session → P session
   begins_so him there shown house live t none fresh mount session e =
       begun_cases w s him there shown house live t none mount session
       (ap (λ (h : House). session_of h.live mount) (sym (house_called (record w { house = house }) there)) ∙ e)

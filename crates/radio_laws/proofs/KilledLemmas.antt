@@ -49,6 +49,7 @@ nothing_handed w C event id before later bytes (SeatStays seat) none = refl
 nothing_handed w C event id before later bytes (IsHanded seat session room is live number within) none = cc
 nothing_handed w C event id before later bytes (SeatsDown asked peer session is his undecided lands live allowed) none = refl
 nothing_handed w C event id before later bytes (IsMoved seat session takes sent live opens apart) none = refl
+nothing_handed w C event id before later bytes (IsGiven seat session coming idle live empty zero start past) none = refl
 nothing_handed w C event id before later bytes (SeatLeaves seat is) none = refl
 nothing_handed w C event id before later bytes (IsEnded seat rule why) none = refl
 

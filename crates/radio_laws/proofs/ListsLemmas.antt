@@ -68,6 +68,10 @@ module _ (w : World) (s : IsSound w) (k : KeepsLists w) where
       let one : moved_into session old ≡ seat = cc in
       let is = k.seated id old had in
       subst (λ (x : Seat). IsLetIn w.house.lists x) one (record { passing = is.passing; accepted = ap (λ (x : Lists). lets_in x session.mount old.pair) (sym same) ∙ opens })
+  seated_by C event id before bytes later (IsGiven old session coming idle live empty zero start past) same had seat has =
+      let one : record old { session = session.number } ≡ seat = cc in
+      let is = k.seated id old had in
+      subst (λ (x : Seat). IsLetIn w.house.lists x) one (record { passing = is.passing; accepted = is.accepted })
   seated_by C event id before bytes later (HeLeaves old left) same had seat has = cc
   seated_by C event id before bytes later (HeIsEnded old rule cause) same had seat has = cc
 

@@ -153,13 +153,13 @@ begun_none old seat same = let itself : (old.session == seat.session) ≡ true =
     grind (arith, nat_tests) in begun_same old seat (old.session == seat.session) refl itself
 
 -- what an event does to his seat keeps all that he has heard stretches
-module _ (w : World) (s : IsSound w) (sent : ℕ → List ℕ) (whole : (mount : List ℕ) (session : Session) → session_of w.house.live mount ≡ Some session
+module _ (w : World) (s : IsSound w) (sent : ℕ → List ℕ) (whole : (mount : List ℕ) (session : Session) → heard_at w.house mount ≡ Some session
     → session.stream.bytes ≡ sent session.number) where
   unchanged : (seat : Option Seat) (past more : List Sitting) (heard : List ℕ) → more ≡ [] → Hears sent seat past heard
       → Hears sent seat (past ++ more) (heard ++ [])
   unchanged seat past more heard none h = hears_as sent refl (sym (ap (λ xs. past ++ xs) none ∙ append-nil past)) (sym (append-nil heard)) h
 
-  handed_on : (seat : Seat) (session : Session) (room : ℕ) → session_of w.house.live seat.mount ≡ Some session → session.number ≡ seat.session
+  handed_on : (seat : Seat) (session : Session) (room : ℕ) → heard_at w.house seat.mount ≡ Some session → session.number ≡ seat.session
       → seat.place + length (data_at session.stream seat.place room) ≤ end_of session.stream → (past : List Sitting) (heard : List ℕ)
       → Hears sent (Some seat) past heard
       → Hears sent (Some (record seat { place = seat.place + length (data_at session.stream seat.place room) })) past
@@ -179,7 +179,7 @@ module _ (w : World) (s : IsSound w) (sent : ℕ → List ℕ) (whole : (mount :
       hears_as sent refl refl (sym joined) (Listening (record seat { place = far }) before last old stretches source (omega (arith, low))
       (omega (arith, within, size)))
 
-  sits_in : (seat : Seat) (session : Session) → session_of w.house.live seat.mount ≡ Some session → session.number ≡ seat.session
+  sits_in : (seat : Seat) (session : Session) → heard_at w.house seat.mount ≡ Some session → session.number ≡ seat.session
       → seat.place ≤ end_of session.stream → (past : List Sitting) (heard : List ℕ) → Hears sent None past heard
       → Hears sent (Some seat) (past ++ sitting_in seat ∷ []) (heard ++ [])
   sits_in seat session live number within past heard (Idle _ _ stretches) =
@@ -190,7 +190,7 @@ module _ (w : World) (s : IsSound w) (sent : ℕ → List ℕ) (whole : (mount :
 
   -- and more was sent by then, which is what the sessions have
   module _ (event : Event) (more : ℕ → List ℕ)
-      (whole_then : (mount : List ℕ) (session : Session) → session_of (world_after w event).house.live mount ≡ Some session
+      (whole_then : (mount : List ℕ) (session : Session) → heard_at (world_after w event).house mount ≡ Some session
       → session.stream.bytes ≡ sent session.number ++ more session.number) where
     abbrev now : ℕ → List ℕ
     now n = sent n ++ more n
@@ -211,7 +211,9 @@ module _ (w : World) (s : IsSound w) (sent : ℕ → List ℕ) (whole : (mount :
         let seat = first_seat w.house asked peer session in
         hears_grown sent more (Some seat) (past ++ sitting_in seat ∷ []) (heard ++ [])
         (sits_in seat session live refl
-        (burst_within session.stream (burst_of w.house session.mount) (s.starts session.mount session live)) past heard h)
+        (burst_within session.stream (burst_of w.house session.mount)
+        (heard_cases w.house session.mount session live (λ there. s.starts session.mount session there)
+        (λ none silent. subst (λ (x : Session). AreRising x.stream.starts (end_of x.stream)) silent tt))) past heard h)
     hears_step C id before later bytes (IsMoved seat session takes why live opens apart) past heard h =
         let new = moved_into session seat in
         let started : begun_sittings (Some seat) (Some new) ≡ sitting_in new ∷ [] = ap (λ (b : Bool). if b then [] else sitting_in new ∷ []) apart in
@@ -219,6 +221,13 @@ module _ (w : World) (s : IsSound w) (sent : ℕ → List ℕ) (whole : (mount :
         let size : end_of session.stream ≡ length (now session.number) = ap length (whole_then session.mount session live) in
         hears_as now refl (ap (λ xs. past ++ xs) (sym started)) (ap (λ xs. heard ++ xs) (between_none new.place (now new.session)))
         (Listening new past (sitting_in new) heard so_far refl (omega arith) (omega (arith, size)))
+    hears_step C id before later bytes (IsGiven seat session coming idle live empty zero start past_zero) past heard h =
+        let new : Seat = record seat { session = session.number } in
+        let apart : (seat.session == session.number) ≡ false = ap (λ (n : ℕ). n == session.number) zero ∙ past_zero in
+        let started : begun_sittings (Some seat) (Some new) ≡ sitting_in new ∷ [] = ap (λ (b : Bool). if b then [] else sitting_in new ∷ []) apart in
+        let so_far = heard_so_far now (Some seat) past heard (hears_grown sent more (Some seat) past heard h) in
+        hears_as now refl (ap (λ xs. past ++ xs) (sym started)) (ap (λ xs. heard ++ xs) (between_none new.place (now new.session)))
+        (Listening new past (sitting_in new) heard so_far refl (omega arith) (omega (arith, start)))
     hears_step C id before later bytes (HeLeaves seat left) past heard h =
         hears_grown sent more None (past ++ []) (heard ++ [])
         (unchanged None past [] heard refl (Idle past heard (heard_so_far sent (Some seat) past heard h)))
@@ -230,8 +239,17 @@ module _ (w : World) (s : IsSound w) (sent : ℕ → List ℕ) (whole : (mount :
 
 record Sent (w : World) (sent : ℕ → List ℕ) : Type 0 where
   pub whole : (mount : List ℕ) (session : Session) → session_of w.house.live mount ≡ Some session → session.stream.bytes ≡ sent session.number
+  -- nobody has the number 0
+  pub by_nobody : sent 0 ≡ []
   pub none_yet : (id : ℕ) (peer : Peer) → standing_of w id ≡ Undecided peer → sent id ≡ []
   pub none_above : (id : ℕ) → w.house.last_id < id → sent id ≡ []
+
+-- so is what is heard at a mount that waits: nothing
+whole_heard : (w : World) (sent : ℕ → List ℕ) → Sent w sent → (mount : List ℕ) (session : Session) → heard_at w.house mount ≡ Some session
+    → session.stream.bytes ≡ sent session.number
+whole_heard w sent h mount session hears =
+    heard_cases w.house mount session hears (h.whole mount session)
+    (λ none silent. subst (λ (x : Session). x.stream.bytes ≡ sent x.number) silent (sym h.by_nobody))
 
 module _ (w : World) (s : IsSound w) (sent : ℕ → List ℕ) (h : Sent w sent) where
   -- only a source brings something
@@ -346,6 +364,7 @@ module _ (w : World) (s : IsSound w) (sent : ℕ → List ℕ) (h : Sent w sent)
   unfolding world_after whole_now
   sent_step event = record {
     whole = whole_by event (outcome w event) (way_of w event);
+    by_nobody = nothing 0 h.by_nobody (λ mount f. let unknown : standing_of w 0 ≡ Unknown = s.from_one in cc);
     none_yet = none_yet;
     none_above = λ id high.
         let low = last_rises w s event in
@@ -379,7 +398,7 @@ all_stretches w s sent h id past heard so_far (event ∷ events) =
     let more = λ (n : ℕ). delivered_at w event n in
     let now = λ (n : ℕ). sent n ++ more n in
     let sent_now = sent_step w s sent h event in
-    let heard_now = hears_step w s sent h.whole event more sent_now.whole (Finishes w event id) id (seat_of w.seats id) (seat_of later.seats id) bytes step
+    let heard_now = hears_step w s sent (whole_heard w sent h) event more (whole_heard later now sent_now) (Finishes w event id) id (seat_of w.seats id) (seat_of later.seats id) bytes step
     past heard so_far in
     let rest = all_stretches later (sound_after w s event) now sent_now id (past ++ begun) (heard ++ bytes) heard_now events in
     same_stretches (λ n. now n ++ delivered later events n) (λ n. sent n ++ (more n ++ delivered later events n))
@@ -393,4 +412,4 @@ all_stretches w s sent h id past heard so_far (event ∷ events) =
 pub stretches_hold : (settings : Settings) (lists : Lists) (events : List Event) → StretchesAreWhole settings lists events
 stretches_hold settings lists events id =
     all_stretches (opening settings lists) (sound_opening settings lists) (λ n. [])
-    (record { whole = λ mount session e. cc; none_yet = λ n peer e. cc; none_above = λ n h. refl }) id [] [] (Idle [] [] refl) events
+    (record { whole = λ mount session e. cc; by_nobody = refl; none_yet = λ n peer e. cc; none_above = λ n h. refl }) id [] [] (Idle [] [] refl) events

@@ -61,7 +61,7 @@ module _ (before : World) (move : Move) (order : AreByNumber before.seats) (id :
   his_fare : FaringHere
   his_fare = fares (sight_of before.house) move before.seats order id
 
-  goes_by : FaringHere → (mount : List ℕ) → his_turn before move id ≡ GoesTo mount → (session : Session) × (session_of before.house.live mount ≡ Some session)
+  goes_by : FaringHere → (mount : List ℕ) → his_turn before move id ≡ GoesTo mount → (session : Session) × (heard_at before.house mount ≡ Some session)
       × (seat_of (carried_along before move).seats id ≡ Some (record seat { mount = mount; session = session.number; place = end_of session.stream }))
   goes_by (HasStayed same turn) mount e = let both : GoesTo mount ≡ Stays = sym e ∙ turn seat has in cc
   goes_by (HasGone old to turn had concerned fits now) mount e =
@@ -69,15 +69,13 @@ module _ (before : World) (move : Move) (order : AreByNumber before.seats) (id :
       let there : to ≡ mount = cc in
       let held : Some old ≡ Some seat = sym had ∙ has in
       let one : old ≡ seat = cc in
-      let found = found_there (session_of before.house.live to) fits.is_live in
-      let end_in : Option Session → ℕ = λ (f : Option Session). option_map_or (λ (x : Session). end_of x.stream) f 0 in
-      let number_in : Option Session → ℕ = λ (f : Option Session). option_map_or (λ (x : Session). x.number) f 0 in (
+      let found = found_there (heard_at before.house to) fits.is_live in (
         found.0,
-        ap (session_of before.house.live) (sym there) ∙ found.1,
+        ap (heard_at before.house) (sym there) ∙ found.1,
         ap seat_in now
             ∙ ap (λ (x : Seat). Some (seat_at_end (sight_of before.house) to x)) one
-            ∙ ap (λ (n : ℕ). Some (record seat { mount = to; session = n; place = live_end before.house to })) (ap number_in found.1)
-            ∙ ap (λ (n : ℕ). Some (record seat { mount = to; session = found.0.number; place = n })) (ap end_in found.1)
+            ∙ ap (λ (n : ℕ). Some (record seat { mount = to; session = n; place = live_end before.house to })) (heard_number before.house to found.0 found.1)
+            ∙ ap (λ (n : ℕ). Some (record seat { mount = to; session = found.0.number; place = n })) (heard_end before.house to found.0 found.1)
             ∙ ap (λ (m : List ℕ). Some (record seat { mount = m; session = found.0.number; place = end_of found.0.stream })) there,
       )
   goes_by (HasLost old rule turn had concerned now) mount e = let both : GoesTo mount ≡ IsOut rule = sym e ∙ turn in cc
