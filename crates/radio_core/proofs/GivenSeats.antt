@@ -1,12 +1,13 @@
 -- whose seats are as they were when all at a mount hear a session that has begun there
-use Rattle.std.proofs.Common.{◌≡◌, Bool, true, false, ℕ, Option, Some, None, List, refl, ap, sym, ◌∙◌}
+use Rattle.std.proofs.Common.{◌≡◌, Bool, true, false, ℕ, Option, Some, None, List, refl, ap, sym, ◌∙◌, arith}
 use Rattle.std.specs.Prelude.{if◌then◌else◌}
 use Rattle.std.specs.Option.{option_map}
 use Rattle.std.specs.Str.{bytes_eq}
 use Rattle.radio_seats.specs.declared.seat.Listener.{Listener}
 use Rattle.radio_seats.specs.declared.seat.Seat.{Seat}
-use Rattle.radio_seats.specs.Seats.{seat_of, with_session_at}
-use Rattle.radio_seats.proofs.GivenLaws.{seat_hearing, seat_of_hearing}
+use Rattle.radio_seats.specs.Seats.{seat_of, with_session_at, has_user}
+use Rattle.radio_seats.proofs.GivenLaws.{seat_hearing, seat_of_hearing, count_hearing}
+use Rattle.radio_seats.proofs.CountLaws.{NobodyCame}
 
 module _ (mount : List ℕ) (session : ℕ) (seats : List Listener) (id : ℕ) (seat : Seat)
     (has : seat_of (with_session_at seats mount session) id ≡ Some seat) where
@@ -29,3 +30,12 @@ module _ (mount : List ℕ) (session : ℕ) (seats : List Listener) (id : ℕ) (
       let same : seat_hearing mount session given_from.0 ≡ given_from.0
       = ap (λ (b : Bool). record given_from.0 { session = (if b then session else given_from.0.session) }) apart in
       given_from.1 ∙ ap (λ (x : Seat). Some x) (sym same ∙ given_from.2)
+
+-- so nobody has come
+pub nobody_came_given : (mount : List ℕ) (session : ℕ) (seats : List Listener) → NobodyCame seats (with_session_at seats mount session)
+nobody_came_given mount session seats = record {
+  no_more = λ other. let same = count_hearing mount session other seats in omega (arith, same);
+  sat = λ id other user sits.
+      let from = given_from mount session seats id sits.0 sits.1 in
+      (from.0, from.1, ap (λ (x : Seat). x.mount) from.2 ∙ sits.2, ap (λ (x : Seat). has_user user x.pair) from.2 ∙ sits.3);
+}

@@ -268,7 +268,7 @@ module _ (w : World) (s : IsSound w) (event : Event) where
     leaves_so id (HasStopped m why feeds done none gone) = absurd why
     leaves_so id (IsMoved old session carries left had has same live opens) =
         IsMoved old session carries (
-          HisSessionIsOver left.0,
+          HisSessionIsOver left.0 left.1,
           apart_then (heard c) after (sound_heard c) over.live id old session had left live,
         ) had has same live opens
 

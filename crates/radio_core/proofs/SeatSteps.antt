@@ -124,7 +124,7 @@ module _ (w : World) (s : IsSound w) (id : ℕ) where
       by_fate (IsEnded rule cause active ended gone over) = loses bytes (seat_of now.seats id) none gone
       by_fate (HasStopped mount why feeding done gone over) = loses bytes (seat_of now.seats id) none gone
       by_fate (IsMoved old session takes left had has same live opens) =
-          moves bytes old session none takes (HisSessionIsOver left.0) had has live (ap (λ (x : Lists). lets_in x session.mount old.pair) f.lists ∙ opens)
+          moves bytes old session none takes (HisSessionIsOver left.0 left.1) had has live (ap (λ (x : Lists). lets_in x session.mount old.pair) f.lists ∙ opens)
           (apart_then w now s f.live id old session had left live)
 
   -- he sits down

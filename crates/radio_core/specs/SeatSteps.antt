@@ -36,7 +36,7 @@ pub data ComesUpOn : Event → List ℕ → Type 0 where
 -- why a listener goes from his seat to the mount: the session in which he sat is over; or one has come up on the mount, which is the one that he asked
 -- for, and calls its listeners home; or a command moves the listeners of his mount there
 pub data IsSent (w later : World) (event : Event) (seat : Seat) (mount : List ℕ) : Type 0 where
-  HisSessionIsOver : session_of later.house.live seat.mount ≡ None → IsSent w later event seat mount
+  HisSessionIsOver : session_of later.house.live seat.mount ≡ None → (seat.session == 0) ≡ false → IsSent w later event seat mount
   HeIsCalledHome : ComesUpOn event mount → seat.home ≡ mount → (options_for w.house.settings mount).listeners.fallback_override ≡ true
       → IsSent w later event seat mount
   IsCommandedThere : IsCommanded w event (MoveClients seat.mount mount) → IsSent w later event seat mount

@@ -33,6 +33,7 @@ use Rattle.radio_parts.proofs.RisingLemmas.{burst_within}
 use Rattle.radio_laws.proofs.LimitLemmas.{Within, sits_as, sent_as}
 use Rattle.radio_laws.proofs.ListsLemmas.{KeepsLists}
 use Rattle.radio_core.proofs.Ways.{way_of}
+use Rattle.radio_core.proofs.HeardLemmas.{heard_cases}
 
 module _ (w : World) (s : IsSound w) (k : KeepsLists w) (l : Within w) where
   his_by : (event : Event) (o : Outcome) → Way w event o → (bytes : List ℕ) (title : Option (List ℕ)) → o.reply ≡ Drawn bytes title

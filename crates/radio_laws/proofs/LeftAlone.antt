@@ -1,5 +1,5 @@
 -- what an event cannot reach is left alone
-use Rattle.std.proofs.Common.{◌≡◌, ◌⊎◌, inl, inr, Bool, true, false, ℕ, Option, Some, List, refl, ap, sym, subst, ◌∙◌}
+use Rattle.std.proofs.Common.{◌≡◌, ◌⊎◌, inl, inr, Bool, true, false, ℕ, Option, Some, List, refl, ap, sym, subst, ◌∙◌, ◌==◌}
 use Rattle.std.specs.Prelude.{◌↔◌, ◌*◌, ◌-◌, ◌≤◌}
 use Rattle.radio_policy.specs.declared.rule.Rule.{Rule}
 use Rattle.radio_seats.specs.declared.seat.Listener.{Listener}
@@ -13,7 +13,7 @@ use Rattle.radio_events.specs.declared.event.Event.TheVariants.{Source, Push, So
 use Rattle.radio_house.specs.declared.standing.Standing.TheVariants.{Feeds}
 use Rattle.radio_core.specs.Finishes.{Cause, Finishes, SessionIsOver, IsFarBehind, HasSatOut, HasAskedNothing, HasSentNothing, IsKilled as ByACommand, HisSessionIsKilled, IsNotAccepted}
 use Rattle.radio_core.specs.Moves.{Brings, ByItsEnd, ByItsLeaving, BySilence, ByComingUp, ByRelayUp, ByKilling, ByMoving, TakesTo, LeavesOut}
-use Rattle.radio_core.specs.SeatSteps.{SeatStep, Stays as SeatStays, IsHanded, SitsDown, IsMoved, Leaves, IsEnded, ComesUpOn, ASource, ARelay}
+use Rattle.radio_core.specs.SeatSteps.{SeatStep, Stays as SeatStays, IsHanded, SitsDown, IsMoved, Leaves, IsEnded, ComesUpOn, ASource, ARelay, IsGiven}
 use Rattle.radio_core.specs.SeatSteps.{IsSent, HisSessionIsOver, HeIsCalledHome, IsCommandedThere}
 use Rattle.radio_core.specs.SessionSteps.{SessionStep, Stays, Begins, BeginsForRelay, Grows, IsTitled, IsRetitled, Ends, IsKilled}
 use Rattle.radio_core.specs.Sound.{IsSound}
@@ -38,6 +38,7 @@ use Rattle.radio_laws.proofs.AgreeingOutcomes.{onward_by}
 use Rattle.radio_laws.specs.Locality.{IsWithin, EndsWithin, WalksWithin, IsAll, LeavesAlone}
 use Rattle.radio_laws.proofs.LocalityLemmas.{agrees, asks_within}
 use Rattle.radio_core.specs.Allowed.{ChangesUsers, Adds, Deletes}
+use Rattle.radio_core.proofs.HeardLemmas.{heard_cases}
 
 module _ (within : List ℕ → Bool) (w : World) (s : IsSound w) (event : Event) (near : IsWithin w within event) where
   -- it is within reach after all

@@ -30,7 +30,7 @@ use Rattle.radio_fallback.proofs.TurnLemmas.{lands_where_he_fits}
 use Rattle.radio_house.specs.Streams.{shown_for}
 use Rattle.radio_events.specs.declared.command.Command.{Command as TheCommand}
 use Rattle.radio_events.specs.declared.command.Command.TheVariants.{MoveClients, KillClient, KillSource, SetTitle as NewTitle, SetFallback, AddUser, DeleteUser}
-use Rattle.radio_core.specs.Changes.{answered, session_killed, changed, carried_along, session_over, session_ended, called_home, before_silence, session_silenced, silent_in}
+use Rattle.radio_core.specs.Changes.{answered, session_killed, changed, carried_along, session_over, session_ended, called_home, before_silence, session_silenced, silent_in, session_begun, session_raised}
 use Rattle.radio_house.specs.HouseChanges.{begun, raised, received}
 use Rattle.radio_laws.specs.Limits.{IsWithinLimits, SentUser, SitsThereAs, most_at, allows_duplicates_at}
 use Rattle.radio_core.specs.Listen.{first_seat}
@@ -54,6 +54,9 @@ use Rattle.radio_core.proofs.Ways.{way_of}
 use Rattle.radio_access.specs.Lists.{with_user_at, without_user_at}
 use Rattle.radio_policy.specs.declared.rule.Rule.TheVariants.{ListenerPassword}
 use Rattle.radio_house.specs.Outsiders.{is_shut_out}
+use Rattle.radio_parts.proofs.NumberOrder.{same_order}
+use Rattle.radio_seats.proofs.GivenLaws.{numbers_hearing}
+use Rattle.radio_core.proofs.GivenSeats.{nobody_came_given}
 
 -- the limits, with users compared as the table does it
 pub record Within (w : World) : Type 0 where
@@ -233,11 +236,14 @@ module _ (w : World) (s : IsSound w) (l : Within w) where
   within_by event o (IsRefused _ him rule v his undecided) = within_still (changed w o.change) refl (nobody_came w.seats)
   within_by event o (IsAdmitted peer allowed) = within_still (changed w o.change) refl (nobody_came w.seats)
   within_by event o (Begins asked undecided none allowed) =
-      let up = record w { house = begun w.house asked.id asked.mount (shown_for w.house asked.mount asked.shown) } in
-      within_called up asked.mount s.by_number (other_house w up refl refl l)
+      let up = session_begun w asked.id asked.mount (shown_for w.house asked.mount asked.shown) in
+      within_called up asked.mount (same_order w.seats up.seats (numbers_hearing asked.mount asked.id w.seats) s.by_number)
+      (within_kept w up l refl (nobody_came_given asked.mount asked.id w.seats))
   within_by event o (ComesUp mount shown unfed allowed) =
-      let up = record w { house = raised w.house (w.house.last_id + 1) mount (shown_for w.house mount shown) } in
-      within_called up mount s.by_number (other_house w up refl refl l)
+      let up = session_raised w (w.house.last_id + 1) mount (shown_for w.house mount shown) in
+      let him = w.house.last_id + 1 in
+      within_called up mount (same_order w.seats up.seats (numbers_hearing mount him w.seats) s.by_number)
+      (within_kept w up l refl (nobody_came_given mount him w.seats))
   within_by event o (Receives him mount block feeding) =
       within_still (changed w o.change) refl
       (nobody_came_ending (lags_behind mount (live_end (received w.house mount block) mount) w.house.settings.limits.queue_size) Lagged w.seats)

@@ -38,7 +38,7 @@ use Rattle.radio_core.proofs.Ways.{way_of}
 use Rattle.radio_laws.specs.Locality.{AgreeWithin, SessionsAgree, SameSession, ListenersAgree, SameListener, IsAll, IsWithin, AsksWithin, ComesUpWithin, WalksWithin}
 use Rattle.radio_laws.specs.Locality.{AnswersAlike}
 use Rattle.radio_laws.proofs.AgreeingLists.{agree_all}
-use Rattle.radio_laws.proofs.Agreeing.{beyond, SessionsDo, session_alike, with_session_alike, without_session_alike, fed_alike, titled_alike, ListenersDo}
+use Rattle.radio_laws.proofs.Agreeing.{beyond, SessionsDo, session_alike, with_session_alike, without_session_alike, fed_alike, titled_alike, ListenersDo, given_alike}
 use Rattle.radio_laws.proofs.Agreeing.{with_seat_alike, without_alike, with_place_alike, with_end_alike, with_ended_alike}
 use Rattle.radio_laws.proofs.AgreeingWalks.{carried_alike}
 use Rattle.radio_laws.proofs.AgreeingOutcomes.{in_place, onward_by, all_one, outcome_alike}
@@ -79,13 +79,13 @@ module _ (within : List ℕ → Bool) (w : World) (live : List Session) (seats :
   begins id mount shown near = by_home (options_for w.house.settings mount).listeners.fallback_override refl where
     by_home : (home : Bool) → (options_for w.house.settings mount).listeners.fallback_override ≡ home → Agree (Begin id mount shown)
     by_home true e = all_agree (near.home e) (Begin id mount shown)
-    by_home false e = rw e (record { house = refl; sessions = with_session_alike within live w.house.live r (opened mount id shown w.house.time); listeners = s })
+    by_home false e = rw e (record { house = refl; sessions = with_session_alike within live w.house.live r (opened mount id shown w.house.time); listeners = given_alike within seats w.seats s mount id })
 
   raises : (id : ℕ) (mount : List ℕ) (shown : Shown) → ComesUpWithin w within mount → Agree (Raise id mount shown)
   raises id mount shown near = by_home (options_for w.house.settings mount).listeners.fallback_override refl where
     by_home : (home : Bool) → (options_for w.house.settings mount).listeners.fallback_override ≡ home → Agree (Raise id mount shown)
     by_home true e = all_agree (near.home e) (Raise id mount shown)
-    by_home false e = rw e (record { house = refl; sessions = with_session_alike within live w.house.live r (opened mount id shown w.house.time); listeners = s })
+    by_home false e = rw e (record { house = refl; sessions = with_session_alike within live w.house.live r (opened mount id shown w.house.time); listeners = given_alike within seats w.seats s mount id })
 
   -- a block comes, and who is too far behind loses his seat
   receives : (mount block : List ℕ) → within mount ≡ true → Agree (Receive mount block)

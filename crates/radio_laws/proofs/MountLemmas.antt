@@ -6,7 +6,7 @@ use Rattle.radio_seats.specs.declared.seat.Seat.{Seat}
 use Rattle.radio_house.specs.World.{World}
 use Rattle.radio_core.specs.Handing.{handed_at}
 use Rattle.radio_core.specs.Finishes.{Finishes}
-use Rattle.radio_core.specs.SeatSteps.{IsSent, SeatStep, Stays, IsHanded, SitsDown, IsMoved, Leaves as HeLeaves, IsEnded as HeIsEnded}
+use Rattle.radio_core.specs.SeatSteps.{IsSent, SeatStep, Stays, IsHanded, SitsDown, IsMoved, Leaves as HeLeaves, IsEnded as HeIsEnded, ComesUpOn, IsGiven}
 use Rattle.radio_seats.specs.Seats.{seat_of}
 use Rattle.radio_core.specs.Sound.{IsSound}
 use Rattle.radio_core.specs.Step.{world_after}
@@ -16,6 +16,8 @@ use Rattle.radio_parts.specs.Stream.{data_at, end_of}
 use Rattle.radio_laws.specs.Stretches.{SeatsKeepTheirMounts}
 use Rattle.radio_core.proofs.SoundRuns.{sound_after}
 use Rattle.radio_core.proofs.SeatSteps.{seats_step}
+use Rattle.radio_house.specs.Waiting.{heard_at}
+use Rattle.radio_core.proofs.HeardLemmas.{heard_live}
 
 -- a seat that is kept is the same but for its place, which does not go back, or a session begins where it waited for one, or a move has taken it to the end of another stream
 abbrev Kept : World → Event → ℕ → Seat → Seat → Session → Type 0

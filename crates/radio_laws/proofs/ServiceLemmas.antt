@@ -56,6 +56,8 @@ use Rattle.radio_core.specs.RelayUp.{raises}
 use Rattle.radio_core.specs.RelayDown.{goes_down_from}
 use Rattle.radio_settings.specs.declared.field.Shown.{Shown}
 use Rattle.radio_core.specs.Pages.{asks_by}
+use Rattle.radio_core.proofs.HeardLemmas.{heard_named}
+use Rattle.radio_house.specs.Waiting.{heard_at}
 
 is_allowed : (v : Verdict) (denied : Change) (allowed : Outcome) → v ≡ Allow → on_verdict v denied allowed ≡ allowed
 is_allowed Allow denied allowed e = refl

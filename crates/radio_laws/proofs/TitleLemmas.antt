@@ -54,6 +54,8 @@ use Rattle.radio_core.proofs.SoundTitles.{titled_cases}
 use Rattle.radio_core.proofs.TickLemmas.{ticked_fates}
 use Rattle.radio_core.proofs.Ways.{way_of}
 use Rattle.radio_core.specs.Closing.{Closes, OfClient, OfRelay}
+use Rattle.radio_core.proofs.HeardLemmas.{heard_cases}
+use Rattle.radio_house.specs.Waiting.{heard_at}
 
 -- the last of a list with one more
 last_is : {A : Type 0} (o : Option A) (xs : List A) (x : A) → last_or o (xs ++ x ∷ []) ≡ Some x

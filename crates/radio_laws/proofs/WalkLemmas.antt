@@ -20,6 +20,7 @@ use Rattle.radio_parts.specs.Sessions.{Session, session_of}
 use Rattle.radio_house.specs.World.{World}
 use Rattle.radio_laws.specs.Limits.{IsFullAt, most_at}
 use Rattle.radio_laws.specs.Walks.{FallsBack, ByTheSettings, ByACommand, GoesOn, HasNoSource, IsFull, ComesBy, AtFirst, Next}
+use Rattle.radio_house.specs.Waiting.{heard_at}
 
 -- as many sit there as may
 pub full_at : (w : World) (mount : List ℕ) (limit : Option ℕ) → most_at w mount ≡ limit → is_full (length (seats_at w.seats mount)) limit ≡ true

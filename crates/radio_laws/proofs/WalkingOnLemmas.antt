@@ -49,6 +49,8 @@ use Rattle.radio_laws.proofs.CommandSteps.{later_so}
 use Rattle.radio_core.proofs.Obeyed.{is_cut, named}
 use Rattle.radio_core.proofs.CarriedFates.{order_carried}
 use Rattle.radio_core.proofs.TickLemmas.{sound_sat_out}
+use Rattle.radio_house.specs.Waiting.{heard_at}
+use Rattle.radio_core.proofs.HeardLemmas.{heard_end, heard_number}
 
 found_there : {A : Type 0} (found : Option A) → is_some found ≡ true → (x : A) × (found ≡ Some x)
 found_there None e = cc
