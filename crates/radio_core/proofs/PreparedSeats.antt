@@ -1,5 +1,5 @@
 -- mounts that relays feed on demand are prepared as long as there are listeners, after each change
-use Rattle.std.proofs.Common.{◌≡◌, Bool, true, false, ℕ, ◌<◌, ◌≤◌, List, [], ◌∷◌, length, not, refl, ap, sym, subst, ◌∙◌, arith}
+use Rattle.std.proofs.Common.{◌≡◌, Bool, true, false, ℕ, ◌<◌, ◌≤◌, List, [], ◌∷◌, length, not, refl, ap, sym, subst, ◌∙◌, arith, Option, Some, None}
 use Rattle.std.specs.Prelude.{◌&&◌, filter, map, if◌then◌else◌, is_some}
 use Rattle.std.specs.Str.{bytes_eq}
 use Rattle.std.proofs.lemmas.List.{length-map}
@@ -17,8 +17,9 @@ use Rattle.radio_house.specs.House.{House}
 use Rattle.radio_house.specs.Waiting.{is_on_demand, heard_at, silence_at, silence_of}
 use Rattle.radio_core.specs.Prepared.{OnDemandArePrepared}
 use Rattle.radio_core.proofs.HeardLemmas.{heard_cases}
-use Rattle.radio_parts.specs.Sessions.{session_of}
+use Rattle.radio_parts.specs.Sessions.{session_of, Session}
 use Rattle.std.specs.Option.{option_or}
+use Rattle.radio_parts.proofs.PreparedLemmas.{still_prepared}
 
 -- of as many listeners, or fewer
 pub fewer_seated : (settings : Settings) (board later : Board) (seats : List Listener) → later ≡ record board { seats = seats }
@@ -72,7 +73,7 @@ unheard_released house board later name nobody unheard released same are = recor
       (λ here. let heard : is_some (heard_at house name) ≡ true = on_demand_heard (ap (is_on_demand house.settings) here ∙ on) in cc)
       (λ apart. rw (are.each (let many = ap length same in omega (arith, some, many)) mount on, apart) refl);
 } where
-  open_by : (found : _) (b : Bool) → b ≡ true → is_some (option_or found (if b then Some (silence_at house name) else None)) ≡ true
+  open_by : (found : Option Session) (b : Bool) → b ≡ true → is_some (option_or found (if b then Some (silence_at house name) else None)) ≡ true
   open_by None true e = refl
   open_by None false e = cc
   open_by (Some session) b e = refl
@@ -89,7 +90,7 @@ heard_prepared house board mount some live on_demand heard = by_found (session_o
   by_test true on h = on_demand.each some mount on
   by_test false on h = cc
 
-  by_found : (found : _) → session_of house.live mount ≡ found → is_some (option_or found (silence_of house mount)) ≡ true
+  by_found : (found : Option Session) → session_of house.live mount ≡ found → is_some (option_or found (silence_of house mount)) ≡ true
       → is_prepared board.prepared mount ≡ true
   by_found None none h = by_test (is_on_demand house.settings mount) refl h
   by_found (Some session) there h = live.each mount (ap is_some there)
@@ -101,3 +102,40 @@ pub nobody_carried : (sight : Sight) (move : Move) (seats : List Listener) → l
 }
 nobody_carried sight move [] e = refl
 nobody_carried sight move (x ∷ xs) e = cc
+
+-- both: each live mount is prepared, and as long as there are listeners, so is each that a relay feeds on demand
+abbrev pub AllPrepared : Settings → List Session → Board → Type 0
+AllPrepared settings live board = LiveArePrepared live board.prepared × OnDemandArePrepared settings board
+
+-- the seats have changed, and there are as many listeners, or fewer
+pub seats_changed : (settings : Settings) (live : List Session) (board later : Board) (seats : List Listener) → later ≡ record board { seats = seats }
+    → length seats ≤ length board.seats → AllPrepared settings live board → AllPrepared settings live later
+seats_changed settings live board later seats is fewer are = (
+  still_prepared live live board.prepared later.prepared refl (ap (λ (b : Board). b.prepared) is) are.0,
+  fewer_seated settings board later seats is fewer are.1,
+)
+
+-- more is prepared
+pub more_is_prepared : (settings : Settings) (live : List Session) (board later : Board) → later.seats ≡ board.seats
+    → ((mount : List ℕ) → is_prepared board.prepared mount ≡ true → is_prepared later.prepared mount ≡ true) → AllPrepared settings live board
+    → AllPrepared settings live later
+more_is_prepared settings live board later same more are = (
+  record { each = λ mount lives. more mount (are.0.each mount lives) },
+  record { each = λ some mount on. more mount (are.1.each (let many = ap length same in omega (arith, some, many)) mount on) },
+)
+
+-- the house has changed, but for its settings
+pub house_changed : (settings other : Settings) (live later : List Session) (board : Board) → other ≡ settings → LiveArePrepared later board.prepared
+    → AllPrepared settings live board → AllPrepared other later board
+house_changed settings other live later board same prepared are = (prepared, still_seated settings other board board same refl are.1)
+
+-- a mount that nothing is to be heard at has no session
+pub unheard_idle : (house : House) (mount : List ℕ) → is_some (heard_at house mount) ≡ false → session_of house.live mount ≡ None
+unheard_idle house mount unheard = by_found (session_of house.live mount) unheard where
+  by_found : (found : Option Session) → is_some (option_or found (silence_of house mount)) ≡ false → found ≡ None
+  by_found None e = refl
+  by_found (Some session) e = cc
+
+pub some_listen : (seats : List Listener) (many : ℕ) → many ≡ length seats → (many ≡ 0 → ⊥) → 0 < length seats
+some_listen [] many is some = absurd (some is)
+some_listen (listener ∷ seats) many is some = omega arith
