@@ -4,6 +4,7 @@ import os
 import pty
 import re
 import socket
+import struct
 import subprocess
 import sys
 import tempfile
@@ -197,8 +198,21 @@ def is_over(line):
         return True
 
 
+def metadata_block(title):
+    """A metadata block that has this title (ICY convention)."""
+    text = b"StreamTitle='" + title + b"';"
+    sixteenths = -(-len(text) // 16)
+    return bytes([sixteenths]) + text.ljust(16 * sixteenths, b"\0")
+
+
 def denial(word):
     return f"denied: {word}\n".encode()
+
+
+def reset(line):
+    """The line is closed with a reset, whatever is still to be read."""
+    line.setsockopt(socket.SOL_SOCKET, socket.SO_LINGER, struct.pack("ii", 1, 0))
+    line.close()
 
 
 def comes(test):

@@ -80,9 +80,13 @@ fn no_memory(rt: HostRuntime) {
     assert!(rt; are_users_read(rt.alloc(), true));
 }
 
-/// What `ann` sends with the password `abc`, and with `new`, and `bob` with `abc`.
+/// What `ann` sends with the password `abc`.
 const ANN: &[u8] = b"Basic YW5uOmFiYw==";
+
+/// What she sends with the password `new`.
 const NEW_ANN: &[u8] = b"Basic YW5uOm5ldw==";
+
+/// What `bob` sends with the password `abc`.
 const BOB: &[u8] = b"Basic Ym9iOmFiYw==";
 
 /// Whether the users accept what was sent.

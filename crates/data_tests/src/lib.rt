@@ -8,6 +8,7 @@
 //! - `addresses`: peers as texts; `credentials`: values that no head can hold, and secrets.
 //! - `log_lines`: lines of the log, and the calendar.
 //! - `intake`: connections that are put, taken and counted, also by two threads.
+//! - `commands`: paths and queries as commands; `listings`: what is written of rows; `relays`: what masters answer, and which relays run.
 //! - `heads`: queries, faults, heads of responses, and answers with a body.
 //! - `settings`: every key read back, names and want of memory; `scripts`: whole scripts over devices that fail, and
 //!   lists of deliveries.
@@ -20,6 +21,8 @@ mod blocks;
 #[cfg(test)]
 mod bodies;
 #[cfg(test)]
+mod commands;
+#[cfg(test)]
 mod credentials;
 #[cfg(test)]
 mod fallbacks;
@@ -30,9 +33,13 @@ mod icy;
 #[cfg(test)]
 mod intake;
 #[cfg(test)]
+mod listings;
+#[cfg(test)]
 mod log_lines;
 #[cfg(test)]
 mod queue;
+#[cfg(test)]
+mod relays;
 #[cfg(test)]
 mod scripts;
 #[cfg(test)]

@@ -144,8 +144,9 @@ fn finishes_at(seats: &mut Seats, mount: &MountName, moment: u64, rule: Rule) ->
 fn are_finished(seats: &mut Seats) -> Result<bool, OutOfMemory> {
     let mounts = two_mounts()?;
     let lost = finishes_at(seats, &mounts.one, 11, Rule::Lagged);
-    let some =
-        lost == 7 && are_there(seats, &mounts, (20, 22)) && has_lost(seats, 10, Rule::Lagged);
+    let some = lost == 7
+        && are_there(seats, &mounts, (20, 22))
+        && has_lost(seats, 10, Rule::Lagged);
     seats.finish_if(&CameBefore { moment: 41 }, Rule::TimeOver);
     let more = are_there(seats, &mounts, (0, 10)) && has_lost(seats, 40, Rule::TimeOver);
     let last = finishes_at(seats, &mounts.other, 51, Rule::NotLive);

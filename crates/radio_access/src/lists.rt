@@ -161,7 +161,14 @@ impl Lists {
         ensures ok { OnOk result (self.new ≡ with_user_at self.old mount.now user.now password.now) }
         ensures err { OnErr result (self.new ≡ self.old) }
     {
-        self.users.try_change(mount, &SetUser { alloc, user, password })
+        self.users.try_change(
+            mount,
+            &SetUser {
+                alloc,
+                user,
+                password,
+            },
+        )
     }
 
     /// Lets the user in no more; where the mount has no users, or not this one, nothing changes. It takes no memory.

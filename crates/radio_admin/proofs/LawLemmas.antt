@@ -66,7 +66,7 @@ add_made None user password command e = absurd (cc)
 
 users_made : (mount : Option (List ℕ)) (query : List ℕ) (command : Command) (add delete : Bool)
     → (if add then add_user mount (user_in query) (argument (codes "password") query)
-      else if delete then both (λ m user. asks.DeleteUser (record { mount = m; user = user })) mount (user_in query) else None) ≡ Some command
+    else if delete then both (λ m user. asks.DeleteUser (record { mount = m; user = user })) mount (user_in query) else None) ≡ Some command
     → kind_in command ≡ kind.Users
 users_made mount query command true delete e = add_made mount (user_in query) (argument (codes "password") query) command e
 users_made mount query command false true e = both_makes (λ (c : Command). kind_in c ≡ kind.Users) _ (λ m u. refl) mount (user_in query) command e

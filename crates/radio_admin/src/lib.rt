@@ -15,8 +15,6 @@ mod kind;
 pub mod laws;
 mod query;
 mod reading;
-#[cfg(test)]
-mod tests;
 
 pub use command::{Command, Kill, Move, NewFallback, NewTitle, NewUser, OldUser, RawText};
 pub use fault::AdminFault;

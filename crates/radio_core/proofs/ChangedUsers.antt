@@ -1,5 +1,5 @@
 -- who loses his seat where a command has changed the users of his mount
-use Rattle.std.proofs.Common.{◌≡◌, Bool, true, false, ℕ, Some, List, ap, sym, subst, ◌∙◌, refl}
+use Rattle.std.proofs.Common.{◌≡◌, Bool, true, false, ℕ, Some, List, refl, ap, sym, subst, ◌∙◌}
 use Rattle.std.specs.Prelude.{not}
 use Rattle.std.specs.Str.{bytes_eq}
 use Rattle.std.proofs.lemmas.Bool.{and_parts}

@@ -55,6 +55,11 @@ abbrev pub newly_come : ℕ → Peer → List ℕ → List ℕ → Calls → ℕ
 newly_come id peer given taken calls ms =
     record { id = id; given = given; taken = taken; calls = calls; owed = []; session = fresh id peer; status = status_at Open false ms; refused = no_refusals }
 
+-- the connection of nobody, whose conversation has ended so
+abbrev pub newly_ended : List ℕ → List ℕ → Calls → List ℕ → Conversation → ℕ → Connection
+newly_ended given taken calls owed session ms =
+    record { id = 0; given = given; taken = taken; calls = calls; owed = owed; session = session; status = status_at Ended true ms; refused = no_refusals }
+
 -- it is still to be served: it is not over, or its client has not left
 abbrev pub stays_with : Fate → Bool → Bool
 stays_with Closed has_left = not has_left

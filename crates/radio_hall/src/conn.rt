@@ -117,7 +117,7 @@ impl<L: Line> Model for Conn<L> {
 }
 
 impl<L: Line> Conn<L> {
-    ghost use Rattle.radio_hall.specs.Connections.{newly_come, stays, lingers, IsTurnedAway};
+    ghost use Rattle.radio_hall.specs.Connections.{newly_come, newly_ended, stays, lingers, IsTurnedAway};
     ghost use Rattle.std.specs.Prelude.{OnErr};
     ghost use Rattle.radio_hall.specs.Admission.{IsTakenIn, LetsNobodyIn};
 
@@ -152,7 +152,14 @@ impl<L: Line> Conn<L> {
         let mut session = Session::new(alloc, 0, peer);
         let (owed, state) = told_first(alloc, &mut session, denial)?;
         account.note_state(state);
-        Ok(Conn {
+        Ok(Conn::ended(line, session, owed, account, ms))
+    }
+
+    /// The connection of nobody, whose conversation has ended.
+    fn ended(line: L, session: Session, owed: Owed, account: Account, ms: u64) -> Conn<L>
+        ensures { result ≡ newly_ended (L.given line) (L.taken line) (L.calls line) owed session ms }
+    {
+        Conn {
             id: 0,
             line,
             session,
@@ -160,7 +167,7 @@ impl<L: Line> Conn<L> {
             status: Status::new(Fate::Ended, true, ms),
             refusals: Refusals::new(),
             account,
-        })
+        }
     }
 
     /// The connection of one who comes, and to whom the server replies so. `OutOfMemory` where

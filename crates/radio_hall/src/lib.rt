@@ -2,7 +2,7 @@
 //!
 //! - [`Hall`]: the lock round a book; [`Hall::apply`] is one event, in the lock's order.
 //! - [`settle`]: all passes held against the hall's book, once the threads have been joined.
-//! - [`Server`], [`Caller`]: whom a worker asks: a hall, with the worker's pass.
+//! - [`Caller`]: whom a worker asks, as a [`Server`]: a hall, with the worker's pass.
 //! - [`Watched`]: whom a worker asks, and whether listeners may have news.
 //! - [`Line`], [`Gate`]: where a connection's bytes come from and go to, and who is told of writes.
 //! - [`CallCount`], [`History`]: what a line notes for proofs alone.
@@ -13,6 +13,7 @@
 //! there is one history, a run from the opening state, and the core stands for the state after it.
 #![tactic(auto)]
 
+mod caller;
 mod calls;
 mod conn;
 mod hall;
@@ -22,12 +23,12 @@ mod line;
 mod lingering;
 mod owed;
 mod refusals;
-mod server;
 mod serving;
 mod turn;
 mod watched;
 mod worker;
 
+pub use caller::Caller;
 pub use calls::CallCount;
 pub use conn::{Conn, Fate, Status};
 pub use hall::{Hall, settle};
@@ -35,7 +36,7 @@ pub use history::History;
 pub use laws::{open_sessions_have_not_failed, passes_gain_what_was_applied};
 pub use line::{Gate, Line, OpenGate, Received, Sent};
 pub use lingering::{close_first_lingering, count_lingering};
-pub use server::{Caller, Server};
+pub use radio_session::Server;
 pub use turn::Turn;
 pub use watched::Watched;
 pub use worker::Worker;

@@ -146,7 +146,7 @@ IsLast reply = ⊥
 abbrev pub IsNotLast : Entry → Type 0
 IsNotLast e = IsLast e.reply → ⊥
 
-last_shuts : (says : Says) (reply : Reply) → (said says reply).state ≡ Running → IsLast reply → ⊥
+pub last_shuts : (says : Says) (reply : Reply) → (said says reply).state ≡ Running → IsLast reply → ⊥
 last_shuts says (Arrived id) e h = h
 last_shuts says Feeding e h = h
 last_shuts says (Seated interval head) e h = h

@@ -25,28 +25,37 @@ use Rattle.radio_heads.specs.Head.{RequestParts, ShowsRequest}
 use Rattle.radio_heads.specs.Laws.{IsSettled, HeadsLieWithin}
 use Rattle.radio_source.specs.Place.{Place, after, data_of, has_ended, fault_at}
 use Rattle.radio_session.specs.Asking.{asks_by_get, asks_to_feed, asks_to_hear, gives_command, is_for_commands, path_in}
-use Rattle.radio_session.specs.Conversation.{Conversation, fresh}
-use Rattle.radio_session.specs.Framing.{is_source, framing_of, start_of}
+use Rattle.radio_session.specs.Conversation.{Conversation, asking, fresh}
+use Rattle.radio_session.specs.Framing.{is_source, framing_of, greeting_of, start_of}
 use Rattle.radio_session.specs.Hearing.{Heard, body_closes, body_heard, get_heard, greeted, refuses, request_heard, source_heard}
 use Rattle.radio_script.specs.declared.delivery.Delivery.{Delivery}
 use Rattle.radio_script.specs.Given.{TranscriptLine, given}
 use Rattle.radio_floor.specs.declared.labelled.Connection.{Connection}
 use Rattle.radio_floor.specs.declared.labelled.Connection.TheVariants.{Client, Relay}
 use Rattle.radio_floor.specs.ScriptState.{ScriptState, connection_of}
+use Rattle.radio_events.specs.declared.reply.Reply.{Reply}
+use Rattle.radio_events.specs.declared.reply.Reply.TheVariants.{Deny, Feeding, Finished}
+use Rattle.radio_laws.specs.Denials.{DenialsAreThePolicys}
+use Rattle.radio_session.specs.declared.session.Greeting.{Greeting}
+use Rattle.radio_session.specs.declared.session.Says.{Says}
+use Rattle.radio_session.specs.Saying.{denial, greeting_text, said}
+use Rattle.radio_headline.specs.Listeners.{SourceIsAnswered}
+use Rattle.radio_headline.proofs.Greetings.{greeted_says}
+use Rattle.std.proofs.lemmas.List.{append-nil}
 use Rattle.radio_headline.specs.Course.{Happening, events_in, on}
 use Rattle.radio_headline.specs.Sources.{DeliversItsBody, IsRequest, brought, pushed}
+use Rattle.radio_headline.proofs.Gathered.{IsOnIt}
 use Rattle.radio_headline.proofs.Logs.{Entry, entry, log_on, log_joined, Each, each_as, each_joined, itself}
-use Rattle.radio_headline.proofs.AppliedLemmas.{IsOrderly}
-use Rattle.radio_headline.proofs.RunLemmas.{AllNowhere, IsMoment, HasNumber, IsIdling, last_stays, reached_opening, reached_after, reached_all}
+use Rattle.radio_headline.proofs.AppliedLemmas.{IsLast, IsOrderly}
+use Rattle.radio_headline.proofs.RunLemmas.{AllNowhere, IsMoment, HasNumber, IsIdling, are_on_first, arrives_and_idles, last_stays, reached_opening, reached_after, reached_all}
 use Rattle.radio_headline.proofs.Connections.{arrival, AsksForMount, AsksNothing, ByGet, Feeds, IsIdleOrLeaving, IsBehindRequest, IsNoRequest, events_of}
-use Rattle.radio_headline.proofs.Connections.{Facts, HasAskedNothing, HasSentGet, IsSource, IsPulling, IsSo, Stage, AtHead, AfterGet, AtBody, AfterBody, Refused}
+use Rattle.radio_headline.proofs.Connections.{Facts, HasAskedNothing, HasSentGet, IsSource, IsPulling, IsGreeted, IsSo, Stage, AtHead, AfterGet, AtBody, AfterBody, Refused}
 use Rattle.radio_headline.proofs.HeardLemmas.{delivers_by, more_for_get, more_for_source}
 use Rattle.radio_headline.proofs.ClientEvents.{behind_is_his, idle_asks_nothing, idle_pushes_nothing}
-use Rattle.radio_headline.proofs.CourseLemmas.{brought_joined}
-use Rattle.radio_headline.proofs.RelayWords.{OfRelay, OwnRelay}
-use Rattle.radio_pull.specs.Pulling.{answered}
+use Rattle.radio_headline.proofs.Standing.{brought_joined}
+use Rattle.radio_headline.proofs.RelayWords.{OwnRelay, relay_asks_not}
 use Rattle.radio_headline.proofs.ListenerLemmas.{on_his}
-use Rattle.radio_headline.proofs.GetLogs.{IsOnIt, by_get, get_is_of, no_entry, orderly_second, parted_at_get}
+use Rattle.radio_headline.proofs.GetLogs.{Waited, waited, by_get, get_is_of, no_entry, orderly_second, parted_at_get}
 use Rattle.radio_headline.proofs.SourceLemmas.{orderly_is_cut, Front, IsHisOrNotesNothing, NotesNothing, brings_front, delivered_gathered, given_before, no_block, noted, noted_of, nothing_noted}
 use Rattle.radio_headline.proofs.Partings.{Parted, none_there, parted}
 
@@ -111,49 +120,39 @@ get_not bytes log given g =
     )
 
 -- a relay asks for no mount
-relay_feeds_not : (number : Option ℕ) (log : List Entry) → OwnRelay number log → Each FeedsNot log
-relay_feeds_not number [] own = tt
-relay_feeds_not number (e ∷ log) own = (by_event e.event own.0, relay_feeds_not (answered number e.reply).number log own.1) where
-  by_event : (event : Event) → OfRelay number event → IsSourcing event → ⊥
-  by_event (Arrive peer) h a = elim h [ ]
-  by_event (Source asked) h a = elim h [ ]
-  by_event (SourceEnd him) h a = elim h [ ]
-  by_event (Listen asked) h a = elim h [ ]
-  by_event (Command asked) h a = elim h [ ]
-  by_event (Leave him) h a = elim h [ ]
-  by_event (Clock ms) h a = elim h [ ]
-  by_event (RelayUp mount shown) h a = a
-  by_event (Push him block) h a = a
-  by_event (Title him text) h a = a
-  by_event (Draw him room) h a = a
-  by_event (RelayDown him) h a = a
+relay_feeds_not : (log : List Entry) → OwnRelay None log → Each FeedsNot log
+relay_feeds_not log own = relay_asks_not IsSourcing (λ mount shown a. a) (λ id block a. a) (λ id text a. a) (λ id room a. a) (λ id a. a) None log own
 
 -- where a mount is asked for, to feed it, a source's request was heard
 module _ (bytes : List ℕ) (log : List Entry) (given : List ℕ) (before behind : List Entry) (e : Entry) (parts : log ≡ before ++ e ∷ behind)
     (feeds : IsSourcing e.event) where
+  -- it feeds, and was told so
+  abbrev FeedsGreeted : Type 0
+  FeedsGreeted = (f : Feeds bytes log) × IsGreeted f given
+
   never : {A : Type 0} → Each FeedsNot log → A
   never h = absurd (none_there IsSourcing before behind e (subst (Each FeedsNot) parts h) feeds)
 
-  of_facts : Facts bytes log given → Feeds bytes log
+  of_facts : Facts bytes log given → FeedsGreeted
   of_facts (HasAskedNothing h) = never (nothing_fed log h)
   of_facts (HasSentGet g) = never (get_not bytes log given g)
-  of_facts (IsSource f) = f
-  of_facts (IsPulling q) = never (relay_feeds_not None log q.own)
+  of_facts (IsSource f told) = (f, told)
+  of_facts (IsPulling q) = never (relay_feeds_not log q.own)
 
-  of_stage : (conversation : Conversation) → Stage bytes log given conversation → Feeds bytes log
+  of_stage : (conversation : Conversation) → Stage bytes log given conversation → FeedsGreeted
   of_stage conversation (AtHead idle arrived idles hears held t) =
       never (subst (Each FeedsNot) (sym arrived)
       ((λ l. l), each_as (IsIdling conversation.id) FeedsNot (idle_feeds_not conversation.id) idle idles))
   of_stage conversation (AfterGet g hears t) = never (get_not bytes log given g)
-  of_stage conversation (AtBody f none hears) = f
-  of_stage conversation (AfterBody f hears) = f
+  of_stage conversation (AtBody f told none hears) = (f, told)
+  of_stage conversation (AfterBody f told hears) = (f, told)
   of_stage conversation (Refused h hears) = never (nothing_fed log h)
 
-  feeds_so : (c : Option (Option Connection)) → IsSo c bytes log given → Feeds bytes log
+  feeds_so : (c : Option (Option Connection)) → IsSo c bytes log given → FeedsGreeted
   feeds_so None h = absurd (no_entry before behind e (sym h.1 ∙ parts))
   feeds_so (Some None) h = of_facts h.facts
   feeds_so (Some (Some (Client conversation))) h = of_stage conversation h.stage
-  feeds_so (Some (Some (Relay pulling))) h = never (relay_feeds_not None log h.own)
+  feeds_so (Some (Some (Relay pulling))) h = never (relay_feeds_not log h.own)
 
 -- a source's request, as it is heard with the bytes behind it
 framed_so : {F : Type 0} (start_at : F → Place) (hears : Option F → Heard) (body : Place → Heard) → ((f : F) → hears (Some f) ≡ body (start_at f))
@@ -185,6 +184,7 @@ module _ (settled : IsSettled ShowsRequest) (within : HeadsLieWithin ShowsReques
     pub behind : List Event
     pub is_request : IsRequest bytes f.id (asks_to_feed f.id f.request) behind
     pub content : pushed behind ≡ data_of f.start (drop f.length bytes)
+    pub greets : is_request.heard.conversation.says.greeting ≡ greeting_of f.request
 
   heard_body : (bytes : List ℕ) (log : List Entry) (f : Feeds bytes log) → HeardBody bytes log f
   heard_body bytes log f =
@@ -201,6 +201,7 @@ module _ (settled : IsSettled ShowsRequest) (within : HeadsLieWithin ShowsReques
           begins = ap (λ (x : Heard). x.events) (source_so c f.request rest f.start f.source f.framed) ∙ d.events;
         };
         content = d.content;
+        greets = ap (λ (x : Heard). x.conversation.says.greeting) (source_so c f.request rest f.start f.source f.framed) ∙ ap (λ (s : Says). s.greeting) d.says;
       }
 
   -- and those of one who hears as his request
@@ -241,9 +242,12 @@ module _ (settled : IsSettled ShowsRequest) (within : HeadsLieWithin ShowsReques
       in_order = ap (λ (hs : List Happening). log_on w0 hs label) parts ∙ log_joined w0 past (on label (Source asked) ∷ later) label
           ∙ ap (λ (b : Bool). before ++ ((if b then entry w (Source asked) ∷ [] else []) ++ behind)) (itself label)
 
-      f : Feeds (brought done label) (log label)
-      f = feeds_so (brought done label) (log label) (given lines label) before behind (entry w (Source asked)) in_order tt
+      feeds_greeted : (f : Feeds (brought done label) (log label)) × IsGreeted f (given lines label)
+      feeds_greeted = feeds_so (brought done label) (log label) (given lines label) before behind (entry w (Source asked)) in_order tt
           (connection_of last.connections label) (each label)
+
+      abbrev f : Feeds (brought done label) (log label)
+      f = feeds_greeted.0
 
       p : Parted before (arrival f.peer f.id ∷ f.idle) (entry w (Source asked)) (record { event = asks_to_feed f.id f.request; reply = f.reply }) behind f.behind
       p = parted IsSourcing before (arrival f.peer f.id ∷ f.idle) behind f.behind (entry w (Source asked)) _ (sym in_order ∙ f.in_order) tt
@@ -305,33 +309,72 @@ module _ (settled : IsSettled ShowsRequest) (within : HeadsLieWithin ShowsReques
                       (each_as (IsNoRequest f.id) (IsHisOrNotesNothing f.id) (λ e h. inl (behind_is_his f.id e.event h)) f.behind f.no_more),
                 ))
 
-      whole : Feeds (brought done label ++ brought rest label) (log label)
+      abbrev whole : Feeds (brought done label ++ brought rest label) (log label)
       whole = more_for_source settled within joined places data_joined (brought done label) (brought rest label) (log label) f
 
       all_brought : brought done label ++ brought rest label ≡ brought deliveries label
       all_brought = sym (brought_joined done rest label) ∙ ap (λ (ds : List Delivery). brought ds label) (sym all)
 
+      body : HeardBody (brought done label ++ brought rest label) (log label) whole
+      body = heard_body (brought done label ++ brought rest label) (log label) whole
+
+      -- its request is heard so
+      abbrev HeardSo : List ℕ → ℕ → Event → Type 0
+      HeardSo bytes n e = (r : IsRequest bytes n e body.behind) × (r.heard.conversation.says.greeting ≡ greeting_of f.request)
+
+      heard_so : HeardSo (brought deliveries label) asked.id (Source asked)
+      heard_so =
+          subst (λ (bytes : List ℕ). HeardSo bytes asked.id (Source asked)) all_brought
+          (subst (HeardSo (brought done label ++ brought rest label) asked.id) (sym same_event)
+          (subst (λ (n : ℕ). HeardSo (brought done label ++ brought rest label) n (asks_to_feed f.id f.request)) (sym his_number) (body.is_request, body.greets)))
+
       pub delivers_body : DeliversItsBody settings lists deliveries course label asked
-      delivers_body =
-          let h = heard_body (brought done label ++ brought rest label) (log label) whole in
-          let q = parted IsSourcing before (arrival whole.peer whole.id ∷ whole.idle) behind whole.behind (entry w (Source asked)) _ (sym in_order ∙ whole.in_order) tt
-          ((λ l. l), each_as (IsIdling whole.id) FeedsNot (idle_feeds_not whole.id) whole.idle whole.idles)
-          (each_as (IsNoRequest whole.id) FeedsNot (λ e k. behind_feeds_not whole.id e.event k) whole.behind whole.no_more) in
-          let event : Source asked ≡ asks_to_feed whole.id whole.request = ap (λ (x : Entry). x.event) q.here in
-          let number : asked.id ≡ whole.id = let both : Some asked.id ≡ Some whole.id = ap client_in event in cc in
-          record {
-            behind = h.behind;
-            is_request = subst (λ (bytes : List ℕ). IsRequest bytes asked.id (Source asked) h.behind) all_brought
-                (subst (λ (e : Event). IsRequest (brought done label ++ brought rest label) asked.id e h.behind) (sym event)
-                (subst (λ (n : ℕ). IsRequest (brought done label ++ brought rest label) n (asks_to_feed whole.id whole.request) h.behind) (sym number) h.is_request));
-            undelivered = front.rest ++ whole.rest;
-            is_front =
-                h.content ∙ sym whole.front
-                ∙ ap (λ (es : List Entry). pushed (events_of es) ++ whole.rest) (sym q.behind)
-                ∙ ap (λ (xs : List ℕ). xs ++ whole.rest) (sym front.is_front)
-                ∙ append_assoc (noted behind) front.rest whole.rest
-                ∙ ap (λ (xs : List ℕ). xs ++ (front.rest ++ whole.rest)) (sym all_noted);
-          }
+      delivers_body = record {
+        behind = body.behind;
+        is_request = heard_so.0;
+        undelivered = front.rest ++ whole.rest;
+        is_front =
+            body.content ∙ sym whole.front
+            ∙ ap (λ (es : List Entry). pushed (events_of es) ++ whole.rest) (sym p.behind)
+            ∙ ap (λ (xs : List ℕ). xs ++ whole.rest) (sym front.is_front)
+            ∙ append_assoc (noted behind) front.rest whole.rest
+            ∙ ap (λ (xs : List ℕ). xs ++ (front.rest ++ whole.rest)) (sym all_noted);
+      }
+
+      -- what it was told
+      abbrev greeted_here : IsGreeted f (given lines label)
+      greeted_here = feeds_greeted.1
+
+      mute : Waited f.idle
+      mute = waited f.idle greeted_here.goes.1
+          (arrives_and_idles settings lists fits adds steps w0 past label f.id f.peer f.idle (reached_opening settings lists fits adds steps)
+          (are_on_first settings lists fits adds steps label f.id past (on label (Source asked) ∷ later) (subst (AllByRecursion (IsOnIt label f.id)) parts on_it))
+          p.before f.idles).1
+
+      told_as : (r : Reply) → reply_to w (Source asked) ≡ r
+          → given lines label ≡ (said (record asking { greeting = greeting_of f.request; closing = greeted_here.closing }) r).bytes ++ greeted_here.rest
+      told_as r e =
+          greeted_here.is_told
+          ∙ ap (λ (xs : List ℕ). xs ++ ((said (greeted_says f.id f.idle f.request greeted_here.closing) f.reply).bytes ++ greeted_here.rest)) mute.untold
+          ∙ ap (λ (s : Says). (said (record s { greeting = greeting_of f.request; closing = greeted_here.closing }) f.reply).bytes ++ greeted_here.rest) mute.says
+          ∙ ap (λ (x : Reply). (said (record asking { greeting = greeting_of f.request; closing = greeted_here.closing }) x).bytes ++ greeted_here.rest)
+          (ap (λ (x : Entry). x.reply) (sym p.here) ∙ e)
+
+      nothing_more : (r : Reply) → reply_to w (Source asked) ≡ r → IsLast r → greeted_here.rest ≡ []
+      nothing_more r e l = greeted_here.ends (subst IsLast (sym (ap (λ (x : Entry). x.reply) (sym p.here) ∙ e)) l)
+
+      pub source_answered : (denied : (events : List Event) (event : Event) → DenialsAreThePolicys (run_after settings lists events) event)
+          → SourceIsAnswered settings lists deliveries course lines label asked past
+      source_answered denied = record {
+        behind = body.behind;
+        is_request = heard_so.0;
+        denied = λ rule e. (
+          (denied (events_in past) (Source asked) rule e).0,
+          told_as (Deny rule) e ∙ ap (λ (xs : List ℕ). denial rule ++ xs) (nothing_more (Deny rule) e tt) ∙ append-nil (denial rule),
+        );
+        feeds = λ e. (greeted_here.rest, told_as Feeding e ∙ ap (λ (g : Greeting). greeting_text g ++ greeted_here.rest) (sym heard_so.1));
+        too_late = λ rule e. told_as (Finished rule) e ∙ nothing_more (Finished rule) e tt;
+      }
 
     -- and so is what a listener asks for heard
     module _ (label : ℕ) (asked : ListenRequest) (past later : List Happening) (parts : course ≡ past ++ on label (Listen asked) ∷ later) where

@@ -30,6 +30,7 @@ use Rattle.radio_floor.specs.declared.labelled.Connection.TheVariants.{Client, R
 use Rattle.radio_headline.specs.Sources.{pushed}
 use Rattle.radio_headline.proofs.Logs.{Entry, replies, Each}
 use Rattle.radio_headline.proofs.AppliedLemmas.{said_all, IsOpen, IsNotLast, IsOrderly}
+use Rattle.radio_headline.proofs.Greetings.{Greeted}
 use Rattle.radio_headline.proofs.RelayWords.{IsCut, IsNotRefused, IsNoUp, OwnRelay, number_after}
 use Rattle.radio_headline.proofs.ReplyForms.{IsIdle}
 use Rattle.radio_headline.proofs.RunLemmas.{IsOwn, IsIdling}
@@ -125,6 +126,10 @@ pub record Pulls (bytes : List ℕ) (log : List Entry) : Type 0 where
   pub rest : List ℕ
   pub front : pushed (events_of behind) ++ rest ≡ sound_in (stream_parts (stream_with interval) (drop length bytes))
 
+-- what was given begins with what it was told of its request
+abbrev pub IsGreeted : {bytes : List ℕ} {log : List Entry} → Feeds bytes log → List ℕ → Type 0
+IsGreeted f given = Greeted f.id f.idle f.request f.reply given
+
 -- the stream behind what has come of it
 abbrev pub stream_after : {bytes : List ℕ} {log : List Entry} → Pulls bytes log → Stream
 stream_after {bytes = bytes} p = after_bytes (stream_with p.interval) (drop p.length bytes)
@@ -132,7 +137,7 @@ stream_after {bytes = bytes} p = after_bytes (stream_with p.interval) (drop p.le
 pub data Facts (bytes : List ℕ) (log : List Entry) (given : List ℕ) : Type 0 where
   HasAskedNothing : Each AsksNothing log → Facts bytes log given
   HasSentGet : ByGet bytes log given → Facts bytes log given
-  IsSource : Feeds bytes log → Facts bytes log given
+  IsSource : (f : Feeds bytes log) → IsGreeted f given → Facts bytes log given
   IsPulling : Pulls bytes log → Facts bytes log given
 
 pub record IsClosed (bytes : List ℕ) (log : List Entry) (given : List ℕ) : Type 0 where
@@ -149,9 +154,9 @@ pub data Stage (bytes : List ℕ) (log : List Entry) (given : List ℕ) (convers
   AtHead : (idle : List Entry) → log ≡ arrival conversation.peer conversation.id ∷ idle → Each (IsIdling conversation.id) idle
       → conversation.hears ≡ HearsHead → conversation.held ≡ bytes → IsTold conversation log given → Stage bytes log given conversation
   AfterGet : ByGet bytes log given → conversation.hears ≡ Nothing → IsTold conversation log given → Stage bytes log given conversation
-  AtBody : (f : Feeds bytes log) → f.rest ≡ [] → conversation.hears ≡ Body (unfed (after f.start (drop f.length bytes)))
+  AtBody : (f : Feeds bytes log) → IsGreeted f given → f.rest ≡ [] → conversation.hears ≡ Body (unfed (after f.start (drop f.length bytes)))
       → Stage bytes log given conversation
-  AfterBody : Feeds bytes log → conversation.hears ≡ Nothing → Stage bytes log given conversation
+  AfterBody : (f : Feeds bytes log) → IsGreeted f given → conversation.hears ≡ Nothing → Stage bytes log given conversation
   Refused : Each AsksNothing log → conversation.hears ≡ Nothing → Stage bytes log given conversation
 
 -- a client's connection that is open

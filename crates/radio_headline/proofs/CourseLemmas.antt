@@ -1,10 +1,9 @@
 -- A script's deliveries come to a course, and each connection stands by what has happened on it.
-use Rattle.std.proofs.Common.{◌≡◌, ℕ, ◌==◌, Bool, true, false, List, [], ◌∷◌, ◌++◌, Option, None, Some, refl, sym, ap, subst, ◌∙◌}
-use Rattle.std.specs.Prelude.{map, if◌then◌else◌}
+use Rattle.std.proofs.Common.{◌≡◌, ℕ, List, [], ◌∷◌, ◌++◌, Option, None, Some, refl, sym, ap, subst, ◌∙◌}
+use Rattle.std.specs.Prelude.{map}
 use Rattle.std.specs.Option.{option_map}
 use Rattle.std.specs.List.{concat}
 use Rattle.std.proofs.lemmas.List.{append-nil}
-use Rattle.std.proofs.lemmas.List.Concat.{flat_map-append}
 use Rattle.radio_addr.specs.declared.peer.Peer.{Peer}
 use Rattle.radio_blocks.specs.Cutting.{blocks_of}
 use Rattle.radio_icy.specs.Cleaning.{cleaned}
@@ -43,34 +42,19 @@ use Rattle.radio_floor.specs.declared.labelled.Labelled.{Labelled}
 use Rattle.radio_floor.specs.ScriptState.{ScriptState, Performed, AsksOn, ComesTo, ComesToClient, ComesToRelay, IsPerformed, closes, connection_of, connection_unless}
 use Rattle.radio_floor.specs.ScriptState.{connects, exchanges, for_new_label, kept_unless, last_word, on_connection, told_lines, opens, with_connection, pulled_on, relay_named, taken_in}
 use Rattle.radio_headline.specs.Course.{ComesToNoted, Happening, Happens, HappensThere, IsAsked, Noted, and_then, applied, arrivals, events_in, noting, nothing_noted, on}
-use Rattle.radio_headline.specs.Sources.{brought, brought_by, bytes_in, pushed}
-use Rattle.radio_headline.proofs.Logs.{Entry, entry, entries, log_on, log_joined, log_here, log_elsewhere, after_joined, events_joined, events_on, itself, other_number}
+use Rattle.radio_headline.specs.Sources.{brought, bytes_in, pushed}
+use Rattle.radio_headline.proofs.Logs.{Entry, entry, entries, log_on, log_joined, after_joined, events_joined}
 use Rattle.radio_headline.proofs.AppliedLemmas.{applied_lead}
 use Rattle.radio_headline.proofs.RelayLogs.{at, asks_lifts, down}
 use Rattle.radio_headline.proofs.RelayWords.{IsNoUp, OfRelay}
-use Rattle.radio_headline.proofs.RunLemmas.{AllNowhere, IsMoment}
 use Rattle.radio_headline.proofs.Connections.{HasAskedNothing, IsClosed, IsClient, IsRelay, IsSo, AtAnswer, AtHead}
 use Rattle.radio_headline.proofs.ConnectionSteps.{data_come, idle_comes, end_comes}
 use Rattle.radio_headline.proofs.PullSteps.{idles_so, more_facts, takes_so}
 use Rattle.radio_heads.specs.Response.{ShowsResponse}
 use Rattle.radio_relay.proofs.CutLemmas.{AfterPieces, HeardInPieces}
 use Rattle.radio_relay.specs.declared.pull.Stage.TheVariants.{Head}
-use Rattle.radio_headline.proofs.LabelLemmas.{answer, answer_here, answer_elsewhere, answer_written, given_joined, opened_here, opened_elsewhere, with_here, with_elsewhere}
-use Rattle.radio_tables.proofs.KeyLaws.{by_number}
-
-pub brought_joined : (deliveries more : List Delivery) (label : ℕ) → brought (deliveries ++ more) label ≡ brought deliveries label ++ brought more label
-brought_joined deliveries more label = flat_map-append (brought_by label) deliveries more
-
-brought_here : (label : ℕ) (input : Input) → brought (To label input ∷ []) label ≡ bytes_in input
-brought_here label input = append-nil (if label == label then bytes_in input else []) ∙ ap (λ (b : Bool). if b then bytes_in input else []) (itself label)
-
-brought_elsewhere : (label other : ℕ) (input : Input) → (label ≡ other → ⊥) → brought (To label input ∷ []) other ≡ []
-brought_elsewhere label other input apart =
-    append-nil (if label == other then bytes_in input else []) ∙ ap (λ (b : Bool). if b then bytes_in input else []) (other_number label other apart)
-
-front_none : (xs ys : List ℕ) → xs ++ ys ≡ [] → xs ≡ []
-front_none [] ys e = refl
-front_none (x ∷ xs) ys e = cc
+use Rattle.radio_headline.proofs.LabelLemmas.{answer, answer_here, answer_elsewhere, answer_written, opened_here, opened_elsewhere, with_here, with_elsewhere}
+use Rattle.radio_headline.proofs.Standing.{brought_joined, brought_here, brought_elsewhere, front_none, IsSo_as, Stands, nowhere_joined, Changes, then_stands}
 
 module _ (settings : Settings) (lists : Lists) (settled : IsSettled ShowsRequest) (within : HeadsLieWithin ShowsRequest)
     (settled_answers : IsSettled ShowsResponse) (within_answers : HeadsLieWithin ShowsResponse) (none_blocks : blocks_of [] ≡ []) (in_pieces : HeardInPieces)
@@ -80,79 +64,14 @@ module _ (settings : Settings) (lists : Lists) (settled : IsSettled ShowsRequest
   abbrev w0 : World
   w0 = opening settings lists
 
-  -- how things stand after these deliveries
-  pub record Stands (done : List Delivery) (state : ScriptState) (past : List Happening) (lines : List TranscriptLine) : Type 0 where
-    pub world : state.world ≡ run_after settings lists (events_in past)
-    pub each : (label : ℕ) → IsSo (connection_of state.connections label) (brought done label) (log_on w0 past label) (given lines label)
-    pub nowhere : AllNowhere (λ h. IsMoment h.event) past
-
-  nowhere_joined : (past more : List Happening) → AllNowhere (λ h. IsMoment h.event) past → AllNowhere (λ h. IsMoment h.event) more
-      → AllNowhere (λ h. IsMoment h.event) (past ++ more)
-  nowhere_joined [] more h k = k
-  nowhere_joined (x ∷ past) more h k = (h.0, nowhere_joined past more h.1 k)
-
-  nowhere_on : (label : ℕ) (events : List Event) → AllNowhere (λ h. IsMoment h.event) (map (on label) events)
-  nowhere_on label [] = tt
-  nowhere_on label (event ∷ events) = ((λ e. cc), nowhere_on label events)
-
-  -- something happens on the connection of a label, and the others stand as before
-  record Changes (done : List Delivery) (state later : ScriptState) (past : List Happening) (lines : List TranscriptLine) (delivery : Delivery)
-      (events : List Event) (told : List TranscriptLine) (label : ℕ) : Type 0 where
-    pub world : later.world ≡ world_after_all state.world events
-    pub here : IsSo (connection_of later.connections label) (brought done label ++ brought (delivery ∷ []) label)
-        (log_on w0 past label ++ entries state.world events) (given lines label ++ given told label)
-    pub connections : (other : ℕ) → (label ≡ other → ⊥) → connection_of later.connections other ≡ connection_of state.connections other
-    pub silent : (other : ℕ) → (label ≡ other → ⊥) → brought (delivery ∷ []) other ≡ []
-    pub untold : (other : ℕ) → (label ≡ other → ⊥) → given told other ≡ []
-
-  module _ (done : List Delivery) (state : ScriptState) (past : List Happening) (lines : List TranscriptLine) (s : Stands done state past lines) where
-    IsSo_as : (c c' : Option (Option Connection)) (b b' : List ℕ) (l l' : List Entry) (g g' : List ℕ) → c ≡ c' → b ≡ b' → l ≡ l' → g ≡ g'
-        → IsSo c b l g → IsSo c' b' l' g'
-    IsSo_as c c' b b' l l' g g' ec eb el eg h =
-        subst (λ (o : Option (Option Connection)). IsSo o b' l' g') ec
-        (subst (λ (x : List ℕ). IsSo c x l' g') eb (subst (λ (x : List Entry). IsSo c b x g') el (subst (λ (x : List ℕ). IsSo c b l x) eg h)))
-
-    then_stands : (later : ScriptState) (delivery : Delivery) (events : List Event) (told : List TranscriptLine) (label : ℕ)
-        → Changes done state later past lines delivery events told label
-        → Stands (done ++ delivery ∷ []) later (past ++ map (on label) events) (lines ++ told)
-    then_stands later delivery events told label c = record {
-      world = c.world ∙ ap (λ (x : World). world_after_all x events) s.world
-          ∙ sym (after_joined w0 (events_in past) events)
-          ∙ ap (λ (es : List Event). run_after settings lists (events_in past ++ es)) (sym (events_on label events))
-          ∙ ap (run_after settings lists) (sym (events_joined past (map (on label) events)));
-      each = λ other. by_number label other
-          (λ same. subst (λ (l : ℕ). IsSo (connection_of later.connections l) (brought (done ++ delivery ∷ []) l) (log_on w0 (past ++ map (on label) events) l)
-          (given (lines ++ told) l)) same here)
-          (λ apart. elsewhere other (λ same. let it : (label == other) ≡ true = ap (λ (n : ℕ). label == n) (sym same) ∙ itself label in
-          let both : true ≡ false = sym it ∙ apart in cc));
-      nowhere = nowhere_joined past (map (on label) events) s.nowhere (nowhere_on label events);
-    } where
-      here : IsSo (connection_of later.connections label) (brought (done ++ delivery ∷ []) label) (log_on w0 (past ++ map (on label) events) label)
-          (given (lines ++ told) label)
-      here = IsSo_as _ _ _ _ _ _ _ _ refl (sym (brought_joined done (delivery ∷ []) label))
-          (ap (λ (x : World). log_on w0 past label ++ entries x events) s.world
-          ∙ ap (λ (xs : List Entry). log_on w0 past label ++ xs) (sym (log_here (run_after settings lists (events_in past)) label events))
-          ∙ sym (log_joined w0 past (map (on label) events) label))
-          (sym (given_joined lines told label)) c.here
-
-      elsewhere : (other : ℕ) → (label ≡ other → ⊥)
-          → IsSo (connection_of later.connections other) (brought (done ++ delivery ∷ []) other) (log_on w0 (past ++ map (on label) events) other)
-          (given (lines ++ told) other)
-      elsewhere other apart = IsSo_as _ _ _ _ _ _ _ _ (sym (c.connections other apart))
-          (sym (brought_joined done (delivery ∷ []) other ∙ ap (λ (xs : List ℕ). brought done other ++ xs) (c.silent other apart) ∙ append-nil (brought done other)))
-          (sym (log_joined w0 past (map (on label) events) other
-          ∙ ap (λ (xs : List Entry). log_on w0 past other ++ xs) (log_elsewhere (run_after settings lists (events_in past)) label other events apart)
-          ∙ append-nil (log_on w0 past other)))
-          (sym (given_joined lines told other ∙ ap (λ (xs : List ℕ). given lines other ++ xs) (c.untold other apart) ∙ append-nil (given lines other)))
-          (s.each other)
-
+  module _ (done : List Delivery) (state : ScriptState) (past : List Happening) (lines : List TranscriptLine) (s : Stands settings lists done state past lines) where
     -- a delivery is performed, and things stand so
     pub record Next (delivery : Delivery) (text : List ℕ) (later : ScriptState) : Type 0 where
       pub happenings : List Happening
       pub happen : Happens state delivery happenings
       pub told : List TranscriptLine
       pub is_written : written told ≡ text
-      pub stands : Stands (done ++ delivery ∷ []) later (past ++ happenings) (lines ++ told)
+      pub stands : Stands settings lists (done ++ delivery ∷ []) later (past ++ happenings) (lines ++ told)
 
     next_as : (delivery : Delivery) (text : List ℕ) (p q : Performed) → p ≡ q → p.lines ≡ Some text
         → ((text : List ℕ) → q.lines ≡ Some text → Next delivery text q.state) → Next delivery text p.state
@@ -173,7 +92,7 @@ module _ (settings : Settings) (lists : Lists) (settled : IsSettled ShowsRequest
           happen = ap (arrivals label peer) (sym known);
           told = answer label of.bytes (last_word of.state);
           is_written = answer_written label of.bytes (last_word of.state) ∙ the_text told;
-          stands = then_stands (opens state label peer).state (Open label peer) (Arrive peer ∷ []) (answer label of.bytes (last_word of.state)) label (record {
+          stands = then_stands settings lists done state past lines s (opens state label peer).state (Open label peer) (Arrive peer ∷ []) (answer label of.bytes (last_word of.state)) label (record {
             world = refl;
             here = IsSo_as _ _ _ _ _ _ _ _ (sym (opened_here state.connections label connection known)) (sym (append-nil (brought done label)))
                 (ap (λ (xs : List Entry). xs ++ entry state.world (Arrive peer) ∷ []) (sym unopened.1))
@@ -225,7 +144,7 @@ module _ (settings : Settings) (lists : Lists) (settled : IsSettled ShowsRequest
       happen = refl;
       told = answer label (request_text relay) None;
       is_written = answer_written label (request_text relay) None ∙ the_text told;
-      stands = then_stands (connects state label (Some relay)).state (Pull label mount) [] (answer label (request_text relay) None) label (record {
+      stands = then_stands settings lists done state past lines s (connects state label (Some relay)).state (Pull label mount) [] (answer label (request_text relay) None) label (record {
         world = refl;
         here = IsSo_as _ _ _ _ _ _ _ _ (sym (opened_here state.connections label (Some (Relay (begun relay.local_mount))) known)) (sym (append-nil (brought done label)))
             (sym (append-nil (log_on w0 past label) ∙ unopened.1)) refl
@@ -258,7 +177,7 @@ module _ (settings : Settings) (lists : Lists) (settled : IsSettled ShowsRequest
             (sym (brought_joined done (ClockIs ms ∷ []) label ∙ append-nil (brought done label)))
             (sym (log_joined w0 past (record { label = None; event = Clock ms } ∷ []) label ∙ append-nil (log_on w0 past label)))
             (ap (λ (xs : List TranscriptLine). given xs label) (sym (append-nil lines))) (s.each label);
-        nowhere = nowhere_joined past (record { label = None; event = Clock ms } ∷ []) s.nowhere ((λ e. tt), tt);
+        nowhere = nowhere_joined settings lists past (record { label = None; event = Clock ms } ∷ []) s.nowhere ((λ e. tt), tt);
       };
     } where
       the_text : Some [] ≡ Some text → [] ≡ text
@@ -270,7 +189,7 @@ module _ (settings : Settings) (lists : Lists) (settled : IsSettled ShowsRequest
           → later.world ≡ world_after_all state.world events → later.connections ≡ with_connection state.connections label new
           → (old : Option Connection) → connection_of state.connections label ≡ Some old
           → IsSo (Some new) (brought done label ++ bytes_in input) (log_on w0 past label ++ entries state.world events) (given lines label ++ bytes)
-          → Changes done state later past lines (To label input) events (answer label bytes word) label
+          → Changes settings lists done state later past lines (To label input) events (answer label bytes word) label
       comes_there later events bytes word text new world connections old known so = record {
         world = world;
         here = IsSo_as _ _ _ _ _ _ _ _
@@ -304,7 +223,7 @@ module _ (settings : Settings) (lists : Lists) (settled : IsSettled ShowsRequest
               happen = subst (λ (o : Option (Option Connection)). HappensThere state label input (map (on label) events) o) (sym known) (heard, asked, refl);
               told = answer label x.exchange.bytes (last_word x.exchange.state);
               is_written = answer_written label x.exchange.bytes (last_word x.exchange.state) ∙ the_text told;
-              stands = then_stands (exchanges state label heard.conversation heard.events).state (To label input) events
+              stands = then_stands settings lists done state past lines s (exchanges state label heard.conversation heard.events).state (To label input) events
                   (answer label x.exchange.bytes (last_word x.exchange.state)) label
                   (comes_there (exchanges state label heard.conversation heard.events).state events x.exchange.bytes (last_word x.exchange.state) text
                   (kept_unless (Client (saying_now heard.conversation x.exchange.says)) x.exchange.state)
@@ -330,7 +249,7 @@ module _ (settings : Settings) (lists : Lists) (settled : IsSettled ShowsRequest
           happen = subst (λ (o : Option (Option Connection)). HappensThere state label input (map (on label) events) o) (sym known) (at w events, noted, refl);
           told = answer label [] (last_word ends);
           is_written = answer_written label [] (last_word ends) ∙ the_text told;
-          stands = then_stands (pulled_on state label now ends w).state (To label input) events (answer label [] (last_word ends)) label
+          stands = then_stands settings lists done state past lines s (pulled_on state label now ends w).state (To label input) events (answer label [] (last_word ends)) label
               (comes_there (pulled_on state label now ends w).state events [] (last_word ends) text (kept_unless (Relay now) ends) leads refl
               (Some (Relay pulling)) known
               so);
@@ -375,7 +294,7 @@ module _ (settings : Settings) (lists : Lists) (settled : IsSettled ShowsRequest
         );
         told = answer label [] (last_word (Shut Done));
         is_written = answer_written label [] (last_word (Shut Done)) ∙ the_text words e;
-        stands = then_stands (closes state label conversation).state (To label End) (Leave conversation.id ∷ []) (answer label [] (last_word (Shut Done))) label
+        stands = then_stands settings lists done state past lines s (closes state label conversation).state (To label End) (Leave conversation.id ∷ []) (answer label [] (last_word (Shut Done))) label
             (comes_there label End (closes state label conversation).state (Leave conversation.id ∷ []) [] (last_word (Shut Done)) words None refl refl
             (Some (Client conversation)) known
             (end_comes settled within joined places data_joined state.world (brought done label) (log_on w0 past label) (given lines label) conversation
@@ -424,7 +343,7 @@ module _ (settings : Settings) (lists : Lists) (settled : IsSettled ShowsRequest
       happen = subst (λ (o : Option (Option Connection)). HappensThere state label input [] o) (sym known) refl;
       told = [];
       is_written = the_text told;
-      stands = then_stands state (To label input) [] [] label (record {
+      stands = then_stands settings lists done state past lines s state (To label input) [] [] label (record {
         world = refl;
         here = IsSo_as _ _ _ _ _ _ _ _ (sym known) (ap (λ (xs : List ℕ). brought done label ++ xs) (sym (brought_here label input)))
             (sym (append-nil (log_on w0 past label))) (sym (append-nil (given lines label))) closed;

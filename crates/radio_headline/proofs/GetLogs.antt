@@ -1,8 +1,7 @@
 -- The log of a connection on which a GET was heard.
-use Rattle.std.proofs.Common.{◌≡◌, ◌⊎◌, inl, inr, ℕ, ◌==◌, Bool, true, false, List, [], ◌∷◌, ◌++◌, Option, None, Some, refl, sym, ap, subst, ◌∙◌, arith}
+use Rattle.std.proofs.Common.{◌≡◌, ◌⊎◌, inl, inr, ℕ, Bool, true, false, List, [], ◌∷◌, ◌++◌, Option, None, Some, refl, sym, ap, subst, ◌∙◌}
 use Rattle.std.specs.Prelude.{if◌then◌else◌}
 use Rattle.std.specs.List.{AllByRecursion, flat_map}
-use Rattle.std.proofs.lemmas.Bool.Decides.{nat_tests}
 use Rattle.radio_policy.specs.declared.rule.Rule.{Rule}
 use Rattle.radio_events.specs.declared.event.Event.{Event}
 use Rattle.radio_events.specs.declared.event.Event.TheVariants.{Arrive, Source, Push, SourceEnd, Title, Listen, Draw, Command, Leave, RelayUp, RelayDown, Clock}
@@ -13,7 +12,7 @@ use Rattle.radio_events.specs.declared.reply.StreamHead.{StreamHead}
 use Rattle.radio_events.specs.Events.{client_in}
 use Rattle.radio_icy.specs.Weaving.{Call}
 use Rattle.radio_core.specs.Handing.{is_number}
-use Rattle.radio_core.specs.Step.{reply_to, world_after}
+use Rattle.radio_core.specs.Step.{world_after}
 use Rattle.radio_house.specs.World.{World}
 use Rattle.radio_heads.specs.Head.{RequestParts}
 use Rattle.radio_session.specs.Asking.{asks_by_get, asks_to_hear, gives_command, is_for_commands, path_in}
@@ -26,15 +25,15 @@ use Rattle.radio_floor.specs.declared.labelled.Connection.TheVariants.{Client, R
 use Rattle.radio_script.specs.Given.{given}
 use Rattle.radio_headline.specs.Course.{Happening, events_in, on}
 use Rattle.radio_headline.specs.Listeners.{draws_to}
-use Rattle.radio_headline.proofs.Logs.{Entry, entry, log_on, replies, Each, each_as, each_joined, itself}
+use Rattle.radio_headline.proofs.Gathered.{IsOnIt, brought_to, gathered}
+use Rattle.radio_headline.proofs.Logs.{Entry, entry, log_on, replies, Each, each_as, each_joined}
 use Rattle.radio_headline.proofs.AppliedLemmas.{IsLast, IsLeaving, IsOpen, IsOrderly, said_all}
 use Rattle.radio_headline.proofs.RunLemmas.{IsOwn, IsIdling}
 use Rattle.radio_headline.proofs.Connections.{arrival, AsksForMount, AsksNothing, ByGet, Feeds as IsFeeding, IsIdleOrLeaving, IsBehindRequest, IsNoRequest}
 use Rattle.radio_headline.proofs.Connections.{Facts, HasAskedNothing, HasSentGet, IsSource, IsPulling, IsSo, Stage, AtHead, AfterGet, AtBody, AfterBody, Refused}
 use Rattle.radio_headline.proofs.ClientEvents.{client_owns, idle_asks_nothing, idle_is_his}
 use Rattle.radio_headline.proofs.OwnLogs.{relay_owns}
-use Rattle.radio_headline.proofs.RelayWords.{OfRelay, OwnRelay}
-use Rattle.radio_pull.specs.Pulling.{answered}
+use Rattle.radio_headline.proofs.RelayWords.{OwnRelay, relay_asks_not}
 use Rattle.radio_headline.proofs.Partings.{none_there, parted}
 
 pub idle_or_leaving_is_his : (id : ℕ) (e : Entry) → IsIdleOrLeaving id e → client_in e.event ≡ Some id
@@ -116,22 +115,8 @@ source_not bytes log f =
     )
 
 -- a relay asks for no mount
-relay_listens_not : (number : Option ℕ) (log : List Entry) → OwnRelay number log → Each GetsNot log
-relay_listens_not number [] own = tt
-relay_listens_not number (e ∷ log) own = (by_event e.event own.0, relay_listens_not (answered number e.reply).number log own.1) where
-  by_event : (event : Event) → OfRelay number event → IsGetting event → ⊥
-  by_event (Arrive peer) h a = elim h [ ]
-  by_event (Source asked) h a = elim h [ ]
-  by_event (SourceEnd him) h a = elim h [ ]
-  by_event (Listen asked) h a = elim h [ ]
-  by_event (Command asked) h a = elim h [ ]
-  by_event (Leave him) h a = elim h [ ]
-  by_event (Clock ms) h a = elim h [ ]
-  by_event (RelayUp mount shown) h a = a
-  by_event (Push him block) h a = a
-  by_event (Title him text) h a = a
-  by_event (Draw him room) h a = a
-  by_event (RelayDown him) h a = a
+relay_listens_not : (log : List Entry) → OwnRelay None log → Each GetsNot log
+relay_listens_not log own = relay_asks_not IsGetting (λ mount shown a. a) (λ id block a. a) (λ id text a. a) (λ id room a. a) (λ id a. a) None log own
 
 pub no_entry : (before behind : List Entry) (e : Entry) → [] ≡ before ++ e ∷ behind → ⊥
 no_entry [] behind e h = cc
@@ -146,22 +131,22 @@ module _ (bytes : List ℕ) (log : List Entry) (given : List ℕ) (before behind
   of_facts : Facts bytes log given → ByGet bytes log given
   of_facts (HasAskedNothing h) = never (nothing_listened log h)
   of_facts (HasSentGet g) = g
-  of_facts (IsSource f) = never (source_not bytes log f)
-  of_facts (IsPulling q) = never (relay_listens_not None log q.own)
+  of_facts (IsSource f told) = never (source_not bytes log f)
+  of_facts (IsPulling q) = never (relay_listens_not log q.own)
 
   of_stage : (conversation : _) → Stage bytes log given conversation → ByGet bytes log given
   of_stage conversation (AtHead idle arrived idles hears held t) =
       never (subst (Each GetsNot) (sym arrived) ((λ l. l), each_as (IsIdling conversation.id) GetsNot (idle_not conversation.id) idle idles))
   of_stage conversation (AfterGet g hears t) = g
-  of_stage conversation (AtBody f none hears) = never (source_not bytes log f)
-  of_stage conversation (AfterBody f hears) = never (source_not bytes log f)
+  of_stage conversation (AtBody f told none hears) = never (source_not bytes log f)
+  of_stage conversation (AfterBody f told hears) = never (source_not bytes log f)
   of_stage conversation (Refused h hears) = never (nothing_listened log h)
 
   pub by_get : (c : Option (Option Connection)) → IsSo c bytes log given → ByGet bytes log given
   by_get None h = absurd (no_entry before behind e (sym h.1 ∙ parts))
   by_get (Some None) h = of_facts h.facts
   by_get (Some (Some (Client conversation))) h = of_stage conversation h.stage
-  by_get (Some (Some (Relay pulling))) h = never (relay_listens_not None log h.own)
+  by_get (Some (Some (Relay pulling))) h = never (relay_listens_not log h.own)
 
 pub idle_or_leaving_not : (id : ℕ) (e : Entry) → IsIdleOrLeaving id e → IsGetting e.event → ⊥
 idle_or_leaving_not id e (inl h) l = idle_asks_nothing id e.event h (listening_asks e.event l)
@@ -271,39 +256,13 @@ none_admitted id (e ∷ log) h fits = (
   asks e a (inl i) = idle_asks_nothing id e.event i a
   asks e a (inr l) = subst AsksForMount l a
 
--- the events of the client are those on his connection
-pub counts_as : (id : ℕ) (event : Event) → is_number id (client_in event) ≡ true → client_in event ≡ Some id
-counts_as id event h = by_client (client_in event) refl where
-  by_client : (c : Option ℕ) → client_in event ≡ c → client_in event ≡ Some id
-  by_client None e = let no : false ≡ true = ap (is_number id) (sym e) ∙ h in cc
-  by_client (Some him) e = e ∙ ap (λ (n : ℕ). Some n) (same him (ap (is_number id) (sym e) ∙ h)) where
-    same : (him : ℕ) → (him == id) ≡ true → him ≡ id
-    same him k = grind (arith, nat_tests)
-
 abbrev pub IsHisOrDrawsNothing : ℕ → Entry → Type 0
 IsHisOrDrawsNothing id e = (client_in e.event ≡ Some id) ⊎ DrawsNothing e
 
-abbrev pub IsOnIt : ℕ → ℕ → Happening → Type 0
-IsOnIt label id h = client_in h.event ≡ Some id → is_number label h.label ≡ true
-
 pub draws_gathered : (w : World) (past : List Happening) (label id : ℕ) → AllByRecursion (IsOnIt label id) past
     → Each (IsHisOrDrawsNothing id) (log_on w past label) → draws_to w (events_in past) id ≡ calls (log_on w past label)
-draws_gathered w [] label id on his = refl
-draws_gathered w (h ∷ past) label id on his =
-    by_tests (draws_gathered (world_after w h.event) past label id on.1) (is_number label h.label) refl (is_number id (client_in h.event)) refl his where
-      by_tests : (Each (IsHisOrDrawsNothing id) (log_on (world_after w h.event) past label)
-          → draws_to (world_after w h.event) (events_in past) id ≡ calls (log_on (world_after w h.event) past label))
-          → (b : Bool) → is_number label h.label ≡ b → (c : Bool) → is_number id (client_in h.event) ≡ c
-          → Each (IsHisOrDrawsNothing id) ((if b then entry w h.event ∷ [] else []) ++ log_on (world_after w h.event) past label)
-          → (if c then (draws_of (reply_to w h.event ∷ [])) else []) ++ draws_to (world_after w h.event) (events_in past) id ≡ calls ((if b then entry w h.event ∷ [] else []) ++ log_on (world_after w h.event) past label)
-      by_tests ih true e true f k = ap (λ (xs : List Call). (draws_of (reply_to w h.event ∷ [])) ++ xs) (ih k.1)
-      by_tests ih true e false f k =
-          ih k.1 ∙ ap (λ (xs : List Call). xs ++ calls (log_on (world_after w h.event) past label)) (sym (none k.0)) where
-            none : IsHisOrDrawsNothing id (entry w h.event) → (draws_of (reply_to w h.event ∷ [])) ≡ []
-            none (inl mine) =
-                let yes : is_number id (client_in h.event) ≡ true = ap (is_number id) mine ∙ itself id in
-                let no : true ≡ false = sym yes ∙ f in
-                cc
-            none (inr d) = d
-      by_tests ih false e true f k = let no : true ≡ false = sym (on.0 (counts_as id h.event f)) ∙ e in cc
-      by_tests ih false e false f k = ih k
+draws_gathered w past label id on his = in_order w past ∙ gathered calls_of w past label id on his where
+  in_order : (x : World) (hs : List Happening) → draws_to x (events_in hs) id ≡ brought_to calls_of x hs id
+  in_order x [] = refl
+  in_order x (h ∷ hs) =
+      ap (λ (xs : List Call). (if is_number id (client_in h.event) then calls_of (entry x h.event) else []) ++ xs) (in_order (world_after x h.event) hs)

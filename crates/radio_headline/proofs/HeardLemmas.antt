@@ -1,6 +1,6 @@
 -- What a head and a body are heard as, and more bytes behind them.
 use Rattle.std.proofs.Common.{◌≡◌, ◌⊎◌, inl, inr, ℕ, Bool, true, false, List, [], ◌∷◌, ◌++◌, drop, Option, None, Some, Result, Ok, Err, refl, sym, ap, subst, ◌∙◌, append_assoc}
-use Rattle.std.specs.Prelude.{map, codes, if◌then◌else◌, option_map}
+use Rattle.std.specs.Prelude.{map, codes, if◌then◌else◌, length, option_map}
 use Rattle.std.specs.List.{concat}
 use Rattle.std.specs.Str.{bytes_eq}
 use Rattle.std.proofs.lemmas.List.{append-nil, drop-append-le}
@@ -18,6 +18,7 @@ use Rattle.radio_heads.specs.Reading.{IsReading}
 use Rattle.radio_source.specs.Feeding.{unfed}
 use Rattle.radio_source.specs.Place.{Place, after, data_of}
 use Rattle.radio_session.specs.declared.session.Hears.TheVariants.{Body, Nothing}
+use Rattle.radio_session.specs.declared.session.Closing.{Closing}
 use Rattle.radio_session.specs.declared.session.LastWord.{LastWord}
 use Rattle.radio_session.specs.Asking.{asks_to_feed}
 use Rattle.radio_session.specs.Conversation.{Conversation}
@@ -51,7 +52,7 @@ module _ (settled : IsSettled ShowsRequest) (within : HeadsLieWithin ShowsReques
   more_data bytes more request n place reading =
       ap (data_of place) (behind_head bytes more request n reading) ∙ data_joined place (drop n bytes) more
 
-  pub more_for_source : (bytes more : List ℕ) (log : List Entry) → Feeds bytes log → Feeds (bytes ++ more) log
+  abbrev pub more_for_source : (bytes more : List ℕ) (log : List Entry) → Feeds bytes log → Feeds (bytes ++ more) log
   more_for_source bytes more log f =
       let later = data_of (after f.start (drop f.length bytes)) more in
       feeds_with bytes (bytes ++ more) log log f (read_more bytes more f.request f.length f.reading) f.behind f.in_order f.no_more f.orderly (f.rest ++ later)
@@ -66,6 +67,8 @@ module _ (settled : IsSettled ShowsRequest) (within : HeadsLieWithin ShowsReques
     pub content : pushed asked ≡ data_of place bytes
     pub his : heard.conversation.id ≡ conversation.id
     pub peer : heard.conversation.peer ≡ conversation.peer
+    pub closing : Option Closing
+    pub says : heard.conversation.says ≡ record conversation.says { closing = closing }
     pub hears : (heard.conversation.hears ≡ Body (unfed (after place bytes))) ⊎ (heard.conversation.hears ≡ Nothing)
 
   pub blocks_pushed : (id : ℕ) (blocks : List (List ℕ)) → pushed (map (Push id) blocks) ≡ concat blocks
@@ -88,6 +91,8 @@ module _ (settled : IsSettled ShowsRequest) (within : HeadsLieWithin ShowsReques
     content = pushes_all conversation.id (data_of place bytes);
     his = refl;
     peer = refl;
+    closing = conversation.says.closing;
+    says = refl;
     hears = inl refl;
   }
   delivers_by conversation before place bytes (Some word) =
@@ -100,6 +105,8 @@ module _ (settled : IsSettled ShowsRequest) (within : HeadsLieWithin ShowsReques
         content = pushed_joined blocks (SourceEnd id ∷ []) ∙ append-nil (pushed blocks) ∙ pushes_all id (data_of place bytes);
         his = refl;
         peer = refl;
+        closing = Some (record { awaits = length (before ++ blocks); word = word });
+        says = refl;
         hears = inr refl;
       }
 

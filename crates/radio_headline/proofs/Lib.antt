@@ -1,6 +1,8 @@
 mod Logs
+mod Gathered
 mod ReplyForms
 mod AppliedLemmas
+mod Greetings
 mod RelayWords
 mod RelayLogs
 mod RunLemmas
@@ -8,11 +10,14 @@ mod OwnLogs
 mod Connections
 mod ClientEvents
 mod HeardLemmas
+mod Settling
+mod HeadSteps
 mod ConnectionSteps
 mod PullParts
 mod PullSteps
 mod LabelLemmas
 mod FaultLemmas
+mod Standing
 mod CourseLemmas
 mod RunOfCourses
 mod DrawLemmas

@@ -58,13 +58,14 @@ use Rattle.radio_script.specs.Given.{TranscriptLine, given}
 use Rattle.radio_headline.specs.Course.{Happening, events_in, on}
 use Rattle.radio_headline.specs.Listeners.{CommandIsAnswered, DrawsAreStretches, SitsWithASource, Hears, IsDenied, IsGiven, IsShown, IsTooLate, draws_to}
 use Rattle.radio_headline.specs.Sources.{HasItsSource, brought}
+use Rattle.radio_headline.proofs.Gathered.{IsOnIt}
 use Rattle.radio_headline.proofs.Logs.{Entry, entry, after_joined, log_on, log_joined, replies, replies_joined, Each, each_as, each_joined, each_second, itself}
 use Rattle.radio_headline.proofs.AppliedLemmas.{IsOrderly, said_all, told_joined}
 use Rattle.radio_headline.proofs.ReplyForms.{ListenReply, IsOutOfPlace, HasFinished as IsFinishedReply, WasDenied, WasShown, WasSeated, listen_reply}
 use Rattle.radio_headline.proofs.RunLemmas.{HasNumber, IsIdling, IsNew, AllNowhere, IsMoment, moments_are_nobodys, are_on_first, arrives_and_idles, each_happening, one_owner, reached_opening}
 use Rattle.radio_headline.proofs.Connections.{arrival, AsksForMount, ByGet, IsIdleOrLeaving}
 use Rattle.radio_headline.proofs.Connections.{IsSo}
-use Rattle.radio_headline.proofs.GetLogs.{DrawsNothing, EntryFits, FitsEvent, GetsNot, IsGetting, IsHisOrDrawsNothing, IsMute, IsOnIt, Waited, admit_nobody, by_get, calls, calls_of, draws_gathered, get_is_his, idle_not, idle_or_leaving_is_his, idle_or_leaving_not, mute_draws, no_calls, none_admitted, orderly_draws, orderly_second, so_owns, waited}
+use Rattle.radio_headline.proofs.GetLogs.{DrawsNothing, EntryFits, FitsEvent, GetsNot, IsGetting, IsHisOrDrawsNothing, IsMute, Waited, admit_nobody, by_get, calls, calls_of, draws_gathered, get_is_his, idle_not, idle_or_leaving_is_his, idle_or_leaving_not, mute_draws, no_calls, none_admitted, orderly_draws, orderly_second, so_owns, waited}
 use Rattle.radio_headline.proofs.Partings.{Parted, parted}
 
 -- the events of clients come each on one connection

@@ -347,6 +347,6 @@ module _ (settled : IsSettled ShowsResponse) (within : HeadsLieWithin ShowsRespo
     more_facts bytes more log given (HasAskedNothing h) = HasAskedNothing h
     more_facts bytes more log given (HasSentGet g) =
         HasSentGet (more_for_get settled_requests within_requests joined places data_joined bytes more log given g)
-    more_facts bytes more log given (IsSource f) =
-        IsSource (more_for_source settled_requests within_requests joined places data_joined bytes more log f)
+    more_facts bytes more log given (IsSource f told) =
+        IsSource (more_for_source settled_requests within_requests joined places data_joined bytes more log f) told
     more_facts bytes more log given (IsPulling p) = IsPulling (more_pulled settled within joined none_blocks in_pieces afters bytes more log p)

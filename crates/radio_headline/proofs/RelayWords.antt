@@ -1,7 +1,8 @@
 -- Words of what a relay asks for.
 use Rattle.std.proofs.Common.{◌≡◌, ℕ, List, [], ◌∷◌, ◌++◌, Option, None, Some, refl, sym, subst}
+use Rattle.radio_settings.specs.declared.field.Shown.{Shown}
 use Rattle.radio_events.specs.declared.event.Event.{Event}
-use Rattle.radio_events.specs.declared.event.Event.TheVariants.{Push, Title, Draw, Leave, RelayUp, RelayDown}
+use Rattle.radio_events.specs.declared.event.Event.TheVariants.{Arrive, Source, Push, SourceEnd, Title, Listen, Draw, Command, Leave, RelayUp, RelayDown, Clock}
 use Rattle.radio_events.specs.declared.reply.Reply.{Reply}
 use Rattle.radio_events.specs.declared.reply.Reply.TheVariants.{Arrived, Feeding, Seated, Drawn, Noted as WasNoted, Text, Deny, Finished, Stray}
 use Rattle.radio_relay.specs.declared.items.PullItem.{PullItem}
@@ -24,6 +25,27 @@ OfRelay number event = ⊥
 abbrev pub OwnRelay : Option ℕ → List Entry → Type 0
 OwnRelay number [] = Unit {0}
 OwnRelay number (e ∷ log) = OfRelay number e.event × OwnRelay (answered number e.reply).number log
+
+-- whatever holds of nothing that a relay asks for holds of none of these
+pub relay_asks_not : (P : Event → Type 0) → ((mount : List ℕ) (shown : Shown) → P (RelayUp mount shown) → ⊥) → ((id : ℕ) (block : List ℕ) → P (Push id block) → ⊥)
+    → ((id : ℕ) (text : List ℕ) → P (Title id text) → ⊥) → ((id room : ℕ) → P (Draw id room) → ⊥) → ((id : ℕ) → P (RelayDown id) → ⊥)
+    → (number : Option ℕ) (log : List Entry) → OwnRelay number log → Each (λ e. P e.event → ⊥) log
+relay_asks_not P up push title draw down number [] own = tt
+relay_asks_not P up push title draw down number (e ∷ log) own =
+    (by_event e.event own.0, relay_asks_not P up push title draw down (answered number e.reply).number log own.1) where
+      by_event : (event : Event) → OfRelay number event → P event → ⊥
+      by_event (Arrive peer) h a = elim h [ ]
+      by_event (Source asked) h a = elim h [ ]
+      by_event (SourceEnd id) h a = elim h [ ]
+      by_event (Listen asked) h a = elim h [ ]
+      by_event (Command asked) h a = elim h [ ]
+      by_event (Leave id) h a = elim h [ ]
+      by_event (Clock ms) h a = elim h [ ]
+      by_event (RelayUp mount shown) h a = up mount shown a
+      by_event (Push id block) h a = push id block a
+      by_event (Title id text) h a = title id text a
+      by_event (Draw id room) h a = draw id room a
+      by_event (RelayDown id) h a = down id a
 
 abbrev pub number_after : Option ℕ → List Entry → Option ℕ
 number_after number [] = number

@@ -19,7 +19,8 @@ use Rattle.radio_heads.specs.Response.{ShowsResponse}
 use Rattle.radio_relay.proofs.CutLemmas.{AfterPieces, HeardInPieces}
 use Rattle.radio_headline.proofs.LabelLemmas.{written_joined}
 use Rattle.radio_headline.proofs.FaultLemmas.{at_fault_so}
-use Rattle.radio_headline.proofs.CourseLemmas.{Stands, performs_next}
+use Rattle.radio_headline.proofs.CourseLemmas.{performs_next}
+use Rattle.radio_headline.proofs.Standing.{Stands}
 
 module _ (settings : Settings) (lists : Lists) (settled : IsSettled ShowsRequest) (within : HeadsLieWithin ShowsRequest)
     (settled_answers : IsSettled ShowsResponse) (within_answers : HeadsLieWithin ShowsResponse) (none_blocks : blocks_of [] ≡ []) (in_pieces : HeardInPieces)
@@ -36,10 +37,10 @@ module _ (settings : Settings) (lists : Lists) (settled : IsSettled ShowsRequest
     pub parts : deliveries ≡ performed ++ rest
     pub told : List TranscriptLine
     pub is_written : written told ≡ text
-    pub stands : Stands settings lists settled within settled_answers within_answers none_blocks in_pieces afters joined places data_joined (done ++ performed) last course (lines ++ told)
+    pub stands : Stands settings lists (done ++ performed) last course (lines ++ told)
 
   pub comes : (deliveries done : List Delivery) (state last : ScriptState) (past : List Happening) (lines : List TranscriptLine) (number : ℕ)
-      (text : List ℕ) (stop : Option ℕ) → Stands settings lists settled within settled_answers within_answers none_blocks in_pieces afters joined places data_joined done state past lines → Runs conduct state number deliveries text stop last
+      (text : List ℕ) (stop : Option ℕ) → Stands settings lists done state past lines → Runs conduct state number deliveries text stop last
       → Came done deliveries state last past lines number text stop
   comes [] done state last past lines number text stop s r = record {
     course = past;
@@ -49,9 +50,9 @@ module _ (settings : Settings) (lists : Lists) (settled : IsSettled ShowsRequest
     parts = refl;
     told = [];
     is_written = sym r.0;
-    stands = subst (λ (x : ScriptState). Stands settings lists settled within settled_answers within_answers none_blocks in_pieces afters joined places data_joined (done ++ []) x past (lines ++ [])) (sym r.2)
-        (subst (λ (ds : List Delivery). Stands settings lists settled within settled_answers within_answers none_blocks in_pieces afters joined places data_joined ds state past (lines ++ [])) (sym (append-nil done))
-        (subst (λ (ls : List TranscriptLine). Stands settings lists settled within settled_answers within_answers none_blocks in_pieces afters joined places data_joined done state past ls) (sym (append-nil lines)) s));
+    stands = subst (λ (x : ScriptState). Stands settings lists (done ++ []) x past (lines ++ [])) (sym r.2)
+        (subst (λ (ds : List Delivery). Stands settings lists ds state past (lines ++ [])) (sym (append-nil done))
+        (subst (λ (ls : List TranscriptLine). Stands settings lists done state past ls) (sym (append-nil lines)) s));
   }
   comes (delivery ∷ deliveries) done state last past lines number text stop s r = elim r [
     | inl f ↦
@@ -64,10 +65,10 @@ module _ (settings : Settings) (lists : Lists) (settled : IsSettled ShowsRequest
           parts = refl;
           told = [];
           is_written = sym f.nothing;
-          stands = subst (λ (x : ScriptState). Stands settings lists settled within settled_answers within_answers none_blocks in_pieces afters joined places data_joined (done ++ []) x (past ++ []) (lines ++ [])) (sym fault.1)
-              (subst (λ (ds : List Delivery). Stands settings lists settled within settled_answers within_answers none_blocks in_pieces afters joined places data_joined ds state (past ++ []) (lines ++ [])) (sym (append-nil done))
-              (subst (λ (ls : List TranscriptLine). Stands settings lists settled within settled_answers within_answers none_blocks in_pieces afters joined places data_joined done state (past ++ []) ls) (sym (append-nil lines))
-              (subst (λ (hs : List Happening). Stands settings lists settled within settled_answers within_answers none_blocks in_pieces afters joined places data_joined done state hs lines) (sym (append-nil past)) s)));
+          stands = subst (λ (x : ScriptState). Stands settings lists (done ++ []) x (past ++ []) (lines ++ [])) (sym fault.1)
+              (subst (λ (ds : List Delivery). Stands settings lists ds state (past ++ []) (lines ++ [])) (sym (append-nil done))
+              (subst (λ (ls : List TranscriptLine). Stands settings lists done state (past ++ []) ls) (sym (append-nil lines))
+              (subst (λ (hs : List Happening). Stands settings lists done state hs lines) (sym (append-nil past)) s)));
         }
     | inr g ↦
         let n = performs_next settings lists settled within settled_answers within_answers none_blocks in_pieces afters joined places data_joined done state past lines s delivery (record { lines = Some g.first; state = g.between }) g.performed g.first refl in
@@ -88,10 +89,10 @@ module _ (settings : Settings) (lists : Lists) (settled : IsSettled ShowsRequest
           told = n.told ++ m.told;
           is_written = written_joined n.told m.told ∙ ap (λ (xs : List ℕ). xs ++ written m.told) n.is_written
               ∙ ap (λ (xs : List ℕ). g.first ++ xs) m.is_written ∙ sym g.parts;
-          stands = subst (λ (ds : List Delivery). Stands settings lists settled within settled_answers within_answers none_blocks in_pieces afters joined places data_joined ds last m.course (lines ++ (n.told ++ m.told))) (append_assoc done (delivery ∷ []) m.performed)
-              (subst (λ (ls : List TranscriptLine). Stands settings lists settled within settled_answers within_answers none_blocks in_pieces afters joined places data_joined ((done ++ delivery ∷ []) ++ m.performed) last m.course ls) (append_assoc lines n.told m.told) m.stands);
+          stands = subst (λ (ds : List Delivery). Stands settings lists ds last m.course (lines ++ (n.told ++ m.told))) (append_assoc done (delivery ∷ []) m.performed)
+              (subst (λ (ls : List TranscriptLine). Stands settings lists ((done ++ delivery ∷ []) ++ m.performed) last m.course ls) (append_assoc lines n.told m.told) m.stands);
         }
   ]
 
-  pub nothing_stands : Stands settings lists settled within settled_answers within_answers none_blocks in_pieces afters joined places data_joined [] (opening_script settings lists) [] []
+  pub nothing_stands : Stands settings lists [] (opening_script settings lists) [] []
   nothing_stands = record { world = refl; each = λ label. (refl, refl, refl); nowhere = tt }

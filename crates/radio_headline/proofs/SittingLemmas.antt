@@ -24,6 +24,9 @@ use Rattle.radio_headline.proofs.Logs.{after_joined, events_joined}
 use Rattle.radio_headline.proofs.ReplyForms.{comes_up}
 use Rattle.radio_headline.proofs.RunLemmas.{AllNowhere, IsMoment}
 
+same_some : (a b : Session) → Some a ≡ Some b → a ≡ b
+same_some a b e = cc
+
 module _ (settings : Settings) (lists : Lists)
     (sessions : (events : List Event) (event : Event) → SessionsStep (run_after settings lists events) event)
     (mounts : (events : List Event) (event : Event) → SeatsKeepTheirMounts (run_after settings lists events) event) where
@@ -92,19 +95,13 @@ module _ (settings : Settings) (lists : Lists)
         (subst (λ (m : ℕ). HasBegun (server_at past) mount m shown begun) number b) (ap (λ (x : Session). x.shown) (sym it))
     by_step old new (Grows was block e) before after session same =
         let it : _ ≡ session = same_some _ session same in
-        still_fed past h mount was session (ap (λ (x : Session). x.number) (sym it)) (ap (λ (x : Session). x.shown) (sym it)) (fed mount was before) where
-          same_some : (a b : Session) → Some a ≡ Some b → a ≡ b
-          same_some a b e = cc
+        still_fed past h mount was session (ap (λ (x : Session). x.number) (sym it)) (ap (λ (x : Session). x.shown) (sym it)) (fed mount was before)
     by_step old new (IsTitled was text e) before after session same =
         let it : _ ≡ session = same_some _ session same in
-        still_fed past h mount was session (ap (λ (x : Session). x.number) (sym it)) (ap (λ (x : Session). x.shown) (sym it)) (fed mount was before) where
-          same_some : (a b : Session) → Some a ≡ Some b → a ≡ b
-          same_some a b e = cc
+        still_fed past h mount was session (ap (λ (x : Session). x.number) (sym it)) (ap (λ (x : Session). x.shown) (sym it)) (fed mount was before)
     by_step old new (IsRetitled was text e) before after session same =
         let it : _ ≡ session = same_some _ session same in
-        still_fed past h mount was session (ap (λ (x : Session). x.number) (sym it)) (ap (λ (x : Session). x.shown) (sym it)) (fed mount was before) where
-          same_some : (a b : Session) → Some a ≡ Some b → a ≡ b
-          same_some a b e = cc
+        still_fed past h mount was session (ap (λ (x : Session). x.number) (sym it)) (ap (λ (x : Session). x.shown) (sym it)) (fed mount was before)
     by_step old new (Ends was e) before after session same = cc
     by_step old new (IsKilled was e) before after session same = cc
 

@@ -35,15 +35,16 @@ use Rattle.radio_floor.specs.declared.labelled.Connection.TheVariants.{Client, R
 use Rattle.radio_floor.specs.ScriptState.{ScriptState, connection_of}
 use Rattle.radio_headline.specs.Course.{Happening, events_in, on}
 use Rattle.radio_headline.specs.Sources.{DeliversItsSound, RelaysDeliverTheirSound, brought, pushed}
+use Rattle.radio_headline.proofs.Gathered.{IsOnIt}
 use Rattle.radio_headline.proofs.Logs.{Entry, entry, log_on, log_joined, Each, each_as, each_joined, itself}
 use Rattle.radio_headline.proofs.RelayWords.{IsCut, IsNoUp, OfRelay, OwnRelay, number_stays}
 use Rattle.radio_headline.proofs.RunLemmas.{AllNowhere, IsMoment, HasNumber, IsIdling, Reached, given_here, reached_after, reached_all, reached_opening}
 use Rattle.radio_headline.proofs.Connections.{AsksForMount, AsksNothing, AtAnswer, ByGet, Facts, Feeds, HasAskedNothing, HasSentGet}
 use Rattle.radio_headline.proofs.Connections.{InAnswer, IsBehindRequest, IsClient, IsIdleOrLeaving, IsNoRequest, IsPulling, IsSo, IsSource, Pulls, RelayStage, events_of}
 use Rattle.radio_headline.proofs.ClientEvents.{behind_is_his, idle_asks_nothing}
-use Rattle.radio_headline.proofs.CourseLemmas.{brought_joined}
+use Rattle.radio_headline.proofs.Standing.{brought_joined}
 use Rattle.radio_headline.proofs.ListenerLemmas.{on_his}
-use Rattle.radio_headline.proofs.GetLogs.{IsOnIt, no_entry}
+use Rattle.radio_headline.proofs.GetLogs.{no_entry}
 use Rattle.radio_headline.proofs.PullParts.{more_pulled}
 use Rattle.radio_headline.proofs.SourceLemmas.{Front, IsHisOrNotesNothing, brings_front, delivered_gathered, no_block, noted}
 use Rattle.radio_headline.proofs.Partings.{none_there}
@@ -131,7 +132,7 @@ module _ (bytes : List ℕ) (log : List Entry) (given : List ℕ) (before behind
   of_facts : Facts bytes log given → Pulls bytes log
   of_facts (HasAskedNothing h) = never (none_asked log h)
   of_facts (HasSentGet g) = never (get_not bytes log given g)
-  of_facts (IsSource f) = never (source_not bytes log f)
+  of_facts (IsSource f told) = never (source_not bytes log f)
   of_facts (IsPulling p) = p
 
   of_stage : (pulling : Pulling) → RelayStage bytes log pulling → Pulls bytes log

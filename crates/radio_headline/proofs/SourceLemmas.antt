@@ -23,13 +23,13 @@ use Rattle.radio_core.specs.Totals.{AddsUp}
 use Rattle.radio_house.specs.World.{World, standing_of}
 use Rattle.radio_headline.specs.Course.{Happening, events_in, on}
 use Rattle.radio_headline.specs.Sources.{pushed, pushed_by}
-use Rattle.radio_headline.proofs.Logs.{Entry, entry, log_on, Each, itself}
+use Rattle.radio_headline.proofs.Logs.{Entry, entry, log_on, Each}
 use Rattle.radio_headline.proofs.AppliedLemmas.{IsLast, IsLeaving, IsOrderly}
 use Rattle.radio_headline.proofs.ReplyForms.{noted_block, brings_noted, PushReply, PushIsStray, PushIsLast, PushIsDenied, PushIsNoted, push_reply, feeds_push}
 use Rattle.radio_headline.proofs.RelayWords.{IsCut, IsGoing, IsRefusal}
 use Rattle.radio_headline.proofs.RunLemmas.{HasNumber, Reached, last_stays, given_here, reached_after, steps_at}
 use Rattle.radio_headline.proofs.Connections.{IsBehindRequest, IsNoRequest, events_of}
-use Rattle.radio_headline.proofs.GetLogs.{IsOnIt, counts_as}
+use Rattle.radio_headline.proofs.Gathered.{IsOnIt, brought_to, gathered}
 
 -- the blocks that were noted
 abbrev pub noted_of : Entry → List ℕ
@@ -62,27 +62,12 @@ IsHisOrNotesNothing id e = (client_in e.event ≡ Some id) ⊎ NotesNothing e
 
 pub delivered_gathered : (w : World) (past : List Happening) (label id : ℕ) → AllByRecursion (IsOnIt label id) past
     → Each (IsHisOrNotesNothing id) (log_on w past label) → delivered w (events_in past) id ≡ noted (log_on w past label)
-delivered_gathered w [] label id on his = refl
-delivered_gathered w (h ∷ past) label id on his =
-    ap (λ (xs : List ℕ). (if is_number id (client_in h.event) then xs else []) ++ delivered (world_after w h.event) (events_in past) id) (brings_noted w h.event)
-    ∙ by_tests (delivered_gathered (world_after w h.event) past label id on.1) (is_number label h.label) refl (is_number id (client_in h.event)) refl his where
-      by_tests : (Each (IsHisOrNotesNothing id) (log_on (world_after w h.event) past label)
-          → delivered (world_after w h.event) (events_in past) id ≡ noted (log_on (world_after w h.event) past label))
-          → (b : Bool) → is_number label h.label ≡ b → (c : Bool) → is_number id (client_in h.event) ≡ c
-          → Each (IsHisOrNotesNothing id) ((if b then entry w h.event ∷ [] else []) ++ log_on (world_after w h.event) past label)
-          → (if c then noted_block (reply_to w h.event) h.event else []) ++ delivered (world_after w h.event) (events_in past) id
-          ≡ noted ((if b then entry w h.event ∷ [] else []) ++ log_on (world_after w h.event) past label)
-      by_tests ih true e true f k = ap (λ (xs : List ℕ). noted_block (reply_to w h.event) h.event ++ xs) (ih k.1)
-      by_tests ih true e false f k =
-          ih k.1 ∙ ap (λ (xs : List ℕ). xs ++ noted (log_on (world_after w h.event) past label)) (sym (none k.0)) where
-            none : IsHisOrNotesNothing id (entry w h.event) → noted_block (reply_to w h.event) h.event ≡ []
-            none (inl mine) =
-                let yes : is_number id (client_in h.event) ≡ true = ap (is_number id) mine ∙ itself id in
-                let no : true ≡ false = sym yes ∙ f in
-                cc
-            none (inr d) = d
-      by_tests ih false e true f k = let no : true ≡ false = sym (on.0 (counts_as id h.event f)) ∙ e in cc
-      by_tests ih false e false f k = ih k
+delivered_gathered w past label id on his = in_order w past ∙ gathered noted_of w past label id on his where
+  in_order : (x : World) (hs : List Happening) → delivered x (events_in hs) id ≡ brought_to noted_of x hs id
+  in_order x [] = refl
+  in_order x (h ∷ hs) =
+      ap (λ (xs : List ℕ). (if is_number id (client_in h.event) then xs else []) ++ delivered (world_after x h.event) (events_in hs) id) (brings_noted x h.event)
+      ∙ ap (λ (xs : List ℕ). (if is_number id (client_in h.event) then noted_of (entry x h.event) else []) ++ xs) (in_order (world_after x h.event) hs)
 
 -- he feeds no mount
 abbrev FeedsNothing : Standing → Type 0

@@ -7,11 +7,12 @@ use Rattle.radio_access.specs.Lists.{Lists}
 use Rattle.radio_policy.specs.declared.rule.Rule.{Rule}
 use Rattle.radio_policy.specs.Verdicts.{Denies}
 use Rattle.radio_events.specs.declared.event.Event.{Event}
-use Rattle.radio_events.specs.declared.event.Event.TheVariants.{Listen, Command}
+use Rattle.radio_events.specs.declared.event.Event.TheVariants.{Source, Listen, Command}
 use Rattle.radio_events.specs.declared.command.CommandRequest.{CommandRequest}
 use Rattle.radio_events.specs.declared.event.ListenRequest.{ListenRequest}
+use Rattle.radio_events.specs.declared.event.SourceRequest.{SourceRequest}
 use Rattle.radio_events.specs.declared.reply.Reply.{Reply}
-use Rattle.radio_events.specs.declared.reply.Reply.TheVariants.{Seated, Text, Deny, Finished}
+use Rattle.radio_events.specs.declared.reply.Reply.TheVariants.{Feeding, Seated, Text, Deny, Finished}
 use Rattle.radio_events.specs.declared.reply.StreamHead.{StreamHead}
 use Rattle.radio_events.specs.declared.text.Text.{Text as ShownText}
 use Rattle.radio_icy.specs.Weaving.{Call}
@@ -31,8 +32,9 @@ use Rattle.radio_laws.specs.Shown.{OnlyWhoMayIsShown}
 use Rattle.radio_laws.specs.Stretches.{AreStretches, SeatsKeepTheirMounts, Sitting, sittings}
 use Rattle.radio_laws.specs.TitlesTold.{TitlesAreTold}
 use Rattle.radio_laws.specs.WalkingOn.{ListenersWalkOn}
+use Rattle.radio_session.specs.Bodies.{PlainBodiesAreHeard, SizedBodiesAreHeard, ChunkedBodiesAreHeard, FaultyBodiesAreHeard}
 use Rattle.radio_session.specs.Draws.{interval_told, joined_draws}
-use Rattle.radio_session.specs.Saying.{denial, head_text, text_answer}
+use Rattle.radio_session.specs.Saying.{denial, greeting_text, head_text, text_answer}
 use Rattle.radio_session.specs.Told.{draws_of, taken_out}
 use Rattle.radio_script.specs.declared.delivery.Delivery.{Delivery}
 use Rattle.radio_script.specs.Given.{TranscriptLine, AreLines, given, written}
@@ -100,7 +102,24 @@ module _ (settings : Settings) (lists : Lists) (deliveries : List Delivery) (cou
         → Denies (rows_for (server_after past) (Command asked)) rule × (given lines label ≡ denial rule)
     pub told : (text : ShownText) → reply_to (server_after past) (Command asked) ≡ Text text → given lines label ≡ text_answer text
 
+  -- one who asks to feed a mount so: that is how the bytes are heard that have come; where the policy denies it, it reads the first rule that held then,
+  -- and nothing else; where it is admitted, it reads that first, or that it may go on, where it had asked for that (RFC 9110, section 10.1.1)
+  pub record SourceIsAnswered (lines : List TranscriptLine) (label : ℕ) (asked : SourceRequest) (past : List Happening) : Type 0 where
+    pub behind : List Event
+    pub is_request : IsRequest (brought deliveries label) asked.id (Source asked) behind
+    pub denied : (rule : Rule) → reply_to (server_after past) (Source asked) ≡ Deny rule
+        → Denies (rows_for (server_after past) (Source asked)) rule × (given lines label ≡ denial rule)
+    pub feeds : reply_to (server_after past) (Source asked) ≡ Feeding
+        → (later : List ℕ) × (given lines label ≡ greeting_text is_request.heard.conversation.says.greeting ++ later)
+    -- it was finished before it had asked
+    pub too_late : (rule : Rule) → reply_to (server_after past) (Source asked) ≡ Finished rule → given lines label ≡ []
+
   -- each who does
+  abbrev pub SourcesAreAnswered : List TranscriptLine → Type 0
+  SourcesAreAnswered lines = (label : ℕ) (asked : SourceRequest) (past later : List Happening) → course ≡ past ++ on label (Source asked) ∷ later
+      → SourceIsAnswered lines label asked past
+
+  -- each who gives a command
   abbrev pub CommandsAreAnswered : List TranscriptLine → Type 0
   CommandsAreAnswered lines = (label : ℕ) (asked : CommandRequest) (past later : List Happening) → course ≡ past ++ on label (Command asked) ∷ later
       → CommandIsAnswered lines label asked past
@@ -132,6 +151,14 @@ pub record IsLawful (settings : Settings) (lists : Lists) (events : List Event) 
   pub commanded : OnlyWhoMayCommands (run_after settings lists events) event
   pub kept : CommandsAreKept (run_after settings lists events) event
 
+-- What the data of a source's body are (RFC 9112, section 6), and nothing that frames them: all of a plain one, so many bytes of a sized one, those of
+-- the chunks of a chunked one; and one with a byte that no chunked body has there ends by that fault.
+pub record BodiesAreHeard : Type 0 where
+  pub plain : PlainBodiesAreHeard
+  pub sized : SizedBodiesAreHeard
+  pub chunked : ChunkedBodiesAreHeard
+  pub faulty : FaultyBodiesAreHeard
+
 -- A script comes to its transcript by a course of lawful events. Its sources deliver a front of the data of their bodies, and its relays of the
 -- sound that they pull in; and each who asks to hear a mount is given slices of these, or reads why not.
 pub record HearsSlices (settings : Settings) (lists : Lists) (deliveries : List Delivery) (text : List ℕ) (stop : Option ℕ) : Type 0 where
@@ -144,6 +171,8 @@ pub record HearsSlices (settings : Settings) (lists : Lists) (deliveries : List 
   pub listeners : ListenersAreGiven settings lists deliveries course lines
   pub commands : CommandsAreAnswered settings lists deliveries course lines
   pub sources : SourcesDeliverTheirBodies settings lists deliveries course
+  pub bodies : BodiesAreHeard
+  pub answers : SourcesAreAnswered settings lists deliveries course lines
   pub relays : RelaysDeliverTheirSound settings lists deliveries course
 
 abbrev pub ListenersHearSlices : Type 0

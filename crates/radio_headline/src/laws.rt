@@ -21,7 +21,7 @@ use radio_laws::{
 };
 use radio_policy::denials_name_the_first_rule;
 use radio_script::transcripts_are_read_one_way;
-use radio_session::listeners_are_told_what_they_draw;
+use radio_session::{bodies_are_heard_as_their_data, listeners_are_told_what_they_draw};
 use radio_source::laws::pieces_are_joined;
 
 /// The draws of a listener.
@@ -66,6 +66,7 @@ pub fn listeners_hear_slices()
     ensures { ListenersHearSlices }
 {
     blocks_are_the_data();
+    bodies_are_heard_as_their_data();
     cut_streams();
     heads_lie_within();
     settled();

@@ -232,7 +232,6 @@ module _ (w : World) (s : IsSound w) (event : Event) where
         (is_live_still mount fallback (changed w (Obey c.asked.id (SetFallback mount fallback)))
         (is_set w.house.fallbacks mount mount fallback ((bytes_eq-Decides mount mount).1 refl))),
   )
-
   has_done (AddUser mount user password) c = (
     have_changed w s event c mount (Adds user password c) (with_user_at w.house.lists mount user password) (later_so w event c) (told_so w event c),
     after w event c (λ later. HasPassword later mount user password)

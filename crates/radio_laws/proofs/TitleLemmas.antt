@@ -126,8 +126,8 @@ module _ (w : World) (s : IsSound w) (told : ℕ → List (List ℕ)) (h : Told 
   commands_nothing event (KillClient mount listener) c id not = sets_no_title event (KillClient mount listener) c id refl
   commands_nothing event (KillSource mount) c id not = sets_no_title event (KillSource mount) c id refl
   commands_nothing event (SetFallback mount fallback) c id not = sets_no_title event (SetFallback mount fallback) c id refl
-  commands_nothing event (AddUser mount user password) c id not = sets_no_title event (AddUser mount user password) c id refl
-  commands_nothing event (DeleteUser mount user) c id not = sets_no_title event (DeleteUser mount user) c id refl
+  commands_nothing event (AddUser mount user password) c id not = nothing_of event id [] refl
+  commands_nothing event (DeleteUser mount user) c id not = nothing_of event id [] refl
   commands_nothing event (CommandsTitle mount text) c id not =
       let there = title_live w s event mount text c in
       title_of_command event mount text c there.0 id there.1 false
@@ -275,8 +275,8 @@ module _ (w : World) (s : IsSound w) (told : ℕ → List (List ℕ)) (h : Told 
   command_title event (KillSource mount) c = λ other session e.
       none_set event (KillSource mount) c (λ id. refl) other session (still_live (session_of w.house.live mount) c.asked.id other session e)
   command_title event (SetFallback mount fallback) c = none_set event (SetFallback mount fallback) c (λ id. refl)
-  command_title event (AddUser mount user password) c = none_set event (AddUser mount user password) c (λ id. refl)
-  command_title event (DeleteUser mount user) c = none_set event (DeleteUser mount user) c (λ id. refl)
+  command_title event (AddUser mount user password) c = as_it_was event
+  command_title event (DeleteUser mount user) c = as_it_was event
   command_title event (CommandsTitle mount text) c = command_sets event mount text c
 
   abbrev has_last : Event → Session → Type 0

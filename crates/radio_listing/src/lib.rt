@@ -17,8 +17,6 @@ mod object;
 mod public_listings;
 mod reached;
 mod rows;
-#[cfg(test)]
-mod tests;
 mod text;
 
 pub use admin_listings::{list_mounts, stats};

@@ -1,4 +1,5 @@
 pub mod CalendarLemmas
+pub mod RunLemmas
 pub mod ShownLemmas
 pub mod WordLemmas
 pub mod LineLemmas

@@ -3,11 +3,15 @@ ghost use Rattle.std.specs.Prelude.{◌≡◌, ◌++◌, codes, decimal, IfOk, O
 ghost use Rattle.radio_addr.specs.Writing.{written};
 ghost use Rattle.radio_log.specs.Lines.{spaced, word};
 
-use crate::shown::push_shown;
+use crate::shown::{push_count, push_shown};
 use crate::{OutOfMemory, Text};
 use radio_addr::Peer;
 use std::alloc::Global;
+use std::fmt::Write;
 use std::marker::Model;
+
+/// How many bytes an address has at most: eight groups of IPv6, with colons between them.
+const LONGEST_ADDRESS: usize = 39;
 
 /// A line in the making. In contracts it is its bytes.
 #[derive(Drop)]
@@ -50,14 +54,23 @@ impl Fields {
         self.bytes.extend_from_slice(kind.as_bytes())
     }
 
+    /// Adds the name of a field, behind a space, and `=`.
+    #[inline(always)]
+    fn put_name(&mut self, name: &str) -> Result<(), OutOfMemory>
+        ensures { OnOk result (self.new ≡ self.old ++ codes " " ++ name.now ++ codes "=") }
+    {
+        self.bytes.push(b' ')?;
+        self.bytes.extend_from_slice(name.as_bytes())?;
+        self.bytes.push(b'=')?;
+        Ok(())
+    }
+
     /// Adds a field whose value is these bytes.
     #[tactic(auto, unfolding(crate::specs::Lines::spaced, crate::specs::Lines::word))]
     fn put(&mut self, name: &str, value: &[u8]) -> Result<(), OutOfMemory>
         ensures { OnOk result (self.new ≡ self.old ++ spaced (word (name.now, value.now))) }
     {
-        self.bytes.push(b' ')?;
-        self.bytes.extend_from_slice(name.as_bytes())?;
-        self.bytes.push(b'=')?;
+        self.put_name(name)?;
         push_shown(&mut self.bytes, value)
     }
 
@@ -69,18 +82,20 @@ impl Fields {
     }
 
     /// Adds a number.
+    #[tactic(auto, unfolding(crate::specs::Lines::spaced, crate::specs::Lines::word))]
     pub(crate) fn put_count(&mut self, name: &str, number: u64) -> Result<(), OutOfMemory>
         ensures { OnOk result (self.new ≡ self.old ++ spaced (word (name.now, decimal number))) }
     {
-        let digits = number.to_string(self.alloc)?;
-        self.put(name, digits.as_bytes())
+        self.put_name(name)?;
+        push_count(&mut self.bytes, number)
     }
 
     /// Adds an address.
     pub(crate) fn put_peer(&mut self, name: &str, peer: Peer) -> Result<(), OutOfMemory>
         ensures { OnOk result (self.new ≡ self.old ++ spaced (word (name.now, written peer))) }
     {
-        let address = peer.to_string(self.alloc)?;
+        let mut address = String::with_capacity(self.alloc, LONGEST_ADDRESS)?;
+        write!(address, "{peer}")?;
         self.put(name, address.as_bytes())
     }
 }

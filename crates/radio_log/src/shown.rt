@@ -1,29 +1,38 @@
 //! How the bytes of a value stand in a line.
-ghost use Rattle.std.specs.Prelude.{◌≡◌, ◌++◌, OnOk};
-ghost use Rattle.radio_log.specs.Shown.{is_plain, shown, shown_byte};
+ghost use Rattle.std.specs.Prelude.{◌≡◌, ◌++◌, OnOk, decimal, not, position};
+ghost use Rattle.radio_log.specs.Shown.{is_plain, shown};
 
 use crate::OutOfMemory;
+use itoa::Buffer;
 use percent_encoding::percent_encode_byte;
 
 /// Adds the bytes of a value: those that stand for themselves, and `%` with two digits for each other.
-#[tactic(auto, unfolding(crate::specs::Shown::shown))]
 pub(crate) fn push_shown(line: &mut Vec<u8>, value: &[u8]) -> Result<(), OutOfMemory>
     ensures { OnOk result (line.new.items ≡ line.old.items ++ shown value.now) }
 {
-    for byte in value {
-        push_byte(line, *byte)?;
+    let mut rest = value;
+    'runs: while let Some(at) = first_encoded(rest) {
+        line.extend_from_slice(&rest[..at])?;
+        line.extend_from_slice(percent_encode_byte(rest[at]).as_bytes())?;
+        rest = &rest[at + 1..];
     }
-    Ok(())
+    line.extend_from_slice(rest)
 }
 
-fn push_byte(line: &mut Vec<u8>, byte: u8) -> Result<(), OutOfMemory>
-    ensures { OnOk result (line.new.items ≡ line.old.items ++ shown_byte byte) }
+/// Adds a number. Its digits stand for themselves.
+#[tactic(auto, using(crate::proofs::RunLemmas::count_shown))]
+pub(crate) fn push_count(line: &mut Vec<u8>, number: u64) -> Result<(), OutOfMemory>
+    ensures { OnOk result (line.new.items ≡ line.old.items ++ shown (decimal number)) }
 {
-    if is_plain(byte) {
-        line.push(byte)?;
-        return Ok(());
-    }
-    line.extend_from_slice(percent_encode_byte(byte).as_bytes())
+    let mut digits = Buffer::new();
+    line.extend_from_slice(digits.format(number).as_bytes())
+}
+
+/// Where the first byte is that does not stand for itself.
+fn first_encoded(value: &[u8]) -> Option<usize>
+    ensures { result ≡ position (λ b. not (is_plain b)) value.now }
+{
+    value.iter().position(|byte| !is_plain(*byte))
 }
 
 /// Whether a byte stands for itself.

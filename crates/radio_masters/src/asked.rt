@@ -5,8 +5,7 @@ ghost use Rattle.std.specs.Prelude.{◌≡◌, IfOk};
 use crate::OutOfMemory;
 use crate::relay_log::{RelayEnd, RelayLog};
 use radio_events::{Event, Reply};
-use radio_hall::Server;
-use radio_session::Applies;
+use radio_session::Server;
 use radio_settings::RelaySetting;
 use std::alloc::Global;
 use std::marker::Model;
@@ -60,8 +59,10 @@ impl<S: Server + Drop> Asked<S> {
     }
 }
 
-impl<S: Server + Drop> Applies for Asked<S> {
+impl<S: Server + Drop> Server for Asked<S> {
     ghost steps = { S.steps };
+
+    ghost refuses = { S.refuses };
 
     fn apply(&mut self, event: Event) -> Result<Reply, OutOfMemory> {
         let saying = self.log.saying(&event);

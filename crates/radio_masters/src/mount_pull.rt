@@ -11,7 +11,7 @@ use crate::asking::Asking;
 use radio_hall::{Line, Received};
 use radio_pull::{RelayPull, ask, close, take};
 use radio_relay::request_text;
-use radio_session::{Applies, Ending, State};
+use radio_session::{Server, Ending, State};
 use radio_settings::RelaySetting;
 use std::alloc::Global;
 use std::marker::Model;
@@ -78,7 +78,7 @@ impl<L: Line> MountPull<L> {
 
     /// Writes once what the line takes of the request, and reads once into the buffer. What came is pulled in; where
     /// nothing has come, the server is asked whether the relay goes on.
-    pub fn turn<S: Applies>(&mut self, server: &mut S, buffer: &mut [u8]) -> PullTurn
+    pub fn turn<S: Server>(&mut self, server: &mut S, buffer: &mut [u8]) -> PullTurn
         ensures { IsTurn S.steps self.old server.old result self.new server.new }
     {
         if !self.asking.write(&mut self.line) {
@@ -93,7 +93,7 @@ impl<L: Line> MountPull<L> {
     }
 
     /// The relay goes down, if it is up. `OutOfMemory` where memory was refused for that.
-    pub fn close<S: Applies>(&self, server: &mut S) -> Result<(), OutOfMemory>
+    pub fn close<S: Server>(&self, server: &mut S) -> Result<(), OutOfMemory>
         ensures { OnOk result (GoesDown S.steps self.now.relay.number server.old server.new) }
     {
         close(server, &self.relay)
@@ -101,7 +101,7 @@ impl<L: Line> MountPull<L> {
 }
 
 /// The next bytes of the master's answer, if there are some.
-fn hear<S: Applies>(server: &mut S, relay: &mut RelayPull, bytes: &[u8]) -> PullTurn
+fn hear<S: Server>(server: &mut S, relay: &mut RelayPull, bytes: &[u8]) -> PullTurn
     ensures comes { Comes S.steps relay.old bytes.now server.old result relay.new server.new }
     ensures goes { GoesOnHere result }
 {
@@ -111,7 +111,7 @@ fn hear<S: Applies>(server: &mut S, relay: &mut RelayPull, bytes: &[u8]) -> Pull
     hear_some(server, relay, bytes)
 }
 
-fn hear_some<S: Applies>(server: &mut S, relay: &mut RelayPull, bytes: &[u8]) -> PullTurn
+fn hear_some<S: Server>(server: &mut S, relay: &mut RelayPull, bytes: &[u8]) -> PullTurn
     requires { 0 < length bytes.now }
     ensures comes { Comes S.steps relay.old bytes.now server.old result relay.new server.new }
     ensures goes { GoesOnHere result }
@@ -123,7 +123,7 @@ fn hear_some<S: Applies>(server: &mut S, relay: &mut RelayPull, bytes: &[u8]) ->
 }
 
 /// A draw without room, which tells whether the relay has finished.
-fn probe<S: Applies>(server: &mut S, relay: &mut RelayPull) -> PullTurn
+fn probe<S: Server>(server: &mut S, relay: &mut RelayPull) -> PullTurn
     ensures comes { Comes S.steps relay.old [] server.old result relay.new server.new }
     ensures goes { GoesOnHere result }
 {

@@ -11,7 +11,7 @@ use crate::OutOfMemory;
 use crate::relay_pull::RelayPull;
 use radio_events::Event;
 use radio_relay::{PullFault, PullItem};
-use radio_session::{Applies, Ending, State};
+use radio_session::{Server, Ending, State};
 use std::alloc::AllocError;
 
 /// The next bytes of the master's answer come: what they bring is applied, one event after another.
@@ -19,7 +19,7 @@ use std::alloc::AllocError;
 ///
 /// `OutOfMemory`: memory was refused; nothing is said of the server then, and the pull is to be
 /// closed.
-pub fn take<S: Applies>(
+pub fn take<S: Server>(
     server: &mut S,
     relay: &mut RelayPull,
     bytes: &[u8],
@@ -34,7 +34,7 @@ pub fn take<S: Applies>(
 
 /// The answer has this fault: the pull is shut. `OutOfMemory` where it is want of memory, or more of
 /// it was wanted.
-fn give_up<S: Applies>(
+fn give_up<S: Server>(
     server: &mut S,
     relay: &RelayPull,
     fault: PullFault,
@@ -52,7 +52,7 @@ fn give_up<S: Applies>(
 }
 
 /// What the items ask for is applied, one after another, until the pull is shut.
-fn bring<S: Applies>(
+fn bring<S: Server>(
     server: &mut S,
     relay: &mut RelayPull,
     items: Vec<PullItem>,
@@ -77,7 +77,7 @@ fn bring<S: Applies>(
 ///
 /// `OutOfMemory`: memory was refused; nothing is said of the server then, and the pull is to be
 /// closed.
-pub fn ask<S: Applies>(
+pub fn ask<S: Server>(
     server: &mut S,
     relay: &mut RelayPull,
     event: Option<Event>,
@@ -93,7 +93,7 @@ pub fn ask<S: Applies>(
 }
 
 /// One event of the relay is applied.
-fn ask_for<S: Applies>(
+fn ask_for<S: Server>(
     server: &mut S,
     relay: &mut RelayPull,
     event: Event,
@@ -113,7 +113,7 @@ fn ask_for<S: Applies>(
 
 /// The connection to the master is closed: the relay goes down, if it is up. `OutOfMemory` where
 /// whoever applies it is refused memory.
-pub fn close<S: Applies>(server: &mut S, relay: &RelayPull) -> Result<(), OutOfMemory>
+pub fn close<S: Server>(server: &mut S, relay: &RelayPull) -> Result<(), OutOfMemory>
     ensures { OnOk result (GoesDown S.steps relay.now.number server.old server.new) }
 {
     if let Some(id) = relay.number() {

@@ -3,8 +3,7 @@
 //!
 //! - [`RelayPull`]: how far the answer has come, and the number of the relay once it is up.
 //! - [`take`]: the next bytes of the answer; [`ask`]: another event of the relay; [`close`]: the
-//!   connection is closed. Their events are applied by whoever [`Applies`](radio_session::Applies)
-//!   them.
+//!   connection is closed. Their events are applied by a [`Server`](radio_session::Server).
 //! - Laws, which run no code: [`cores_pull_as_their_states`], [`pulling_is_one`].
 #![tactic(auto)]
 

@@ -17,8 +17,6 @@ mod pull;
 mod request;
 mod stream;
 mod stream_list;
-#[cfg(test)]
-mod tests;
 
 pub use answer::MAX_INTERVAL;
 pub use fault::PullFault;

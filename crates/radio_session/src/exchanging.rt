@@ -6,34 +6,11 @@ ghost use Rattle.radio_session.specs.Saying.{said};
 ghost use Rattle.radio_session.specs.Exchanges.{Exchange, Exchanges, LeavesAfter, is_leave};
 ghost use Rattle.radio_session.specs.Conversation.{saying_now};
 
-use crate::OutOfMemory;
+use crate::server::Server;
 use crate::session::Session;
 use crate::state::State;
-use radio_core::Core;
+use crate::OutOfMemory;
 use radio_events::{Event, Reply};
-
-/// Who applies the events of connections: a core, or whoever has one.
-pub trait Applies {
-    ghost use Rattle.radio_session.specs.Exchanges.{Steps};
-
-    // from one state the event is answered by the reply, and leaves the other state
-    ghost steps: { Steps Self };
-
-    /// Applies an event. `OutOfMemory` where memory was refused; nothing is said of the state then.
-    fn apply(&mut self, event: Event) -> Result<Reply, OutOfMemory>
-        ensures { IfOk result (λ reply. steps self.old event reply self.new) };
-}
-
-impl Applies for Core {
-    ghost use Rattle.radio_session.specs.Exchanges.{core_steps};
-
-    ghost steps = { core_steps };
-
-    fn apply(&mut self, event: Event) -> Result<Reply, OutOfMemory> {
-        self.stands();
-        self.step(event)
-    }
-}
 
 /// Applies the events of the connection's client, one after another, and tells each reply behind the
 /// bytes of `out`. Where the connection ends, the others are not applied, and the client leaves. It
@@ -41,7 +18,7 @@ impl Applies for Core {
 ///
 /// `OutOfMemory`: memory was refused; nothing is said of the server then, and the connection is to
 /// be shut.
-pub fn exchange<S: Applies>(
+pub fn exchange<S: Server>(
     server: &mut S,
     session: &mut Session,
     events: Vec<Event>,
@@ -63,7 +40,7 @@ pub fn exchange<S: Applies>(
 
 /// Applies one event of the connection's client, and tells the reply. It answers whether the
 /// connection goes on.
-fn answer<S: Applies>(
+fn answer<S: Server>(
     server: &mut S,
     session: &mut Session,
     event: Event,
@@ -78,7 +55,7 @@ fn answer<S: Applies>(
 }
 
 /// The client leaves, unless that is what he has just done.
-fn leave_after<S: Applies>(server: &mut S, id: u64, has_left: bool) -> Result<(), OutOfMemory>
+fn leave_after<S: Server>(server: &mut S, id: u64, has_left: bool) -> Result<(), OutOfMemory>
     ensures { IfOk result (λ _. LeavesAfter S.steps id has_left server.old server.new) }
 {
     if !has_left {

@@ -13,7 +13,7 @@ ghost use Rattle.radio_session.specs.Told.{DrawsFollowTheHead, PlainDrawsAreThei
 ghost use Rattle.radio_session.specs.SentTitles.{TitlesAreSentInTime, NoTitleIsRepeated};
 ghost use Rattle.radio_session.specs.Laws.{HearingIsOne, CoresExchangeAsTheirStates, CoresGoByData, HearingFailsNothing, TellingFailsNothing};
 
-use crate::exchanging::Applies;
+use crate::server::Server;
 use radio_blocks::laws::blocks_are_the_data;
 use radio_core::{cores_go_by_their_states, sources_are_told_by_their_data};
 use radio_heads::{heads_lie_within, readings_agree, settled};
@@ -62,7 +62,7 @@ pub fn cuts_do_not_matter()
 /// What is told on a connection, and how it is shut, do not depend on how the bytes are cut into
 /// pieces that come on it, where the server goes by a source's data and not by how they are cut into
 /// blocks. Nothing else happens between the pieces, and none is taken once the connection is shut.
-pub fn cuts_are_told_alike<S: Applies>()
+pub fn cuts_are_told_alike<S: Server>()
     // in two cuttings of the same bytes
     ensures alike { CutsAreToldAlike S.steps }
     // in pieces, and in one

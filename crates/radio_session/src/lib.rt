@@ -4,7 +4,7 @@
 //! - [`Session`]: the connection. [`Session::take`] is given what comes, and answers the events that
 //!   it means; [`Session::give`] is given the reply to each, and tells it.
 //! - [`State`], [`Ending`]: whether the connection goes on, and the word by which it ends.
-//! - [`exchange`]: the events of a connection, applied one after another by whoever [`Applies`]
+//! - [`exchange`]: the events of a connection, applied one after another by whoever [`Server`]
 //!   them, each reply told, up to the end of the connection.
 //! - Laws, which run no code: [`bodies_are_heard_as_their_data`], [`cuts_do_not_matter`],
 //!   [`cuts_are_told_alike`], [`hearing_is_one`], [`cores_exchange_as_their_states`],
@@ -14,15 +14,17 @@
 
 mod exchanging;
 mod laws;
+mod server;
 mod session;
 mod state;
 
-pub use exchanging::{Applies, exchange};
+pub use exchanging::exchange;
 pub use laws::{
     bodies_are_heard_as_their_data, cores_exchange_as_their_states, cores_go_by_data,
     cuts_are_told_alike, cuts_do_not_matter, hearing_is_one, last_words_name_the_rule,
     listeners_are_told_what_they_draw, only_refused_calls_fail, who_waits_is_told_to_go_on,
 };
+pub use server::Server;
 pub use session::Session;
 pub use state::{Ending, State};
 

@@ -1,4 +1,2 @@
 pub mod Faults
 pub mod Accepting
-pub mod Serving
-pub mod Streams

@@ -4,13 +4,14 @@ ghost use Rattle.std.specs.Prelude.{◌≡◌};
 
 use crate::ServeFault;
 use crate::accepts::Accepts;
-use crate::board::Board;
 use crate::doors::{Coming, Doors};
 use crate::entrance::next_of;
-use crate::outlet::Outlet;
-use crate::served::ServedTime;
-use crate::sockets::moment;
+use mio::Waker;
+use radio_board::{Board, LogOutput, Outlet, ServedTime};
 use radio_intake::{Intake, IntakePass, ROOM};
+use radio_lines::moment;
+use std::alloc::Global;
+use std::io;
 use std::io::Write;
 use std::sync::Wait;
 use std::time::Clock;
@@ -37,8 +38,9 @@ pub(crate) struct Acceptor<O: Write + Drop> {
 }
 
 impl<O: Write + Drop> Acceptor<O> {
-    /// One who has accepted nothing yet. It takes no memory.
-    pub(crate) fn new(doors: Doors, outlet: Outlet<O>) -> Acceptor<O> {
+    /// One who has accepted nothing yet, and writes to this output. It takes no memory.
+    pub(crate) fn new(alloc: Global, doors: Doors, output: LogOutput<O>) -> Acceptor<O> {
+        let outlet = Outlet::new(alloc, doors.registry(), output);
         Acceptor {
             doors,
             outlet,
@@ -46,6 +48,11 @@ impl<O: Write + Drop> Acceptor<O> {
             time: ServedTime::new(0),
             next: 0,
         }
+    }
+
+    /// What ends his waits from another thread.
+    pub(crate) fn waker(&self) -> io::Result<Waker> {
+        self.doors.waker()
     }
 
     /// Accepts and writes until all are to stop, or a fault; then all stop.

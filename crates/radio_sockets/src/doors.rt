@@ -2,11 +2,11 @@
 
 use crate::address::{address_of, peer_at};
 use crate::entrance::{Accepted, Entrance};
-use crate::outlet::OUTLET;
 use crate::{BindFault, OutOfMemory, ServeFault};
 use mio::net::{TcpListener, TcpStream};
 use mio::{Events, Interest, Poll, Registry, Token, Waker};
 use radio_addr::Peer;
+use radio_board::OUTLET;
 use std::alloc::Global;
 use std::io;
 use std::io::ErrorKind;

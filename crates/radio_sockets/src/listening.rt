@@ -4,19 +4,17 @@ ghost use Rattle.std.specs.Prelude.{◌≡◌, ◌+◌, ◌≤◌};
 ghost use Rattle.radio_intake.specs.Passes.{all_parts};
 
 use crate::acceptor::Acceptor;
-use crate::board::Board;
 use crate::doors::{Coming, Doors};
-use crate::outlet::{LogOutput, Outlet};
 use crate::post::SocketPost;
-use crate::reach::Reach;
-use crate::relays::{has_relays, keep_relays};
 use crate::seats::{open_desks, seats_of};
-use crate::sockets::Sockets;
-use crate::{BindFault, ServeFault, SocketLine};
+use crate::{BindFault, ServeFault};
 use mio::net::TcpStream;
+use radio_board::{Board, Limits, LogOutput, Outlet};
 use radio_book::{Chronicle, House};
 use radio_hall::{Hall, OpenGate};
 use radio_intake::{Intake, IntakePass};
+use radio_lines::{Reach, SocketLine, Sockets};
+use radio_pullers::{has_relays, keep_relays};
 use radio_settings::Settings;
 use radio_workers::{Workplace, run_workers};
 use std::alloc::Global;
@@ -92,10 +90,9 @@ impl Listening {
         O: Write + Drop + Send,
     {
         let Listening { alloc, doors } = self;
-        let outlet = Outlet::new(alloc, doors.registry(), output);
-        match open_board(net, alloc, &doors, service) {
+        let mut acceptor = Acceptor::new(alloc, doors, output);
+        match open_board(net, alloc, &acceptor, service) {
             Ok((board, sockets)) => {
-                let mut acceptor = Acceptor::new(doors, outlet);
                 let station = Station {
                     net,
                     hall,
@@ -103,41 +100,28 @@ impl Listening {
                     service,
                     board: &board,
                 };
-                let fault = serve_at(rt, &station, sockets, &mut acceptor);
-                drop(station);
-                acceptor.write_rest(rt, &board);
-                drop(acceptor);
-                drop(board);
-                fault
+                serve_at(rt, &station, sockets, &mut acceptor)
             }
-            Err(fault) => {
-                drop(outlet);
-                drop(doors);
-                fault
-            }
+            Err(fault) => fault,
         }
     }
 }
 
 /// What the workers and the acceptor tell each other by, and the sockets of the workers.
-fn open_board<N: Reach>(
+fn open_board<N: Reach, O: Write + Drop>(
     net: &N,
     alloc: Global,
-    doors: &Doors,
+    acceptor: &Acceptor<O>,
     service: Service,
 ) -> Result<(Board, Vec<Sockets>), ServeFault> {
-    let Ok(waker) = doors.waker() else {
-        return Err(ServeFault::Accept);
+    let (sockets, desks) = open_desks(net, alloc, service.workers)?;
+    let limits = Limits {
+        most_lingering: service.most_lingering,
+        queue_size: service.queue_size,
     };
-    match open_desks(net, alloc, service.workers) {
-        Ok((sockets, desks)) => {
-            let board = Board::new(alloc, desks, waker, service);
-            Ok((board, sockets))
-        }
-        Err(fault) => {
-            drop(waker);
-            Err(fault)
-        }
+    match acceptor.waker() {
+        Ok(waker) => Ok((Board::new(alloc, desks, waker, limits), sockets)),
+        Err(_) => Err(ServeFault::Accept),
     }
 }
 
@@ -151,7 +135,7 @@ struct Station<'a, N: Reach, C: Chronicle, H: House> {
     board: &'a Board,
 }
 
-/// Serves connections by workers with these sockets, whom this acceptor hands them.
+/// Serves connections by workers with these sockets, whom this acceptor hands them, and writes the rest of the log.
 fn serve_at<R, N, C, H, O>(
     rt: &R,
     station: &Station<'_, N, C, H>,
@@ -165,25 +149,44 @@ where
     H: House + Send + Sync,
     O: Write + Drop + Send,
 {
-    let board = station.board;
-    let Ok((intake, mut pass)) = Intake::new(board.alloc()) else {
-        drop(sockets);
-        return ServeFault::OutOfMemory;
+    let fault = match Intake::new(station.board.alloc()) {
+        Ok((intake, mut pass)) => {
+            serve_from(rt, station, &intake, &mut pass, &mut sockets, acceptor)
+        }
+        Err(_) => ServeFault::OutOfMemory,
     };
-    let mut hand = intake.split(&mut pass);
+    acceptor.write_rest(rt, station.board);
+    fault
+}
+
+/// The acceptor puts connections into this intake, and workers with these sockets take them out, until all stop.
+fn serve_from<R, N, C, H, O>(
+    rt: &R,
+    station: &Station<'_, N, C, H>,
+    intake: &Intake<Coming>,
+    pass: &mut IntakePass<Coming>,
+    sockets: &mut Vec<Sockets>,
+    acceptor: &mut Acceptor<O>,
+) -> ServeFault
+where
+    R: Clock + Threads + Wait + Sync,
+    N: Reach + Sync,
+    C: Chronicle + Send + Sync,
+    H: House + Send + Sync,
+    O: Write + Drop + Send,
+    requires own { pass.old.intake ≡ intake.now }
+    requires parts { all_parts ≤ pass.old.parts }
+{
+    let mut hand = intake.split(pass);
     let (fault, are_seated) = join_mut(
         rt,
         &mut || -> ServeFault
-            requires { hand.intake ≡ intake }
-        { acceptor.work(rt, board, &intake, &mut hand) },
+            requires { hand.intake ≡ intake.now }
+        { acceptor.work(rt, station.board, intake, &mut hand) },
         &mut || -> bool
-            requires { (pass.intake ≡ intake) × (all_parts ≤ pass.parts + 1) }
-        { work_beside_relays(rt, station, &intake, &mut pass, &mut sockets) },
+            requires { (pass.now.intake ≡ intake.now) × (all_parts ≤ pass.now.parts + 1) }
+        { work_beside_relays(rt, station, intake, pass, sockets) },
     );
-    drop(sockets);
-    drop(pass);
-    drop(hand);
-    drop(intake);
     if are_seated {
         fault
     } else {

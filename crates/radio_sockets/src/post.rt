@@ -1,14 +1,11 @@
 //! Where a worker's turns come from: his sockets, and what the others tell him.
 
-use crate::SocketLine;
-use crate::board::Board;
-use crate::desk::Desk;
 use crate::doors::Coming;
-use crate::served::ServedTime;
-use crate::sockets::{Heard, Sockets, moment};
 use mio::net::TcpStream;
 use radio_addr::Peer;
+use radio_board::{Board, Desk, ServedTime};
 use radio_hall::Turn;
+use radio_lines::{Heard, SocketLine, Sockets, moment};
 use radio_notes::Log;
 use radio_workers::{Call, Post, Seen};
 use std::sync::Wait;
@@ -144,15 +141,8 @@ impl<'a, R: Clock + Wait> SocketPost<'a, R> {
 
     /// How long the next turn waits at most: not at all where there is something to do.
     fn wait_ms(&self) -> u64 {
-        let activity = self.sockets.activity();
-        let was_held = activity.take_held();
-        if activity.take_more() || self.has_more {
-            0
-        } else if was_held {
-            1
-        } else {
-            WAIT_MS
-        }
+        let wait_ms = self.sockets.activity().wait_ms(WAIT_MS);
+        if self.has_more { 0 } else { wait_ms }
     }
 
     /// It is this moment by the clock. All that had come when it was heard before was read.

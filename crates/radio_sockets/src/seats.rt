@@ -3,16 +3,14 @@
 ghost use Rattle.std.specs.Prelude.{◌≡◌, ◌+◌, ◌≤◌, All, IfOk};
 ghost use Rattle.radio_intake.specs.Passes.{all_parts};
 
-use crate::board::Board;
-use crate::desk::Desk;
 use crate::doors::Coming;
 use crate::post::SocketPost;
-use crate::reach::Reach;
-use crate::sockets::Sockets;
 use crate::{OutOfMemory, ServeFault};
+use radio_board::{Board, Desk};
 use radio_book::{Chronicle, House};
 use radio_hall::Hall;
 use radio_intake::{Intake, IntakePass};
+use radio_lines::{Reach, Sockets};
 use radio_workers::{Seat, add_seat};
 use std::alloc::Global;
 use std::sync::Wait;
@@ -70,15 +68,21 @@ pub(crate) fn seats_of<'a, R: Clock + Wait, C: Chronicle, H: House>(
 {
     let mut seats = Vec::new(board.alloc());
     'seats: for taken in 0..MOST_WORKERS {
-        let Some(own) = sockets.pop() else {
+        let Some(post) = next_post(rt, board, sockets) else {
             break;
         };
-        let Some(desk) = board.desk(sockets.len()) else {
-            drop(own);
-            break;
-        };
-        let post = SocketPost::new(rt, board, desk, own);
         add_seat(&mut seats, intake, pass, hall.pass(rt), post)?;
     }
     Ok(seats)
+}
+
+/// The post of the worker with the last of these sockets, if there are any.
+fn next_post<'a, R: Clock + Wait>(
+    rt: &'a R,
+    board: &'a Board,
+    sockets: &mut Vec<Sockets>,
+) -> Option<SocketPost<'a, R>> {
+    let own = sockets.pop()?;
+    let desk = board.desk(sockets.len())?;
+    Some(SocketPost::new(rt, board, desk, own))
 }

@@ -31,13 +31,37 @@ pub(crate) fn work<R: Wait, C: Chronicle, H: House, T: Drop, L: Line, P: Post<T,
     requires own { seat.old.hand.intake ≡ place.now.intake.now }
     ensures taken { HasTakenMore seat.old.hand seat.new.hand }
 {
-    let Some(pass) = seat.pass.take() else {
-        return;
-    };
-    let server = Caller::new(rt, place.hall, pass);
-    let mut shift: Shift<Caller<'_, R, C, H>, L> = Shift::new(alloc, server, place.patience_s);
-    shift.make_turns(rt, place, &mut seat.post, &mut seat.hand);
-    seat.pass = Some(shift.end().into_pass());
+    if let Some(pass) = seat.pass.take() {
+        let server = Caller::new(rt, place.hall, pass);
+        let server = work_as(rt, alloc, place, &mut seat.post, &mut seat.hand, server);
+        seat.pass = Some(server.into_pass());
+    }
+}
+
+/// The same as this server's worker, who answers the server.
+fn work_as<R, S, C, H, T, L, P, G>(
+    rt: &R,
+    alloc: Global,
+    place: &Workplace<'_, C, H, T, G>,
+    post: &mut P,
+    hand: &mut IntakePass<T>,
+    server: S,
+) -> S
+where
+    R: Wait,
+    S: Server + Drop,
+    C: Chronicle,
+    H: House,
+    T: Drop,
+    L: Line,
+    P: Post<T, L>,
+    G: Gate,
+    requires own { hand.old.intake ≡ place.now.intake.now }
+    ensures taken { HasTakenMore hand.old hand.new }
+{
+    let mut shift: Shift<S, L> = Shift::new(alloc, server, place.patience_s);
+    shift.make_turns(rt, place, post, hand);
+    shift.end()
 }
 
 impl<S: Server + Drop, L: Line> Shift<S, L> {
@@ -63,12 +87,30 @@ impl<S: Server + Drop, L: Line> Shift<S, L> {
         ensures taken { HasTakenMore hand.old hand.new }
     {
         'turns: for _ in 0..place.turns {
-            let Some(call) = post.next(self.worker.log()) else {
+            if !self.goes_on(rt, place, post, hand) {
                 return;
-            };
-            self.take_in(rt, place.intake, post, hand, call);
-            self.make_turn(place.gate, post, call);
+            }
         }
+    }
+
+    /// The next turn, unless the post tells him to stop. Whether it does not.
+    #[tactic(auto, using(crate::proofs::Takings::taken_none))]
+    fn goes_on<R: Wait, C: Chronicle, H: House, T: Drop, P: Post<T, L>, G: Gate>(
+        &mut self,
+        rt: &R,
+        place: &Workplace<'_, C, H, T, G>,
+        post: &mut P,
+        hand: &mut IntakePass<T>,
+    ) -> bool
+        requires own { hand.old.intake ≡ place.now.intake.now }
+        ensures taken { HasTakenMore hand.old hand.new }
+    {
+        let Some(call) = post.next(self.worker.log()) else {
+            return false;
+        };
+        self.take_in(rt, place.intake, post, hand, call);
+        self.make_turn(place.gate, post, call);
+        true
     }
 
     /// Takes in of those who wait as many as he is called to.

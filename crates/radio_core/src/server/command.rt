@@ -22,8 +22,14 @@ impl State {
     {
         match self.standing(asked.id) {
             Standing::Undecided(_) => self.judged(asked),
-            Standing::Finished(rule) => Ok(Outcome::finished(rule)),
-            _ => Ok(Outcome::stray()),
+            Standing::Finished(rule) => {
+                drop(asked);
+                Ok(Outcome::finished(rule))
+            }
+            _ => {
+                drop(asked);
+                Ok(Outcome::stray())
+            }
         }
     }
 
@@ -36,7 +42,11 @@ impl State {
             .house
             .command_facts(&self.seats, &asked.asked, asked.pair.as_ref());
         match judge(&Action::Command(facts)) {
-            Verdict::Deny(rule) => Ok(Outcome::refused(rule, asked.id)),
+            Verdict::Deny(rule) => {
+                let id = asked.id;
+                drop(asked);
+                Ok(Outcome::refused(rule, id))
+            }
             Verdict::Allow => self.allowed(asked),
         }
     }

@@ -5,10 +5,12 @@ ghost use Rattle.radio_core.specs.Changes.{changed, done, session_killed, TakesN
 ghost use Rattle.radio_core.specs.Counts.{counted, counts_by};
 ghost use Rattle.radio_parts.specs.Sessions.{session_of};
 ghost use Rattle.radio_core.specs.declared.outcome.Change.{Change};
+ghost use Rattle.radio_events.specs.declared.command.Command.{Command as CommandOf};
 
 use super::commit::NOBODY;
 use super::state::State;
 use crate::OutOfMemory;
+use bytes::Bytes;
 use radio_events::Command;
 use radio_fallback::{Carried, Move};
 use radio_house::ClientState;
@@ -33,16 +35,30 @@ impl State {
                 mount,
                 user,
                 password,
-            } => {
-                let counts = self.add_user(&mount, user.as_slice(), password.as_slice())?;
-                self.house.set_state(id, ClientState::Answered);
-                Ok(counts)
-            }
+            } => self.obey_user(id, mount, user, password),
             command => {
                 self.house.set_state(id, ClientState::Answered);
                 Ok(self.do_in_place(command))
             }
         }
+    }
+
+    /// A user of the mount is set, and the client who gave the command has had his answer; how many are
+    /// finished. `OutOfMemory` where memory was refused; nothing has changed then.
+    fn obey_user(
+        &mut self,
+        id: u64,
+        mount: MountName,
+        user: Bytes,
+        password: Bytes,
+    ) -> Result<Carried, OutOfMemory>
+        ensures ok { OnOk result (self.new ≡ changed self.old (Change.Obey id (CommandOf.AddUser mount user password))) }
+        ensures counts { IfOk result (λ counts. counts ≡ counted self.old (Change.Obey id (CommandOf.AddUser mount user password))) }
+        ensures err { OnErr result (self.new ≡ self.old) }
+    {
+        let counts = self.add_user(&mount, user.as_slice(), password.as_slice())?;
+        self.house.set_state(id, ClientState::Answered);
+        Ok(counts)
     }
 
     /// A command is done that takes no memory; how many it has moved or finished.
@@ -66,8 +82,15 @@ impl State {
                 self.set_title(&mount, title);
                 NOBODY
             }
-            Command::DeleteUser { mount, user } => self.delete_user(&mount, user.as_slice()),
-            Command::SetFallback { .. } | Command::AddUser { .. } => NOBODY,
+            Command::DeleteUser { mount, user } => {
+                let counts = self.delete_user(&mount, user.as_slice());
+                drop(user);
+                counts
+            }
+            other => {
+                drop(other);
+                NOBODY
+            }
         }
     }
 

@@ -1,7 +1,7 @@
 use Rattle.std.proofs.Common.{[], sym, ◌∙◌}
 use Rattle.radio_floor.specs.ScriptState.{opening_script}
 use Rattle.radio_headline.specs.Course.{events_in}
-use Rattle.radio_headline.proofs.BodyLemmas.{delivers_body, listens_so}
+use Rattle.radio_headline.proofs.BodyLemmas.{delivers_body, listens_so, source_answered}
 use Rattle.radio_headline.proofs.RunOfCourses.{comes, nothing_stands}
 use Rattle.radio_headline.proofs.HeadlineLemmas.{shown_by_source, sit_with_sources}
 use Rattle.radio_headline.proofs.ListenerLemmas.{answered_by, given_by}
@@ -63,5 +63,14 @@ returns c settings lists deliveries text stop transcript =
           (shown_by_source settings lists sessions mounts deliveries came.course bodies sounds stands.nowhere)
           (sit_with_sources settings lists sessions mounts deliveries came.course bodies sounds stands.nowhere) label asked past later parts;
       sources = bodies;
+      bodies = record {
+        plain = c.bodies_are_heard_as_their_data.ensures.plain;
+        sized = c.bodies_are_heard_as_their_data.ensures.sized;
+        chunked = c.bodies_are_heard_as_their_data.ensures.chunked;
+        faulty = c.bodies_are_heard_as_their_data.ensures.faulty;
+      };
+      answers = λ label asked past later parts.
+          source_answered settled within joined places found settings lists fits adds steps deliveries came.performed came.rest came.parts transcript.0
+          came.course came.told stands.each stands.nowhere label asked past later parts denied;
       relays = sounds;
     }

@@ -1,6 +1,10 @@
-use Rattle.std.proofs.Common.{◌≡◌, ◌++◌, take}
+use Rattle.std.proofs.Common.{◌≡◌, ◌++◌, length}
 use Rattle.radio_log.specs.Shown.{shown}
 use Rattle.radio_log.proofs.shown.push_shown.Given as goal
 
-abbrev pub invariant-loop-byte : goal.invariant-loop-byte
-invariant-loop-byte l = l.line.items ≡ l.initial.line.items ++ shown (take l.byte-index l.value)
+-- what is added, and what is left to be shown, are the value
+abbrev pub invariant-runs : goal.invariant-runs
+invariant-runs l = l.line.items ++ shown l.rest ≡ l.initial.line.items ++ shown l.value
+
+abbrev pub decreases-runs : goal.decreases-runs
+decreases-runs l = length l.rest

@@ -9,7 +9,7 @@ returns-in-None g c =
     let number = c.args.relay.now.number in
     let server = c.args.server.now in (
       going_on number,
-      subst (λ (e : Option Event). AsksIf g.S.Applies.steps number e server (going_on number) server) (sym c.in-None.is) (refl, refl),
+      subst (λ (e : Option Event). AsksIf g.S.Server.steps number e server (going_on number) server) (sym c.in-None.is) (refl, refl),
       refl,
       refl,
     )

@@ -9,7 +9,7 @@ use Rattle.radio_pull.proofs.conversing.bring.Goals as goal
 
 pub returns-in_default : goal.returns-in_default
 returns-in_default g c =
-    let steps = g.S.Applies.steps in
+    let steps = g.S.Server.steps in
     let inv = c.loop-item.invariant in
     let start = c.args.relay.now in
     let before = c.loop-item.relay in
@@ -27,7 +27,7 @@ returns-in_default g c =
 
 pub returns : goal.returns
 returns g c =
-    let steps = g.S.Applies.steps in
+    let steps = g.S.Server.steps in
     let inv = c.loop-item.invariant in
     let start = c.args.relay.now in
     let before = c.loop-item.relay in

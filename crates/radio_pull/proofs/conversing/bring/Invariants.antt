@@ -9,6 +9,6 @@ abbrev pub invariant-loop-item : goal.invariant-loop-item
 invariant-loop-item g l = record {
   same : l.relay ≡ record l.initial.relay { number = l.relay.number };
   all : (after : Standing) (to : g.row.S.Denot)
-      → Brings g.S.Applies.steps l.initial.relay.mount l.relay.number (into_iter_items l.item-iterator) l.server after to
-      → Brings g.S.Applies.steps l.initial.relay.mount l.initial.relay.number l.fn.items.items l.initial.server after to;
+      → Brings g.S.Server.steps l.initial.relay.mount l.relay.number (into_iter_items l.item-iterator) l.server after to
+      → Brings g.S.Server.steps l.initial.relay.mount l.initial.relay.number l.fn.items.items l.initial.server after to;
 }

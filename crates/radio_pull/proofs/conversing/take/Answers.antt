@@ -11,7 +11,7 @@ use Rattle.radio_pull.proofs.conversing.take.Goals as goal
 
 pub returns-in-Err : goal.returns-in-Err
 returns-in-Err g c =
-    let steps = g.S.Applies.steps in
+    let steps = g.S.Server.steps in
     let fault = c.in-Err.fault in
     let inside = c.relay.inside in
     let bytes = c.args.bytes.now in

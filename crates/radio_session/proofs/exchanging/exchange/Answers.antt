@@ -20,7 +20,7 @@ loop-event-init g c = record {
   out = sym (append-nil c.args.out.now.items);
   same = refl;
   all = λ x to e.
-      subst (λ (events : List Event). Exchanges g.S.Applies.steps c.args.session.now.id c.args.session.now.says events c.args.server.now x to)
+      subst (λ (events : List Event). Exchanges g.S.Server.steps c.args.session.now.id c.args.session.now.says events c.args.server.now x to)
       c.into_iter-event-iterator.ensures.into_iter_gives.0 e;
 }
 
@@ -39,12 +39,12 @@ loop-event-preserved g c =
       out = a.2.0 ∙ ap (λ (xs : List ℕ). xs ++ told.bytes) inv.out ∙ append_assoc c.args.out.now.items inv.so_far told.bytes;
       same = now ∙ ap (λ (s : Says). record start { says = s }) (sym says);
       all = λ x to e.
-          let others = subst (λ (s : Says). Exchanges g.S.Applies.steps start.id s rest c.answer.new.server x to) says e in
-          let here = one_on g.S.Applies.steps start.id before.says c.in-Some.event rest c.loop-event.server c.answer.new.server to a.0 a.1 x
+          let others = subst (λ (s : Says). Exchanges g.S.Server.steps start.id s rest c.answer.new.server x to) says e in
+          let here = one_on g.S.Server.steps start.id before.says c.in-Some.event rest c.loop-event.server c.answer.new.server to a.0 a.1 x
           (sym a.2.1 ∙ c.in_default.is) others in
-          let left = subst (λ (events : List Event). Exchanges g.S.Applies.steps start.id before.says events c.loop-event.server
+          let left = subst (λ (events : List Event). Exchanges g.S.Server.steps start.id before.says events c.loop-event.server
           (prefixed told.bytes x) to) (sym c.in-Some.ensures.steps.0) here in
-          subst (λ (y : Exchange). Exchanges g.S.Applies.steps start.id start.says c.args.events.items c.args.server.now y to)
+          subst (λ (y : Exchange). Exchanges g.S.Server.steps start.id start.says c.args.events.items c.args.server.now y to)
           (prefix_twice inv.so_far told.bytes x) (inv.all (prefixed told.bytes x) to left);
     }
 
@@ -60,11 +60,11 @@ returns-in-Shut g c =
     let to = c.leave_after.new.server in
     let now : c.answer.new.session ≡ record start { says = told.says } = says_on start before c.answer.new.session told.says inv.same a.2.2 in
     let id : c.id.result ≡ start.id = c.id.ensures ∙ ap (λ (x : Conversation). x.id) now in
-    let leaves = subst (λ (b : Bool). LeavesAfter g.S.Applies.steps start.id b c.answer.new.server to) c.is_leave-leaves.ensures
-    (subst (λ (n : ℕ). LeavesAfter g.S.Applies.steps n c.is_leave-leaves.result c.answer.new.server to) id c.in_ok-leave_after.ensures) in
-    let here = one_last g.S.Applies.steps start.id before.says c.in-Some.event rest c.loop-event.server c.answer.new.server to a.0 a.1 ending
+    let leaves = subst (λ (b : Bool). LeavesAfter g.S.Server.steps start.id b c.answer.new.server to) c.is_leave-leaves.ensures
+    (subst (λ (n : ℕ). LeavesAfter g.S.Server.steps n c.is_leave-leaves.result c.answer.new.server to) id c.in_ok-leave_after.ensures) in
+    let here = one_last g.S.Server.steps start.id before.says c.in-Some.event rest c.loop-event.server c.answer.new.server to a.0 a.1 ending
     (sym a.2.1 ∙ c.in-Shut.is) leaves in
-    let left = subst (λ (events : List Event). Exchanges g.S.Applies.steps start.id before.says events c.loop-event.server
+    let left = subst (λ (events : List Event). Exchanges g.S.Server.steps start.id before.says events c.loop-event.server
     (ended_with told ending) to) (sym c.in-Some.ensures.steps.0) here in (
       prefixed inv.so_far (ended_with told ending),
       inv.all (ended_with told ending) to left,
@@ -81,7 +81,7 @@ returns g c =
     let server = c.loop-event.server in
     let none : into_iter_items c.loop-event.event-iterator ≡ [] = nil_from_length (into_iter_items c.loop-event.event-iterator)
     (omega (arith, c.loop-event.event-iterator.rest.ok.0, c.in-None.ensures.steps.0)) in
-    let left = subst (λ (events : List Event). Exchanges g.S.Applies.steps start.id before.says events server (nothing_exchanged before.says) server)
+    let left = subst (λ (events : List Event). Exchanges g.S.Server.steps start.id before.says events server (nothing_exchanged before.says) server)
     (sym none) (refl, refl) in (
       prefixed inv.so_far (nothing_exchanged before.says),
       inv.all (nothing_exchanged before.says) server left,

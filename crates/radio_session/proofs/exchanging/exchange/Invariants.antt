@@ -9,6 +9,6 @@ invariant-loop-event g l = record {
   so_far : List ℕ;
   out : l.out.items ≡ l.initial.out.items ++ so_far;
   same : l.session ≡ record l.initial.session { says = l.session.says };
-  all : (x : Exchange) (to : g.row.S.Denot) → Exchanges g.S.Applies.steps l.initial.session.id l.session.says (into_iter_items l.event-iterator) l.server x to
-      → Exchanges g.S.Applies.steps l.initial.session.id l.initial.session.says l.fn.events.items l.initial.server (prefixed so_far x) to;
+  all : (x : Exchange) (to : g.row.S.Denot) → Exchanges g.S.Server.steps l.initial.session.id l.session.says (into_iter_items l.event-iterator) l.server x to
+      → Exchanges g.S.Server.steps l.initial.session.id l.initial.session.says l.fn.events.items l.initial.server (prefixed so_far x) to;
 }

@@ -23,7 +23,7 @@ returns-in-Bytes g c =
       calls = g.L.Line.calls c.read.new.self;
     } in
     let written = c.write.ensures.written in
-    turn_heard g.S.Applies.steps c.args.self.now before after bytes c.args.server.now c.hear.new.server c.hear.result c.self.view_is
+    turn_heard g.S.Server.steps c.args.self.now before after bytes c.args.server.now c.hear.new.server c.hear.result c.self.view_is
     (record { part = written.part; front = written.front; took = c.read.ensures.taken ∙ written.took })
     (c.in-Bytes.ensures.given.1 ∙ ap (λ (xs : List ℕ). xs ++ bytes) c.write.ensures.given) c.hear.ensures.comes
     (called_on c.hear.result before.calls after.calls c.hear.ensures.goes

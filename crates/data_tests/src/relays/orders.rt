@@ -1,0 +1,130 @@
+//! Lists of streams, and what is started and stopped.
+
+use super::*;
+use radio_relay::{RelayOrder, plan, read_stream_list};
+use radio_settings::{MountName, RelaySetting};
+use std::collections::BTreeSet;
+
+/// A slave of a station with a mount and two relays.
+const STATION: &str = "source-password = 'a'
+admin-password = 'b'
+[[mount]]
+mount-name = '/b'
+[[relay]]
+server = 's'
+mount = '/far'
+local-mount = '/r'
+[[relay]]
+server = 's'
+mount = '/c'
+[slave]
+master-server = 'm'
+master-port = 81
+master-password = 'pw'
+";
+
+/// A list of streams, what relays feed, and what is ordered: `+` starts a relay and `-` stops one.
+const PLANS: &[(&[u8], &[u8], &[u8])] = &[
+    (b"/a\r\n/b\n/a\nx\n", b"/c\n/r", b"+/a=m:/a "),
+    (b"", b"/a\n/c\n/r", b"-/a "),
+    (b"/z\n/r\n/c\n", b"", b"+/c=s:/c +/r=s:/far +/z=m:/z "),
+    (
+        b"/z\r\n/a\r",
+        b"/b\n/z",
+        b"+/a=m:/a -/b +/c=s:/c +/r=s:/far ",
+    ),
+    (b"\n\r\n /a\n/a b\n/admin/x\n", b"/c\n/r", b"+/a b=m:/a b "),
+];
+
+fn tell_order(order: &RelayOrder, told: &mut Vec<u8>) -> Result<(), OutOfMemory> {
+    match order {
+        RelayOrder::Start(relay) => tell_start(relay, told),
+        RelayOrder::Stop(mount) => tell_parts(&[b"-", mount.as_bytes(), b" "], told),
+    }
+}
+
+fn tell_start(relay: &RelaySetting, told: &mut Vec<u8>) -> Result<(), OutOfMemory> {
+    let (local, far) = (relay.local_mount.as_bytes(), relay.mount.as_bytes());
+    let server = relay.master.server.as_bytes();
+    tell_parts(&[b"+", local, b"=", server, b":", far, b" "], told)
+}
+
+fn tell_orders(orders: &[RelayOrder], told: &mut Vec<u8>) -> Result<(), OutOfMemory> {
+    for order in orders {
+        tell_order(order, told)?;
+    }
+    Ok(())
+}
+
+/// The names in a text, one on each line.
+fn names(alloc: Global, text: &[u8]) -> Result<Vec<MountName>, OutOfMemory> {
+    let mut names = Vec::new(alloc);
+    for line in text.split(|b| *b == b'\n') {
+        if let Some(name) = MountName::read(line) {
+            names.push(name)?;
+        }
+    }
+    Ok(names)
+}
+
+/// Whether these orders are told so.
+fn are_told(alloc: Global, orders: &[RelayOrder], want: &[u8]) -> Result<bool, OutOfMemory> {
+    let mut told = Vec::new(alloc);
+    tell_orders(orders, &mut told)?;
+    Ok(told.as_slice() == want)
+}
+
+/// Whether that is ordered for this list and these names of what relays feed.
+fn is_ordered(
+    alloc: Global,
+    station: &Settings,
+    list: &BTreeSet<MountName>,
+    live: &[MountName],
+    want: &[u8],
+) -> Result<bool, OutOfMemory> {
+    let orders = plan(alloc, station, list, live, &[])?;
+    are_told(alloc, orders.as_slice(), want)
+}
+
+fn is_ordered_for(
+    alloc: Global,
+    station: &Settings,
+    list: &BTreeSet<MountName>,
+    live: &[u8],
+    want: &[u8],
+) -> Result<bool, OutOfMemory> {
+    let live = names(alloc, live)?;
+    is_ordered(alloc, station, list, live.as_slice(), want)
+}
+
+fn is_planned(
+    alloc: Global,
+    station: &Settings,
+    row: (&[u8], &[u8]),
+    want: &[u8],
+) -> Result<bool, OutOfMemory> {
+    let list = read_stream_list(alloc, row.0)?;
+    is_ordered_for(alloc, station, &list, row.1, want)
+}
+
+fn all_planned(alloc: Global, station: &Settings) -> Result<bool, OutOfMemory> {
+    for (list, live, want) in PLANS {
+        if !is_planned(alloc, station, (list, live), want)? {
+            return Ok(false);
+        }
+    }
+    Ok(true)
+}
+
+fn are_planned(alloc: Global) -> Result<bool, OutOfMemory> {
+    let station = settings(alloc, STATION)?;
+    let planned = all_planned(alloc, &station);
+    drop(station);
+    planned
+}
+
+#[test]
+fn plans(rt: HostRuntime) -> Result<(), OutOfMemory> {
+    assert!(rt; are_planned(rt.alloc())?);
+    Ok(())
+}

@@ -1,0 +1,277 @@
+//! What the workers and the acceptor tell each other.
+
+use crate::desk::Desk;
+use crate::lines::Lines;
+use crate::pace::{pace_of, slow_from};
+use mio::Waker;
+use radio_lines::Pace;
+use std::alloc::Global;
+use std::sync::atomic::{AtomicBool, AtomicU64, Ordering};
+use std::sync::{Mutex, Wait};
+
+/// How often it is tried to raise the moment; where another raises it at the same time, it is tried again.
+const TRIES: usize = 16;
+
+/// What a station's service bounds.
+#[derive(Clone, Copy)]
+pub struct Limits {
+    /// How many connections may linger, of all workers together.
+    pub most_lingering: usize,
+    /// How many bytes of a stream are kept at least.
+    pub queue_size: u64,
+}
+
+/// What the workers and the acceptor tell each other. It is shared by reference.
+#[derive(Drop)]
+pub struct Board {
+    alloc: Global,
+    desks: Vec<Desk>,
+    acceptor: Waker,
+    /// Whether the acceptor has begun.
+    has_acceptor: AtomicBool,
+    /// Whether the acceptor waits, or is about to.
+    acceptor_sleeps: AtomicBool,
+    /// Up to which moment every worker has read his sockets, in milliseconds.
+    moment_ms: AtomicU64,
+    /// How many bytes have come from sources.
+    received: AtomicU64,
+    /// Whether all are to stop.
+    is_over: AtomicBool,
+    /// Whether a connection was closed.
+    has_closed: AtomicBool,
+    /// Whether the acceptor waits for that.
+    wants_closing: AtomicBool,
+    /// How many connections may linger, of all workers together.
+    most_lingering: usize,
+    /// How many bytes a worker's listeners have still to draw where sources are read slowly.
+    slow_from: u64,
+    /// Whether lines of the log wait.
+    has_lines: AtomicBool,
+    lines: Mutex<Lines>,
+}
+
+impl Board {
+    /// Of these workers, and the acceptor with this waker. It takes no memory.
+    pub fn new(alloc: Global, desks: Vec<Desk>, acceptor: Waker, limits: Limits) -> Board {
+        Board {
+            alloc,
+            desks,
+            acceptor,
+            has_acceptor: AtomicBool::new(false),
+            acceptor_sleeps: AtomicBool::new(false),
+            moment_ms: AtomicU64::new(0),
+            received: AtomicU64::new(0),
+            is_over: AtomicBool::new(false),
+            has_closed: AtomicBool::new(false),
+            wants_closing: AtomicBool::new(false),
+            most_lingering: limits.most_lingering,
+            slow_from: slow_from(limits.queue_size),
+            has_lines: AtomicBool::new(false),
+            lines: Mutex::new(Lines::new(alloc)),
+        }
+    }
+
+    /// Where memory comes from.
+    pub fn alloc(&self) -> Global {
+        self.alloc
+    }
+
+    /// The desk of this worker.
+    pub fn desk(&self, number: usize) -> Option<&Desk> {
+        self.desks.get(number)
+    }
+
+    /// Up to which moment each of those who have begun has read his sockets. It never goes back.
+    pub fn moment(&self) -> u64 {
+        let mut least = u64::MAX;
+        for desk in &self.desks {
+            if desk.works() {
+                least = least.min(desk.read_ms());
+            }
+        }
+        if least == u64::MAX {
+            self.told_ms()
+        } else {
+            self.raise(least)
+        }
+    }
+
+    /// The latest moment that was told.
+    pub fn told_ms(&self) -> u64 {
+        self.moment_ms.load(Ordering::SeqCst)
+    }
+
+    /// The moment is this one, unless it is later already. The moment then.
+    fn raise(&self, ms: u64) -> u64 {
+        for _ in 0..TRIES {
+            let now = self.told_ms();
+            if now >= ms {
+                return now;
+            }
+            let raised = self
+                .moment_ms
+                .compare_exchange(now, ms, Ordering::SeqCst, Ordering::SeqCst);
+            if raised.is_ok() {
+                return ms;
+            }
+        }
+        self.told_ms()
+    }
+
+    /// Listeners may have news, whoever serves them.
+    pub fn tell_news(&self) {
+        for desk in &self.desks {
+            desk.tell_news();
+        }
+    }
+
+    /// So many bytes have come from a worker's sources.
+    pub fn note_received(&self, count: u64) {
+        if count > 0 {
+            self.received.fetch_add(count, Ordering::SeqCst);
+        }
+    }
+
+    /// How many bytes have come from sources.
+    pub fn received(&self) -> u64 {
+        self.received.load(Ordering::SeqCst)
+    }
+
+    /// How fast sources are read, by what the listeners of each worker have still to draw.
+    pub fn pace(&self) -> Pace {
+        let received = self.received();
+        let mut most = 0u64;
+        for desk in &self.desks {
+            most = most.max(desk.behind(received));
+        }
+        pace_of(most, self.slow_from)
+    }
+
+    /// How many of this worker's connections may linger, where so many do.
+    pub fn most_lingering(&self, desk: &Desk, count: usize) -> usize {
+        desk.set_lingering(count);
+        let mut all = 0usize;
+        for each in &self.desks {
+            all = all.saturating_add(each.lingering());
+        }
+        let over = all.saturating_sub(self.most_lingering);
+        let most = count.saturating_sub(over);
+        desk.set_lingering(most);
+        most
+    }
+
+    /// For which worker the next connection is: of those who have begun one who has the fewest, the first from this number on.
+    pub fn next_desk(&self, from: usize) -> Option<usize> {
+        let count = self.desks.len();
+        let mut best = None;
+        let mut fewest = usize::MAX;
+        for step in 0..count {
+            let number = (from % count.max(1)).saturating_add(step) % count.max(1);
+            if let Some(load) = self.load_of(number) {
+                if load < fewest {
+                    fewest = load;
+                    best = Some(number);
+                }
+            }
+        }
+        best
+    }
+
+    /// How many connections were accepted that no worker has taken yet.
+    pub fn comings(&self) -> usize {
+        let mut all = 0usize;
+        for desk in &self.desks {
+            all = all.saturating_add(desk.comings());
+        }
+        all
+    }
+
+    /// How many connections this worker has, if he has begun.
+    fn load_of(&self, number: usize) -> Option<usize> {
+        let desk = self.desks.get(number)?;
+        if desk.works() {
+            Some(desk.load())
+        } else {
+            None
+        }
+    }
+
+    /// All stop.
+    pub fn stop(&self) {
+        self.is_over.store(true, Ordering::SeqCst);
+        for desk in &self.desks {
+            desk.wake();
+        }
+        self.wake_acceptor();
+    }
+
+    /// Whether all are to stop.
+    pub fn is_over(&self) -> bool {
+        self.is_over.load(Ordering::SeqCst)
+    }
+
+    /// A connection was closed.
+    pub fn note_closed(&self) {
+        self.has_closed.store(true, Ordering::SeqCst);
+        if self.wants_closing.load(Ordering::SeqCst) {
+            self.wake_acceptor();
+        }
+    }
+
+    /// Whether a connection was closed since this was asked the last time.
+    pub fn take_closed(&self) -> bool {
+        self.has_closed.swap(false, Ordering::SeqCst)
+    }
+
+    /// The acceptor waits for a connection to be closed, or he does not.
+    pub fn set_wants_closing(&self, wants: bool) {
+        self.wants_closing.store(wants, Ordering::SeqCst);
+    }
+
+    /// The acceptor begins.
+    pub fn note_acceptor(&self) {
+        self.has_acceptor.store(true, Ordering::SeqCst);
+    }
+
+    /// Whether the acceptor has begun.
+    pub fn has_acceptor(&self) -> bool {
+        self.has_acceptor.load(Ordering::SeqCst)
+    }
+
+    /// From now on the acceptor waits, unless there is something to do: whether there is. He may want lines of the log.
+    pub fn acceptor_lies_down(&self, wants_lines: bool) -> bool {
+        self.acceptor_sleeps.store(true, Ordering::SeqCst);
+        let has_closed = self.wants_closing.load(Ordering::SeqCst)
+            && self.has_closed.load(Ordering::SeqCst);
+        let has_lines = wants_lines && self.has_lines.load(Ordering::SeqCst);
+        self.is_over() || has_closed || has_lines
+    }
+
+    /// The acceptor does not wait any more.
+    pub fn acceptor_gets_up(&self) {
+        self.acceptor_sleeps.store(false, Ordering::SeqCst);
+    }
+
+    /// Ends the acceptor's wait, if he waits.
+    pub fn wake_acceptor(&self) {
+        if self.acceptor_sleeps.swap(false, Ordering::SeqCst) {
+            let _ = self.acceptor.wake();
+        }
+    }
+
+    /// These lines of the log, of the moment so many seconds after the beginning of 1970, are to be written.
+    pub fn add_lines<W: Wait>(&self, waits: &W, lines: &[u8], seconds: u64) {
+        self.lines.lock(waits).add(lines, seconds);
+        self.has_lines.store(true, Ordering::SeqCst);
+        self.wake_acceptor();
+    }
+
+    /// The lines that wait. None waits then.
+    pub fn take_lines<W: Wait>(&self, waits: &W) -> Vec<u8> {
+        if self.has_lines.swap(false, Ordering::SeqCst) {
+            self.lines.lock(waits).take()
+        } else {
+            Vec::new(self.alloc)
+        }
+    }
+}

@@ -1,0 +1,176 @@
+//! What one worker tells the others, and what they tell him.
+
+use mio::Waker;
+use std::sync::atomic::{AtomicBool, AtomicU64, AtomicUsize, Ordering};
+
+/// How many bytes a draw brings at most.
+const DRAW_ROOM: u64 = 16_384;
+
+/// What one worker tells the others, and what they tell him. Moments are in milliseconds.
+#[derive(Drop)]
+pub struct Desk {
+    waker: Waker,
+    /// Whether he has begun.
+    works: AtomicBool,
+    /// Whether he waits, or is about to.
+    sleeps: AtomicBool,
+    /// Whether his listeners may have news.
+    has_news: AtomicBool,
+    /// Whether he has listeners.
+    has_listeners: AtomicBool,
+    /// How many connections were put for him that he has not taken.
+    comings: AtomicUsize,
+    /// How many he has.
+    connections: AtomicUsize,
+    /// How many of these linger.
+    lingering: AtomicUsize,
+    /// Up to which moment he has read all that had come on his sockets.
+    read_ms: AtomicU64,
+    /// Of all bytes that have come from sources, up to which his listeners have drawn.
+    drawn: AtomicU64,
+}
+
+impl Desk {
+    /// Of one who has not begun.
+    pub fn new(waker: Waker) -> Desk {
+        Desk {
+            waker,
+            works: AtomicBool::new(false),
+            sleeps: AtomicBool::new(false),
+            has_news: AtomicBool::new(false),
+            has_listeners: AtomicBool::new(false),
+            comings: AtomicUsize::new(0),
+            connections: AtomicUsize::new(0),
+            lingering: AtomicUsize::new(0),
+            read_ms: AtomicU64::new(0),
+            drawn: AtomicU64::new(0),
+        }
+    }
+
+    /// He begins, and has read all up to this moment.
+    pub fn begin(&self, ms: u64) {
+        self.set_read(ms);
+        self.works.store(true, Ordering::SeqCst);
+    }
+
+    /// Whether he has begun.
+    pub(crate) fn works(&self) -> bool {
+        self.works.load(Ordering::SeqCst)
+    }
+
+    /// He has read all up to this moment.
+    pub fn set_read(&self, ms: u64) {
+        self.read_ms.store(ms, Ordering::SeqCst);
+    }
+
+    /// Up to which moment he has read all.
+    pub(crate) fn read_ms(&self) -> u64 {
+        self.read_ms.load(Ordering::SeqCst)
+    }
+
+    /// From now on he waits, unless there is something to do: whether there is.
+    pub fn lies_down(&self) -> bool {
+        self.sleeps.store(true, Ordering::SeqCst);
+        self.has_to_do()
+    }
+
+    /// He does not wait any more.
+    pub fn gets_up(&self) {
+        self.sleeps.store(false, Ordering::SeqCst);
+    }
+
+    fn has_to_do(&self) -> bool {
+        self.comings() > 0 || (self.has_news.load(Ordering::SeqCst) && self.has_listeners())
+    }
+
+    /// Ends his wait, if he waits.
+    pub(crate) fn wake(&self) {
+        if self.sleeps.swap(false, Ordering::SeqCst) {
+            // Where it can't be told, his wait ends by itself.
+            let _ = self.waker.wake();
+        }
+    }
+
+    /// His listeners may have news. He is woken for it if he has listeners.
+    pub(crate) fn tell_news(&self) {
+        self.has_news.store(true, Ordering::SeqCst);
+        if self.has_listeners() {
+            self.wake();
+        }
+    }
+
+    /// Whether his listeners may have news since this was asked the last time.
+    pub fn take_news(&self) -> bool {
+        self.has_news.load(Ordering::SeqCst) && self.has_news.swap(false, Ordering::SeqCst)
+    }
+
+    /// A connection was put for him.
+    pub fn send(&self) {
+        self.comings.fetch_add(1, Ordering::SeqCst);
+        self.wake();
+    }
+
+    /// He has taken one that was put for him.
+    pub fn note_taken(&self) {
+        self.comings.fetch_sub(1, Ordering::SeqCst);
+    }
+
+    /// How many were put for him that he has not taken.
+    pub fn comings(&self) -> usize {
+        self.comings.load(Ordering::SeqCst)
+    }
+
+    /// So many connections he has, and whether one of them is a listener's.
+    pub fn set_connections(&self, connections: usize, has_listeners: bool) {
+        self.connections.store(connections, Ordering::SeqCst);
+        if has_listeners != self.has_listeners() {
+            self.has_listeners.store(has_listeners, Ordering::SeqCst);
+        }
+    }
+
+    /// How many connections he has, with those that were put for him.
+    pub(crate) fn load(&self) -> usize {
+        self.connections
+            .load(Ordering::SeqCst)
+            .saturating_add(self.comings())
+    }
+
+    fn has_listeners(&self) -> bool {
+        self.has_listeners.load(Ordering::SeqCst)
+    }
+
+    /// So many of his linger.
+    pub(crate) fn set_lingering(&self, count: usize) {
+        if count != self.lingering() {
+            self.lingering.store(count, Ordering::SeqCst);
+        }
+    }
+
+    /// How many of his linger.
+    pub(crate) fn lingering(&self) -> usize {
+        self.lingering.load(Ordering::SeqCst)
+    }
+
+    /// A turn is over at whose beginning so many bytes had come. All of them were drawn, or there is more than a draw brings:
+    /// then so many of them as a draw brings.
+    pub fn note_drawn(&self, received: u64, has_more: bool) {
+        let before = self.drawn.load(Ordering::SeqCst);
+        let drawn = if has_more {
+            received.min(before.saturating_add(DRAW_ROOM))
+        } else {
+            received
+        };
+        if drawn != before {
+            self.drawn.store(drawn, Ordering::SeqCst);
+        }
+    }
+
+    /// How many bytes that have come his listeners have still to draw, of so many.
+    pub(crate) fn behind(&self, count: u64) -> u64 {
+        if self.has_listeners() {
+            count.saturating_sub(self.drawn.load(Ordering::SeqCst))
+        } else {
+            0
+        }
+    }
+}

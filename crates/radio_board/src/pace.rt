@@ -1,0 +1,23 @@
+//! From where on sources are read slowly, so that listeners of other workers can follow.
+
+use radio_lines::Pace;
+
+/// How many bytes a worker's listeners may have still to draw at most, before sources are read slowly.
+const MOST_BEHIND: u64 = 131_072;
+
+/// From where on sources are read slowly: a quarter of what is kept of a stream, if that is less.
+pub(crate) fn slow_from(queue_size: u64) -> u64 {
+    MOST_BEHIND.min(queue_size / 4)
+}
+
+/// The pace where the listeners of a worker are so many bytes behind, and sources are read slowly from so many on. They
+/// stand still from twice as many on.
+pub(crate) fn pace_of(behind: u64, slow_from: u64) -> Pace {
+    if behind <= slow_from {
+        Pace::Free
+    } else if behind <= slow_from.saturating_mul(2) {
+        Pace::Slow
+    } else {
+        Pace::Stopped
+    }
+}

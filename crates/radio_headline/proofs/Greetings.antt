@@ -1,0 +1,74 @@
+-- What a source is told of its request.
+use Rattle.std.proofs.Common.{◌≡◌, ℕ, List, [], ◌∷◌, ◌++◌, Option, refl, sym, ap, ◌∙◌, append_assoc}
+use Rattle.std.proofs.lemmas.List.{append-nil}
+use Rattle.radio_events.specs.declared.event.Event.{Event}
+use Rattle.radio_events.specs.declared.reply.Reply.{Reply}
+use Rattle.radio_events.specs.declared.reply.Reply.TheVariants.{Arrived}
+use Rattle.radio_core.specs.Step.{reply_to, world_after}
+use Rattle.radio_house.specs.World.{World}
+use Rattle.radio_heads.specs.Head.{RequestParts}
+use Rattle.radio_session.specs.declared.session.Closing.{Closing}
+use Rattle.radio_session.specs.declared.session.Says.{Says}
+use Rattle.radio_session.specs.declared.state.State.{State}
+use Rattle.radio_session.specs.declared.state.State.TheVariants.{Running, Shut}
+use Rattle.radio_session.specs.Conversation.{asking}
+use Rattle.radio_session.specs.Exchanges.{WorldExchange, exchanged, then_exchanged}
+use Rattle.radio_session.specs.Framing.{greeting_of}
+use Rattle.radio_session.specs.Saying.{said}
+use Rattle.radio_session.specs.Told.{told}
+use Rattle.radio_headline.proofs.Logs.{Entry, replies}
+use Rattle.radio_headline.proofs.AppliedLemmas.{IsLast, IsOpen, last_shuts, said_all}
+
+-- how the reply to its request is told
+abbrev pub greeted_says : ℕ → List Entry → RequestParts → Option Closing → Says
+greeted_says id idle request closing =
+    record (said_all asking (Arrived id ∷ replies idle)) { greeting = greeting_of request; closing = closing }
+
+-- It was told that of the reply to its request, behind what it had been told before, and nothing behind a last word.
+pub record Greeted (id : ℕ) (idle : List Entry) (request : RequestParts) (reply : Reply) (given : List ℕ) : Type 0 where
+  pub goes : IsOpen asking (Arrived id ∷ replies idle)
+  pub closing : Option Closing
+  pub rest : List ℕ
+  pub is_told : given ≡ told asking (Arrived id ∷ replies idle) ++ ((said (greeted_says id idle request closing) reply).bytes ++ rest)
+  pub ends : IsLast reply → rest ≡ []
+
+-- more may be told where that was no last word
+pub greeted_on : (id : ℕ) (idle : List Entry) (request : RequestParts) (reply : Reply) (given more : List ℕ) → Greeted id idle request reply given
+    → (IsLast reply → ⊥) → Greeted id idle request reply (given ++ more)
+greeted_on id idle request reply given more g goes_on =
+    let before = told asking (Arrived id ∷ replies idle) in
+    let here = (said (greeted_says id idle request g.closing) reply).bytes in
+    record {
+      goes = g.goes;
+      closing = g.closing;
+      rest = g.rest ++ more;
+      is_told = ap (λ (xs : List ℕ). xs ++ more) g.is_told ∙ append_assoc before (here ++ g.rest) more
+          ∙ ap (λ (xs : List ℕ). before ++ xs) (append_assoc here g.rest more);
+      ends = λ last. absurd (goes_on last);
+    }
+
+-- of events that are exchanged the first is told first, and what is last is told alone
+pub record ToldFirst (w : World) (id : ℕ) (says : Says) (event : Event) (asked : List Event) : Type 0 where
+  pub rest : List ℕ
+  pub is_told : (exchanged w id says (event ∷ asked)).exchange.bytes ≡ (said says (reply_to w event)).bytes ++ rest
+  pub ends : IsLast (reply_to w event) → rest ≡ []
+
+module _ (w : World) (id : ℕ) (says : Says) (event : Event) (asked : List Event) where
+  abbrev others : WorldExchange
+  others = exchanged (world_after w event) id (said says (reply_to w event)).says asked
+
+  first_by : (state : State) → (said says (reply_to w event)).state ≡ state → ToldFirst w id says event asked
+  first_by Running e = record {
+    rest = others.exchange.bytes;
+    is_told = ap (λ (s : State). (then_exchanged (world_after w event) id event (said says (reply_to w event)) s others).exchange.bytes) e;
+    ends = λ last. absurd (last_shuts says (reply_to w event) e last);
+  }
+  first_by (Shut ending) e = record {
+    rest = [];
+    is_told = ap (λ (s : State). (then_exchanged (world_after w event) id event (said says (reply_to w event)) s others).exchange.bytes) e
+        ∙ sym (append-nil (said says (reply_to w event)).bytes);
+    ends = λ last. refl;
+  }
+
+  pub told_first : ToldFirst w id says event asked
+  told_first = first_by (said says (reply_to w event)).state refl

@@ -1,0 +1,86 @@
+//! What all lines of a thread share with its loop.
+
+use crate::pace::{Pace, SharedPace};
+use std::sync::atomic::{AtomicBool, AtomicU64, Ordering};
+
+/// The moment of a turn in milliseconds, how fast sources are read in it, whether a line has something to do in the next
+/// one, and how many bytes of sources came in it.
+#[derive(Drop)]
+pub struct Activity {
+    now_ms: AtomicU64,
+    pace: SharedPace,
+    has_more: AtomicBool,
+    /// Whether a line was held back, which is to be asked in a millisecond.
+    was_held: AtomicBool,
+    received: AtomicU64,
+}
+
+impl Activity {
+    /// At the beginning.
+    pub(crate) fn new() -> Activity {
+        Activity {
+            now_ms: AtomicU64::new(0),
+            pace: SharedPace::new(),
+            has_more: AtomicBool::new(false),
+            was_held: AtomicBool::new(false),
+            received: AtomicU64::new(0),
+        }
+    }
+
+    /// It is this moment, in milliseconds, and sources are read at this pace.
+    pub fn begin_turn(&self, ms: u64, pace: Pace) {
+        self.now_ms.store(ms, Ordering::SeqCst);
+        self.pace.set(pace);
+    }
+
+    /// For how many milliseconds the next turn waits at most: not at all where a line has had something to do since this
+    /// was asked the last time, one where a line was held back, and else so many.
+    pub fn wait_ms(&self, longest_ms: u64) -> u64 {
+        let was_held = take(&self.was_held);
+        if take(&self.has_more) {
+            0
+        } else if was_held {
+            longest_ms.min(1)
+        } else {
+            longest_ms
+        }
+    }
+
+    /// How many bytes have come from sources since this was asked the last time.
+    pub fn take_received(&self) -> u64 {
+        if self.received.load(Ordering::SeqCst) == 0 {
+            return 0;
+        }
+        self.received.swap(0, Ordering::SeqCst)
+    }
+
+    /// The moment.
+    pub(crate) fn now_ms(&self) -> u64 {
+        self.now_ms.load(Ordering::SeqCst)
+    }
+
+    /// How fast sources are read.
+    pub(crate) fn pace(&self) -> Pace {
+        self.pace.get()
+    }
+
+    /// A line has something to do in the next turn.
+    pub(crate) fn note_more(&self) {
+        self.has_more.store(true, Ordering::SeqCst);
+    }
+
+    /// A line was held back.
+    pub(crate) fn note_held(&self) {
+        self.was_held.store(true, Ordering::SeqCst);
+    }
+
+    /// So many bytes have come from a source.
+    pub(crate) fn note_received(&self, count: usize) {
+        self.received.fetch_add(count as u64, Ordering::SeqCst);
+    }
+}
+
+/// Whether the flag is set. It is not, from now on.
+fn take(flag: &AtomicBool) -> bool {
+    flag.load(Ordering::SeqCst) && flag.swap(false, Ordering::SeqCst)
+}

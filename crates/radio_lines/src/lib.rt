@@ -1,0 +1,31 @@
+//! TCP sockets as the lines of connections, each asked only where the system has told that it is ready.
+//!
+//! - [`Sockets`]: the sockets of one thread, as the system tells of them; it makes a line of each, and waits until one
+//!   has something to do ([`Heard`]).
+//! - [`SocketLine`]: the line of a socket, or of any stream that never waits and can [`Shut`].
+//! - [`Activity`]: what the lines of a thread share with its loop; [`Pace`]: how fast they give what sources send.
+//! - [`Reach`], [`SystemNet`]: the net; [`moment`]: the clock.
+//!
+//! No clause says what a socket gives or takes, since the system holds it: what is proved is that a
+//! line tells its worker the bytes that the system has told it, and no others.
+#![tactic(auto)]
+
+mod activity;
+mod clock;
+mod line;
+mod pace;
+mod reach;
+mod readiness;
+mod sockets;
+mod stream;
+
+pub use activity::Activity;
+pub use clock::moment;
+pub use line::SocketLine;
+pub use pace::Pace;
+pub use reach::{Reach, SystemNet};
+pub use sockets::{Heard, Sockets};
+pub use stream::Shut;
+
+/// What a call answers where memory was refused.
+pub type OutOfMemory = std::alloc::AllocError;

@@ -1,0 +1,193 @@
+//! A thread's sockets, as the system tells of them.
+
+use crate::activity::Activity;
+use crate::clock::moment;
+use crate::reach::Reach;
+use crate::readiness::Readiness;
+use crate::{OutOfMemory, SocketLine};
+use mio::net::TcpStream;
+use mio::{Events, Interest, Poll, Token, Waker};
+use std::alloc::Global;
+use std::io;
+use std::net::SocketAddr;
+use std::sync::Arc;
+use std::time::{Clock, Duration};
+
+/// The name of the thread's waker among what the system tells of; any other is the number of a line.
+const WAKER: Token = Token(usize::MAX);
+
+/// Of how many sockets the system tells at once.
+const EVENTS: usize = 1024;
+
+/// The same of one who has a socket or two.
+const FEW_EVENTS: usize = 8;
+
+/// What was heard of the system.
+#[derive(Clone, Copy)]
+pub struct Heard {
+    /// The clock's moment then, in milliseconds.
+    pub ms: u64,
+    /// Whether there is something to do.
+    pub is_ready: bool,
+}
+
+/// What the system has told of a thread's lines.
+#[derive(Drop)]
+pub struct Sockets {
+    alloc: Global,
+    poll: Poll,
+    events: Events<Global>,
+    /// Of each line by its number. One that no line has any more is free for the next.
+    readiness: Vec<Arc<Readiness>>,
+    /// Where the last free one was looked for.
+    next: usize,
+    activity: Arc<Activity>,
+}
+
+impl Sockets {
+    /// Those of a thread that has none yet, and its waker, which ends a wait of [`hear`](Sockets::hear) from another
+    /// thread; the system's fault where it tells nothing of sockets.
+    ///
+    /// `OutOfMemory` where memory was refused.
+    pub fn new<N: Reach>(
+        net: &N,
+        alloc: Global,
+    ) -> Result<io::Result<(Sockets, Waker)>, OutOfMemory> {
+        let sockets = match Sockets::with_room(net, alloc, EVENTS)? {
+            Ok(sockets) => sockets,
+            Err(error) => return Ok(Err(error)),
+        };
+        match Waker::new(sockets.poll.registry(), WAKER) {
+            Ok(waker) => Ok(Ok((sockets, waker))),
+            Err(error) => Ok(Err(error)),
+        }
+    }
+
+    /// Those of one who has none yet, will have few, and is woken by nobody; the system's fault where it tells nothing of
+    /// sockets, or memory was refused.
+    pub fn alone<N: Reach>(net: &N, alloc: Global) -> io::Result<Sockets> {
+        Sockets::with_room(net, alloc, FEW_EVENTS)?
+    }
+
+    /// Those of one who is told of so many at once.
+    fn with_room<N: Reach>(
+        net: &N,
+        alloc: Global,
+        events: usize,
+    ) -> Result<io::Result<Sockets>, OutOfMemory> {
+        let events = Events::with_capacity(alloc, events)?;
+        let activity = Arc::new(alloc, Activity::new())?;
+        match net.poll() {
+            Ok(poll) => Ok(Ok(Sockets {
+                alloc,
+                poll,
+                events,
+                readiness: Vec::new(alloc),
+                next: 0,
+                activity,
+            })),
+            Err(error) => Ok(Err(error)),
+        }
+    }
+
+    /// What the lines share.
+    pub fn activity(&self) -> &Activity {
+        &self.activity
+    }
+
+    /// Hears from the system what is ready, and waits until there is something to do, so many
+    /// milliseconds at most. The system's fault where it tells nothing any more.
+    pub fn hear<C: Clock>(&mut self, clock: &C, wait_ms: u64) -> io::Result<Heard> {
+        let mut ms = moment(clock);
+        let ends_ms = ms.saturating_add(wait_ms);
+        for _ in 0..EVENTS {
+            let is_ready = self.poll(ends_ms.saturating_sub(ms))?;
+            ms = moment(clock);
+            if is_ready || ms >= ends_ms {
+                return Ok(Heard { ms, is_ready });
+            }
+        }
+        Ok(Heard {
+            ms,
+            is_ready: false,
+        })
+    }
+
+    /// Notes what the system tells within so many milliseconds. Whether there is something to do.
+    fn poll(&mut self, wait_ms: u64) -> io::Result<bool> {
+        let wait = Duration::from_millis(wait_ms);
+        self.poll.poll(&mut self.events, Some(wait))?;
+        let mut is_woken = false;
+        for event in &self.events {
+            if event.token() == WAKER {
+                is_woken = true;
+            } else if let Some(readiness) = self.readiness.get(event.token().0) {
+                if readiness.mark(event) {
+                    is_woken = true;
+                }
+            }
+        }
+        Ok(is_woken)
+    }
+
+    /// The line to this address. It is being connected: until it is, the line takes and gives nothing. The system's fault
+    /// where it does not connect at all, or memory was refused.
+    pub fn connect<N: Reach>(
+        &mut self,
+        net: &N,
+        address: SocketAddr,
+    ) -> io::Result<SocketLine<TcpStream>> {
+        let stream = net.connect(address)?;
+        let line = self.line_of(stream)?;
+        self.activity.note_more();
+        Ok(line)
+    }
+
+    /// The line of a socket that does not wait. Its bytes are sent as they come. The system's fault where it does not tell
+    /// of it, or memory was refused.
+    pub fn line_of(&mut self, mut stream: TcpStream) -> io::Result<SocketLine<TcpStream>> {
+        stream.set_nodelay(true)?;
+        let (number, readiness) = self.free_readiness()?;
+        self.register(&mut stream, number)?;
+        readiness.reset();
+        let activity = self.activity.clone()?;
+        Ok(SocketLine::new(stream, readiness, activity))
+    }
+
+    /// From now on the system tells of the socket, by this number.
+    fn register(&self, stream: &mut TcpStream, number: usize) -> io::Result<()> {
+        let both = Interest::READABLE | Interest::WRITABLE;
+        self.poll.registry().register(stream, Token(number), both)
+    }
+
+    /// A number that no line has, behind the one that was given last, and what is told of it.
+    fn free_readiness(&mut self) -> Result<(usize, Arc<Readiness>), OutOfMemory> {
+        match self.unused_readiness()? {
+            Some(unused) => Ok(unused),
+            None => self.new_readiness(),
+        }
+    }
+
+    /// The same among those that a line has had, if one is free.
+    fn unused_readiness(&mut self) -> Result<Option<(usize, Arc<Readiness>)>, OutOfMemory> {
+        let count = self.readiness.len();
+        for _ in 0..count {
+            self.next = if self.next < count { self.next + 1 } else { 0 };
+            if let Some(readiness) = self.readiness.get(self.next) {
+                if Arc::strong_count(readiness) == 1 {
+                    return Ok(Some((self.next, readiness.clone()?)));
+                }
+            }
+        }
+        Ok(None)
+    }
+
+    /// One more.
+    fn new_readiness(&mut self) -> Result<(usize, Arc<Readiness>), OutOfMemory> {
+        let readiness = Arc::new(self.alloc, Readiness::new())?;
+        let shared = readiness.clone()?;
+        let number = self.readiness.len();
+        self.readiness.push(readiness)?;
+        Ok((number, shared))
+    }
+}

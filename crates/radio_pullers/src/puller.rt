@@ -1,0 +1,234 @@
+//! A relay's thread: a pull of its master, again and again.
+
+use crate::master::{MOST_SILENT_MS, addresses_of};
+use crate::running::RunningRelay;
+use mio::net::TcpStream;
+use radio_board::Board;
+use radio_book::{Chronicle, House};
+use radio_hall::{Caller, Hall, Server, Watched};
+use radio_lines::{Reach, SocketLine, Sockets, moment};
+use radio_masters::{Asked, MountPull, PullTurn, RelayEnd};
+use std::io;
+use std::net::SocketAddr;
+use std::sync::Wait;
+use std::thread::sleep;
+use std::time::{Clock, Duration};
+
+/// How many bytes are read at once.
+const READ_ROOM: usize = 16_384;
+
+/// How long a relay waits at once, in milliseconds: as often it looks whether it is to stop, and asks whether the server
+/// has finished it.
+const WAIT_MS: u64 = 500;
+
+/// For how many such waits a relay rests before it is pulled again.
+const RESTS: u32 = 10;
+
+/// A relay's thread.
+#[derive(Drop)]
+struct Puller<'a, R: Clock + Wait, N: Reach, S: Server + Drop> {
+    rt: &'a R,
+    net: &'a N,
+    board: &'a Board,
+    relay: &'a RunningRelay,
+    sockets: Sockets,
+    asked: Asked<Watched<S>>,
+    /// When the pull began, in milliseconds.
+    began_ms: u64,
+    /// The moment that the log was told, in seconds since 1970.
+    seconds: u64,
+}
+
+/// Pulls this relay in, with a pass of its own, until it is to stop. A pull that has ended is begun again after five
+/// seconds.
+pub(crate) fn pull_relay<R: Clock + Wait, N: Reach, C: Chronicle, H: House>(
+    rt: &R,
+    net: &N,
+    hall: &Hall<C, H>,
+    board: &Board,
+    relay: &RunningRelay,
+) {
+    if let Some(pass) = hall.pass(rt) {
+        pull_as(rt, net, board, relay, Caller::new(rt, hall, pass));
+    }
+    relay.note_end();
+}
+
+/// The same, by asking this server.
+fn pull_as<R: Clock + Wait, N: Reach, S: Server + Drop>(
+    rt: &R,
+    net: &N,
+    board: &Board,
+    relay: &RunningRelay,
+    server: S,
+) {
+    if let Ok(mut puller) = Puller::new(rt, net, board, relay, server) {
+        puller.work();
+    }
+}
+
+impl<'a, R: Clock + Wait, N: Reach, S: Server + Drop> Puller<'a, R, N, S> {
+    /// That of this relay, who asks this server. The system's fault where it tells nothing of sockets, or memory was
+    /// refused.
+    fn new(
+        rt: &'a R,
+        net: &'a N,
+        board: &'a Board,
+        relay: &'a RunningRelay,
+        server: S,
+    ) -> io::Result<Puller<'a, R, N, S>> {
+        let alloc = board.alloc();
+        let asked = Asked::new(alloc, Watched::new(alloc, server), relay.setting())?;
+        let sockets = Sockets::alone(net, alloc)?;
+        Ok(Puller {
+            rt,
+            net,
+            board,
+            relay,
+            sockets,
+            asked,
+            began_ms: 0,
+            seconds: 0,
+        })
+    }
+
+    /// Pull after pull, until it is to stop.
+    fn work(&mut self) {
+        'pulls: for _ in self.rt.forever() {
+            let why = self.pull();
+            self.tell_end(why);
+            if !self.rests() {
+                return;
+            }
+        }
+    }
+
+    /// Pulls from the first address of the master that answers. Why the pull has ended.
+    fn pull(&mut self) -> RelayEnd {
+        let master = &self.relay.setting().master;
+        let addresses = addresses_of(self.net, self.board.alloc(), master);
+        let mut why = RelayEnd::NoAddress;
+        'addresses: for address in addresses {
+            why = self.pull_at(address);
+            if why != RelayEnd::NoAnswer {
+                return why;
+            }
+        }
+        why
+    }
+
+    fn pull_at(&mut self, address: SocketAddr) -> RelayEnd {
+        self.began_ms = moment(self.rt);
+        match self.sockets.connect(self.net, address) {
+            Ok(line) => self.pull_over(line),
+            Err(_) => RelayEnd::NoAnswer,
+        }
+    }
+
+    fn pull_over(&mut self, line: SocketLine<TcpStream>) -> RelayEnd {
+        match MountPull::new(self.board.alloc(), self.relay.setting(), line) {
+            Ok(mut pull) => self.pull_through(&mut pull),
+            Err(_) => RelayEnd::OutOfMemory,
+        }
+    }
+
+    fn pull_through(&mut self, pull: &mut MountPull<SocketLine<TcpStream>>) -> RelayEnd {
+        let why = self.turns(pull);
+        // No end is refused. Who has gone down already is not known any more.
+        let _ = pull.close(&mut self.asked);
+        self.tell_others();
+        why
+    }
+
+    /// Turn after turn, until the pull has ended. Why.
+    fn turns(&mut self, pull: &mut MountPull<SocketLine<TcpStream>>) -> RelayEnd {
+        let mut buffer = [0u8; READ_ROOM];
+        'turns: for _ in self.rt.forever() {
+            if let Some(why) = self.turn(pull, &mut buffer) {
+                return why;
+            }
+        }
+        RelayEnd::Left
+    }
+
+    /// Waits until there is something to do, and does it. Why the pull has ended, if it has.
+    fn turn(
+        &mut self,
+        pull: &mut MountPull<SocketLine<TcpStream>>,
+        buffer: &mut [u8],
+    ) -> Option<RelayEnd> {
+        let Some(ms) = self.hear() else {
+            return Some(RelayEnd::Left);
+        };
+        if self.is_over() {
+            return Some(RelayEnd::NotWished);
+        }
+        let turn = pull.turn(&mut self.asked, buffer);
+        self.tell_others();
+        let is_late = ms.saturating_sub(self.began_ms) >= MOST_SILENT_MS;
+        end_of(turn, pull.number().is_some(), is_late)
+    }
+
+    /// Hears what there is on the socket, and waits for it. The moment then; `None` where the system tells nothing.
+    fn hear(&mut self) -> Option<u64> {
+        let wait_ms = self.sockets.activity().wait_ms(WAIT_MS);
+        let heard = self.sockets.hear(self.rt, wait_ms).ok()?;
+        self.sockets
+            .activity()
+            .begin_turn(heard.ms, self.board.pace());
+        if let Ok(since) = self.rt.since_1970() {
+            self.seconds = since.as_secs();
+            self.asked.log().lines().set_moment(self.seconds);
+        }
+        Some(heard.ms)
+    }
+
+    /// Tells the workers of news, and hands the lines of the log on.
+    fn tell_others(&self) {
+        if self.asked.server().take_news() {
+            self.board.tell_news();
+        }
+        self.board
+            .note_received(self.sockets.activity().take_received());
+        let lines = self.asked.log().lines().take();
+        if !lines.is_empty() {
+            self.board
+                .add_lines(self.rt, lines.as_slice(), self.seconds);
+        }
+    }
+
+    /// Tells in the log that the pull has ended.
+    fn tell_end(&mut self, why: RelayEnd) {
+        let passed_ms = moment(self.rt).saturating_sub(self.began_ms);
+        self.asked.tell_end(why, passed_ms / 1000);
+        self.tell_others();
+    }
+
+    /// Rests, until the pull is to begin again. Whether it is.
+    fn rests(&self) -> bool {
+        for _ in 0..RESTS {
+            if self.is_over() {
+                return false;
+            }
+            let _ = sleep(self.rt, Duration::from_millis(WAIT_MS));
+        }
+        !self.is_over()
+    }
+
+    /// Whether the relay is to stop.
+    fn is_over(&self) -> bool {
+        self.relay.is_stopped() || self.board.is_over()
+    }
+}
+
+/// Why a pull has ended with this turn, if it has: one that is not up has had no answer, and one that is late has none.
+fn end_of(turn: PullTurn, is_up: bool, is_late: bool) -> Option<RelayEnd> {
+    match turn {
+        PullTurn::Running if is_late && !is_up => Some(RelayEnd::NoAnswer),
+        PullTurn::Running => None,
+        PullTurn::Shut(ending) => Some(RelayEnd::By(ending)),
+        PullTurn::Closed | PullTurn::Failed if is_up => Some(RelayEnd::Left),
+        PullTurn::Closed | PullTurn::Failed => Some(RelayEnd::NoAnswer),
+        PullTurn::OutOfMemory => Some(RelayEnd::OutOfMemory),
+    }
+}

@@ -1,0 +1,146 @@
+//! The relays of a station, each in a thread of its own.
+
+ghost use Rattle.std.specs.Thread.{IsSend, IsSync};
+
+use crate::OutOfMemory;
+use crate::list_fetch::Listed;
+use crate::puller::pull_relay;
+use crate::roster::Roster;
+use crate::running::RunningRelay;
+use radio_board::Board;
+use radio_book::{Chronicle, House};
+use radio_hall::Hall;
+use radio_lines::Reach;
+use radio_relay::{RelayOrder, plan};
+use radio_settings::{RelaySetting, Settings};
+use std::alloc::Global;
+use std::sync::{Arc, Wait};
+use std::thread;
+use std::thread::{Threads, sleep};
+use std::time::{Clock, Duration};
+
+/// How often it is looked which relays are wished, in milliseconds.
+const ROUND_MS: u64 = 500;
+
+/// Whether these settings wish relays, now or later.
+pub fn has_relays(settings: &Settings) -> bool {
+    !settings.relays.as_slice().is_empty() || settings.slave.is_some()
+}
+
+/// Which relays run, and what the slave was told.
+#[derive(Drop)]
+struct Keeper {
+    roster: Roster,
+    listed: Listed,
+    /// Whether a thread could not be had just now.
+    has_failed: bool,
+}
+
+impl Keeper {
+    /// None runs yet. It takes no memory.
+    fn new(alloc: Global) -> Keeper {
+        Keeper {
+            roster: Roster::new(alloc),
+            listed: Listed::new(alloc),
+            has_failed: false,
+        }
+    }
+
+    /// A relay that is to start now; those are told that are to stop. `None` where none is to start, or memory is refused
+    /// for it.
+    fn next_start<R: Clock + Wait, N: Reach, C: Chronicle, H: House>(
+        &mut self,
+        rt: &R,
+        net: &N,
+        hall: &Hall<C, H>,
+        board: &Board,
+        settings: &Settings,
+    ) -> Option<Arc<RunningRelay>> {
+        if self.has_failed {
+            self.has_failed = false;
+            return None;
+        }
+        if let Some(slave) = &settings.slave {
+            self.listed.refresh(rt, net, board, slave);
+        }
+        let wanted = hall.wanted(rt).ok()?;
+        let orders = self.orders(board.alloc(), settings, wanted).ok()?;
+        let relay = self.first_start(orders)?;
+        self.roster.add(relay).ok()
+    }
+
+    /// What is to be done now, where these mounts are wanted.
+    fn orders(
+        &mut self,
+        alloc: Global,
+        settings: &Settings,
+        wanted: Vec<MountName>,
+    ) -> Result<Vec<RelayOrder>, OutOfMemory> {
+        let live = self.roster.live()?;
+        let names = &self.listed.names;
+        plan(
+            alloc,
+            settings,
+            names,
+            live.as_slice(),
+            wanted.as_slice(),
+        )
+    }
+
+    /// The first relay that is to start; those are told that are to stop before it.
+    fn first_start(&self, orders: Vec<RelayOrder>) -> Option<RelaySetting> {
+        'orders: for order in orders {
+            match order {
+                RelayOrder::Stop(mount) => self.roster.stop(&mount),
+                RelayOrder::Start(relay) => return Some(relay),
+            }
+        }
+        None
+    }
+
+    /// Notes whether a thread was had for the relay that was to start last.
+    fn note_start(&mut self, has_begun: bool) {
+        if !has_begun {
+            self.roster.forget_last();
+            self.has_failed = true;
+        }
+    }
+}
+
+/// Keeps the relays running that the settings and the slave's list wish, those that are on demand while
+/// somebody sits at their mounts, until all are to stop. Where memory is refused for
+/// one, or no thread can be had, it is tried again.
+pub fn keep_relays<R, N, C, H>(
+    rt: &R,
+    net: &N,
+    hall: &Hall<C, H>,
+    board: &Board,
+    settings: &Settings,
+)
+where
+    R: Clock + Threads + Wait + Sync,
+    N: Reach + Sync,
+    C: Chronicle + Send + Sync,
+    H: House + Send + Sync,
+{
+    thread::scope(
+        thread::scope_env(),
+        rt,
+        move |scope|
+            requires { IsSync R.row × IsSync N.row × IsSend C.row × IsSync C.row × IsSend H.row × IsSync H.row }
+        {
+            let mut keeper = Keeper::new(board.alloc());
+            'rounds: for _ in rt.forever() {
+                if board.is_over() {
+                    return;
+                }
+                if let Some(relay) = keeper.next_start(rt, net, hall, board, settings) {
+                    let begun = scope.spawn(move || pull_relay(rt, net, hall, board, &relay));
+                    keeper.note_start(begun.is_ok());
+                } else {
+                    let _ = sleep(rt, Duration::from_millis(ROUND_MS));
+                }
+            }
+        },
+    )
+}

@@ -1,0 +1,39 @@
+//! Who applies the events of connections.
+
+ghost use Rattle.std.specs.Prelude.{◌≡◌, IfOk, OnErr};
+ghost use Rattle.radio_events.specs.declared.event.Event.{Event as EventOf};
+
+use crate::OutOfMemory;
+use radio_core::Core;
+use radio_events::{Event, Reply};
+
+/// Who applies the events of connections: a core, or whoever has one.
+pub trait Server {
+    ghost use Rattle.radio_session.specs.Exchanges.{Steps};
+
+    // from one state the event is answered by the reply, and leaves the other state
+    ghost steps: { Steps Self };
+
+    // in this state the event may be refused for want of memory
+    ghost refuses: { Self → EventOf → Type 0 };
+
+    /// Applies an event. `OutOfMemory` where memory was refused; nothing has changed then.
+    fn apply(&mut self, event: Event) -> Result<Reply, OutOfMemory>
+        ensures ok { IfOk result (λ reply. steps self.old event reply self.new) }
+        ensures err { OnErr result (self.new ≡ self.old) }
+        ensures refused { OnErr result (refuses self.old event) };
+}
+
+impl Server for Core {
+    ghost use Rattle.radio_events.specs.Events.{TakesNoMemory};
+    ghost use Rattle.radio_session.specs.Exchanges.{core_steps};
+
+    ghost steps = { core_steps };
+
+    ghost refuses = { λ core event. TakesNoMemory event → ⊥ };
+
+    fn apply(&mut self, event: Event) -> Result<Reply, OutOfMemory> {
+        self.stands();
+        self.step(event)
+    }
+}
