@@ -12,7 +12,7 @@ use radio_book::{Chronicle, House};
 use radio_hall::Hall;
 use radio_lines::Reach;
 use radio_relay::{RelayOrder, plan};
-use radio_settings::{RelaySetting, Settings};
+use radio_settings::{MountName, RelaySetting, Settings};
 use std::alloc::Global;
 use std::sync::{Arc, Wait};
 use std::thread;
