@@ -10,7 +10,7 @@ use Rattle.radio_events.specs.declared.event.Event.TheVariants.{Source, Push, Re
 use Rattle.radio_events.specs.declared.event.SourceRequest.{SourceRequest}
 use Rattle.radio_core.specs.Handing.{delivered}
 use Rattle.radio_core.specs.Run.{run_after}
-use Rattle.radio_core.specs.SessionSteps.{HasBegun}
+use Rattle.radio_core.specs.SessionSteps.{HasBegun, IsShownAs}
 use Rattle.radio_core.specs.Step.{reply_to}
 use Rattle.radio_house.specs.World.{opening}
 use Rattle.radio_events.specs.declared.reply.Reply.TheVariants.{Arrived}
@@ -24,6 +24,8 @@ use Rattle.radio_script.specs.declared.delivery.Delivery.TheVariants.{To}
 use Rattle.radio_script.specs.declared.delivery.Input.{Input}
 use Rattle.radio_script.specs.declared.delivery.Input.TheVariants.{Data}
 use Rattle.radio_headline.specs.Course.{Happening, events_in, on}
+use Rattle.radio_house.specs.Waiting.{is_on_demand, shown_by_nobody}
+use Rattle.radio_settings.specs.Options.{options_for}
 
 abbrev pub bytes_in : Input → List ℕ
 bytes_in (Data bytes) = bytes
@@ -73,6 +75,7 @@ pub record DeliversItsSound (settings : Settings) (lists : Lists) (deliveries : 
   pub is_front : sound_in parts ≡ delivered (opening settings lists) (events_in course) number ++ undelivered
 
 -- This session is that of a source: one that has asked to feed its mount, or a relay that has come up there. It shows what that shows, by the settings.
+-- Or a session is awaited there.
 module _ (settings : Settings) (lists : Lists) (deliveries : List Delivery) (course : List Happening) (mount : List ℕ) (number : ℕ) where
   pub record IsOfASource (shown_now : Shown) : Type 0 where
     pub label : ℕ
@@ -98,8 +101,16 @@ module _ (settings : Settings) (lists : Lists) (deliveries : List Delivery) (cou
     pub still_shown : shown_now ≡ begun.shown
     pub delivers : DeliversItsSound settings lists deliveries course label number shown
 
+  -- nobody feeds it yet: a relay of the settings feeds the mount on demand, which waits; it has no number, and shows what the settings say
+  pub record IsAwaited (shown_now : Shown) : Type 0 where
+    pub has_no_number : number ≡ 0
+    pub on_demand : is_on_demand settings mount ≡ true
+    pub shows_type : shown_now.content_type ≡ shown_by_nobody.content_type
+    pub shows_name : IsShownAs (options_for settings mount).stream.stream_name shown_by_nobody.name shown_now.name
+    pub shows_genre : IsShownAs (options_for settings mount).stream.genre shown_by_nobody.genre shown_now.genre
+
   abbrev pub HasItsSource : Shown → Type 0
-  HasItsSource shown_now = IsOfASource shown_now ⊎ IsOfARelay shown_now
+  HasItsSource shown_now = IsOfASource shown_now ⊎ IsOfARelay shown_now ⊎ IsAwaited shown_now
 
 -- each who asks to feed a mount
 abbrev pub SourcesDeliverTheirBodies : Settings → Lists → List Delivery → List Happening → Type 0
