@@ -7,7 +7,7 @@ use Rattle.radio_settings.specs.Options.{options_for}
 use Rattle.radio_tables.specs.Lists.{Each}
 use Rattle.radio_tables.proofs.EachLaws.{Each_each, Each_kept, Each_updated, Each_mapped, Each_placed}
 use Rattle.radio_seats.specs.declared.seat.Seat.{Seat}
-use Rattle.radio_seats.specs.declared.seat.Seating.TheVariants.{Finished}
+use Rattle.radio_seats.specs.declared.seat.Seating.TheVariants.{Finished, Sits}
 use Rattle.radio_seats.specs.declared.seat.Listener.{Listener}
 use Rattle.radio_seats.specs.Seats.{is_listener, by_listener, seated, advanced, loses, holds_of, finished_if, with_ended, hears_session, in_session_at, with_session_at}
 use Rattle.radio_events.specs.declared.command.Command.{Command}
