@@ -132,9 +132,10 @@ module _ (w : World) (s : IsSound w) (event : Event) where
         (λ seat session had concerned turn live.
         let at : seat.mount ≡ mount = (bytes_eq-Decides seat.mount mount).0 concerned in
         let goes : destination ≡ session.mount =
-        goes_there (sight_of w.house) mount destination (at_his_turn (sight_of w.house) (To mount destination) w.seats id) id session.mount turn in
-        (IsCommandedThere (sent seat session.mount at goes),
-        apart_sessions (heard c) (sound_heard c) id seat session had (live_there session goes live) (away seat session.mount at goes)))
+        goes_there (sight_of w.house) mount destination (at_his_turn (sight_of w.house) (To mount destination) w.seats id) id session.mount turn in (
+          IsCommandedThere (sent seat session.mount at goes),
+          apart_sessions (heard c) (sound_heard c) id seat session had (live_there session goes live) (away seat session.mount at goes),
+        ))
         (λ seat rule had turn.
         absurd (never_out_there (sight_of w.house) mount destination (at_his_turn (sight_of w.house) (To mount destination) w.seats id) id rule turn))
         (λ session turn. (To mount destination, w, ByMoving event mount destination c, turn))

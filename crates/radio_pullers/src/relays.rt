@@ -78,13 +78,7 @@ impl Keeper {
     ) -> Result<Vec<RelayOrder>, OutOfMemory> {
         let live = self.roster.live()?;
         let names = &self.listed.names;
-        plan(
-            alloc,
-            settings,
-            names,
-            live.as_slice(),
-            wanted.as_slice(),
-        )
+        plan(alloc, settings, names, live.as_slice(), wanted.as_slice())
     }
 
     /// The first relay that is to start; those are told that are to stop before it.
