@@ -1,4 +1,4 @@
-use Rattle.std.proofs.Common.{◌≡◌, Bool, true, false, ℕ, ◌||◌, Some, None, List, [], ◌∷◌, not, refl, ap, sym, ◌∙◌}
+use Rattle.std.proofs.Common.{◌≡◌, Bool, true, false, ℕ, ◌||◌, Some, List, [], ◌∷◌, not, refl, ap, sym, ◌∙◌}
 use Rattle.std.specs.Prelude.{◌&&◌, find, if◌then◌else◌}
 use Rattle.std.specs.List.{list_all}
 use Rattle.std.specs.Option.{option_map_or}
