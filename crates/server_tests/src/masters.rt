@@ -6,7 +6,7 @@ use crate::stations::{Station, core, settings};
 use radio_core::Core;
 use radio_masters::{Asked, ListFault, ListPull, MountPull, PullTurn, read_list_answer};
 use radio_session::Ending;
-use radio_settings::{MountName, Settings};
+use radio_settings::{MountName, RelaySetting};
 use std::alloc::Global;
 use std::collections::BTreeSet;
 use std::test::Fail;
@@ -27,17 +27,28 @@ const ANSWER: Manners = Manners {
     ..SILENT
 };
 
-/// A relay of these settings over a line of these manners, and a server.
-fn begun(
+/// A relay over a line of these manners, and a server. None where memory is refused.
+fn begun(alloc: Global, manners: Manners) -> Option<(MountPull<MemoryLine>, Asked<Core>)> {
+    let settings = settings(alloc, RELAYED).ok()?;
+    let relay = settings.relays.as_slice().first()?;
+    begun_by(alloc, relay, manners)
+}
+
+/// The same of a relay of these settings.
+fn begun_by(
     alloc: Global,
-    settings: &Settings,
+    relay: &RelaySetting,
     manners: Manners,
 ) -> Option<(MountPull<MemoryLine>, Asked<Core>)> {
-    let relay = settings.relays.as_slice().first()?;
     let pull = MountPull::new(alloc, relay, MemoryLine::new(alloc, manners)).ok()?;
-    let core = core(alloc, RELAYED).ok()?;
-    let server = Asked::new(alloc, core, relay).ok()?;
+    let server = asked_by(alloc, relay)?;
     Some((pull, server))
+}
+
+/// A server, as that relay asks it.
+fn asked_by(alloc: Global, relay: &RelaySetting) -> Option<Asked<Core>> {
+    let core = core(alloc, RELAYED).ok()?;
+    Asked::new(alloc, core, relay).ok()
 }
 
 /// What comes of the last of so many turns.
@@ -52,15 +63,16 @@ fn last_of(pull: &mut MountPull<MemoryLine>, server: &mut Asked<Core>, turns: u6
 
 /// Whether the last of so many turns of such a relay comes to that. It need not where memory is refused.
 fn comes_to(alloc: Global, row: &Row) -> bool {
-    let Ok(settings) = settings(alloc, RELAYED) else {
-        return true;
-    };
-    let Some((mut pull, mut server)) = begun(alloc, &settings, row.manners) else {
-        return true;
-    };
-    let last = last_of(&mut pull, &mut server, row.turns);
+    match begun(alloc, row.manners) {
+        Some((mut pull, mut server)) => ends_as(&mut pull, &mut server, row),
+        None => true,
+    }
+}
+
+fn ends_as(pull: &mut MountPull<MemoryLine>, server: &mut Asked<Core>, row: &Row) -> bool {
+    let last = last_of(pull, server, row.turns);
     let is_up = pull.number().is_some();
-    let is_closed = pull.close(&mut server).is_ok();
+    let is_closed = pull.close(server).is_ok();
     last == PullTurn::OutOfMemory || (last == row.last && is_up == row.is_up && is_closed)
 }
 
@@ -138,16 +150,23 @@ fn pulls_over_a_line(rt: HostRuntime) -> Result<(), Fail> {
 
 /// Whether a listener hears what a relay has pulled in. He need not where memory is refused.
 fn is_heard(alloc: Global) -> bool {
-    let Ok(settings) = settings(alloc, RELAYED) else {
-        return true;
-    };
-    let Some((mut pull, mut server)) = begun(alloc, &settings, ANSWER) else {
-        return true;
-    };
-    if last_of(&mut pull, &mut server, 4) != PullTurn::Running {
-        return true;
+    match pulled(alloc) {
+        Some(core) => hears(Station::new(alloc, core)),
+        None => true,
     }
-    let mut station = Station::new(alloc, server.into_server());
+}
+
+/// A server to which a relay has pulled in all of the answer. None where memory is refused.
+fn pulled(alloc: Global) -> Option<Core> {
+    let (mut pull, mut server) = begun(alloc, ANSWER)?;
+    match last_of(&mut pull, &mut server, 4) {
+        PullTurn::Running => Some(server.into_server()),
+        _ => None,
+    }
+}
+
+/// Whether a listener hears it there.
+fn hears(mut station: Station<Core>) -> bool {
     if !station.comes(LISTENER, 0) {
         return true;
     }
