@@ -1,5 +1,5 @@
 -- whom a mount lets in, where a user of a mount was set, or taken away
-use Rattle.std.proofs.Common.{◌≡◌, ◌↔◌, Bool, true, false, cond, ℕ, Option, Some, None, List, [], ◌∷◌, is_some, refl, ap, sym, ◌∙◌}
+use Rattle.std.proofs.Common.{◌≡◌, Bool, true, false, cond, ℕ, Option, Some, None, List, [], ◌∷◌, is_some, refl, ap, sym, ◌∙◌}
 use Rattle.std.specs.Prelude.{find, if◌then◌else◌}
 use Rattle.std.specs.FinMap as map
 use Rattle.std.specs.FinMap.{get-insert, get-remove}
@@ -16,7 +16,7 @@ use Rattle.radio_creds.specs.UserList.{UserList, with_user, without_user}
 use Rattle.radio_tables.specs.Lists.{update_first}
 use Rattle.radio_tables.proofs.FindLaws.{find_here, find_later, find_apart}
 use Rattle.radio_access.specs.declared.lists.MountUsers.{MountUsers}
-use Rattle.radio_access.specs.Lists.{Lists, is_of, users_at, has_users, listing, unlisting, with_user_at, without_user_at, is_digest_of, accepts, lets_in}
+use Rattle.radio_access.specs.Lists.{Lists, is_of, users_at, has_users, is_digest_of, accepts, lets_in}
 
 -- the users of one mount have changed
 module _ (lists : Lists) (mount : List ℕ) (change : UserList → UserList) where

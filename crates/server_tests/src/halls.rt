@@ -7,6 +7,7 @@ ghost use Rattle.radio_house.specs.World.{opening};
 use crate::calls::{Callee, number_given};
 use crate::house::{is_lock_free, is_title_heard};
 use crate::kept_rows::{KeptRow, is_row_played};
+use crate::loopback::{are_heard, draws_what_was_fed};
 use crate::stations::settings;
 use crate::two_callers::{are_served, is_of_two};
 use crate::workers;
@@ -18,11 +19,13 @@ use radio_hall::{Hall, settle};
 use radio_settings::{Settings, SettingsFault};
 use std::alloc::Global;
 use std::marker::Brand;
+use std::net::Net;
 use std::process::Abort;
 use std::sync::Wait;
 use std::sync::ledger::Blank;
 use std::test::Fail;
 use std::thread::Threads;
+use std::time::Clock;
 
 /// A caller of a hall, through a pass.
 #[derive(Drop)]
@@ -62,6 +65,8 @@ pub enum Visit {
     Row(KeptRow),
     /// Workers in threads of their own serve all who come.
     Rush(Rush),
+    /// A source and a listener come over loopback.
+    Loopback,
 }
 
 impl Visit {
@@ -84,6 +89,7 @@ impl Visit {
             Visit::Knocking => true,
             Visit::Row(kept) => kept.leaves(history),
             Visit::Rush(rush) => rush.leaves(history),
+            Visit::Loopback => draws_what_was_fed(alloc, history),
         }
     }
 
@@ -99,7 +105,7 @@ const LEFT_OUT: SettleFault = SettleFault::Count {
 };
 
 /// Does it, and adds the passes. Whether it went as it is to go.
-fn visit_with<H: House + Send + Sync, R: Threads + Wait + Sync>(
+fn visit_with<H: House + Send + Sync, R: Clock + Net + Threads + Wait + Sync>(
     rt: &R,
     alloc: Global,
     hall: &Hall<Kept, H>,
@@ -118,6 +124,7 @@ fn visit_with<H: House + Send + Sync, R: Threads + Wait + Sync>(
         Visit::Knocking => is_lock_free(rt, alloc, hall, passes),
         Visit::Row(kept) => is_row_played(rt, alloc, hall, passes, kept),
         Visit::Rush(rush) => workers::are_served(rt, alloc, hall, passes, rush),
+        Visit::Loopback => are_heard(rt, alloc, hall, passes),
     }
 }
 
@@ -133,7 +140,7 @@ pub fn takes_pass<H: House, R: Wait>(
     }
 }
 
-fn goes_well<H: House + Send + Sync, R: Threads + Wait + Sync>(
+fn goes_well<H: House + Send + Sync, R: Clock + Net + Threads + Wait + Sync>(
     rt: &R,
     alloc: Global,
     settings: Settings,
@@ -152,7 +159,7 @@ fn goes_well<H: House + Send + Sync, R: Threads + Wait + Sync>(
     went && is_settled
 }
 
-fn went_well<R: Threads + Wait + Sync>(
+fn went_well<R: Clock + Net + Threads + Wait + Sync>(
     rt: &R,
     alloc: Global,
     more: &str,
@@ -164,7 +171,7 @@ fn went_well<R: Threads + Wait + Sync>(
 }
 
 /// At a hall with these settings more, the visit goes as it is to go.
-pub fn visit_hall<R: Abort + AllocGlobal + Threads + Wait + Sync>(
+pub fn visit_hall<R: Abort + AllocGlobal + Clock + Net + Threads + Wait + Sync>(
     rt: &R,
     more: &str,
     visit: Visit,

@@ -13,10 +13,12 @@ use radio_book::{Entry, House, Kept, Pass};
 use radio_events::Event;
 use radio_hall::{Caller, Hall, Server};
 use std::alloc::Global;
+use std::net::Net;
 use std::process::Abort;
 use std::sync::Wait;
 use std::test::Fail;
 use std::thread::Threads;
+use std::time::Clock;
 
 /// What is played at a worker over the hall.
 #[derive(Clone, Copy)]
@@ -107,7 +109,7 @@ pub fn is_row_played<H: House, R: Wait>(
 }
 
 /// Steps at a hall with these settings more.
-fn play_kept<R: Abort + AllocGlobal + Threads + Wait + Sync>(
+fn play_kept<R: Abort + AllocGlobal + Clock + Net + Threads + Wait + Sync>(
     rt: &R,
     more: &str,
     steps: &'static [Step],
@@ -121,7 +123,7 @@ fn play_kept<R: Abort + AllocGlobal + Threads + Wait + Sync>(
 }
 
 /// One whose line fails so at each call; then these have left.
-fn fail_kept<R: Abort + AllocGlobal + Threads + Wait + Sync>(
+fn fail_kept<R: Abort + AllocGlobal + Clock + Net + Threads + Wait + Sync>(
     rt: &R,
     beside: &'static Beside,
     failure: Failure,

@@ -12,6 +12,7 @@
 //! - `halls`: a hall, what is done there, and all passes settled then.
 //! - `two_callers`: two threads, with a pass each, over one hall; and what settles no history.
 //! - `workers`: workers in threads of their own, who take lines from an intake.
+//! - `loopback`: a worker over a hall, and clients over loopback in a thread of their own.
 //! - `unkept`: the same calls over a hall that stores nothing, beside a core.
 //!
 //! Of a worker's turn:
@@ -40,6 +41,8 @@ mod halls;
 mod house;
 #[cfg(test)]
 mod kept_rows;
+#[cfg(test)]
+mod loopback;
 #[cfg(test)]
 mod masters;
 #[cfg(test)]

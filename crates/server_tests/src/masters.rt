@@ -6,7 +6,7 @@ use crate::stations::{Station, core, settings};
 use radio_core::Core;
 use radio_masters::{Asked, ListFault, ListPull, MountPull, PullTurn, read_list_answer};
 use radio_session::Ending;
-use radio_settings::{MountName, Settings};
+use radio_settings::{MountName, RelaySetting, Settings, SlaveSetting};
 use std::alloc::Global;
 use std::collections::BTreeSet;
 use std::test::Fail;
@@ -27,17 +27,37 @@ const ANSWER: Manners = Manners {
     ..SILENT
 };
 
-/// A relay of these settings over a line of these manners, and a server.
-fn begun(
-    alloc: Global,
-    settings: &Settings,
-    manners: Manners,
-) -> Option<(MountPull<MemoryLine>, Asked<Core>)> {
+/// A relay over a line of these manners. None where memory is refused.
+fn pull_of(alloc: Global, manners: Manners) -> Option<MountPull<MemoryLine>> {
+    let settings = settings(alloc, RELAYED).ok()?;
+    let pull = pull_by(alloc, &settings, manners);
+    drop(settings);
+    pull
+}
+
+/// The same, of these settings.
+fn pull_by(alloc: Global, settings: &Settings, manners: Manners) -> Option<MountPull<MemoryLine>> {
     let relay = settings.relays.as_slice().first()?;
-    let pull = MountPull::new(alloc, relay, MemoryLine::new(alloc, manners)).ok()?;
+    MountPull::new(alloc, relay, MemoryLine::new(alloc, manners)).ok()
+}
+
+/// A server, as the relay asks it. None where memory is refused.
+fn server_of(alloc: Global) -> Option<Asked<Core>> {
+    let settings = settings(alloc, RELAYED).ok()?;
+    let server = server_by(alloc, &settings);
+    drop(settings);
+    server
+}
+
+/// The same, of these settings.
+fn server_by(alloc: Global, settings: &Settings) -> Option<Asked<Core>> {
+    let relay = settings.relays.as_slice().first()?;
+    asked_by(alloc, relay)
+}
+
+fn asked_by(alloc: Global, relay: &RelaySetting) -> Option<Asked<Core>> {
     let core = core(alloc, RELAYED).ok()?;
-    let server = Asked::new(alloc, core, relay).ok()?;
-    Some((pull, server))
+    Asked::new(alloc, core, relay).ok()
 }
 
 /// What comes of the last of so many turns.
@@ -52,15 +72,31 @@ fn last_of(pull: &mut MountPull<MemoryLine>, server: &mut Asked<Core>, turns: u6
 
 /// Whether the last of so many turns of such a relay comes to that. It need not where memory is refused.
 fn comes_to(alloc: Global, row: &Row) -> bool {
-    let Ok(settings) = settings(alloc, RELAYED) else {
-        return true;
-    };
-    let Some((mut pull, mut server)) = begun(alloc, &settings, row.manners) else {
-        return true;
-    };
-    let last = last_of(&mut pull, &mut server, row.turns);
+    match pull_of(alloc, row.manners) {
+        Some(mut pull) => {
+            let comes = asks_as(alloc, &mut pull, row);
+            drop(pull);
+            comes
+        }
+        None => true,
+    }
+}
+
+fn asks_as(alloc: Global, pull: &mut MountPull<MemoryLine>, row: &Row) -> bool {
+    match server_of(alloc) {
+        Some(mut server) => {
+            let ends = ends_as(pull, &mut server, row);
+            drop(server.into_server());
+            ends
+        }
+        None => true,
+    }
+}
+
+fn ends_as(pull: &mut MountPull<MemoryLine>, server: &mut Asked<Core>, row: &Row) -> bool {
+    let last = last_of(pull, server, row.turns);
     let is_up = pull.number().is_some();
-    let is_closed = pull.close(&mut server).is_ok();
+    let is_closed = pull.close(server).is_ok();
     last == PullTurn::OutOfMemory || (last == row.last && is_up == row.is_up && is_closed)
 }
 
@@ -138,16 +174,37 @@ fn pulls_over_a_line(rt: HostRuntime) -> Result<(), Fail> {
 
 /// Whether a listener hears what a relay has pulled in. He need not where memory is refused.
 fn is_heard(alloc: Global) -> bool {
-    let Ok(settings) = settings(alloc, RELAYED) else {
-        return true;
-    };
-    let Some((mut pull, mut server)) = begun(alloc, &settings, ANSWER) else {
-        return true;
-    };
-    if last_of(&mut pull, &mut server, 4) != PullTurn::Running {
-        return true;
+    match pulled(alloc) {
+        Some(core) => hears(Station::new(alloc, core)),
+        None => true,
     }
-    let mut station = Station::new(alloc, server.into_server());
+}
+
+/// A server to which a relay has pulled in all of the answer. None where memory is refused.
+fn pulled(alloc: Global) -> Option<Core> {
+    let mut pull = pull_of(alloc, ANSWER)?;
+    let core = pulled_by(alloc, &mut pull);
+    drop(pull);
+    core
+}
+
+fn pulled_by(alloc: Global, pull: &mut MountPull<MemoryLine>) -> Option<Core> {
+    let mut server = server_of(alloc)?;
+    if last_of(pull, &mut server, 4) == PullTurn::Running {
+        return Some(server.into_server());
+    }
+    drop(server.into_server());
+    None
+}
+
+/// Whether a listener hears it there.
+fn hears(mut station: Station<Core>) -> bool {
+    let hears = is_heard_at(&mut station);
+    drop(station);
+    hears
+}
+
+fn is_heard_at(station: &mut Station<Core>) -> bool {
     if !station.comes(LISTENER, 0) {
         return true;
     }
@@ -245,27 +302,57 @@ const LISTED: Manners = Manners {
     ..SILENT
 };
 
-/// What comes of so many turns of the slave.
-fn list_of(alloc: Global, turns: u64) -> Result<Option<BTreeSet<MountName>>, ListFault> {
-    let Ok(settings) = settings(alloc, RELAYED) else {
-        return Err(ListFault::OutOfMemory);
-    };
-    let Some(slave) = &settings.slave else {
-        return Err(ListFault::Cut);
-    };
-    let mut pull = ListPull::new(alloc, slave, MemoryLine::new(alloc, LISTED))?;
-    let mut buffer = [0u8; 64];
-    for _ in 1..turns {
-        if pull.turn(&mut buffer)?.is_some() {
-            return Err(ListFault::TooLong);
+/// Whether the slave has this list with its fifth turn. It need not where memory is refused.
+fn is_listed(alloc: Global) -> bool {
+    match settings(alloc, RELAYED) {
+        Ok(settings) => {
+            let is_listed = is_listed_by(alloc, &settings);
+            drop(settings);
+            is_listed
         }
+        Err(_) => true,
     }
-    pull.turn(&mut buffer)
 }
 
-/// Whether the slave has this list with its fifth turn.
-fn is_listed(alloc: Global) -> bool {
-    match list_of(alloc, 5) {
+fn is_listed_by(alloc: Global, settings: &Settings) -> bool {
+    match &settings.slave {
+        Some(slave) => is_told_to(alloc, slave),
+        None => false,
+    }
+}
+
+fn is_told_to(alloc: Global, slave: &SlaveSetting) -> bool {
+    match ListPull::new(alloc, slave, MemoryLine::new(alloc, LISTED)) {
+        Ok(mut pull) => {
+            let is_told = is_last(alloc, &mut pull, 5);
+            drop(pull);
+            is_told
+        }
+        Err(_) => true,
+    }
+}
+
+/// Whether the list comes with the last of so many turns, and no sooner.
+fn is_last(alloc: Global, pull: &mut ListPull<MemoryLine>, turns: u64) -> bool {
+    let mut buffer = [0u8; 64];
+    for _ in 1..turns {
+        match has_come(pull, &mut buffer) {
+            Ok(false) => (),
+            Ok(true) => return false,
+            Err(fault) => return fault == ListFault::OutOfMemory,
+        }
+    }
+    is_whole(alloc, pull, &mut buffer)
+}
+
+/// Whether the list comes with the next turn.
+fn has_come(pull: &mut ListPull<MemoryLine>, buffer: &mut [u8]) -> Result<bool, ListFault> {
+    Ok(pull.turn(buffer)?.is_some())
+}
+
+/// Whether it comes then, and is the master's.
+fn is_whole(alloc: Global, pull: &mut ListPull<MemoryLine>, buffer: &mut [u8]) -> bool {
+    match pull.turn(buffer) {
         Ok(Some(names)) => are_named(alloc, &names, b"/a /c "),
         Ok(None) => false,
         Err(fault) => fault == ListFault::OutOfMemory,
