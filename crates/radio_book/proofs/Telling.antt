@@ -1,5 +1,5 @@
 -- Histories that go on.
-use Rattle.std.proofs.Common.{◌≡◌, ◌+◌, Bool, true, false, List, [], ◌∷◌, ◌++◌, Result, Ok, Err, IfOk, OnErr, length, length-append, refl, sym, ap, subst, ◌∙◌}
+use Rattle.std.proofs.Common.{◌≡◌, ◌+◌, ℕ, Bool, true, false, List, [], ◌∷◌, ◌++◌, Result, Ok, Err, IfOk, OnErr, length, length-append, refl, sym, ap, subst, ◌∙◌}
 use Rattle.std.proofs.lemmas.Bool.{false≢true}
 use Rattle.std.proofs.lemmas.Result.{IfErr-at_err, IfOk-at_ok}
 use Rattle.std.proofs.Math.Logic.{∥∥₁_map, ∥∥₁_elim}
@@ -12,6 +12,8 @@ use Rattle.radio_core.specs.Step.{Step, reply_to, world_after, Represents}
 use Rattle.radio_book.specs.declared.entry.Entry.{Entry}
 use Rattle.radio_book.specs.Stamp.{Stamp}
 use Rattle.radio_book.specs.History.{entry, entry_of, world_of, IsLegal, IsRun, IsTold}
+use Rattle.radio_book.specs.Wanted.{AreWanted}
+use Rattle.radio_house.specs.Wanted.{wanted}
 
 world_of_more : (w : World) (history : List Entry) (e : Entry) → world_of w (history ++ e ∷ []) ≡ world_after (world_of w history) e.event
 world_of_more w [] e = refl
@@ -130,3 +132,16 @@ legal keeps opening stored stored' core core' event (Ok receipt) step same grows
       reply = replied ∙ ap (reply_to (world_of opening t.history)) (sym same);
       serial = λ k. serial k ∙ ap length (grows k) ∙ length-append stored (entry_of receipt ∷ []) ∙ ap (λ h. length h + 1) (t.kept k);
     } in is)
+
+-- the mounts that are wanted in whatever state the core stands for are those of the state after a history
+pub are_wanted : {A E : Type 0} (names : A → List (List ℕ)) (keeps : Bool) (opening : World) (stored : List Entry) (core : World) (result : Result A E)
+    → ((w : World) → Represents core w → IfOk result (λ mounts. names mounts ≡ wanted w))
+    → ∥ IsTold keeps opening stored core ∥₁ → IfOk result (λ mounts. ∥ AreWanted opening (names mounts) ∥₁)
+are_wanted names keeps opening stored core (Ok mounts) step told =
+    ∥∥₁_map told (λ (t : IsTold keeps opening stored core).
+    let are : AreWanted opening (names mounts) = record {
+      history = t.history;
+      run = t.run;
+      are = step (world_of opening t.history) t.represents;
+    } in are)
+are_wanted names keeps opening stored core (Err refused) step told = tt

@@ -5,3 +5,4 @@ pub mod Books
 pub mod Settling
 pub mod Totals
 pub mod Words
+pub mod Wanted

@@ -5,6 +5,8 @@ ghost use Rattle.radio_house.specs.World.{World, opening};
 ghost use Rattle.radio_core.specs.Step.{Represents, reply_to, world_after};
 ghost use Rattle.radio_events.specs.Events.{TakesNoMemory};
 ghost use Rattle.radio_book.specs.History.{IsLegal, IsTold, entry_of};
+ghost use Rattle.radio_book.specs.Wanted.{AreWanted};
+ghost use Rattle.radio_house.specs.Wanted.{wanted};
 ghost use Rattle.radio_book.specs.Newcomers.{is_here, leaver_of};
 ghost use Rattle.radio_book.specs.declared.newcomer.Newcomer.{Newcomer};
 
@@ -15,7 +17,7 @@ use crate::{Chronicle, Entry, House, Kept, OutOfMemory, Pass, Receipt};
 use radio_access::Lists;
 use radio_core::Core;
 use radio_events::Event;
-use radio_settings::Settings;
+use radio_settings::{MountName, Settings};
 use std::alloc::Global;
 use std::marker::Model;
 use std::sync::ledger::Blank;
@@ -102,6 +104,18 @@ impl<C: Chronicle, H: House> Book<C, H> {
         } else {
             self.accounts.answer(event)
         }
+    }
+
+    /// The mounts where somebody sits, which relays feed on demand, in the order of their bytes. It
+    /// makes no entry. `OutOfMemory` where memory was refused.
+    pub fn wanted(&self) -> Result<Vec<MountName>, OutOfMemory>
+        // they are those of whatever state the core stands for
+        ensures step { (w : World) → Represents self.now.core w → IfOk result (λ mounts. mounts.items ≡ wanted w) }
+        // whatever was called, there is a history that is a run from the opening state, and they are those of the state after it
+        ensures legal { IfOk result (λ mounts. ∥ AreWanted H.opening mounts.items ∥₁) }
+    {
+        let story = &self.accounts.story;
+        story.core.wanted()
     }
 
     /// Whatever was called, there is a history that is a run from the opening state, and the core

@@ -35,6 +35,12 @@ may_move true true true e = cc
 may_move true false same e = cc
 may_move false there same e = cc
 
+pub may_go : (live there same : Bool) → verdict_in (row NoMount (not live) ∷ row NoDestination (not there) ∷ row SameMount same ∷ []) ≡ Allow
+    → there ≡ true
+may_go true true same e = refl
+may_go true false same e = cc
+may_go false there same e = cc
+
 pub may_add : (has_users : Bool) → verdict_in (row NoUsers (not has_users) ∷ []) ≡ Allow → has_users ≡ true
 may_add true e = refl
 may_add false e = cc

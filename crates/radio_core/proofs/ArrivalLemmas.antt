@@ -15,8 +15,7 @@ use Rattle.radio_core.specs.declared.outcome.Change.TheVariants.{Admit, Obey}
 use Rattle.radio_house.specs.declared.standing.Standing.TheVariants.{Unknown}
 use Rattle.radio_house.specs.House.{House}
 use Rattle.radio_house.specs.Streams.{shown_for}
-use Rattle.radio_core.specs.Changes.{answered, session_killed, changed, before_silence, session_silenced, silent_in, ticked}
-use Rattle.radio_house.specs.HouseChanges.{begun, raised}
+use Rattle.radio_core.specs.Changes.{answered, session_killed, changed, before_silence, session_silenced, silent_in, ticked, session_begun, session_raised}
 use Rattle.radio_core.specs.ClientSteps.{ArrivalsStay}
 use Rattle.radio_house.specs.Clients.{Client, client_of, with_state, in_state, without_client}
 use Rattle.radio_parts.specs.Sessions.{Session, session_of}
@@ -161,11 +160,11 @@ module _ (w : World) (s : IsSound w) where
   stay_by event o (IsDenied _ by v nobody) = stays_so w (same_clients w.house.clients)
   stay_by event o (IsRefused _ him by v its undecided) = stays_so (changed w o.change) (keeps_state w.house.clients him HasHisAnswer)
   stay_by event o (Begins asked undecided none allowed) =
-      let up = record w { house = begun w.house asked.id asked.mount (shown_for w.house asked.mount asked.shown) } in
+      let up = session_begun w asked.id asked.mount (shown_for w.house asked.mount asked.shown) in
       stays_so (changed w o.change) (subst (λ (h : House). Keeps w.house.clients h.clients) (sym (house_called up asked.mount))
       (keeps_state w.house.clients asked.id (IsSource asked.mount)))
   stay_by event o (ComesUp mount shown none allowed) =
-      let up = record w { house = raised w.house (w.house.last_id + 1) mount (shown_for w.house mount shown) } in
+      let up = session_raised w (w.house.last_id + 1) mount (shown_for w.house mount shown) in
       stays_so (changed w o.change) (subst (λ (h : House). Keeps w.house.clients h.clients) (sym (house_called up mount)) (same_clients w.house.clients))
   stay_by event o (Receives him mount block feeding) = stays_so (changed w o.change) (same_clients w.house.clients)
   stay_by event o (SetsTitle him mount text feeding) = stays_so (changed w o.change) (same_clients w.house.clients)

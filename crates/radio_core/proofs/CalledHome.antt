@@ -18,7 +18,7 @@ use Rattle.radio_core.specs.declared.outcome.Change.TheVariants.{Begin, Raise}
 use Rattle.radio_house.specs.declared.standing.Standing.TheVariants.{Undecided, Feeds}
 use Rattle.radio_addr.specs.declared.peer.Peer.{Peer}
 use Rattle.radio_settings.specs.declared.field.Shown.{Shown}
-use Rattle.radio_core.specs.Changes.{changed, carried_along, called_home}
+use Rattle.radio_core.specs.Changes.{changed, carried_along, called_home, session_begun, session_raised}
 use Rattle.radio_house.specs.HouseChanges.{begun, raised}
 use Rattle.radio_house.specs.Facts.{sight_of}
 use Rattle.radio_core.specs.Moves.{his_turn, moved_into}
@@ -27,8 +27,9 @@ use Rattle.radio_core.specs.Sound.{IsSound}
 use Rattle.radio_house.specs.World.{World, standing_of}
 use Rattle.radio_core.proofs.CarriedFates.{order_carried, carried_fate}
 use Rattle.radio_core.proofs.SoundSessions.{sound_begun, sound_raised}
-use Rattle.radio_core.proofs.Standings.{Turns, asks, turns_feeding, turns_raised}
+use Rattle.radio_core.proofs.Standings.{Turns, asks, turns_feeding, turns_raised, turns_given}
 use Rattle.radio_core.proofs.Fates.{Fate, GoesOn, IsEnded, HasStopped, IsMoved, Fates, Nobody, sound_fates}
+use Rattle.radio_house.specs.Waiting.{heard_at}
 
 abbrev Nothing : ℕ → Rule → Type 0
 Nothing id rule = ⊥
@@ -42,7 +43,7 @@ pub data IsCalled (M : ℕ → Session → Type 0) (w later : World) (id : ℕ) 
   Rests : standing_of later id ≡ standing_of w id → seat_of later.seats id ≡ seat_of w.seats id → IsCalled M w later id
   Comes : (old : Seat) (session : Session) → M id session → LeavesAnother later old session → seat_of w.seats id ≡ Some old
       → seat_of later.seats id ≡ Some (moved_into session old) → standing_of later id ≡ standing_of w id
-      → session_of later.house.live session.mount ≡ Some session → lets_in w.house.lists session.mount old.pair ≡ true → IsCalled M w later id
+      → heard_at later.house session.mount ≡ Some session → lets_in w.house.lists session.mount old.pair ≡ true → IsCalled M w later id
 
 is_called_by : (M : ℕ → Session → Type 0) (w later : World) (id : ℕ) → Fate Nothing M Nobody LeavesAnother w later id → IsCalled M w later id
 is_called_by M w later id (GoesOn same seat feeds sits) = Rests same seat
@@ -75,7 +76,7 @@ module _ (w : World) (s : IsSound w) (mount : List ℕ) (M : ℕ → Session →
     home_fate id =
         carried_fate Nothing M Nobody LeavesAnother w s w.house refl refl refl (Up mount) later (λ m. refl) id refl refl
         (λ turn same seats. GoesOn same seats (λ m feeds. refl) (λ seat has. refl))
-        (λ seat session concerned turn is_live.
+        (λ seat session had concerned turn is_live.
         let same : mount ≡ session.mount = comes_home (sight_of w.house) mount (seats_then id) id session.mount turn in (
           apart_by (bytes_eq seat.home mount) seat.mount mount session.mount same concerned,
           home_by seat.home mount session.mount (not (bytes_eq seat.mount mount)) same concerned,
@@ -132,7 +133,7 @@ house_called w mount = by_test (options_for w.house.settings mount).listeners.fa
 module _ (w : World) (s : IsSound w) (him : ℕ) (mount : List ℕ) (shown : Shown) (peer : Peer) (stood : standing_of w him ≡ Undecided peer)
     (not_live : session_of w.house.live mount ≡ None) where
   abbrev pub just_begun : World
-  just_begun = record w { house = begun w.house him mount shown }
+  just_begun = session_begun w him mount shown
 
   pub sound_just_begun : IsSound just_begun
   sound_just_begun = sound_begun w s him mount shown peer stood not_live
@@ -142,7 +143,7 @@ module _ (w : World) (s : IsSound w) (him : ℕ) (mount : List ℕ) (shown : Sho
 
   pub turns_up : Turns w (changed w (Begin him mount shown)) him (Feeds mount)
   turns_up =
-      let begins = turns_feeding w him mount shown (asks w him peer stood) in
+      let begins = turns_given w (begun w.house him mount shown) mount him him (Feeds mount) (turns_feeding w him mount shown (asks w him peer stood)) in
       record {
         his = stands_called just_begun sound_just_begun mount (λ id session. Unit {0}) (λ calls id session turn. tt) him ∙ begins.his;
         others = λ id other. stands_called just_begun sound_just_begun mount (λ id session. Unit {0}) (λ calls id session turn. tt) id ∙ begins.others id other;
@@ -151,7 +152,7 @@ module _ (w : World) (s : IsSound w) (him : ℕ) (mount : List ℕ) (shown : Sho
 -- a relay comes up on a mount that was not live, and those come home whom it calls
 module _ (w : World) (s : IsSound w) (mount : List ℕ) (shown : Shown) (not_live : session_of w.house.live mount ≡ None) where
   abbrev pub just_raised : World
-  just_raised = record w { house = raised w.house (w.house.last_id + 1) mount shown }
+  just_raised = session_raised w (w.house.last_id + 1) mount shown
 
   pub sound_just_raised : IsSound just_raised
   sound_just_raised = sound_raised w s mount shown not_live
@@ -162,7 +163,7 @@ module _ (w : World) (s : IsSound w) (mount : List ℕ) (shown : Shown) (not_liv
   pub turns_risen : Turns w (changed w (Raise (w.house.last_id + 1) mount shown)) (w.house.last_id + 1) (Feeds mount)
   turns_risen =
       let him = w.house.last_id + 1 in
-      let rises = turns_raised w him mount shown (s.numbered him (omega arith)) in
+      let rises = turns_given w (raised w.house him mount shown) mount him him (Feeds mount) (turns_raised w him mount shown (s.numbered him (omega arith))) in
       record {
         his = stands_called just_raised sound_just_raised mount (λ id session. Unit {0}) (λ calls id session turn. tt) him ∙ rises.his;
         others = λ id other. stands_called just_raised sound_just_raised mount (λ id session. Unit {0}) (λ calls id session turn. tt) id ∙ rises.others id other;

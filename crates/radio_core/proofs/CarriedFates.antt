@@ -1,6 +1,5 @@
 -- how each client fares where a move carries listeners along
 use Rattle.std.proofs.Common.{◌≡◌, true, ℕ, Option, Some, None, is_some, List, refl, ap, sym, ◌∙◌}
-use Rattle.std.specs.Option.{option_map_or}
 use Rattle.std.proofs.lemmas.Bool.{and_parts}
 use Rattle.radio_policy.specs.declared.rule.Rule.{Rule}
 use Rattle.radio_access.specs.Lists.{Lists, lets_in}
@@ -22,14 +21,15 @@ use Rattle.radio_house.specs.Clients.{Client, client_of}
 use Rattle.radio_house.specs.Relays.{Relay, relay_of}
 use Rattle.radio_house.specs.Facts.{sight_of, live_end}
 use Rattle.radio_core.specs.Moves.{his_turn, moved_into}
-use Rattle.radio_parts.specs.Sessions.{Session, session_of}
+use Rattle.radio_parts.specs.Sessions.{Session}
 use Rattle.radio_core.specs.Sound.{IsSound}
 use Rattle.radio_parts.specs.Stream.{end_of}
 use Rattle.radio_house.specs.World.{World, standing_of, standing_in}
 use Rattle.radio_core.proofs.Fates.{Fate, IsEnded, IsMoved, lost_in, active_sitter}
-use Rattle.radio_parts.proofs.SessionLookups.{found_named}
 use Rattle.radio_parts.proofs.NumberOrder.{same_order}
 use Rattle.radio_core.proofs.Standings.{sits_in}
+use Rattle.radio_core.proofs.HeardLemmas.{heard_end, heard_named, heard_number}
+use Rattle.radio_house.specs.Waiting.{heard_at}
 
 -- a carry leaves the listeners in their order
 pub order_carried : (w : World) (move : Move) → AreByNumber w.seats → AreByNumber (carried_along w move).seats
@@ -39,20 +39,18 @@ found_there : {A : Type 0} (found : Option A) → is_some found ≡ true → (x 
 found_there None e = cc
 found_there (Some x) e = (x, refl)
 
--- where a mount is live, the end that is seen of its stream is that of its session
-at_its_end : (house : House) (to : List ℕ) (session : Session) (seat : Seat) → session_of house.live to ≡ Some session
+-- the end that is seen of a stream is that of what is heard there
+at_its_end : (house : House) (to : List ℕ) (session : Session) (seat : Seat) → heard_at house to ≡ Some session
     → seat_at_end (sight_of house) to seat ≡ moved_into session seat
-at_its_end house to session seat live =
-    let named : session.mount ≡ to = found_named house.live to session live in
-    let end_in : Option Session → ℕ = λ found. option_map_or (λ (x : Session). end_of x.stream) found 0 in
-    let number_in : Option Session → ℕ = λ found. option_map_or (λ (x : Session). x.number) found 0 in
-    ap (λ (n : ℕ). record seat { mount = to; session = n; place = live_end house to }) (ap number_in live)
-    ∙ ap (λ (n : ℕ). record seat { mount = to; session = session.number; place = n }) (ap end_in live)
+at_its_end house to session seat heard =
+    let named : session.mount ≡ to = heard_named house to session heard in
+    ap (λ (n : ℕ). record seat { mount = to; session = n; place = live_end house to }) (heard_number house to session heard)
+    ∙ ap (λ (n : ℕ). record seat { mount = to; session = session.number; place = n }) (heard_end house to session heard)
     ∙ ap (λ (m : List ℕ). record seat { mount = m; session = session.number; place = end_of session.stream }) (sym named)
 
 module _ (C : ℕ → Rule → Type 0) (M : ℕ → Session → Type 0) (S : ℕ → Type 0) (L : World → Seat → Session → Type 0) (w : World) (s : IsSound w) (house : House)
     (clients : house.clients ≡ w.house.clients) (relays : house.relays ≡ w.house.relays) (lists : house.lists ≡ w.house.lists) (move : Move) (later : World)
-    (live : (mount : List ℕ) → session_of later.house.live mount ≡ session_of house.live mount) (id : ℕ) where
+    (live : (mount : List ℕ) → heard_at later.house mount ≡ heard_at house mount) (id : ℕ) where
   -- the state before the first turn
   abbrev before : World
   before = record w { house = house }
@@ -76,21 +74,21 @@ module _ (C : ℕ → Rule → Type 0) (M : ℕ → Session → Type 0) (S : ℕ
   module _ (stands : standing_of later id ≡ standing_of after id) (seats : seat_of later.seats id ≡ seat_of after.seats id)
       (stays : ((seat : Seat) → seat_of w.seats id ≡ Some seat → his_turn before move id ≡ Stays) → standing_of later id ≡ standing_of w id
       → seat_of later.seats id ≡ seat_of w.seats id → Fate C M S L w later id)
-      (left : (seat : Seat) (session : Session) → concerns move seat.mount seat.home ≡ true → his_turn before move id ≡ GoesTo session.mount
-      → session_of house.live session.mount ≡ Some session → L later seat session)
+      (left : (seat : Seat) (session : Session) → seat_of w.seats id ≡ Some seat → concerns move seat.mount seat.home ≡ true
+      → his_turn before move id ≡ GoesTo session.mount → heard_at house session.mount ≡ Some session → L later seat session)
       (causes : (seat : Seat) (rule : Rule) → seat_of w.seats id ≡ Some seat → his_turn before move id ≡ IsOut rule → C id rule)
       (carries : (session : Session) → his_turn before move id ≡ GoesTo session.mount → M id session) where
     goes : (seat : Seat) (to : List ℕ) (others : List Listener) → his_turn before move id ≡ GoesTo to → seat_of w.seats id ≡ Some seat
         → concerns move seat.mount seat.home ≡ true → MaySit (sight_of house) others seat.pair to
         → listener_of after.seats id ≡ Some (record { id = id; seating = HasSeat (seat_at_end (sight_of house) to seat) }) → Fate C M S L w later id
     goes seat to others turn had concerned fits now =
-        let found = found_there (session_of house.live to) fits.is_live in
-        let named : found.0.mount ≡ to = found_named house.live to found.0 found.1 in
+        let found = found_there (heard_at house to) fits.is_live in
+        let named : found.0.mount ≡ to = heard_named house to found.0 found.1 in
         let goes_there : his_turn before move id ≡ GoesTo found.0.mount = turn ∙ ap (λ (m : List ℕ). GoesTo m) (sym named) in
-        let is_live : session_of house.live found.0.mount ≡ Some found.0 = ap (session_of house.live) named ∙ found.1 in
+        let is_live : heard_at house found.0.mount ≡ Some found.0 = ap (heard_at house) named ∙ found.1 in
         let sat : standing_of w id ≡ Sits = s.sitting id seat had in
         let opens : lets_in house.lists to seat.pair ≡ true = (and_parts (lets_in house.lists to seat.pair) _ fits.is_open).0 in
-        IsMoved seat found.0 (carries found.0 goes_there) (left seat found.0 concerned goes_there is_live) had
+        IsMoved seat found.0 (carries found.0 goes_there) (left seat found.0 had concerned goes_there is_live) had
         (seats ∙ ap seat_in now ∙ ap (λ (x : Seat). Some x) (at_its_end house to found.0 seat found.1))
         (stands ∙ stands_by (Some (record { id = id; seating = HasSeat (seat_at_end (sight_of house) to seat) })) now
         ∙ sits_in relay (listener_of w.seats id) client id (seat_at_end (sight_of house) to seat) sat ∙ sym sat)

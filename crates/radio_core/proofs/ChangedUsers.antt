@@ -26,6 +26,7 @@ with_lists w lists = record w { house = record w.house { lists = lists } }
 pub sound_lists : (w : World) → IsSound w → (lists : Lists) → IsSound (with_lists w lists)
 sound_lists w s lists = record {
   numbered = s.numbered;
+  from_one = s.from_one;
   feeds = s.feeds;
   fed = s.fed;
   apart = s.apart;
@@ -34,7 +35,7 @@ sound_lists w s lists = record {
   sitting = s.sitting;
   seated = λ id seat e.
       let old = s.seated id seat e in
-      record { session = old.session; is_live = old.is_live; his_session = old.his_session; within = old.within };
+      record { session = old.session; is_heard = old.is_heard; his_session = old.his_session; within = old.within };
 }
 
 is_not : (b : Bool) → not b ≡ true → b ≡ false

@@ -7,9 +7,9 @@ use Rattle.radio_settings.specs.Options.{options_for}
 use Rattle.radio_tables.specs.Lists.{Each}
 use Rattle.radio_tables.proofs.EachLaws.{Each_each, Each_kept, Each_updated, Each_mapped, Each_placed}
 use Rattle.radio_seats.specs.declared.seat.Seat.{Seat}
-use Rattle.radio_seats.specs.declared.seat.Seating.TheVariants.{Finished}
+use Rattle.radio_seats.specs.declared.seat.Seating.TheVariants.{Finished, Sits}
 use Rattle.radio_seats.specs.declared.seat.Listener.{Listener}
-use Rattle.radio_seats.specs.Seats.{is_listener, by_listener, seated, advanced, loses, holds_of, finished_if, with_ended}
+use Rattle.radio_seats.specs.Seats.{is_listener, by_listener, seated, advanced, loses, holds_of, finished_if, with_ended, hears_session, in_session_at, with_session_at}
 use Rattle.radio_events.specs.declared.command.Command.{Command}
 use Rattle.radio_events.specs.declared.command.Command.TheVariants.{MoveClients, KillClient, KillSource, SetTitle as NewTitle, SetFallback, AddUser, DeleteUser}
 use Rattle.radio_house.specs.declared.clients.ClientState.{ClientState}
@@ -20,8 +20,7 @@ use Rattle.radio_core.specs.declared.outcome.Change.TheVariants.{EndAndLeave, Fo
 use Rattle.radio_fallback.specs.declared.moves.Move.{Move}
 use Rattle.radio_fallback.specs.declared.moves.Move.TheVariants.{Ended as SessionEnds, Up, To}
 use Rattle.radio_fallback.proofs.Faring.{each_carried}
-use Rattle.radio_core.specs.Changes.{answered, done, session_ended_by, session_killed, carried_along, session_over, session_ended, called_home, client_gone, before_silence}
-use Rattle.radio_house.specs.HouseChanges.{begun, raised}
+use Rattle.radio_core.specs.Changes.{answered, done, session_ended_by, session_killed, carried_along, session_over, session_ended, called_home, client_gone, before_silence, session_begun, session_raised}
 use Rattle.radio_core.specs.Changes.{session_silenced, silent_in, ticked}
 use Rattle.radio_house.specs.Clients.{Client, newcomer, is_client, by_number, with_state, in_state}
 use Rattle.radio_parts.specs.Due.{last_moment, due_at, listener_due, session_due, earliest}
@@ -40,6 +39,7 @@ use Rattle.radio_house.specs.World.{World}
 use Rattle.radio_access.specs.Lists.{with_user_at, without_user_at}
 use Rattle.radio_house.specs.Outsiders.{is_shut_out}
 use Rattle.radio_policy.specs.declared.rule.Rule.TheVariants.{ListenerPassword}
+use Rattle.radio_seats.specs.declared.seat.Seating.{Seating}
 
 -- before it is due, nothing has had its time
 
@@ -142,6 +142,18 @@ module _ (moment : ℕ) (last : moment ≤ last_moment) where
   ended_are_due : (w : World) (p : Seat → Bool) (rule : Rule) → ListenersAreDue w w.seats → ListenersAreDue w (with_ended w.seats p rule)
   ended_are_due w p rule all =
       Each_mapped _ _ (finished_if p rule) (λ listener h. ended_due moment last w.house.settings rule listener.id listener.seating (holds_of p listener.seating) h) w.seats all
+
+  same_due : (w : World) (mount : List ℕ) (session : ℕ) (listener : Listener)
+      → listener_due w.house.settings (hears_session mount session listener) ≡ listener_due w.house.settings listener
+  same_due w mount session listener = by_seating listener.seating where
+    by_seating : (seating : Seating) → listener_due w.house.settings (record { id = listener.id; seating = in_session_at mount session seating })
+        ≡ listener_due w.house.settings (record { id = listener.id; seating = seating })
+    by_seating (Sits seat) = refl
+    by_seating (Finished rule) = refl
+
+  given_are_due : (w : World) (mount : List ℕ) (session : ℕ) → ListenersAreDue w w.seats → ListenersAreDue w (with_session_at w.seats mount session)
+  given_are_due w mount session all =
+      Each_mapped _ _ (hears_session mount session) (λ listener h. omega (arith, h, same_due w mount session listener)) w.seats all
 
   carried_due : (w : World) (move : Move) → ListenersAreDue w w.seats → ListenersAreDue w (carried_along w move).seats
   carried_due w move all =
@@ -250,14 +262,14 @@ module _ (moment : ℕ) (last : moment ≤ last_moment) where
     listeners = due.listeners;
     sessions = due.sessions;
   }
-  stays_due w (Begin id mount shown) due h = called_due (record w { house = begun w.house id mount shown }) mount (record {
+  stays_due w (Begin id mount shown) due h = called_due (session_begun w id mount shown) mount (record {
     clients = Each_updated _ (is_client id) (with_state (Feeds mount)) (λ client k. last) w.house.clients due.clients;
-    listeners = due.listeners;
+    listeners = given_are_due w mount id due.listeners;
     sessions = Each_placed _ by_mount (opened mount id shown w.house.time) w.house.live h due.sessions;
   })
-  stays_due w (Raise id mount shown) due h = called_due (record w { house = raised w.house id mount shown }) mount (record {
+  stays_due w (Raise id mount shown) due h = called_due (session_raised w id mount shown) mount (record {
     clients = due.clients;
-    listeners = due.listeners;
+    listeners = given_are_due w mount id due.listeners;
     sessions = Each_placed _ by_mount (opened mount id shown w.house.time) w.house.live h due.sessions;
   })
   stays_due w (Receive mount block) due h = received_due w mount block due h

@@ -1,5 +1,5 @@
 -- how each client fares by an event that ends something, or carries listeners along
-use Rattle.std.proofs.Common.{◌≡◌, ◌⊎◌, inl, inr, Bool, true, ℕ, ◌<◌, Option, Some, None, List, refl, ap, sym, subst, ◌∙◌, arith}
+use Rattle.std.proofs.Common.{◌≡◌, ◌⊎◌, inl, inr, Bool, true, ℕ, ◌<◌, Option, Some, None, List, refl, ap, sym, subst, ◌∙◌, arith, false, ◌==◌}
 use Rattle.radio_policy.specs.declared.rule.Rule.{Rule}
 use Rattle.radio_access.specs.Lists.{Lists, lets_in}
 use Rattle.radio_seats.specs.declared.seat.Listener.{Listener}
@@ -20,6 +20,8 @@ use Rattle.radio_house.specs.Timeouts.{asks_too_late}
 use Rattle.radio_house.specs.World.{World, standing_of, standing_in, standing_by}
 use Rattle.radio_parts.proofs.NumberOrder.{order_ended}
 use Rattle.radio_core.proofs.Standings.{no_relay_sits}
+use Rattle.radio_house.specs.Waiting.{heard_at}
+use Rattle.radio_core.proofs.HeardLemmas.{heard_same}
 
 -- there is something that can end for him
 abbrev pub IsActive : Standing → Type 0
@@ -50,7 +52,7 @@ pub data Fate (C : ℕ → Rule → Type 0) (M : ℕ → Session → Type 0) (S 
   -- a listener goes on in another session, from the end of its stream
   IsMoved : (old : Seat) (session : Session) → M id session → L later old session → seat_of w.seats id ≡ Some old
       → seat_of later.seats id ≡ Some (moved_into session old) → standing_of later id ≡ standing_of w id
-      → session_of later.house.live session.mount ≡ Some session → lets_in w.house.lists session.mount old.pair ≡ true → Fate C M S L w later id
+      → heard_at later.house session.mount ≡ Some session → lets_in w.house.lists session.mount old.pair ≡ true → Fate C M S L w later id
 
 pub record Fates (C : ℕ → Rule → Type 0) (M : ℕ → Session → Type 0) (S : ℕ → Type 0) (L : World → Seat → Session → Type 0) (w later : World) : Type 0 where
   pub last : later.house.last_id ≡ w.house.last_id
@@ -95,7 +97,8 @@ module _ (C : ℕ → Rule → Type 0) (M : ℕ → Session → Type 0) (S : ℕ
 
   pub sound_fates : IsSound later
   sound_fates = record {
-    numbered = λ id h. numbered id (subst (λ (n : ℕ). n < id) f.last h);
+    numbered = λ id h. unknown_still id (s.numbered id (subst (λ (n : ℕ). n < id) f.last h));
+    from_one = unknown_still 0 s.from_one;
     feeds = λ id mount e.
         let on = feeds_on id mount e in
         let old = s.feeds id mount on.0 in
@@ -107,13 +110,13 @@ module _ (C : ℕ → Rule → Type 0) (M : ℕ → Session → Type 0) (S : ℕ
     sitting = λ id seat e. sitting id seat e (f.fate id);
     seated = λ id seat e. seated id seat e (f.fate id);
   } where
-    numbered : (id : ℕ) → w.house.last_id < id → standing_of later id ≡ Unknown
-    numbered id h = by_fate (f.fate id) where
+    unknown_still : (id : ℕ) → standing_of w id ≡ Unknown → standing_of later id ≡ Unknown
+    unknown_still id unknown = by_fate (f.fate id) where
       by_fate : Fate C M S L w later id → standing_of later id ≡ Unknown
-      by_fate (GoesOn same seat feeds sits) = same ∙ s.numbered id h
-      by_fate (IsEnded rule cause active ended none over) = absurd (inactive (standing_of w id) (s.numbered id h) active)
-      by_fate (HasStopped other why feeding done none over) = let unknown : standing_of w id ≡ Unknown = s.numbered id h in cc
-      by_fate (IsMoved old session why left had has same live opens) = same ∙ s.numbered id h
+      by_fate (GoesOn same seat feeds sits) = same ∙ unknown
+      by_fate (IsEnded rule cause active ended none over) = absurd (inactive (standing_of w id) unknown active)
+      by_fate (HasStopped other why feeding done none over) = cc
+      by_fate (IsMoved old session why left had has same live opens) = same ∙ unknown
 
     fed : (mount : List ℕ) (session : Session) → session_of later.house.live mount ≡ Some session → standing_of later session.number ≡ Feeds mount
     fed mount session e = by_fate (f.fate session.number) where
@@ -141,13 +144,18 @@ module _ (C : ℕ → Rule → Type 0) (M : ℕ → Session → Type 0) (S : ℕ
     seated id seat e (GoesOn same seats feeds sits) =
         let had : seat_of w.seats id ≡ Some seat = sym seats ∙ e in
         let old = s.seated id seat had in
-        record { session = old.session; is_live = sits seat had ∙ old.is_live; his_session = old.his_session; within = old.within }
+        record {
+          session = old.session;
+          is_heard = heard_same later.house w.house seat.mount f.settings (sits seat had) ∙ old.is_heard;
+          his_session = old.his_session;
+          within = old.within;
+        }
     seated id seat e (IsEnded rule cause active ended none over) = cc
     seated id seat e (HasStopped other why feeding done none over) = cc
     seated id seat e (IsMoved old session why left had has same live opens) =
         let both : Some (moved_into session old) ≡ Some seat = sym has ∙ e in
         let one : moved_into session old ≡ seat = cc in
-        subst (λ (x : Seat). IsSeatedIn later x) one (record { session = session; is_live = live; his_session = refl; within = omega arith })
+        subst (λ (x : Seat). IsSeatedIn later x) one (record { session = session; is_heard = live; his_session = refl; within = omega arith })
 
 -- nothing has happened
 pub fates_none : (C : ℕ → Rule → Type 0) (M : ℕ → Session → Type 0) (S : ℕ → Type 0) (L : World → Seat → Session → Type 0) (w : World) → IsSound w
@@ -163,9 +171,9 @@ fates_none C M S L w s = record {
   fate = λ id. GoesOn refl refl (λ mount e. refl) (λ seat e. refl);
 }
 
--- whoever is moved leaves a mount whose session is over
+-- whoever is moved sat in a session, and it is over
 abbrev pub HasEnded : World → Seat → Session → Type 0
-HasEnded later old session = session_of later.house.live old.mount ≡ None
+HasEnded later old session = (session_of later.house.live old.mount ≡ None) × ((old.session == 0) ≡ false)
 
 -- no source stops by its own doing
 abbrev pub Nobody : ℕ → Type 0
@@ -209,13 +217,14 @@ module _ (C : ℕ → Rule → Type 0) (M : ℕ → Session → Type 0) (w betwe
       absurd (finished_rests (standing_of between id) rule ended active')
   fate_then id (IsEnded rule cause active ended none over) (IsMoved old session carries left had has same live opens) = cc
   fate_then id (IsMoved old session carries left had has same live opens) (GoesOn same' seats feeds sits) =
-      IsMoved old session carries (still_none old.mount left) had (seats ∙ has) (same' ∙ same) (sits (moved_into session old) has ∙ live) opens
+      IsMoved old session carries (still_none old.mount left.0, left.1) had (seats ∙ has) (same' ∙ same)
+      (heard_same later.house between.house session.mount g.settings (sits (moved_into session old) has) ∙ live) opens
   fate_then id (IsMoved old session carries left had has same live opens) (IsEnded rule cause active ended none over) =
       IsEnded rule cause (subst (λ (x : Standing). IsActive x) same active) ended none (λ mount e. over mount (same ∙ e))
   fate_then id (IsMoved old session carries left had has same live opens) (IsMoved old' session' carries' left' had' has' same' live' opens') =
       let both : Some (moved_into session old) ≡ Some old' = sym has ∙ had' in
       let one : moved_into session old ≡ old' = cc in
-      IsMoved old session' carries' (still_none old.mount left) had
+      IsMoved old session' carries' (still_none old.mount left.0, left.1) had
       (has' ∙ ap (λ (x : Seat). Some (moved_into session' x)) (sym one)) (same' ∙ same) live'
       (ap (λ (lists : Lists). lets_in lists session'.mount old.pair) (sym f.lists)
       ∙ ap (λ (x : Seat). lets_in between.house.lists session'.mount x.pair) one ∙ opens')

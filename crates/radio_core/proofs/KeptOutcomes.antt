@@ -1,5 +1,5 @@
 -- what comes of an event is the same where only a queue is kept of each stream
-use Rattle.std.proofs.Common.{◌≡◌, Bool, ℕ, ◌+◌, ◌==◌, ◌||◌, Option, Some, None, is_some, List, length, refl, ap, ◌∙◌, arith}
+use Rattle.std.proofs.Common.{◌≡◌, Bool, ℕ, ◌+◌, ◌==◌, ◌||◌, Option, Some, None, is_some, List, length, refl, ap, ◌∙◌, arith, subst}
 use Rattle.std.proofs.Math.Path.{fun_ext}
 use Rattle.std.specs.Prelude.{nat_lt, if◌then◌else◌}
 use Rattle.std.specs.Option.{option_map}
@@ -63,12 +63,14 @@ use Rattle.radio_core.specs.StandsFor.{SeatsAreKept}
 use Rattle.radio_core.specs.Step.{outcome}
 use Rattle.radio_house.specs.World.{World, standing_of}
 use Rattle.radio_parts.proofs.KeptStreams.{kept_data, kept_burst}
-use Rattle.radio_parts.proofs.KeptLists.{kept_found, kept_ends}
-use Rattle.radio_core.proofs.KeptSights.{has_session, same_sight}
+use Rattle.radio_parts.proofs.KeptLists.{kept_ends}
+use Rattle.radio_core.proofs.KeptSights.{has_session, same_sight, heard_kept}
 use Rattle.radio_core.proofs.ListingLemmas.{shown_kept, page_kept}
 use Rattle.radio_core.specs.Pages.{asks_by}
 use Rattle.radio_settings.specs.declared.web.WebPath.{WebPath}
 use Rattle.radio_settings.specs.Web.{web_path}
+use Rattle.radio_house.specs.Waiting.{heard_at}
+use Rattle.radio_core.proofs.HeardLemmas.{heard_cases}
 
 module _ (w : World) (rise : Each HasRisingStarts w.house.live) (kept : SeatsAreKept w) where
   abbrev queue : ℕ
@@ -79,6 +81,10 @@ module _ (w : World) (rise : Each HasRisingStarts w.house.live) (kept : SeatsAre
 
   found_rises : (mount : List ℕ) (session : Session) → session_of w.house.live mount ≡ Some session → HasRisingStarts session
   found_rises mount session e = found_has (is_of mount) HasRisingStarts w.house.live session rise e
+
+  heard_rises : (mount : List ℕ) (session : Session) → heard_at w.house mount ≡ Some session → HasRisingStarts session
+  heard_rises mount session e =
+      heard_cases w.house mount session e (found_rises mount session) (λ none silent. subst (λ (x : Session). HasRisingStarts x) silent tt)
 
   -- a source asks
   feed_facts : (asked : SourceRequest) → source_facts kept_house asked ≡ source_facts w.house asked
@@ -128,8 +134,8 @@ module _ (w : World) (rise : Each HasRisingStarts w.house.live) (kept : SeatsAre
   lands_alike : (asked : ListenRequest) (peer : Peer) (l : Landing) → sits_where kept_house asked peer l ≡ sits_where w.house asked peer l
   lands_alike asked peer (Stops rule) = refl
   lands_alike asked peer (Lands mount) =
-      ap (takes_seat kept_house asked peer) (kept_found queue w.house.live mount)
-      ∙ sits_alike asked peer (session_of w.house.live mount) (found_rises mount)
+      ap (takes_seat kept_house asked peer) (heard_kept w rise mount)
+      ∙ sits_alike asked peer (heard_at w.house mount) (heard_rises mount)
 
   hears_alike : (asked : ListenRequest) (peer : Peer)
       → sits_where kept_house asked peer (walks_to kept_house w.seats asked.mount asked.pair)
@@ -139,18 +145,20 @@ module _ (w : World) (rise : Each HasRisingStarts w.house.live) (kept : SeatsAre
       ∙ lands_alike asked peer (walks_to w.house w.seats asked.mount asked.pair)
 
   -- a listener draws
-  hands_alike : (id room : ℕ) (seat : Seat) → seat_of w.seats id ≡ Some seat → (found : Option Session) → session_of w.house.live seat.mount ≡ found
+  hands_alike : (id room : ℕ) (seat : Seat) → seat_of w.seats id ≡ Some seat → (found : Option Session) → heard_at w.house seat.mount ≡ found
       → hands_out id seat room (option_map (kept_session queue) found) ≡ hands_out id seat room found
   hands_alike id room seat has None none = refl
-  hands_alike id room seat has (Some session) live =
-      ap (λ (bytes : List ℕ). says (Drawn bytes session.title) (Advance id (seat.place + length bytes)))
-      (kept_data queue session.stream seat.place room (kept id seat session has live))
+  hands_alike id room seat has (Some session) hears =
+      heard_cases w.house seat.mount session hears
+      (λ live. ap (λ (bytes : List ℕ). says (Drawn bytes session.title) (Advance id (seat.place + length bytes)))
+      (kept_data queue session.stream seat.place room (kept id seat session has live)))
+      (λ none silent. subst (λ (x : Session). hands_out id seat room (Some (kept_session queue x)) ≡ hands_out id seat room (Some x)) silent refl)
 
   draws_alike : (id room : ℕ) (held : Option Seat) → seat_of w.seats id ≡ held → hands_out_at kept_house id room held ≡ hands_out_at w.house id room held
   draws_alike id room None none = refl
   draws_alike id room (Some seat) has =
-      ap (hands_out id seat room) (kept_found queue w.house.live seat.mount)
-      ∙ hands_alike id room seat has (session_of w.house.live seat.mount) refl
+      ap (hands_out id seat room) (heard_kept w rise seat.mount)
+      ∙ hands_alike id room seat has (heard_at w.house seat.mount) refl
 
   -- a client gives a command
   needs_alike : (command : TheCommand) → needs_of (kept_of w) command ≡ needs_of w command

@@ -18,7 +18,7 @@ use Rattle.radio_seats.specs.declared.seat.Seat.{Seat}
 use Rattle.radio_seats.specs.declared.seat.Seating.{Seating}
 use Rattle.radio_seats.specs.declared.seat.Seating.TheVariants.{Sits as HasSeat, Finished as HasFinished}
 use Rattle.radio_seats.proofs.EndLaws.{had_seat, kept_seat}
-use Rattle.radio_seats.specs.Seats.{is_listener, listener_of, seat_held, loses, lost_by, with_end, seat_of, seat_in, with_seat, with_place, without_listener, AreByNumber}
+use Rattle.radio_seats.specs.Seats.{is_listener, listener_of, seat_held, loses, lost_by, with_end, seat_of, seat_in, with_seat, with_place, without_listener, AreByNumber, with_session_at}
 use Rattle.radio_seats.proofs.SeatLaws.{beside_moved, beside_left, beside_seated, is_no_listener, has_sat_down, has_heard}
 use Rattle.radio_events.specs.declared.command.Command.{Command}
 use Rattle.radio_events.specs.declared.command.Command.TheVariants.{MoveClients, KillClient, KillSource, SetTitle as NewTitle, SetFallback, AddUser, DeleteUser}
@@ -34,7 +34,7 @@ use Rattle.radio_fallback.proofs.Faring.{Faring, HasStayed, HasGone, HasLost, fa
 use Rattle.radio_house.specs.House.{House}
 use Rattle.radio_access.specs.Lists.{Lists, with_user_at, without_user_at}
 use Rattle.radio_house.specs.Outsiders.{is_shut_out}
-use Rattle.radio_core.specs.Changes.{answered, outsiders_ended, session_killed, changed, carried_along, session_over, session_ended, called_home}
+use Rattle.radio_core.specs.Changes.{answered, outsiders_ended, session_killed, changed, carried_along, session_over, session_ended, called_home, session_begun, session_raised}
 use Rattle.radio_house.specs.HouseChanges.{begun, raised, received}
 use Rattle.radio_core.specs.Changes.{before_silence, session_silenced, silent_in, ticked}
 use Rattle.radio_house.specs.Facts.{live_end, sight_of}
@@ -48,16 +48,21 @@ use Rattle.radio_parts.specs.Stream.{WholeStream, no_data, end_of, with_block, b
 use Rattle.radio_parts.specs.Timeouts.{lags_behind, has_sat_out}
 use Rattle.radio_core.specs.Ways.{Way, Misplaced, IsFinished, IsDenied, IsRefused, IsAdmitted, Begins, ComesUp, Receives, SetsTitle, TakesSeat, HandsOut, Ends}
 use Rattle.radio_core.specs.Ways.{EndsAndLeaves, Leaves, GoesDown, Obeys, Shows, HasPassed, Ticks}
-use Rattle.radio_house.specs.World.{World}
+use Rattle.radio_house.specs.World.{World, world}
 use Rattle.radio_core.proofs.CalledHome.{house_called}
 use Rattle.radio_core.proofs.ChangedUsers.{with_lists}
 use Rattle.radio_core.proofs.CommandLemmas.{obeyed_keeps}
 use Rattle.radio_core.proofs.CarriedFates.{order_carried}
 use Rattle.radio_parts.proofs.SessionLookups.{beside_fed, beside_titled, beside_begun, is_new_session}
-use Rattle.radio_parts.proofs.NumberOrder.{order_ended}
+use Rattle.radio_parts.proofs.NumberOrder.{order_ended, same_order}
 use Rattle.radio_core.proofs.SoundEnds.{was_live}
 use Rattle.radio_core.proofs.UpdatedSessions.{session_updated}
 use Rattle.radio_core.proofs.Ways.{way_of}
+use Rattle.radio_house.specs.Waiting.{heard_at}
+use Rattle.radio_core.proofs.HeardLemmas.{heard_live}
+use Rattle.radio_core.proofs.GivenSeats.{sat_elsewhere}
+use Rattle.radio_parts.proofs.ApartLemmas.{bytes_apart}
+use Rattle.radio_seats.proofs.GivenLaws.{numbers_hearing}
 
 -- he sits at the end of his session's stream
 abbrev pub SitsAtEnd : World → Seat → Type 0
@@ -190,9 +195,9 @@ settings_by w order event o (IsDenied _ rule v other) = refl
 settings_by w order event o (IsRefused _ id rule v his undecided) = refl
 settings_by w order event o (IsAdmitted peer allowed) = refl
 settings_by w order event o (Begins asked undecided none allowed) =
-    ap (λ (h : House). h.settings) (house_called (record w { house = begun w.house asked.id asked.mount (shown_for w.house asked.mount asked.shown) }) asked.mount)
+    ap (λ (h : House). h.settings) (house_called (session_begun w asked.id asked.mount (shown_for w.house asked.mount asked.shown)) asked.mount)
 settings_by w order event o (ComesUp mount shown none allowed) =
-    ap (λ (h : House). h.settings) (house_called (record w { house = raised w.house (w.house.last_id + 1) mount (shown_for w.house mount shown) }) mount)
+    ap (λ (h : House). h.settings) (house_called (session_raised w (w.house.last_id + 1) mount (shown_for w.house mount shown)) mount)
 settings_by w order event o (Receives id mount block feeding) = refl
 settings_by w order event o (Shows _ asker peer text its undecided what) = refl
 settings_by w order event o (Obeys _ command c) = obeyed_keeps w c.asked.id command
@@ -241,7 +246,7 @@ module _ (P : WholeStream → ℕ → Type 0) (w : World) (order : AreByNumber w
     fresh = opened mount him shown w.house.time
 
     abbrev up : World
-    up = record w { house = house }
+    up = world house (with_session_at w.seats mount him)
 
     is_fresh : (at : List ℕ) (session : Session) → mount ≡ at → session_of house.live at ≡ Some session → fresh ≡ session
     is_fresh at session same live =
@@ -254,22 +259,23 @@ module _ (P : WholeStream → ℕ → Type 0) (w : World) (order : AreByNumber w
     was_there at session apart live =
         sym (beside_begun w.house.live fresh at apart) ∙ ap (λ (xs : List Session). session_of xs at) (sym begins) ∙ live
 
-    each_begun : EachSeat P (record w { house = house })
+    each_begun : EachSeat P (world house (with_session_at w.seats mount him))
     each_begun id seat session has live =
         by_name mount seat.mount
         (λ same. subst (λ (x : Session). P x.stream seat.place) (is_fresh seat.mount session same live) (holds.at_none seat.place))
-        (λ apart. all id seat session has (was_there seat.mount session apart live))
+        (λ apart. all id seat session (sat_elsewhere mount him w.seats id seat has (bytes_apart mount seat.mount apart)) (was_there seat.mount session apart live))
 
     -- and those come home whom it calls
-    each_up : EachSeat P (called_home (record w { house = house }) mount)
+    each_up : EachSeat P (called_home (world house (with_session_at w.seats mount him)) mount)
     each_up id seat session has live = by_seat (called.seats id seat has) where
-      called : HasFewer (record w { house = house }) (called_home (record w { house = house }) mount)
-      called = fewer_called (record w { house = house }) mount order
+      called : HasFewer up (called_home (world house (with_session_at w.seats mount him)) mount)
+      called = fewer_called up mount (same_order w.seats up.seats (numbers_hearing mount him w.seats) order)
 
       before : session_of house.live seat.mount ≡ Some session
       before = called.sessions seat.mount session live
 
-      by_seat : (seat_of w.seats id ≡ Some seat) ⊎ SitsAtEnd (called_home (record w { house = house }) mount) seat → P session.stream seat.place
+      by_seat : (seat_of up.seats id ≡ Some seat) ⊎ SitsAtEnd (called_home (world house (with_session_at w.seats mount him)) mount) seat
+          → P session.stream seat.place
       by_seat (inl had) = each_begun id seat session had before
       by_seat (inr ends) =
           subst (λ (n : ℕ). P session.stream n) (sym (ends session live))
@@ -311,7 +317,7 @@ module _ (P : WholeStream → ℕ → Type 0) (w : World) (order : AreByNumber w
         had id seat e = had_seat (lags_behind mount (live_end (received w.house mount block) mount) w.house.settings.limits.queue_size) Lagged w.seats id seat e
 
   -- a listener sits down
-  each_seated : (asked : ListenRequest) (peer : Peer) (session : Session) → session_of w.house.live session.mount ≡ Some session
+  each_seated : (asked : ListenRequest) (peer : Peer) (session : Session) → heard_at w.house session.mount ≡ Some session
       → EachSeat P (changed w (TakeSeat asked.id (first_seat w.house asked peer session)))
   each_seated asked peer session live id seat other has found =
       let new = first_seat w.house asked peer session in
@@ -320,12 +326,12 @@ module _ (P : WholeStream → ℕ → Type 0) (w : World) (order : AreByNumber w
       let itself : (asked.id == asked.id) ≡ true = grind (arith, nat_tests) in
       let his : Some new ≡ Some seat = sym (ap seat_in (has_sat_down w.seats asked.id new itself)) ∙ ap (seat_of (with_seat w.seats asked.id new)) same ∙ has in
       let one : new ≡ seat = cc in
-      let here : session_of w.house.live seat.mount ≡ Some session = ap (λ (x : Seat). session_of w.house.live x.mount) (sym one) ∙ live in
-      let both : Some session ≡ Some other = sym here ∙ found in
+      let there : session_of w.house.live session.mount ≡ Some other = ap (λ (x : Seat). session_of w.house.live x.mount) one ∙ found in
+      let both : Some session ≡ Some other = sym live ∙ heard_live w.house session.mount other there in
       let its : session ≡ other = cc in
       subst (λ (x : Session). P x.stream seat.place) its
       (subst (λ (x : Seat). P session.stream x.place) one
-      (holds.at_burst session.mount session (burst_of w.house session.mount) live (omega arith))))
+      (holds.at_burst session.mount session (burst_of w.house session.mount) (there ∙ ap (λ (x : Session). Some x) (sym its)) (omega arith))))
       (λ apart. all id seat other (sym (ap seat_in (beside_seated w.seats asked.id id apart new)) ∙ has) found)
 
   -- a listener hears on

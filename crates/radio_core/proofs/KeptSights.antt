@@ -2,7 +2,7 @@
 use Rattle.std.proofs.Common.{◌≡◌, Bool, true, false, ℕ, Option, Some, None, is_some, List, refl, ap, ◌∙◌}
 use Rattle.std.proofs.Math.Path.{fun_ext}
 use Rattle.std.specs.Prelude.{if◌then◌else◌}
-use Rattle.std.specs.Option.{option_map, option_map_or}
+use Rattle.std.specs.Option.{option_map, option_map_or, option_or}
 use Rattle.radio_settings.specs.Options.{options_for}
 use Rattle.radio_access.specs.Lists.{lets_in}
 use Rattle.radio_tables.specs.Lists.{Each}
@@ -18,6 +18,7 @@ use Rattle.radio_core.specs.Kept.{kept_of}
 use Rattle.radio_parts.specs.Sessions.{Session, session_of, HasRisingStarts}
 use Rattle.radio_house.specs.World.{World}
 use Rattle.radio_parts.proofs.KeptLists.{kept_found, kept_ends}
+use Rattle.radio_house.specs.Waiting.{heard_at, is_on_demand, silence_at, silence_of}
 
 is_some_mapped : {A B : Type 0} (f : A → B) (found : Option A) → is_some (option_map f found) ≡ is_some found
 is_some_mapped f None = refl
@@ -33,6 +34,24 @@ module _ (w : World) (rise : Each HasRisingStarts w.house.live) where
   pub has_session : (mount : List ℕ) → is_some (session_of kept_house.live mount) ≡ is_some (session_of w.house.live mount)
   has_session mount = ap is_some (kept_found queue w.house.live mount) ∙ is_some_mapped (kept_session queue) (session_of w.house.live mount)
 
+  -- what is heard is so, but that of its stream only a queue is kept
+  pub heard_kept : (mount : List ℕ) → heard_at kept_house mount ≡ option_map (kept_session queue) (heard_at w.house mount)
+  heard_kept mount =
+      ap (λ (found : Option Session). option_or found (silence_of w.house mount)) (kept_found queue w.house.live mount)
+      ∙ by_found (session_of w.house.live mount) where
+        by_test : (b : Bool) → (if b then Some (silence_at w.house mount) else None)
+            ≡ option_map (kept_session queue) (if b then Some (silence_at w.house mount) else None)
+        by_test true = refl
+        by_test false = refl
+
+        by_found : (found : Option Session) → option_or (option_map (kept_session queue) found) (silence_of w.house mount)
+            ≡ option_map (kept_session queue) (option_or found (silence_of w.house mount))
+        by_found None = by_test (is_on_demand w.house.settings mount)
+        by_found (Some session) = refl
+
+  is_heard_alike : (mount : List ℕ) → is_some (heard_at kept_house mount) ≡ is_some (heard_at w.house mount)
+  is_heard_alike mount = ap is_some (heard_kept mount) ∙ is_some_mapped (kept_session queue) (heard_at w.house mount)
+
   same_number : (mount : List ℕ) → live_number kept_house mount ≡ live_number w.house mount
   same_number mount = ap number_in (kept_found queue w.house.live mount) ∙ by_found (session_of w.house.live mount) where
     number_in : Option Session → ℕ
@@ -44,11 +63,11 @@ module _ (w : World) (rise : Each HasRisingStarts w.house.live) where
 
   pub same_sight : sight_of (kept_of w).house ≡ sight_of w.house
   same_sight =
-      ap (λ (is_live : List ℕ → Bool). sight is_live (live_number kept_house) (live_end kept_house)) (fun_ext has_session)
+      ap (λ (is_live : List ℕ → Bool). sight is_live (live_number kept_house) (live_end kept_house)) (fun_ext is_heard_alike)
       ∙ ap (λ (number : List ℕ → ℕ). sight (is_live_in w.house) number (live_end kept_house)) (fun_ext same_number)
       ∙ ap (sight (is_live_in w.house) (live_number w.house)) (fun_ext (λ mount. kept_ends queue w.house.live mount rise)) where
         is_live_in : House → List ℕ → Bool
-        is_live_in house mount = is_some (session_of house.live mount)
+        is_live_in house mount = is_some (heard_at house mount)
 
         sight : (List ℕ → Bool) → (List ℕ → ℕ) → (List ℕ → ℕ) → Sight
         sight is_live number end = record {

@@ -14,8 +14,8 @@ use Rattle.radio_core.specs.declared.outcome.Change.{Change}
 use Rattle.radio_core.specs.declared.outcome.Change.TheVariants.{Nothing, Answer, Admit, Begin, Raise, Receive, SetTitle, TakeSeat, Advance, End}
 use Rattle.radio_core.specs.declared.outcome.Change.TheVariants.{EndAndLeave, Forget, Tick, Obey}
 use Rattle.radio_house.specs.House.{House}
-use Rattle.radio_core.specs.Changes.{answered, done, session_ended_by, session_killed, changed, carried_along, session_over, session_ended, called_home, client_gone, laggards_ended}
-use Rattle.radio_house.specs.HouseChanges.{finished_in, begun, raised}
+use Rattle.radio_core.specs.Changes.{answered, done, session_ended_by, session_killed, changed, carried_along, session_over, session_ended, called_home, client_gone, laggards_ended, session_begun, session_raised}
+use Rattle.radio_house.specs.HouseChanges.{finished_in}
 use Rattle.radio_core.specs.Changes.{before_silence, session_silenced, silent_in, ticked}
 use Rattle.radio_house.specs.Clients.{in_state}
 use Rattle.radio_parts.specs.Kept.{kept_session, kept_live}
@@ -76,10 +76,10 @@ rise_changed w rise Nothing = rise
 rise_changed w rise (Answer id) = rise
 rise_changed w rise (Admit id peer) = rise
 rise_changed w rise (Begin id mount shown) =
-    subst (λ (h : House). Each HasRisingStarts h.live) (sym (house_called (record w { house = begun w.house id mount shown }) mount))
+    subst (λ (h : House). Each HasRisingStarts h.live) (sym (house_called (session_begun w id mount shown) mount))
     (rise_begun w id mount shown rise)
 rise_changed w rise (Raise id mount shown) =
-    subst (λ (h : House). Each HasRisingStarts h.live) (sym (house_called (record w { house = raised w.house id mount shown }) mount))
+    subst (λ (h : House). Each HasRisingStarts h.live) (sym (house_called (session_raised w id mount shown) mount))
     (rise_begun w id mount shown rise)
 rise_changed w rise (Receive mount block) = rise_fed w.house.live mount block w.house.time rise
 rise_changed w rise (SetTitle mount title) = Each_updated HasRisingStarts (is_of mount) (with_title (Some title)) (λ x r. r) w.house.live rise
@@ -154,11 +154,11 @@ module _ (w : World) (rise : Each HasRisingStarts w.house.live) where
   changed_kept (Answer id) = refl
   changed_kept (Admit id peer) = refl
   changed_kept (Begin id mount shown) =
-      let up = record w { house = begun w.house id mount shown } in
+      let up = session_begun w id mount shown in
       ap (λ (live : List Session). called_home (with_live up live) mount) (begun_kept (queue w) w.house.live (opened mount id shown w.house.time))
       ∙ called_alike up (rise_begun w id mount shown rise) mount
   changed_kept (Raise id mount shown) =
-      let up = record w { house = raised w.house id mount shown } in
+      let up = session_raised w id mount shown in
       ap (λ (live : List Session). called_home (with_live up live) mount) (begun_kept (queue w) w.house.live (opened mount id shown w.house.time))
       ∙ called_alike up (rise_begun w id mount shown rise) mount
   changed_kept (Receive mount block) = received_alike mount block

@@ -2,6 +2,9 @@ pub mod AllowedCommands
 pub mod CommandLemmas
 mod CoreReplyLemmas
 mod DueLemmas
+pub mod HeardLemmas
+pub mod GivenSeats
+pub mod HeardApart
 pub mod ListingLemmas
 mod KeptOutcomes
 mod KeptRuns
@@ -12,6 +15,7 @@ pub mod ChangedUsers
 pub mod ListsSteps
 pub mod Obeyed
 mod PlannedLemmas
+mod PreparedSeats
 mod SourceReplyLemmas
 pub mod ArrivalLemmas
 pub mod CalledHome

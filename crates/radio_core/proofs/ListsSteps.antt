@@ -7,12 +7,11 @@ use Rattle.radio_events.specs.declared.event.Event.{Event}
 use Rattle.radio_core.specs.declared.outcome.Change.TheVariants.{Obey}
 use Rattle.radio_core.specs.declared.outcome.Outcome.{Outcome}
 use Rattle.radio_house.specs.House.{House}
-use Rattle.radio_house.specs.HouseChanges.{begun, raised}
 use Rattle.radio_house.specs.Streams.{shown_for}
 use Rattle.radio_house.specs.World.{World}
 use Rattle.radio_parts.specs.Sessions.{session_of}
 use Rattle.radio_core.specs.Allowed.{IsCommanded}
-use Rattle.radio_core.specs.Changes.{answered, changed}
+use Rattle.radio_core.specs.Changes.{answered, changed, session_begun, session_raised}
 use Rattle.radio_core.specs.ListsSteps.{ListsStep, Stay, IsAdded, IsDeleted, ListsAreStepped}
 use Rattle.radio_core.specs.Sound.{IsSound}
 use Rattle.radio_core.specs.Step.{outcome, world_after}
@@ -46,10 +45,10 @@ module _ (w : World) (s : IsSound w) where
   step_by event o (IsRefused _ him by v its undecided) = Stay
   step_by event o (IsAdmitted peer allowed) = Stay
   step_by event o (Begins asked undecided none allowed) =
-      let same = house_called (record w { house = begun w.house asked.id asked.mount (shown_for w.house asked.mount asked.shown) }) asked.mount in
+      let same = house_called (session_begun w asked.id asked.mount (shown_for w.house asked.mount asked.shown)) asked.mount in
       stays event (ap (λ (h : House). h.lists) same)
   step_by event o (ComesUp there shown none allowed) =
-      let same = house_called (record w { house = raised w.house (w.house.last_id + 1) there (shown_for w.house there shown) }) there in
+      let same = house_called (session_raised w (w.house.last_id + 1) there (shown_for w.house there shown)) there in
       stays event (ap (λ (h : House). h.lists) same)
   step_by event o (Receives him fed block feeding) = Stay
   step_by event o (SetsTitle him fed text feeding) = Stay

@@ -45,11 +45,13 @@ use Rattle.radio_parts.proofs.NumberLists.{taken_free, numbers_updated, numbers_
 use Rattle.radio_core.proofs.Obeyed.{is_answered}
 use Rattle.radio_core.proofs.SoundEnds.{turns_ended}
 use Rattle.radio_core.proofs.SoundRuns.{grown_world, NoMove, lag_fates}
-use Rattle.radio_core.proofs.Standings.{Turns, IsThere, asks, no_client_there, no_relay_there, turns_answered, turns_sitting, turns_forgotten, turns_admitted, turns_raised}
+use Rattle.radio_core.proofs.Standings.{Turns, IsThere, asks, no_client_there, no_relay_there, turns_answered, turns_sitting, turns_forgotten, turns_admitted, turns_raised, stays_given}
 use Rattle.radio_core.proofs.Standings.{stays_hearing}
 use Rattle.radio_core.proofs.Ways.{way_of}
 use Rattle.radio_seats.proofs.SeatLaws.{listener_seated}
 use Rattle.radio_core.proofs.NumbersStay.{number_of, relay_number, row_of, ids, relay_ids, rows, AreTheSame, same_called, same_state, same_obeyed, same_over_rows, same_ticked, same_begun, same_received}
+use Rattle.radio_house.specs.HouseChanges.{raised}
+use Rattle.radio_seats.proofs.GivenLaws.{numbers_hearing}
 
 -- he has not asked for anything yet, if he is there at all
 abbrev pub IsYetToAsk : Standing → Type 0
@@ -199,8 +201,8 @@ order_seated w inv id seat there =
 
 module _ (w : World) (s : IsSound w) (inv : AreInOrder w) where
   -- a relay comes up
-  order_raised : (mount : List ℕ) (shown : Shown) (free : session_of w.house.live mount ≡ None) → AreInOrder (just_raised w s mount shown free)
-  order_raised mount shown free =
+  order_risen : (mount : List ℕ) (shown : Shown) → AreInOrder (record w { house = raised w.house (w.house.last_id + 1) mount shown })
+  order_risen mount shown =
       let id = w.house.last_id + 1 in
       let unknown : standing_of w id ≡ Unknown = s.numbered id (omega arith) in
       let now = numbers_placed relay_number (risen id mount) w.house.relays in
@@ -208,11 +210,18 @@ module _ (w : World) (s : IsSound w) (inv : AreInOrder w) where
         clients = inv.clients;
         relays = subst IsRising (sym now) (placed_rising id (relay_ids w) inv.relays);
         seats = inv.seats;
-        fresh = turned w (just_raised w s mount shown free) id (Feeds mount) (turns_raised w id mount shown unknown) (λ h. h) (λ him asks. inv.fresh him asks);
+        fresh = turned w (record w { house = raised w.house id mount shown }) id (Feeds mount) (turns_raised w id mount shown unknown) (λ h. h) (λ him asks. inv.fresh him asks);
         alone = same_alone now refl refl
             (Each_placed (λ n. IsFree n (ids w) × IsFree n (rows w)) nat_cmp id (relay_ids w)
             (number_free number_of id w.house.clients (no_client_there w id unknown), inv.fresh id (subst IsYetToAsk (sym unknown) tt)) inv.alone);
       }
+
+  order_raised : (mount : List ℕ) (shown : Shown) (free : session_of w.house.live mount ≡ None) → AreInOrder (just_raised w s mount shown free)
+  order_raised mount shown free =
+      let id = w.house.last_id + 1 in
+      order_still (record w { house = raised w.house id mount shown }) (order_risen mount shown) (just_raised w s mount shown free)
+      (record { same_ids = refl; same_relays = refl; same_rows = numbers_hearing mount id w.seats; same_last = refl })
+      (λ him asks. subst IsYetToAsk (stays_given (raised w.house id mount shown) w.seats mount id him) asks)
 
   order_by : (event : Event) (o : Outcome) → Way w event o → AreInOrder (changed w o.change)
   order_by event o (Misplaced _) = inv

@@ -19,8 +19,8 @@ use Rattle.radio_settings.specs.declared.field.Shown.{Shown}
 use Rattle.radio_fallback.specs.declared.moves.Move.{Move}
 use Rattle.radio_fallback.specs.declared.moves.Move.TheVariants.{Ended as SessionEnds, Up, To}
 use Rattle.radio_fallback.proofs.FaresLemmas.{numbers_kept}
-use Rattle.radio_core.specs.Changes.{answered, session_killed, changed, carried_along, session_over, session_ended, called_home, taken_in}
-use Rattle.radio_house.specs.HouseChanges.{begun, received}
+use Rattle.radio_core.specs.Changes.{answered, session_killed, changed, carried_along, session_over, session_ended, called_home, taken_in, session_begun}
+use Rattle.radio_house.specs.HouseChanges.{received}
 use Rattle.radio_core.specs.Changes.{before_silence, session_silenced, silent_in, ticked}
 use Rattle.radio_house.specs.Facts.{live_end, sight_of}
 use Rattle.radio_parts.specs.Sessions.{Session, session_of}
@@ -33,6 +33,7 @@ use Rattle.radio_house.specs.Outsiders.{is_shut_out}
 use Rattle.radio_core.proofs.ChangedUsers.{with_lists}
 use Rattle.radio_policy.specs.declared.rule.Rule.TheVariants.{ListenerPassword}
 use Rattle.radio_core.specs.Changes.{outsiders_ended}
+use Rattle.radio_seats.proofs.GivenLaws.{numbers_hearing}
 
 -- the numbers of the clients, those of the relays, and those of the listeners
 abbrev pub number_of : Client → ℕ
@@ -145,9 +146,14 @@ same_called w mount = by_test (options_for w.house.settings mount).listeners.fal
 
 pub same_begun : (w : World) (id : ℕ) (mount : List ℕ) (shown : Shown) → AreTheSame w (changed w (Begin id mount shown))
 same_begun w id mount shown =
-    let up = record w { house = begun w.house id mount shown } in
+    let up = session_begun w id mount shown in
     then_the_same w up (changed w (Begin id mount shown))
-    (record { same_ids = same_state id (IsSource mount) w.house.clients; same_relays = refl; same_rows = refl; same_last = refl }) (same_called up mount)
+    (record {
+      same_ids = same_state id (IsSource mount) w.house.clients;
+      same_relays = refl;
+      same_rows = numbers_hearing mount id w.seats;
+      same_last = refl;
+    }) (same_called up mount)
 
 pub same_received : (w : World) (mount block : List ℕ) → AreTheSame w (taken_in w mount block)
 same_received w mount block = record {

@@ -7,7 +7,7 @@ use Rattle.std.proofs.lemmas.Slice.Eq.{bytes_eq-Decides}
 use Rattle.radio_policy.specs.declared.rule.Rule.TheVariants.{Killed, SourceKilled}
 use Rattle.radio_policy.specs.Table.{row}
 use Rattle.radio_tables.proofs.FindLaws.{find_same, find_apart}
-use Rattle.radio_tables.proofs.KeyLaws.{by_number, by_name}
+use Rattle.radio_tables.proofs.KeyLaws.{by_number}
 use Rattle.radio_seats.specs.declared.seat.Listener.{Listener}
 use Rattle.radio_seats.specs.declared.seat.Seat.{Seat}
 use Rattle.radio_seats.specs.declared.seat.Seating.{Seating}
@@ -37,7 +37,7 @@ use Rattle.radio_core.specs.SeatSteps.{IsSent, HisSessionIsOver, IsCommandedTher
 use Rattle.radio_parts.specs.Sessions.{Session, session_of}
 use Rattle.radio_core.specs.Sound.{IsSound}
 use Rattle.radio_house.specs.World.{World, standing_of, standing_in}
-use Rattle.radio_core.proofs.AllowedCommands.{may_act, may_kill, may_move, needs_hold}
+use Rattle.radio_core.proofs.AllowedCommands.{may_act, may_kill, may_move, needs_hold, may_go}
 use Rattle.radio_core.proofs.CarriedFates.{order_carried, carried_fate}
 use Rattle.radio_core.proofs.Fates.{IsActive, Fate, GoesOn, IsEnded, HasStopped, IsMoved, Fates, HasEnded, Nobody, sound_fates, fates_none, lost_in, active_sitter}
 use Rattle.radio_parts.proofs.SessionLookups.{found_named, is_over}
@@ -46,10 +46,13 @@ use Rattle.radio_core.proofs.SoundEnds.{over_fates, late_beside, still_feeds, ha
 use Rattle.radio_core.proofs.SoundTitles.{sound_titled}
 use Rattle.radio_core.proofs.Soundness.{sound_answered}
 use Rattle.radio_core.proofs.Standings.{Turns, asks, turns_answered, turns_ended_by}
+use Rattle.radio_house.specs.Waiting.{heard_at}
+use Rattle.radio_core.proofs.HeardApart.{apart_sessions, apart_then}
+use Rattle.radio_core.proofs.HeardLemmas.{heard_cases}
 
--- whoever is moved by a command, or from a mount whose session is over, leaves it for another
+-- whoever is moved by a command, or since his session is over, goes on in another
 abbrev pub LeavesFor : World → Event → World → Seat → Session → Type 0
-LeavesFor w event later old session = IsSent w later event old session.mount × (bytes_eq old.mount session.mount ≡ false)
+LeavesFor w event later old session = IsSent w later event old session.mount × ((old.session == session.number) ≡ false)
 
 abbrev pub Takes : World → Event → ℕ → Session → Type 0
 Takes w event id session = TakesTo w event id session.mount
@@ -110,16 +113,29 @@ module _ (w : World) (s : IsSound w) (event : Event) where
     away : (seat : Seat) (to : List ℕ) → seat.mount ≡ mount → destination ≡ to → bytes_eq seat.mount to ≡ false
     away seat to at goes = ap (λ (m : List ℕ). bytes_eq m to) at ∙ ap (bytes_eq mount) (sym goes) ∙ is_another
 
+    -- there is a session where they go
+    live_there : (session : Session) → destination ≡ session.mount → heard_at w.house session.mount ≡ Some session
+        → session_of w.house.live session.mount ≡ Some session
+    live_there session goes hears =
+        heard_cases w.house session.mount session hears (λ there. there)
+        (λ none silent.
+        let live : is_live w.house destination ≡ true
+        = may_go (is_live w.house mount) (is_live w.house destination) (bytes_eq mount destination) (needs_hold w event c) in
+        let not : is_live w.house destination ≡ false = ap (is_live w.house) goes ∙ ap is_some none in
+        cc)
+
     moved_fate : (id : ℕ) → Fate (Cause w moved_world event) (Takes w event) Nobody (LeavesFor w event) (heard c) moved_world id
     moved_fate id =
         carried_fate (Cause w moved_world event) (Takes w event) Nobody (LeavesFor w event) (heard c) (sound_heard c) (heard c).house refl refl refl (To mount destination)
         moved_world (λ m. refl) id refl refl
         (λ turn same seats. GoesOn same seats (λ m feeds. refl) (λ seat has. refl))
-        (λ seat session concerned turn live.
+        (λ seat session had concerned turn live.
         let at : seat.mount ≡ mount = (bytes_eq-Decides seat.mount mount).0 concerned in
         let goes : destination ≡ session.mount =
-        goes_there (sight_of w.house) mount destination (at_his_turn (sight_of w.house) (To mount destination) w.seats id) id session.mount turn in
-        (IsCommandedThere (sent seat session.mount at goes), away seat session.mount at goes))
+        goes_there (sight_of w.house) mount destination (at_his_turn (sight_of w.house) (To mount destination) w.seats id) id session.mount turn in (
+          IsCommandedThere (sent seat session.mount at goes),
+          apart_sessions (heard c) (sound_heard c) id seat session had (live_there session goes live) (away seat session.mount at goes),
+        ))
         (λ seat rule had turn.
         absurd (never_out_there (sight_of w.house) mount destination (at_his_turn (sight_of w.house) (To mount destination) w.seats id) id rule turn))
         (λ session turn. (To mount destination, w, ByMoving event mount destination c, turn))
@@ -253,10 +269,8 @@ module _ (w : World) (s : IsSound w) (event : Event) where
     leaves_so id (HasStopped m why feeds done none gone) = absurd why
     leaves_so id (IsMoved old session carries left had has same live opens) =
         IsMoved old session carries (
-          HisSessionIsOver left,
-          by_name old.mount session.mount
-              (λ here. let none : session_of after.house.live session.mount ≡ None = ap (session_of after.house.live) (sym here) ∙ left in cc)
-              (λ apart. apart),
+          HisSessionIsOver left.0 left.1,
+          apart_then (heard c) after (sound_heard c) over.live id old session had left live,
         ) had has same live opens
 
     obeyed_cut : IsObeyed w event c.asked.id cut_world
@@ -314,6 +328,7 @@ module _ (w : World) (s : IsSound w) (event : Event) where
         let before = sound_heard c in
         record {
           numbered = before.numbered;
+          from_one = before.from_one;
           feeds = before.feeds;
           fed = before.fed;
           apart = before.apart;
@@ -322,7 +337,7 @@ module _ (w : World) (s : IsSound w) (event : Event) where
           sitting = before.sitting;
           seated = λ id seat e.
               let old = before.seated id seat e in
-              record { session = old.session; is_live = old.is_live; his_session = old.his_session; within = old.within };
+              record { session = old.session; is_heard = old.is_heard; his_session = old.his_session; within = old.within };
         }
 
     obeyed_fallback : IsObeyed w event c.asked.id set_world

@@ -7,15 +7,15 @@ use Rattle.radio_policy.specs.declared.rule.Rule.{Rule}
 use Rattle.radio_policy.specs.declared.judgement.Verdict.TheVariants.{Allow}
 use Rattle.radio_policy.specs.Verdicts.{verdict_in}
 use Rattle.radio_addr.specs.declared.peer.Peer.{Peer}
-use Rattle.radio_tables.proofs.KeyLaws.{by_number, by_name}
+use Rattle.radio_tables.proofs.KeyLaws.{by_number}
 use Rattle.radio_events.specs.declared.event.Event.{Event}
 use Rattle.radio_events.specs.declared.event.Event.TheVariants.{Push, SourceEnd, Listen, Draw, Leave, Clock}
 use Rattle.radio_events.specs.declared.event.ListenRequest.{ListenRequest}
 use Rattle.radio_core.specs.declared.outcome.Change.TheVariants.{TakeSeat, Advance, End, EndAndLeave, Forget, Obey}
 use Rattle.radio_core.specs.declared.outcome.Outcome.{Outcome}
 use Rattle.radio_seats.specs.declared.seat.Seat.{Seat}
-use Rattle.radio_house.specs.declared.standing.Standing.TheVariants.{Undecided, Feeds, Sits}
-use Rattle.radio_house.specs.World.{World, standing_of}
+use Rattle.radio_house.specs.declared.standing.Standing.TheVariants.{Undecided, Feeds, Sits, Unknown}
+use Rattle.radio_house.specs.World.{World, standing_of, world}
 use Rattle.radio_core.specs.Changes.{changed, called_home, taken_in, ticked}
 use Rattle.radio_house.specs.HouseChanges.{begun, raised}
 use Rattle.radio_core.specs.Handing.{data_in, of_client, handed_at}
@@ -36,9 +36,9 @@ use Rattle.radio_settings.specs.Options.{options_for}
 use Rattle.radio_fallback.specs.declared.walking.Landing.TheVariants.{Lands}
 use Rattle.std.proofs.lemmas.Slice.Eq.{bytes_eq-Decides}
 use Rattle.radio_core.specs.Listen.{first_seat}
-use Rattle.radio_core.specs.SeatSteps.{ComesUpOn, ASource, ARelay, IsSent, HisSessionIsOver, HeIsCalledHome, SeatStep, Stays, IsHanded, SitsDown, IsMoved as HeIsMoved, Leaves as HeLeaves, IsEnded as HeIsEnded, SeatsStep}
-use Rattle.radio_seats.specs.Seats.{seat_of, seat_in}
-use Rattle.radio_parts.specs.Sessions.{Session, session_of}
+use Rattle.radio_core.specs.SeatSteps.{ComesUpOn, ASource, ARelay, IsSent, HisSessionIsOver, HeIsCalledHome, SeatStep, Stays, IsHanded, SitsDown, IsMoved as HeIsMoved, Leaves as HeLeaves, IsEnded as HeIsEnded, SeatsStep, IsGiven}
+use Rattle.radio_seats.specs.Seats.{seat_of, seat_in, with_session_at}
+use Rattle.radio_parts.specs.Sessions.{Session, session_of, opened, with_session}
 use Rattle.radio_core.specs.Sound.{IsSound}
 use Rattle.radio_core.specs.Step.{outcome, reply_to, world_after}
 use Rattle.radio_parts.specs.Stream.{data_at, end_of}
@@ -56,20 +56,31 @@ use Rattle.radio_core.proofs.Fates.{Fate, GoesOn, IsEnded, HasStopped, IsMoved, 
 use Rattle.radio_core.proofs.TickLemmas.{ticked_fates}
 use Rattle.radio_core.proofs.SoundRuns.{grown_world, NoMove, lag_fates}
 use Rattle.radio_core.proofs.Ways.{way_of}
+use Rattle.std.specs.Option.{option_map}
+use Rattle.radio_house.specs.Waiting.{heard_at}
+use Rattle.radio_parts.proofs.SessionLookups.{is_new_session}
+use Rattle.radio_core.proofs.HeardLemmas.{heard_cases, heard_live}
+use Rattle.radio_core.proofs.HeardApart.{apart_sessions, apart_then}
+use Rattle.radio_seats.proofs.GivenLaws.{seat_hearing, seat_of_hearing}
+use Rattle.radio_core.proofs.GivenSeats.{sat_elsewhere}
+use Rattle.radio_settings.specs.declared.field.Shown.{Shown}
 
 -- all that an event can do to a seat: nothing, hand out what stands at its place, give one to who had none, carry it along, take it away
 data Turn (w later : World) (event : Event) (id : ℕ) : Option Seat → List ℕ → Option Seat → Type 0 where
   Rests : (seat : Option Seat) → Turn w later event id seat [] seat
-  Draws : (seat : Seat) (session : Session) (room : ℕ) → event ≡ Draw id room → session_of w.house.live seat.mount ≡ Some session
+  Draws : (seat : Seat) (session : Session) (room : ℕ) → event ≡ Draw id room → heard_at w.house seat.mount ≡ Some session
       → session.number ≡ seat.session → seat.place + length (data_at session.stream seat.place room) ≤ end_of session.stream
       → Turn w later event id (Some seat) (data_at session.stream seat.place room)
       (Some (record seat { place = seat.place + length (data_at session.stream seat.place room) }))
   Comes : (asked : ListenRequest) (peer : Peer) (session : Session) → event ≡ Listen asked → asked.id ≡ id → standing_of w id ≡ Undecided peer
-      → walks_to w.house w.seats asked.mount asked.pair ≡ Lands session.mount → session_of w.house.live session.mount ≡ Some session
+      → walks_to w.house w.seats asked.mount asked.pair ≡ Lands session.mount → heard_at w.house session.mount ≡ Some session
       → verdict_in (rows_to_listen w asked) ≡ Allow → Turn w later event id None [] (Some (first_seat w.house asked peer session))
-  Moves : (seat : Seat) (session : Session) → TakesTo w event id session.mount → IsSent w later event seat session.mount → session_of later.house.live session.mount ≡ Some session
+  Moves : (seat : Seat) (session : Session) → TakesTo w event id session.mount → IsSent w later event seat session.mount → heard_at later.house session.mount ≡ Some session
       → lets_in later.house.lists session.mount seat.pair ≡ true → (seat.session == session.number) ≡ false
       → Turn w later event id (Some seat) [] (Some (moved_into session seat))
+  Hears : (seat : Seat) (session : Session) → ComesUpOn event seat.mount → session_of w.house.live seat.mount ≡ None
+      → session_of later.house.live seat.mount ≡ Some session → session.stream.bytes ≡ [] → seat.session ≡ 0 → seat.place ≡ 0
+      → (0 == session.number) ≡ false → Turn w later event id (Some seat) [] (Some (record seat { session = session.number }))
   Goes : (before : Option Seat) → Turn w later event id before [] None
 
 adapted : (w now : World) (event : Event) (id : ℕ) {a before : Option Seat} {x bytes : List ℕ} {b later : Option Seat} → a ≡ before → x ≡ bytes → b ≡ later
@@ -78,20 +89,8 @@ adapted w now event id {a} {before} {x} {bytes} {b} {later} ea ex eb step =
     subst (λ (o : Option Seat). Turn w now event id o bytes later) ea (subst (λ (xs : List ℕ). Turn w now event id a xs later) ex
     (subst (λ (o : Option Seat). Turn w now event id a x o) eb step))
 
--- who sits in the session of one mount does not sit in that of another
-apart_sessions : (w : World) → IsSound w → (id : ℕ) (seat : Seat) (session : Session) → seat_of w.seats id ≡ Some seat
-    → session_of w.house.live session.mount ≡ Some session → bytes_eq seat.mount session.mount ≡ false → (seat.session == session.number) ≡ false
-apart_sessions w s id seat session has live away =
-    by_number seat.session session.number
-    (λ same.
-    let old = s.seated id seat has in
-    let feeds : standing_of w session.number ≡ Feeds session.mount = s.fed session.mount session live in
-    let fed : standing_of w old.session.number ≡ Feeds seat.mount = s.fed seat.mount old.session old.is_live in
-    let both : Feeds seat.mount ≡ Feeds session.mount = sym fed ∙ ap (standing_of w) (old.his_session ∙ same) ∙ feeds in
-    let one : seat.mount ≡ session.mount = cc in
-    let there : bytes_eq seat.mount session.mount ≡ true = (bytes_eq-Decides seat.mount session.mount).1 one in
-    cc)
-    (λ apart. apart)
+zero_apart : (n : ℕ) → (n == 0) ≡ false → (0 == n) ≡ false
+zero_apart n e = grind (arith, nat_tests, e)
 
 module _ (w : World) (s : IsSound w) (id : ℕ) where
   abbrev mine : Option Seat
@@ -108,7 +107,7 @@ module _ (w : World) (s : IsSound w) (id : ℕ) where
     -- he is carried along
     moves : (bytes : List ℕ) (old : Seat) (session : Session) → bytes ≡ [] → TakesTo w event id session.mount
         → IsSent w now event old session.mount → mine ≡ Some old
-        → seat_of now.seats id ≡ Some (moved_into session old) → session_of now.house.live session.mount ≡ Some session
+        → seat_of now.seats id ≡ Some (moved_into session old) → heard_at now.house session.mount ≡ Some session
         → lets_in now.house.lists session.mount old.pair ≡ true → (old.session == session.number) ≡ false
         → Turn w now event id mine bytes (seat_of now.seats id)
     moves bytes old session none takes sent had has live opens apart =
@@ -125,15 +124,12 @@ module _ (w : World) (s : IsSound w) (id : ℕ) where
       by_fate (IsEnded rule cause active ended gone over) = loses bytes (seat_of now.seats id) none gone
       by_fate (HasStopped mount why feeding done gone over) = loses bytes (seat_of now.seats id) none gone
       by_fate (IsMoved old session takes left had has same live opens) =
-          moves bytes old session none takes (HisSessionIsOver left) had has live (ap (λ (x : Lists). lets_in x session.mount old.pair) f.lists ∙ opens)
-          (apart_sessions w s id old session had (f.live session.mount session live)
-          (by_name old.mount session.mount
-          (λ here. let gone : session_of now.house.live session.mount ≡ None = ap (session_of now.house.live) (sym here) ∙ left in cc)
-          (λ away. away)))
+          moves bytes old session none takes (HisSessionIsOver left.0 left.1) had has live (ap (λ (x : Lists). lets_in x session.mount old.pair) f.lists ∙ opens)
+          (apart_then w now s f.live id old session had left live)
 
   -- he sits down
   takes_seat_at : (asked : ListenRequest) (peer : Peer) (session : Session) → standing_of w asked.id ≡ Undecided peer
-      → walks_to w.house w.seats asked.mount asked.pair ≡ Lands session.mount → session_of w.house.live session.mount ≡ Some session
+      → walks_to w.house w.seats asked.mount asked.pair ≡ Lands session.mount → heard_at w.house session.mount ≡ Some session
       → verdict_in (rows_to_listen w asked) ≡ Allow → (bytes : List ℕ) → bytes ≡ []
       → Turn w (changed w (TakeSeat asked.id (first_seat w.house asked peer session))) (Listen asked) id mine bytes
       (seat_of (changed w (TakeSeat asked.id (first_seat w.house asked peer session))).seats id)
@@ -152,7 +148,7 @@ module _ (w : World) (s : IsSound w) (id : ℕ) where
 
   -- he is handed what stands at his place
   hands_at : (him room : ℕ) (seat : Seat) (session : Session) → standing_of w him ≡ Sits → seat_of w.seats him ≡ Some seat
-      → session_of w.house.live seat.mount ≡ Some session
+      → heard_at w.house seat.mount ≡ Some session
       → Turn w (changed w (Advance him (seat.place + length (data_at session.stream seat.place room)))) (Draw him room) id mine
       (of_client (Draw him room) id (data_at session.stream seat.place room))
       (seat_of (changed w (Advance him (seat.place + length (data_at session.stream seat.place room)))).seats id)
@@ -163,7 +159,7 @@ module _ (w : World) (s : IsSound w) (id : ℕ) where
       (λ same.
       let itself : (him == id) ≡ true = grind (arith, nat_tests) in
       let old = s.seated him seat has in
-      let both : Some old.session ≡ Some session = sym old.is_live ∙ live in
+      let both : Some old.session ≡ Some session = sym old.is_heard ∙ live in
       let one : old.session ≡ session = cc in
       adapted w later (Draw him room) id (sym has ∙ ap (seat_of w.seats) same) (sym (his_bytes (him == id) bytes itself))
       (sym (has_advanced w s him room seat session sits has live) ∙ ap (seat_of later.seats) same)
@@ -186,40 +182,93 @@ module _ (w : World) (s : IsSound w) (id : ℕ) where
     by_fate (HasStopped other why feeds done gone over) = absurd why
     by_fate (IsMoved old session carries left had has same live opens) = absurd carries
 
-  -- a source, or a relay, comes up: he rests where he is, or comes home
-  module _ (event : Event) (mount : List ℕ) (house : House) (settings : house.settings ≡ w.house.settings)
-      (sound_then : IsSound (record w { house = house })) (coming : ComesUpOn event mount)
-      (brings : (options_for w.house.settings mount).listeners.fallback_override ≡ true → Brings w event (Up mount) (record w { house = house }))
+  -- a source, or a relay, comes up: he hears it where he waited for it, rests where he is, or comes home
+  module _ (event : Event) (him : ℕ) (mount : List ℕ) (shown : Shown) (house : House) (settings : house.settings ≡ w.house.settings)
+      (begins : house.live ≡ with_session w.house.live (opened mount him shown w.house.time)) (not_live : session_of w.house.live mount ≡ None)
+      (past : (him == 0) ≡ false)
+      (sound_then : IsSound (world house (with_session_at w.seats mount him))) (coming : ComesUpOn event mount)
+      (brings : (options_for w.house.settings mount).listeners.fallback_override ≡ true
+      → Brings w event (Up mount) (world house (with_session_at w.seats mount him)))
       (bytes : List ℕ) (none : bytes ≡ []) where
     abbrev up : World
-    up = record w { house = house }
+    up = world house (with_session_at w.seats mount him)
 
     abbrev come_up : World
-    come_up = called_home (record w { house = house }) mount
+    come_up = called_home (world house (with_session_at w.seats mount him)) mount
+
+    abbrev fresh : Session
+    fresh = opened mount him shown w.house.time
+
+    -- it is there
+    there : (at : List ℕ) → mount ≡ at → session_of house.live at ≡ Some fresh
+    there at same =
+        ap (λ (sessions : List Session). session_of sessions at) begins
+        ∙ is_new_session w.house.live fresh at ((bytes_eq-Decides mount at).1 same)
+
+    there_then : (at : List ℕ) → mount ≡ at → session_of come_up.house.live at ≡ Some fresh
+    there_then at same = ap (λ (h : House). session_of h.live at) (house_called up mount) ∙ there at same
 
     abbrev Takes : ℕ → Session → Type 0
-    Takes him session = TakesTo w event him session.mount × (session.mount ≡ mount)
+    Takes who session = TakesTo w event who session.mount × (session.mount ≡ mount)
         × ((options_for w.house.settings mount).listeners.fallback_override ≡ true)
 
+    -- who sat there had heard nothing
+    waited : (old : Seat) → seat_of w.seats id ≡ Some old → old.mount ≡ mount → (old.session ≡ 0) × (old.place ≡ 0)
+    waited old had same =
+        let before = s.seated id old had in
+        heard_cases w.house old.mount before.session before.is_heard
+        (λ live. let gone : session_of w.house.live old.mount ≡ None = ap (session_of w.house.live) same ∙ not_live in cc)
+        (λ gone silent.
+        let low : old.place ≤ 0 = subst (λ (x : Session). old.place ≤ end_of x.stream) (sym silent) before.within in (
+          sym before.his_session ∙ sym (ap (λ (x : Session). x.number) silent),
+          omega (arith, low),
+        ))
+
+    rests_at : (old : Seat) → seat_of w.seats id ≡ Some old → (at : Bool) → bytes_eq old.mount mount ≡ at
+        → seat_of come_up.seats id ≡ Some (record old { session = (if at then him else old.session) })
+        → Turn w come_up event id mine bytes (seat_of come_up.seats id)
+    rests_at old had true at now =
+        let same : old.mount ≡ mount = (bytes_eq-Decides old.mount mount).0 at in
+        let nothing = waited old had same in
+        adapted w come_up event id (sym had) (sym none) (sym now)
+        (Hears old fresh (subst (λ (m : List ℕ). ComesUpOn event m) (sym same) coming) (ap (session_of w.house.live) same ∙ not_live)
+        (there_then old.mount (sym same)) refl nothing.0 nothing.1 (zero_apart him past))
+    rests_at old had false away now = adapted w come_up event id (sym had) (sym none) (sym now) (Rests (Some old))
+
+    rests_by : (found : Option Seat) → seat_of w.seats id ≡ found → seat_of come_up.seats id ≡ option_map (seat_hearing mount him) found
+        → Turn w come_up event id mine bytes (seat_of come_up.seats id)
+    rests_by None had now = adapted w come_up event id (sym had) (sym none) (sym now) (Rests None)
+    rests_by (Some old) had now = rests_at old had (bytes_eq old.mount mount) refl now
+
     by_call : IsCalled Takes up come_up id → Turn w come_up event id mine bytes (seat_of come_up.seats id)
-    by_call (CalledRests same seat) = stays come_up event bytes (seat_of come_up.seats id) none seat
+    by_call (CalledRests same seat) = rests_by (seat_of w.seats id) refl (seat ∙ seat_of_hearing mount him w.seats id)
     by_call (CalledComes old session takes left had has same live opens) =
+        let here : session_of house.live session.mount ≡ Some fresh = there session.mount (sym takes.1) in
+        let both : Some session ≡ Some fresh
+        = sym live ∙ heard_live come_up.house session.mount fresh (there_then session.mount (sym takes.1)) in
+        let one : session ≡ fresh = cc in
         moves come_up event bytes old session none takes.0
         (HeIsCalledHome (subst (λ (m : List ℕ). ComesUpOn event m) (sym takes.1) coming) left.1
-        (ap (λ (m : List ℕ). (options_for w.house.settings m).listeners.fallback_override) takes.1 ∙ takes.2)) had has live
+        (ap (λ (m : List ℕ). (options_for w.house.settings m).listeners.fallback_override) takes.1 ∙ takes.2))
+        (sat_elsewhere mount him w.seats id old had (ap (bytes_eq old.mount) (sym takes.1) ∙ left.0)) has live
         (ap (λ (h : House). lets_in h.lists session.mount old.pair) (house_called up mount) ∙ opens)
-        (apart_sessions up sound_then id old session had (ap (λ (h : House). session_of h.live session.mount) (sym (house_called up mount)) ∙ live) left.0)
+        (apart_sessions up sound_then id old session had (here ∙ ap (λ (x : Session). Some x) (sym one)) left.0)
 
     comes_up : Turn w come_up event id mine bytes (seat_of come_up.seats id)
     comes_up =
         by_call (is_called up sound_then mount Takes
-        (λ calls him session turn.
+        (λ calls who session turn.
         let here : (options_for w.house.settings mount).listeners.fallback_override ≡ true
         = ap (λ (set : Settings). (options_for set mount).listeners.fallback_override) (sym settings) ∙ calls in (
           (Up mount, up, brings here, turn),
-          sym (comes_home (sight_of house) mount (at_his_turn (sight_of house) (Up mount) w.seats him) him session.mount turn),
+          sym (comes_home (sight_of house) mount (at_his_turn (sight_of house) (Up mount) up.seats who) who session.mount turn),
           here,
         )) id)
+
+  -- nobody has the number 0
+  asks_past_zero : (him : ℕ) (peer : Peer) → standing_of w him ≡ Undecided peer → (him == 0) ≡ false
+  asks_past_zero him peer e =
+      by_number him 0 (λ same. let unknown : standing_of w him ≡ Unknown = ap (standing_of w) same ∙ s.from_one in cc) (λ apart. apart)
 
   -- a command is done: he rests, or is finished, or is carried along
   obeys : (event : Event) (command : Command) (c : IsCommanded w event command) (bytes : List ℕ) → bytes ≡ []
@@ -240,7 +289,7 @@ module _ (w : World) (s : IsSound w) (id : ℕ) where
     by_fate (IsMoved old session takes left had has same live opens) =
         moves later event bytes old session none takes left.0 (sym (did.seats id) ∙ had) has live
         (ap (λ (x : Lists). lets_in x session.mount old.pair) did.fates.lists ∙ opens)
-        (apart_sessions did.base did.sound id old session had (did.fates.live session.mount session live) left.1)
+        left.1
 
   -- a client leaves, or a relay goes down
   goes : (event : Event) (him : ℕ)
@@ -261,11 +310,13 @@ module _ (w : World) (s : IsSound w) (id : ℕ) where
       stays (changed w o.change) event (of_client event id []) mine (nothing_of event id [] refl) refl
   step_by event o (IsAdmitted peer allowed) = stays (changed w o.change) event [] mine refl refl
   step_by event o (Begins asked undecided none allowed) =
-      comes_up event asked.mount (begun w.house asked.id asked.mount (shown_for w.house asked.mount asked.shown)) refl
+      comes_up event asked.id asked.mount (shown_for w.house asked.mount asked.shown)
+      (begun w.house asked.id asked.mount (shown_for w.house asked.mount asked.shown)) refl refl none (asks_past_zero asked.id undecided.0 undecided.1)
       (sound_just_begun w s asked.id asked.mount (shown_for w.house asked.mount asked.shown) undecided.0 undecided.1 none) (ASource asked)
       (λ calls. ByComingUp asked undecided.0 undecided.1 allowed calls) (of_client event id []) (nothing_of event id [] refl)
   step_by event o (ComesUp mount shown none allowed) =
-      comes_up event mount (raised w.house (w.house.last_id + 1) mount (shown_for w.house mount shown)) refl
+      comes_up event (w.house.last_id + 1) mount (shown_for w.house mount shown)
+      (raised w.house (w.house.last_id + 1) mount (shown_for w.house mount shown)) refl refl none (grind (arith, nat_tests))
       (sound_just_raised w s mount (shown_for w.house mount shown) none) (ARelay mount shown)
       (λ calls. ByRelayUp mount shown allowed calls) [] refl
   step_by event o (Receives him mount block feeding) = lags him mount block feeding (of_client event id []) (nothing_of event id [] refl)
@@ -300,6 +351,8 @@ module _ (w : World) (s : IsSound w) (id : ℕ) where
   by_turn event before bytes later had has (Comes asked peer session e his undecided lands live allowed) =
       SitsDown asked peer session e his undecided lands live allowed
   by_turn event before bytes later had has (Moves seat session takes sent live opens apart) = HeIsMoved seat session takes sent live opens apart
+  by_turn event before bytes later had has (Hears seat session coming none live empty zero start past) =
+      IsGiven seat session coming none live empty zero start past
   by_turn event before bytes later had has (Goes None) = Stays None
   by_turn event before bytes later had has (Goes (Some seat)) = by_loss (loses_no_seat_else w s event id seat had has) where
     by_loss : (event ≡ Leave id) ⊎ ((rule : Rule) × Finishes w event id rule) → SeatStep w (Finishes w event id) event id (Some seat) [] None

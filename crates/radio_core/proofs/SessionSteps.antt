@@ -32,7 +32,7 @@ use Rattle.radio_house.specs.Streams.{shown_for}
 use Rattle.radio_core.specs.Step.{outcome, world_after}
 use Rattle.radio_core.specs.Ways.{Way, Misplaced, IsFinished, IsDenied, IsRefused, IsAdmitted, Begins, ComesUp, Receives, SetsTitle, TakesSeat, HandsOut, Ends}
 use Rattle.radio_core.specs.Ways.{EndsAndLeaves, Leaves, GoesDown, Obeys, Shows, HasPassed, Ticks}
-use Rattle.radio_house.specs.World.{World, standing_of, standing_in}
+use Rattle.radio_house.specs.World.{World, standing_of, standing_in, world}
 use Rattle.radio_core.proofs.CalledHome.{house_called}
 use Rattle.radio_core.proofs.Fates.{Fate, GoesOn, IsEnded, HasStopped, IsMoved, HasEnded, Nobody}
 use Rattle.radio_core.proofs.KeptSeats.{settings_stay}
@@ -41,6 +41,7 @@ use Rattle.radio_parts.proofs.SessionLookups.{found_named, is_new_session, besid
 use Rattle.radio_core.proofs.TickLemmas.{asking_at, ticked_fates}
 use Rattle.radio_house.proofs.TimeoutLemmas.{tests_are_in_numbers}
 use Rattle.radio_core.proofs.Ways.{way_of}
+use Rattle.radio_seats.specs.Seats.{with_session_at}
 
 is_shown : (given : Option (List ℕ)) (own : List ℕ) → IsShownAs given own (unwrap_or given own)
 is_shown None own = OfTheSource refl
@@ -86,11 +87,11 @@ module _ (w : World) (s : IsSound w) (mount : List ℕ) where
         (it_begins fresh same (subst (λ (m : List ℕ). HasBegun w m number shown fresh) same has_begun)))
         (λ apart. stays event (session_of (with_session w.house.live fresh) mount) (beside_begun w.house.live fresh mount apart))
 
-    comes_up : SessionStep w event mount mine (session_of (called_home (record w { house = house }) there).house.live mount)
+    comes_up : SessionStep w event mount mine (session_of (called_home (world house (with_session_at w.seats there number)) there).house.live mount)
     comes_up =
         turned event refl
         (ap (λ (sessions : List Session). session_of sessions mount) (sym live)
-        ∙ ap (λ (h : House). session_of h.live mount) (sym (house_called (record w { house = house }) there))) begins
+        ∙ ap (λ (h : House). session_of h.live mount) (sym (house_called (world house (with_session_at w.seats there number)) there))) begins
 
   grows : (him : ℕ) (fed block : List ℕ) → standing_of w him ≡ Feeds fed
       → SessionStep w (Push him block) mount mine (session_of (changed w (Receive fed block)).house.live mount)

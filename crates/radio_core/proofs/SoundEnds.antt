@@ -39,6 +39,8 @@ use Rattle.radio_house.proofs.Lookups.{beside_state, beside_forgotten, does, sti
 use Rattle.radio_core.proofs.ClosingLemmas.{closes_his}
 use Rattle.radio_parts.proofs.NumberOrder.{order_left}
 use Rattle.radio_core.proofs.Standings.{Turns, is_client_there, turns_answered, turns_forgotten, feeds_whoever_sits}
+use Rattle.radio_core.proofs.HeardApart.{sits_past_zero}
+use Rattle.radio_core.proofs.HeardLemmas.{heard_same}
 
 -- who has no seat has none when a move has carried the others along
 pub no_seat_carried : (w : World) (move : Move) → AreByNumber w.seats → (id : ℕ) → seat_of w.seats id ≡ None → seat_of (carried_along w move).seats id ≡ None
@@ -101,21 +103,25 @@ module _ (C : ℕ → Rule → Type 0) (M : ℕ → Session → Type 0) (S : ℕ
     by_test true there = absurd (nobody_stays (sight_of (session_over w mount).house) mount w.seats id seat has there turn)
     by_test false away = bytes_apart seat.mount mount away
 
-  fate_of : (id : ℕ) → (him == id) ≡ false → Fate C M S HasEnded w later id
-  fate_of id other =
-      carried_fate C M S HasEnded w s (session_over w mount).house refl refl refl (SessionEnds mount) later live_then id
-      (t.others id other) (seats id other)
-      (λ turn same seats. GoesOn same seats (λ m feeds. left_over m (other_mount id m other feeds)) (λ seat has. left_over seat.mount
-      (elsewhere id seat has (turn seat has))))
-      (λ seat session there turn is_live.
-      let same : seat.mount ≡ mount = (bytes_eq-Decides seat.mount mount).0 there in
-      ap (session_of later.house.live) same ∙ live_then mount ∙ is_over w.house.live mount)
-      (causes id) (carries id)
-
   module _ (last : later.house.last_id ≡ w.house.last_id) (lists : later.house.lists ≡ w.house.lists) (settings : later.house.settings ≡ w.house.settings)
       (order : AreByNumber later.seats)
       (late : (id : ℕ) (client : Client) (seconds ms : ℕ) → client_of later.house.clients id ≡ Some client → asks_too_late seconds ms client ≡ true
       → client_of w.house.clients id ≡ Some client) where
+    fate_of : (id : ℕ) → (him == id) ≡ false → Fate C M S HasEnded w later id
+    fate_of id other =
+        carried_fate C M S HasEnded w s (session_over w mount).house refl refl refl (SessionEnds mount) later
+        (λ m. heard_same later.house (session_over w mount).house m settings (live_then m)) id
+        (t.others id other) (seats id other)
+        (λ turn same seats. GoesOn same seats (λ m feeds. left_over m (other_mount id m other feeds)) (λ seat has. left_over seat.mount
+        (elsewhere id seat has (turn seat has))))
+        (λ seat session had there turn is_live.
+        let same : seat.mount ≡ mount = (bytes_eq-Decides seat.mount mount).0 there in
+        let ours = s.feeds him mount feeding in (
+          ap (session_of later.house.live) same ∙ live_then mount ∙ is_over w.house.live mount,
+          sits_past_zero w s id seat ours.0 had (ap (session_of w.house.live) same ∙ ours.1),
+        ))
+        (causes id) (carries id)
+
     pub over_fates : Fates C M S HasEnded w later
     over_fates = record {
       last = last;

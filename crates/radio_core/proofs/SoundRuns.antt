@@ -89,6 +89,7 @@ sound_after_all w s (event ∷ events) = sound_after_all (world_after w event) (
 pub sound_opening : (settings : Settings) (lists : Lists) → IsSound (opening settings lists)
 sound_opening settings lists = record {
   numbered = λ id h. refl;
+  from_one = refl;
   feeds = λ id mount e. cc;
   fed = λ mount session e. cc;
   apart = tt;

@@ -1,5 +1,5 @@
 -- what holds of every state of a run holds still after what sessions do
-use Rattle.std.proofs.Common.{◌≡◌, true, false, ℕ, ◌+◌, ◌<◌, ◌≤◌, ◌==◌, Option, Some, None, List, length, drop, refl, ap, sym, subst, ◌∙◌, arith, length-append}
+use Rattle.std.proofs.Common.{◌≡◌, true, false, ℕ, ◌+◌, ◌<◌, ◌≤◌, ◌==◌, Option, Some, None, List, length, drop, refl, ap, sym, subst, ◌∙◌, arith, length-append, Bool}
 use Rattle.std.specs.Str.{bytes_eq}
 use Rattle.std.proofs.lemmas.List.{length-take, length-drop}
 use Rattle.std.proofs.lemmas.Bool.Decides.{nat_tests}
@@ -14,20 +14,25 @@ use Rattle.radio_seats.specs.declared.seat.Seating.TheVariants.{Sits as HasSeat,
 use Rattle.radio_house.specs.declared.standing.Standing.TheVariants.{Unknown, Undecided, Feeds, Sits}
 use Rattle.radio_house.specs.House.{House}
 use Rattle.radio_house.specs.World.{World, standing_of}
-use Rattle.radio_core.specs.Changes.{changed}
+use Rattle.radio_core.specs.Changes.{changed, session_begun, session_raised}
 use Rattle.radio_house.specs.HouseChanges.{begun, raised, received}
-use Rattle.radio_seats.specs.Seats.{seat_of, seat_in, seat_held, heard_to}
+use Rattle.radio_seats.specs.Seats.{seat_of, seat_in, seat_held, heard_to, with_session_at}
 use Rattle.radio_parts.specs.Sessions.{Session, AreApart, is_of, session_of, opened, with_session, longer}
 use Rattle.radio_parts.specs.Stream.{AreRising, end_of, data_at}
 use Rattle.radio_core.specs.Sound.{IsSeatedIn, IsSound}
 use Rattle.radio_seats.proofs.SeatLaws.{beside_moved, has_moved}
-use Rattle.radio_parts.proofs.ApartLemmas.{begun_apart, updated_apart}
-use Rattle.radio_parts.proofs.NumberOrder.{order_heard}
+use Rattle.radio_parts.proofs.ApartLemmas.{begun_apart, updated_apart, bytes_apart}
+use Rattle.radio_parts.proofs.NumberOrder.{order_heard, same_order}
 use Rattle.radio_parts.proofs.SessionLookups.{beside_fed, is_longer, is_new_session, beside_begun}
 use Rattle.radio_seats.proofs.SeatLaws.{listener_seated}
-use Rattle.radio_core.proofs.Standings.{Turns, asks, turns_feeding, turns_raised, stays_hearing}
+use Rattle.radio_core.proofs.Standings.{Turns, asks, turns_feeding, turns_raised, stays_hearing, turns_given}
 use Rattle.radio_parts.proofs.RisingLemmas.{rising_more}
 use Rattle.radio_core.proofs.Soundness.{seated_still}
+use Rattle.radio_house.specs.Waiting.{heard_at}
+use Rattle.radio_seats.proofs.GivenLaws.{numbers_hearing}
+use Rattle.radio_core.proofs.GivenSeats.{given_from}
+use Rattle.radio_core.proofs.HeardLemmas.{heard_cases, heard_live, heard_same}
+use Rattle.std.specs.Prelude.{if◌then◌else◌}
 
 -- the names of the mount are the same
 same_names : (mount other : List ℕ) → mount ≡ other → bytes_eq mount other ≡ true
@@ -50,6 +55,25 @@ module _ (w : World) (s : IsSound w) (him : ℕ) (mount : List ℕ) (shown : Sho
   as_before : (other : List ℕ) → bytes_eq mount other ≡ false → session_of after_begin.house.live other ≡ session_of w.house.live other
   as_before other apart = ap (λ (sessions : List Session). session_of sessions other) live ∙ beside_begun w.house.live fresh other apart
 
+  -- and those hear it who sat there waiting for one
+  abbrev after_given : World
+  after_given = record { house = house; seats = with_session_at w.seats mount him }
+
+  t' : Turns w after_given him (Feeds mount)
+  t' = turns_given w house mount him him (Feeds mount) t
+
+  -- who sat there had heard nothing
+  pub waited : (id : ℕ) (old : Seat) → seat_of w.seats id ≡ Some old → old.mount ≡ mount → (old.session ≡ 0) × (old.place ≡ 0)
+  waited id old had same =
+      let before = s.seated id old had in
+      heard_cases w.house old.mount before.session before.is_heard
+      (λ there. let none : session_of w.house.live old.mount ≡ None = ap (session_of w.house.live) same ∙ not_live in cc)
+      (λ none silent.
+      let low : old.place ≤ 0 = subst (λ (x : Session). old.place ≤ end_of x.stream) (sym silent) before.within in (
+        sym before.his_session ∙ sym (ap (λ (x : Session). x.number) silent),
+        omega (arith, low),
+      ))
+
   -- what was live is live as it was
   pub begun_beside : (other : List ℕ) (session : Session) → session_of w.house.live other ≡ Some session
       → session_of after_begin.house.live other ≡ Some session
@@ -67,55 +91,79 @@ module _ (w : World) (s : IsSound w) (him : ℕ) (mount : List ℕ) (shown : Sho
       (λ apart. old (sym (as_before other apart) ∙ e))
 
   module _ (numbers : (id : ℕ) → house.last_id < id → (w.house.last_id < id) × ((him == id) ≡ false))
-      (fed_none : (other : List ℕ) → standing_of w him ≡ Feeds other → ⊥) (sat_nowhere : standing_of w him ≡ Sits → ⊥) where
-    pub sound_begun_so : IsSound after_begin
+      (fed_none : (other : List ℕ) → standing_of w him ≡ Feeds other → ⊥) (sat_nowhere : standing_of w him ≡ Sits → ⊥)
+      (settings : house.settings ≡ w.house.settings) (past : (him == 0) ≡ false) where
+    seated_by : (id : ℕ) (old : Seat) → seat_of w.seats id ≡ Some old → (there : Bool) → bytes_eq old.mount mount ≡ there
+        → IsSeatedIn after_given (record old { session = (if there then him else old.session) })
+    seated_by id old had true at =
+        let same : old.mount ≡ mount = (bytes_eq-Decides old.mount mount).0 at in
+        let place : old.place ≡ 0 = (waited id old had same).1 in
+        record {
+          session = fresh;
+          is_heard = heard_live house old.mount fresh (new_here old.mount (sym same));
+          his_session = refl;
+          within = omega (arith, place);
+        }
+    seated_by id old had false away =
+        let before = s.seated id old had in
+        record {
+          session = before.session;
+          is_heard = heard_same house w.house old.mount settings (as_before old.mount (bytes_apart old.mount mount away)) ∙ before.is_heard;
+          his_session = before.his_session;
+          within = before.within;
+        }
+
+    pub sound_begun_so : IsSound after_given
     sound_begun_so = record {
-      numbered = λ id h. let new = numbers id h in t.others id new.1 ∙ s.numbered id new.0;
+      numbered = λ id h. let new = numbers id h in t'.others id new.1 ∙ s.numbered id new.0;
+      from_one = t'.others 0 past ∙ s.from_one;
       feeds = λ id other e.
           by_number him id
           (λ same.
-          let now : Feeds mount ≡ Feeds other = sym t.his ∙ ap (standing_of after_begin) same ∙ e in
+          let now : Feeds mount ≡ Feeds other = sym t'.his ∙ ap (standing_of after_given) same ∙ e in
           let one : mount ≡ other = cc in
           (fresh, new_here other one, same))
-          (λ apart. let old = s.feeds id other (sym (t.others id apart) ∙ e) in (old.0, begun_beside other old.0 old.1, old.2));
+          (λ apart. let old = s.feeds id other (sym (t'.others id apart) ∙ e) in (old.0, begun_beside other old.0 old.1, old.2));
       fed = λ other session e.
           begun_cases other session e
-          (λ same one. ap (λ (x : Session). standing_of after_begin x.number) (sym one) ∙ t.his ∙ ap (λ (m : List ℕ). Feeds m) same)
+          (λ same one. ap (λ (x : Session). standing_of after_given x.number) (sym one) ∙ t'.his ∙ ap (λ (m : List ℕ). Feeds m) same)
           (λ old.
           let was = s.fed other session old in
           by_number him session.number (λ same. absurd (fed_none other (ap (standing_of w) same ∙ was)))
-          (λ apart. t.others session.number apart ∙ was));
+          (λ apart. t'.others session.number apart ∙ was));
       apart = subst AreApart (sym live) (begun_apart fresh w.house.live not_live s.apart);
       starts = λ other session e.
           begun_cases other session e
           (λ same one. subst (λ (x : Session). AreRising x.stream.starts (end_of x.stream)) one tt)
           (λ old. s.starts other session old);
-      by_number = s.by_number;
+      by_number = same_order w.seats after_given.seats (numbers_hearing mount him w.seats) s.by_number;
       sitting = λ id seat e.
-          let sat : standing_of w id ≡ Sits = s.sitting id seat e in
-          by_number him id (λ same. absurd (sat_nowhere (ap (standing_of w) same ∙ sat))) (λ apart. t.others id apart ∙ sat);
+          let had = given_from mount him w.seats id seat e in
+          let sat : standing_of w id ≡ Sits = s.sitting id had.0 had.1 in
+          by_number him id (λ same. absurd (sat_nowhere (ap (standing_of w) same ∙ sat))) (λ apart. t'.others id apart ∙ sat);
       seated = λ id seat e.
-          let old = s.seated id seat e in
-          record { session = old.session; is_live = begun_beside seat.mount old.session old.is_live; his_session = old.his_session; within = old.within };
+          let had = given_from mount him w.seats id seat e in
+          subst (λ (x : Seat). IsSeatedIn after_given x) had.2 (seated_by id had.0 had.1 (bytes_eq had.0.mount mount) refl);
     }
 
 -- a client begins to feed
 pub sound_begun : (w : World) → IsSound w → (him : ℕ) (mount : List ℕ) (shown : Shown) (peer : Peer) → standing_of w him ≡ Undecided peer
-    → session_of w.house.live mount ≡ None → IsSound (record w { house = begun w.house him mount shown })
+    → session_of w.house.live mount ≡ None → IsSound (session_begun w him mount shown)
 sound_begun w s him mount shown peer stood not_live =
     sound_begun_so w s him mount shown (begun w.house him mount shown) refl (turns_feeding w him mount shown (asks w him peer stood)) not_live
     (λ id h. (h, by_number him id (λ same. let unknown : standing_of w him ≡ Unknown = ap (standing_of w) same ∙ s.numbered id h in cc) (λ apart. apart)))
-    (λ other e. cc) (λ e. cc)
+    (λ other e. cc) (λ e. cc) refl
+    (by_number him 0 (λ same. let unknown : standing_of w him ≡ Unknown = ap (standing_of w) same ∙ s.from_one in cc) (λ apart. apart))
 
 -- a relay comes up
 pub sound_raised : (w : World) → IsSound w → (mount : List ℕ) (shown : Shown) → session_of w.house.live mount ≡ None
-    → IsSound (record w { house = raised w.house (w.house.last_id + 1) mount shown })
+    → IsSound (session_raised w (w.house.last_id + 1) mount shown)
 sound_raised w s mount shown not_live =
     let him = w.house.last_id + 1 in
     let unknown : standing_of w him ≡ Unknown = s.numbered him (omega arith) in
     sound_begun_so w s him mount shown (raised w.house him mount shown) refl (turns_raised w him mount shown unknown) not_live
     (λ id h. (omega (arith, h), grind (arith, nat_tests, h)))
-    (λ other e. cc) (λ e. cc)
+    (λ other e. cc) (λ e. cc) refl (grind (arith, nat_tests))
 
 -- a source delivers a block
 module _ (w : World) (s : IsSound w) (mount block : List ℕ) where
@@ -157,6 +205,7 @@ module _ (w : World) (s : IsSound w) (mount block : List ℕ) where
   pub sound_grown : (him : ℕ) → standing_of w him ≡ Feeds mount → IsSound after_block
   sound_grown him feeding = record {
     numbered = λ id h. s.numbered id h;
+    from_one = s.from_one;
     feeds = λ id other e. let old = s.feeds id other e in let now = grown other old.0 old.1 in (now.0, now.1, now.2 ∙ old.2);
     fed = λ other now e.
         grown_cases other now e
@@ -175,15 +224,30 @@ module _ (w : World) (s : IsSound w) (mount block : List ℕ) where
     sitting = λ id seat e. s.sitting id seat e;
     seated = λ id seat e.
         let old = s.seated id seat e in
-        let now = grown seat.mount old.session old.is_live in
-        record { session = now.0; is_live = now.1; his_session = now.2 ∙ old.his_session; within = omega (arith, now.3, old.within) };
+        heard_cases w.house seat.mount old.session old.is_heard
+        (λ there.
+        let now = grown seat.mount old.session there in
+        record {
+          session = now.0;
+          is_heard = heard_live after_block.house seat.mount now.0 now.1;
+          his_session = now.2 ∙ old.his_session;
+          within = omega (arith, now.3, old.within);
+        })
+        (λ none silent.
+        by_name mount seat.mount (λ same. never (ap (session_of w.house.live) same ∙ none))
+        (λ apart. record {
+          session = old.session;
+          is_heard = heard_same after_block.house w.house seat.mount refl (beside_fed w.house.live mount seat.mount apart block w.house.time) ∙ old.is_heard;
+          his_session = old.his_session;
+          within = old.within;
+        }));
   } where
     never : {A : Type 0} → session_of w.house.live mount ≡ None → A
     never {A} none = let ours = s.feeds him mount feeding in let found : session_of w.house.live mount ≡ Some ours.0 = ours.1 in cc
 
 -- a listener hears on
 module _ (w : World) (s : IsSound w) (him room : ℕ) (seat : Seat) (session : Session) (sits : standing_of w him ≡ Sits)
-    (has : seat_of w.seats him ≡ Some seat) (live : session_of w.house.live seat.mount ≡ Some session) where
+    (has : seat_of w.seats him ≡ Some seat) (live : heard_at w.house seat.mount ≡ Some session) where
   abbrev behind : ℕ
   behind = seat.place + length (data_at session.stream seat.place room)
 
@@ -196,7 +260,7 @@ module _ (w : World) (s : IsSound w) (him room : ℕ) (seat : Seat) (session : S
   pub behind_within : behind ≤ end_of session.stream
   behind_within =
       let old = s.seated him seat has in
-      let same : Some old.session ≡ Some session = sym old.is_live ∙ live in
+      let same : Some old.session ≡ Some session = sym old.is_heard ∙ live in
       let one : old.session ≡ session = cc in
       let low : seat.place ≤ end_of session.stream = subst (λ (x : Session). seat.place ≤ end_of x.stream) one old.within in
       omega (arith, length-take room (drop seat.place session.stream.bytes), length-drop seat.place session.stream.bytes, low)
@@ -221,6 +285,7 @@ module _ (w : World) (s : IsSound w) (him room : ℕ) (seat : Seat) (session : S
       let same = stays_hearing w him behind listener.0 listener.1 in
       record {
         numbered = λ id h. same id ∙ s.numbered id h;
+        from_one = same 0 ∙ s.from_one;
         feeds = λ id other e. s.feeds id other (sym (same id) ∙ e);
         fed = λ other now e. same now.number ∙ s.fed other now e;
         apart = s.apart;
@@ -235,9 +300,9 @@ module _ (w : World) (s : IsSound w) (him room : ℕ) (seat : Seat) (session : S
         his_own : IsSeatedIn after_draw (record seat { place = behind })
         his_own =
             let old = s.seated him seat has in
-            let both : Some old.session ≡ Some session = sym old.is_live ∙ live in
+            let both : Some old.session ≡ Some session = sym old.is_heard ∙ live in
             let one : old.session ≡ session = cc in
-            record { session = session; is_live = live; his_session = ap (λ (x : Session). x.number) (sym one) ∙ old.his_session; within = behind_within }
+            record { session = session; is_heard = live; his_session = ap (λ (x : Session). x.number) (sym one) ∙ old.his_session; within = behind_within }
 
         seated : (id : ℕ) (other : Seat) → seat_of after_draw.seats id ≡ Some other → IsSeatedIn after_draw other
         seated id other e =

@@ -1,5 +1,5 @@
 -- what holds of every state of a run holds still when a source has set a title
-use Rattle.std.proofs.Common.{◌≡◌, ◌≤◌, false, ℕ, Some, List, refl, ap, sym, subst, ◌∙◌}
+use Rattle.std.proofs.Common.{◌≡◌, ◌≤◌, false, ℕ, Some, List, refl, ap, sym, subst, ◌∙◌, None}
 use Rattle.std.specs.Str.{bytes_eq}
 use Rattle.radio_tables.proofs.KeyLaws.{by_name}
 use Rattle.radio_core.specs.declared.outcome.Change.TheVariants.{SetTitle}
@@ -11,6 +11,7 @@ use Rattle.radio_parts.specs.Stream.{AreRising, WholeStream, end_of}
 use Rattle.radio_core.specs.Sound.{IsSound}
 use Rattle.radio_parts.proofs.ApartLemmas.{updated_apart}
 use Rattle.radio_parts.proofs.SessionLookups.{beside_titled, is_titled}
+use Rattle.radio_core.proofs.HeardLemmas.{heard_cases, heard_live, heard_same}
 
 -- a session is as it was, but that it may have another title
 pub record IsBut (session now : Session) : Type 0 where
@@ -60,6 +61,7 @@ module _ (w : World) (s : IsSound w) (mount text : List ℕ) (him : ℕ) (feedin
   pub sound_titled : IsSound after_title
   sound_titled = record {
     numbered = λ id h. s.numbered id h;
+    from_one = s.from_one;
     feeds = λ id other e.
         let old = s.feeds id other e in
         let now = live_still other old.0 old.1 in
@@ -75,11 +77,22 @@ module _ (w : World) (s : IsSound w) (mount text : List ℕ) (him : ℕ) (feedin
     sitting = λ id seat e. s.sitting id seat e;
     seated = λ id seat e.
         let old = s.seated id seat e in
-        let now = live_still seat.mount old.session old.is_live in
+        heard_cases w.house seat.mount old.session old.is_heard
+        (λ there.
+        let now = live_still seat.mount old.session there in
         record {
           session = now.0;
-          is_live = now.1;
+          is_heard = heard_live after_title.house seat.mount now.0 now.1;
           his_session = sym now.2.number ∙ old.his_session;
           within = subst (λ (x : WholeStream). seat.place ≤ end_of x) now.2.stream old.within;
-        };
+        })
+        (λ none silent.
+        by_name mount seat.mount
+        (λ same. let ours = s.feeds him mount feeding in let there : session_of w.house.live mount ≡ None = ap (session_of w.house.live) same ∙ none in cc)
+        (λ apart. record {
+          session = old.session;
+          is_heard = heard_same after_title.house w.house seat.mount refl (beside_titled w.house.live mount seat.mount apart text) ∙ old.is_heard;
+          his_session = old.his_session;
+          within = old.within;
+        }));
   }

@@ -19,14 +19,17 @@ use Rattle.radio_seats.proofs.SeatLaws.{beside_left, beside_seated, is_no_listen
 use Rattle.radio_parts.proofs.RisingLemmas.{burst_within}
 use Rattle.radio_parts.proofs.NumberOrder.{order_left, order_seated}
 use Rattle.radio_core.proofs.Standings.{Turns, asks, turns_answered, turns_sitting, turns_forgotten, turns_admitted}
+use Rattle.radio_house.specs.Waiting.{heard_at}
+use Rattle.radio_parts.specs.Stream.{AreRising, end_of}
+use Rattle.radio_core.proofs.HeardLemmas.{heard_cases}
 
 module _ (w : World) (s : IsSound w) where
-  -- who is seated is seated still, where sessions are as they were
-  pub seated_still : (later : World) → ((mount : List ℕ) → session_of later.house.live mount ≡ session_of w.house.live mount) → (seat : Seat)
+  -- who is seated is seated still, where there is the same to be heard
+  pub seated_still : (later : World) → ((mount : List ℕ) → heard_at later.house mount ≡ heard_at w.house mount) → (seat : Seat)
       → IsSeatedIn w seat → IsSeatedIn later seat
-  seated_still later sessions seat old = record {
+  seated_still later heard seat old = record {
     session = old.session;
-    is_live = sessions seat.mount ∙ old.is_live;
+    is_heard = heard seat.mount ∙ old.is_heard;
     his_session = old.his_session;
     within =
         old.within;
@@ -45,7 +48,7 @@ module _ (w : World) (s : IsSound w) where
       (sessions : (mount : List ℕ) → session_of later.house.live mount ≡ session_of w.house.live mount)
       (sitting : (id : ℕ) (seat : Seat) → seat_of later.seats id ≡ Some seat → standing_of later id ≡ Sits)
       (seated : (id : ℕ) (seat : Seat) → seat_of later.seats id ≡ Some seat → IsSeatedIn later seat) (last : w.house.last_id ≤ later.house.last_id)
-      (above : later.house.last_id < him → now ≡ Unknown) (not_before : (mount : List ℕ) → standing_of w him ≡ Feeds mount → ⊥)
+      (above : later.house.last_id < him → now ≡ Unknown) (zero : him ≡ 0 → now ≡ Unknown) (not_before : (mount : List ℕ) → standing_of w him ≡ Feeds mount → ⊥)
       (not_now : (mount : List ℕ) → now ≡ Feeds mount → ⊥) where
     pub sound_turned : IsSound later
     sound_turned = record {
@@ -53,6 +56,7 @@ module _ (w : World) (s : IsSound w) where
           by_number him id
           (λ same. let here : later.house.last_id < him = omega arith in ap (standing_of later) (sym same) ∙ t.his ∙ above here)
           (λ other. let high : w.house.last_id < id = omega arith in t.others id other ∙ s.numbered id high);
+      from_one = by_number him 0 (λ same. ap (standing_of later) (sym same) ∙ t.his ∙ zero same) (λ other. t.others 0 other ∙ s.from_one);
       feeds = λ id mount e.
           by_number him id
           (λ same. absurd (not_now mount (sym t.his ∙ ap (standing_of later) same ∙ e)))
@@ -71,18 +75,21 @@ module _ (w : World) (s : IsSound w) where
   known_low : (id : ℕ) (now : Standing) → standing_of w id ≡ now → (now ≡ Unknown → ⊥) → w.house.last_id < id → {A : Type 0} → A
   known_low id now e known high {A} = absurd (known (sym e ∙ s.numbered id high))
 
+  known_past_zero : (id : ℕ) (now : Standing) → standing_of w id ≡ now → (now ≡ Unknown → ⊥) → id ≡ 0 → {A : Type 0} → A
+  known_past_zero id now e known zero {A} = absurd (known (sym e ∙ ap (standing_of w) zero ∙ s.from_one))
+
   pub sound_answered : (id : ℕ) (peer : Peer) → standing_of w id ≡ Undecided peer → IsSound (changed w (Answer id))
   sound_answered id peer e =
       let t = turns_answered w id (asks w id peer e) in
       sound_turned (changed w (Answer id)) id Answered t s.apart s.by_number (λ mount. refl)
       (sits_still (changed w (Answer id)) id Answered t (λ him. refl) (λ u. cc))
       (λ him seat h. seated_still (changed w (Answer id)) (λ mount. refl) seat (s.seated him seat h))
-      (omega arith) (λ high. known_low id (Undecided peer) e (λ u. cc) high) (λ mount f. cc) (λ mount f. cc)
+      (omega arith) (λ high. known_low id (Undecided peer) e (λ u. cc) high) (λ zero. known_past_zero id (Undecided peer) e (λ u. cc) zero) (λ mount f. cc) (λ mount f. cc)
 
   pub sound_forgotten : (id : ℕ) → ((mount : List ℕ) → standing_of w id ≡ Feeds mount → ⊥) → IsSound (changed w (Forget id))
   sound_forgotten id not_feeding =
       sound_turned (changed w (Forget id)) id Unknown (turns_forgotten w id) s.apart (order_left w.seats s.by_number id) (λ mount. refl) sitting seated
-      (omega arith) (λ high. refl) not_feeding (λ mount f. cc) where
+      (omega arith) (λ high. refl) (λ zero. refl) not_feeding (λ mount f. cc) where
         sitting : (him : ℕ) (seat : Seat) → seat_of (without_listener w.seats id) him ≡ Some seat → standing_of (changed w (Forget id)) him ≡ Sits
         sitting him seat h =
             by_number id him
@@ -106,11 +113,11 @@ module _ (w : World) (s : IsSound w) where
       sound_turned (changed w (Admit id peer)) id (Undecided peer) t s.apart s.by_number (λ mount. refl)
       (sits_still (changed w (Admit id peer)) id (Undecided peer) t (λ him. refl) (λ u. cc))
       (λ him seat h. seated_still (changed w (Admit id peer)) (λ mount. refl) seat (s.seated him seat h))
-      (omega arith) (λ high. absurd (omega arith)) (λ mount f. cc) (λ mount f. cc)
+      (omega arith) (λ high. absurd (omega arith)) (λ zero. absurd (omega (arith, zero))) (λ mount f. cc) (λ mount f. cc)
 
   -- a listener sits down
   module _ (asked : ListenRequest) (peer : Peer) (session : Session) (e : standing_of w asked.id ≡ Undecided peer)
-      (live : session_of w.house.live session.mount ≡ Some session) where
+      (live : heard_at w.house session.mount ≡ Some session) where
     abbrev pub new_seat : Seat
     new_seat = first_seat w.house asked peer session
 
@@ -135,12 +142,17 @@ module _ (w : World) (s : IsSound w) where
     pub beside_new_seat : (id : ℕ) → (asked.id == id) ≡ false → seat_of after_seat.seats id ≡ seat_of w.seats id
     beside_new_seat id other = ap seat_in (beside_seated w.seats asked.id id other new_seat)
 
+    rising : AreRising session.stream.starts (end_of session.stream)
+    rising =
+        heard_cases w.house session.mount session live (λ there. s.starts session.mount session there)
+        (λ none silent. subst (λ (x : Session). AreRising x.stream.starts (end_of x.stream)) silent tt)
+
     new_seated : IsSeatedIn after_seat new_seat
     new_seated = record {
       session = session;
-      is_live = live;
+      is_heard = live;
       his_session = refl;
-      within = burst_within session.stream (burst_of w.house session.mount) (s.starts session.mount session live);
+      within = burst_within session.stream (burst_of w.house session.mount) rising;
     }
 
     all_seated : (id : ℕ) (seat : Seat) → seat_of after_seat.seats id ≡ Some seat → IsSeatedIn after_seat seat
@@ -161,4 +173,5 @@ module _ (w : World) (s : IsSound w) where
     pub sound_sits : IsSound after_seat
     sound_sits =
         sound_turned after_seat asked.id Sits turns_seated s.apart (order_seated w.seats s.by_number asked.id new_seat) (λ mount. refl) all_sit all_seated
-        (omega arith) (λ high. known_low asked.id (Undecided peer) e (λ u. cc) high) (λ mount f. cc) (λ mount f. cc)
+        (omega arith) (λ high. known_low asked.id (Undecided peer) e (λ u. cc) high)
+        (λ zero. known_past_zero asked.id (Undecided peer) e (λ u. cc) zero) (λ mount f. cc) (λ mount f. cc)

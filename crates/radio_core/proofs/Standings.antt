@@ -19,13 +19,16 @@ use Rattle.radio_house.specs.declared.relays.RelayState.{RelayState}
 use Rattle.radio_house.specs.declared.relays.RelayState.TheVariants.{Feeds as RelayFeeds, Ended as RelayEnded}
 use Rattle.radio_house.specs.Clients.{Client, client_of, in_state, with_state}
 use Rattle.radio_house.specs.Relays.{Relay, relay_of, risen, ended}
-use Rattle.radio_seats.specs.Seats.{listener_of, advanced, heard_to}
-use Rattle.radio_house.specs.World.{World, standing_of, standing_in, standing_by, standing_seated, standing_of_listener, standing_relayed, standing_of_relay, has_relay}
+use Rattle.radio_seats.specs.Seats.{listener_of, advanced, heard_to, hears_session, in_session_at, with_session_at}
+use Rattle.radio_house.specs.World.{World, standing_of, standing_in, standing_by, standing_seated, standing_of_listener, standing_relayed, standing_of_relay, has_relay, world}
 use Rattle.radio_core.specs.Changes.{changed}
 use Rattle.radio_house.specs.HouseChanges.{begun, raised, finished_in}
 use Rattle.radio_seats.proofs.SeatLaws.{beside_moved, beside_left, beside_seated, has_moved, is_no_listener, has_sat_down}
 use Rattle.radio_house.proofs.Lookups.{beside_state, beside_forgotten, does, still_none, is_no_client, is_new_client, beside_new}
 use Rattle.radio_house.proofs.Lookups.{relay_beside_ended, relay_beside_gone, is_ended_relay, is_no_relay, is_new_relay, beside_new_relay}
+use Rattle.radio_seats.proofs.GivenLaws.{listener_hearing}
+use Rattle.std.specs.Option.{option_map}
+use Rattle.radio_house.specs.House.{House}
 
 -- one client stands so from now on, and the others as before
 pub record Turns (w later : World) (him : ℕ) (now : Standing) : Type 0 where
@@ -231,6 +234,38 @@ stays_hearing w him place listener found id = by_number him id his others where
 
   others : (him == id) ≡ false → standing_of (changed w (Advance him place)) id ≡ standing_of w id
   others other = ap (λ l. standing_in (relay_of w.house.relays id) l (client_of w.house.clients id)) (beside_moved w.seats him id other place)
+
+-- who hears a session that begins at his mount stands as before
+given_seated : (mount : List ℕ) (session : ℕ) (seating : Seating) → standing_seated (in_session_at mount session seating) ≡ standing_seated seating
+given_seated mount session (HasSeat seat) = refl
+given_seated mount session (HasFinished rule) = refl
+
+given_by : (mount : List ℕ) (session : ℕ) (listener : Listener) (peer : Peer) (state : ClientState)
+    → standing_by (Some (hears_session mount session listener)) peer state ≡ standing_by (Some listener) peer state
+given_by mount session listener peer Undecided = refl
+given_by mount session listener peer (Feeds at) = refl
+given_by mount session listener peer Listens = given_seated mount session listener.seating
+given_by mount session listener peer Answered = refl
+given_by mount session listener peer (Ended rule) = refl
+
+given_in : (relay : Option Relay) (mount : List ℕ) (session : ℕ) (listener : Option Listener) (client : Option Client)
+    → standing_in relay (option_map (hears_session mount session) listener) client ≡ standing_in relay listener client
+given_in relay mount session None client = refl
+given_in relay mount session (Some listener) None = refl
+given_in relay mount session (Some listener) (Some client) = given_by mount session listener client.peer client.state
+
+pub stays_given : (house : House) (seats : List Listener) (mount : List ℕ) (session id : ℕ)
+    → standing_of (world house (with_session_at seats mount session)) id ≡ standing_of (world house seats) id
+stays_given house seats mount session id =
+    ap (λ l. standing_in (relay_of house.relays id) l (client_of house.clients id)) (listener_hearing mount session seats id)
+    ∙ given_in (relay_of house.relays id) mount session (listener_of seats id) (client_of house.clients id)
+
+pub turns_given : (w : World) (house : House) (mount : List ℕ) (session him : ℕ) (now : Standing) → Turns w (record w { house = house }) him now
+    → Turns w (world house (with_session_at w.seats mount session)) him now
+turns_given w house mount session him now t = record {
+  his = stays_given house w.seats mount session him ∙ t.his;
+  others = λ id other. stays_given house w.seats mount session id ∙ t.others id other;
+}
 
 -- who feeds feeds whoever listens
 no_source : (seating : Seating) (mount : List ℕ) → standing_seated seating ≡ IsFeeding mount → ⊥

@@ -33,6 +33,7 @@ use Rattle.radio_core.proofs.PlannedLemmas.{planned_so, completed_so}
 use Rattle.radio_core.proofs.SoundRuns.{sound_after, sound_opening}
 use Rattle.radio_seats.specs.declared.seat.Seat.{Seat}
 use Rattle.radio_seats.specs.Seats.{seat_of}
+use Rattle.radio_house.specs.Wanted.{wanted}
 
 -- its reply has no text, and its change needs no memory
 abbrev pub IsSmall : Outcome → Type 0
@@ -98,6 +99,11 @@ opening_represents settings lists = record { shows = refl; rise = tt; kept = λ 
 pub keeps_settings : (core w : World) → Represents core w → core.house.settings ≡ w.house.settings
 unfolding Represents
 keeps_settings core w stands = ap (λ (x : World). x.house.settings) stands.shows
+
+-- the mounts are wanted that are in whatever state it stands for
+pub wants_alike : (core w : World) → Represents core w → wanted core ≡ wanted w
+unfolding Represents
+wants_alike core w stands = ap wanted stands.shows
 
 pub opening_stands : (settings : Settings) (lists : Lists) → StandsForSome (opening settings lists)
 unfolding StandsForSome

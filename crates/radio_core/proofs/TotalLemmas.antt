@@ -40,6 +40,7 @@ use Rattle.radio_core.proofs.Standings.{is_client_there, no_client_there, no_rel
 use Rattle.radio_core.proofs.Ways.{way_of}
 use Rattle.radio_core.proofs.NumbersStay.{number_of, relay_number, row_of, ids, relay_ids, rows, AreTheSame, same_called, nobody_else, same_state, same_obeyed, same_over_rows, same_ticked, same_begun, same_received}
 use Rattle.radio_core.proofs.NumbersRise.{IsYetToAsk, AreInOrder, order_after, order_opening}
+use Rattle.radio_seats.proofs.GivenLaws.{numbers_hearing}
 
 -- what came and went, and how many are there then
 record Adds (w later : World) (event : Event) (reply : Reply) : Type 0 where
@@ -163,7 +164,8 @@ module _ (w : World) (s : IsSound w) (inv : AreInOrder w) where
       let more = placed_length (w.house.last_id + 1) (relay_ids w) (number_free relay_number (w.house.last_id + 1) w.house.relays none) in
       let placed_now = numbers_placed relay_number (risen (w.house.last_id + 1) mount) w.house.relays in
       adds (changed w o.change) event o.reply called.same_last (omega (arith, ap length called.same_ids))
-      (omega (arith, ap length called.same_relays, ap length placed_now, more)) (omega (arith, ap length called.same_rows))
+      (omega (arith, ap length called.same_relays, ap length placed_now, more))
+      (omega (arith, ap length called.same_rows, ap length (numbers_hearing mount (w.house.last_id + 1) w.seats)))
   adds_by event o (Begins asked undecided none allowed) known =
       nobody_moves (changed w o.change) event o.reply
       (same_begun w asked.id asked.mount (shown_for w.house asked.mount asked.shown)) refl refl refl refl refl refl refl

@@ -58,7 +58,8 @@ use Rattle.radio_core.specs.Step.{outcome}
 use Rattle.radio_core.specs.Ways.{Way, Misplaced, IsFinished, IsDenied, IsRefused, IsAdmitted, Begins, ComesUp, Receives, SetsTitle, TakesSeat, HandsOut, Ends}
 use Rattle.radio_core.specs.Ways.{EndsAndLeaves, Leaves, GoesDown, Obeys, Shows, HasPassed, Ticks, rows_for, IsUndecided}
 use Rattle.radio_events.specs.Events.{client_in}
-use Rattle.radio_parts.proofs.SessionLookups.{found_named}
+use Rattle.radio_core.proofs.HeardLemmas.{heard_named}
+use Rattle.radio_house.specs.Waiting.{heard_at}
 
 module _ (w : World) (event : Event) where
   by_verdict : (denied : Change) (allowed : Outcome) (v : Verdict) → ((rule : Rule) → v ≡ Denied rule → Way w event (says (Deny rule) denied))
@@ -254,26 +255,26 @@ lands_at w asked v =
     record { to = where_to.0; lands = where_to.1; fits = lands_where_he_fits (sight_of w.house) w.seats asked.pair asked.mount where_to.0 where_to.1 }
 
 module _ (w : World) (asked : ListenRequest) (peer : Peer) (e : standing_of w asked.id ≡ Undecided peer) (v : verdict_in (rows_to_listen w asked) ≡ Allow) where
-  sits_at : (to : List ℕ) → walks_to w.house w.seats asked.mount asked.pair ≡ Lands to → (found : Option Session) → session_of w.house.live to ≡ found
+  sits_at : (to : List ℕ) → walks_to w.house w.seats asked.mount asked.pair ≡ Lands to → (found : Option Session) → heard_at w.house to ≡ found
       → Way w (Listen asked) (takes_seat w.house asked peer found)
   sits_at to lands None none = Misplaced (Listen asked)
   sits_at to lands (Some session) found =
-      let named : session.mount ≡ to = found_named w.house.live to session found in
-      TakesSeat asked peer session e (lands ∙ ap (λ (m : List ℕ). Lands m) (sym named)) (ap (session_of w.house.live) named ∙ found) v
+      let named : session.mount ≡ to = heard_named w.house to session found in
+      TakesSeat asked peer session e (lands ∙ ap (λ (m : List ℕ). Lands m) (sym named)) (ap (heard_at w.house) named ∙ found) v
 
   sits : (l : Landing) → walks_to w.house w.seats asked.mount asked.pair ≡ l → Way w (Listen asked) (sits_where w.house asked peer l)
   sits (Stops rule) stops = Misplaced (Listen asked)
-  sits (Lands to) lands = sits_at to lands (session_of w.house.live to) refl
+  sits (Lands to) lands = sits_at to lands (heard_at w.house to) refl
 
 module _ (w : World) (id room : ℕ) (is_sitting : standing_of w id ≡ Sits) where
-  hands : (seat : Seat) → seat_of w.seats id ≡ Some seat → (found : Option Session) → session_of w.house.live seat.mount ≡ found
+  hands : (seat : Seat) → seat_of w.seats id ≡ Some seat → (found : Option Session) → heard_at w.house seat.mount ≡ found
       → Way w (Draw id room) (hands_out id seat room found)
   hands seat has None none = Misplaced (Draw id room)
   hands seat has (Some session) found = HandsOut id room seat session is_sitting has found
 
   hands_at : (has : Option Seat) → seat_of w.seats id ≡ has → Way w (Draw id room) (hands_out_at w.house id room has)
   hands_at None none = Misplaced (Draw id room)
-  hands_at (Some seat) has = hands seat has (session_of w.house.live seat.mount) refl
+  hands_at (Some seat) has = hands seat has (heard_at w.house seat.mount) refl
 
 module _ (w : World) (id : ℕ) where
   by_leaving_from : has_relay w id ≡ false → (s : Standing) → standing_of w id ≡ s → Way w (Leave id) (leaves_from id s)

@@ -14,10 +14,11 @@ use Rattle.radio_core.specs.declared.outcome.Change.TheVariants.{Nothing, Answer
 use Rattle.radio_core.specs.declared.outcome.Change.TheVariants.{EndAndLeave, Forget, Tick, Obey}
 use Rattle.radio_house.specs.Clients.{without_client}
 use Rattle.radio_house.specs.Relays.{without_relay}
+use Rattle.radio_settings.specs.declared.field.Shown.{Shown}
 use Rattle.radio_house.specs.HouseChanges.{now_in_state, admitted, begun, raised, finished_in, received, retitled, falling_back, timed_out_by, with_user, without_user}
 use Rattle.radio_house.specs.Outsiders.{is_shut_out}
 use Rattle.radio_parts.specs.Sessions.{Session, session_of, without_session}
-use Rattle.radio_seats.specs.Seats.{with_seat, with_place, with_end, with_ended, without_listener}
+use Rattle.radio_seats.specs.Seats.{with_seat, with_place, with_end, with_ended, with_session_at, without_listener}
 use Rattle.radio_house.specs.Facts.{live_end, sight_of}
 use Rattle.radio_parts.specs.Timeouts.{lags_behind, has_sat_out, is_silent}
 use Rattle.radio_house.specs.World.{World}
@@ -33,6 +34,14 @@ session_over w mount = record w { house = record w.house { live = without_sessio
 -- the mount's session has ended; each of its listeners has gone where his walk lands, or has finished by the rule that stops it
 abbrev pub session_ended : World → List ℕ → World
 session_ended w mount = carried_along (session_over w mount) (HasEnded mount)
+
+-- the client feeds the mount, and those hear him who sat there waiting for a session; nobody has been called home yet
+abbrev pub session_begun : World → ℕ → List ℕ → Shown → World
+session_begun w id mount shown = record { house = begun w.house id mount shown; seats = with_session_at w.seats mount id }
+
+-- a relay has come up on the mount, and those hear it who sat there waiting for a session; nobody has been called home yet
+abbrev pub session_raised : World → ℕ → List ℕ → Shown → World
+session_raised w id mount shown = record { house = raised w.house id mount shown; seats = with_session_at w.seats mount id }
 
 -- a source, or a relay, has come up on the mount: where its settings say so, those have come home who had asked for it
 abbrev pub called_home : World → List ℕ → World
@@ -118,8 +127,8 @@ abbrev pub changed : World → Change → World
 changed w Nothing = w
 changed w (Answer id) = answered w id
 changed w (Admit id peer) = record w { house = admitted w.house id peer }
-changed w (Begin id mount shown) = called_home (record w { house = begun w.house id mount shown }) mount
-changed w (Raise id mount shown) = called_home (record w { house = raised w.house id mount shown }) mount
+changed w (Begin id mount shown) = called_home (session_begun w id mount shown) mount
+changed w (Raise id mount shown) = called_home (session_raised w id mount shown) mount
 changed w (Receive mount block) = taken_in w mount block
 changed w (SetTitle mount title) = record w { house = retitled w.house mount title }
 changed w (TakeSeat id seat) = record { house = now_in_state w.house id Listens; seats = with_seat w.seats id seat }

@@ -9,8 +9,7 @@ use Rattle.radio_events.specs.declared.command.Command.{Command}
 use Rattle.radio_events.specs.declared.command.Command.TheVariants.{MoveClients, AddUser, DeleteUser}
 use Rattle.radio_core.specs.declared.outcome.Change.{Change}
 use Rattle.radio_core.specs.declared.outcome.Change.TheVariants.{Begin, Raise, End, EndAndLeave, Obey}
-use Rattle.radio_house.specs.HouseChanges.{begun, raised}
-use Rattle.radio_core.specs.Changes.{session_over, user_added, user_deleted}
+use Rattle.radio_core.specs.Changes.{session_begun, session_raised, session_over, user_added, user_deleted}
 use Rattle.radio_house.specs.Outsiders.{is_shut_out}
 use Rattle.radio_seats.specs.Rests.{how_many}
 use Rattle.radio_house.specs.Facts.{sight_of}
@@ -45,8 +44,8 @@ counts_by w command = nobody
 -- how many the move shifts and finishes that the change is, or brings; the moves of a clock, of which there may be several, are told to nobody and not
 -- counted
 abbrev pub counted : World → Change → Carried
-counted w (Begin id mount shown) = counts_home (record w { house = begun w.house id mount shown }) mount
-counted w (Raise id mount shown) = counts_home (record w { house = raised w.house id mount shown }) mount
+counted w (Begin id mount shown) = counts_home (session_begun w id mount shown) mount
+counted w (Raise id mount shown) = counts_home (session_raised w id mount shown) mount
 counted w (End id mount) = counts_ended w mount
 counted w (EndAndLeave id mount) = counts_ended w mount
 counted w (Obey id command) = counts_by w command

@@ -4,13 +4,14 @@ use Rattle.radio_events.specs.declared.reply.Reply.TheVariants.{Drawn, Stray}
 use Rattle.radio_core.specs.declared.outcome.Change.TheVariants.{Nothing, Advance}
 use Rattle.radio_core.specs.declared.outcome.Outcome.{Outcome}
 use Rattle.radio_seats.specs.declared.seat.Seat.{Seat}
-use Rattle.radio_parts.specs.Sessions.{Session, session_of}
+use Rattle.radio_parts.specs.Sessions.{Session}
 use Rattle.radio_parts.specs.Stream.{data_at}
 use Rattle.radio_seats.specs.Seats.{seat_of}
 use Rattle.radio_house.specs.World.{World, standing_of}
 use Rattle.radio_core.specs.Outcomes.{says, if_sitting}
+use Rattle.radio_house.specs.Waiting.{heard_at}
 
--- the listener is handed what stands at his place, which moves past it, and is told the title of then
+-- the listener is handed what stands at his place, which moves past it, and is told the title of then; at a mount that waits for a session that is nothing
 abbrev pub hands_out : ℕ → Seat → ℕ → Option Session → Outcome
 hands_out id seat room None = says Stray Nothing
 hands_out id seat room (Some session) =
@@ -19,7 +20,7 @@ hands_out id seat room (Some session) =
 
 abbrev pub hands_out_at : House → ℕ → ℕ → Option Seat → Outcome
 hands_out_at house id room None = says Stray Nothing
-hands_out_at house id room (Some seat) = hands_out id seat room (session_of house.live seat.mount)
+hands_out_at house id room (Some seat) = hands_out id seat room (heard_at house seat.mount)
 
 -- a listener has room for so many bytes
 abbrev pub draws : World → ℕ → ℕ → Outcome

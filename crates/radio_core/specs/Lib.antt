@@ -15,6 +15,7 @@ pub mod Clock
 pub mod Allowed
 pub mod Command
 pub mod Planned
+pub mod Prepared
 pub mod Changes
 pub mod Counts
 pub mod Moves

@@ -7,7 +7,7 @@ use Rattle.radio_events.specs.declared.reply.Reply.TheVariants.{Seated, Stray}
 use Rattle.radio_core.specs.declared.outcome.Change.TheVariants.{Nothing, Answer, TakeSeat}
 use Rattle.radio_core.specs.declared.outcome.Outcome.{Outcome}
 use Rattle.radio_seats.specs.declared.seat.Seat.{Seat}
-use Rattle.radio_parts.specs.Sessions.{Session, session_of}
+use Rattle.radio_parts.specs.Sessions.{Session}
 use Rattle.radio_parts.specs.Stream.{burst_start}
 use Rattle.radio_house.specs.World.{World, standing_of}
 use Rattle.radio_fallback.specs.declared.walking.Landing.{Landing}
@@ -15,8 +15,9 @@ use Rattle.radio_fallback.specs.declared.walking.Landing.TheVariants.{Lands, Sto
 use Rattle.radio_house.specs.Facts.{rows_to_listen, walks_to}
 use Rattle.radio_house.specs.Streams.{burst_of, head_of, interval_for}
 use Rattle.radio_core.specs.Outcomes.{says, on_verdict, if_undecided}
+use Rattle.radio_house.specs.Waiting.{heard_at}
 
--- the seat of a new listener in the session where his walk landed: the mount that he asked for is his home, and he begins at the start of a block
+-- the seat of a new listener where his walk landed, at a mount with this session, or one that waits for one: the mount that he asked for is his home, and he begins at the start of a block
 abbrev pub first_seat : House → ListenRequest → Peer → Session → Seat
 first_seat house asked peer session = record {
   home = asked.mount;
@@ -29,7 +30,7 @@ first_seat house asked peer session = record {
   since = house.time;
 }
 
--- the listener sits down; where the mount is not live, at which no walk lands, nothing happens
+-- the listener sits down; where nothing is to be heard at the mount, at which no walk lands, nothing happens
 abbrev pub takes_seat : House → ListenRequest → Peer → Option Session → Outcome
 takes_seat house asked peer None = says Stray Nothing
 takes_seat house asked peer (Some session) =
@@ -38,7 +39,7 @@ takes_seat house asked peer (Some session) =
 -- he sits down where his walk lands; where it is stopped, which the policy denies, nothing happens
 abbrev pub sits_where : House → ListenRequest → Peer → Landing → Outcome
 sits_where house asked peer (Stops rule) = says Stray Nothing
-sits_where house asked peer (Lands mount) = takes_seat house asked peer (session_of house.live mount)
+sits_where house asked peer (Lands mount) = takes_seat house asked peer (heard_at house mount)
 
 -- a client wants to hear the mount of this path
 abbrev pub asks_to_hear : World → ListenRequest → Outcome

@@ -16,8 +16,7 @@ use Rattle.radio_events.specs.declared.event.Event.{Event}
 use Rattle.radio_events.specs.declared.event.Event.TheVariants.{Source, SourceEnd, RelayUp, Clock}
 use Rattle.radio_events.specs.declared.event.SourceRequest.{SourceRequest}
 use Rattle.radio_house.specs.declared.standing.Standing.TheVariants.{Undecided, Feeds}
-use Rattle.radio_house.specs.HouseChanges.{begun, raised}
-use Rattle.radio_core.specs.Changes.{session_over, before_silence, silent_in, session_silenced}
+use Rattle.radio_core.specs.Changes.{session_begun, session_raised, session_over, before_silence, silent_in, session_silenced}
 use Rattle.radio_events.specs.declared.command.Command.TheVariants.{MoveClients, KillSource}
 use Rattle.radio_core.specs.Closing.{Closes}
 use Rattle.radio_core.specs.Allowed.{IsCommanded}
@@ -48,11 +47,11 @@ pub data Brings (w : World) : Event → Move → World → Type 0 where
   -- a source comes up on a mount that calls its listeners home
   ByComingUp : (asked : SourceRequest) (peer : Peer) → standing_of w asked.id ≡ Undecided peer → verdict_in (rows_to_feed w.house asked) ≡ Allow
       → (options_for w.house.settings asked.mount).listeners.fallback_override ≡ true
-      → Brings w (Source asked) (Up asked.mount) (record w { house = begun w.house asked.id asked.mount (shown_for w.house asked.mount asked.shown) })
+      → Brings w (Source asked) (Up asked.mount) (session_begun w asked.id asked.mount (shown_for w.house asked.mount asked.shown))
   -- and so does a relay
   ByRelayUp : (mount : List ℕ) (shown : Shown) → verdict_in (rows_to_raise w.house mount shown) ≡ Allow
       → (options_for w.house.settings mount).listeners.fallback_override ≡ true
-      → Brings w (RelayUp mount shown) (Up mount) (record w { house = raised w.house (w.house.last_id + 1) mount (shown_for w.house mount shown) })
+      → Brings w (RelayUp mount shown) (Up mount) (session_raised w (w.house.last_id + 1) mount (shown_for w.house mount shown))
   -- a command ends the session of a mount
   ByKilling : (event : Event) (mount : List ℕ) → IsCommanded w event (KillSource mount) → Brings w event (Ended mount) (session_over w mount)
   -- a command moves the listeners of a mount to another

@@ -6,17 +6,20 @@ use Rattle.radio_seats.specs.Seats.{seat_of, AreByNumber}
 use Rattle.radio_parts.specs.Sessions.{Session, AreApart, session_of}
 use Rattle.radio_parts.specs.Stream.{AreRising, end_of}
 use Rattle.radio_house.specs.World.{World, standing_of}
+use Rattle.radio_house.specs.Waiting.{heard_at}
 
--- the listener sits in the session that his mount has, and his place is within its stream
+-- the listener sits in the session that his mount has, or waits there for one, and his place is within its stream
 pub record IsSeatedIn (w : World) (seat : Seat) : Type 0 where
   pub session : Session
-  pub is_live : session_of w.house.live seat.mount ≡ Some session
+  pub is_heard : heard_at w.house seat.mount ≡ Some session
   pub his_session : session.number ≡ seat.session
   pub within : seat.place ≤ end_of session.stream
 
 pub record IsSound (w : World) : Type 0 where
   -- nobody has a number that was not given yet
   pub numbered : (id : ℕ) → w.house.last_id < id → standing_of w id ≡ Unknown
+  -- nor the number 0, which that has what is heard where nobody feeds
+  pub from_one : standing_of w 0 ≡ Unknown
   -- each source feeds the session of its number, and each session is fed by the source of its number
   pub feeds : (id : ℕ) (mount : List ℕ) → standing_of w id ≡ Feeds mount
       → (session : Session) × (session_of w.house.live mount ≡ Some session) × (session.number ≡ id)
@@ -27,6 +30,6 @@ pub record IsSound (w : World) : Type 0 where
   pub starts : (mount : List ℕ) (session : Session) → session_of w.house.live mount ≡ Some session → AreRising session.stream.starts (end_of session.stream)
   -- listeners stand in the order of their numbers
   pub by_number : AreByNumber w.seats
-  -- whoever has a seat sits, in the session that his mount has
+  -- whoever has a seat sits, in the session that his mount has, or waits there for one
   pub sitting : (id : ℕ) (seat : Seat) → seat_of w.seats id ≡ Some seat → standing_of w id ≡ Sits
   pub seated : (id : ℕ) (seat : Seat) → seat_of w.seats id ≡ Some seat → IsSeatedIn w seat

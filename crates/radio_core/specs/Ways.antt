@@ -36,6 +36,7 @@ use Rattle.radio_core.specs.Source.{begins}
 use Rattle.radio_parts.specs.Stream.{data_at}
 use Rattle.radio_house.specs.World.{World, standing_of, has_relay}
 use Rattle.radio_events.specs.Events.{client_in}
+use Rattle.radio_house.specs.Waiting.{heard_at}
 
 -- the client has asked for nothing yet
 abbrev pub IsUndecided : World → ℕ → Type 0
@@ -77,11 +78,11 @@ pub data Way (w : World) : Event → Outcome → Type 0 where
   Receives : (id : ℕ) (mount block : List ℕ) → standing_of w id ≡ Feeds mount → Way w (Push id block) (says Noted (Receive mount block))
   SetsTitle : (id : ℕ) (mount text : List ℕ) → standing_of w id ≡ Feeds mount → Way w (Title id text) (says Noted (SetTitle mount text))
   TakesSeat : (asked : ListenRequest) (peer : Peer) (session : Session) → standing_of w asked.id ≡ Undecided peer
-      → walks_to w.house w.seats asked.mount asked.pair ≡ Lands session.mount → session_of w.house.live session.mount ≡ Some session
+      → walks_to w.house w.seats asked.mount asked.pair ≡ Lands session.mount → heard_at w.house session.mount ≡ Some session
       → verdict_in (rows_to_listen w asked) ≡ Allow → Way w (Listen asked)
       (says (Seated (interval_for w.house asked.mount asked.wants_metadata) (head_of w.house session.shown)) (TakeSeat asked.id (first_seat w.house asked peer session)))
   HandsOut : (id room : ℕ) (seat : Seat) (session : Session) → standing_of w id ≡ Sits → seat_of w.seats id ≡ Some seat
-      → session_of w.house.live seat.mount ≡ Some session → Way w (Draw id room)
+      → heard_at w.house seat.mount ≡ Some session → Way w (Draw id room)
       (says (Drawn (data_at session.stream seat.place room) session.title) (Advance id (seat.place + length (data_at session.stream seat.place room))))
   Ends : (id : ℕ) (mount : List ℕ) → standing_of w id ≡ Feeds mount → has_relay w id ≡ false → Way w (SourceEnd id) (says Noted (End id mount))
   EndsAndLeaves : (event : Event) (id : ℕ) (mount : List ℕ) → Closes w id event → standing_of w id ≡ Feeds mount

@@ -3,6 +3,7 @@
 
 ghost use Rattle.std.specs.Prelude.{◌≡◌, [], ◌∷◌, IsOk, IfOk, OnOk, OnErr};
 ghost use Rattle.radio_events.specs.declared.reply.Reply.{Reply as ReplyOf};
+ghost use Rattle.radio_house.specs.Wanted.{wanted};
 ghost use Rattle.radio_house.specs.World.{World, opening};
 ghost use Rattle.radio_events.specs.Replies.{HoldsNoText};
 ghost use Rattle.radio_core.specs.Step.{Step, Represents, StandsForSome};
@@ -12,7 +13,7 @@ use crate::OutOfMemory;
 use crate::outcome::Outcome;
 use radio_access::Lists;
 use radio_events::{Event, Reply};
-use radio_settings::Settings;
+use radio_settings::{MountName, Settings};
 use std::alloc::Global;
 use std::marker::Model;
 use timed_state::TimedState;
@@ -84,6 +85,15 @@ impl Core {
         ensures { (w : World) → Represents self.now w → result.now ≡ w.house.settings }
     {
         self.state.settings()
+    }
+
+    /// The mounts where somebody sits, which relays feed on demand, in the order of their bytes.
+    /// `OutOfMemory` where memory was refused.
+    pub fn wanted(&self) -> Result<Vec<MountName>, OutOfMemory>
+        // they are those of whatever state it stands for
+        ensures { (w : World) → Represents self.now w → IfOk result (λ mounts. mounts.items ≡ wanted w) }
+    {
+        self.state.wanted()
     }
 
     /// One event. `OutOfMemory` where memory was refused; nothing has changed then.

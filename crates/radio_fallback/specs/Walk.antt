@@ -13,6 +13,7 @@ use Rattle.radio_seats.specs.Seats.{count_at, sits_there}
 
 -- what a walk sees of the server
 pub record Sight : Type 0 where
+  -- one may sit at the mount: it has a live source, or waits for one
   pub is_live : List ℕ → Bool
   -- how many may sit at the mount, if that is limited
   pub limit : List ℕ → Option ℕ

@@ -8,10 +8,10 @@ use radio_blocks::Place;
 use radio_creds::Pair;
 use radio_settings::MountName;
 
-/// The end of a live mount's stream.
+/// The end of the stream of a mount where one may sit.
 #[derive(Clone, Copy)]
 pub struct StreamEnd {
-    /// The number of the mount's session.
+    /// The number of the mount's session; 0 where it waits for one.
     pub session: u64,
     /// The place behind the last byte of its stream.
     pub place: Place,
@@ -22,7 +22,7 @@ pub trait View {
     // What there is to be seen.
     ghost sight: { Self → Sight };
 
-    /// Whether the mount has a live source.
+    /// Whether one may sit at the mount: it has a live source, or waits for one.
     fn is_live(&self, mount: &MountName) -> bool
         ensures { result ≡ (sight self.now).is_live mount.now };
 

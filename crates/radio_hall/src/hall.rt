@@ -8,12 +8,13 @@ ghost use Rattle.radio_book.specs.declared.entry.Entry.{Entry as EntryOf};
 ghost use Rattle.radio_book.specs.declared.newcomer.Newcomer.{Newcomer};
 ghost use Rattle.radio_book.specs.Newcomers.{is_here, leaver_of};
 ghost use Rattle.radio_book.specs.History.{IsLegal, IsRun, StandsIn};
+ghost use Rattle.radio_book.specs.Wanted.{AreWanted};
 ghost use Rattle.radio_book.specs.Settling.{Rises, Shows, all_serials, serials};
 
 use radio_access::Lists;
 use radio_book::{Book, Chronicle, Entry, House, Kept, OutOfMemory, Pass, Receipt, SettleFault};
 use radio_events::Event;
-use radio_settings::Settings;
+use radio_settings::{MountName, Settings};
 use std::alloc::Global;
 use std::sync::ledger::Blank;
 use std::sync::{Mutex, Wait};
@@ -76,6 +77,15 @@ impl<C: Chronicle, H: House> Hall<C, H> {
         ensures frees { C.KEEPS ≡ false → TakesNoMemory event → IsOk result }
     {
         self.book.lock(rt).apply(pass, event)
+    }
+
+    /// The mounts where somebody sits, which relays feed on demand, in the order of their bytes: a look
+    /// under the lock, which makes no entry and no receipt. `OutOfMemory` where memory was refused.
+    pub fn wanted<R: Wait>(&self, rt: &R) -> Result<Vec<MountName>, OutOfMemory>
+        // whoever called before, there is a history that is a run from the opening state, and they are those of the state after it
+        ensures { IfOk result (λ mounts. ∥ AreWanted H.opening mounts.items ∥₁) }
+    {
+        self.book.lock(rt).wanted()
     }
 
     /// The book, which no thread calls any more.

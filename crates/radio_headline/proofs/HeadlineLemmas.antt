@@ -1,6 +1,8 @@
--- What listeners hear is of sources of the script.
-use Rattle.std.proofs.Common.{◌≡◌, inl, inr, ℕ, List, [], ◌∷◌, ◌++◌, Option, refl, sym, ap, subst, ◌∙◌, append_assoc}
+-- What listeners hear is of sources of the script, or nothing, where they wait for one.
+use Rattle.std.proofs.Common.{◌≡◌, inl, inr, ℕ, Bool, true, false, List, [], ◌∷◌, ◌++◌, Option, None, Some, refl, sym, ap, subst, ◌∙◌, append_assoc}
+use Rattle.std.specs.Prelude.{if◌then◌else◌}
 use Rattle.std.specs.List.{AllByRecursion}
+use Rattle.std.specs.Option.{option_or}
 use Rattle.radio_settings.specs.declared.field.Shown.{Shown}
 use Rattle.radio_settings.specs.declared.settings.Settings.{Settings}
 use Rattle.radio_access.specs.Lists.{Lists}
@@ -9,21 +11,28 @@ use Rattle.radio_events.specs.declared.event.Event.TheVariants.{Source, Listen, 
 use Rattle.radio_events.specs.declared.event.ListenRequest.{ListenRequest}
 use Rattle.radio_events.specs.declared.reply.StreamHead.{StreamHead}
 use Rattle.radio_parts.specs.Sessions.{Session}
-use Rattle.radio_core.specs.Run.{run_after}
-use Rattle.radio_core.specs.SessionSteps.{HasBegun, SessionsStep}
-use Rattle.radio_house.specs.World.{opening}
+use Rattle.radio_core.specs.Run.{run_after, world_after_all}
+use Rattle.radio_core.specs.SessionSteps.{HasBegun, SessionsStep, KeepsSettings}
+use Rattle.radio_house.specs.House.{House}
+use Rattle.radio_house.specs.Streams.{shown_for}
+use Rattle.radio_house.specs.Waiting.{is_on_demand, shown_by_nobody, silence_at, silence_of, heard_at}
+use Rattle.radio_house.specs.World.{World, opening}
+use Rattle.radio_core.proofs.HeardLemmas.{heard_cases}
 use Rattle.radio_laws.specs.Admission.{IsSeated}
 use Rattle.radio_laws.specs.Stretches.{SeatsKeepTheirMounts, sittings}
 use Rattle.radio_script.specs.declared.delivery.Delivery.{Delivery}
 use Rattle.radio_headline.specs.Course.{Happening, events_in, on}
 use Rattle.radio_headline.specs.Listeners.{SitsWithASource}
-use Rattle.radio_headline.specs.Sources.{HasItsSource, RelaysDeliverTheirSound, SourcesDeliverTheirBodies}
+use Rattle.radio_headline.specs.Sources.{HasItsSource, IsAwaited, NobodyDelivers, RelaysDeliverTheirSound, SourcesDeliverTheirBodies}
+use Rattle.radio_headline.proofs.Logs.{after_joined}
 use Rattle.radio_headline.proofs.RunLemmas.{AllNowhere, IsMoment}
-use Rattle.radio_headline.proofs.SittingLemmas.{IsFed, BySource, ByRelay, fed_all, none_fed, sits_with}
+use Rattle.radio_headline.proofs.SittingLemmas.{AreFed, IsFed, BySource, ByRelay, fed_all, none_fed, sits_with}
 
 module _ (settings : Settings) (lists : Lists)
     (sessions : (events : List Event) (event : Event) → SessionsStep (run_after settings lists events) event)
     (mounts : (events : List Event) (event : Event) → SeatsKeepTheirMounts (run_after settings lists events) event)
+    (keeps : (events : List Event) (event : Event) → KeepsSettings (run_after settings lists events) event)
+    (nobody : (events : List Event) → NobodyDelivers settings lists events)
     (deliveries : List Delivery) (course : List Happening)
     (delivers : SourcesDeliverTheirBodies settings lists deliveries course)
     (relays : RelaysDeliverTheirSound settings lists deliveries course)
@@ -52,7 +61,7 @@ module _ (settings : Settings) (lists : Lists)
   of_fed past later mount session parts (ByRelay label shown before after begun e r b s) =
       let there : course ≡ before ++ on label (RelayUp mount shown) ∷ (after ++ later) =
       parts ∙ ap (λ (xs : List Happening). xs ++ later) e ∙ append_assoc before (on label (RelayUp mount shown) ∷ after) later in
-      inr (record {
+      inr (inl (record {
         label = label;
         shown = shown;
         before = before;
@@ -62,7 +71,40 @@ module _ (settings : Settings) (lists : Lists)
         has_begun = b;
         still_shown = s;
         delivers = relays label mount shown session.number before (after ++ later) there r;
-      })
+      }))
+
+  -- the settings are those of the opening
+  settings_along : (past more : List Event) → (run_after settings lists past).house.settings ≡ settings
+      → (world_after_all (run_after settings lists past) more).house.settings ≡ settings
+  settings_along past [] e = e
+  settings_along past (event ∷ more) e =
+      let then_one = after_joined (opening settings lists) past (event ∷ []) in
+      subst (λ (x : World). (world_after_all x more).house.settings ≡ settings) then_one
+      (settings_along (past ++ event ∷ []) more (ap (λ (x : World). x.house.settings) then_one ∙ keeps past event ∙ e))
+
+  -- what is heard where nobody feeds is awaited
+  is_awaited : (house : House) → house.settings ≡ settings → (mount : List ℕ) (session : Session) → silence_of house mount ≡ Some session
+      → IsAwaited settings lists deliveries course mount session.number session.shown
+  is_awaited house same mount session = by_flag (is_on_demand house.settings mount) refl where
+    by_flag : (b : Bool) → is_on_demand house.settings mount ≡ b → (if b then Some (silence_at house mount) else None) ≡ Some session
+        → IsAwaited settings lists deliveries course mount session.number session.shown
+    by_flag false e silent = cc
+    by_flag true e silent =
+        let it : silence_at house mount ≡ session = cc in
+        record {
+          on_demand = ap (λ (s : Settings). is_on_demand s mount) (sym same) ∙ e;
+          shows = ap (λ (x : Session). x.shown) (sym it) ∙ ap (λ (s : Settings). shown_for (record house { settings = s }) mount shown_by_nobody) same;
+          of_nobody = ap (λ (x : Session). x.number) (sym it);
+          delivers_nothing = nobody (events_in course);
+        }
+
+  of_heard : (past later : List Happening) (mount : List ℕ) (session : Session) → course ≡ past ++ later → AreFed settings lists sessions mounts past
+      → heard_at (run_after settings lists (events_in past)).house mount ≡ Some session → ItsSource mount session
+  of_heard past later mount session parts fed hears =
+      let house = (run_after settings lists (events_in past)).house in
+      heard_cases house mount session hears (λ live. of_fed past later mount session parts (fed mount session live))
+      (λ none silent. inr (inr (is_awaited house (settings_along [] (events_in past) refl) mount session
+      (ap (λ (found : Option Session). option_or found (silence_of house mount)) (sym none) ∙ hears))))
 
   nowhere_first : (past later : List Happening) → AllNowhere (λ h. IsMoment h.event) (past ++ later) → AllNowhere (λ h. IsMoment h.event) past
   nowhere_first [] later h = tt
@@ -73,13 +115,12 @@ module _ (settings : Settings) (lists : Lists)
       → HasItsSource settings lists deliveries course s.session.mount s.session.number head.shown
   shown_by_source past interval head asked rest parts s =
       subst (λ (shown : Shown). HasItsSource settings lists deliveries course s.session.mount s.session.number shown) (sym s.shows)
-      (of_fed past rest s.session.mount s.session parts
+      (of_heard past rest s.session.mount s.session parts
       (fed_all settings lists sessions mounts [] past
-      (nowhere_first past rest (subst (AllNowhere (λ h. IsMoment h.event)) parts nowhere)) (none_fed settings lists sessions mounts)
-      s.session.mount s.session s.is_live))
+      (nowhere_first past rest (subst (AllNowhere (λ h. IsMoment h.event)) parts nowhere)) (none_fed settings lists sessions mounts)) s.is_heard)
 
   pub sit_with_sources : (id : ℕ) → AllByRecursion (SitsWithASource settings lists deliveries course) (sittings (opening settings lists) (events_in course) id)
   sit_with_sources id =
       sits_with settings lists sessions mounts course (SitsWithASource settings lists deliveries course)
-      (λ past later mount session start parts fed. (session.shown, of_fed past later mount session parts fed)) [] course refl nowhere
+      (λ past later mount session start parts fed hears. (session.shown, of_heard past later mount session parts fed hears)) [] course refl nowhere
       (none_fed settings lists sessions mounts) id

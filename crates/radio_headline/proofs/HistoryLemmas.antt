@@ -16,6 +16,7 @@ use Rattle.radio_book.specs.declared.entry.Entry.{Entry}
 use Rattle.radio_book.specs.History.{IsRun}
 use Rattle.radio_headline.specs.Histories.{HistoriesAreLawful, draws_noted, events_noted}
 use Rattle.radio_headline.specs.Listeners.{DrawsAreStretches, IsLawful, draws_to}
+use Rattle.radio_headline.specs.Sources.{NobodyDelivers}
 
 noted_so : (w : World) (history : List Entry) (id : ℕ) → IsRun w history → draws_noted history id ≡ draws_to w (events_noted history) id
 noted_so w [] id run = refl
@@ -29,12 +30,14 @@ reply_so w [] after e run = run.0
 reply_so w (x ∷ before) after e run = reply_so (world_after w x.event) before after e run.1
 
 pub lawful_histories : ((settings : Settings) (lists : Lists) (events : List Event) (event : Event) → IsLawful settings lists events event)
-    → ((settings : Settings) (lists : Lists) (events : List Event) (id : ℕ) → DrawsAreStretches settings lists events id) → HistoriesAreLawful
-lawful_histories lawful stretches settings lists history run = record {
+    → ((settings : Settings) (lists : Lists) (events : List Event) (id : ℕ) → DrawsAreStretches settings lists events id)
+    → ((settings : Settings) (lists : Lists) (events : List Event) → NobodyDelivers settings lists events) → HistoriesAreLawful
+lawful_histories lawful stretches nobody settings lists history run = record {
   replies = λ before after e parts. reply_so (opening settings lists) before after e (subst (IsRun (opening settings lists)) parts run);
   lawful = λ before after e parts. lawful settings lists (events_noted before) e.event;
   slices = λ id.
       let w = opening settings lists in
       subst (λ (draws : List Call). AreStretches (delivered w (events_noted history)) (sittings w (events_noted history) id) (sound_of_calls draws))
       (sym (noted_so w history id run)) (stretches settings lists (events_noted history) id);
+  nobody = nobody settings lists (events_noted history);
 }

@@ -1,4 +1,4 @@
--- Each sitting is in the session of a source.
+-- Each sitting is in the session of a source, or where one is awaited.
 use Rattle.std.proofs.Common.{◌≡◌, inl, inr, ℕ, ◌+◌, ◌==◌, Bool, true, false, List, [], ◌∷◌, ◌++◌, Option, None, Some, refl, sym, ap, subst, ◌∙◌, append_assoc}
 use Rattle.std.specs.Prelude.{if◌then◌else◌}
 use Rattle.std.specs.List.{AllByRecursion}
@@ -17,6 +17,7 @@ use Rattle.radio_core.specs.Run.{run_after}
 use Rattle.radio_core.specs.SessionSteps.{HasBegun, SessionStep, SessionsStep}
 use Rattle.radio_core.specs.SessionSteps.{Stays, Begins, BeginsForRelay, Grows, IsTitled, IsRetitled, Ends, IsKilled}
 use Rattle.radio_core.specs.Step.{reply_to, world_after}
+use Rattle.radio_house.specs.Waiting.{heard_at}
 use Rattle.radio_house.specs.World.{World, opening}
 use Rattle.radio_laws.specs.Stretches.{SeatsKeepTheirMounts, Sitting, begun_sittings, sitting_in, sittings}
 use Rattle.radio_headline.specs.Course.{Happening, events_in, on}
@@ -118,10 +119,10 @@ module _ (settings : Settings) (lists : Lists)
   fed_all past (h ∷ rest) none fed =
       subst AreFed (append_assoc past (h ∷ []) rest) (fed_all (past ++ h ∷ []) rest none.1 (fed_more past h none.0 fed))
 
-  -- each of them sits with a source
+  -- each of them sits in what is heard at the mount, and its session is fed
   abbrev pub SitsWith : List Happening → (Sitting → Type 0) → Type 0
-  SitsWith course P = (past later : List Happening) (mount : List ℕ) (session : Session) (start : ℕ) → course ≡ past ++ later → IsFed past mount session
-      → P (record { mount = mount; source = session.number; start = start })
+  SitsWith course P = (past later : List Happening) (mount : List ℕ) (session : Session) (start : ℕ) → course ≡ past ++ later → AreFed past
+      → heard_at (server_at past).house mount ≡ Some session → P (record { mount = mount; source = session.number; start = start })
 
   all_joined : (P : Sitting → Type 0) (xs ys : List Sitting) → AllByRecursion P xs → AllByRecursion P ys → AllByRecursion P (xs ++ ys)
   all_joined P [] ys h k = k
@@ -148,7 +149,7 @@ module _ (settings : Settings) (lists : Lists)
       (λ seat has.
       let kept = mounts (events_in past) h.event id seat has in
       subst (λ (n : ℕ). P (record { mount = seat.mount; source = n; start = seat.place })) (sym kept.in_the_session)
-      (make (past ++ h ∷ []) rest seat.mount kept.session seat.place parts
-      (more seat.mount kept.session (ap (λ (x : World). session_of x.house.live seat.mount) (then_more past h) ∙ kept.is_live)))))
+      (make (past ++ h ∷ []) rest seat.mount kept.session seat.place parts more
+      (ap (λ (x : World). heard_at x.house seat.mount) (then_more past h) ∙ kept.is_heard))))
       (subst (λ (x : World). AllByRecursion P (sittings x (events_in rest) id)) (then_more past h)
       (sits_with course P make (past ++ h ∷ []) rest parts none.1 more id))

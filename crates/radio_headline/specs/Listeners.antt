@@ -61,12 +61,13 @@ module _ (settings : Settings) (lists : Lists) (deliveries : List Delivery) (cou
   abbrev pub server_after : List Happening → World
   server_after past = run_after settings lists (events_in past)
 
-  -- he sits down in the session of a source
+  -- he sits down in the session of a source, or where one is awaited
   abbrev pub SitsWithASource : Sitting → Type 0
   SitsWithASource sitting = (shown : Shown) × HasItsSource settings lists deliveries course sitting.mount sitting.source shown
 
-  -- he is seated in the session of a source, and given a head that shows what that shows; then his draws, woven as one stream at the interval that
-  -- the head tells, or their data alone where it tells none; these data are slices, one for each time that he sat down, each time with a source
+  -- he is seated in the session of a source, or where one is awaited, and given a head that shows what that shows; then his draws, woven as one stream at
+  -- the interval that the head tells, or their data alone where it tells none; these data are slices, one for each time that he sat down, each time with
+  -- a source, or without data, awaiting one
   pub record IsHearing (w : World) (asked : ListenRequest) (interval : Option ℕ) (head : StreamHead) (bytes : List ℕ) : Type 0 where
     pub is_seated : IsSeated w (Listen asked) interval head
     pub shows_his_source :

@@ -1,5 +1,5 @@
 -- What sources bring.
-use Rattle.std.specs.Prelude.{◌≡◌, ◌⊎◌, ℕ, ◌==◌, if◌then◌else◌, List, [], ◌∷◌, ◌++◌}
+use Rattle.std.specs.Prelude.{◌≡◌, ◌⊎◌, ℕ, ◌==◌, true, if◌then◌else◌, List, [], ◌∷◌, ◌++◌}
 use Rattle.std.specs.List.{flat_map}
 use Rattle.radio_addr.specs.declared.peer.Peer.{Peer}
 use Rattle.radio_settings.specs.declared.field.Shown.{Shown}
@@ -12,6 +12,8 @@ use Rattle.radio_core.specs.Handing.{delivered}
 use Rattle.radio_core.specs.Run.{run_after}
 use Rattle.radio_core.specs.SessionSteps.{HasBegun}
 use Rattle.radio_core.specs.Step.{reply_to}
+use Rattle.radio_house.specs.Streams.{shown_for}
+use Rattle.radio_house.specs.Waiting.{is_on_demand, shown_by_nobody}
 use Rattle.radio_house.specs.World.{opening}
 use Rattle.radio_events.specs.declared.reply.Reply.TheVariants.{Arrived}
 use Rattle.radio_parts.specs.Sessions.{Session}
@@ -72,7 +74,12 @@ pub record DeliversItsSound (settings : Settings) (lists : Lists) (deliveries : 
   pub undelivered : List ℕ
   pub is_front : sound_in parts ≡ delivered (opening settings lists) (events_in course) number ++ undelivered
 
+-- The number 0 is nobody's, and nothing is delivered under it: so nothing is heard while one waits for a session, which is to sit in one of this number.
+abbrev pub NobodyDelivers : Settings → Lists → List Event → Type 0
+NobodyDelivers settings lists events = delivered (opening settings lists) events 0 ≡ []
+
 -- This session is that of a source: one that has asked to feed its mount, or a relay that has come up there. It shows what that shows, by the settings.
+-- Or it is none, and one is awaited there.
 module _ (settings : Settings) (lists : Lists) (deliveries : List Delivery) (course : List Happening) (mount : List ℕ) (number : ℕ) where
   pub record IsOfASource (shown_now : Shown) : Type 0 where
     pub label : ℕ
@@ -98,8 +105,16 @@ module _ (settings : Settings) (lists : Lists) (deliveries : List Delivery) (cou
     pub still_shown : shown_now ≡ begun.shown
     pub delivers : DeliversItsSound settings lists deliveries course label number shown
 
+  -- it is none: a relay of the settings feeds the mount on demand, and one is awaited there; its number is nobody's, who delivers nothing, and it shows what
+  -- the settings say
+  pub record IsAwaited (shown_now : Shown) : Type 0 where
+    pub on_demand : is_on_demand settings mount ≡ true
+    pub shows : shown_now ≡ shown_for (opening settings lists).house mount shown_by_nobody
+    pub of_nobody : number ≡ 0
+    pub delivers_nothing : NobodyDelivers settings lists (events_in course)
+
   abbrev pub HasItsSource : Shown → Type 0
-  HasItsSource shown_now = IsOfASource shown_now ⊎ IsOfARelay shown_now
+  HasItsSource shown_now = IsOfASource shown_now ⊎ IsOfARelay shown_now ⊎ IsAwaited shown_now
 
 -- each who asks to feed a mount
 abbrev pub SourcesDeliverTheirBodies : Settings → Lists → List Delivery → List Happening → Type 0

@@ -6,6 +6,7 @@ ghost use Rattle.radio_access.specs.Lists.{Lists};
 ghost use Rattle.radio_events.specs.declared.event.Event.{Event};
 ghost use Rattle.radio_headline.specs.Listeners.{DrawsAreStretches, IsLawful, ListenersHearSlices, PlayedScriptsHearSlices};
 ghost use Rattle.radio_headline.specs.Histories.{HistoriesAreLawful};
+ghost use Rattle.radio_headline.specs.Sources.{NobodyDelivers};
 
 use radio_blocks::laws::blocks_are_the_data;
 use radio_core::{
@@ -17,7 +18,7 @@ use radio_icy::laws::cut_streams;
 use radio_laws::{
     access_is_kept, commands_are_done, denials_are_the_policys, listeners_are_told_titles,
     listeners_begin_at_a_block, listeners_walk_on, sight_is_kept, stretches_are_whole,
-    whoever_may_is_served,
+    who_left_is_gone, whoever_may_is_served,
 };
 use radio_policy::denials_name_the_first_rule;
 use radio_script::transcripts_are_read_one_way;
@@ -28,9 +29,12 @@ use radio_source::laws::pieces_are_joined;
 pub fn draws_are_stretches()
     // over every run, the data in the draws that a listener is handed are slices, one for each of his
     // sittings, of what the source delivered in whose session he sat
-    ensures { (settings : Settings) (lists : Lists) (events : List Event) (id : ℕ) → DrawsAreStretches settings lists events id }
+    ensures slices { (settings : Settings) (lists : Lists) (events : List Event) (id : ℕ) → DrawsAreStretches settings lists events id }
+    // and under the number of nobody, in whose session who waits for one sits, nothing is delivered
+    ensures nobody { (settings : Settings) (lists : Lists) (events : List Event) → NobodyDelivers settings lists events }
 {
     stretches_are_whole();
+    who_left_is_gone();
 }
 
 /// The laws of every run, at one event, in one place.
@@ -60,8 +64,8 @@ pub fn histories_are_lawful()
 /// The law of scripts, from their bytes to those of their transcripts. Over every script, what each
 /// listener is given behind his head is, with the metadata taken out, slices of what was brought on
 /// the connections of the sources in whose sessions he sat, in the order in which he sat, with a
-/// metadata block after each interval if he asked; and whoever is denied reads the first rule that
-/// denied him.
+/// metadata block after each interval if he asked, and nothing of the time in which he waited for a
+/// session; and whoever is denied reads the first rule that denied him.
 pub fn listeners_hear_slices()
     ensures { ListenersHearSlices }
 {

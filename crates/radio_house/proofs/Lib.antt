@@ -1,3 +1,4 @@
 pub mod Lookups
 mod RelayRows
 pub mod TimeoutLemmas
+pub mod WaitingLemmas

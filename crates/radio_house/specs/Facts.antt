@@ -28,6 +28,7 @@ use Rattle.radio_house.specs.House.{House}
 use Rattle.radio_house.specs.Fallbacks.{set_for}
 use Rattle.radio_parts.specs.Stream.{end_of}
 use Rattle.radio_parts.specs.Sessions.{session_of}
+use Rattle.radio_house.specs.Waiting.{heard_at}
 use Rattle.radio_house.specs.World.{World}
 
 -- the largest number that the number of a client or relay, or a place in a stream, can be
@@ -67,7 +68,8 @@ fallback_of house mount =
 -- what a walk sees of the house
 abbrev pub sight_of : House → Sight
 sight_of house = record {
-  is_live = λ mount. is_some (session_of house.live mount);
+  -- at a mount that waits for a session one may sit, as at a live one
+  is_live = λ mount. is_some (heard_at house mount);
   limit = λ mount. (options_for house.settings mount).listeners.max_listeners;
   lets_in = lets_in house.lists;
   allows_duplicates = λ mount. (options_for house.settings mount).users.allow_duplicate_users;

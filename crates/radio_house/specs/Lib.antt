@@ -3,11 +3,13 @@ pub mod Relays
 pub mod Fallbacks
 pub mod House
 pub mod World
+pub mod Streams
+pub mod Waiting
+pub mod Wanted
 pub mod Facts
 pub mod CommandFacts
 pub mod Listings
 pub mod Pages
-pub mod Streams
 pub mod Timeouts
 pub mod Due
 pub mod HouseChanges

@@ -116,7 +116,7 @@ impl View for House {
     ghost sight = { sight_of };
 
     fn is_live(&self, mount: &MountName) -> bool {
-        self.session(mount).is_some()
+        self.can_be_heard(mount)
     }
 
     fn limit(&self, mount: &MountName) -> Option<u32> {

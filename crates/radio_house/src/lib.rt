@@ -6,6 +6,8 @@
 //!   [`House::shown`] and others, beside the listeners where these are asked for, and is what a
 //!   walk sees (`View` of `radio_fallback`). Each other call makes one change; [`House::end_outsiders`]
 //!   makes it among the listeners, who are lent.
+//!   At a mount that a relay feeds on demand listeners may sit while it waits for a session
+//!   ([`House::is_on_demand`], [`House::silence`]).
 //! - [`ClientState`], [`RelayState`], [`Standing`]: what clients and relays do, and how they stand.
 #![tactic(auto)]
 
@@ -23,6 +25,7 @@ mod relays;
 mod standing;
 mod streams;
 mod timeouts;
+mod waiting;
 
 pub use clients::ClientState;
 pub use house::House;

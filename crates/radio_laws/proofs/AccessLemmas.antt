@@ -33,6 +33,8 @@ use Rattle.radio_parts.proofs.RisingLemmas.{burst_within}
 use Rattle.radio_laws.proofs.LimitLemmas.{Within, sits_as, sent_as}
 use Rattle.radio_laws.proofs.ListsLemmas.{KeepsLists}
 use Rattle.radio_core.proofs.Ways.{way_of}
+use Rattle.radio_laws.proofs.HeardLaws.{rising_heard}
+use Rattle.radio_laws.proofs.OnDemandLemmas.{awaited_there}
 
 module _ (w : World) (s : IsSound w) (k : KeepsLists w) (l : Within w) where
   his_by : (event : Event) (o : Outcome) → Way w event o → (bytes : List ℕ) (title : Option (List ℕ)) → o.reply ≡ Drawn bytes title
@@ -48,12 +50,12 @@ module _ (w : World) (s : IsSound w) (k : KeepsLists w) (l : Within w) where
         session = session;
         sits = sits;
         has_the_seat = has;
-        is_live = live;
+        is_heard = live;
         is_data = sym (drawn_bytes d);
         is_title = sym (drawn_title d);
         is_open = record {
           session = old.session;
-          is_live = old.is_live;
+          is_heard = old.is_heard;
           his_session = old.his_session;
           passes_lists = let_in.passing;
           is_let_in = let_in.accepted;
@@ -202,7 +204,8 @@ module _ (w : World) (s : IsSound w) where
         asked = asked;
         listens = refl;
         session = session;
-        is_live = live;
+        is_heard = live;
+        is_awaited = awaited_there w.house session.mount session live;
         shows = ap (λ (h : StreamHead). h.shown) (sym (seated_head d));
         readers = ap (λ (h : StreamHead). h.allow_origin) (sym (seated_head d));
         seat = seat;
@@ -221,7 +224,7 @@ module _ (w : World) (s : IsSound w) where
         with_metadata = λ wants. here ∙ interval_asked w.house asked.mount asked.wants_metadata wants;
         without_metadata = λ wants. here ∙ no_interval w.house asked.mount asked.wants_metadata wants;
         starts = within_both session.stream (options_for w.house.settings session.mount).stream.burst_size w.house.settings.limits.queue_size seat.place
-            (earliest_start session (burst_of w.house session.mount) (s.starts session.mount session live));
+            (earliest_start session (burst_of w.house session.mount) (rising_heard w s session.mount session live));
       } where
         seated_head : {a b : Option ℕ} {t u : StreamHead} → Seated a t ≡ Seated b u → t ≡ u
         seated_head e = cc

@@ -9,7 +9,8 @@ use Rattle.radio_tables.proofs.FindLaws.{found_passes}
 use Rattle.radio_policy.specs.declared.rule.Rule.{Rule}
 use Rattle.radio_seats.specs.declared.seat.Listener.{Listener}
 use Rattle.radio_seats.specs.declared.seat.Seat.{Seat}
-use Rattle.radio_seats.specs.Seats.{is_listener, listener_of, seat_of, seat_in, seat_held, by_listener, seated, with_seat, advanced, with_place, moved, with_move, loses, with_end}
+use Rattle.radio_seats.specs.Seats.{is_listener, listener_of, seat_of, seat_in, seat_held, by_listener, seated, with_seat, advanced, with_place, moved}
+use Rattle.radio_seats.specs.Seats.{with_move, loses, with_end, hears_session, in_session_at, with_session_at}
 use Rattle.radio_seats.specs.Seats.{finished_if, with_ended, is_seat_at, without_listener, seats_at, count_at, is_user_at, sits_there}
 use Rattle.radio_seats.specs.Listed.{guest_at, guests_at}
 use Rattle.radio_parts.specs.Sessions.{Session, is_of, session_of, by_mount, with_session, longer, fed, with_title, titled, without_session}
@@ -20,6 +21,7 @@ use Rattle.radio_access.specs.Lists.{Lists}
 use Rattle.radio_seats.specs.Rests.{how_many}
 use Rattle.radio_seats.specs.Seats.{holds_of}
 use Rattle.radio_house.specs.Outsiders.{is_shut_out}
+use Rattle.radio_seats.proofs.GivenLaws.{seat_hearing}
 
 module _ (within : List ℕ → Bool) where
   -- what is beyond reach is at no mount within it
@@ -197,6 +199,18 @@ module _ (within : List ℕ → Bool) where
 
       pub with_ended_alike : ListenersDo (with_ended xs p rule) (with_ended ys p rule)
       with_ended_alike = agree_each (ListenersAgree within) (finished_if p rule) ended_alike xs ys r
+
+    -- all at a mount hear a session that has begun there
+    module _ (mount : List ℕ) (session : ℕ) where
+      hearing_alike : (a b : Listener) → ListenersAgree within a b
+          → ListenersAgree within (hears_session mount session a) (hears_session mount session b)
+      hearing_alike a b (SameListener same) = SameListener (ap (hears_session mount session) same)
+      hearing_alike a b (SitsBeyond same one other sits out his away) =
+          SitsBeyond same (seat_hearing mount session one) (seat_hearing mount session other) (ap (in_session_at mount session) sits) out
+          (ap (in_session_at mount session) his) away
+
+      pub given_alike : ListenersDo (with_session_at xs mount session) (with_session_at ys mount session)
+      given_alike = agree_each (ListenersAgree within) (hears_session mount session) hearing_alike xs ys r
 
     -- who has one seat in both moves
     module _ (id : ℕ) (mount : List ℕ) (session place : ℕ) (near : (seat : Seat) → seat_of ys id ≡ Some seat → within seat.mount ≡ true) where

@@ -1,13 +1,13 @@
 -- walks and moves in states that agree within reach
 use Rattle.std.proofs.Common.{◌≡◌, Bool, true, false, ℕ, zero, suc, Option, Some, None, List, [], ◌∷◌, refl, ap, sym, ◌∙◌}
-use Rattle.std.specs.Prelude.{◌+◌, if◌then◌else◌}
+use Rattle.std.specs.Prelude.{◌+◌, if◌then◌else◌, is_some, ◌||◌}
 use Rattle.std.proofs.lemmas.Slice.Eq.{bytes_eq-Decides}
 use Rattle.radio_creds.specs.Credentials.{Credentials}
 use Rattle.radio_policy.specs.declared.rule.Rule.{Rule}
 use Rattle.radio_seats.specs.declared.seat.Listener.{Listener}
 use Rattle.radio_seats.specs.declared.seat.Seat.{Seat}
 use Rattle.radio_seats.specs.Seats.{seat_of, without_listener}
-use Rattle.radio_parts.specs.Sessions.{Session}
+use Rattle.radio_parts.specs.Sessions.{Session, session_of}
 use Rattle.radio_fallback.specs.declared.walking.Landing.{Landing}
 use Rattle.radio_fallback.specs.declared.walking.Landing.TheVariants.{Lands, Stops}
 use Rattle.radio_fallback.specs.declared.moves.Carried.{Carried}
@@ -24,6 +24,8 @@ use Rattle.radio_laws.specs.Locality.{ListenersAgree, SameListener}
 use Rattle.radio_laws.proofs.AgreeingLists.{agree_all}
 use Rattle.radio_laws.proofs.Agreeing.{beyond, SessionsDo, live_alike, session_alike, ListenersDo, SeatsAgree, SameSeat, BothBeyond, numbers_alike, seat_alike, count_alike, sits_alike}
 use Rattle.radio_laws.proofs.Agreeing.{without_alike, with_move_alike, with_end_alike}
+use Rattle.radio_house.specs.Waiting.{heard_at, silence_of}
+use Rattle.std.specs.Option.{option_or}
 
 -- the state with these sessions in place of its own
 abbrev pub with_live : World → List Session → World
@@ -35,6 +37,17 @@ module _ (within : List ℕ → Bool) (w : World) (live : List Session) (r : Ses
 
   abbrev other : Sight
   other = sight_of w.house
+
+  open_or : (found : Option Session) (silence : Option Session) → is_some (option_or found silence) ≡ (is_some found || is_some silence)
+  open_or None silence = refl
+  open_or (Some session) silence = refl
+
+  -- the same mounts are live or wait for a session
+  pub open_alike : (mount : List ℕ) → is_some (heard_at (with_live w live).house mount) ≡ is_some (heard_at w.house mount)
+  open_alike mount =
+      open_or (session_of live mount) (silence_of w.house mount)
+      ∙ ap (λ (b : Bool). b || is_some (silence_of w.house mount)) (live_alike within live w.house.live r mount)
+      ∙ sym (open_or (session_of w.house.live mount) (silence_of w.house mount))
 
   -- a mount within reach falls back to one within reach
   abbrev pub Onward : Type 0
@@ -51,7 +64,7 @@ module _ (within : List ℕ → Bool) (w : World) (live : List Session) (r : Ses
 
     pub found_alike : (mount : List ℕ) (pair : Option Credentials) → within mount ≡ true → found_at one here mount pair ≡ found_at other there mount pair
     found_alike mount pair near =
-        let is_live = live_alike within live w.house.live r mount in
+        let is_live = open_alike mount in
         let is_full = full_alike mount near in
         let sits = already_alike mount near pair in
         rw (is_live, is_full, sits) refl
@@ -61,7 +74,7 @@ module _ (within : List ℕ → Bool) (w : World) (live : List Session) (r : Ses
 
     next_alike : (mount : List ℕ) → within mount ≡ true → next_mount one here mount ≡ next_mount other there mount
     next_alike mount near =
-        let is_live = live_alike within live w.house.live r mount in let is_full = full_alike mount near in rw (is_live, is_full) refl
+        let is_live = open_alike mount in let is_full = full_alike mount near in rw (is_live, is_full) refl
 
     module _ (closed : Onward) where
       -- a walk goes on within reach

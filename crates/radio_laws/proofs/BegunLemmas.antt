@@ -11,21 +11,23 @@ use Rattle.radio_core.specs.Sound.{IsSound}
 use Rattle.radio_core.specs.Source.{begins}
 use Rattle.radio_house.specs.Streams.{shown_for}
 use Rattle.radio_core.specs.Ways.{IsUndecided}
-use Rattle.radio_house.specs.World.{World}
+use Rattle.radio_house.specs.World.{World, world}
 use Rattle.radio_parts.specs.Sessions.{Session, session_of, opened, with_session}
 use Rattle.radio_core.proofs.CalledHome.{house_called}
 use Rattle.radio_core.proofs.SoundSessions.{begun_cases}
 use Rattle.radio_core.proofs.Standings.{Turns, asks, turns_feeding, turns_raised}
+use Rattle.radio_seats.specs.Seats.{with_session_at}
 
 module _ (w : World) (s : IsSound w) (P : Session → Type 0)
     (old : (mount : List ℕ) (session : Session) → session_of w.house.live mount ≡ Some session → P session) where
   -- those who are called home change no session
   begins_so : (him : ℕ) (there : List ℕ) (shown : Shown) (house : House) → house.live ≡ with_session w.house.live (opened there him shown w.house.time)
       → Turns w (record w { house = house }) him (Feeds there) → session_of w.house.live there ≡ None → P (opened there him shown w.house.time)
-      → (mount : List ℕ) (session : Session) → session_of (called_home (record w { house = house }) there).house.live mount ≡ Some session → P session
+      → (mount : List ℕ) (session : Session)
+      → session_of (called_home (world house (with_session_at w.seats there him)) there).house.live mount ≡ Some session → P session
   begins_so him there shown house live t none fresh mount session e =
       begun_cases w s him there shown house live t none mount session
-      (ap (λ (h : House). session_of h.live mount) (sym (house_called (record w { house = house }) there)) ∙ e)
+      (ap (λ (h : House). session_of h.live mount) (sym (house_called (world house (with_session_at w.seats there him)) there)) ∙ e)
       (λ same one. subst P one fresh) (λ was. old mount session was)
 
   -- that of a source

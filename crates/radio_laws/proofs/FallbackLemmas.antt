@@ -7,8 +7,7 @@ use Rattle.radio_events.specs.declared.event.Event.{Event}
 use Rattle.radio_house.specs.House.{House}
 use Rattle.radio_core.specs.declared.outcome.Change.TheVariants.{Obey}
 use Rattle.radio_core.specs.declared.outcome.Outcome.{Outcome}
-use Rattle.radio_core.specs.Changes.{answered, changed, before_silence, silent_in, session_killed}
-use Rattle.radio_house.specs.HouseChanges.{begun, raised}
+use Rattle.radio_core.specs.Changes.{answered, changed, before_silence, silent_in, session_killed, session_begun, session_raised}
 use Rattle.radio_core.specs.Allowed.{IsCommanded}
 use Rattle.radio_house.specs.Fallbacks.{Fallback, set_for}
 use Rattle.radio_parts.specs.Sessions.{Session, session_of}
@@ -38,10 +37,10 @@ module _ (w : World) (mount : List ℕ) where
   stays_by event o (IsRefused _ id rule v his undecided) = inl refl
   stays_by event o (IsAdmitted peer allowed) = inl refl
   stays_by event o (Begins asked undecided none allowed) =
-      let up = record w { house = begun w.house asked.id asked.mount (shown_for w.house asked.mount asked.shown) } in
+      let up = session_begun w asked.id asked.mount (shown_for w.house asked.mount asked.shown) in
       inl (ap (λ (h : House). set_for h.fallbacks mount) (house_called up asked.mount))
   stays_by event o (ComesUp there shown unfed allowed) =
-      let up = record w { house = raised w.house (w.house.last_id + 1) there (shown_for w.house there shown) } in
+      let up = session_raised w (w.house.last_id + 1) there (shown_for w.house there shown) in
       inl (ap (λ (h : House). set_for h.fallbacks mount) (house_called up there))
   stays_by event o (Receives id at block feeding) = inl refl
   stays_by event o (SetsTitle id at text feeding) = inl refl

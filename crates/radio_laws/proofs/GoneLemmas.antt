@@ -15,8 +15,7 @@ use Rattle.radio_core.specs.declared.outcome.Outcome.{Outcome}
 use Rattle.radio_house.specs.declared.standing.Standing.{Standing}
 use Rattle.radio_house.specs.declared.standing.Standing.TheVariants.{Unknown, Undecided, Feeds, Sits, Answered, Finished}
 use Rattle.radio_house.specs.World.{World, standing_of, has_relay}
-use Rattle.radio_core.specs.Changes.{changed, session_ended}
-use Rattle.radio_house.specs.HouseChanges.{begun, raised}
+use Rattle.radio_core.specs.Changes.{changed, session_ended, session_begun, session_raised}
 use Rattle.radio_house.specs.Streams.{shown_for}
 use Rattle.radio_house.specs.House.{House}
 use Rattle.radio_core.proofs.CommandLemmas.{obeyed_last}
@@ -130,10 +129,10 @@ low_by w s event o (IsFinished _ him by its known) = omega arith
 low_by w s event o (IsDenied _ by v nobody) = omega arith
 low_by w s event o (IsRefused _ him by v its undecided) = omega arith
 low_by w s event o (Begins asked undecided none allowed) =
-    let up = record w { house = begun w.house asked.id asked.mount (shown_for w.house asked.mount asked.shown) } in
+    let up = session_begun w asked.id asked.mount (shown_for w.house asked.mount asked.shown) in
     let last = ap (λ (h : House). h.last_id) (house_called up asked.mount) in omega (arith, last)
 low_by w s event o (ComesUp mount shown unfed allowed) =
-    let up = record w { house = raised w.house (w.house.last_id + 1) mount (shown_for w.house mount shown) } in
+    let up = session_raised w (w.house.last_id + 1) mount (shown_for w.house mount shown) in
     let last = ap (λ (h : House). h.last_id) (house_called up mount) in omega (arith, last)
 low_by w s event o (Receives him mount block feeding) = omega arith
 low_by w s event o (SetsTitle him mount text feeding) = omega arith

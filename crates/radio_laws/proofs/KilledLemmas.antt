@@ -9,7 +9,7 @@ use Rattle.radio_house.specs.declared.standing.Standing.TheVariants.{Unknown, Un
 use Rattle.radio_core.specs.ClientSteps.{ClientStep, Stays, Arrives, IsAnswered, IsObeyed, IsShown, BeginsToFeed, SitsDown, StopsFeeding, Leaves, IsFinished, ComesUp, GoesDown}
 use Rattle.radio_core.specs.Finishes.{Finishes}
 use Rattle.radio_core.specs.Handing.{handed_at, handed}
-use Rattle.radio_core.specs.SeatSteps.{SeatStep, Stays as SeatStays, IsHanded, SitsDown as SeatsDown, IsMoved, Leaves as SeatLeaves, IsEnded}
+use Rattle.radio_core.specs.SeatSteps.{SeatStep, Stays as SeatStays, IsHanded, SitsDown as SeatsDown, IsMoved, Leaves as SeatLeaves, IsEnded, IsGiven}
 use Rattle.radio_core.specs.Sound.{IsSound}
 use Rattle.radio_core.specs.Step.{world_after}
 use Rattle.radio_house.specs.World.{World, standing_of}
@@ -49,6 +49,7 @@ nothing_handed w C event id before later bytes (SeatStays seat) none = refl
 nothing_handed w C event id before later bytes (IsHanded seat session room is live number within) none = cc
 nothing_handed w C event id before later bytes (SeatsDown asked peer session is his undecided lands live allowed) none = refl
 nothing_handed w C event id before later bytes (IsMoved seat session takes sent live opens apart) none = refl
+nothing_handed w C event id before later bytes (IsGiven seat session coming idle live empty waits start past) none = refl
 nothing_handed w C event id before later bytes (SeatLeaves seat is) none = refl
 nothing_handed w C event id before later bytes (IsEnded seat rule why) none = refl
 

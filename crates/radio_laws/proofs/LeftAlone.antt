@@ -1,5 +1,5 @@
 -- what an event cannot reach is left alone
-use Rattle.std.proofs.Common.{◌≡◌, ◌⊎◌, inl, inr, Bool, true, false, ℕ, Option, Some, List, refl, ap, sym, subst, ◌∙◌}
+use Rattle.std.proofs.Common.{◌≡◌, ◌⊎◌, inl, inr, Bool, true, false, ℕ, Option, Some, List, refl, ap, sym, subst, ◌∙◌, ◌==◌}
 use Rattle.std.specs.Prelude.{◌↔◌, ◌*◌, ◌-◌, ◌≤◌}
 use Rattle.radio_policy.specs.declared.rule.Rule.{Rule}
 use Rattle.radio_seats.specs.declared.seat.Listener.{Listener}
@@ -13,7 +13,7 @@ use Rattle.radio_events.specs.declared.event.Event.TheVariants.{Source, Push, So
 use Rattle.radio_house.specs.declared.standing.Standing.TheVariants.{Feeds}
 use Rattle.radio_core.specs.Finishes.{Cause, Finishes, SessionIsOver, IsFarBehind, HasSatOut, HasAskedNothing, HasSentNothing, IsKilled as ByACommand, HisSessionIsKilled, IsNotAccepted}
 use Rattle.radio_core.specs.Moves.{Brings, ByItsEnd, ByItsLeaving, BySilence, ByComingUp, ByRelayUp, ByKilling, ByMoving, TakesTo, LeavesOut}
-use Rattle.radio_core.specs.SeatSteps.{SeatStep, Stays as SeatStays, IsHanded, SitsDown, IsMoved, Leaves, IsEnded, ComesUpOn, ASource, ARelay}
+use Rattle.radio_core.specs.SeatSteps.{SeatStep, Stays as SeatStays, IsHanded, SitsDown, IsMoved, Leaves, IsEnded, ComesUpOn, ASource, ARelay, IsGiven}
 use Rattle.radio_core.specs.SeatSteps.{IsSent, HisSessionIsOver, HeIsCalledHome, IsCommandedThere}
 use Rattle.radio_core.specs.SessionSteps.{SessionStep, Stays, Begins, BeginsForRelay, Grows, IsTitled, IsRetitled, Ends, IsKilled}
 use Rattle.radio_core.specs.Sound.{IsSound}
@@ -38,6 +38,7 @@ use Rattle.radio_laws.proofs.AgreeingOutcomes.{onward_by}
 use Rattle.radio_laws.specs.Locality.{IsWithin, EndsWithin, WalksWithin, IsAll, LeavesAlone}
 use Rattle.radio_laws.proofs.LocalityLemmas.{agrees, asks_within}
 use Rattle.radio_core.specs.Allowed.{ChangesUsers, Adds, Deletes}
+use Rattle.radio_core.proofs.HeardLemmas.{heard_cases}
 
 module _ (within : List ℕ → Bool) (w : World) (s : IsSound w) (event : Event) (near : IsWithin w within event) where
   -- it is within reach after all
@@ -117,15 +118,19 @@ module _ (within : List ℕ → Bool) (w : World) (s : IsSound w) (event : Event
   -- seats beyond reach
   module _ (id : ℕ) where
     sent_near : (seat : Seat) (mount : List ℕ) → seat_of w.seats id ≡ Some seat → IsSent w (world_after w event) event seat mount → Near seat.mount
-    sent_near seat mount has (HisSessionIsOver over) = by_reach (within seat.mount) refl where
+    sent_near seat mount has (HisSessionIsOver over sat) = by_reach (within seat.mount) refl where
       by_reach : (b : Bool) → within seat.mount ≡ b → Near seat.mount
       by_reach true e = e
       by_reach false e =
           let seated = s.seated id seat has in
           let kept = session_kept seat.mount (session_of w.house.live seat.mount) (session_of (world_after w event).house.live seat.mount)
           (sessions_step w s event seat.mount) refl e in
-          let none = sym over ∙ kept ∙ seated.is_live in
-          cc
+          heard_cases w.house seat.mount seated.session seated.is_heard
+          (λ there. let none = sym over ∙ kept ∙ there in cc)
+          (λ idle silent.
+          let waits : seat.session ≡ 0 = sym seated.his_session ∙ sym (ap (λ (x : Session). x.number) silent) in
+          let no : (0 == 0) ≡ false = ap (λ (n : ℕ). n == 0) (sym waits) ∙ sat in
+          cc)
     sent_near seat mount has (HeIsCalledHome up home override) = by_event event up near where
       by_event : (e : Event) → ComesUpOn e mount → IsWithin w within e → Near seat.mount
       by_event _ (ASource asked) its = its.home override seat.mount
@@ -155,6 +160,10 @@ module _ (within : List ℕ → Bool) (w : World) (s : IsSound w) (event : Event
         ap (λ (x : Seat). within x.mount) (sym same) ∙ changed_near his.mount changes
     caused_near _ seat has (HisSessionIsKilled session feeding is_live c) = let sits = s.sitting id seat has in cc
 
+    up_near : (e : Event) (mount : List ℕ) → ComesUpOn e mount → IsWithin w within e → Near mount
+    up_near _ mount (ASource asked) its = its.there
+    up_near _ mount (ARelay name shown) its = its.there
+
     -- a seat that is within reach is not this one
     not_it : (seat other : Seat) → within seat.mount ≡ false → Near other.mount → {A : Type 0} → Some other ≡ Some seat → A
     not_it seat other out there e = let same : other ≡ seat = cc in let clash : within seat.mount ≡ true = ap (λ (x : Seat). within x.mount) (sym same) ∙ there in cc
@@ -174,6 +183,9 @@ module _ (within : List ℕ → Bool) (w : World) (s : IsSound w) (event : Event
         (not_it seat (first_seat w.house asked peer session) out there, λ e. cc)
     seat_kept _ _ _ (IsMoved old session takes sent is_live lets other) has seat out =
         (not_it seat (moved_into session old) out (taken_near id session.mount takes), not_it seat old out (sent_near old session.mount has sent))
+    seat_kept _ _ _ (IsGiven old session coming idle live empty waits start past) has seat out =
+        let there : Near old.mount = up_near event old.mount coming near in
+        (not_it seat (record old { session = session.number }) out there, not_it seat old out there)
     seat_kept _ _ _ (Leaves old is_event) has seat out = (λ e. cc, not_it seat old out ((so_near (Leave id) is_event).1 old has))
     seat_kept _ _ _ (IsEnded old rule finishes) has seat out = (λ e. cc, not_it seat old out (caused_near rule old has finishes.cause))
 

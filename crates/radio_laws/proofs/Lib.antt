@@ -11,6 +11,7 @@ mod CommandSteps
 mod DenialLemmas
 mod FallbackLemmas
 mod GoneLemmas
+mod HeardLaws
 mod InTime
 mod KilledLemmas
 mod LeftAlone
@@ -23,9 +24,13 @@ mod ListsLemmas
 mod LocalityLemmas
 mod MountLemmas
 mod ObeyLemmas
+mod OnDemandLemmas
 mod ServiceLemmas
 mod SightLemmas
+mod SliceLemmas
+mod StayingOn
 mod StretchLemmas
+mod TickEnds
 mod TickOrder
 mod TitleLemmas
 mod ToldLemmas

@@ -30,8 +30,9 @@ use Rattle.radio_fallback.proofs.TurnLemmas.{lands_where_he_fits}
 use Rattle.radio_house.specs.Streams.{shown_for}
 use Rattle.radio_events.specs.declared.command.Command.{Command as TheCommand}
 use Rattle.radio_events.specs.declared.command.Command.TheVariants.{MoveClients, KillClient, KillSource, SetTitle as NewTitle, SetFallback, AddUser, DeleteUser}
-use Rattle.radio_core.specs.Changes.{answered, session_killed, changed, carried_along, session_over, session_ended, called_home, before_silence, session_silenced, silent_in}
-use Rattle.radio_house.specs.HouseChanges.{begun, raised, received}
+use Rattle.radio_core.specs.Changes.{answered, session_killed, changed, carried_along, session_over, session_ended, called_home}
+use Rattle.radio_core.specs.Changes.{before_silence, session_silenced, silent_in, session_begun, session_raised}
+use Rattle.radio_house.specs.HouseChanges.{received}
 use Rattle.radio_laws.specs.Limits.{IsWithinLimits, SentUser, SitsThereAs, most_at, allows_duplicates_at}
 use Rattle.radio_core.specs.Listen.{first_seat}
 use Rattle.radio_core.specs.Run.{world_after_all, run_after}
@@ -54,6 +55,9 @@ use Rattle.radio_core.proofs.Ways.{way_of}
 use Rattle.radio_access.specs.Lists.{with_user_at, without_user_at}
 use Rattle.radio_policy.specs.declared.rule.Rule.TheVariants.{ListenerPassword}
 use Rattle.radio_house.specs.Outsiders.{is_shut_out}
+use Rattle.radio_core.proofs.GivenSeats.{nobody_came_given}
+use Rattle.radio_house.specs.Waiting.{heard_at}
+use Rattle.radio_laws.proofs.HeardLaws.{order_given}
 
 -- the limits, with users compared as the table does it
 pub record Within (w : World) : Type 0 where
@@ -103,7 +107,7 @@ module _ (w : World) (move : Move) (order : AreByNumber w.seats) (l : Within w) 
   }
 
 -- the limits hold of the house's settings and of who sits, whatever else there is
-other_house : (w later : World) → later.house.settings ≡ w.house.settings → later.seats ≡ w.seats → Within w → Within later
+pub other_house : (w later : World) → later.house.settings ≡ w.house.settings → later.seats ≡ w.seats → Within w → Within later
 other_house w later settings seats l = record {
   not_too_many = λ mount most e.
       subst (λ (xs : List Listener). length (seats_at xs mount) ≤ most) (sym seats) (l.not_too_many mount most (ap (λ (x : Settings). most_of x mount) (sym settings) ∙ e));
@@ -127,7 +131,7 @@ within_called w mount order l = by_test (options_for w.house.settings mount).lis
   by_test true = within_carried w (Up mount) order l
   by_test false = l
 
-within_silence : (sessions : List Session) (w : World) → AreByNumber w.seats → Within w → Within (fold session_silenced w sessions)
+pub within_silence : (sessions : List Session) (w : World) → AreByNumber w.seats → Within w → Within (fold session_silenced w sessions)
 within_silence [] w order l = l
 within_silence (session ∷ sessions) w order l =
     let ended = session_ended w session.mount in
@@ -153,9 +157,13 @@ module _ (w : World) (s : IsSound w) (l : Within w) where
   within_still : (later : World) → later.house.settings ≡ w.house.settings → NobodyCame w.seats later.seats → Within later
   within_still later same came = within_kept w later l same came
 
+  -- nor do they come who have sat out their time
+  pub within_sat_out : (ms : ℕ) → Within (before_silence w ms)
+  within_sat_out ms = within_still (before_silence w ms) refl (nobody_came_ending (has_sat_out w.house.settings ms) TimeOver w.seats)
+
   -- a listener sits down where he is welcome
   module _ (asked : ListenRequest) (peer : Peer) (session : Session) (e : standing_of w asked.id ≡ Undecided peer)
-      (live : session_of w.house.live session.mount ≡ Some session) (welcome : MaySit (sight_of w.house) w.seats asked.pair session.mount) where
+      (live : heard_at w.house session.mount ≡ Some session) (welcome : MaySit (sight_of w.house) w.seats asked.pair session.mount) where
     abbrev new : Seat
     new = first_seat w.house asked peer session
 
@@ -233,11 +241,14 @@ module _ (w : World) (s : IsSound w) (l : Within w) where
   within_by event o (IsRefused _ him rule v his undecided) = within_still (changed w o.change) refl (nobody_came w.seats)
   within_by event o (IsAdmitted peer allowed) = within_still (changed w o.change) refl (nobody_came w.seats)
   within_by event o (Begins asked undecided none allowed) =
-      let up = record w { house = begun w.house asked.id asked.mount (shown_for w.house asked.mount asked.shown) } in
-      within_called up asked.mount s.by_number (other_house w up refl refl l)
+      let up = session_begun w asked.id asked.mount (shown_for w.house asked.mount asked.shown) in
+      within_called up asked.mount (order_given asked.mount asked.id w.seats s.by_number)
+      (within_kept w up l refl (nobody_came_given asked.mount asked.id w.seats))
   within_by event o (ComesUp mount shown unfed allowed) =
-      let up = record w { house = raised w.house (w.house.last_id + 1) mount (shown_for w.house mount shown) } in
-      within_called up mount s.by_number (other_house w up refl refl l)
+      let up = session_raised w (w.house.last_id + 1) mount (shown_for w.house mount shown) in
+      let him = w.house.last_id + 1 in
+      within_called up mount (order_given mount him w.seats s.by_number)
+      (within_kept w up l refl (nobody_came_given mount him w.seats))
   within_by event o (Receives him mount block feeding) =
       within_still (changed w o.change) refl
       (nobody_came_ending (lags_behind mount (live_end (received w.house mount block) mount) w.house.settings.limits.queue_size) Lagged w.seats)
@@ -245,8 +256,7 @@ module _ (w : World) (s : IsSound w) (l : Within w) where
   within_by event o (Obeys _ command c) = within_obeyed c.asked.id command
   within_by event o (HasPassed ms e) = l
   within_by event o (Ticks ms e) =
-      within_silence (silent_in (before_silence w ms)) (before_silence w ms) (sound_sat_out w s ms).by_number
-      (within_still (before_silence w ms) refl (nobody_came_ending (has_sat_out w.house.settings ms) TimeOver w.seats))
+      within_silence (silent_in (before_silence w ms)) (before_silence w ms) (sound_sat_out w s ms).by_number (within_sat_out ms)
   within_by event o (SetsTitle him mount text feeding) = within_still (changed w o.change) refl (nobody_came w.seats)
   within_by event o (TakesSeat asked peer session undecided lands live allowed) =
       within_seated asked peer session undecided live (lands_where_he_fits (sight_of w.house) w.seats asked.pair asked.mount session.mount lands)

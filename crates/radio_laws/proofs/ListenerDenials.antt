@@ -96,7 +96,7 @@ any_at : {X : Type 0} (p : X → Bool) (x : X) (xs : List X) (b : Bool) → p x 
 any_at p x xs true e some later = (x, inl refl, e)
 any_at p x xs false e some later = let found = later some in (found.0, inr found.1, found.2)
 
-some_one : {X : Type 0} (p : X → Bool) (xs : List X) → list_any p xs ≡ true → (y : X) × Has y xs × (p y ≡ true)
+pub some_one : {X : Type 0} (p : X → Bool) (xs : List X) → list_any p xs ≡ true → (y : X) × Has y xs × (p y ≡ true)
 some_one p [] some = cc
 some_one p (x ∷ xs) some = any_at p x xs (p x) refl some (some_one p xs)
 
@@ -104,7 +104,7 @@ sent_by : (user : List ℕ) (pair : Option Credentials) → has_user user pair �
 sent_by user None e = cc
 sent_by user (Some sent) e = (sent, refl, (bytes_eq-Decides sent.user user).0 e)
 
-seat_there : (mount user : List ℕ) (seating : Seating) → is_user_at mount user seating ≡ true
+pub seat_there : (mount user : List ℕ) (seating : Seating) → is_user_at mount user seating ≡ true
     → (seat : Seat) × (seating ≡ HasSeat seat) × (seat.mount ≡ mount) × SentUser user seat.pair
 seat_there mount user (HasSeat seat) e =
     let is = both (bytes_eq seat.mount mount) (has_user user seat.pair) e in

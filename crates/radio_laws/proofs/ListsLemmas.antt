@@ -12,7 +12,7 @@ use Rattle.radio_core.specs.Finishes.{Finishes}
 use Rattle.radio_core.specs.Handing.{handed_at}
 use Rattle.radio_core.specs.Listen.{first_seat}
 use Rattle.radio_core.specs.Run.{world_after_all, run_after}
-use Rattle.radio_core.specs.SeatSteps.{SeatStep, Stays, IsHanded, SitsDown, IsMoved, Leaves as HeLeaves, IsEnded as HeIsEnded}
+use Rattle.radio_core.specs.SeatSteps.{SeatStep, Stays, IsHanded, SitsDown, IsMoved, Leaves as HeLeaves, IsEnded as HeIsEnded, IsGiven}
 use Rattle.radio_core.specs.Sound.{IsSound}
 use Rattle.radio_core.specs.Step.{world_after}
 use Rattle.radio_parts.specs.Stream.{data_at}
@@ -68,6 +68,10 @@ module _ (w : World) (s : IsSound w) (k : KeepsLists w) where
       let one : moved_into session old ≡ seat = cc in
       let is = k.seated id old had in
       subst (λ (x : Seat). IsLetIn w.house.lists x) one (record { passing = is.passing; accepted = ap (λ (x : Lists). lets_in x session.mount old.pair) (sym same) ∙ opens })
+  seated_by C event id before bytes later (IsGiven old session coming idle live empty waits start past) same had seat has =
+      let one : record old { session = session.number } ≡ seat = cc in
+      let is = k.seated id old had in
+      subst (λ (x : Seat). IsLetIn w.house.lists x) one (record { passing = is.passing; accepted = is.accepted })
   seated_by C event id before bytes later (HeLeaves old left) same had seat has = cc
   seated_by C event id before bytes later (HeIsEnded old rule cause) same had seat has = cc
 

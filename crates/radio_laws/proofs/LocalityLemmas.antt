@@ -8,7 +8,7 @@ use Rattle.radio_settings.specs.Options.{options_for}
 use Rattle.radio_policy.specs.declared.rule.Rule.TheVariants.{Lagged, Killed}
 use Rattle.radio_seats.specs.declared.seat.Listener.{Listener}
 use Rattle.radio_seats.specs.declared.seat.Seat.{Seat}
-use Rattle.radio_parts.specs.Sessions.{Session, is_of, session_of, opened, fed}
+use Rattle.radio_parts.specs.Sessions.{Session, is_of, session_of, opened, with_session, fed}
 use Rattle.radio_parts.specs.Timeouts.{lags_behind}
 use Rattle.radio_fallback.specs.declared.moves.Move.TheVariants.{Ended as HasEnded, To}
 use Rattle.radio_events.specs.declared.command.Asked.TheVariants.{Command as Asks}
@@ -39,12 +39,12 @@ use Rattle.radio_laws.specs.Locality.{AgreeWithin, SessionsAgree, SameSession, L
 use Rattle.radio_laws.specs.Locality.{AnswersAlike}
 use Rattle.radio_laws.proofs.AgreeingLists.{agree_all}
 use Rattle.radio_laws.proofs.Agreeing.{beyond, SessionsDo, session_alike, with_session_alike, without_session_alike, fed_alike, titled_alike, ListenersDo}
-use Rattle.radio_laws.proofs.Agreeing.{with_seat_alike, without_alike, with_place_alike, with_end_alike, with_ended_alike}
+use Rattle.radio_laws.proofs.Agreeing.{with_seat_alike, without_alike, with_place_alike, with_end_alike, with_ended_alike, given_alike}
 use Rattle.radio_laws.proofs.AgreeingWalks.{carried_alike}
 use Rattle.radio_laws.proofs.AgreeingOutcomes.{in_place, onward_by, all_one, outcome_alike}
 use Rattle.radio_access.specs.Lists.{Lists, with_user_at, without_user_at}
 use Rattle.radio_policy.specs.declared.rule.Rule.TheVariants.{ListenerPassword}
-use Rattle.radio_seats.specs.Seats.{with_ended}
+use Rattle.radio_seats.specs.Seats.{with_ended, with_session_at}
 use Rattle.radio_house.specs.Outsiders.{is_shut_out}
 use Rattle.radio_laws.proofs.Agreeing.{none_out}
 
@@ -74,18 +74,27 @@ module _ (within : List ℕ → Bool) (w : World) (live : List Session) (seats :
   all_agree all change =
       subst (λ (x : World). AgreeWithin within (changed x change) (changed w change)) (sym (all_one within w live seats r s all)) (agrees within (changed w change))
 
-  -- a session begins, and where its mount calls its listeners home, all is within reach
+  -- a session begins, and those hear it who wait for one
+  heard_by_all : (id : ℕ) (mount : List ℕ) (shown : Shown)
+      → SessionsDo within (with_session live (opened mount id shown w.house.time)) (with_session w.house.live (opened mount id shown w.house.time))
+      × ListenersDo within (with_session_at seats mount id) (with_session_at w.seats mount id)
+  heard_by_all id mount shown = (
+    with_session_alike within live w.house.live r (opened mount id shown w.house.time),
+    given_alike within seats w.seats s mount id,
+  )
+
+  -- where its mount calls its listeners home, all is within reach
   begins : (id : ℕ) (mount : List ℕ) (shown : Shown) → ComesUpWithin w within mount → Agree (Begin id mount shown)
   begins id mount shown near = by_home (options_for w.house.settings mount).listeners.fallback_override refl where
     by_home : (home : Bool) → (options_for w.house.settings mount).listeners.fallback_override ≡ home → Agree (Begin id mount shown)
     by_home true e = all_agree (near.home e) (Begin id mount shown)
-    by_home false e = rw e (record { house = refl; sessions = with_session_alike within live w.house.live r (opened mount id shown w.house.time); listeners = s })
+    by_home false e = let given = heard_by_all id mount shown in rw e (record { house = refl; sessions = given.0; listeners = given.1 })
 
   raises : (id : ℕ) (mount : List ℕ) (shown : Shown) → ComesUpWithin w within mount → Agree (Raise id mount shown)
   raises id mount shown near = by_home (options_for w.house.settings mount).listeners.fallback_override refl where
     by_home : (home : Bool) → (options_for w.house.settings mount).listeners.fallback_override ≡ home → Agree (Raise id mount shown)
     by_home true e = all_agree (near.home e) (Raise id mount shown)
-    by_home false e = rw e (record { house = refl; sessions = with_session_alike within live w.house.live r (opened mount id shown w.house.time); listeners = s })
+    by_home false e = let given = heard_by_all id mount shown in rw e (record { house = refl; sessions = given.0; listeners = given.1 })
 
   -- a block comes, and who is too far behind loses his seat
   receives : (mount block : List ℕ) → within mount ≡ true → Agree (Receive mount block)

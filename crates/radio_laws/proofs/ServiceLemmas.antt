@@ -45,7 +45,7 @@ use Rattle.radio_core.specs.Ways.{EndsAndLeaves, Leaves, GoesDown, Obeys, Shows,
 use Rattle.radio_house.specs.Clients.{Client, client_of}
 use Rattle.radio_parts.specs.Stream.{WholeStream, end_of, data_at}
 use Rattle.radio_core.proofs.CalledHome.{turns_up, turns_risen}
-use Rattle.radio_parts.proofs.SessionLookups.{found_named, is_longer, is_titled, is_over}
+use Rattle.radio_parts.proofs.SessionLookups.{is_longer, is_titled, is_over}
 use Rattle.radio_house.proofs.Lookups.{is_new_client}
 use Rattle.radio_core.proofs.SoundEnds.{turns_ended, turns_ended_and_left}
 use Rattle.radio_core.proofs.SoundSessions.{has_advanced}
@@ -56,6 +56,8 @@ use Rattle.radio_core.specs.RelayUp.{raises}
 use Rattle.radio_core.specs.RelayDown.{goes_down_from}
 use Rattle.radio_settings.specs.declared.field.Shown.{Shown}
 use Rattle.radio_core.specs.Pages.{asks_by}
+use Rattle.radio_core.proofs.HeardLemmas.{heard_named}
+use Rattle.radio_house.specs.Waiting.{heard_at}
 
 is_allowed : (v : Verdict) (denied : Change) (allowed : Outcome) → v ≡ Allow → on_verdict v denied allowed ≡ allowed
 is_allowed Allow denied allowed e = refl
@@ -120,7 +122,7 @@ module _ (allows : (rows : List Row) → (verdict_in rows ≡ Allow) ↔ Allows 
 
   outcome_listen : (asked : ListenRequest) (peer : Peer) (session : Session) → standing_of w asked.id ≡ Undecided peer
       → verdict_in (rows_to_listen w asked) ≡ Allow → walks_to w.house w.seats asked.mount asked.pair ≡ Lands session.mount
-      → session_of w.house.live session.mount ≡ Some session → outcome w (Listen asked) ≡ takes_seat w.house asked peer (Some session)
+      → heard_at w.house session.mount ≡ Some session → outcome w (Listen asked) ≡ takes_seat w.house asked peer (Some session)
   unfolding outcome
   outcome_listen asked peer session e v lands found =
       ap (asks_by w asked) (no_path w asked v)
@@ -130,7 +132,7 @@ module _ (allows : (rows : List Row) → (verdict_in rows ≡ Allow) ↔ Allows 
       ∙ ap (takes_seat w.house asked peer) found
 
   outcome_draw : (id room : ℕ) (seat : Seat) (session : Session) → standing_of w id ≡ Sits → seat_of w.seats id ≡ Some seat
-      → session_of w.house.live seat.mount ≡ Some session → outcome w (Draw id room) ≡ hands_out id seat room (Some session)
+      → heard_at w.house seat.mount ≡ Some session → outcome w (Draw id room) ≡ hands_out id seat room (Some session)
   unfolding outcome
   outcome_draw id room seat session e has live =
       goes_sitting (standing_of w id) _ e
@@ -155,16 +157,16 @@ module _ (allows : (rows : List Row) → (verdict_in rows ≡ Allow) ↔ Allows 
   received asked peer e a =
       let v = (allows (rows_to_listen w asked)).1 a in
       let landed = lands_at w asked v in
-      let there = found_there (session_of w.house.live landed.to) landed.fits.is_live in
-      let named : there.0.mount ≡ landed.to = found_named w.house.live landed.to there.0 there.1 in
+      let there = found_there (heard_at w.house landed.to) landed.fits.is_live in
+      let named : there.0.mount ≡ landed.to = heard_named w.house landed.to there.0 there.1 in
       let way = lands_on_his_way w asked landed.to landed.lands in
-      let o = outcome_listen asked peer there.0 e v (landed.lands ∙ ap (λ (m : List ℕ). Lands m) (sym named)) (ap (session_of w.house.live) named ∙ there.1) in
+      let o = outcome_listen asked peer there.0 e v (landed.lands ∙ ap (λ (m : List ℕ). Lands m) (sym named)) (ap (heard_at w.house) named ∙ there.1) in
       record {
         session = there.0;
         steps = way.0;
         not_too_far = way.1;
         on_his_way = subst (λ (m : List ℕ). ComesBy w asked.mount way.0 m) (sym named) way.2;
-        is_live = ap (session_of w.house.live) named ∙ there.1;
+        is_heard = ap (heard_at w.house) named ∙ there.1;
         head = head_of w.house there.0.shown;
         shows = refl;
         is_shown = reply_is (Listen asked) (takes_seat w.house asked peer (Some there.0)) o;
@@ -176,17 +178,17 @@ module _ (allows : (rows : List Row) → (verdict_in rows ≡ Allow) ↔ Allows 
   handed_out id room e =
       let has = seat_of_sitting w id e in
       let in_session = s.seated id has.0 has.1 in
-      let o = outcome_draw id room has.0 in_session.session e has.1 in_session.is_live in
+      let o = outcome_draw id room has.0 in_session.session e has.1 in_session.is_heard in
       let many = all_there in_session.session.stream has.0.place room in
       record {
         seat = has.0;
         has_the_seat = has.1;
         session = in_session.session;
-        is_live = in_session.is_live;
+        is_heard = in_session.is_heard;
         is_handed = reply_is (Draw id room) (hands_out id has.0 room (Some in_session.session)) o;
         all_there = many;
         goes_on = found_after (λ (x : World). seat_of x.seats id) (Draw id room) (hands_out id has.0 room (Some in_session.session)) o
-            ∙ has_advanced w s id room has.0 in_session.session e has.1 in_session.is_live
+            ∙ has_advanced w s id room has.0 in_session.session e has.1 in_session.is_heard
             ∙ ap (λ (n : ℕ). Some (record has.0 { place = has.0.place + n })) many;
       }
 

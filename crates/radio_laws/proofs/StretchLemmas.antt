@@ -1,10 +1,9 @@
 -- the law of stretches
-use Rattle.std.proofs.Common.{◌≡◌, ◌⊎◌, inl, inr, true, false, Bool, ℕ, ◌+◌, ◌-◌, ◌<◌, ◌≤◌, ◌==◌, Option, Some, None, List, [], ◌∷◌, ◌++◌, zero, suc}
-use Rattle.std.proofs.Common.{length, take, drop, refl, ap, sym, subst, ◌∙◌, arith, append_assoc, length-append, length-drop}
+use Rattle.std.proofs.Common.{◌≡◌, ◌⊎◌, inl, inr, true, false, Bool, ℕ, ◌+◌, ◌<◌, ◌≤◌, ◌==◌, Option, Some, None, List, [], ◌∷◌, ◌++◌}
+use Rattle.std.proofs.Common.{length, take, drop, refl, ap, sym, subst, ◌∙◌, arith, append_assoc, length-append}
 use Rattle.std.specs.Prelude.{if◌then◌else◌}
 use Rattle.std.proofs.lemmas.Bool.Decides.{nat_tests}
-use Rattle.std.proofs.Math.Seq.{take-add}
-use Rattle.std.proofs.lemmas.List.{append-nil, take-append-le, drop-append-le, drop-drop}
+use Rattle.std.proofs.lemmas.List.{append-nil}
 use Rattle.std.proofs.lemmas.Slice.Eq.{bytes_eq-Decides}
 use Rattle.std.specs.Str.{bytes_eq}
 use Rattle.radio_addr.specs.declared.peer.Peer.{Peer}
@@ -39,7 +38,7 @@ use Rattle.radio_parts.proofs.RisingLemmas.{burst_within}
 use Rattle.radio_core.specs.Finishes.{Finishes}
 use Rattle.radio_core.specs.Listen.{first_seat}
 use Rattle.radio_house.specs.Streams.{burst_of}
-use Rattle.radio_core.specs.SeatSteps.{SeatStep, Stays, IsHanded, SitsDown, IsMoved, Leaves as HeLeaves, IsEnded as HeIsEnded}
+use Rattle.radio_core.specs.SeatSteps.{SeatStep, Stays, IsHanded, SitsDown, IsMoved, Leaves as HeLeaves, IsEnded as HeIsEnded, IsGiven}
 use Rattle.radio_policy.specs.declared.rule.Rule.{Rule}
 use Rattle.radio_core.proofs.SoundSessions.{grown_cases}
 use Rattle.radio_core.proofs.SoundTitles.{titled_cases}
@@ -47,52 +46,10 @@ use Rattle.radio_core.proofs.TickLemmas.{ticked_fates}
 use Rattle.radio_laws.proofs.ObeyLemmas.{was_live_then}
 use Rattle.radio_core.proofs.SoundRuns.{sound_after, sound_opening}
 use Rattle.radio_core.proofs.Ways.{way_of}
-
--- slices of data that grows
-
-between_grown : (start stop : ℕ) (xs ys : List ℕ) → start ≤ stop → stop ≤ length xs → between start stop (xs ++ ys) ≡ between start stop xs
-between_grown start stop xs ys low high = ap (take (stop - start)) (drop-append-le start xs ys (omega arith)) ∙ take-append-le (stop - start)
-    (drop start xs) ys (omega (arith, length-drop start xs))
-
--- stretches of what was sent are stretches still when more is sent
-grown_stretches : (sent more : ℕ → List ℕ) (sittings : List Sitting) (bytes : List ℕ) → AreStretches sent sittings bytes
-    → AreStretches (λ n. sent n ++ more n) sittings bytes
-grown_stretches sent more [] bytes e = e
-grown_stretches sent more (sitting ∷ others) bytes (stop, rest, low, high, e, later) = (
-  stop,
-  rest,
-  low,
-  omega (arith, high, length-append (sent sitting.source) (more sitting.source)),
-  e ∙ ap (λ xs. xs ++ rest) (sym (between_grown sitting.start stop (sent sitting.source) (more sitting.source) low high)),
-  grown_stretches sent more others rest later,
-)
-
-same_stretches : (sent now : ℕ → List ℕ) → ((n : ℕ) → sent n ≡ now n) → (sittings : List Sitting) (bytes : List ℕ) → AreStretches sent sittings bytes
-    → AreStretches now sittings bytes
-same_stretches sent now same [] bytes e = e
-same_stretches sent now same (sitting ∷ others) bytes (stop, rest, low, high, e, later) = (
-  stop,
-  rest,
-  low,
-  subst (λ (xs : List ℕ). stop ≤ length xs) (same sitting.source) high,
-  e ∙ ap (λ xs. between sitting.start stop xs ++ rest) (same sitting.source),
-  same_stretches sent now same others rest later,
-)
-
--- one stretch more
-one_more : (sent : ℕ → List ℕ) (before : List Sitting) (old : List ℕ) (last : Sitting) (stop : ℕ) → AreStretches sent before old → last.start ≤ stop
-    → stop ≤ length (sent last.source) → AreStretches sent (before ++ last ∷ []) (old ++ between last.start stop (sent last.source))
-one_more sent [] old last stop e low high =
-    (stop, [], low, high, ap (λ xs. xs ++ between last.start stop (sent last.source)) e ∙ sym (append-nil (between last.start stop (sent last.source))), refl)
-one_more sent (sitting ∷ others) old last stop (end, rest, low', high', e, later) low high = (
-  end,
-  rest ++ between last.start stop (sent last.source),
-  low',
-  high',
-  ap (λ xs. xs ++ between last.start stop (sent last.source)) e ∙ append_assoc (between sitting.start end (sent sitting.source)) rest
-      (between last.start stop (sent last.source)),
-  one_more sent others rest last stop later low high,
-)
+use Rattle.radio_core.proofs.HeardLemmas.{heard_cases}
+use Rattle.radio_laws.proofs.HeardLaws.{rising_heard}
+use Rattle.radio_laws.proofs.SliceLemmas.{between_grown, grown_stretches, same_stretches, one_more, between_more, between_none}
+use Rattle.radio_house.specs.Waiting.{heard_at}
 
 -- how a listener has heard so far: what he has heard are stretches, the last of which ends at his place
 data Hears (sent : ℕ → List ℕ) : Option Seat → List Sitting → List ℕ → Type 0 where
@@ -121,28 +78,6 @@ hears_grown sent more seat past heard (Listening him before last old stretches s
     (Listening him before last old (grown_stretches sent more before old stretches) source low
     (omega (arith, high, length-append (sent last.source) (more last.source))))
 
--- a slice goes on where it ended
-taken_length : (n : ℕ) (xs : List ℕ) → take n xs ≡ take (length (take n xs)) xs
-taken_length zero xs = refl
-taken_length (suc n) [] = refl
-taken_length (suc n) (x ∷ xs) = ap (λ ys. x ∷ ys) (taken_length n xs)
-
-between_more : (start place room : ℕ) (xs : List ℕ) → start ≤ place
-    → between start place xs ++ take room (drop place xs) ≡ between start (place + length (take room (drop place xs))) xs
-between_more start place room xs forward =
-    let more = take room (drop place xs) in
-    let size = length more in
-    let sum : (place + size) - start ≡ (place - start) + size = omega arith in
-    let back : start + (place - start) ≡ place = omega arith in
-    ap (λ ys. between start place xs ++ ys) (taken_length room (drop place xs))
-    ∙ ap (λ n. between start place xs ++ take size (drop n xs)) (sym back)
-    ∙ ap (λ ys. between start place xs ++ take size ys) (sym (drop-drop (place - start) start xs))
-    ∙ sym (take-add (place - start) size (drop start xs))
-    ∙ ap (λ n. take n (drop start xs)) (sym sum)
-
-between_none : (place : ℕ) (xs : List ℕ) → between place place xs ≡ []
-between_none place xs = let none : place - place ≡ 0 = omega arith in ap (λ n. take n (drop place xs)) none
-
 -- a seat in the same session begins no sitting
 begun_same : (old seat : Seat) (b : Bool) → (old.session == seat.session) ≡ b → b ≡ true → (if b then [] else sitting_in seat ∷ []) ≡ []
 begun_same old seat true e h = refl
@@ -153,13 +88,13 @@ begun_none old seat same = let itself : (old.session == seat.session) ≡ true =
     grind (arith, nat_tests) in begun_same old seat (old.session == seat.session) refl itself
 
 -- what an event does to his seat keeps all that he has heard stretches
-module _ (w : World) (s : IsSound w) (sent : ℕ → List ℕ) (whole : (mount : List ℕ) (session : Session) → session_of w.house.live mount ≡ Some session
+module _ (w : World) (s : IsSound w) (sent : ℕ → List ℕ) (whole : (mount : List ℕ) (session : Session) → heard_at w.house mount ≡ Some session
     → session.stream.bytes ≡ sent session.number) where
   unchanged : (seat : Option Seat) (past more : List Sitting) (heard : List ℕ) → more ≡ [] → Hears sent seat past heard
       → Hears sent seat (past ++ more) (heard ++ [])
   unchanged seat past more heard none h = hears_as sent refl (sym (ap (λ xs. past ++ xs) none ∙ append-nil past)) (sym (append-nil heard)) h
 
-  handed_on : (seat : Seat) (session : Session) (room : ℕ) → session_of w.house.live seat.mount ≡ Some session → session.number ≡ seat.session
+  handed_on : (seat : Seat) (session : Session) (room : ℕ) → heard_at w.house seat.mount ≡ Some session → session.number ≡ seat.session
       → seat.place + length (data_at session.stream seat.place room) ≤ end_of session.stream → (past : List Sitting) (heard : List ℕ)
       → Hears sent (Some seat) past heard
       → Hears sent (Some (record seat { place = seat.place + length (data_at session.stream seat.place room) })) past
@@ -179,7 +114,7 @@ module _ (w : World) (s : IsSound w) (sent : ℕ → List ℕ) (whole : (mount :
       hears_as sent refl refl (sym joined) (Listening (record seat { place = far }) before last old stretches source (omega (arith, low))
       (omega (arith, within, size)))
 
-  sits_in : (seat : Seat) (session : Session) → session_of w.house.live seat.mount ≡ Some session → session.number ≡ seat.session
+  sits_in : (seat : Seat) (session : Session) → heard_at w.house seat.mount ≡ Some session → session.number ≡ seat.session
       → seat.place ≤ end_of session.stream → (past : List Sitting) (heard : List ℕ) → Hears sent None past heard
       → Hears sent (Some seat) (past ++ sitting_in seat ∷ []) (heard ++ [])
   sits_in seat session live number within past heard (Idle _ _ stretches) =
@@ -190,7 +125,7 @@ module _ (w : World) (s : IsSound w) (sent : ℕ → List ℕ) (whole : (mount :
 
   -- and more was sent by then, which is what the sessions have
   module _ (event : Event) (more : ℕ → List ℕ)
-      (whole_then : (mount : List ℕ) (session : Session) → session_of (world_after w event).house.live mount ≡ Some session
+      (whole_then : (mount : List ℕ) (session : Session) → heard_at (world_after w event).house mount ≡ Some session
       → session.stream.bytes ≡ sent session.number ++ more session.number) where
     abbrev now : ℕ → List ℕ
     now n = sent n ++ more n
@@ -211,7 +146,7 @@ module _ (w : World) (s : IsSound w) (sent : ℕ → List ℕ) (whole : (mount :
         let seat = first_seat w.house asked peer session in
         hears_grown sent more (Some seat) (past ++ sitting_in seat ∷ []) (heard ++ [])
         (sits_in seat session live refl
-        (burst_within session.stream (burst_of w.house session.mount) (s.starts session.mount session live)) past heard h)
+        (burst_within session.stream (burst_of w.house session.mount) (rising_heard w s session.mount session live)) past heard h)
     hears_step C id before later bytes (IsMoved seat session takes why live opens apart) past heard h =
         let new = moved_into session seat in
         let started : begun_sittings (Some seat) (Some new) ≡ sitting_in new ∷ [] = ap (λ (b : Bool). if b then [] else sitting_in new ∷ []) apart in
@@ -219,6 +154,13 @@ module _ (w : World) (s : IsSound w) (sent : ℕ → List ℕ) (whole : (mount :
         let size : end_of session.stream ≡ length (now session.number) = ap length (whole_then session.mount session live) in
         hears_as now refl (ap (λ xs. past ++ xs) (sym started)) (ap (λ xs. heard ++ xs) (between_none new.place (now new.session)))
         (Listening new past (sitting_in new) heard so_far refl (omega arith) (omega (arith, size)))
+    hears_step C id before later bytes (IsGiven seat session coming idle live empty waits start past_zero) past heard h =
+        let new : Seat = record seat { session = session.number } in
+        let apart : (seat.session == session.number) ≡ false = ap (λ (n : ℕ). n == session.number) waits ∙ past_zero in
+        let started : begun_sittings (Some seat) (Some new) ≡ sitting_in new ∷ [] = ap (λ (b : Bool). if b then [] else sitting_in new ∷ []) apart in
+        let so_far = heard_so_far now (Some seat) past heard (hears_grown sent more (Some seat) past heard h) in
+        hears_as now refl (ap (λ xs. past ++ xs) (sym started)) (ap (λ xs. heard ++ xs) (between_none new.place (now new.session)))
+        (Listening new past (sitting_in new) heard so_far refl (omega arith) (omega (arith, start)))
     hears_step C id before later bytes (HeLeaves seat left) past heard h =
         hears_grown sent more None (past ++ []) (heard ++ [])
         (unchanged None past [] heard refl (Idle past heard (heard_so_far sent (Some seat) past heard h)))
@@ -230,8 +172,17 @@ module _ (w : World) (s : IsSound w) (sent : ℕ → List ℕ) (whole : (mount :
 
 record Sent (w : World) (sent : ℕ → List ℕ) : Type 0 where
   pub whole : (mount : List ℕ) (session : Session) → session_of w.house.live mount ≡ Some session → session.stream.bytes ≡ sent session.number
+  -- nobody has the number 0
+  pub by_nobody : sent 0 ≡ []
   pub none_yet : (id : ℕ) (peer : Peer) → standing_of w id ≡ Undecided peer → sent id ≡ []
   pub none_above : (id : ℕ) → w.house.last_id < id → sent id ≡ []
+
+-- so is what is heard at a mount that waits: nothing
+whole_heard : (w : World) (sent : ℕ → List ℕ) → Sent w sent → (mount : List ℕ) (session : Session) → heard_at w.house mount ≡ Some session
+    → session.stream.bytes ≡ sent session.number
+whole_heard w sent h mount session hears =
+    heard_cases w.house mount session hears (h.whole mount session)
+    (λ none silent. subst (λ (x : Session). x.stream.bytes ≡ sent x.number) silent (sym h.by_nobody))
 
 module _ (w : World) (s : IsSound w) (sent : ℕ → List ℕ) (h : Sent w sent) where
   -- only a source brings something
@@ -346,6 +297,7 @@ module _ (w : World) (s : IsSound w) (sent : ℕ → List ℕ) (h : Sent w sent)
   unfolding world_after whole_now
   sent_step event = record {
     whole = whole_by event (outcome w event) (way_of w event);
+    by_nobody = nothing 0 h.by_nobody (λ mount f. let unknown : standing_of w 0 ≡ Unknown = s.from_one in cc);
     none_yet = none_yet;
     none_above = λ id high.
         let low = last_rises w s event in
@@ -379,8 +331,8 @@ all_stretches w s sent h id past heard so_far (event ∷ events) =
     let more = λ (n : ℕ). delivered_at w event n in
     let now = λ (n : ℕ). sent n ++ more n in
     let sent_now = sent_step w s sent h event in
-    let heard_now = hears_step w s sent h.whole event more sent_now.whole (Finishes w event id) id (seat_of w.seats id) (seat_of later.seats id) bytes step
-    past heard so_far in
+    let heard_now = hears_step w s sent (whole_heard w sent h) event more (whole_heard later now sent_now) (Finishes w event id) id
+    (seat_of w.seats id) (seat_of later.seats id) bytes step past heard so_far in
     let rest = all_stretches later (sound_after w s event) now sent_now id (past ++ begun) (heard ++ bytes) heard_now events in
     same_stretches (λ n. now n ++ delivered later events n) (λ n. sent n ++ (more n ++ delivered later events n))
     (λ n. append_assoc (sent n) (more n) (delivered later events n)) (past ++ (begun ++ sittings later events id))
@@ -393,4 +345,4 @@ all_stretches w s sent h id past heard so_far (event ∷ events) =
 pub stretches_hold : (settings : Settings) (lists : Lists) (events : List Event) → StretchesAreWhole settings lists events
 stretches_hold settings lists events id =
     all_stretches (opening settings lists) (sound_opening settings lists) (λ n. [])
-    (record { whole = λ mount session e. cc; none_yet = λ n peer e. cc; none_above = λ n h. refl }) id [] [] (Idle [] [] refl) events
+    (record { whole = λ mount session e. cc; by_nobody = refl; none_yet = λ n peer e. cc; none_above = λ n h. refl }) id [] [] (Idle [] [] refl) events

@@ -1,9 +1,8 @@
 -- who is ended at a moment, by which rule
-use Rattle.std.proofs.Common.{◌≡◌, ◌⊎◌, inl, inr, true, false, Bool, ℕ, Option, Some, None, is_some, List, [], ◌∷◌, refl, ap, sym, subst, ◌∙◌}
+use Rattle.std.proofs.Common.{◌≡◌, ◌⊎◌, ◌==◌, inl, inr, true, false, Bool, ℕ, Option, Some, None, is_some, List, [], ◌∷◌, refl, ap, sym, subst, ◌∙◌}
 use Rattle.std.specs.Prelude.{if◌then◌else◌, fold}
 use Rattle.std.specs.Option.{option_map, option_map_or}
 use Rattle.std.specs.Str.{bytes_eq}
-use Rattle.std.proofs.lemmas.Slice.Eq.{bytes_eq-Decides}
 use Rattle.radio_policy.specs.declared.rule.Rule.{Rule}
 use Rattle.radio_policy.specs.declared.rule.Rule.TheVariants.{HeaderTimeout, TimeOver, SourceSilent, NotLive}
 use Rattle.radio_settings.specs.declared.settings.Settings.{Settings}
@@ -16,9 +15,8 @@ use Rattle.radio_seats.specs.declared.seat.Seating.{Seating}
 use Rattle.radio_seats.specs.declared.seat.Seating.TheVariants.{Sits as HasSeat, Finished as HasLostIt}
 use Rattle.radio_seats.proofs.EndLaws.{LosesSeat, have_ended, same_or_loses}
 use Rattle.radio_seats.proofs.SeatLaws.{listener_seated}
-use Rattle.radio_seats.specs.Seats.{listener_of, seat_held, seat_in, seat_of, ended_if, finished_if, without_listener}
+use Rattle.radio_seats.specs.Seats.{listener_of, seat_held, seat_in, seat_of, ended_if, finished_if, without_listener, AreByNumber}
 use Rattle.radio_fallback.specs.declared.moves.Move.TheVariants.{Ended as SessionEnds}
-use Rattle.radio_fallback.specs.declared.moves.Turn.{Turn}
 use Rattle.radio_fallback.specs.declared.moves.Turn.TheVariants.{Stays as TurnStays, GoesTo, IsOut}
 use Rattle.radio_fallback.specs.declared.walking.Found.{Found}
 use Rattle.radio_fallback.specs.declared.walking.Landing.{Landing}
@@ -29,28 +27,29 @@ use Rattle.radio_fallback.proofs.Faring.{Faring, HasStayed, HasGone, HasLost, fa
 use Rattle.radio_fallback.proofs.WalkLaws.{stopped_where_it_begins}
 use Rattle.radio_events.specs.declared.event.Event.TheVariants.{Clock}
 use Rattle.radio_house.specs.declared.clients.ClientState.TheVariants.{Undecided as IsNew, Ended}
-use Rattle.radio_core.specs.declared.outcome.Change.TheVariants.{Nothing, Tick}
 use Rattle.radio_house.specs.declared.standing.Standing.{Standing}
 use Rattle.radio_house.specs.declared.standing.Standing.TheVariants.{Undecided, Feeds, Sits, Finished}
-use Rattle.radio_core.specs.Changes.{changed, session_over, session_ended, before_silence, session_silenced, silent_in, ticked}
+use Rattle.radio_core.specs.Changes.{session_over, session_ended, before_silence, session_silenced, silent_in, ticked}
 use Rattle.radio_house.specs.Clients.{Client, client_of, with_state}
 use Rattle.radio_house.specs.Relays.{Relay, relay_of}
 use Rattle.radio_house.specs.Facts.{sight_of, fallback_of}
 use Rattle.radio_core.specs.Finishes.{Cause, SessionIsOver, IsFarBehind, HasSatOut, HasAskedNothing, HasSentNothing, IsKilled, HisSessionIsKilled, IsNotAccepted}
 use Rattle.radio_core.specs.Moves.{TakesTo, his_turn}
-use Rattle.radio_laws.specs.Outstaying.{IsInTime, IsEndedInOrder, NobodyOutstays}
 use Rattle.radio_parts.specs.Sessions.{Session, session_of}
 use Rattle.radio_core.specs.Sound.{IsSound}
-use Rattle.radio_core.specs.Step.{outcome, world_after}
 use Rattle.radio_parts.specs.Timeouts.{has_sat_out, is_silent}
 use Rattle.radio_house.specs.Timeouts.{asks_too_late, timed_out}
 use Rattle.radio_house.specs.World.{World, standing_of, standing_in}
 use Rattle.radio_core.proofs.Fates.{Fate, GoesOn, IsEnded, HasStopped, IsMoved, HasEnded, Nobody, IsActive, sound_fates, lost_in}
 use Rattle.radio_parts.proofs.SessionLookups.{is_over}
 use Rattle.radio_core.proofs.TickLemmas.{ClockCause, ClockCarries, ClockFates, asking_at, clients_after, timed, sound_timed}
-use Rattle.radio_core.proofs.TickLemmas.{fates_sat_out, IsOnTheWay, at_first, goes_on, live_there, silenced_fates, turned, fates_silence, ticked_fates}
+use Rattle.radio_core.proofs.TickLemmas.{IsOnTheWay, at_first, goes_on, live_there, silenced_fates, turned, ticked_fates}
+use Rattle.radio_core.proofs.HeardApart.{sits_past_zero}
+use Rattle.radio_core.proofs.HeardLemmas.{heard_cases}
+use Rattle.radio_house.specs.Waiting.{is_on_demand}
+use Rattle.radio_laws.proofs.HeardLaws.{nothing_heard}
 use Rattle.radio_laws.proofs.InTime.{in_time}
-use Rattle.radio_laws.proofs.WalkLemmas.{falls_nowhere}
+use Rattle.radio_laws.proofs.StayingOn.{walks_from}
 
 -- the end of sessions leaves the fallbacks as they were set
 pub silence_sets : (sessions : List Session) (v : World) → (fold session_silenced v sessions).house.fallbacks ≡ v.house.fallbacks
@@ -60,7 +59,7 @@ silence_sets (session ∷ sessions) v = silence_sets sessions (session_silenced 
 -- who has finished stays so
 module _ (w : World) (s : IsSound w) (ms : ℕ) (from later : World) (f : ClockFates w s ms from later) (id : ℕ) (rule : Rule)
     (e : standing_of from id ≡ Finished rule) where
-  finished_on : standing_of later id ≡ Finished rule
+  pub finished_on : standing_of later id ≡ Finished rule
   finished_on = by_fate (f.fate id) where
     by_fate : Fate (Cause w (ticked w ms) (Clock ms)) (λ him session. TakesTo w (Clock ms) him session.mount) Nobody HasEnded from later id
         → standing_of later id ≡ Finished rule
@@ -77,7 +76,7 @@ new_in relay listener found client there new = ap (standing_in relay listener) t
   by_state x e = rw e refl
 
 module _ (w : World) (s : IsSound w) (ms : ℕ) where
-  too_late : (id : ℕ) (client : Client) → client_of w.house.clients id ≡ Some client → asks_too_late w.house.settings.limits.header_timeout ms client ≡ true
+  pub too_late : (id : ℕ) (client : Client) → client_of w.house.clients id ≡ Some client → asks_too_late w.house.settings.limits.header_timeout ms client ≡ true
       → standing_of (timed w s ms) id ≡ Finished HeaderTimeout
   too_late id client found late =
       let seconds = w.house.settings.limits.header_timeout in
@@ -88,7 +87,7 @@ module _ (w : World) (s : IsSound w) (ms : ℕ) where
         ends b e = rw e refl
 
   -- a seat that ends when durations are looked at ends by them
-  time_over : (id : ℕ) (seat : Seat) → seat_of w.seats id ≡ Some seat → has_sat_out w.house.settings ms seat ≡ true
+  pub time_over : (id : ℕ) (seat : Seat) → seat_of w.seats id ≡ Some seat → has_sat_out w.house.settings ms seat ≡ true
       → standing_of (before_silence w ms) id ≡ Finished TimeOver
   time_over id seat has out =
       ap (λ l. standing_in relay l client) (have_ended test TimeOver w.seats id ∙ ap (option_map (finished_if test TimeOver)) listener.1)
@@ -127,7 +126,7 @@ module _ (w : World) (s : IsSound w) (ms : ℕ) where
   not_silent mount session e =
       ap (λ settings. is_silent settings.limits.source_timeout ms session) (sym (ticked_fates w s ms).settings) ∙ (in_time w s ms).sources mount session e
 
-  silent_source : (mount : List ℕ) (session : Session) → session_of w.house.live mount ≡ Some session
+  pub silent_source : (mount : List ℕ) (session : Session) → session_of w.house.live mount ≡ Some session
       → is_silent w.house.settings.limits.source_timeout ms session ≡ true → standing_of (ticked w ms) session.number ≡ Finished SourceSilent
   silent_source mount session live silent = by_fate ((ticked_fates w s ms).fate session.number) where
     feeding : standing_of w session.number ≡ Feeds mount
@@ -166,8 +165,57 @@ module _ (w : World) (s : IsSound w) (ms : ℕ) where
         let sat : standing_of w session.number ≡ Sits = s.sitting session.number old had in
         let feeds : standing_of w session.number ≡ Feeds mount = feeding in cc
 
-  -- where a listener's mount has no fallback, he sits there until its session ends, and is finished then
-  module _ (id : ℕ) (seat : Seat) (no_fallback : fallback_of w.house seat.mount ≡ None) where
+  module _ (id : ℕ) (seat : Seat) where
+    -- whoever sits elsewhere keeps his seat when a session ends
+    pub still_there : (during : World) (mount : List ℕ) → AreByNumber during.seats → seat_of during.seats id ≡ Some seat
+        → bytes_eq seat.mount mount ≡ false → seat_of (session_ended during mount).seats id ≡ Some seat
+    still_there during mount order has away =
+        by_fare (fares (sight_of (session_over during mount).house) (SessionEnds mount) during.seats order id) where
+          concerns_another : (old : Seat) → seat_of during.seats id ≡ Some old → bytes_eq old.mount mount ≡ true → {A : Type 0} → A
+          concerns_another old had concerned =
+              let both : Some seat ≡ Some old = sym has ∙ had in
+              let one : seat ≡ old = cc in
+              let there : bytes_eq seat.mount mount ≡ true = ap (λ (x : Seat). bytes_eq x.mount mount) one ∙ concerned in
+              cc
+
+          by_fare : Faring (sight_of (session_over during mount).house) (SessionEnds mount) during.seats id
+              → seat_of (session_ended during mount).seats id ≡ Some seat
+          by_fare (HasStayed stays turn) = ap seat_in stays ∙ has
+          by_fare (HasGone old to turn had concerned fits now) = concerns_another old had concerned
+          by_fare (HasLost old rule turn had concerned now) = concerns_another old had concerned
+
+    -- whose time is not over has his seat when the silent sessions begin to end
+    pub sits_at_first : seat_of w.seats id ≡ Some seat → has_sat_out w.house.settings ms seat ≡ false → seat_of (before_silence w ms).seats id ≡ Some seat
+    sits_at_first has not_out = by_loss (same_or_loses (has_sat_out w.house.settings ms) TimeOver w.seats id) where
+      by_loss : (listener_of (before_silence w ms).seats id ≡ listener_of w.seats id)
+          ⊎ LosesSeat (has_sat_out w.house.settings ms) TimeOver (listener_of w.seats id) (listener_of (before_silence w ms).seats id)
+          → seat_of (before_silence w ms).seats id ≡ Some seat
+      by_loss (inl same) = ap seat_in same ∙ has
+      by_loss (inr loses) =
+          let both : Some loses.seat ≡ Some seat = sym loses.had_a_seat ∙ has in
+          let one : loses.seat ≡ seat = cc in
+          let out : has_sat_out w.house.settings ms seat ≡ true = ap (has_sat_out w.house.settings ms) (sym one) ∙ loses.holds in
+          cc
+
+    -- and where that of his mount was one of them, he does not have it when they have ended
+    pub sits_no_more : (session : Session) → seat_of w.seats id ≡ Some seat → session_of w.house.live seat.mount ≡ Some session
+        → is_silent w.house.settings.limits.source_timeout ms session ≡ true → seat_of (ticked w ms).seats id ≡ Some seat → {A : Type 0} → A
+    sits_no_more session has live silent still =
+        let now = (sound_fates (ClockCause w s ms) (ClockCarries w s ms) Nobody HasEnded w (ticked w ms) s (ticked_fates w s ms)).seated id seat still in
+        heard_cases (ticked w ms).house seat.mount now.session now.is_heard
+        (λ there.
+        let both : Some session ≡ Some now.session = sym live ∙ (ticked_fates w s ms).live seat.mount now.session there in
+        let one : session ≡ now.session = cc in
+        let not : is_silent w.house.settings.limits.source_timeout ms session ≡ false =
+        ap (is_silent w.house.settings.limits.source_timeout ms) one ∙ not_silent seat.mount now.session there in
+        cc)
+        (λ none nothing.
+        let zero : seat.session ≡ 0 = sym now.his_session ∙ sym (ap (λ (x : Session). x.number) nothing) in
+        let no : (0 == 0) ≡ false = ap (λ (n : ℕ). n == 0) (sym zero) ∙ sits_past_zero w s id seat session has live in
+        cc)
+
+  -- where a listener's mount has no fallback, and no relay feeds it on demand, he sits there until its session ends, and is finished then
+  module _ (id : ℕ) (seat : Seat) (no_fallback : fallback_of w.house seat.mount ≡ None) (never : is_on_demand w.house.settings seat.mount ≡ false) where
     -- the seat that he has still, or that he has finished since his mount is not live any more
     abbrev IsStillOrOut : World → Type 0
     IsStillOrOut now = (seat_of now.seats id ≡ Some seat) ⊎ (standing_of now id ≡ Finished NotLive)
@@ -181,23 +229,20 @@ module _ (w : World) (s : IsSound w) (ms : ℕ) where
         let then_seats = at_his_turn sight (SessionEnds mount) during.seats id in
         let others = without_listener then_seats id in
         let sits : seat_of then_seats id ≡ Some seat = ap seat_in (sits_as_before sight (SessionEnds mount) during.seats id) ∙ has in
-        let here : bytes_eq seat.mount mount ≡ true = (bytes_eq-Decides seat.mount mount).1 there in
         let none : sight.fallback mount ≡ None =
         ap (λ (settings : Settings). falls_in settings during.house.fallbacks mount) same
         ∙ ap (λ (fallbacks : List Fallback). falls_in w.house.settings fallbacks mount) set
         ∙ ap (fallback_of w.house) (sym there) ∙ no_fallback in
+        let waits : is_on_demand over.house.settings mount ≡ false =
+        ap (λ (settings : Settings). is_on_demand settings mount) same ∙ ap (is_on_demand w.house.settings) (sym there) ∙ never in
         ap (turn_in sight others (SessionEnds mount)) sits
-        ∙ chosen (bytes_eq seat.mount mount) (walks_on (landing sight others seat.pair mount)) here
+        ∙ walks_from sight others mount seat there
         ∙ stops (landing sight others seat.pair mount)
         (stopped_where_it_begins sight others mount seat.pair none
-        ∙ idle (found_at sight others mount seat.pair) (ap is_some (is_over during.house.live mount))) where
+        ∙ idle (found_at sight others mount seat.pair) (ap is_some (nothing_heard over.house mount waits (is_over during.house.live mount)))) where
           falls_in : Settings → List Fallback → List ℕ → Option (List ℕ)
           falls_in settings fallbacks m =
               option_map_or (λ (x : Fallback). x.fallback) (set_for fallbacks m) (options_for settings m).listeners.fallback_mount
-
-          chosen : (b : Bool) (turn : Turn) → b ≡ true → (if b then turn else TurnStays) ≡ turn
-          chosen true turn e = refl
-          chosen false turn e = cc
 
           idle : (found : Found) → found.is_live ≡ false → stop_of found ≡ Some NotLive
           idle found e = rw e refl
@@ -221,21 +266,6 @@ module _ (w : World) (s : IsSound w) (ms : ℕ) where
         ∙ lost_in (relay_of during.house.relays id) (listener_of during.seats id) id rule (client_of during.house.clients id) (sound.sitting id seat has)
         ∙ ap (λ (r : Rule). Finished r) (sym one)
 
-    still_there : (during : World) (mount : List ℕ) → IsSound during → seat_of during.seats id ≡ Some seat → bytes_eq seat.mount mount ≡ false
-        → Faring (sight_of (session_over during mount).house) (SessionEnds mount) during.seats id
-        → seat_of (session_ended during mount).seats id ≡ Some seat
-    still_there during mount sound has away (HasStayed stays turn) = ap seat_in stays ∙ has
-    still_there during mount sound has away (HasGone old to turn had concerned fits now) =
-        let both : Some seat ≡ Some old = sym has ∙ had in
-        let one : seat ≡ old = cc in
-        let there : bytes_eq seat.mount mount ≡ true = ap (λ (x : Seat). bytes_eq x.mount mount) one ∙ concerned in
-        cc
-    still_there during mount sound has away (HasLost old rule turn had concerned now) =
-        let both : Some seat ≡ Some old = sym has ∙ had in
-        let one : seat ≡ old = cc in
-        let there : bytes_eq seat.mount mount ≡ true = ap (λ (x : Seat). bytes_eq x.mount mount) one ∙ concerned in
-        cc
-
     -- after a silent session has ended
     after_silence : (session : Session) (sessions : List Session) (during : World) (way : IsOnTheWay w s ms (session ∷ sessions) during)
         → IsStillOrOut during → IsStillOrOut (session_silenced during session)
@@ -250,7 +280,7 @@ module _ (w : World) (s : IsSound w) (ms : ℕ) where
         (λ his. absurd (no_source his))
         (λ other. inr ((turned w s ms session sessions during way).others id other
         ∙ out_by_fare during mount way.sound way.so_far.settings set_then has there fare)))
-        (λ away. inl (still_there during mount way.sound has away fare)) where
+        (λ away. inl (still_there id seat during mount way.sound.by_number has away)) where
           set_then : during.house.fallbacks ≡ w.house.fallbacks
           set_then = ap (λ (v : World). v.house.fallbacks) way.have_ended ∙ silence_sets way.before (before_silence w ms)
 
@@ -267,46 +297,11 @@ module _ (w : World) (s : IsSound w) (ms : ℕ) where
     keeps (session ∷ sessions) during way holds =
         keeps sessions (session_silenced during session) (goes_on w s ms session sessions during way) (after_silence session sessions during way holds)
 
-    left_there : (session : Session) → seat_of w.seats id ≡ Some seat → has_sat_out w.house.settings ms seat ≡ false
+    pub left_there : (session : Session) → seat_of w.seats id ≡ Some seat → has_sat_out w.house.settings ms seat ≡ false
         → session_of w.house.live seat.mount ≡ Some session → is_silent w.house.settings.limits.source_timeout ms session ≡ true
         → standing_of (ticked w ms) id ≡ Finished NotLive
     left_there session has not_out live silent =
-        by_end (keeps (silent_in (before_silence w ms)) (before_silence w ms) (at_first w s ms)
-        (inl (by_loss (same_or_loses (has_sat_out w.house.settings ms) TimeOver w.seats id)))) where
-          by_loss : (listener_of (before_silence w ms).seats id ≡ listener_of w.seats id)
-              ⊎ LosesSeat (has_sat_out w.house.settings ms) TimeOver (listener_of w.seats id) (listener_of (before_silence w ms).seats id)
-              → seat_of (before_silence w ms).seats id ≡ Some seat
-          by_loss (inl same) = ap seat_in same ∙ has
-          by_loss (inr loses) =
-              let both : Some loses.seat ≡ Some seat = sym loses.had_a_seat ∙ has in
-              let one : loses.seat ≡ seat = cc in
-              let out : has_sat_out w.house.settings ms seat ≡ true = ap (has_sat_out w.house.settings ms) (sym one) ∙ loses.holds in
-              cc
-
+        by_end (keeps (silent_in (before_silence w ms)) (before_silence w ms) (at_first w s ms) (inl (sits_at_first id seat has not_out))) where
           by_end : IsStillOrOut (ticked w ms) → standing_of (ticked w ms) id ≡ Finished NotLive
           by_end (inr out) = out
-          by_end (inl still) =
-              let now = (sound_fates (ClockCause w s ms) (ClockCarries w s ms) Nobody HasEnded w (ticked w ms) s (ticked_fates w s ms)).seated id seat still in
-              let both : Some session ≡ Some now.session = sym live ∙ (ticked_fates w s ms).live seat.mount now.session now.is_live in
-              let one : session ≡ now.session = cc in
-              let not : is_silent w.house.settings.limits.source_timeout ms session ≡ false =
-              ap (is_silent w.house.settings.limits.source_timeout ms) one ∙ not_silent seat.mount now.session now.is_live in
-              cc
-
-  ended_in_order : IsEndedInOrder w (ticked w ms) ms
-  ended_in_order = record {
-    clients = λ id client found late.
-        finished_on w s ms (before_silence w ms) (ticked w ms) (fates_silence w s ms) id HeaderTimeout
-        (finished_on w s ms (timed w s ms) (before_silence w ms) (fates_sat_out w s ms) id HeaderTimeout (too_late id client found late));
-    seats = λ id seat has out. finished_on w s ms (before_silence w ms) (ticked w ms) (fates_silence w s ms) id TimeOver (time_over id seat has out);
-    sources = silent_source;
-    listeners = λ id seat session has not_out live silent nowhere. left_there id seat (falls_nowhere w seat.mount nowhere) session has not_out live silent;
-  }
-
-  pub nobody_outstays : NobodyOutstays w ms
-  unfolding world_after outcome
-  nobody_outstays = record {
-    earlier = λ e. ap (λ (b : Bool). changed w (if b then Nothing else Tick ms)) e;
-    later = λ e. subst (λ (b : Bool). IsInTime (changed w (if b then Nothing else Tick ms)) ms) (sym e) (in_time w s ms);
-    in_order = λ e. subst (λ (b : Bool). IsEndedInOrder w (changed w (if b then Nothing else Tick ms)) ms) (sym e) ended_in_order;
-  }
+          by_end (inl still) = sits_no_more id seat session has live silent still

@@ -54,6 +54,8 @@ use Rattle.radio_core.proofs.SoundTitles.{titled_cases}
 use Rattle.radio_core.proofs.TickLemmas.{ticked_fates}
 use Rattle.radio_core.proofs.Ways.{way_of}
 use Rattle.radio_core.specs.Closing.{Closes, OfClient, OfRelay}
+use Rattle.radio_core.proofs.HeardLemmas.{heard_cases}
+use Rattle.radio_house.specs.Waiting.{heard_at}
 
 -- the last of a list with one more
 last_is : {A : Type 0} (o : Option A) (xs : List A) (x : A) → last_or o (xs ++ x ∷ []) ≡ Some x
@@ -63,12 +65,22 @@ last_is o (y ∷ xs) x = last_is (Some y) xs x
 -- the last titles that were set so far are those that the sessions have
 record Told (w : World) (told : ℕ → List (List ℕ)) : Type 0 where
   pub last : (mount : List ℕ) (session : Session) → session_of w.house.live mount ≡ Some session → session.title ≡ last_or None (told session.number)
+  -- nobody has the number 0
+  pub by_nobody : told 0 ≡ []
   pub none_yet : (id : ℕ) (peer : Peer) → standing_of w id ≡ Undecided peer → told id ≡ []
   pub none_above : (id : ℕ) → w.house.last_id < id → told id ≡ []
+
+-- where nobody feeds no title is heard
+told_heard : (w : World) (told : ℕ → List (List ℕ)) → Told w told → (mount : List ℕ) (session : Session) → heard_at w.house mount ≡ Some session
+    → session.title ≡ last_or None (told session.number)
+told_heard w told h mount session hears =
+    heard_cases w.house mount session hears (h.last mount session)
+    (λ none silent. subst (λ (x : Session). x.title ≡ last_or None (told x.number)) silent (ap (λ xs. last_or None xs) (sym h.by_nobody)))
 
 told_as : (w : World) (told now : ℕ → List (List ℕ)) → ((n : ℕ) → told n ≡ now n) → Told w told → Told w now
 told_as w told now same h = record {
   last = λ mount session e. h.last mount session e ∙ ap (λ xs. last_or None xs) (same session.number);
+  by_nobody = sym (same 0) ∙ h.by_nobody;
   none_yet = λ id peer e. sym (same id) ∙ h.none_yet id peer e;
   none_above = λ id high. sym (same id) ∙ h.none_above id high;
 }
@@ -307,6 +319,7 @@ module _ (w : World) (s : IsSound w) (told : ℕ → List (List ℕ)) (h : Told 
   unfolding world_after reply_to last_now
   told_step event = record {
     last = last_by event (outcome w event) (way_of w event);
+    by_nobody = nothing 0 h.by_nobody (λ mount f. let unknown : standing_of w 0 ≡ Unknown = s.from_one in cc);
     none_yet = λ id peer e. none_yet id (undecided_before w s event id peer e);
     none_above = λ id high.
         let low = last_rises w s event in
@@ -335,7 +348,7 @@ told_all w s told h (event ∷ events) =
 told_run : (settings : Settings) (lists : Lists) (events : List Event) → Told (run_after settings lists events) (titles_set (opening settings lists) events)
 told_run settings lists events =
     told_all (opening settings lists) (sound_opening settings lists) (λ n. [])
-    (record { last = λ mount session e. cc; none_yet = λ n peer e. cc; none_above = λ n h. refl }) events
+    (record { last = λ mount session e. cc; by_nobody = refl; none_yet = λ n peer e. cc; none_above = λ n h. refl }) events
 
 pub titles_hold : (settings : Settings) (lists : Lists) (events : List Event) (event : Event) → TitlesAreTold settings lists events event
 titles_hold settings lists events event bytes title d =
@@ -343,7 +356,7 @@ titles_hold settings lists events event bytes title d =
     let sound = sound_run settings lists events in
     let his = access_holds w sound (lists_run settings lists events) (within_run settings lists events) event bytes title d in
     let old = sound.seated his.id his.seat his.has_the_seat in
-    let both : Some old.session ≡ Some his.session = sym old.is_live ∙ his.is_live in
+    let both : Some old.session ≡ Some his.session = sym old.is_heard ∙ his.is_heard in
     let one : old.session ≡ his.session = cc in
     let number : his.session.number ≡ his.seat.session = ap (λ (x : Session). x.number) (sym one) ∙ old.his_session in
     record {
@@ -352,6 +365,7 @@ titles_hold settings lists events event bytes title d =
       asked = his.asked;
       seat = his.seat;
       has_the_seat = his.has_the_seat;
-      is_last = his.is_title ∙ (told_run settings lists events).last his.seat.mount his.session his.is_live
+      is_last = his.is_title
+          ∙ told_heard w (titles_set (opening settings lists) events) (told_run settings lists events) his.seat.mount his.session his.is_heard
           ∙ ap (λ (n : ℕ). last_title (opening settings lists) events n) number;
     }

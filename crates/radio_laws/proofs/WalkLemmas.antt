@@ -16,10 +16,11 @@ use Rattle.radio_fallback.proofs.WalkLaws.{walks_ten}
 use Rattle.radio_events.specs.declared.event.ListenRequest.{ListenRequest}
 use Rattle.radio_house.specs.Facts.{sight_of, walks_to, fallback_of}
 use Rattle.radio_house.specs.Fallbacks.{Fallback, set_for}
-use Rattle.radio_parts.specs.Sessions.{Session, session_of}
+use Rattle.radio_parts.specs.Sessions.{Session}
 use Rattle.radio_house.specs.World.{World}
 use Rattle.radio_laws.specs.Limits.{IsFullAt, most_at}
 use Rattle.radio_laws.specs.Walks.{FallsBack, ByTheSettings, ByACommand, GoesOn, HasNoSource, IsFull, ComesBy, AtFirst, Next}
+use Rattle.radio_house.specs.Waiting.{heard_at}
 
 -- as many sit there as may
 pub full_at : (w : World) (mount : List ℕ) (limit : Option ℕ) → most_at w mount ≡ limit → is_full (length (seats_at w.seats mount)) limit ≡ true
@@ -56,10 +57,10 @@ module _ (w : World) (pair : Option Credentials) where
   sight = sight_of w.house
 
   -- where a mount hands on to the next, it does so by its settings
-  hands_by : (mount next : List ℕ) (live full : Bool) → is_some (session_of w.house.live mount) ≡ live → is_full_for sight w.seats mount ≡ full
+  hands_by : (mount next : List ℕ) (live full : Bool) → is_some (heard_at w.house mount) ≡ live → is_full_for sight w.seats mount ≡ full
       → (if not live || full && (options_for w.house.settings mount).listeners.fallback_when_full
       then fallback_of w.house mount else None) ≡ Some next → GoesOn w mount next
-  hands_by mount next false full l f e = HasNoSource (falls_back w mount next e) (none_there (session_of w.house.live mount) l)
+  hands_by mount next false full l f e = HasNoSource (falls_back w mount next e) (none_there (heard_at w.house mount) l)
   hands_by mount next true true l f e = by_flag (options_for w.house.settings mount).listeners.fallback_when_full refl e where
     by_flag : (b : Bool) → (options_for w.house.settings mount).listeners.fallback_when_full ≡ b
         → (if b then fallback_of w.house mount else None) ≡ Some next → GoesOn w mount next
@@ -68,7 +69,7 @@ module _ (w : World) (pair : Option Credentials) where
   hands_by mount next true false l f e = cc
 
   goes_on : (mount next : List ℕ) → next_mount sight w.seats mount ≡ Some next → GoesOn w mount next
-  goes_on mount next e = hands_by mount next (is_some (session_of w.house.live mount)) (is_full_for sight w.seats mount) refl refl e
+  goes_on mount next e = hands_by mount next (is_some (heard_at w.house mount)) (is_full_for sight w.seats mount) refl refl e
 
   module _ (asked : List ℕ) where
     -- how a walk ends that may look at so many mounts

@@ -6,12 +6,13 @@ use Rattle.radio_seats.specs.declared.seat.Seat.{Seat}
 use Rattle.radio_house.specs.declared.standing.Standing.TheVariants.{Sits}
 use Rattle.radio_laws.specs.Open.{IsOpenTo}
 use Rattle.radio_seats.specs.Seats.{seat_of}
-use Rattle.radio_parts.specs.Sessions.{Session, session_of}
+use Rattle.radio_parts.specs.Sessions.{Session}
 use Rattle.radio_core.specs.Step.{reply_to}
 use Rattle.radio_parts.specs.Stream.{data_at}
 use Rattle.radio_house.specs.World.{World, standing_of}
+use Rattle.radio_house.specs.Waiting.{heard_at}
 
--- these bytes are the listener's to hear, who draws: they stand at his place in the stream of the mount where he sits, that mount is open to him, and the
+-- these bytes are the listener's to hear, who draws: they stand at his place in what is heard at the mount where he sits, that mount is open to him, and the
 -- title is the one it has
 pub record IsHis (w : World) (event : Event) (bytes : List ℕ) (title : Option (List ℕ)) : Type 0 where
   pub id : ℕ
@@ -21,7 +22,7 @@ pub record IsHis (w : World) (event : Event) (bytes : List ℕ) (title : Option 
   pub session : Session
   pub sits : standing_of w id ≡ Sits
   pub has_the_seat : seat_of w.seats id ≡ Some seat
-  pub is_live : session_of w.house.live seat.mount ≡ Some session
+  pub is_heard : heard_at w.house seat.mount ≡ Some session
   pub is_data : bytes ≡ data_at session.stream seat.place room
   pub is_title : title ≡ session.title
   pub is_open : IsOpenTo w id seat

@@ -14,7 +14,9 @@ use Rattle.radio_core.specs.Step.{reply_to, world_after}
 use Rattle.radio_parts.specs.Stream.{WholeStream, end_of}
 use Rattle.radio_house.specs.World.{World, standing_of}
 use Rattle.radio_access.specs.Lists.{lets_in}
+use Rattle.radio_laws.specs.OnDemand.{IsFedOnDemand}
 use Rattle.radio_laws.specs.Walks.{ComesBy}
+use Rattle.radio_house.specs.Waiting.{heard_at}
 
 -- a block starts at the place, or it is the end, where the next one will
 abbrev pub IsBlockStart : WholeStream → ℕ → Type 0
@@ -27,13 +29,14 @@ pub record IsEarliestStart (stream : WholeStream) (burst queue place : ℕ) : Ty
   pub in_the_queue : end_of stream - place ≤ queue
   pub earliest : (other : ℕ) → IsBlockStart stream other → end_of stream - other ≤ burst → end_of stream - other ≤ queue → place ≤ other
 
--- the listener has a seat in the session of a mount by which his walk came, which was live when he asked and let him in, is shown what it shows, and begins at
--- the earliest block start that this mount's `burst-size` and the `queue-size` allow
+-- the listener has a seat in the session of a mount by which his walk came, which was live when he asked, or waited for a session, since a relay feeds it on
+-- demand, and let him in, is shown what it shows, and begins at the earliest block start that this mount's `burst-size` and the `queue-size` allow
 pub record IsSeated (w : World) (event : Event) (interval : Option ℕ) (head : StreamHead) : Type 0 where
   pub asked : ListenRequest
   pub listens : event ≡ Listen asked
   pub session : Session
-  pub is_live : session_of w.house.live session.mount ≡ Some session
+  pub is_heard : heard_at w.house session.mount ≡ Some session
+  pub is_awaited : session_of w.house.live session.mount ≡ None → IsFedOnDemand w.house.settings session.mount
   pub shows : head.shown ≡ session.shown
   -- as those may read it whom the settings allow
   pub readers : head.allow_origin ≡ w.house.settings.web.allow_origin

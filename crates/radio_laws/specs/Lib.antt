@@ -2,6 +2,7 @@ pub mod Denials
 pub mod FinishesTold
 pub mod Limits
 pub mod Walks
+pub mod OnDemand
 pub mod Commanded
 pub mod LimitDenials
 pub mod Open

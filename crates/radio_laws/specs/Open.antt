@@ -2,15 +2,16 @@ use Rattle.std.specs.Prelude.{◌≡◌, ℕ, true, false, Some, List}
 use Rattle.radio_access.specs.Lists.{passes, lets_in}
 use Rattle.radio_seats.specs.declared.seat.Seat.{Seat}
 use Rattle.radio_laws.specs.Limits.{SentUser, SitsThereAs, allows_duplicates_at}
-use Rattle.radio_parts.specs.Sessions.{Session, session_of}
+use Rattle.radio_parts.specs.Sessions.{Session}
 use Rattle.radio_house.specs.World.{World}
+use Rattle.radio_house.specs.Waiting.{heard_at}
 
--- the mount where the listener of this number sits is open to him: it is live, in the session in which he was seated; his address
--- passes the address lists; the mount has no users, or they accept the pair that he sent; and where each user may sit once, nobody
--- else who sits there sent his user
+-- the mount where the listener of this number sits is open to him: it is live, in the session in which he was seated, or waits for one, as he does; his
+-- address passes the address lists; the mount has no users, or they accept the pair that he sent; and where each user may sit once, nobody else who sits
+-- there sent his user
 pub record IsOpenTo (w : World) (id : ℕ) (seat : Seat) : Type 0 where
   pub session : Session
-  pub is_live : session_of w.house.live seat.mount ≡ Some session
+  pub is_heard : heard_at w.house seat.mount ≡ Some session
   pub his_session : session.number ≡ seat.session
   pub passes_lists : passes w.house.lists seat.peer ≡ true
   pub is_let_in : lets_in w.house.lists seat.mount seat.pair ≡ true

@@ -11,6 +11,7 @@ use Rattle.radio_parts.specs.Timeouts.{has_sat_out, is_silent}
 use Rattle.radio_house.specs.Timeouts.{asks_too_late}
 use Rattle.radio_house.specs.declared.standing.Standing.TheVariants.{Finished}
 use Rattle.radio_policy.specs.declared.rule.Rule.TheVariants.{HeaderTimeout, TimeOver, SourceSilent, NotLive}
+use Rattle.radio_house.specs.Waiting.{is_on_demand}
 use Rattle.radio_house.specs.World.{World, standing_of}
 
 -- at this moment no seat has had its time, no client who has asked for nothing, and no source that has sent nothing
@@ -23,7 +24,7 @@ pub record IsInTime (w : World) (ms : ℕ) : Type 0 where
 
 -- who is ended at this moment, by which rule: first whoever has asked for nothing in his time, then whoever has sat as long as his mount allows, also where
 -- his session ends as well, and then the sources that have sent nothing in their time, with those who are left at their mounts where these have no
--- fallback
+-- fallback and wait for no other session; where a relay feeds one on demand, they wait there
 pub record IsEndedInOrder (w later : World) (ms : ℕ) : Type 0 where
   pub clients : (id : ℕ) (client : Client) → client_of w.house.clients id ≡ Some client
       → asks_too_late w.house.settings.limits.header_timeout ms client ≡ true → standing_of later id ≡ Finished HeaderTimeout
@@ -33,7 +34,10 @@ pub record IsEndedInOrder (w later : World) (ms : ℕ) : Type 0 where
       → is_silent w.house.settings.limits.source_timeout ms session ≡ true → standing_of later session.number ≡ Finished SourceSilent
   pub listeners : (id : ℕ) (seat : Seat) (session : Session) → seat_of w.seats id ≡ Some seat → has_sat_out w.house.settings ms seat ≡ false
       → session_of w.house.live seat.mount ≡ Some session → is_silent w.house.settings.limits.source_timeout ms session ≡ true
-      → ((next : List ℕ) → FallsBack w seat.mount next → ⊥) → standing_of later id ≡ Finished NotLive
+      → ((next : List ℕ) → FallsBack w seat.mount next → ⊥) → is_on_demand w.house.settings seat.mount ≡ false → standing_of later id ≡ Finished NotLive
+  pub waiting : (id : ℕ) (seat : Seat) (session : Session) → seat_of w.seats id ≡ Some seat → has_sat_out w.house.settings ms seat ≡ false
+      → session_of w.house.live seat.mount ≡ Some session → is_silent w.house.settings.limits.source_timeout ms session ≡ true
+      → is_on_demand w.house.settings seat.mount ≡ true → seat_of later.seats id ≡ Some (record seat { session = 0; place = 0 })
 
 -- a moment that has passed changes nothing, and any other is in time for all who are there then
 pub record NobodyOutstays (w : World) (ms : ℕ) : Type 0 where

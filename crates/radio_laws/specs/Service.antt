@@ -22,14 +22,15 @@ use Rattle.radio_house.specs.declared.clients.ClientState.TheVariants.{Undecided
 use Rattle.radio_house.specs.World.{World, standing_of, has_relay}
 use Rattle.radio_settings.specs.declared.field.Shown.{Shown}
 use Rattle.radio_laws.specs.Walks.{ComesBy}
+use Rattle.radio_house.specs.Waiting.{heard_at}
 
--- a listener was seated in the session of a mount by which a walk comes from the one that he asked for, and shown what it shows
+-- a listener was seated in the session of a mount, or where one is awaited, by which a walk comes from the one that he asked for, and shown what it shows
 pub record IsTakenIn (w : World) (asked : ListenRequest) : Type 0 where
   pub session : Session
   pub steps : ℕ
   pub not_too_far : steps < 10
   pub on_his_way : ComesBy w asked.mount steps session.mount
-  pub is_live : session_of w.house.live session.mount ≡ Some session
+  pub is_heard : heard_at w.house session.mount ≡ Some session
   pub head : StreamHead
   pub is_shown : reply_to w (Listen asked) ≡ Seated (interval_for w.house asked.mount asked.wants_metadata) head
   pub shows : head.shown ≡ session.shown
@@ -41,7 +42,7 @@ pub record IsHanded (w : World) (id room : ℕ) : Type 0 where
   pub seat : Seat
   pub has_the_seat : seat_of w.seats id ≡ Some seat
   pub session : Session
-  pub is_live : session_of w.house.live seat.mount ≡ Some session
+  pub is_heard : heard_at w.house seat.mount ≡ Some session
   pub is_handed : reply_to w (Draw id room) ≡ Drawn (data_at session.stream seat.place room) session.title
   pub all_there : length (data_at session.stream seat.place room) ≡ min room (end_of session.stream - seat.place)
   pub goes_on : seat_of (world_after w (Draw id room)).seats id ≡ Some (record seat { place = seat.place + min room (end_of session.stream - seat.place) })

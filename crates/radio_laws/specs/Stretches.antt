@@ -9,9 +9,10 @@ use Rattle.radio_seats.specs.Seats.{seat_of}
 use Rattle.radio_parts.specs.Sessions.{Session, session_of}
 use Rattle.radio_core.specs.Step.{world_after}
 use Rattle.radio_core.specs.Moves.{TakesTo}
-use Rattle.radio_core.specs.SeatSteps.{IsSent}
+use Rattle.radio_core.specs.SeatSteps.{ComesUpOn, IsSent}
 use Rattle.radio_parts.specs.Stream.{end_of}
 use Rattle.radio_house.specs.World.{World, opening}
+use Rattle.radio_house.specs.Waiting.{heard_at}
 
 -- what stands between two places of some data
 abbrev pub between : ℕ → ℕ → List ℕ → List ℕ
@@ -48,14 +49,17 @@ abbrev pub StretchesAreWhole : Settings → Lists → List Event → Type 0
 StretchesAreWhole settings lists events = (id : ℕ) → AreStretches (delivered (opening settings lists) events) (sittings (opening settings lists) events id)
     (handed (opening settings lists) events id)
 
--- through an event, a listener who keeps a seat keeps all of it but his place, which does not go back; or a move that the event brings has taken him, at his
--- turn, to the end of the stream of the mount where his walk landed, and all else of his seat stays: the session in which he sat is over, or he is called
--- home; and a seat is in the session that its mount has
+-- through an event, a listener who keeps a seat keeps all of it but his place, which does not go back; or a session begins at his mount, which waited for
+-- one, and he hears it from its start; or a move that the event brings has taken him, at his turn, to the end of the stream of the mount where his walk
+-- landed, and all else of his seat stays: the session in which he sat is over, or he is called home; and a seat is in the session that its mount has, or
+-- waits for one
 pub record KeepsItsMount (w : World) (event : Event) (id : ℕ) (seat : Seat) : Type 0 where
   pub session : Session
-  pub is_live : session_of (world_after w event).house.live seat.mount ≡ Some session
+  pub is_heard : heard_at (world_after w event).house seat.mount ≡ Some session
   pub in_the_session : seat.session ≡ session.number
   pub kept : (old : Seat) → seat_of w.seats id ≡ Some old → ((seat ≡ record old { place = seat.place }) × (old.place ≤ seat.place))
+      ⊎ (ComesUpOn event old.mount × (session_of w.house.live old.mount ≡ None) × (session.stream.bytes ≡ [])
+      × (seat ≡ record old { session = session.number; place = 0 }))
       ⊎ (TakesTo w event id seat.mount × IsSent w (world_after w event) event old seat.mount
       × (seat ≡ record old { mount = seat.mount; session = session.number; place = end_of session.stream }))
 

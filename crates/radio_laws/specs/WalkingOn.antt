@@ -1,5 +1,5 @@
 -- What a move makes of each listener, by what stands at his turn.
-use Rattle.std.specs.Prelude.{◌≡◌, ℕ, List, Some}
+use Rattle.std.specs.Prelude.{◌≡◌, ℕ, true, List, Some}
 use Rattle.radio_policy.specs.declared.rule.Rule.{Rule}
 use Rattle.radio_fallback.specs.declared.moves.Move.{Move}
 use Rattle.radio_fallback.specs.declared.moves.Move.TheVariants.{Ended, To}
@@ -16,20 +16,24 @@ use Rattle.radio_core.specs.Changes.{carried_along, session_over}
 use Rattle.radio_core.specs.Closing.{Closes}
 use Rattle.radio_core.specs.Allowed.{IsCommanded}
 use Rattle.radio_core.specs.Moves.{Brings, his_turn}
-use Rattle.radio_parts.specs.Sessions.{Session, session_of}
+use Rattle.radio_parts.specs.Sessions.{Session}
 use Rattle.radio_core.specs.Step.{world_after}
 use Rattle.radio_parts.specs.Stream.{end_of}
 use Rattle.radio_house.specs.World.{World}
+use Rattle.radio_house.specs.Waiting.{heard_at, is_on_demand}
 
 -- one who had this seat before the move: he goes on at the end of the stream of the mount to which his turn takes him, or has finished by the rule that leaves
--- him out, or keeps his seat; and where the session of his mount has ended he does not stay
+-- him out, or keeps his seat; and where the session of his mount has ended he does not stay as he was, but at a mount that a relay feeds on demand he goes
+-- on, to wait there for the next one
 pub record FaresByHisTurn (before : World) (move : Move) (id : ℕ) (seat : Seat) : Type 0 where
-  pub goes : (mount : List ℕ) → his_turn before move id ≡ GoesTo mount → (session : Session) × (session_of before.house.live mount ≡ Some session)
+  pub goes : (mount : List ℕ) → his_turn before move id ≡ GoesTo mount → (session : Session) × (heard_at before.house mount ≡ Some session)
       × (seat_of (carried_along before move).seats id ≡ Some (record seat { mount = mount; session = session.number; place = end_of session.stream }))
   pub is_out : (rule : Rule) → his_turn before move id ≡ IsOut rule
       → listener_of (carried_along before move).seats id ≡ Some (record { id = id; seating = Finished rule })
   pub stays : his_turn before move id ≡ Stays → seat_of (carried_along before move).seats id ≡ Some seat
   pub leaves : (mount : List ℕ) → move ≡ Ended mount → seat.mount ≡ mount → his_turn before move id ≡ Stays → ⊥
+  pub waits : (mount : List ℕ) → move ≡ Ended mount → seat.mount ≡ mount → is_on_demand before.house.settings mount ≡ true
+      → his_turn before move id ≡ GoesTo mount
 
 -- a move that an event brings makes of each listener what his turn has in store for him
 abbrev pub ListenersWalkOn : World → Event → Type 0

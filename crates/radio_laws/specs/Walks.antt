@@ -2,19 +2,19 @@
 use Rattle.std.specs.Prelude.{◌≡◌, ℕ, suc, true, List, Some, None}
 use Rattle.radio_settings.specs.Options.{options_for}
 use Rattle.radio_house.specs.Fallbacks.{Fallback, set_for}
-use Rattle.radio_parts.specs.Sessions.{session_of}
 use Rattle.radio_house.specs.World.{World}
 use Rattle.radio_laws.specs.Limits.{IsFullAt}
+use Rattle.radio_house.specs.Waiting.{heard_at}
 
 -- the listeners of the mount fall back to the next one: `fallback-mount` names it and no command has said otherwise, or a command has said so
 pub data FallsBack (w : World) (mount next : List ℕ) : Type 0 where
   ByTheSettings : (options_for w.house.settings mount).listeners.fallback_mount ≡ Some next → set_for w.house.fallbacks mount ≡ None → FallsBack w mount next
   ByACommand : (set : Fallback) → set_for w.house.fallbacks mount ≡ Some set → set.fallback ≡ Some next → FallsBack w mount next
 
--- a walk goes on from the mount to the next one, to which its listeners fall back: the mount has no source, or as many sit there as may and
+-- a walk goes on from the mount to the next one, to which its listeners fall back: the mount has no source and waits for none, or as many sit there as may and
 -- `fallback-when-full` is set
 pub data GoesOn (w : World) (mount next : List ℕ) : Type 0 where
-  HasNoSource : FallsBack w mount next → session_of w.house.live mount ≡ None → GoesOn w mount next
+  HasNoSource : FallsBack w mount next → heard_at w.house mount ≡ None → GoesOn w mount next
   IsFull : FallsBack w mount next
       → (options_for w.house.settings mount).listeners.fallback_when_full ≡ true → IsFullAt w mount → GoesOn w mount next
 

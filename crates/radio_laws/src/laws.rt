@@ -16,6 +16,7 @@ ghost use Rattle.radio_laws.specs.Limits.{IsWithinLimits, AdmitsByLimits};
 ghost use Rattle.radio_laws.specs.LimitDenials.{DeniesByLimits};
 ghost use Rattle.radio_laws.specs.Admission.{BeginsAtABlock};
 ghost use Rattle.radio_laws.specs.Service.{Serves, ChangesNothing};
+ghost use Rattle.radio_laws.specs.OnDemand.{WaitsOnDemand, WantedAreSatAt};
 ghost use Rattle.radio_laws.specs.Stretches.{StretchesAreWhole, SeatsKeepTheirMounts};
 ghost use Rattle.radio_laws.specs.WalkingOn.{ListenersWalkOn, MovesAreWhole};
 ghost use Rattle.radio_laws.specs.Commanded.{OnlyWhoMayCommands, WhoMayIsServed, CommandsAreKept, FallbacksStay, KilledHearNothing};
@@ -73,9 +74,18 @@ pub fn limits_are_kept()
 /// The law of admission.
 pub fn listeners_begin_at_a_block()
     // whatever has happened, only who asks to hear a mount is seated, in the session that the mount
-    // has then, and he begins at the earliest start of one of its blocks, or at its end, that his
-    // burst allows
+    // has then, or waits for, and he begins at the earliest start of one of its blocks, or at its
+    // end, that his burst allows
     ensures seated { (settings : Settings) (lists : Lists) (events : List Event) (event : Event) → BeginsAtABlock (run_after settings lists events) event }
+{}
+
+/// The law of waiting.
+pub fn mounts_wait_on_demand()
+    // a mount without a session waits for one only where a relay of the settings feeds it on demand, and does wait where
+    // all do that feed it
+    ensures waits { (settings : Settings) (mount : List ℕ) → WaitsOnDemand settings mount }
+    // and whatever has happened, wanted are the mounts where somebody sits that a relay feeds on demand, and no others
+    ensures wanted { (settings : Settings) (lists : Lists) (events : List Event) → WantedAreSatAt (run_after settings lists events) }
 {}
 
 /// The law of service.
@@ -95,7 +105,8 @@ pub fn stretches_are_whole()
     // each a contiguous slice, without gap or repeat, of what the source delivered in whose session
     // he sat
     ensures stretches { (settings : Settings) (lists : Lists) (events : List Event) → StretchesAreWhole settings lists events }
-    // and through each event a listener who keeps a seat keeps all of it but his place, and does not go back
+    // and through each event a listener who keeps a seat keeps all of it but his place, and does not go back; or a session
+    // begins where he waited for one, and he hears it from its start; or a move takes him to the end of another stream
     ensures mounts { (settings : Settings) (lists : Lists) (events : List Event) (event : Event)
         → SeatsKeepTheirMounts (run_after settings lists events) event }
 {}
@@ -104,7 +115,8 @@ pub fn stretches_are_whole()
 pub fn listeners_walk_on()
     // whatever has happened, a move that an event brings takes each listener, in the order of their numbers and by what stands
     // at his turn, to the end of the stream of the mount where his walk lands, or finishes him by the rule that stops it, or
-    // leaves him where he is; and nobody stays whose mount's session has ended
+    // leaves him where he is; and nobody stays as he was whose mount's session has ended, but at a mount that a relay feeds on
+    // demand he goes on, to wait for the next one
     ensures turns { (settings : Settings) (lists : Lists) (events : List Event) (event : Event)
         → ListenersWalkOn (run_after settings lists events) event }
     // and where a source comes up, ends or leaves, or a command moves listeners or ends a session, that is all that becomes of the seats
@@ -176,7 +188,8 @@ pub fn nobody_outstays()
     // whatever has happened, a moment that has passed changes nothing; and when any other was
     // heard, no listener is there who has sat as long as his mount allows, no client who has asked
     // for nothing in the time for it, and no source that has sent nothing in the time for it
-    // and each of them is ended by his own rule: who has sat out his time by `time-over`, also where his session ends as well
+    // and each of them is ended by his own rule: who has sat out his time by `time-over`, also where his session ends as well;
+    // and who sits at a mount that a relay feeds on demand waits there where its session ends
     ensures in_time { (settings : Settings) (lists : Lists) (events : List Event) (ms : ℕ) → NobodyOutstays (run_after settings lists events) ms }
     // and what that time is, and how far behind is too far, in numbers
     ensures tests { TestsAreInNumbers }

@@ -12,7 +12,7 @@ use radio_book::{Chronicle, House};
 use radio_hall::Hall;
 use radio_lines::Reach;
 use radio_relay::{RelayOrder, plan};
-use radio_settings::{RelaySetting, Settings};
+use radio_settings::{MountName, RelaySetting, Settings};
 use std::alloc::Global;
 use std::sync::{Arc, Wait};
 use std::thread;
@@ -47,10 +47,11 @@ impl Keeper {
     }
 
     /// Waits for a relay that is to start; those are told that are to stop. `None` where all are to stop.
-    fn await_start<R: Clock + Wait, N: Reach>(
+    fn await_start<R: Clock + Wait, N: Reach, C: Chronicle, H: House>(
         &mut self,
         rt: &R,
         net: &N,
+        hall: &Hall<C, H>,
         board: &Board,
         settings: &Settings,
     ) -> Option<Arc<RunningRelay>> {
@@ -58,7 +59,7 @@ impl Keeper {
             if board.is_over() {
                 return None;
             }
-            if let Some(relay) = self.next_start(rt, net, board, settings) {
+            if let Some(relay) = self.next_start(rt, net, hall, board, settings) {
                 return Some(relay);
             }
             let _ = sleep(rt, Duration::from_millis(ROUND_MS));
@@ -68,10 +69,11 @@ impl Keeper {
 
     /// A relay that is to start now; those are told that are to stop. `None` where none is to start, or memory is refused
     /// for it.
-    fn next_start<R: Clock + Wait, N: Reach>(
+    fn next_start<R: Clock + Wait, N: Reach, C: Chronicle, H: House>(
         &mut self,
         rt: &R,
         net: &N,
+        hall: &Hall<C, H>,
         board: &Board,
         settings: &Settings,
     ) -> Option<Arc<RunningRelay>> {
@@ -82,19 +84,22 @@ impl Keeper {
         if let Some(slave) = &settings.slave {
             self.listed.refresh(rt, net, board, slave);
         }
-        let orders = self.orders(board.alloc(), settings).ok()?;
+        let wanted = hall.wanted(rt).ok()?;
+        let orders = self.orders(board.alloc(), settings, wanted).ok()?;
         let relay = self.first_start(orders)?;
         self.roster.add(relay).ok()
     }
 
-    /// What is to be done now.
+    /// What is to be done now, where these mounts are wanted.
     fn orders(
         &mut self,
         alloc: Global,
         settings: &Settings,
+        wanted: Vec<MountName>,
     ) -> Result<Vec<RelayOrder>, OutOfMemory> {
         let live = self.roster.live()?;
-        plan(alloc, settings, &self.listed.names, live.as_slice(), &[])
+        let names = &self.listed.names;
+        plan(alloc, settings, names, live.as_slice(), wanted.as_slice())
     }
 
     /// The first relay that is to start; those are told that are to stop before it.
@@ -117,7 +122,8 @@ impl Keeper {
     }
 }
 
-/// Keeps the relays running that the settings and the slave's list wish, until all are to stop. Where memory is refused for
+/// Keeps the relays running that the settings and the slave's list wish, those that are on demand while
+/// somebody sits at their mounts, until all are to stop. Where memory is refused for
 /// one, or no thread can be had, it is tried again.
 pub fn keep_relays<R, N, C, H>(
     rt: &R,
@@ -141,7 +147,7 @@ where
             requires { IsSync R.row × IsSync N.row × IsSend C.row × IsSync C.row × IsSend H.row × IsSync H.row }
         {
             'rounds: for _ in rt.forever() {
-                let Some(relay) = kept.await_start(rt, net, board, settings) else {
+                let Some(relay) = kept.await_start(rt, net, hall, board, settings) else {
                     return;
                 };
                 let has_begun = scope

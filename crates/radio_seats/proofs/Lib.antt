@@ -2,7 +2,9 @@ pub mod Lists
 pub mod RowLemmas
 pub mod EndedRows
 pub mod MountLemmas
+pub mod GivenRows
 pub mod SeatLaws
+pub mod GivenLaws
 pub mod EndLaws
 pub mod CountLaws
 pub mod MountCounts

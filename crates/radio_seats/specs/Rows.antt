@@ -53,6 +53,11 @@ abbrev pub shifted : ℕ → ℕ → ℕ → RowState → RowState
 shifted mount session place (Seated seat) = Seated (record seat { mount = mount; session = session; place = place })
 shifted mount session place (Ended rule) = Ended rule
 
+-- he hears this session, if he sits at the mount of this number
+abbrev pub hears : ℕ → ℕ → RowState → RowState
+hears number session (Seated seat) = Seated (record seat { session = (if seat.mount == number then session else seat.session) })
+hears number session (Ended rule) = Ended rule
+
 -- he has lost his seat by the rule
 abbrev pub ended : Rule → RowState → RowState
 ended rule (Seated seat) = Ended rule

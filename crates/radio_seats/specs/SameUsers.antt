@@ -6,7 +6,7 @@ use Rattle.radio_seats.specs.declared.row.ListenerRow.{ListenerRow}
 use Rattle.radio_seats.specs.declared.row.RowState.{RowState}
 use Rattle.radio_seats.specs.declared.row.RowState.TheVariants.{Seated, Ended}
 use Rattle.radio_seats.specs.declared.seat.Guest.{Guest}
-use Rattle.radio_seats.specs.Rows.{heard, shifted, ended, holds_at, ended_where, with_state}
+use Rattle.radio_seats.specs.Rows.{heard, hears, shifted, ended, holds_at, ended_where, with_state}
 use Rattle.radio_seats.specs.Users.{IsMarkOf, IsSameUser}
 
 pub heard_same : (place : ℕ) (row : ListenerRow) → IsSameUser row (with_state (heard place row.state) row)
@@ -18,6 +18,12 @@ heard_same place row = record { mark = refl; marked = by_state row.state } where
 pub shifted_same : (number session place : ℕ) (row : ListenerRow) → IsSameUser row (with_state (shifted number session place row.state) row)
 shifted_same number session place row = record { mark = refl; marked = by_state row.state } where
   by_state : (state : RowState) → IsMarkOf row.mark state → IsMarkOf row.mark (shifted number session place state)
+  by_state (Seated seat) is = is
+  by_state (Ended rule) is = is
+
+pub hears_same : (number session : ℕ) (row : ListenerRow) → IsSameUser row (with_state (hears number session row.state) row)
+hears_same number session row = record { mark = refl; marked = by_state row.state } where
+  by_state : (state : RowState) → IsMarkOf row.mark state → IsMarkOf row.mark (hears number session state)
   by_state (Seated seat) is = is
   by_state (Ended rule) is = is
 

@@ -75,6 +75,18 @@ moved mount session place listener = record listener { seating = moved_to mount 
 abbrev pub with_move : List Listener → ℕ → List ℕ → ℕ → ℕ → List Listener
 with_move seats id mount session place = update_first (is_listener id) (moved mount session place) seats
 
+-- a seat at the mount is one in this session
+abbrev pub in_session_at : List ℕ → ℕ → Seating → Seating
+in_session_at mount session (Sits seat) = Sits (record seat { session = (if bytes_eq seat.mount mount then session else seat.session) })
+in_session_at mount session (Finished rule) = Finished rule
+
+abbrev pub hears_session : List ℕ → ℕ → Listener → Listener
+hears_session mount session listener = record listener { seating = in_session_at mount session listener.seating }
+
+-- all who sit at the mount hear this session, each from the place where he is
+abbrev pub with_session_at : List Listener → List ℕ → ℕ → List Listener
+with_session_at seats mount session = map (hears_session mount session) seats
+
 -- a seat is lost by the rule; who has finished before has finished by his own
 abbrev pub lost_by : Rule → Seating → Seating
 lost_by rule (Sits seat) = Finished rule

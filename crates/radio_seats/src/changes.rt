@@ -44,6 +44,49 @@ impl KeepsUser for Advances {
     ghost same_user = { λ change row. heard_same change.place row };
 }
 
+/// A listener who sits at the mount of this number hears this session from now on.
+#[derive(Drop)]
+pub(crate) struct Hears {
+    pub(crate) number: u64,
+    pub(crate) session: u64,
+}
+
+impl Hears {
+    ghost use Rattle.std.specs.Prelude.{◌==◌, if◌then◌else◌};
+
+    /// The session of one who sits at the mount of this number, and has heard the other.
+    fn session_at(&self, mount: u64, heard: u64) -> u64
+        ensures { result ≡ (if mount == self.now.number then self.now.session else heard) }
+    {
+        if mount == self.number {
+            self.session
+        } else {
+            heard
+        }
+    }
+}
+
+impl Change<ListenerRow> for Hears {
+    ghost use Rattle.std.specs.Prelude.{refl};
+    ghost use Rattle.radio_seats.specs.Rows.{hears, with_state};
+
+    ghost gives = { λ change row. with_state (hears change.number change.session row.state) row };
+
+    ghost keeps_key = { λ change row. refl };
+
+    fn apply(&self, row: &mut ListenerRow) {
+        if let RowState::Seated(seat) = &mut row.state {
+            seat.session = self.session_at(seat.mount, seat.session);
+        }
+    }
+}
+
+impl KeepsUser for Hears {
+    ghost use Rattle.radio_seats.specs.SameUsers.{hears_same};
+
+    ghost same_user = { λ change row. hears_same change.number change.session row };
+}
+
 /// The listener sits at the mount of this number from now on.
 #[derive(Drop)]
 pub(crate) struct Moves {

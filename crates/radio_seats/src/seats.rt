@@ -6,7 +6,7 @@ ghost use Rattle.std.specs.List.Sorted.{IsStrictlySortedBy};
 ghost use Rattle.std.specs.Ordering.{nat_cmp};
 ghost use Rattle.radio_seats.specs.declared.row.ListenerRow.{ListenerRow as RowOf};
 ghost use Rattle.std.specs.Str.{bytes_eq};
-ghost use Rattle.radio_seats.specs.Seats.{listener_of, seat_of, with_seat, with_place, with_move, with_end, with_ended, without_listener};
+ghost use Rattle.radio_seats.specs.Seats.{listener_of, seat_of, with_seat, with_place, with_move, with_end, with_ended, with_session_at, without_listener};
 ghost use Rattle.radio_seats.specs.Seats.{count_at, sits_there, AreByNumber};
 ghost use Rattle.radio_seats.specs.Board.{is_prepared};
 ghost use Rattle.radio_seats.specs.Guests.{passes_in, passes_at, first_moment};
@@ -14,7 +14,7 @@ ghost use Rattle.radio_seats.specs.Lent.{lent_seat, standing_in};
 ghost use Rattle.radio_seats.specs.Rests.{how_many};
 ghost use Rattle.radio_seats.specs.Rows.{is_row, number_in, holds_in, holds_at, state_moment};
 
-use crate::changes::{Advances, Ends, FinishesAt, Moves};
+use crate::changes::{Advances, Ends, FinishesAt, Hears, Moves};
 use crate::mounts::Mounts;
 use crate::row::{ListenerRow, RowState};
 use crate::rows::Rows;
@@ -138,6 +138,17 @@ impl Seats {
         ensures { self.new ≡ record self.old { seats = with_place self.old.seats id place } }
     {
         self.rows.change(id, &Advances { place });
+    }
+
+    /// All who sit at the mount hear this session from now on, each from the place where he is. It
+    /// takes no memory.
+    pub fn give_session(&mut self, mount: &MountName, session: u64)
+        ensures { self.new ≡ record self.old { seats = with_session_at self.old.seats mount.now session } }
+    {
+        let Some(number) = self.mounts.number(mount) else {
+            return;
+        };
+        self.rows.change_all(&Hears { number, session });
     }
 
     /// The listener sits at the mount from now on, in this session and from this place on. Nothing

@@ -5,7 +5,7 @@ use Rattle.toml.specs.Data.{Members}
 use Rattle.radio_settings.specs.declared.fault.SettingsFault.{SettingsFault}
 use Rattle.radio_settings.specs.declared.key.Key.TheVariants.{SourcePassword, AdminUser, AdminPassword, MountName, Server, Port, OnDemand}
 use Rattle.radio_settings.specs.declared.key.Key.TheVariants.{MasterServer, MasterPort, MasterUsername, MasterPassword, MasterUpdateInterval}
-use Rattle.radio_settings.specs.Rows.{fault_at, faults_in, first_fault, mount_name, no_flag, number, optional, required, row, text}
+use Rattle.radio_settings.specs.Rows.{fault_at, faults_in, first_fault, flag, mount_name, number, optional, required, row, text}
 use Rattle.radio_settings.specs.Access.{access_fault, address_rows, addresses_fault, relay_access_fault, relay_access_rows}
 use Rattle.radio_settings.specs.Logins.{login_fault, login_rows}
 use Rattle.radio_settings.specs.Masters.{master_fault, master_rows}
@@ -40,12 +40,12 @@ unfolding mount_fault options_fault
 mount_parts t = refl
 
 pub relay_parts : (t : Members) → relay_fault t ≡ first_fault (
-    master_fault Server Port t ∷ relay_mounts_fault t ∷ pair_fault t ∷ fault_at (row OnDemand no_flag optional) t ∷ [])
+    master_fault Server Port t ∷ relay_mounts_fault t ∷ pair_fault t ∷ fault_at (row OnDemand flag optional) t ∷ [])
 unfolding relay_fault master_fault relay_mounts_fault pair_fault
 relay_parts t =
     let mounts = faults_in relay_mount_rows t in
     let pair = faults_in pair_rows t in
-    let on_demand = fault_at (row OnDemand no_flag optional) t in
+    let on_demand = fault_at (row OnDemand flag optional) t in
     first_fault-append (faults_in (master_rows Server Port) t) (mounts ++ (pair ++ on_demand ∷ []))
     ∙ ap (option_or (master_fault Server Port t)) (in_two_and_one mounts pair on_demand)
 

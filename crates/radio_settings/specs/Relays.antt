@@ -7,7 +7,7 @@ use Rattle.radio_settings.specs.declared.settings.Login.{Login}
 use Rattle.radio_settings.specs.declared.settings.RelaySetting.{RelaySetting}
 use Rattle.radio_settings.specs.Lookup.{text_at, text_or, flag_or, tables_at}
 use Rattle.radio_settings.specs.Masters.{master_rows, master_of}
-use Rattle.radio_settings.specs.Rows.{Row, row, faults_in, first_fault, text, no_flag, mount_name, required, optional, required_with}
+use Rattle.radio_settings.specs.Rows.{Row, row, faults_in, first_fault, text, flag, mount_name, required, optional, required_with}
 
 -- both a user and a password, or neither
 abbrev pub pair_rows : List Row
@@ -18,7 +18,7 @@ abbrev pub relay_mount_rows : List Row
 relay_mount_rows = row Mount mount_name required ∷ row LocalMount mount_name optional ∷ []
 
 abbrev pub relay_rows : List Row
-relay_rows = master_rows Server Port ++ (relay_mount_rows ++ (pair_rows ++ row OnDemand no_flag optional ∷ []))
+relay_rows = master_rows Server Port ++ (relay_mount_rows ++ (pair_rows ++ row OnDemand flag optional ∷ []))
 
 abbrev pub login_from : Option (List ℕ) → Option (List ℕ) → Option Login
 login_from (Some username) (Some password) = Some (record { username = username; password = password })

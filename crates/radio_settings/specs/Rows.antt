@@ -15,8 +15,6 @@ pub data Kind : Type 0 where
   -- from the one number to the other, both with it
   number : ℕ → ℕ → Kind
   flag : Kind
-  -- a flag that may not be true yet
-  no_flag : Kind
   mount_name : Kind
   -- what may stand in `Access-Control-Allow-Origin`
   origin : Kind
@@ -56,7 +54,6 @@ abbrev pub value_fault : Kind → Key → Data → Option SettingsFault
 value_fault text key d = fault_as key (as_str d) (λ _. None)
 value_fault (number low high) key d = fault_as key (as_integer d) (λ z. unless (is_between low high (natural z)) (OutOfRange key))
 value_fault flag key d = fault_as key (as_bool d) (λ _. None)
-value_fault no_flag key d = fault_as key (as_bool d) (λ is_on. unless (not is_on) (OutOfRange key))
 value_fault mount_name key d = fault_as key (as_str d) (λ name. unless (is_mount_name name) (BadName key))
 value_fault origin key d = fault_as key (as_str d) (λ text. unless (is_allowed_origin text) (OutOfRange key))
 

@@ -21,7 +21,7 @@ pub enum SettingsFault {
     Missing { key: Key },
     /// A key has a value of another kind, or the name of a table is none.
     WrongKind { key: Key },
-    /// A number lies outside its range, or `on-demand` is true.
+    /// A number lies outside its range.
     OutOfRange { key: Key },
     /// Two mounts have this name, or two relays feed it.
     MountTwice { name: MountName },

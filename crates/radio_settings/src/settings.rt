@@ -175,7 +175,7 @@ pub struct RelaySetting {
     pub local_mount: MountName,
     /// What is sent to the master; `None` for nothing.
     pub login: Option<Login>,
-    /// Whether it is pulled only while somebody listens. Never, as yet.
+    /// Whether it is pulled only while somebody sits at the mount that it feeds.
     pub on_demand: bool,
 }
 

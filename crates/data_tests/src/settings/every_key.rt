@@ -52,7 +52,7 @@ mount = \"/c\"
 local-mount = \"/e\"
 username = \"u\"
 password = \"p\"
-on-demand = false
+on-demand = true
 [slave]
 master-server = \"m\\u007f\"
 master-port = 14
@@ -89,6 +89,7 @@ struct Station {
     other_mount: Mount,
     relay: [&'static str; 5],
     relay_port: u32,
+    is_on_demand: bool,
     slave: [&'static str; 3],
     slave_numbers: [u32; 2],
 }
@@ -117,6 +118,7 @@ const EVERY_KEY_SET: Station = Station {
     },
     relay: ["s", "/c", "/e", "u", "p"],
     relay_port: 13,
+    is_on_demand: true,
     slave: ["m", "su", "spw"],
     slave_numbers: [14, 15],
 };
@@ -136,6 +138,7 @@ const DEFAULTS: Station = Station {
     other_mount: DEFAULT_MOUNT,
     relay: ["s", "/e", "/e", "-", "-"],
     relay_port: 8000,
+    is_on_demand: false,
     slave: ["m", "relay", "spw"],
     slave_numbers: [8000, 120],
 };
@@ -291,7 +294,7 @@ fn has_mount(settings: &Settings, path: &[u8], want: &Mount) -> bool {
 
 fn is_relay(relay: &RelaySetting, want: &Station) -> bool {
     relay_texts(relay) == want.relay
-        && !relay.on_demand
+        && relay.on_demand == want.is_on_demand
         && relay.master.port.get() == want.relay_port
 }
 

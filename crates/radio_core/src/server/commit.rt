@@ -1,9 +1,9 @@
 ghost use Rattle.std.specs.Prelude.{◌≡◌, IsOk, IfOk, OnOk, OnErr};
 ghost use Rattle.std.specs.Option.{option_map};
 ghost use Rattle.radio_seats.specs.declared.seat.Seat.{Seat as SeatOf};
-ghost use Rattle.radio_seats.specs.Seats.{seat_of};
-ghost use Rattle.radio_core.specs.Changes.{changed, laggards_ended, called_home, session_ended, client_gone};
-ghost use Rattle.radio_core.specs.Counts.{counted, counts_home, counts_ended};
+ghost use Rattle.radio_seats.specs.Seats.{seat_of, with_session_at};
+ghost use Rattle.radio_core.specs.Changes.{changed, carried_along, laggards_ended, called_home, session_ended, client_gone};
+ghost use Rattle.radio_core.specs.Counts.{counted, counts_along, counts_home, counts_ended};
 ghost use Rattle.radio_core.specs.KeptChanges.{kept_changed, kept_taken_in};
 ghost use Rattle.radio_core.specs.Step.{NeedsNoMemory};
 
@@ -128,6 +128,7 @@ impl State {
         ensures ok { OnOk result (self.new ≡ changed self.old (Change.TakeSeat id seat)) }
         ensures err { OnErr result (self.new ≡ self.old) }
     {
+        self.house.prepare_on_demand(&mut self.seats)?;
         // where the mount is live it is prepared already
         self.seats.prepare(&seat.mount)?;
         self.seats.add(id, seat)?;
@@ -135,8 +136,8 @@ impl State {
         Ok(())
     }
 
-    /// The client feeds the mount from now on, listeners can be seated there, and those come home
-    /// whom it calls.
+    /// The client feeds the mount from now on, listeners can be seated there, those hear him who sat
+    /// there waiting for a session, and those come home whom the mount calls.
     fn begin(&mut self, id: u64, mount: MountName, shown: Shown) -> Result<Carried, OutOfMemory>
         ensures ok { OnOk result (self.new ≡ changed self.old (Change.Begin id mount shown)) }
         ensures counts { IfOk result (λ counts. counts ≡ counted self.old (Change.Begin id mount shown)) }
@@ -144,7 +145,7 @@ impl State {
     {
         self.seats.prepare(&mount)?;
         match self.house.begin(self.alloc, id, mount, shown) {
-            Ok(()) => Ok(self.call_home(mount)),
+            Ok(()) => Ok(self.open_session(mount, id)),
             Err(refused) => {
                 self.release_idle(&mount);
                 Err(refused)
@@ -152,14 +153,36 @@ impl State {
         }
     }
 
-    /// A mount that is not live, and where nobody sits, is not prepared any more. It takes no
-    /// memory.
+    /// A mount that is not live, and waits for no session, and where nobody sits, is not prepared any
+    /// more. It takes no memory.
     pub(super) fn release_idle(&mut self, mount: &MountName)
         ensures { self.new ≡ self.old }
     {
-        if self.house.session(mount).is_none() {
+        if !self.house.can_be_heard(mount) {
             self.seats.release(mount);
         }
+    }
+
+    /// The session of this number has begun on the mount: those hear it who sat there waiting for
+    /// one, and those come home whom the mount calls. It takes no memory.
+    pub(super) fn open_session(&mut self, mount: MountName, number: u64) -> Carried
+        ensures state { self.new ≡ called_home (record self.old { seats = with_session_at self.old.seats mount number }) mount }
+        ensures counts { result ≡ counts_home (record self.old { seats = with_session_at self.old.seats mount number }) mount }
+    {
+        self.seats.give_session(&mount, number);
+        self.call_home(mount)
+    }
+
+    /// A move carries listeners along; how many. It takes no memory.
+    pub(super) fn carry_along(&mut self, moving: &Move) -> Carried
+        ensures state { self.new ≡ carried_along self.old moving.now }
+        ensures counts { result ≡ counts_along self.old moving.now }
+    {
+        // before anybody has sat, not all mounts are prepared that wait for a session
+        if self.seats.len() == 0 {
+            return NOBODY;
+        }
+        carry(&self.house, &mut self.seats, moving)
     }
 
     /// Where the mount calls its listeners home, those come who had asked for it and sit elsewhere.
@@ -170,7 +193,7 @@ impl State {
     {
         let options = self.house.settings().options(&mount);
         if options.listeners.fallback_override {
-            carry(&self.house, &mut self.seats, &Move::Up(mount))
+            self.carry_along(&Move::Up(mount))
         } else {
             NOBODY
         }
@@ -183,8 +206,8 @@ impl State {
         ensures counts { result ≡ counts_ended self.old mount }
     {
         self.house.close(&mount);
-        let counts = carry(&self.house, &mut self.seats, &Move::Ended(mount));
-        self.seats.release(&mount);
+        let counts = self.carry_along(&Move::Ended(mount));
+        self.release_idle(&mount);
         counts
     }
 

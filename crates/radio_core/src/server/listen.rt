@@ -1,5 +1,5 @@
 ghost use Rattle.std.specs.Prelude.{◌≡◌, Some, IfOk, MatchResult};
-ghost use Rattle.radio_parts.specs.Sessions.{session_of};
+ghost use Rattle.radio_house.specs.Waiting.{heard_at, silence_at, silence_of};
 ghost use Rattle.radio_events.specs.declared.reply.Reply.TheVariants.{Seated};
 ghost use Rattle.radio_core.specs.declared.outcome.Change.TheVariants.{TakeSeat};
 ghost use Rattle.radio_core.specs.Outcomes.{says};
@@ -86,15 +86,56 @@ impl State {
         mount: &MountName,
     ) -> Result<Outcome, OutOfMemory>
         requires { welcome.home ≡ asked.mount }
-        ensures { IfOk result (λ o. o ≡ takes_seat self.now.house asked welcome.peer (session_of self.now.house.live mount.now)) }
+        ensures { IfOk result (λ o. o ≡ takes_seat self.now.house asked welcome.peer (heard_at self.now.house mount.now)) }
     {
         match self.house.session(mount) {
             Some(session) => self.welcome(asked, welcome, session),
-            None => Ok(Outcome::stray()),
+            None => self.wait_there(asked, welcome, mount),
         }
     }
 
-    /// A listener is welcome in the session. `OutOfMemory` where memory was refused.
+    /// The listener sits down at the mount, which has no session, if it waits for one.
+    fn wait_there(
+        &self,
+        asked: ListenRequest,
+        welcome: Welcome,
+        mount: &MountName,
+    ) -> Result<Outcome, OutOfMemory>
+        requires { welcome.home ≡ asked.mount }
+        ensures { IfOk result (λ o. o ≡ takes_seat self.now.house asked welcome.peer (silence_of self.now.house mount.now)) }
+    {
+        if self.house.is_on_demand(mount) {
+            self.await_session(asked, welcome, mount)
+        } else {
+            drop(asked);
+            Ok(Outcome::stray())
+        }
+    }
+
+    /// The listener sits down at the mount and waits for a session. `OutOfMemory` where memory was refused.
+    fn await_session(
+        &self,
+        asked: ListenRequest,
+        welcome: Welcome,
+        mount: &MountName,
+    ) -> Result<Outcome, OutOfMemory>
+        requires { welcome.home ≡ asked.mount }
+        ensures { IfOk result (λ o. o ≡ takes_seat self.now.house asked welcome.peer (Some (silence_at self.now.house mount.now))) }
+    {
+        match self.house.silence(self.alloc, *mount) {
+            Ok(silence) => {
+                let outcome = self.welcome(asked, welcome, &silence);
+                drop(silence);
+                outcome
+            }
+            Err(refused) => {
+                drop(asked);
+                Err(refused)
+            }
+        }
+    }
+
+    /// A listener is welcome in the session, or where it is awaited. `OutOfMemory` where memory was refused.
     fn welcome(
         &self,
         asked: ListenRequest,

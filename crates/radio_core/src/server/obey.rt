@@ -12,7 +12,7 @@ use super::state::State;
 use crate::OutOfMemory;
 use bytes::Bytes;
 use radio_events::Command;
-use radio_fallback::{Carried, Move, carry};
+use radio_fallback::{Carried, Move};
 use radio_house::ClientState;
 use radio_policy::Rule;
 use radio_settings::MountName;
@@ -68,11 +68,7 @@ impl State {
     {
         match command {
             Command::MoveClients { mount, destination } => {
-                carry(
-                    &self.house,
-                    &mut self.seats,
-                    &Move::To { mount, destination },
-                )
+                self.carry_along(&Move::To { mount, destination })
             }
             Command::KillClient { listener, .. } => {
                 self.seats.end(listener, Rule::Killed);

@@ -77,8 +77,8 @@ impl State {
         }
     }
 
-    /// A relay has come up and feeds the mount from now on, listeners can be seated there, and
-    /// those come home whom it calls. `OutOfMemory` where memory was refused; nothing has changed
+    /// A relay has come up and feeds the mount from now on, listeners can be seated there, those hear
+    /// it who sat there waiting for a session, and those come home whom the mount calls. `OutOfMemory` where memory was refused; nothing has changed
     /// then.
     pub(super) fn raise(
         &mut self,
@@ -92,7 +92,7 @@ impl State {
     {
         self.seats.prepare(&mount)?;
         match self.house.raise(self.alloc, id, mount, shown) {
-            Ok(()) => Ok(self.call_home(mount)),
+            Ok(()) => Ok(self.open_session(mount, id)),
             Err(refused) => {
                 self.release_idle(&mount);
                 Err(refused)

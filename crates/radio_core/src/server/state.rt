@@ -1,6 +1,7 @@
 //! All of the server's state, and what an event does to it.
 
 ghost use Rattle.std.specs.Prelude.{◌≡◌, IsOk, IfOk};
+ghost use Rattle.radio_house.specs.Wanted.{wanted};
 ghost use Rattle.radio_house.specs.World.{opening, standing_of, has_relay};
 ghost use Rattle.radio_core.specs.Planned.{planned};
 ghost use Rattle.radio_core.specs.Step.{StandsForSome};
@@ -12,12 +13,13 @@ use radio_access::Lists;
 use radio_events::Event;
 use radio_house::{House, Standing};
 use radio_seats::Seats;
-use radio_settings::Settings;
+use radio_settings::{MountName, Settings};
 use std::alloc::Global;
 use std::marker::Model;
 
 /// The house, and the table of those who listen in it. Contracts see it as a `World` in which of
-/// each stream the last blocks are kept. Each live mount is prepared for listeners.
+/// each stream the last blocks are kept. Each live mount is prepared for listeners, and as long as
+/// there are some, so is each that waits for a session.
 #[derive(Drop)]
 pub(super) struct State {
     pub(super) alloc: Global,
@@ -28,6 +30,7 @@ pub(super) struct State {
 impl Model for State {
     ghost use Rattle.radio_house.specs.World.{World};
     ghost use Rattle.radio_parts.specs.Prepared.{LiveArePrepared};
+    ghost use Rattle.radio_core.specs.Prepared.{OnDemandArePrepared};
     ghost use Rattle.std.specs.Coded.{codes};
     ghost use Rattle.radio_creds.specs.contracts.user_list.Users as creds_users;
 
@@ -37,7 +40,7 @@ impl Model for State {
 
     ghost view = { λ c. record { house = c.house; seats = c.seats.seats } };
 
-    ghost invariant = { λ c. LiveArePrepared c.house.live c.seats.prepared };
+    ghost invariant = { λ c. LiveArePrepared c.house.live c.seats.prepared × OnDemandArePrepared c.house.settings c.seats };
 }
 
 impl State {
@@ -73,6 +76,14 @@ impl State {
             Event::RelayDown { id } => Ok(self.relay_down(id)),
             Event::Clock { ms } => Ok(self.clock(ms)),
         }
+    }
+
+    /// The mounts where somebody sits, which relays feed on demand, in the order of their bytes.
+    /// `OutOfMemory` where memory was refused.
+    pub(super) fn wanted(&self) -> Result<Vec<MountName>, OutOfMemory>
+        ensures { IfOk result (λ mounts. mounts.items ≡ wanted self.now) }
+    {
+        self.house.wanted(self.alloc, &self.seats)
     }
 
     /// How the client, or the relay, of this number stands.

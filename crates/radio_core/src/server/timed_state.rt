@@ -9,6 +9,7 @@ ghost use Rattle.radio_core.specs.KeptChanges.{kept_changed};
 ghost use Rattle.radio_core.specs.Planned.{planned, with_counts};
 ghost use Rattle.radio_events.specs.declared.reply.Reply.{Reply as ReplyOf};
 ghost use Rattle.radio_core.specs.Step.{StandsForSome, NeedsNoMemory};
+ghost use Rattle.radio_house.specs.Wanted.{wanted};
 ghost use Rattle.radio_house.specs.World.{opening};
 ghost use Rattle.radio_events.specs.Events.{TakesNoMemory};
 
@@ -21,7 +22,7 @@ use radio_access::Lists;
 use radio_events::{Event, Reply};
 use radio_fallback::Carried;
 use radio_parts::{LAST_MOMENT, due_at, seat_due};
-use radio_settings::Settings;
+use radio_settings::{MountName, Settings};
 use std::alloc::Global;
 use std::marker::Model;
 
@@ -65,6 +66,14 @@ impl TimedState {
         ensures { result.now ≡ self.now.house.settings }
     {
         self.state.house.settings()
+    }
+
+    /// The mounts where somebody sits, which relays feed on demand, in the order of their bytes.
+    /// `OutOfMemory` where memory was refused.
+    pub(super) fn wanted(&self) -> Result<Vec<MountName>, OutOfMemory>
+        ensures { IfOk result (λ mounts. mounts.items ≡ wanted self.now) }
+    {
+        self.state.wanted()
     }
 
     /// What comes of an event, before its change is made. `OutOfMemory` where memory was refused.

@@ -10,7 +10,7 @@ ghost use Rattle.radio_settings.specs.Reading.{Reads, ReadsAs};
 
 use super::masters::master;
 use super::tables::tables_at;
-use super::values::{name_or, no_flag, required_name, text_with};
+use super::values::{flag_or, name_or, required_name, text_with};
 use crate::{Key, Login, MountName, RelaySetting, SettingsFault, Text};
 use std::alloc::Global;
 use toml::Table;
@@ -48,7 +48,7 @@ fn relay(alloc: Global, table: &Table) -> Result<RelaySetting, SettingsFault>
         mount,
         local_mount,
         login: pair(alloc, table)?,
-        on_demand: no_flag(table, Key::OnDemand)?,
+        on_demand: flag_or(table, Key::OnDemand, false)?,
     })
 }
 

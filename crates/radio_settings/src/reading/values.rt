@@ -5,7 +5,7 @@ ghost use Rattle.std.specs.Prelude.{◌≡◌, ◌≤◌, IfOk, codes, [], false
 ghost use Rattle.std.specs.Option.{option_copied, option_map};
 ghost use Rattle.toml.specs.View.{view, table_view};
 ghost use Rattle.radio_settings.specs.Lookup.{value_at, text_at, text_or, field_at, field_or_empty, number_at, number_or, flag_or, natural};
-ghost use Rattle.radio_settings.specs.Rows.{text, number, flag, no_flag, mount_name, origin, required, optional, required_with, row, fault_at, is_between};
+ghost use Rattle.radio_settings.specs.Rows.{text, number, flag, mount_name, origin, required, optional, required_with, row, fault_at, is_between};
 ghost use Rattle.radio_settings.specs.Reading.{Reads, ReadsAs};
 
 use crate::{AllowedOrigin, Field, Key, MountName, SettingsFault, Text, Within};
@@ -195,21 +195,6 @@ pub fn flag_or(table: &Table, key: Key, default: bool) -> Result<bool, SettingsF
     };
     match value.as_bool() {
         Some(flag) => Ok(flag),
-        None => Err(SettingsFault::WrongKind { key }),
-    }
-}
-
-/// The flag at a key that may not be true yet.
-pub fn no_flag(table: &Table, key: Key) -> Result<bool, SettingsFault>
-    ensures { let t = table_view table.now in
-        Reads (fault_at (row key no_flag optional) t) (flag_or key t false) result }
-{
-    let Some(value) = value_at(table, key) else {
-        return Ok(false);
-    };
-    match value.as_bool() {
-        Some(true) => Err(SettingsFault::OutOfRange { key }),
-        Some(false) => Ok(false),
         None => Err(SettingsFault::WrongKind { key }),
     }
 }

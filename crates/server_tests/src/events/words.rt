@@ -12,7 +12,7 @@ use std::alloc::Global;
 
 /// The settings of a station.
 const STATION: &str =
-    "source-password = \"hackme\"\nadmin-password = \"letmein\"\n[limits]\nburst-size = 8\n[[mount]]\nmount-name = \"/home\"\nfallback-mount = \"/a\"\nfallback-override = true\n";
+    "source-password = \"hackme\"\nadmin-password = \"letmein\"\n[limits]\nburst-size = 8\n[[mount]]\nmount-name = \"/home\"\nfallback-mount = \"/a\"\nfallback-override = true\n[[relay]]\nserver = \"m\"\nmount = \"/live\"\nlocal-mount = \"/w\"\non-demand = true\n[[relay]]\nserver = \"m\"\nmount = \"/live\"\nlocal-mount = \"/d\"\non-demand = true\n";
 
 /// An event of a table, by its client's number, and the mount, the data or the room.
 #[derive(Clone, Copy)]
@@ -94,6 +94,40 @@ fn are_replied_in_turn(
     next: &[(Call, &str)],
 ) -> Result<bool, OutOfMemory> {
     Ok(are_replied(alloc, core, first)? && are_replied(alloc, core, next)?)
+}
+
+/// Whether a core replies as the table says, and these mounts are wanted then.
+pub fn wants_then(
+    alloc: Global,
+    table: &[(Call, &str)],
+    wanted: &[&str],
+) -> Result<bool, SettingsFault> {
+    let mut core = station(alloc)?;
+    let wants = replies_and_wants(alloc, &mut core, table, wanted);
+    drop(core);
+    Ok(wants?)
+}
+
+fn replies_and_wants(
+    alloc: Global,
+    core: &mut Core,
+    table: &[(Call, &str)],
+    wanted: &[&str],
+) -> Result<bool, OutOfMemory> {
+    if !are_replied(alloc, core, table)? {
+        return Ok(false);
+    }
+    let mounts = core.wanted()?;
+    Ok(are_named(mounts.as_slice(), wanted))
+}
+
+/// Whether the mounts have these names, in this order.
+fn are_named(mounts: &[MountName], names: &[&str]) -> bool {
+    mounts.len() == names.len()
+        && mounts
+            .iter()
+            .zip(names)
+            .all(|(mount, name)| mount.as_bytes() == name.as_bytes())
 }
 
 /// Whether each call of the table is replied to as the table says.

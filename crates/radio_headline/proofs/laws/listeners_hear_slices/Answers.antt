@@ -24,6 +24,8 @@ returns c settings lists deliveries text stop transcript =
     let seated = c.listeners_begin_at_a_block.ensures.seated settings lists in
     let sessions = c.sessions_are_their_sources.ensures.steps settings lists in
     let mounts = c.stretches_are_whole.ensures.mounts settings lists in
+    let keeps = c.sessions_are_their_sources.ensures.settings settings lists in
+    let nobody = c.draws_are_stretches.ensures.nobody settings lists in
     let settled_answers = c.settled.ensures.responses in
     let within_answers = c.heads_lie_within.ensures.responses in
     let none_blocks = c.blocks_are_the_data.ensures.none in
@@ -49,19 +51,19 @@ returns c settings lists deliveries text stop transcript =
         is_request = listens_so settled within joined places found settings lists fits adds steps deliveries came.performed came.rest came.parts transcript.0
             came.course came.told stands.each stands.nowhere label asked past later parts;
         is_given = given_by settings lists fits adds steps access served (λ rows. (c.denials_name_the_first_rule.ensures.allows rows).0) denied seated
-            (c.draws_are_stretches.ensures settings lists) c.listeners_are_told_what_they_draw.ensures.joined c.listeners_are_told_what_they_draw.ensures.plain
+            (c.draws_are_stretches.ensures.slices settings lists) c.listeners_are_told_what_they_draw.ensures.joined c.listeners_are_told_what_they_draw.ensures.plain
             c.listeners_are_told_what_they_draw.ensures.woven c.listeners_are_told_what_they_draw.ensures.taken_out came.performed transcript.0 came.course came.told
             stands.world stands.each stands.nowhere deliveries
-            (shown_by_source settings lists sessions mounts deliveries came.course bodies sounds stands.nowhere)
-            (sit_with_sources settings lists sessions mounts deliveries came.course bodies sounds stands.nowhere) label asked past later parts;
+            (shown_by_source settings lists sessions mounts keeps nobody deliveries came.course bodies sounds stands.nowhere)
+            (sit_with_sources settings lists sessions mounts keeps nobody deliveries came.course bodies sounds stands.nowhere) label asked past later parts;
       };
       commands = λ label asked past later parts.
           answered_by settings lists fits adds steps access served (λ rows. (c.denials_name_the_first_rule.ensures.allows rows).0) denied seated
-          (c.draws_are_stretches.ensures settings lists) c.listeners_are_told_what_they_draw.ensures.joined c.listeners_are_told_what_they_draw.ensures.plain
+          (c.draws_are_stretches.ensures.slices settings lists) c.listeners_are_told_what_they_draw.ensures.joined c.listeners_are_told_what_they_draw.ensures.plain
           c.listeners_are_told_what_they_draw.ensures.woven c.listeners_are_told_what_they_draw.ensures.taken_out came.performed transcript.0 came.course came.told
           stands.world stands.each stands.nowhere deliveries
-          (shown_by_source settings lists sessions mounts deliveries came.course bodies sounds stands.nowhere)
-          (sit_with_sources settings lists sessions mounts deliveries came.course bodies sounds stands.nowhere) label asked past later parts;
+          (shown_by_source settings lists sessions mounts keeps nobody deliveries came.course bodies sounds stands.nowhere)
+          (sit_with_sources settings lists sessions mounts keeps nobody deliveries came.course bodies sounds stands.nowhere) label asked past later parts;
       sources = bodies;
       bodies = record {
         plain = c.bodies_are_heard_as_their_data.ensures.plain;

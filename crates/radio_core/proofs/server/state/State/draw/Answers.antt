@@ -6,16 +6,16 @@ use Rattle.radio_house.specs.declared.standing.Standing.{Standing}
 use Rattle.radio_house.specs.declared.standing.Standing.TheVariants.{Unknown, Undecided, Feeds, Sits, Answered, Finished}
 use Rattle.radio_core.specs.Draw.{hands_out, hands_out_at}
 use Rattle.radio_core.specs.Outcomes.{if_sitting, out_of_place}
-use Rattle.radio_parts.specs.Sessions.{session_of}
 use Rattle.radio_house.specs.World.{World, standing_of}
 use Rattle.radio_core.proofs.StepLemmas.{seat_sits}
 use Rattle.radio_core.proofs.server.state.State.draw.Goals as goal
 use Rattle.radio_seats.specs.declared.seat.Seat.{Seat}
 use Rattle.radio_seats.specs.Lent.{lent_seat}
+use Rattle.radio_house.specs.Waiting.{heard_at}
 use Rattle.radio_seats.specs.Seats.{seat_of}
 
 draws_seated : (s : Standing) (sits_at : Option Seat) (house : House) (id room : ℕ) (seat : Seat) → s ≡ Sits → sits_at ≡ Some seat
-    → hands_out id seat room (session_of house.live seat.mount) ≡ if_sitting s (hands_out_at house id room sits_at)
+    → hands_out id seat room (heard_at house seat.mount) ≡ if_sitting s (hands_out_at house id room sits_at)
 draws_seated s sits_at house id room seat sits has = rw (sits, has) refl
 
 draws_by : (s : Standing) (house : House) (id room : ℕ) → out_of_place s ≡ if_sitting s (hands_out_at house id room None)

@@ -2,11 +2,15 @@ use Rattle.std.proofs.Common.{refl, ap}
 use Rattle.radio_house.specs.House.{House}
 use Rattle.radio_parts.specs.Kept.{longer_kept}
 use Rattle.radio_parts.proofs.PreparedLemmas.{changed_prepared}
+use Rattle.radio_core.proofs.PreparedSeats.{house_changed}
 use Rattle.radio_core.proofs.server.state.State.take_in.Goals as goal
 
 pub invariant_of-self-2 : goal.invariant_of-self-2
 invariant_of-self-2 c =
     let house = c.self.inside.house in
-    changed_prepared house.live c.receive.new.self.live c.self.inside.seats.prepared c.args.mount
+    let later = c.receive.new.self in
+    house_changed house.settings later.settings house.live later.live c.self.inside.seats (ap (λ (h : House). h.settings) c.in_ok-receive.ensures.ok)
+    (changed_prepared house.live later.live c.self.inside.seats.prepared c.args.mount
     (longer_kept house.settings.limits.queue_size c.args.block house.time) (λ session. refl)
-    (ap (λ (h : House). h.live) c.in_ok-receive.ensures.ok) c.self.invariant
+    (ap (λ (h : House). h.live) c.in_ok-receive.ensures.ok) c.self.invariant.0)
+    c.self.invariant

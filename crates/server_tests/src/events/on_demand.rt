@@ -1,0 +1,91 @@
+//! Mounts that relays feed on demand: who sits there, and which are wanted.
+
+use super::words::*;
+use radio_settings::SettingsFault;
+use std::alloc::Global;
+
+/// Whether a station replies so.
+fn replies(alloc: Global, table: &[(Call, &str)]) -> Result<bool, SettingsFault> {
+    replies_in_turn(alloc, &[], table)
+}
+
+/// A listener waits where a relay feeds on demand, hears it from its start, and waits again; then a
+/// source that is no relay.
+const WAITS: &[(Call, &str)] = &[
+    (Call::Arrive, "arrived 1"),
+    (Call::Listen(1, "/d"), "seated audio/mpeg,,"),
+    (Call::Draw(1, 9), "drawn "),
+    (Call::Clock(60_000), "noted"),
+    (Call::Draw(1, 9), "drawn "),
+    (Call::RelayUp("/d", "audio/aac"), "arrived 2"),
+    (Call::Push(2, "abcd"), "noted"),
+    (Call::Draw(1, 9), "drawn abcd"),
+    (Call::RelayDown(2), "noted"),
+    (Call::Draw(1, 9), "drawn "),
+    (Call::Arrive, "arrived 3"),
+    (Call::Source(3, "/d"), "feeding"),
+    (Call::Push(3, "ef"), "noted"),
+    (Call::Draw(1, 9), "drawn ef"),
+    (Call::Arrive, "arrived 4"),
+    (Call::Listen(4, "/d"), "seated audio/aac,Night,"),
+];
+
+#[test]
+fn listener_who_waits(rt: HostRuntime) -> Result<(), SettingsFault> {
+    assert!(rt; replies(rt.alloc(), WAITS)?);
+    Ok(())
+}
+
+/// Where nobody feeds, commands find no mount, and listings none.
+const IDLE: &[(Call, &str)] = &[
+    (Call::Arrive, "arrived 1"),
+    (Call::Listen(1, "/d"), "seated audio/mpeg,,"),
+    (Call::Arrive, "arrived 2"),
+    (Call::KillClient(2, "/d", 1), "deny no-mount"),
+    (Call::Arrive, "arrived 3"),
+    (Call::KillSource(3, "/d"), "deny no-mount"),
+    (Call::Arrive, "arrived 4"),
+    (
+        Call::Stats(4),
+        "{\"clients\":4,\"listeners\":0,\"mounts\":[],\"sources\":0}",
+    ),
+    (Call::Draw(1, 9), "drawn "),
+];
+
+#[test]
+fn mount_that_waits(rt: HostRuntime) -> Result<(), SettingsFault> {
+    assert!(rt; replies(rt.alloc(), IDLE)?);
+    Ok(())
+}
+
+/// Listeners where relays feed on demand, and one where none does.
+const TWO_WAIT: &[(Call, &str)] = &[
+    (Call::Arrive, "arrived 1"),
+    (Call::Source(1, "/a"), "feeding"),
+    (Call::Arrive, "arrived 2"),
+    (Call::Listen(2, "/a"), "seated audio/aac,Night,"),
+    (Call::Arrive, "arrived 3"),
+    (Call::Listen(3, "/w"), "seated audio/mpeg,,"),
+    (Call::Arrive, "arrived 4"),
+    (Call::Listen(4, "/d"), "seated audio/mpeg,,"),
+];
+
+#[test]
+fn wanted_mounts(rt: HostRuntime) -> Result<(), SettingsFault> {
+    assert!(rt; wants_then(rt.alloc(), TWO_WAIT, &["/d", "/w"])?);
+    Ok(())
+}
+
+/// The last listener leaves, whose relay has come up.
+const HAS_LEFT: &[(Call, &str)] = &[
+    (Call::Arrive, "arrived 1"),
+    (Call::Listen(1, "/d"), "seated audio/mpeg,,"),
+    (Call::RelayUp("/d", "audio/aac"), "arrived 2"),
+    (Call::Leave(1), "noted"),
+];
+
+#[test]
+fn mount_that_nobody_wants(rt: HostRuntime) -> Result<(), SettingsFault> {
+    assert!(rt; wants_then(rt.alloc(), HAS_LEFT, &[])?);
+    Ok(())
+}
