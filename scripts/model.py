@@ -1,6 +1,7 @@
 """A plain model of the server, written from docs/RULES.md and not from the code: what a script's lines come to.
 
-It knows what `scripts/try_random` makes: whole heads of SOURCE and GET, plain bodies, commands, listings, titles of ASCII; no address lists.
+It knows what `scripts/try_random` makes: whole heads of SOURCE and GET, plain bodies, pulls of relays, also on demand, commands, listings, titles of
+ASCII; no address lists.
 """
 import base64
 import collections
@@ -15,6 +16,7 @@ STATUSES = {
 }
 STATUS_OF = {rule: status for status, (_, rules) in STATUSES.items() for rule in rules}
 WELCOME = b"HTTP/1.0 200 OK\r\n\r\n"
+REQUEST = b"GET /live HTTP/1.0\r\nHost: master:8000\r\nUser-Agent: radiod\r\nIcy-MetaData: 1\r\n\r\n"
 ADMIN = ("admin", "letmein")
 # the arguments of each command; those that a mount's source may give too
 COMMANDS = {
@@ -69,6 +71,13 @@ class Session:
         self.mount, self.source, self.data, self.starts, self.title, self.last = mount, source, b"", [], None, now
 
 
+class Relay:
+    """A pull of a relay, which has a number once it is up. `rule` is the one by which it was finished."""
+
+    def __init__(self, mount):
+        self.feeding, self.number, self.state, self.rule = mount, None, "asked", None
+
+
 class Client:
     """One who was let in. `rule` is the one by which he was finished; a listener who sits has a `mount` and a `session`."""
 
@@ -85,6 +94,8 @@ class Model:
         self.relay = settings.get("relay")
         self.tables = {table["mount-name"]: table for table in settings.get("mounts", [])}
         self.now, self.last, self.clients, self.live, self.labels = 0, 0, {}, {}, {}
+        # of each mount that a relay feeds, whether it does so on demand
+        self.relays = settings.get("relays", {})
         # the fallbacks that commands have set
         self.fallbacks = {}
         # of each mount that has users, their passwords
@@ -99,6 +110,10 @@ class Model:
 
     def lets_in(self, name, pair):
         return name not in self.users or (pair is not None and self.users[name].get(pair[0]) == pair[1])
+
+    def heard_at(self, name):
+        """The session of the mount, or an empty one where it waits for one; `None` where it does not."""
+        return self.live.get(name) or (Session(name, None, self.now) if self.relays.get(name) else None)
 
     # who sits where
 
@@ -117,7 +132,7 @@ class Model:
 
     def stop(self, name, pair, but=None):
         """The rule that keeps one who sends this pair from the mount; `None` where he may sit there."""
-        if name not in self.live:
+        if self.heard_at(name) is None:
             return "not-live"
         if self.is_full(name, but):
             return "mount-full"
@@ -129,7 +144,7 @@ class Model:
         """Where a walk ends: the mount, or the rule that stops it."""
         for _ in range(10):
             mount = self.mount(name)
-            hands_on = name not in self.live or (self.is_full(name, but) and mount.when_full)
+            hands_on = self.heard_at(name) is None or (self.is_full(name, but) and mount.when_full)
             if not hands_on or mount.fallback is None:
                 rule = self.stop(name, pair, but)
                 return (None, rule) if rule else (name, None)
@@ -137,7 +152,7 @@ class Model:
         return None, "fallback-depth"
 
     def goes_to(self, one, name):
-        session = self.live[name]
+        session = self.heard_at(name)
         one.mount, one.session, one.place = name, session, len(session.data)
 
     def ends(self, name):
@@ -151,9 +166,14 @@ class Model:
                     self.met["out by " + rule] += 1
                 else:
                     self.goes_to(one, lands)
-                    self.met["moved on"] += 1
+                    self.met["moved on" if lands in self.live else "waits again" if lands == name else "moved where one waits"] += 1
 
-    def comes_up(self, name):
+    def begins(self, name, source):
+        """A session of the mount: those hear it who waited there, and those come home whom the mount calls."""
+        self.live[name] = Session(name, source, self.now)
+        for one in self.at(name):
+            one.session = self.live[name]
+            self.met["hears what he waited for"] += 1
         if self.mount(name).override:
             for one in self.seats():
                 if one.home == name and one.mount != name and self.stop(name, one.pair, one) is None:
@@ -278,14 +298,12 @@ class Model:
             return "too-many-sources"
         if name in self.live:
             return "mount-in-use"
-        client.state = "feeds"
-        self.live[name] = Session(name, client, self.now)
-        client.feeding = name
-        self.comes_up(name)
+        client.state, client.feeding = "feeds", name
+        self.begins(name, client)
         return None
 
     def listens(self, client, name, pair):
-        if name not in self.tables and name not in self.live:
+        if name not in self.tables and name not in self.live and name not in self.relays:
             return "no-mount"
         if not self.lets_in(name, pair):
             return "listener-password"
@@ -294,8 +312,8 @@ class Model:
         lands, rule = self.walk(name, pair)
         if lands is None:
             return rule
-        self.met["sat down" if lands == name else "sat down elsewhere"] += 1
-        session = self.live[lands]
+        self.met["waits" if lands not in self.live else "sat down" if lands == name else "sat down elsewhere"] += 1
+        session = self.heard_at(lands)
         most = self.mount(lands).burst
         end = len(session.data)
         client.state, client.home, client.mount, client.session = "listens", name, lands, session
@@ -332,7 +350,7 @@ class Model:
     def leaves(self, client):
         if client.state == "feeds":
             self.ends(client.feeding)
-        del self.clients[client.number]
+        self.clients.pop(client.number, None)
 
     def draws(self, client, room):
         data = client.session.data[client.place : client.place + room]
@@ -365,7 +383,7 @@ class Model:
             lines.append(f"shut {label} {word}")
             client = self.labels[label]
             self.labels[label] = None
-            if client is not None and client.number in self.clients:
+            if client is not None:
                 self.leaves(client)
         return lines
 
@@ -418,6 +436,22 @@ class Model:
         lines = ["HTTP/1.0 200 OK", "Content-Type: audio/mpeg"] + [f"icy-name: {shown}"] * (shown != "")
         lines += [f"icy-metaint: {self.mount(client.home).interval}"] * client.wants + ["Connection: close", "", ""]
         return "\r\n".join(lines).encode()
+
+    def pulls(self, label, name):
+        self.labels[label] = Relay(name)
+        return self.says(label, REQUEST)
+
+    def answers(self, label, data):
+        """The head of a master's answer, and data behind it."""
+        relay = self.labels[label]
+        if len(self.live) >= self.limits["sources"]:
+            return self.says(label, word="too-many-sources")
+        if relay.feeding in self.live:
+            return self.says(label, word="mount-in-use")
+        self.last += 1
+        relay.number, relay.state = self.last, "feeds"
+        self.begins(relay.feeding, relay)
+        return self.brings(label, data)
 
     def brings(self, label, data):
         client = self.labels[label]
