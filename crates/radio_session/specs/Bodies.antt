@@ -1,7 +1,8 @@
 -- What a source's body is heard as, behind its head (RFC 9112, section 6).
-use Rattle.std.specs.Prelude.{◌≡◌, ℕ, true, List, [], ◌∷◌, ◌++◌, length, codes, Some}
+use Rattle.std.specs.Prelude.{◌≡◌, ℕ, true, List, [], ◌∷◌, ◌++◌, length, map, codes, Some}
 use Rattle.radio_events.specs.declared.event.Event.{Event}
-use Rattle.radio_events.specs.declared.event.Event.TheVariants.{SourceEnd}
+use Rattle.radio_events.specs.declared.event.Event.TheVariants.{Push, SourceEnd}
+use Rattle.radio_blocks.specs.Cutting.{blocks_of}
 use Rattle.radio_heads.specs.Head.{RequestParts}
 use Rattle.radio_source.specs.Chunked.{ChunkedBody, IsBody, print_body, content_of}
 use Rattle.radio_session.specs.declared.session.framing.Framing.{Framing}
@@ -12,12 +13,11 @@ use Rattle.radio_session.specs.declared.session.LastWord.{LastWord}
 use Rattle.radio_session.specs.Conversation.{Conversation, ending_word}
 use Rattle.radio_session.specs.Framing.{is_source, framing_of}
 use Rattle.radio_session.specs.Hearing.{Heard, request_heard}
-use Rattle.radio_session.specs.Pushes.{pushes}
 use Rattle.radio_session.specs.Saying.{last_ending}
 
--- a source asks to feed, and its data are these
+-- a source asks to feed, and its data are these, in blocks
 abbrev pub feeds : ℕ → RequestParts → List ℕ → List Event
-feeds id request bytes = asks_to_feed id request ∷ pushes id bytes
+feeds id request bytes = asks_to_feed id request ∷ map (Push id) (blocks_of bytes)
 
 -- the request of a source whose data come so
 pub record IsFramed (request : RequestParts) (framing : Framing) : Type 0 where
