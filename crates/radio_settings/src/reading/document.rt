@@ -3,8 +3,8 @@ ghost use Rattle.std.specs.Prelude.{◌≡◌, ◌≢◌, Ok, Err, IfOk, IfErr, 
 ghost use Rattle.toml.specs.Parse.{parse_document};
 ghost use Rattle.toml.specs.View.{table_view};
 ghost use Rattle.radio_settings.specs.Document.{reading_of, settings_of};
-ghost use Rattle.radio_settings.specs.Parts.{apart_fault, basics_fault, basics_of, fault_by_parts, listed, listed_in, listen_and_limits_fault, named_fault};
-ghost use Rattle.radio_settings.specs.Parts.{listen_and_limits_of, listen_with, lists_fault, optional_slave_fault, settings_with, streams_fault, streams_of};
+ghost use Rattle.radio_settings.specs.Parts.{apart_fault, basics_fault, basics_of, basics_with, fault_by_parts, listed, listed_in, lists_fault, named_fault};
+ghost use Rattle.radio_settings.specs.Parts.{optional_slave_fault, settings_with, station_fault, station_of, streams_fault, streams_of};
 ghost use Rattle.radio_settings.specs.Lookup.{table_at};
 ghost use Rattle.radio_settings.specs.Slave.{slave_of};
 ghost use Rattle.radio_settings.specs.declared.key.Key.TheVariants.{Slave};
@@ -70,8 +70,7 @@ fn settings(alloc: Global, document: &Table) -> Result<Settings, SettingsFault>
         Reads (fault_by_parts d) (settings_of d) result }
 {
     let basics = read_basics(alloc, document)?;
-    let streams = read_streams(alloc, document, &basics)?;
-    Ok(basics.with(streams))
+    basics.with_streams(alloc, document)
 }
 
 /// What is set for the whole station.
@@ -84,6 +83,15 @@ struct Basics {
 }
 
 impl Basics {
+    /// All settings, with those that the document has for streams.
+    fn with_streams(self, alloc: Global, document: &Table) -> Result<Settings, SettingsFault>
+        ensures { let d = table_view document.now in
+            Reads (streams_fault self d) (settings_with self (streams_of self d)) result }
+    {
+        let streams = read_streams(alloc, document, &self)?;
+        Ok(self.with(streams))
+    }
+
     /// All settings, with those of streams.
     fn with(self, streams: Streams) -> Settings
         ensures { result ≡ settings_with self streams }
@@ -109,27 +117,42 @@ fn read_basics(alloc: Global, document: &Table) -> Result<Basics, SettingsFault>
         Reads (basics_fault d) (basics_of d) result }
 {
     let access = access(alloc, document)?;
-    let (listen, limits) = listen_and_limits(alloc, document)?;
-    let web = web(alloc, document)?;
-    Ok(Basics {
-        access,
-        listen,
-        limits,
-        web,
-    })
+    let station = read_station(alloc, document)?;
+    Ok(station.with(access))
 }
 
-#[tactic(auto, unfolding(crate::specs::Parts::listen_and_limits_fault))]
-fn listen_and_limits(
-    alloc: Global,
-    document: &Table,
-) -> Result<(ListenSettings, LimitSettings), SettingsFault>
+/// What the tables `[listen]`, `[limits]` and `[web]` set.
+#[derive(Drop)]
+struct StationTables {
+    listen: ListenSettings,
+    limits: LimitSettings,
+    web: WebSettings,
+}
+
+impl StationTables {
+    /// What is set for the whole station, with the keys above all tables.
+    fn with(self, access: AccessSettings) -> Basics
+        ensures { result ≡ basics_with access self }
+    {
+        Basics {
+            access,
+            listen: self.listen,
+            limits: self.limits,
+            web: self.web,
+        }
+    }
+}
+
+#[tactic(auto, unfolding(crate::specs::Parts::station_fault))]
+fn read_station(alloc: Global, document: &Table) -> Result<StationTables, SettingsFault>
     ensures { let d = table_view document.now in
-        ReadsAs (λ p. listen_with p.0 p.1) (listen_and_limits_fault d) (listen_and_limits_of d) result }
+        Reads (station_fault d) (station_of d) result }
 {
-    let listen = listen(alloc, document)?;
-    let limits = limits(alloc, document)?;
-    Ok((listen, limits))
+    Ok(StationTables {
+        listen: listen(alloc, document)?,
+        limits: limits(alloc, document)?,
+        web: web(alloc, document)?,
+    })
 }
 
 /// What is set for streams.
