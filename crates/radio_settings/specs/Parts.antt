@@ -51,11 +51,8 @@ station_of document = record {
 unfoldable pub basics_fault : Members → Option SettingsFault
 basics_fault document = first_fault (access_fault document ∷ station_fault document ∷ [])
 
-abbrev pub basics_with : AccessSettings → StationTables → Basics
-basics_with access station = record { access = access; listen = station.listen; limits = station.limits; web = station.web }
-
 abbrev pub basics_of : Members → Basics
-basics_of document = basics_with (access_of document) (station_of document)
+basics_of document = record { access = access_of document; station = station_of document }
 
 -- the first fault of a list of tables, and of a table some keys of which must be there
 unfoldable pub mounts_fault : Members → Option SettingsFault
@@ -91,22 +88,22 @@ named_fault access limits document =
 -- and then the names that are paths of the web site
 unfoldable pub streams_fault : Basics → Members → Option SettingsFault
 streams_fault basics document =
-    first_fault (named_fault basics.access basics.limits document
-    ∷ web_names_fault basics.web (mounts_of basics.access basics.limits document) (relays_of document)
+    first_fault (named_fault basics.access basics.station.limits document
+    ∷ web_names_fault basics.station.web (mounts_of basics.access basics.station.limits document) (relays_of document)
     ∷ [])
 
 abbrev pub streams_of : Basics → Members → Streams
 streams_of basics document = record {
-  named = listed_in basics.access basics.limits document;
-  other_mounts = options_of basics.access basics.limits no_members;
+  named = listed_in basics.access basics.station.limits document;
+  other_mounts = options_of basics.access basics.station.limits no_members;
 }
 
 abbrev pub settings_with : Basics → Streams → Settings
 settings_with basics streams = record {
   access = basics.access;
-  listen = basics.listen;
-  limits = basics.limits;
-  web = basics.web;
+  listen = basics.station.listen;
+  limits = basics.station.limits;
+  web = basics.station.web;
   mounts = streams.named.mounts;
   other_mounts = streams.other_mounts;
   relays = streams.named.relays;

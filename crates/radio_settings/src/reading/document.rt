@@ -3,7 +3,7 @@ ghost use Rattle.std.specs.Prelude.{◌≡◌, ◌≢◌, Ok, Err, IfOk, IfErr, 
 ghost use Rattle.toml.specs.Parse.{parse_document};
 ghost use Rattle.toml.specs.View.{table_view};
 ghost use Rattle.radio_settings.specs.Document.{reading_of, settings_of};
-ghost use Rattle.radio_settings.specs.Parts.{apart_fault, basics_fault, basics_of, basics_with, fault_by_parts, listed, listed_in, lists_fault, named_fault};
+ghost use Rattle.radio_settings.specs.Parts.{apart_fault, basics_fault, basics_of, fault_by_parts, listed, listed_in, lists_fault, named_fault};
 ghost use Rattle.radio_settings.specs.Parts.{optional_slave_fault, settings_with, station_fault, station_of, streams_fault, streams_of};
 ghost use Rattle.radio_settings.specs.Lookup.{table_at};
 ghost use Rattle.radio_settings.specs.Slave.{slave_of};
@@ -77,6 +77,12 @@ fn settings(alloc: Global, document: &Table) -> Result<Settings, SettingsFault>
 #[derive(Drop)]
 struct Basics {
     access: AccessSettings,
+    station: StationTables,
+}
+
+/// What the tables `[listen]`, `[limits]` and `[web]` set.
+#[derive(Drop)]
+struct StationTables {
     listen: ListenSettings,
     limits: LimitSettings,
     web: WebSettings,
@@ -88,20 +94,23 @@ impl Basics {
         ensures { let d = table_view document.now in
             Reads (streams_fault self d) (settings_with self (streams_of self d)) result }
     {
-        let streams = read_streams(alloc, document, &self)?;
-        Ok(self.with(streams))
+        match read_streams(alloc, document, &self) {
+            Ok(streams) => Ok(self.with(streams)),
+            Err(fault) => Err(fault),
+        }
     }
 
     /// All settings, with those of streams.
     fn with(self, streams: Streams) -> Settings
         ensures { result ≡ settings_with self streams }
     {
+        let station = self.station;
         let named = streams.named;
         Settings {
             access: self.access,
-            listen: self.listen,
-            limits: self.limits,
-            web: self.web,
+            listen: station.listen,
+            limits: station.limits,
+            web: station.web,
             mounts: named.mounts,
             other_mounts: streams.other_mounts,
             relays: named.relays,
@@ -116,31 +125,10 @@ fn read_basics(alloc: Global, document: &Table) -> Result<Basics, SettingsFault>
     ensures { let d = table_view document.now in
         Reads (basics_fault d) (basics_of d) result }
 {
-    let access = access(alloc, document)?;
-    let station = read_station(alloc, document)?;
-    Ok(station.with(access))
-}
-
-/// What the tables `[listen]`, `[limits]` and `[web]` set.
-#[derive(Drop)]
-struct StationTables {
-    listen: ListenSettings,
-    limits: LimitSettings,
-    web: WebSettings,
-}
-
-impl StationTables {
-    /// What is set for the whole station, with the keys above all tables.
-    fn with(self, access: AccessSettings) -> Basics
-        ensures { result ≡ basics_with access self }
-    {
-        Basics {
-            access,
-            listen: self.listen,
-            limits: self.limits,
-            web: self.web,
-        }
-    }
+    Ok(Basics {
+        access: access(alloc, document)?,
+        station: read_station(alloc, document)?,
+    })
 }
 
 #[tactic(auto, unfolding(crate::specs::Parts::station_fault))]
@@ -167,7 +155,7 @@ fn read_streams(alloc: Global, document: &Table, basics: &Basics) -> Result<Stre
         Reads (streams_fault basics.now d) (streams_of basics.now d) result }
 {
     let named = read_named(alloc, document, basics)?;
-    let other_mounts = default_options(alloc, &basics.access, &basics.limits)?;
+    let other_mounts = default_options(alloc, &basics.access, &basics.station.limits)?;
     Ok(Streams {
         named,
         other_mounts,
@@ -190,11 +178,11 @@ fn read_named(
     basics: &Basics,
 ) -> Result<NamedStreams, SettingsFault>
     ensures { let d = table_view document.now in
-        Reads (streams_fault basics.now d) (listed_in basics.now.access basics.now.limits d) result }
+        Reads (streams_fault basics.now d) (listed_in basics.now.access basics.now.station.limits d) result }
 {
-    let named = read_apart(alloc, document, &basics.access, &basics.limits)?;
+    let named = read_apart(alloc, document, &basics.access, &basics.station.limits)?;
     match names_fault(
-        &basics.web,
+        &basics.station.web,
         named.mounts.as_slice(),
         named.relays.as_slice(),
     ) {
