@@ -9,10 +9,10 @@ use Rattle.radio_settings.specs.Rows.{first_fault}
 use Rattle.radio_settings.specs.Access.{access_fault}
 use Rattle.radio_settings.specs.Document.{access_faults, listen_faults, limits_faults, web_faults, mounts_faults, relays_faults, slave_faults, repeat_faults, name_faults}
 use Rattle.radio_settings.specs.Document.{document_faults, document_reading, settings_or_fault, settings_of, reading_of}
-use Rattle.radio_settings.specs.Parts.{apart_fault, basics_fault, fault_by_parts, limits_table_fault, listen_and_limits_fault, listen_table_fault, lists_fault}
-use Rattle.radio_settings.specs.Parts.{mounts_fault, named_fault, optional_slave_fault, relays_fault, streams_fault, web_table_fault}
+use Rattle.radio_settings.specs.Parts.{apart_fault, basics_fault, fault_by_parts, limits_table_fault, listen_table_fault, lists_fault}
+use Rattle.radio_settings.specs.Parts.{mounts_fault, named_fault, optional_slave_fault, relays_fault, station_fault, streams_fault, web_table_fault}
 use Rattle.radio_settings.specs.WebNames.{web_names_fault}
-use Rattle.radio_settings.proofs.FaultLemmas.{first_fault-append, in_nested_groups}
+use Rattle.radio_settings.proofs.FaultLemmas.{first_fault-append, in_nested_groups, in_one}
 
 abbrev Faults : Type 0
 Faults = List (Option SettingsFault)
@@ -31,10 +31,10 @@ before_more xs ys y known = first_fault-append xs ys ∙ ap (option_or (first_fa
 abbrev basics : Members → Faults
 basics d = access_fault d ∷ listen_table_fault d ∷ limits_table_fault d ∷ web_table_fault d ∷ []
 
--- two tables in one
+-- three tables in one
 basics_grouped : (d : Members) → first_fault (basics d) ≡ basics_fault d
-unfolding basics_fault listen_and_limits_fault
-basics_grouped d = ap (option_or (access_fault d)) (first_fault-append (listen_table_fault d ∷ limits_table_fault d ∷ []) (web_table_fault d ∷ []))
+unfolding basics_fault station_fault
+basics_grouped d = ap (option_or (access_fault d)) (in_one (listen_table_fault d ∷ limits_table_fault d ∷ web_table_fault d ∷ []))
 
 abbrev lists : Members → Faults
 lists d = mounts_fault d ∷ relays_fault d ∷ optional_slave_fault d ∷ []

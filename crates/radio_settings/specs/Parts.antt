@@ -6,10 +6,10 @@ use Rattle.radio_settings.specs.declared.key.Key.TheVariants.{Listen, Limits, Sl
 use Rattle.radio_settings.specs.declared.fault.SettingsFault.{SettingsFault}
 use Rattle.radio_settings.specs.declared.reading.document.Basics.{Basics}
 use Rattle.radio_settings.specs.declared.reading.document.NamedStreams.{NamedStreams}
+use Rattle.radio_settings.specs.declared.reading.document.StationTables.{StationTables}
 use Rattle.radio_settings.specs.declared.reading.document.Streams.{Streams}
 use Rattle.radio_settings.specs.declared.settings.AccessSettings.{AccessSettings}
 use Rattle.radio_settings.specs.declared.settings.LimitSettings.{LimitSettings}
-use Rattle.radio_settings.specs.declared.settings.ListenSettings.{ListenSettings}
 use Rattle.radio_settings.specs.declared.settings.MountSetting.{MountSetting}
 use Rattle.radio_settings.specs.declared.settings.RelaySetting.{RelaySetting}
 use Rattle.radio_settings.specs.declared.settings.Settings.{Settings}
@@ -36,31 +36,23 @@ limits_table_fault document = first_fault (limits_faults document)
 unfoldable pub web_table_fault : Members → Option SettingsFault
 web_table_fault document = first_fault (web_faults document)
 
--- the first two tables
-unfoldable pub listen_and_limits_fault : Members → Option SettingsFault
-listen_and_limits_fault document = first_fault (listen_table_fault document ∷ limits_table_fault document ∷ [])
+-- `[listen]`, `[limits]` and `[web]`
+unfoldable pub station_fault : Members → Option SettingsFault
+station_fault document = first_fault (listen_table_fault document ∷ limits_table_fault document ∷ web_table_fault document ∷ [])
 
-pub record ListenAndLimits : Type 0 where
-  pub listen : ListenSettings
-  pub limits : LimitSettings
-
-abbrev pub listen_with : ListenSettings → LimitSettings → ListenAndLimits
-listen_with listen limits = record { listen = listen; limits = limits }
-
-abbrev pub listen_and_limits_of : Members → ListenAndLimits
-listen_and_limits_of document = listen_with (listen_of (table_or_empty Listen document)) (limits_of (table_or_empty Limits document))
-
--- the keys above all tables, `[listen]`, `[limits]` and `[web]`
-unfoldable pub basics_fault : Members → Option SettingsFault
-basics_fault document = first_fault (access_fault document ∷ listen_and_limits_fault document ∷ web_table_fault document ∷ [])
-
-abbrev pub basics_of : Members → Basics
-basics_of document = record {
-  access = access_of document;
+abbrev pub station_of : Members → StationTables
+station_of document = record {
   listen = listen_of (table_or_empty Listen document);
   limits = limits_of (table_or_empty Limits document);
   web = web_of (table_or_empty Web document);
 }
+
+-- the keys above all tables, and these tables
+unfoldable pub basics_fault : Members → Option SettingsFault
+basics_fault document = first_fault (access_fault document ∷ station_fault document ∷ [])
+
+abbrev pub basics_of : Members → Basics
+basics_of document = record { access = access_of document; station = station_of document }
 
 -- the first fault of a list of tables, and of a table some keys of which must be there
 unfoldable pub mounts_fault : Members → Option SettingsFault
@@ -96,22 +88,22 @@ named_fault access limits document =
 -- and then the names that are paths of the web site
 unfoldable pub streams_fault : Basics → Members → Option SettingsFault
 streams_fault basics document =
-    first_fault (named_fault basics.access basics.limits document
-    ∷ web_names_fault basics.web (mounts_of basics.access basics.limits document) (relays_of document)
+    first_fault (named_fault basics.access basics.station.limits document
+    ∷ web_names_fault basics.station.web (mounts_of basics.access basics.station.limits document) (relays_of document)
     ∷ [])
 
 abbrev pub streams_of : Basics → Members → Streams
 streams_of basics document = record {
-  named = listed_in basics.access basics.limits document;
-  other_mounts = options_of basics.access basics.limits no_members;
+  named = listed_in basics.access basics.station.limits document;
+  other_mounts = options_of basics.access basics.station.limits no_members;
 }
 
 abbrev pub settings_with : Basics → Streams → Settings
 settings_with basics streams = record {
   access = basics.access;
-  listen = basics.listen;
-  limits = basics.limits;
-  web = basics.web;
+  listen = basics.station.listen;
+  limits = basics.station.limits;
+  web = basics.station.web;
   mounts = streams.named.mounts;
   other_mounts = streams.other_mounts;
   relays = streams.named.relays;

@@ -3,8 +3,8 @@ ghost use Rattle.std.specs.Prelude.{◌≡◌, ◌≢◌, Ok, Err, IfOk, IfErr, 
 ghost use Rattle.toml.specs.Parse.{parse_document};
 ghost use Rattle.toml.specs.View.{table_view};
 ghost use Rattle.radio_settings.specs.Document.{reading_of, settings_of};
-ghost use Rattle.radio_settings.specs.Parts.{apart_fault, basics_fault, basics_of, fault_by_parts, listed, listed_in, listen_and_limits_fault, named_fault};
-ghost use Rattle.radio_settings.specs.Parts.{listen_and_limits_of, listen_with, lists_fault, optional_slave_fault, settings_with, streams_fault, streams_of};
+ghost use Rattle.radio_settings.specs.Parts.{apart_fault, basics_fault, basics_of, fault_by_parts, listed, listed_in, lists_fault, named_fault};
+ghost use Rattle.radio_settings.specs.Parts.{optional_slave_fault, settings_with, station_fault, station_of, streams_fault, streams_of};
 ghost use Rattle.radio_settings.specs.Lookup.{table_at};
 ghost use Rattle.radio_settings.specs.Slave.{slave_of};
 ghost use Rattle.radio_settings.specs.declared.key.Key.TheVariants.{Slave};
@@ -70,30 +70,47 @@ fn settings(alloc: Global, document: &Table) -> Result<Settings, SettingsFault>
         Reads (fault_by_parts d) (settings_of d) result }
 {
     let basics = read_basics(alloc, document)?;
-    let streams = read_streams(alloc, document, &basics)?;
-    Ok(basics.with(streams))
+    basics.with_streams(alloc, document)
 }
 
 /// What is set for the whole station.
 #[derive(Drop)]
 struct Basics {
     access: AccessSettings,
+    station: StationTables,
+}
+
+/// What the tables `[listen]`, `[limits]` and `[web]` set.
+#[derive(Drop)]
+struct StationTables {
     listen: ListenSettings,
     limits: LimitSettings,
     web: WebSettings,
 }
 
 impl Basics {
+    /// All settings, with those that the document has for streams.
+    fn with_streams(self, alloc: Global, document: &Table) -> Result<Settings, SettingsFault>
+        ensures { let d = table_view document.now in
+            Reads (streams_fault self d) (settings_with self (streams_of self d)) result }
+    {
+        match read_streams(alloc, document, &self) {
+            Ok(streams) => Ok(self.with(streams)),
+            Err(fault) => Err(fault),
+        }
+    }
+
     /// All settings, with those of streams.
     fn with(self, streams: Streams) -> Settings
         ensures { result ≡ settings_with self streams }
     {
+        let station = self.station;
         let named = streams.named;
         Settings {
             access: self.access,
-            listen: self.listen,
-            limits: self.limits,
-            web: self.web,
+            listen: station.listen,
+            limits: station.limits,
+            web: station.web,
             mounts: named.mounts,
             other_mounts: streams.other_mounts,
             relays: named.relays,
@@ -108,28 +125,22 @@ fn read_basics(alloc: Global, document: &Table) -> Result<Basics, SettingsFault>
     ensures { let d = table_view document.now in
         Reads (basics_fault d) (basics_of d) result }
 {
-    let access = access(alloc, document)?;
-    let (listen, limits) = listen_and_limits(alloc, document)?;
-    let web = web(alloc, document)?;
     Ok(Basics {
-        access,
-        listen,
-        limits,
-        web,
+        access: access(alloc, document)?,
+        station: read_station(alloc, document)?,
     })
 }
 
-#[tactic(auto, unfolding(crate::specs::Parts::listen_and_limits_fault))]
-fn listen_and_limits(
-    alloc: Global,
-    document: &Table,
-) -> Result<(ListenSettings, LimitSettings), SettingsFault>
+#[tactic(auto, unfolding(crate::specs::Parts::station_fault))]
+fn read_station(alloc: Global, document: &Table) -> Result<StationTables, SettingsFault>
     ensures { let d = table_view document.now in
-        ReadsAs (λ p. listen_with p.0 p.1) (listen_and_limits_fault d) (listen_and_limits_of d) result }
+        Reads (station_fault d) (station_of d) result }
 {
-    let listen = listen(alloc, document)?;
-    let limits = limits(alloc, document)?;
-    Ok((listen, limits))
+    Ok(StationTables {
+        listen: listen(alloc, document)?,
+        limits: limits(alloc, document)?,
+        web: web(alloc, document)?,
+    })
 }
 
 /// What is set for streams.
@@ -144,7 +155,7 @@ fn read_streams(alloc: Global, document: &Table, basics: &Basics) -> Result<Stre
         Reads (streams_fault basics.now d) (streams_of basics.now d) result }
 {
     let named = read_named(alloc, document, basics)?;
-    let other_mounts = default_options(alloc, &basics.access, &basics.limits)?;
+    let other_mounts = default_options(alloc, &basics.access, &basics.station.limits)?;
     Ok(Streams {
         named,
         other_mounts,
@@ -167,11 +178,11 @@ fn read_named(
     basics: &Basics,
 ) -> Result<NamedStreams, SettingsFault>
     ensures { let d = table_view document.now in
-        Reads (streams_fault basics.now d) (listed_in basics.now.access basics.now.limits d) result }
+        Reads (streams_fault basics.now d) (listed_in basics.now.access basics.now.station.limits d) result }
 {
-    let named = read_apart(alloc, document, &basics.access, &basics.limits)?;
+    let named = read_apart(alloc, document, &basics.access, &basics.station.limits)?;
     match names_fault(
-        &basics.web,
+        &basics.station.web,
         named.mounts.as_slice(),
         named.relays.as_slice(),
     ) {
