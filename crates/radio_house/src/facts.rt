@@ -78,7 +78,7 @@ impl House {
     fn is_spent_by(&self, mount: &MountName, more: u64) -> bool
         ensures { result ≡ nat_lt largest_number (live_end self.now mount.now + more) }
     {
-        // no stream goes further, so that none is looked up before that many bytes have come
+        // no stream goes further, so that none is looked up before one has nearly 2^64 bytes
         if self.furthest.checked_add(more).is_some() {
             return false;
         }
