@@ -9,6 +9,7 @@ use Rattle.radio_access.specs.Lists.{Lists, lets_in}
 use Rattle.radio_seats.specs.declared.seat.Seat.{Seat}
 use Rattle.radio_seats.specs.Seats.{seat_of}
 use Rattle.radio_events.specs.declared.event.Event.{Event}
+use Rattle.radio_house.specs.Fallbacks.{Fallback}
 use Rattle.radio_house.specs.Outsiders.{is_shut_out}
 use Rattle.radio_house.specs.World.{World}
 use Rattle.radio_parts.specs.Sessions.{Session}
@@ -22,9 +23,10 @@ use Rattle.radio_core.proofs.Fates.{Fates, Nobody, seats_fates}
 abbrev pub with_lists : World → Lists → World
 with_lists w lists = record w { house = record w.house { lists = lists } }
 
--- what holds of every state of a run says nothing of them
-pub sound_lists : (w : World) → IsSound w → (lists : Lists) → IsSound (with_lists w lists)
-sound_lists w s lists = record {
+-- what holds of every state of a run says nothing of them, nor of the fallbacks that are set
+pub sound_set : (w : World) → IsSound w → (lists : Lists) (fallbacks : List Fallback)
+    → IsSound (record w { house = record w.house { lists = lists; fallbacks = fallbacks } })
+sound_set w s lists fallbacks = record {
   numbered = s.numbered;
   from_one = s.from_one;
   feeds = s.feeds;

@@ -28,7 +28,7 @@ use Rattle.radio_house.specs.Clients.{client_of}
 use Rattle.radio_house.specs.Relays.{relay_of}
 use Rattle.radio_access.specs.Lists.{Lists, with_user_at, without_user_at}
 use Rattle.radio_core.specs.Allowed.{IsCommanded, ChangesUsers, Adds, Deletes}
-use Rattle.radio_core.proofs.ChangedUsers.{with_lists, sound_lists, users_fates}
+use Rattle.radio_core.proofs.ChangedUsers.{with_lists, sound_set, users_fates}
 use Rattle.radio_house.specs.CommandFacts.{is_live, sits_at, opens}
 use Rattle.radio_house.specs.Facts.{sight_of}
 use Rattle.radio_core.specs.Finishes.{Cause, SessionIsOver, IsKilled, HisSessionIsKilled}
@@ -64,6 +64,11 @@ pub record IsObeyed (w : World) (event : Event) (him : ℕ) (later : World) : Ty
   pub seats : (id : ℕ) → seat_of base.seats id ≡ seat_of w.seats id
   pub sound : IsSound base
   pub fates : Fates (Cause w later event) (Takes w event) Nobody (LeavesFor w event) base later
+
+-- what is looked up is there
+found_by : (found : Option Session) → is_some found ≡ true → (session : Session) × (found ≡ Some session)
+found_by None e = cc
+found_by (Some session) e = (session, refl)
 
 module _ (w : World) (s : IsSound w) (event : Event) where
   -- what holds of the world where the client has had his answer
@@ -210,10 +215,6 @@ module _ (w : World) (s : IsSound w) (event : Event) where
     abbrev cut_world : World
     cut_world = changed w (Obey c.asked.id (KillSource mount))
 
-    found_by : (found : Option Session) → is_some found ≡ true → (session : Session) × (found ≡ Some session)
-    found_by None e = cc
-    found_by (Some session) e = (session, refl)
-
     pub live : (session : Session) × (session_of w.house.live mount ≡ Some session)
     live = found_by (session_of w.house.live mount) (may_act (is_live w.house mount) (needs_hold w event c))
 
@@ -296,13 +297,9 @@ module _ (w : World) (s : IsSound w) (event : Event) where
     abbrev titled_world : World
     titled_world = changed w (Obey c.asked.id (SetTitle mount text))
 
-    title_found : (found : Option Session) → is_some found ≡ true → (session : Session) × (found ≡ Some session)
-    title_found None e = cc
-    title_found (Some session) e = (session, refl)
-
     pub title_live : (session : Session) × (session_of w.house.live mount ≡ Some session)
     title_live =
-        title_found (session_of w.house.live mount) (may_act (is_live w.house mount) (needs_hold w event c))
+        found_by (session_of w.house.live mount) (may_act (is_live w.house mount) (needs_hold w event c))
 
     sound_text : IsSound titled_world
     sound_text =
@@ -323,30 +320,16 @@ module _ (w : World) (s : IsSound w) (event : Event) where
     abbrev set_world : World
     set_world = changed w (Obey c.asked.id (SetFallback mount fallback))
 
-    sound_set : IsSound set_world
-    sound_set =
-        let before = sound_heard c in
-        record {
-          numbered = before.numbered;
-          from_one = before.from_one;
-          feeds = before.feeds;
-          fed = before.fed;
-          apart = before.apart;
-          starts = before.starts;
-          by_number = before.by_number;
-          sitting = before.sitting;
-          seated = λ id seat e.
-              let old = before.seated id seat e in
-              record { session = old.session; is_heard = old.is_heard; his_session = old.his_session; within = old.within };
-        }
+    sound_fallback : IsSound set_world
+    sound_fallback = sound_set (heard c) (sound_heard c) w.house.lists set_world.house.fallbacks
 
     obeyed_fallback : IsObeyed w event c.asked.id set_world
     obeyed_fallback = record {
       base = set_world;
       stands = λ id. refl;
       seats = λ id. refl;
-      sound = sound_set;
-      fates = fates_none (Cause w set_world event) (Takes w event) Nobody (LeavesFor w event) set_world sound_set;
+      sound = sound_fallback;
+      fates = fates_none (Cause w set_world event) (Takes w event) Nobody (LeavesFor w event) set_world sound_fallback;
     }
 
   -- the users of a mount are changed
@@ -354,13 +337,16 @@ module _ (w : World) (s : IsSound w) (event : Event) where
     abbrev listed_world : World
     listed_world = with_lists (heard c) lists
 
+    sound_listed : IsSound listed_world
+    sound_listed = sound_set (heard c) (sound_heard c) lists w.house.fallbacks
+
     obeyed_users : IsObeyed w event c.asked.id (outsiders_ended listed_world mount)
     obeyed_users = record {
       base = listed_world;
       stands = λ id. refl;
       seats = λ id. refl;
-      sound = sound_lists (heard c) (sound_heard c) lists;
-      fates = users_fates w listed_world event mount (sound_lists (heard c) (sound_heard c) lists) (λ id. refl) changes (Takes w event) (LeavesFor w event);
+      sound = sound_listed;
+      fates = users_fates w listed_world event mount sound_listed (λ id. refl) changes (Takes w event) (LeavesFor w event);
     }
 
   pub obeyed : (command : Command) (c : IsCommanded w event command) → IsObeyed w event c.asked.id (changed w (Obey c.asked.id command))

@@ -27,7 +27,7 @@ use Rattle.radio_parts.proofs.SessionLookups.{beside_fed, is_longer, is_new_sess
 use Rattle.radio_seats.proofs.SeatLaws.{listener_seated}
 use Rattle.radio_core.proofs.Standings.{Turns, asks, turns_feeding, turns_raised, stays_hearing, turns_given}
 use Rattle.radio_parts.proofs.RisingLemmas.{rising_more}
-use Rattle.radio_core.proofs.Soundness.{seated_still}
+use Rattle.radio_core.proofs.Soundness.{IsLiveStill, seated_still, seated_beside}
 use Rattle.radio_house.specs.Waiting.{heard_at}
 use Rattle.radio_seats.proofs.GivenLaws.{numbers_hearing}
 use Rattle.radio_core.proofs.GivenSeats.{given_from}
@@ -170,8 +170,7 @@ module _ (w : World) (s : IsSound w) (mount block : List ℕ) where
   abbrev after_block : World
   after_block = record w { house = received w.house mount block }
 
-  pub grown : (other : List ℕ) (session : Session) → session_of w.house.live other ≡ Some session
-      → (now : Session) × (session_of after_block.house.live other ≡ Some now) × (now.number ≡ session.number) × (end_of session.stream ≤ end_of now.stream)
+  pub grown : (other : List ℕ) (session : Session) → session_of w.house.live other ≡ Some session → IsLiveStill after_block.house other session
   grown other session e =
       by_name mount other
       (λ same.
@@ -222,25 +221,8 @@ module _ (w : World) (s : IsSound w) (mount block : List ℕ) where
         never;
     by_number = s.by_number;
     sitting = λ id seat e. s.sitting id seat e;
-    seated = λ id seat e.
-        let old = s.seated id seat e in
-        heard_cases w.house seat.mount old.session old.is_heard
-        (λ there.
-        let now = grown seat.mount old.session there in
-        record {
-          session = now.0;
-          is_heard = heard_live after_block.house seat.mount now.0 now.1;
-          his_session = now.2 ∙ old.his_session;
-          within = omega (arith, now.3, old.within);
-        })
-        (λ none silent.
-        by_name mount seat.mount (λ same. never (ap (session_of w.house.live) same ∙ none))
-        (λ apart. record {
-          session = old.session;
-          is_heard = heard_same after_block.house w.house seat.mount refl (beside_fed w.house.live mount seat.mount apart block w.house.time) ∙ old.is_heard;
-          his_session = old.his_session;
-          within = old.within;
-        }));
+    seated =
+        seated_beside w s after_block.house mount him feeding refl (λ other apart. beside_fed w.house.live mount other apart block w.house.time) grown;
   } where
     never : {A : Type 0} → session_of w.house.live mount ≡ None → A
     never {A} none = let ours = s.feeds him mount feeding in let found : session_of w.house.live mount ≡ Some ours.0 = ours.1 in cc

@@ -1,5 +1,5 @@
 -- what holds of every state of a run holds still when a source has set a title
-use Rattle.std.proofs.Common.{◌≡◌, ◌≤◌, false, ℕ, Some, List, refl, ap, sym, subst, ◌∙◌, None}
+use Rattle.std.proofs.Common.{◌≡◌, false, ℕ, Some, List, refl, ap, sym, subst, ◌∙◌, arith}
 use Rattle.std.specs.Str.{bytes_eq}
 use Rattle.radio_tables.proofs.KeyLaws.{by_name}
 use Rattle.radio_core.specs.declared.outcome.Change.TheVariants.{SetTitle}
@@ -11,7 +11,7 @@ use Rattle.radio_parts.specs.Stream.{AreRising, WholeStream, end_of}
 use Rattle.radio_core.specs.Sound.{IsSound}
 use Rattle.radio_parts.proofs.ApartLemmas.{updated_apart}
 use Rattle.radio_parts.proofs.SessionLookups.{beside_titled, is_titled}
-use Rattle.radio_core.proofs.HeardLemmas.{heard_cases, heard_live, heard_same}
+use Rattle.radio_core.proofs.Soundness.{IsLiveStill, seated_beside}
 
 -- a session is as it was, but that it may have another title
 pub record IsBut (session now : Session) : Type 0 where
@@ -39,16 +39,17 @@ module _ (w : World) (s : IsSound w) (mount text : List ℕ) (him : ℕ) (feedin
 
   -- what was live is live still
   live_still : (other : List ℕ) (session : Session) → session_of w.house.live other ≡ Some session
-      → (now : Session) × (session_of after_title.house.live other ≡ Some now) × IsBut session now
+      → IsLiveStill after_title.house other session
   live_still other session e =
       by_name mount other
       (λ same.
       let here : session_of w.house.live mount ≡ Some session = ap (session_of w.house.live) same ∙ e in (
         with_title (Some text) session,
         ap (session_of after_title.house.live) (sym same) ∙ is_titled w.house.live mount text session here,
-        record { number = refl; stream = refl },
+        refl,
+        omega arith,
       ))
-      (λ apart. (session, beside_titled w.house.live mount other apart text ∙ e, record { number = refl; stream = refl }))
+      (λ apart. (session, beside_titled w.house.live mount other apart text ∙ e, refl, omega arith))
 
   -- and what is live now was
   was_live : (other : List ℕ) (now : Session) → session_of after_title.house.live other ≡ Some now
@@ -65,7 +66,7 @@ module _ (w : World) (s : IsSound w) (mount text : List ℕ) (him : ℕ) (feedin
     feeds = λ id other e.
         let old = s.feeds id other e in
         let now = live_still other old.0 old.1 in
-        (now.0, now.1, sym now.2.number ∙ old.2);
+        (now.0, now.1, now.2 ∙ old.2);
     fed = λ other now e.
         let old = was_live other now e in
         ap (standing_of w) (sym old.2.number) ∙ s.fed other old.0 old.1;
@@ -75,24 +76,6 @@ module _ (w : World) (s : IsSound w) (mount text : List ℕ) (him : ℕ) (feedin
         subst (λ (x : WholeStream). AreRising x.starts (end_of x)) old.2.stream (s.starts other old.0 old.1);
     by_number = s.by_number;
     sitting = λ id seat e. s.sitting id seat e;
-    seated = λ id seat e.
-        let old = s.seated id seat e in
-        heard_cases w.house seat.mount old.session old.is_heard
-        (λ there.
-        let now = live_still seat.mount old.session there in
-        record {
-          session = now.0;
-          is_heard = heard_live after_title.house seat.mount now.0 now.1;
-          his_session = sym now.2.number ∙ old.his_session;
-          within = subst (λ (x : WholeStream). seat.place ≤ end_of x) now.2.stream old.within;
-        })
-        (λ none silent.
-        by_name mount seat.mount
-        (λ same. let ours = s.feeds him mount feeding in let there : session_of w.house.live mount ≡ None = ap (session_of w.house.live) same ∙ none in cc)
-        (λ apart. record {
-          session = old.session;
-          is_heard = heard_same after_title.house w.house seat.mount refl (beside_titled w.house.live mount seat.mount apart text) ∙ old.is_heard;
-          his_session = old.his_session;
-          within = old.within;
-        }));
+    seated =
+        seated_beside w s after_title.house mount him feeding refl (λ other apart. beside_titled w.house.live mount other apart text) live_still;
   }

@@ -1,13 +1,15 @@
 -- what holds of every state of a run holds still after each event
 use Rattle.std.proofs.Common.{◌≡◌, true, false, ℕ, ◌+◌, ◌<◌, ◌≤◌, ◌==◌, Option, Some, None, List, refl, ap, sym, subst, ◌∙◌, arith}
+use Rattle.std.specs.Str.{bytes_eq}
 use Rattle.std.proofs.lemmas.Bool.Decides.{nat_tests}
 use Rattle.radio_addr.specs.declared.peer.Peer.{Peer}
-use Rattle.radio_tables.proofs.KeyLaws.{by_number}
+use Rattle.radio_tables.proofs.KeyLaws.{by_number, by_name}
 use Rattle.radio_events.specs.declared.event.ListenRequest.{ListenRequest}
 use Rattle.radio_core.specs.declared.outcome.Change.TheVariants.{Answer, Admit, TakeSeat, Forget}
 use Rattle.radio_seats.specs.declared.seat.Seat.{Seat}
 use Rattle.radio_house.specs.declared.standing.Standing.{Standing}
 use Rattle.radio_house.specs.declared.standing.Standing.TheVariants.{Unknown, Undecided, Feeds, Sits, Answered}
+use Rattle.radio_house.specs.House.{House}
 use Rattle.radio_house.specs.World.{World, standing_of}
 use Rattle.radio_core.specs.Changes.{changed}
 use Rattle.radio_core.specs.Listen.{first_seat}
@@ -21,7 +23,12 @@ use Rattle.radio_parts.proofs.NumberOrder.{order_left, order_seated}
 use Rattle.radio_core.proofs.Standings.{Turns, asks, turns_answered, turns_sitting, turns_forgotten, turns_admitted}
 use Rattle.radio_house.specs.Waiting.{heard_at}
 use Rattle.radio_parts.specs.Stream.{AreRising, end_of}
-use Rattle.radio_core.proofs.HeardLemmas.{heard_cases}
+use Rattle.radio_core.proofs.HeardLemmas.{heard_cases, heard_live, heard_same}
+
+-- the mount has a session that is fed by the same source and goes as far
+abbrev pub IsLiveStill : House → List ℕ → Session → Type 0
+IsLiveStill house mount session =
+    (now : Session) × (session_of house.live mount ≡ Some now) × (now.number ≡ session.number) × (end_of session.stream ≤ end_of now.stream)
 
 module _ (w : World) (s : IsSound w) where
   -- who is seated is seated still, where there is the same to be heard
@@ -34,6 +41,32 @@ module _ (w : World) (s : IsSound w) where
     within =
         old.within;
   }
+
+  -- and where one mount's session has become another that goes as far, and no other mount's has
+  module _ (house : House) (mount : List ℕ) (him : ℕ) (feeding : standing_of w him ≡ Feeds mount) (settings : house.settings ≡ w.house.settings)
+      (beside : (other : List ℕ) → bytes_eq mount other ≡ false → session_of house.live other ≡ session_of w.house.live other)
+      (still : (other : List ℕ) (session : Session) → session_of w.house.live other ≡ Some session → IsLiveStill house other session) where
+    pub seated_beside : (id : ℕ) (seat : Seat) → seat_of w.seats id ≡ Some seat → IsSeatedIn (record w { house = house }) seat
+    seated_beside id seat e =
+        let old = s.seated id seat e in
+        heard_cases w.house seat.mount old.session old.is_heard
+        (λ there.
+        let now = still seat.mount old.session there in
+        record {
+          session = now.0;
+          is_heard = heard_live house seat.mount now.0 now.1;
+          his_session = now.2 ∙ old.his_session;
+          within = omega (arith, now.3, old.within);
+        })
+        (λ none silent.
+        by_name mount seat.mount
+        (λ same. let ours = s.feeds him mount feeding in let there : session_of w.house.live mount ≡ None = ap (session_of w.house.live) same ∙ none in cc)
+        (λ apart. record {
+          session = old.session;
+          is_heard = heard_same house w.house seat.mount settings (beside seat.mount apart) ∙ old.is_heard;
+          his_session = old.his_session;
+          within = old.within;
+        }))
 
   -- and sits still, where seats are as they were, and another turns who had none
   pub sits_still : (later : World) (him : ℕ) (now : Standing) → Turns w later him now → ((id : ℕ) → seat_of later.seats id ≡ seat_of w.seats id)

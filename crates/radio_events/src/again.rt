@@ -8,7 +8,7 @@ use bytes::Bytes;
 use radio_blocks::Block;
 use radio_creds::Pair;
 use radio_icy::Title;
-use radio_settings::Shown;
+use radio_settings::{MountName, Shown};
 
 impl Event {
     /// An equal event. `OutOfMemory` where memory was refused.
@@ -141,16 +141,23 @@ fn command_again(command: &Command) -> Result<Command, OutOfMemory>
             mount,
             user,
             password,
-        } => Ok(Command::AddUser {
-            mount: *mount,
-            user: user.clone()?,
-            password: password.clone()?,
-        }),
+        } => add_again(*mount, user, password),
         Command::DeleteUser { mount, user } => Ok(Command::DeleteUser {
             mount: *mount,
             user: user.clone()?,
         }),
     }
+}
+
+/// The same user and password for the mount. `OutOfMemory` where memory was refused.
+fn add_again(mount: MountName, user: &Bytes, password: &Bytes) -> Result<Command, OutOfMemory>
+    ensures { IfOk result (λ again. again ≡ Command.AddUser mount user.now password.now) }
+{
+    Ok(Command::AddUser {
+        mount,
+        user: user.clone()?,
+        password: password.clone()?,
+    })
 }
 
 /// The pair again, if there is one. `OutOfMemory` where memory was refused.

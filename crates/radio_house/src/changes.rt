@@ -1,9 +1,10 @@
 //! What can be changed in the house, one change by each call.
 
-ghost use Rattle.std.specs.Prelude.{◌≡◌, OnOk, OnErr};
+ghost use Rattle.std.specs.Prelude.{◌≡◌, IfOk, OnOk, OnErr};
 ghost use Rattle.std.specs.Option.{option_map};
 ghost use Rattle.radio_parts.specs.Sessions.{with_session, without_session};
 ghost use Rattle.radio_house.specs.Clients.{without_client};
+ghost use Rattle.radio_house.specs.Facts.{live_end};
 ghost use Rattle.radio_house.specs.HouseChanges.{now_in_state, admitted, begun, raised, finished_in, retitled, falling_back, timed_out_by, kept_received, with_user, without_user};
 ghost use Rattle.radio_house.specs.Relays.{Relay as RelayOf, relay_of, risen, with_relay, without_relay, put_back};
 
@@ -16,7 +17,7 @@ use crate::timeouts::TimesOut;
 use radio_addr::Peer;
 use radio_blocks::Block;
 use radio_icy::Title;
-use radio_parts::{Delivers, NewTitle, Session};
+use radio_parts::{NewTitle, Session, deliver};
 use radio_policy::Rule;
 use radio_settings::{MountName, Shown};
 use radio_tables::Table;
@@ -129,17 +130,17 @@ impl House {
     }
 
     /// The mount's session has delivered a block, and of its stream the last blocks are kept, as far
-    /// as a queue is long. `OutOfMemory` where memory was refused; nothing has changed then.
-    pub fn receive(&mut self, mount: &MountName, block: Block) -> Result<(), OutOfMemory>
-        ensures ok { OnOk result (self.new ≡ kept_received self.old mount.now block) }
+    /// as a queue is long; where the stream ends then. The session is looked up once. `OutOfMemory`
+    /// where memory was refused; nothing has changed then.
+    pub fn receive(&mut self, mount: &MountName, block: &Block) -> Result<u64, OutOfMemory>
+        ensures ok { OnOk result (self.new ≡ kept_received self.old mount.now block.now) }
+        ensures end { IfOk result (λ end. end ≡ live_end (kept_received self.old mount.now block.now) mount.now) }
         ensures err { OnErr result (self.new ≡ self.old) }
     {
-        let change = Delivers {
-            block,
-            moment: self.time,
-            limit: self.settings.limits.queue_size.get() as u64,
-        };
-        self.live.try_change(mount, &change)
+        let limit = self.settings.limits.queue_size.get() as u64;
+        let end = deliver(&mut self.live, mount, block, self.time, limit)?;
+        self.furthest = self.furthest.max(end);
+        Ok(end)
     }
 
     /// The mount's session has this title from now on. It takes no memory.

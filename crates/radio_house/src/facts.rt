@@ -1,18 +1,18 @@
 //! What is looked up in the house for the policy.
 
-ghost use Rattle.std.specs.Prelude.{◌≡◌, true, false, MatchOption};
+ghost use Rattle.std.specs.Prelude.{◌≡◌, ◌+◌, nat_lt, true, false, MatchOption};
 ghost use Rattle.std.specs.Option.{option_copied};
 ghost use Rattle.radio_settings.specs.Options.{options_for};
-ghost use Rattle.radio_house.specs.Facts.{arrive_facts, source_facts_at, relay_facts_at, listen_facts_at, walks_to, is_full, is_in_settings, is_known, fallback_of, names_mount};
+ghost use Rattle.radio_house.specs.Facts.{arrive_facts, source_facts_at, relay_facts_at, push_facts, listen_facts_at, walks_to, live_end, largest_number, is_full, is_in_settings, is_known, fallback_of, names_mount};
 
 use crate::house::House;
 use radio_access::{is_refused_type, is_source_pair};
 use radio_addr::Peer;
-use radio_blocks::Place;
+use radio_blocks::{Block, Place};
 use radio_creds::Pair;
 use radio_events::SourceRequest;
 use radio_fallback::{Landing, StreamEnd, View, Walk, walk_from};
-use radio_policy::{ArriveFacts, ListenFacts, RelayFacts, SourceFacts};
+use radio_policy::{ArriveFacts, ListenFacts, PushFacts, RelayFacts, SourceFacts};
 use radio_seats::Seats;
 use radio_settings::{MountName, Settings, Shown};
 
@@ -63,6 +63,26 @@ impl House {
             type_is_refused: is_refused_type(shown.content_type.as_bytes()),
             number_is_spent: self.last_id == u64::MAX,
         }
+    }
+
+    /// What is looked up for a source that delivers a block on the mount.
+    pub fn push_facts(&self, mount: &MountName, block: &Block) -> PushFacts
+        ensures { result ≡ push_facts self.now mount.now block.now }
+    {
+        PushFacts {
+            number_is_spent: self.is_spent_by(mount, block.len() as u64),
+        }
+    }
+
+    /// Whether the mount's stream would have more bytes than can be counted with so many more.
+    fn is_spent_by(&self, mount: &MountName, more: u64) -> bool
+        ensures { result ≡ nat_lt largest_number (live_end self.now mount.now + more) }
+    {
+        // no stream goes further, so that none is looked up before one has nearly 2^64 bytes
+        if self.furthest.checked_add(more).is_some() {
+            return false;
+        }
+        self.live_end(mount).checked_add(more).is_none()
     }
 
     /// What is looked up for a listener who sends this pair, or none, and wants to hear the mount,

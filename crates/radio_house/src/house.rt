@@ -40,10 +40,13 @@ pub struct House {
     pub(crate) relays: Table<Relay>,
     /// The number that was given last, to a client or a relay.
     pub(crate) last_id: u64,
+    /// No session's stream goes further than this.
+    pub(crate) furthest: u64,
 }
 
 impl Model for House {
     ghost use Rattle.radio_house.specs.House.{House};
+    ghost use Rattle.radio_parts.specs.Sessions.{GoNoFurther};
     ghost use Rattle.std.specs.Coded.{codes};
     ghost use Rattle.radio_creds.specs.contracts.user_list.Users as creds_users;
 
@@ -61,6 +64,8 @@ impl Model for House {
       relays = h.relays;
       last_id = h.last_id;
     } };
+
+    ghost invariant = { λ h. GoNoFurther h.furthest h.live };
 }
 
 impl House {
@@ -77,6 +82,7 @@ impl House {
             clients: Table::new(alloc),
             relays: Table::new(alloc),
             last_id: 0,
+            furthest: 0,
         }
     }
 
@@ -109,7 +115,7 @@ impl House {
     }
 
     /// How far the stream of the mount's session goes; 0 where it has none.
-    pub fn live_end(&self, mount: &MountName) -> u64
+    pub(crate) fn live_end(&self, mount: &MountName) -> u64
         ensures { result ≡ live_end self.now mount.now }
     {
         match self.session(mount) {

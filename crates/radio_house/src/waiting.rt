@@ -47,12 +47,25 @@ impl House {
 
     /// Listeners can be seated from now on at each mount that a relay feeds on demand. `OutOfMemory`
     /// where memory was refused; then they can be at some of these.
-    pub fn prepare_on_demand(&self, seats: &mut Seats) -> Result<(), OutOfMemory>
+    fn prepare_on_demand(&self, seats: &mut Seats) -> Result<(), OutOfMemory>
         ensures each { OnOk result ((mount : _) → is_on_demand self.now.settings mount ≡ true → is_prepared seats.new.prepared mount ≡ true) }
         ensures others { (mount : _) → is_prepared seats.old.prepared mount ≡ true → is_prepared seats.new.prepared mount ≡ true }
         ensures seats { seats.new.seats ≡ seats.old.seats }
     {
         prepare_each(self.settings.relays.as_slice(), seats)
+    }
+
+    /// Listeners can be seated from now on at the mount, and at each that a relay feeds on demand.
+    /// `OutOfMemory` where memory was refused; then they can be at some of these.
+    pub fn prepare_to_seat(&self, seats: &mut Seats, mount: &MountName) -> Result<(), OutOfMemory>
+        ensures mount { OnOk result (is_prepared seats.new.prepared mount.now ≡ true) }
+        ensures each { OnOk result ((mount : _) → is_on_demand self.now.settings mount ≡ true → is_prepared seats.new.prepared mount ≡ true) }
+        ensures others { (mount : _) → is_prepared seats.old.prepared mount ≡ true → is_prepared seats.new.prepared mount ≡ true }
+        ensures seats { seats.new.seats ≡ seats.old.seats }
+    {
+        self.prepare_on_demand(seats)?;
+        // where it is live it is prepared already
+        seats.prepare(mount)
     }
 
     /// The mounts where one of these listeners sits, which relays feed on demand, in the order of

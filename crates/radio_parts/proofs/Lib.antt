@@ -1,6 +1,8 @@
 mod KeptQueues
 pub mod ApartLemmas
+mod DeliveredLemmas
 pub mod DueLemmas
+pub mod FurthestLemmas
 pub mod KeptLists
 pub mod KeptStreams
 pub mod NumberLists

@@ -1,5 +1,6 @@
 -- What is kept of streams: the last whole blocks, as far as a queue is long. A byte that is forgotten reads as zero, so that no place changes.
-use Rattle.std.specs.Prelude.{ℕ, ◌-◌, nat_le, if◌then◌else◌, List, [], ◌∷◌, ◌++◌, drop, replicate, map}
+use Rattle.std.specs.Prelude.{◌≡◌, ℕ, ◌-◌, nat_le, if◌then◌else◌, List, [], ◌∷◌, ◌++◌, drop, replicate, map, Result, IfOk, OnOk, OnErr}
+use Rattle.std.specs.declared.alloc.AllocError.{AllocError}
 use Rattle.std.specs.List.{concat}
 use Rattle.radio_blocks.specs.Queue.{KeptTail, starts_from}
 use Rattle.radio_tables.specs.Lists.{update_first}
@@ -49,3 +50,9 @@ longer_kept limit block moment session = kept_session limit (longer block moment
 -- the mount's session has delivered the block
 abbrev pub kept_fed : ℕ → List Session → List ℕ → List ℕ → ℕ → List Session
 kept_fed limit live mount block moment = update_first (is_of mount) (longer_kept limit block moment) live
+
+-- a block was brought to a session of the mount: it has delivered it at this moment, and the answer is where its stream ends then; or it is as it was
+abbrev pub IsDelivered : ℕ → List ℕ → ℕ → Session → Result ℕ AllocError → Session → Type 0
+IsDelivered limit block moment session answer session' =
+    (session'.mount ≡ session.mount) × OnOk answer (session' ≡ longer_kept limit block moment session) × IfOk answer (λ end. end ≡ end_of session'.stream)
+    × OnErr answer (session' ≡ session)

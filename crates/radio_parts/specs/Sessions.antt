@@ -1,5 +1,5 @@
 -- The live mounts' sessions.
-use Rattle.std.specs.Prelude.{◌≡◌, ℕ, Bool, false, List, [], ◌∷◌, Option, Some, None, find, filter, not}
+use Rattle.std.specs.Prelude.{◌≡◌, ℕ, ◌≤◌, Bool, false, List, [], ◌∷◌, Option, Some, None, find, filter, not}
 use Rattle.std.specs.declared.cmp.Ordering.{Ordering}
 use Rattle.std.specs.Cmp.Lexicographic.{slice_cmp}
 use Rattle.std.specs.Ordering.{nat_cmp}
@@ -68,3 +68,7 @@ AreApart (session ∷ live) = Each (λ (other : Session). bytes_eq session.mount
 -- blocks start one after another, within the stream
 abbrev pub HasRisingStarts : Session → Type 0
 HasRisingStarts session = AreRising session.stream.starts (end_of session.stream)
+
+-- no stream goes further than this
+abbrev pub GoNoFurther : ℕ → List Session → Type 0
+GoNoFurther furthest live = Each (λ (session : Session). end_of session.stream ≤ furthest) live

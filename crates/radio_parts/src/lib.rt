@@ -1,7 +1,8 @@
 //! What one mount does by itself: its session, the stream of that, and what has had its time there.
 //!
-//! - [`Session`]: what a source feeds to a mount; a row of a table by mount, whose changes are
-//!   [`Delivers`] and [`NewTitle`]. [`first_silent`] and [`first_session_due`] look at all of them.
+//! - [`Session`]: what a source feeds to a mount; a row of a table by mount, to which [`deliver`]
+//!   brings a block, and a change [`NewTitle`] a title. [`first_silent`] and [`first_session_due`]
+//!   look at all of them.
 //! - [`Stream`]: the data of a session, of which the last blocks are kept.
 //! - [`lies_back`]: whether a moment lies so many seconds back; [`LagsBehind`] and [`HasSatOut`]
 //!   say of a listener that he has had his time.
@@ -15,7 +16,7 @@ mod stream;
 mod timeouts;
 
 pub use due::{GuestDue, LAST_MOMENT, due_at, seat_due};
-pub use sessions::{Delivers, NewTitle, Session, first_session_due, first_silent};
+pub use sessions::{NewTitle, Session, deliver, first_session_due, first_silent};
 pub use stream::Stream;
 pub use timeouts::{HasSatOut, LagsBehind, lies_back};
 

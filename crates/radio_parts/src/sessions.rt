@@ -1,12 +1,14 @@
 //! The live mounts' sessions.
 
-ghost use Rattle.std.specs.Prelude.{◌≡◌, find, map, IfOk};
+ghost use Rattle.std.specs.Prelude.{◌≡◌, find, map, IfOk, OnOk, OnErr};
 ghost use Rattle.std.specs.Cmp.Lexicographic.{slice_cmp};
 ghost use Rattle.std.specs.List.Sorted.{IsStrictlySortedBy};
-ghost use Rattle.std.specs.Option.{option_copied};
+ghost use Rattle.std.specs.Option.{option_copied, option_map_or};
 ghost use Rattle.std.specs.Ordering.{nat_cmp};
 ghost use Rattle.radio_parts.specs.Due.{earliest, session_due};
-ghost use Rattle.radio_parts.specs.Sessions.{Session as SessionOf, opened};
+ghost use Rattle.radio_parts.specs.Kept.{kept_fed};
+ghost use Rattle.radio_parts.specs.Sessions.{Session as SessionOf, opened, session_of};
+ghost use Rattle.radio_parts.specs.Stream.{end_of};
 ghost use Rattle.radio_parts.specs.Timeouts.{is_silent};
 
 use crate::OutOfMemory;
@@ -17,7 +19,7 @@ use radio_blocks::Block;
 use radio_icy::Title;
 use radio_seats::KeptName;
 use radio_settings::{MountName, Shown};
-use radio_tables::{Row, Swap, Table, TryChange};
+use radio_tables::{Row, Swap, Table, Visit};
 use std::alloc::Global;
 use std::marker::Model;
 use std::mem;
@@ -107,31 +109,54 @@ impl Row for Session {
     }
 }
 
-/// The session has delivered a block at this moment; of its stream the last blocks are kept that
-/// have `limit` bytes.
+/// What a block is brought to: the session delivers it at this moment, and of its stream the last
+/// blocks are kept that have `limit` bytes.
 #[derive(Drop)]
-pub struct Delivers {
-    /// The block.
-    pub block: Block,
+struct Delivers {
     /// The moment, in milliseconds.
-    pub moment: u64,
+    moment: u64,
     /// How many bytes the blocks have together that are kept, at least.
-    pub limit: u64,
+    limit: u64,
 }
 
-impl TryChange<Session> for Delivers {
-    ghost use Rattle.std.specs.Prelude.{refl};
-    ghost use Rattle.radio_parts.specs.Kept.{longer_kept};
+impl Visit<Session> for Delivers {
+    type Given = Block;
 
-    ghost gives = { λ change session. longer_kept change.limit change.block change.moment session };
+    /// Where the stream ends then.
+    type Answer = Result<u64, OutOfMemory>;
 
-    ghost keeps_key = { λ change session. refl };
+    ghost use Rattle.radio_parts.specs.Kept.{IsDelivered};
 
-    fn try_apply(&self, row: &mut Session) -> Result<(), OutOfMemory> {
-        let block = self.block.share()?;
+    ghost visits = { λ delivers block session answer delivers' session'. IsDelivered delivers.limit block delivers.moment session answer session' };
+
+    ghost keeps_key = { λ delivers delivers' block session session' answer delivered. delivered.0 };
+
+    fn visit(&mut self, row: &mut Session, block: &Block) -> Result<u64, OutOfMemory> {
+        let block = block.share()?;
         row.stream.push(block, self.limit)?;
         row.last_block = self.moment;
-        Ok(())
+        Ok(row.stream.end())
+    }
+}
+
+/// The mount's session, if it has one, has delivered a block at this moment, and of its stream the
+/// last blocks are kept that have `limit` bytes; where the stream ends then. The session is looked up
+/// once. `OutOfMemory` where memory was refused; nothing has changed then.
+pub fn deliver(
+    live: &mut Table<Session>,
+    mount: &MountName,
+    block: &Block,
+    moment: u64,
+    limit: u64,
+) -> Result<u64, OutOfMemory>
+    ensures ok { OnOk result (live.new ≡ kept_fed limit live.old mount.now block.now moment) }
+    ensures end { IfOk result (λ end. end ≡ option_map_or (λ (session : SessionOf). end_of session.stream) (session_of live.new mount.now) 0) }
+    ensures err { OnErr result (live.new ≡ live.old) }
+{
+    let mut delivers = Delivers { moment, limit };
+    match live.visit(mount, &mut delivers, block) {
+        Some(delivered) => delivered,
+        None => Ok(0),
     }
 }
 

@@ -1,9 +1,10 @@
 ghost use Rattle.std.specs.Prelude.{◌≡◌, IsOk, IfOk, OnOk, OnErr};
 ghost use Rattle.std.specs.Option.{option_map};
 ghost use Rattle.radio_seats.specs.declared.seat.Seat.{Seat as SeatOf};
-ghost use Rattle.radio_seats.specs.Seats.{seat_of, with_session_at};
-ghost use Rattle.radio_core.specs.Changes.{changed, carried_along, laggards_ended, called_home, session_ended, client_gone};
-ghost use Rattle.radio_core.specs.Counts.{counted, counts_along, counts_home, counts_ended};
+ghost use Rattle.radio_seats.specs.Seats.{seat_of, with_ended, with_session_at};
+ghost use Rattle.radio_parts.specs.Timeouts.{lags_behind};
+ghost use Rattle.radio_core.specs.Changes.{changed, carried_along, called_home, session_ended, client_gone};
+ghost use Rattle.radio_core.specs.Counts.{nobody, counted, counts_along, counts_home, counts_ended};
 ghost use Rattle.radio_core.specs.KeptChanges.{kept_changed, kept_taken_in};
 ghost use Rattle.radio_core.specs.Step.{NeedsNoMemory};
 
@@ -38,14 +39,8 @@ impl State {
             }
             Change::Begin { id, mount, shown } => self.begin(id, mount, shown),
             Change::Raise { id, mount, shown } => self.raise(id, mount, shown),
-            Change::Receive { mount, block } => {
-                self.take_in(mount, block)?;
-                Ok(NOBODY)
-            }
-            Change::TakeSeat { id, seat } => {
-                self.seat_listener(id, seat)?;
-                Ok(NOBODY)
-            }
+            Change::Receive { mount, block } => self.take_in(mount, block),
+            Change::TakeSeat { id, seat } => self.seat_listener(id, seat),
             Change::Obey { id, command } => self.obey(id, command),
             change => Ok(self.commit_in_place(change)),
         }
@@ -102,38 +97,39 @@ impl State {
     }
 
     /// The mount's session has delivered a block, and the listeners of the mount lose their seats
-    /// who are further behind than a queue is long.
-    fn take_in(&mut self, mount: MountName, block: Block) -> Result<(), OutOfMemory>
+    /// who are further behind than a queue is long; nobody is carried along.
+    fn take_in(&mut self, mount: MountName, block: Block) -> Result<Carried, OutOfMemory>
         ensures ok { OnOk result (self.new ≡ kept_taken_in self.old mount block) }
+        ensures counts { IfOk result (λ counts. counts ≡ nobody) }
         ensures err { OnErr result (self.new ≡ self.old) }
     {
-        self.house.receive(&mount, block)?;
-        self.end_laggards(mount);
-        Ok(())
+        let end = self.house.receive(&mount, &block)?;
+        self.end_laggards(&mount, end);
+        Ok(NOBODY)
     }
 
-    /// The listeners of the mount lose their seats who are further behind than a queue is long.
-    fn end_laggards(&mut self, mount: MountName)
-        ensures { self.new ≡ laggards_ended self.old mount }
+    /// The listeners of the mount, whose stream ends there, lose their seats who are further behind
+    /// than a queue is long.
+    fn end_laggards(&mut self, mount: &MountName, end: u64)
+        ensures { self.new ≡ record self.old { seats = with_ended self.old.seats (lags_behind mount.now end self.old.house.settings.limits.queue_size) Rule.Lagged } }
     {
-        let end = Place::new(self.house.live_end(&mount));
+        let end = Place::new(end);
         let queue = self.house.settings().limits.queue_size.get() as u64;
         let _lost = self
             .seats
-            .finish_at_if(&mount, &LagsBehind { end, queue }, Rule::Lagged);
+            .finish_at_if(mount, &LagsBehind { end, queue }, Rule::Lagged);
     }
 
-    /// The client has this seat from now on.
-    fn seat_listener(&mut self, id: u64, seat: Seat) -> Result<(), OutOfMemory>
+    /// The client has this seat from now on; nobody is carried along.
+    fn seat_listener(&mut self, id: u64, seat: Seat) -> Result<Carried, OutOfMemory>
         ensures ok { OnOk result (self.new ≡ changed self.old (Change.TakeSeat id seat)) }
+        ensures counts { IfOk result (λ counts. counts ≡ nobody) }
         ensures err { OnErr result (self.new ≡ self.old) }
     {
-        self.house.prepare_on_demand(&mut self.seats)?;
-        // where the mount is live it is prepared already
-        self.seats.prepare(&seat.mount)?;
+        self.house.prepare_to_seat(&mut self.seats, &seat.mount)?;
         self.seats.add(id, seat)?;
         self.house.set_state(id, ClientState::Listens);
-        Ok(())
+        Ok(NOBODY)
     }
 
     /// The client feeds the mount from now on, listeners can be seated there, those hear him who sat

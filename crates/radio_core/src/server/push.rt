@@ -6,7 +6,7 @@ use crate::outcome::{Change, Outcome};
 use radio_blocks::Block;
 use radio_events::Reply;
 use radio_house::Standing;
-use radio_policy::{Action, PushFacts, Verdict, judge};
+use radio_policy::{Action, Verdict, judge};
 
 impl State {
     /// A source delivers a block.
@@ -18,15 +18,9 @@ impl State {
             Standing::Finished(rule) => return Outcome::finished(rule),
             _ => return Outcome::stray(),
         };
-        let end = self.house.live_end(&mount);
-        let facts = PushFacts {
-            number_is_spent: end.checked_add(block.len() as u64).is_none(),
-        };
+        let facts = self.house.push_facts(&mount, &block);
         match judge(&Action::Push(facts)) {
-            Verdict::Deny(rule) => Outcome {
-                reply: Reply::Deny(rule),
-                change: Change::Nothing,
-            },
+            Verdict::Deny(rule) => Outcome::denied(rule),
             Verdict::Allow => Outcome {
                 reply: Reply::Noted,
                 change: Change::Receive { mount, block },
