@@ -10,7 +10,7 @@ use crate::{Line, OutOfMemory};
 use radio_addr::Peer;
 use radio_events::Reply;
 use radio_notes::{Account, Told};
-use radio_session::{Session, State};
+use radio_session::Session;
 use std::alloc::Global;
 use std::marker::Model;
 
@@ -147,12 +147,12 @@ impl<L: Line> Conn<L> {
     ) -> Result<Conn<L>, OutOfMemory>
         ensures { IfOk result (λ c. IsTurnedAway denial (L.given line) (L.taken line) ms c) }
     {
-        let account = Account::new(alloc, ms);
-        account.note_reply(Told::of(&denial));
+        let account = denied_account(alloc, &denial, ms);
         let mut session = Session::new(alloc, 0, peer);
-        let (owed, state) = told_first(alloc, &mut session, denial)?;
-        account.note_state(state);
-        Ok(Conn::ended(line, session, owed, account, ms))
+        match told_first(alloc, &mut session, &account, denial) {
+            Ok(owed) => Ok(Conn::ended(line, session, owed, account, ms)),
+            Err(refused) => Err(refused),
+        }
     }
 
     /// The connection of nobody, whose conversation has ended.
@@ -232,19 +232,30 @@ impl<L: Line> Conn<L> {
     }
 }
 
-/// What a connection is owed that is told this reply first, and whether it goes on. `OutOfMemory` where memory was refused.
+/// What is noted of one who was not let in, and replied to so.
+fn denied_account(alloc: Global, denial: &Reply, ms: u64) -> Account {
+    let account = Account::new(alloc, ms);
+    account.note_reply(Told::of(denial));
+    account
+}
+
+/// What a connection is owed that is told this reply first; whether it goes on is noted. `OutOfMemory` where memory was
+/// refused.
 fn told_first(
     alloc: Global,
     session: &mut Session,
+    account: &Account,
     reply: Reply,
-) -> Result<(Owed, State), OutOfMemory>
-    ensures bytes { IfOk result (λ told. told.0 ≡ (said session.old.says reply).bytes) }
-    ensures state { IfOk result (λ told. told.1 ≡ (said session.old.says reply).state) }
-    ensures says { IfOk result (λ told. session.new ≡ saying_now session.old (said session.old.says reply).says) }
+) -> Result<Owed, OutOfMemory>
+    ensures bytes { IfOk result (λ owed. owed ≡ (said session.old.says reply).bytes) }
+    ensures says { IfOk result (λ _. session.new ≡ saying_now session.old (said session.old.says reply).says) }
 {
     let mut owed = Owed::new(alloc);
     match owed.tell(session, reply) {
-        Ok(state) => Ok((owed, state)),
+        Ok(state) => {
+            account.note_state(state);
+            Ok(owed)
+        }
         Err(refused) => Err(refused),
     }
 }
