@@ -93,8 +93,6 @@ impl Rule {
         ensures { result.now ≡ word_of self }
     {
         match self {
-            Rule::AddressDenied => "address-denied",
-            Rule::AddressNotAllowed => "address-not-allowed",
             Rule::TooManyClients => "too-many-clients",
             Rule::BadMount => "bad-mount",
             Rule::SourcePassword => "source-password",
@@ -119,12 +117,24 @@ impl Rule {
             Rule::NumbersSpent => "numbers-spent",
             Rule::BadHead => "bad-head",
             Rule::BadMethod => "bad-method",
+            rule => rule.word_without_answer(),
+        }
+    }
+
+    /// The name of a rule by which nothing is denied in an answer.
+    fn word_without_answer(self) -> &'static str
+        ensures { status_of self ≡ None → result.now ≡ word_of self }
+    {
+        match self {
+            Rule::AddressDenied => "address-denied",
+            Rule::AddressNotAllowed => "address-not-allowed",
             Rule::Lagged => "lagged",
             Rule::TimeOver => "time-over",
             Rule::HeaderTimeout => "header-timeout",
             Rule::SourceSilent => "source-silent",
             Rule::Killed => "killed",
             Rule::SourceKilled => "source-killed",
+            _ => "",
         }
     }
 
