@@ -5,7 +5,7 @@ ghost use Rattle.radio_workers.specs.Hands.{HasTakenMore};
 
 use crate::leaving::leave_all;
 use crate::{Call, Post, Seat, Seen, Workplace};
-use radio_book::{Chronicle, House};
+use radio_book::{Chronicle, House, Pass};
 use radio_hall::{
     Caller, Conn, Gate, Line, Server, Watched, Worker, close_first_lingering, count_lingering,
 };
@@ -31,11 +31,49 @@ pub(crate) fn work<R: Wait, C: Chronicle, H: House, T: Drop, L: Line, P: Post<T,
     requires own { seat.old.hand.intake ≡ place.now.intake.now }
     ensures taken { HasTakenMore seat.old.hand seat.new.hand }
 {
-    if let Some(pass) = seat.pass.take() {
-        let server = Caller::new(rt, place.hall, pass);
-        let server = work_as(rt, alloc, place, &mut seat.post, &mut seat.hand, server);
-        seat.pass = Some(server.into_pass());
+    let pass = seat.pass.take();
+    let pass = work_if(rt, alloc, place, &mut seat.post, &mut seat.hand, pass);
+    put_back(&mut seat.pass, pass);
+}
+
+/// The pass stands at its seat again.
+fn put_back<C: Chronicle, H: House>(own: &mut Option<Pass<C, H>>, pass: Option<Pass<C, H>>) {
+    *own = pass;
+}
+
+/// The same with this pass of the hall, if it is there, which comes back.
+#[tactic(auto, using(crate::proofs::Takings::taken_none))]
+fn work_if<R: Wait, C: Chronicle, H: House, T: Drop, L: Line, P: Post<T, L>, G: Gate>(
+    rt: &R,
+    alloc: Global,
+    place: &Workplace<'_, C, H, T, G>,
+    post: &mut P,
+    hand: &mut IntakePass<T>,
+    pass: Option<Pass<C, H>>,
+) -> Option<Pass<C, H>>
+    requires own { hand.old.intake ≡ place.now.intake.now }
+    ensures taken { HasTakenMore hand.old hand.new }
+{
+    match pass {
+        Some(pass) => Some(work_with(rt, alloc, place, post, hand, pass)),
+        None => None,
     }
+}
+
+/// The same with this pass, which comes back.
+fn work_with<R: Wait, C: Chronicle, H: House, T: Drop, L: Line, P: Post<T, L>, G: Gate>(
+    rt: &R,
+    alloc: Global,
+    place: &Workplace<'_, C, H, T, G>,
+    post: &mut P,
+    hand: &mut IntakePass<T>,
+    pass: Pass<C, H>,
+) -> Pass<C, H>
+    requires own { hand.old.intake ≡ place.now.intake.now }
+    ensures taken { HasTakenMore hand.old hand.new }
+{
+    let server = Caller::new(rt, place.hall, pass);
+    work_as(rt, alloc, place, post, hand, server).into_pass()
 }
 
 /// The same as this server's worker, who answers the server.
@@ -105,12 +143,29 @@ impl<S: Server + Drop, L: Line> Shift<S, L> {
         requires own { hand.old.intake ≡ place.now.intake.now }
         ensures taken { HasTakenMore hand.old hand.new }
     {
-        let Some(call) = post.next(self.worker.log()) else {
-            return false;
-        };
+        match post.next(self.worker.log()) {
+            Some(call) => {
+                self.go_on(rt, place, post, hand, call);
+                true
+            }
+            None => false,
+        }
+    }
+
+    /// Takes in those whom he is called to take, and makes the turn.
+    fn go_on<R: Wait, C: Chronicle, H: House, T: Drop, P: Post<T, L>, G: Gate>(
+        &mut self,
+        rt: &R,
+        place: &Workplace<'_, C, H, T, G>,
+        post: &mut P,
+        hand: &mut IntakePass<T>,
+        call: Call,
+    )
+        requires own { hand.old.intake ≡ place.now.intake.now }
+        ensures taken { HasTakenMore hand.old hand.new }
+    {
         self.take_in(rt, place.intake, post, hand, call);
         self.make_turn(place.gate, post, call);
-        true
     }
 
     /// Takes in of those who wait as many as he is called to.
