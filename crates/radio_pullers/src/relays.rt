@@ -27,6 +27,15 @@ pub fn has_relays(settings: &Settings) -> bool {
     !settings.relays.as_slice().is_empty() || settings.slave.is_some()
 }
 
+/// Whose relays are kept running, and over what.
+#[derive(Drop)]
+struct Station<'a, N: Reach, C: Chronicle, H: House> {
+    net: &'a N,
+    hall: &'a Hall<C, H>,
+    board: &'a Board,
+    settings: &'a Settings,
+}
+
 /// Which relays run, and what the slave was told.
 #[derive(Drop)]
 struct Keeper {
@@ -50,16 +59,13 @@ impl Keeper {
     fn await_start<R: Clock + Wait, N: Reach, C: Chronicle, H: House>(
         &mut self,
         rt: &R,
-        net: &N,
-        hall: &Hall<C, H>,
-        board: &Board,
-        settings: &Settings,
+        station: &Station<'_, N, C, H>,
     ) -> Option<Arc<RunningRelay>> {
         'rounds: for _ in rt.forever() {
-            if board.is_over() {
+            if station.board.is_over() {
                 return None;
             }
-            if let Some(relay) = self.next_start(rt, net, hall, board, settings) {
+            if let Some(relay) = self.next_start(rt, station) {
                 return Some(relay);
             }
             let _ = sleep(rt, Duration::from_millis(ROUND_MS));
@@ -72,20 +78,38 @@ impl Keeper {
     fn next_start<R: Clock + Wait, N: Reach, C: Chronicle, H: House>(
         &mut self,
         rt: &R,
-        net: &N,
-        hall: &Hall<C, H>,
-        board: &Board,
-        settings: &Settings,
+        station: &Station<'_, N, C, H>,
     ) -> Option<Arc<RunningRelay>> {
         if self.has_failed {
             self.has_failed = false;
             return None;
         }
-        if let Some(slave) = &settings.slave {
-            self.listed.refresh(rt, net, board, slave);
+        self.refresh(rt, station);
+        match station.hall.wanted(rt) {
+            Ok(wanted) => self.start_for(station.board.alloc(), station.settings, wanted),
+            Err(_) => None,
         }
-        let wanted = hall.wanted(rt).ok()?;
-        let orders = self.orders(board.alloc(), settings, wanted).ok()?;
+    }
+
+    /// Asks the slave's master for its list, if there is one and it is time.
+    fn refresh<R: Clock + Wait, N: Reach, C: Chronicle, H: House>(
+        &mut self,
+        rt: &R,
+        station: &Station<'_, N, C, H>,
+    ) {
+        if let Some(slave) = &station.settings.slave {
+            self.listed.refresh(rt, station.net, station.board, slave);
+        }
+    }
+
+    /// The relay that is to start now, where these mounts are wanted.
+    fn start_for(
+        &mut self,
+        alloc: Global,
+        settings: &Settings,
+        wanted: Vec<MountName>,
+    ) -> Option<Arc<RunningRelay>> {
+        let orders = self.orders(alloc, settings, wanted).ok()?;
         let relay = self.first_start(orders)?;
         self.roster.add(relay).ok()
     }
@@ -140,6 +164,12 @@ where
 {
     let mut keeper = Keeper::new(board.alloc());
     let kept = &mut keeper;
+    let station = &Station {
+        net,
+        hall,
+        board,
+        settings,
+    };
     thread::scope(
         thread::scope_env(),
         rt,
@@ -147,13 +177,13 @@ where
             requires { IsSync R.row × IsSync N.row × IsSend C.row × IsSync C.row × IsSend H.row × IsSync H.row }
         {
             'rounds: for _ in rt.forever() {
-                let Some(relay) = kept.await_start(rt, net, hall, board, settings) else {
+                let Some(relay) = kept.await_start(rt, station) else {
                     return;
                 };
-                let has_begun = scope
-                    .spawn(move || pull_relay(rt, net, hall, board, &relay))
-                    .is_ok();
-                kept.note_start(has_begun);
+                let pull = move || {
+                    pull_relay(rt, station.net, station.hall, station.board, &relay)
+                };
+                kept.note_start(scope.spawn(pull).is_ok());
             }
         },
     )
