@@ -32,6 +32,7 @@ use Rattle.radio_laws.specs.Shown.{OnlyWhoMayIsShown}
 use Rattle.radio_laws.specs.Stretches.{AreStretches, SeatsKeepTheirMounts, Sitting, sittings}
 use Rattle.radio_laws.specs.TitlesTold.{TitlesAreTold}
 use Rattle.radio_laws.specs.WalkingOn.{ListenersWalkOn}
+use Rattle.radio_pull.specs.Laws.{ItemsAreOfTheirRelay}
 use Rattle.radio_session.specs.Bodies.{PlainBodiesAreHeard, SizedBodiesAreHeard, ChunkedBodiesAreHeard, FaultyBodiesAreHeard}
 use Rattle.radio_session.specs.Draws.{interval_told, joined_draws}
 use Rattle.radio_session.specs.Saying.{denial, greeting_text, head_text, text_answer}
@@ -173,6 +174,8 @@ pub record HearsSlices (settings : Settings) (lists : Lists) (deliveries : List 
   pub commands : CommandsAreAnswered settings lists deliveries course lines
   pub sources : SourcesDeliverTheirBodies settings lists deliveries course
   pub bodies : BodiesAreHeard
+  -- what a relay pulls in is its own
+  pub pulls : ItemsAreOfTheirRelay
   pub answers : SourcesAreAnswered settings lists deliveries course lines
   pub relays : RelaysDeliverTheirSound settings lists deliveries course
 

@@ -21,6 +21,7 @@ use radio_laws::{
     who_left_is_gone, whoever_may_is_served,
 };
 use radio_policy::denials_name_the_first_rule;
+use radio_pull::items_are_of_their_relay;
 use radio_script::transcripts_are_read_one_way;
 use radio_session::{bodies_are_heard_as_their_data, listeners_are_told_what_they_draw};
 use radio_source::laws::pieces_are_joined;
@@ -71,6 +72,7 @@ pub fn listeners_hear_slices()
 {
     blocks_are_the_data();
     bodies_are_heard_as_their_data();
+    items_are_of_their_relay();
     cut_streams();
     heads_lie_within();
     settled();

@@ -1,11 +1,14 @@
 -- Laws on pulls, for callers.
-use Rattle.std.specs.Prelude.{◌≡◌, ℕ, List, Option}
+use Rattle.std.specs.Prelude.{◌≡◌, ℕ, List, Option, None, Some}
+use Rattle.radio_settings.specs.declared.field.Shown.{Shown}
 use Rattle.radio_events.specs.declared.event.Event.{Event}
+use Rattle.radio_events.specs.declared.event.Event.TheVariants.{Push, RelayUp, Title}
+use Rattle.radio_relay.specs.declared.items.PullItem.TheVariants.{Sound, Title as TitleItem, Up}
 use Rattle.radio_house.specs.World.{World}
 use Rattle.radio_core.specs.Step.{Represents, Step}
 use Rattle.radio_session.specs.declared.state.State.{State}
 use Rattle.radio_session.specs.Exchanges.{core_steps}
-use Rattle.radio_pull.specs.Pulling.{Pulling, Standing}
+use Rattle.radio_pull.specs.Pulling.{Pulling, Standing, event_for}
 use Rattle.radio_pull.specs.Course.{AsksIf, GoesDown, Takes}
 
 -- Whatever state the core stood for, the same comes about from that, and the core stands for the state after it.
@@ -40,3 +43,14 @@ AskingIsOne = (number : Option ℕ) (event : Option Event) (one other : Standing
 -- and its end
 abbrev pub GoingDownIsOne : Type 0
 GoingDownIsOne = (number : Option ℕ) (w w1 w2 : World) → GoesDown Step number w w1 → GoesDown Step number w w2 → w1 ≡ w2
+
+-- What is pulled in is asked for by its own relay.
+pub record ItemsAreOfTheirRelay : Type 0 where
+  -- the head of the answer brings it up at its local mount
+  pub head : (mount : List ℕ) (number : Option ℕ) (shown : Shown) → event_for mount number (Up shown) ≡ Some (RelayUp mount shown)
+  -- sound is a block of the number that it was given, and a title is that number's
+  pub sound : (mount block : List ℕ) (number : ℕ) → event_for mount (Some number) (Sound block) ≡ Some (Push number block)
+  pub title : (mount text : List ℕ) (number : ℕ) → event_for mount (Some number) (TitleItem text) ≡ Some (Title number text)
+  -- and while it is not up it brings neither
+  pub no_sound : (mount block : List ℕ) → event_for mount None (Sound block) ≡ None
+  pub no_title : (mount text : List ℕ) → event_for mount None (TitleItem text) ≡ None

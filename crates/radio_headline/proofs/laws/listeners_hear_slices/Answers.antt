@@ -71,6 +71,7 @@ returns c settings lists deliveries text stop transcript =
         chunked = c.bodies_are_heard_as_their_data.ensures.chunked;
         faulty = c.bodies_are_heard_as_their_data.ensures.faulty;
       };
+      pulls = c.items_are_of_their_relay.ensures;
       answers = λ label asked past later parts.
           source_answered settled within joined places found settings lists fits adds steps deliveries came.performed came.rest came.parts transcript.0
           came.course came.told stands.each stands.nowhere label asked past later parts denied;
