@@ -100,7 +100,7 @@ nobody_came seats = record { no_more = λ mount. omega arith; sat = λ id mount 
 -- he heard on
 still_at : (mount : List ℕ) (place : ℕ) (seating : Seating) → is_seat_at mount (heard_to place seating) ≡ true → is_seat_at mount seating ≡ true
 still_at mount place (Sits seat) e = e
-still_at mount place (Finished rule) e = e
+still_at mount place (Finished rule last) e = e
 
 pub nobody_came_hearing : (seats : List Listener) (him place : ℕ) (old : Seat) → seat_of seats him ≡ Some old → NobodyCame seats (with_place seats him place)
 nobody_came_hearing seats him place old has = record {
@@ -159,7 +159,7 @@ user_there mount user (Sits old) seat h there his =
     let at : bytes_eq old.mount mount ≡ true = (bytes_eq-Decides old.mount mount).1 (ap (λ (x : Seat). x.mount) same ∙ there) in
     let sent : has_user user old.pair ≡ true = ap (λ (x : Seat). has_user user x.pair) same ∙ his in
     rw (at, sent) refl
-user_there mount user (Finished rule) seat h there his = cc
+user_there mount user (Finished rule last) seat h there his = cc
 
 pub nobody_sits_as : (seats : List Listener) (id : ℕ) (mount user : List ℕ) → sits_there seats mount user ≡ false → SitsAs seats id mount user → ⊥
 nobody_sits_as seats id mount user none sits =

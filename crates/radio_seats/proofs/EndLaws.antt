@@ -8,16 +8,16 @@ use Rattle.radio_seats.specs.declared.seat.Listener.{Listener}
 use Rattle.radio_seats.specs.declared.seat.Seat.{Seat}
 use Rattle.radio_seats.specs.declared.seat.Seating.{Seating}
 use Rattle.radio_seats.specs.declared.seat.Seating.TheVariants.{Sits, Finished}
-use Rattle.radio_seats.specs.Seats.{is_listener, listener_of, seat_held, seat_in, seat_of, is_seat_at, holds_of, ended_if, finished_if, with_ended}
+use Rattle.radio_seats.specs.Seats.{is_listener, listener_of, seat_held, seat_in, seat_of, is_seat_at, holds_of, lost_by, ended_if, finished_if, with_ended}
 use Rattle.radio_seats.proofs.CountLaws.{NobodyCame, no_more_mapped}
 
--- the listener had a seat of which it holds, and has finished
+-- the listener had a seat of which it holds, and has finished where he sat
 pub record LosesSeat (p : Seat → Bool) (rule : Rule) (before later : Option Listener) : Type 0 where
   pub seat : Seat
   pub had_a_seat : seat_in before ≡ Some seat
   pub holds : p seat ≡ true
   pub id : ℕ
-  pub finished : later ≡ Some (record { id = id; seating = Finished rule })
+  pub finished : later ≡ Some (record { id = id; seating = Finished rule seat.mount })
 
 module _ (p : Seat → Bool) (rule : Rule) where
   pub have_ended : (seats : List Listener) (id : ℕ) → listener_of (with_ended seats p rule) id ≡ option_map (finished_if p rule) (listener_of seats id)
@@ -28,14 +28,14 @@ module _ (p : Seat → Bool) (rule : Rule) where
   IsSameOrLoses before later = (later ≡ before) ⊎ LosesSeat p rule before later
 
   same_or_loses_at : (id : ℕ) (seat : Seat) (b : Bool) → p seat ≡ b
-      → IsSameOrLoses (Some (record { id = id; seating = Sits seat })) (Some (record { id = id; seating = (if b then Finished rule else Sits seat) }))
+      → IsSameOrLoses (Some (record { id = id; seating = Sits seat })) (Some (record { id = id; seating = (if b then Finished rule seat.mount else Sits seat) }))
   same_or_loses_at id seat true e = inr (record { seat = seat; had_a_seat = refl; holds = e; id = id; finished = refl })
   same_or_loses_at id seat false e = inl refl
 
   same_or_loses_seating : (id : ℕ) (seating : Seating)
       → IsSameOrLoses (Some (record { id = id; seating = seating })) (Some (record { id = id; seating = ended_if p rule seating }))
   same_or_loses_seating id (Sits seat) = same_or_loses_at id seat (p seat) refl
-  same_or_loses_seating id (Finished other) = inl refl
+  same_or_loses_seating id (Finished other mount) = inl refl
 
   same_or_loses_in : (listener : Option Listener) → IsSameOrLoses listener (option_map (finished_if p rule) listener)
   same_or_loses_in None = inl refl
@@ -52,8 +52,11 @@ module _ (p : Seat → Bool) (rule : Rule) where
     by_loss (inr loses) = let none : seat_of (with_ended seats p rule) id ≡ None = ap seat_in loses.finished in cc
 
   -- so nobody has come
-  not_ended : (mount : List ℕ) (seating : Seating) (b : Bool) → is_seat_at mount (if b then Finished rule else seating) ≡ true → is_seat_at mount seating ≡ true
-  not_ended mount seating true h = cc
+  not_ended : (mount : List ℕ) (seating : Seating) (b : Bool) → is_seat_at mount (if b then lost_by rule seating else seating) ≡ true → is_seat_at mount seating ≡ true
+  not_ended mount seating true h = let none : is_seat_at mount (lost_by rule seating) ≡ false = no_seat seating in cc where
+    no_seat : (other : Seating) → is_seat_at mount (lost_by rule other) ≡ false
+    no_seat (Sits seat) = refl
+    no_seat (Finished by last) = refl
   not_ended mount seating false h = h
 
   pub nobody_came_ending : (seats : List Listener) → NobodyCame seats (with_ended seats p rule)
@@ -64,13 +67,13 @@ module _ (p : Seat → Bool) (rule : Rule) where
   }
 
   -- of whose seat is left, it does not hold
-  kept_at : (old seat : Seat) (b : Bool) → p old ≡ b → seat_held (if b then Finished rule else Sits old) ≡ Some seat → p seat ≡ false
+  kept_at : (old seat : Seat) (b : Bool) → p old ≡ b → seat_held (if b then Finished rule old.mount else Sits old) ≡ Some seat → p seat ≡ false
   kept_at old seat true e h = cc
   kept_at old seat false e h = let same : old ≡ seat = cc in ap p (sym same) ∙ e
 
   kept_seating : (seating : Seating) (seat : Seat) → seat_held (ended_if p rule seating) ≡ Some seat → p seat ≡ false
   kept_seating (Sits old) seat h = kept_at old seat (p old) refl h
-  kept_seating (Finished other) seat h = cc
+  kept_seating (Finished other mount) seat h = cc
 
   kept_in : (listener : Option Listener) (seat : Seat) → seat_in (option_map (finished_if p rule) listener) ≡ Some seat → p seat ≡ false
   kept_in None seat h = cc

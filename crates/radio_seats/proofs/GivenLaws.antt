@@ -22,7 +22,7 @@ module _ (mount : List ℕ) (session : ℕ) where
 
   held_hearing : (seating : Seating) → seat_held (in_session_at mount session seating) ≡ option_map (seat_hearing mount session) (seat_held seating)
   held_hearing (Sits seat) = refl
-  held_hearing (Finished rule) = refl
+  held_hearing (Finished rule last) = refl
 
   in_hearing : (listener : Option Listener)
       → seat_in (option_map (hears_session mount session) listener) ≡ option_map (seat_hearing mount session) (seat_in listener)
@@ -37,7 +37,7 @@ module _ (mount : List ℕ) (session : ℕ) where
   -- as many sit at each mount, and of the same users
   at_hearing : (other : List ℕ) (seating : Seating) → is_seat_at other (in_session_at mount session seating) ≡ is_seat_at other seating
   at_hearing other (Sits seat) = refl
-  at_hearing other (Finished rule) = refl
+  at_hearing other (Finished rule last) = refl
 
   count_if : (b c : Bool) (x y : Listener) (xs ys : List Listener) → b ≡ c → length xs ≡ length ys
       → length (if b then x ∷ xs else xs) ≡ length (if c then y ∷ ys else ys)
@@ -54,7 +54,7 @@ module _ (mount : List ℕ) (session : ℕ) where
 
   user_hearing : (other user : List ℕ) (seating : Seating) → is_user_at other user (in_session_at mount session seating) ≡ is_user_at other user seating
   user_hearing other user (Sits seat) = refl
-  user_hearing other user (Finished rule) = refl
+  user_hearing other user (Finished rule last) = refl
 
   pub there_hearing : (other user : List ℕ) (seats : List Listener)
       → sits_there (with_session_at seats mount session) other user ≡ sits_there seats other user

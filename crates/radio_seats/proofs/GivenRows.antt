@@ -9,24 +9,31 @@ use Rattle.radio_seats.specs.declared.row.RowState.TheVariants.{Seated, Ended}
 use Rattle.radio_seats.specs.declared.seat.Seating.{Seating}
 use Rattle.radio_seats.specs.declared.seat.Seating.TheVariants.{Sits}
 use Rattle.radio_seats.specs.Guests.{seat_of_guest}
-use Rattle.radio_seats.specs.Rows.{hears, named, named_state, state_at, sits_by, with_state, AreCounted}
+use Rattle.radio_seats.specs.Rows.{hears, named, named_state, state_at, sits_by, last_number, names_by, with_state, AreCounted}
 use Rattle.radio_seats.specs.Seats.{hears_session, in_session_at, with_session_at}
 use Rattle.radio_seats.proofs.Lists.{passing_same, map_both}
 
 abbrev pub hearing : ℕ → ℕ → ListenerRow → ListenerRow
 hearing number session row = with_state (hears number session row.state) row
 
--- each sits where he sat
+-- each sits where he sat, and names the mount that he named
 sits_still : (number session k : ℕ) (state : RowState) → state_at k (hears number session state) ≡ state_at k state
 sits_still number session k (Seated seat) = refl
-sits_still number session k (Ended rule) = refl
+sits_still number session k (Ended rule mount) = refl
+
+names_still : (number session k : ℕ) (state : RowState) → (last_number (hears number session state) == k) ≡ (last_number state == k)
+names_still number session k (Seated seat) = refl
+names_still number session k (Ended rule mount) = refl
 
 pub counted_hearing : (mounts : List Mount) (rows : List ListenerRow) (number session : ℕ) → AreCounted mounts rows
     → AreCounted mounts (map (hearing number session) rows)
 counted_hearing mounts rows number session counted = record {
-  count = λ k.
+  sitting = λ k.
       let same = passing_same (sits_by k) (hearing number session) (λ row. sits_still number session k row.state) rows in
-      omega (arith, counted.count k, same);
+      omega (arith, counted.sitting k, same);
+  naming = λ k.
+      let same = passing_same (names_by k) (hearing number session) (λ row. names_still number session k row.state) rows in
+      omega (arith, counted.naming k, same);
 }
 
 -- and what is shown of him follows
@@ -34,7 +41,7 @@ module _ (name : ℕ → List ℕ) (mount : List ℕ) (number session : ℕ) (on
   hears_shown : (state : RowState) → named_state name (hears number session state) ≡ in_session_at mount session (named_state name state)
   hears_shown (Seated seat) =
       ap (λ b. Sits (seat_of_guest seat.place (name seat.mount) (if b then session else seat.session) seat.guest)) (sym (only seat.mount))
-  hears_shown (Ended rule) = refl
+  hears_shown (Ended rule last) = refl
 
   pub seats_hearing : (rows : List ListenerRow) → map (named name) (map (hearing number session) rows) ≡ with_session_at (map (named name) rows) mount session
   seats_hearing rows =
@@ -46,7 +53,7 @@ module _ (name : ℕ → List ℕ) (mount : List ℕ) (session : ℕ) (only : (k
   none_hears : (state : RowState) → in_session_at mount session (named_state name state) ≡ named_state name state
   none_hears (Seated seat) =
       ap (λ b. Sits (seat_of_guest seat.place (name seat.mount) (if b then session else seat.session) seat.guest)) (only seat.mount)
-  none_hears (Ended rule) = refl
+  none_hears (Ended rule last) = refl
 
   pub nobody_hears : (rows : List ListenerRow) → map (named name) rows ≡ with_session_at (map (named name) rows) mount session
   nobody_hears [] = refl

@@ -1,6 +1,7 @@
 pub mod Lists
 pub mod RowLemmas
-pub mod EndedRows
+pub mod RowCounts
+pub mod TestedRows
 pub mod MountLemmas
 pub mod GivenRows
 pub mod SeatLaws

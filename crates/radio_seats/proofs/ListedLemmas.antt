@@ -21,7 +21,7 @@ module _ (name : ℕ → List ℕ) (mount : List ℕ) where
   module _ (number : ℕ) (only : (k : ℕ) → bytes_eq (name k) mount ≡ (k == number)) where
     same_guest : (id : ℕ) (state : RowState) → guest_sitting mount id (named_state name state) ≡ row_sitting number id state
     same_guest id (Seated seat) = ap (λ (b : Bool). if b then Some (listed id seat.guest) else None) (only seat.mount)
-    same_guest id (Ended rule) = refl
+    same_guest id (Ended rule last) = refl
 
     pub guests_there : (rows : List ListenerRow) → guests_at (map (named name) rows) mount ≡ filter_map (row_guest number) rows
     guests_there [] = refl
@@ -34,7 +34,7 @@ module _ (name : ℕ → List ℕ) (mount : List ℕ) where
   module _ (only : (k : ℕ) → bytes_eq (name k) mount ≡ false) where
     no_guest : (id : ℕ) (state : RowState) → guest_sitting mount id (named_state name state) ≡ None
     no_guest id (Seated seat) = ap (λ (b : Bool). if b then Some (listed id seat.guest) else None) (only seat.mount)
-    no_guest id (Ended rule) = refl
+    no_guest id (Ended rule last) = refl
 
     pub no_guests : (rows : List ListenerRow) → guests_at (map (named name) rows) mount ≡ []
     no_guests [] = refl

@@ -1,5 +1,5 @@
--- prepared mounts, where the count of those who sit at one of them changes
-use Rattle.std.proofs.Common.{◌≡◌, Bool, true, false, ℕ, ◌+◌, ◌-◌, ◌==◌, Some, None, List, refl, ap, sym, ◌∙◌, arith}
+-- prepared mounts, where the counts of one of them change
+use Rattle.std.proofs.Common.{◌≡◌, Bool, true, false, ℕ, ◌+◌, ◌-◌, ◌==◌, Option, Some, None, List, refl, ap, sym, ◌∙◌, arith}
 use Rattle.std.specs.Prelude.{find, if◌then◌else◌}
 use Rattle.std.proofs.lemmas.Bool.{eqb-true}
 use Rattle.radio_tables.specs.Lists.{update_first}
@@ -7,13 +7,13 @@ use Rattle.radio_tables.proofs.FindLaws.{find_same, find_apart}
 use Rattle.radio_tables.proofs.KeyLaws.{by_number}
 use Rattle.radio_seats.specs.declared.mounts.Mount.{Mount}
 use Rattle.radio_seats.specs.declared.mounts.NumberedName.{NumberedName}
-use Rattle.radio_seats.specs.Mounts.{is_numbered, is_named, name_of, name_in, sitting_of, sitting_in, IsThere, AreMounts}
+use Rattle.radio_seats.specs.Mounts.{is_numbered, is_named, name_of, name_in, IsThere, AreMounts}
 use Rattle.radio_seats.proofs.MountLemmas.{same_number}
 
--- a count that changes
-module _ (names : List NumberedName) (mounts : List Mount) (last number count : ℕ) (mount : Mount) (found : find (is_numbered number) mounts ≡ Some mount) where
+-- counts that change
+module _ (names : List NumberedName) (mounts : List Mount) (last number sitters namers : ℕ) (mount : Mount) (found : find (is_numbered number) mounts ≡ Some mount) where
   abbrev pub counting : Mount → Mount
-  counting m = record m { sitting = count }
+  counting m = record m { sitting = sitters; naming = namers }
 
   abbrev pub recounted : List Mount
   recounted = update_first (is_numbered number) counting mounts
@@ -32,32 +32,50 @@ module _ (names : List NumberedName) (mounts : List Mount) (last number count : 
       (λ x e. let apart : is_numbered k x ≡ false = ap (λ n. n == k) (eqb-true x.number number e) ∙ other in (apart, apart)) mounts
       ∙ sym (rw other refl))
 
-  counted_by : (k : ℕ) (b : Bool) → (number == k) ≡ b → sitting_of (if b then Some (counting mount) else find (is_numbered k) mounts)
-      ≡ (if b then count else sitting_in mounts k)
-  counted_by k true e = refl
-  counted_by k false e = refl
+  -- one of the two
+  module _ (count : Option Mount → ℕ) where
+    abbrev before : ℕ → ℕ
+    before k = count (find (is_numbered k) mounts)
 
-  pub counted_then : (k : ℕ) → sitting_in recounted k ≡ (if number == k then count else sitting_in mounts k)
-  counted_then k = ap sitting_of (found_then k) ∙ counted_by k (number == k) refl
+    abbrev after : ℕ → ℕ
+    after k = count (find (is_numbered k) recounted)
 
-  sits_now : (k : ℕ) → number ≡ k → sitting_in mounts k ≡ mount.sitting
-  sits_now k same = ap (sitting_in mounts) (sym same) ∙ ap sitting_of found
+    counted_by : (k : ℕ) (b : Bool) → count (if b then Some (counting mount) else find (is_numbered k) mounts) ≡ (if b then count (Some (counting mount)) else before k)
+    counted_by k true = refl
+    counted_by k false = refl
 
-  gained_by : (k : ℕ) (b : Bool) → (number == k) ≡ b → count ≡ mount.sitting + 1
-      → (if b then count else sitting_in mounts k) ≡ sitting_in mounts k + (if b then 1 else 0)
-  gained_by k true e more = let now : sitting_in mounts k ≡ mount.sitting = sits_now k (eqb-true number k e) in omega (arith, now, more)
-  gained_by k false e more = omega arith
+    counted_then : (k : ℕ) → after k ≡ (if number == k then count (Some (counting mount)) else before k)
+    counted_then k = ap count (found_then k) ∙ counted_by k (number == k)
 
-  pub gained : count ≡ mount.sitting + 1 → (k : ℕ) → sitting_in recounted k ≡ sitting_in mounts k + (if number == k then 1 else 0)
-  gained more k = counted_then k ∙ gained_by k (number == k) refl more
+    was : (k : ℕ) → (number == k) ≡ true → before k ≡ count (Some mount)
+    was k e = ap before (sym (eqb-true number k e)) ∙ ap count found
 
-  lost_by : (away k : ℕ) (b : Bool) → (number == k) ≡ b → count ≡ mount.sitting - away
-      → (if b then count else sitting_in mounts k) ≡ sitting_in mounts k - (if b then away else 0)
-  lost_by away k true e less = let now : sitting_in mounts k ≡ mount.sitting = sits_now k (eqb-true number k e) in omega (arith, now, less)
-  lost_by away k false e less = omega arith
+    gained_by : (k : ℕ) (b : Bool) → (number == k) ≡ b → count (Some (counting mount)) ≡ count (Some mount) + 1
+        → (if b then count (Some (counting mount)) else before k) ≡ before k + (if b then 1 else 0)
+    gained_by k true e more = more ∙ ap (λ n. n + 1) (sym (was k e))
+    gained_by k false e more = omega arith
 
-  pub lost : (away : ℕ) → count ≡ mount.sitting - away → (k : ℕ) → sitting_in recounted k ≡ sitting_in mounts k - (if number == k then away else 0)
-  lost away less k = counted_then k ∙ lost_by away k (number == k) refl less
+    pub gained : count (Some (counting mount)) ≡ count (Some mount) + 1 → (k : ℕ)
+        → count (find (is_numbered k) recounted) ≡ count (find (is_numbered k) mounts) + (if number == k then 1 else 0)
+    gained more k = counted_then k ∙ gained_by k (number == k) refl more
+
+    lost_by : (away k : ℕ) (b : Bool) → (number == k) ≡ b → count (Some (counting mount)) ≡ count (Some mount) - away
+        → (if b then count (Some (counting mount)) else before k) ≡ before k - (if b then away else 0)
+    lost_by away k true e less = less ∙ ap (λ n. n - away) (sym (was k e))
+    lost_by away k false e less = omega arith
+
+    pub lost : (away : ℕ) → count (Some (counting mount)) ≡ count (Some mount) - away → (k : ℕ)
+        → count (find (is_numbered k) recounted) ≡ count (find (is_numbered k) mounts) - (if number == k then away else 0)
+    lost away less k = counted_then k ∙ lost_by away k (number == k) refl less
+
+    kept_by : (k : ℕ) (b : Bool) → (number == k) ≡ b → count (Some (counting mount)) ≡ count (Some mount)
+        → (if b then count (Some (counting mount)) else before k) ≡ before k
+    kept_by k true e same = same ∙ sym (was k e)
+    kept_by k false e same = refl
+
+    pub kept : count (Some (counting mount)) ≡ count (Some mount) → (k : ℕ)
+        → count (find (is_numbered k) recounted) ≡ count (find (is_numbered k) mounts)
+    kept same k = counted_then k ∙ kept_by k (number == k) refl same
 
   named_by : (k : ℕ) (b : Bool) → (number == k) ≡ b → name_of (if b then Some (counting mount) else find (is_numbered k) mounts) ≡ name_in mounts k
   named_by k true e = sym (ap (name_in mounts) (sym (eqb-true number k e)) ∙ ap name_of found)

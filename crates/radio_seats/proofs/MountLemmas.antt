@@ -17,7 +17,7 @@ use Rattle.radio_seats.specs.declared.mounts.Mount.{Mount}
 use Rattle.radio_seats.specs.declared.mounts.NumberedName.{NumberedName}
 use Rattle.radio_seats.specs.Board.{is_prepared}
 use Rattle.radio_seats.proofs.Lists.{placed_removed, none_removed}
-use Rattle.radio_seats.specs.Mounts.{is_numbered, is_named, name_of, name_in, sitting_of, sitting_in, is_number, AreMounts}
+use Rattle.radio_seats.specs.Mounts.{is_numbered, is_named, name_of, name_in, naming_of, naming_in, is_number, AreMounts}
 
 -- the empty name is no mount's
 pub no_empty_name : (name : List ℕ) → is_mount_name name ≡ true → bytes_eq [] name ≡ false
@@ -174,23 +174,25 @@ module _ (names : List NumberedName) (mounts : List Mount) (last : ℕ) (are : A
         and_true true = refl
         and_true false = refl
 
-  module _ (nobody : (k : ℕ) → bytes_eq (name_in mounts k) name ≡ true → sitting_in mounts k ≡ 0) where
-    nobody_there : sitting_in mounts gone.number ≡ 0
+  -- where it counted none
+  module _ (count : Option Mount → ℕ) (none : count None ≡ 0)
+      (nobody : (k : ℕ) → bytes_eq (name_in mounts k) name ≡ true → count (find (is_numbered k) mounts) ≡ 0) where
+    abbrev counted : ℕ → ℕ
+    counted k = count (find (is_numbered k) mounts)
+
+    nobody_there : counted gone.number ≡ 0
     nobody_there =
         let there = are.by_name name gone found in
         nobody gone.number ((bytes_eq-Decides (name_in mounts gone.number) name).1 (ap name_of there.1 ∙ there.2))
 
-    pub sitting_left : (k : ℕ) → sitting_in mounts_left k ≡ sitting_in mounts k
-    sitting_left k = by_number gone.number k
-        (λ same.
-        let here : sitting_in mounts_left k ≡ 0 = ap (sitting_in mounts_left) (sym same) ∙ ap sitting_of number_goes in
-        let before : sitting_in mounts k ≡ 0 = ap (sitting_in mounts) (sym same) ∙ nobody_there in
-        here ∙ sym before)
-        (λ apart. ap sitting_of (number_stays k apart))
+    pub count_left : (k : ℕ) → count (find (is_numbered k) mounts_left) ≡ count (find (is_numbered k) mounts)
+    count_left k = by_number gone.number k
+        (λ same. ap (λ n. count (find (is_numbered n) mounts_left)) (sym same) ∙ ap count number_goes ∙ none ∙ sym (ap counted (sym same) ∙ nobody_there))
+        (λ apart. ap count (number_stays k apart))
 
-    pub named_left : (k : ℕ) → 0 < sitting_in mounts k → name_in mounts_left k ≡ name_in mounts k
+    pub named_left : (k : ℕ) → 0 < count (find (is_numbered k) mounts) → name_in mounts_left k ≡ name_in mounts k
     named_left k some = by_number gone.number k
-        (λ same. let before : sitting_in mounts k ≡ 0 = ap (sitting_in mounts) (sym same) ∙ nobody_there in absurd (omega (arith, some, before)))
+        (λ same. let before : counted k ≡ 0 = ap counted (sym same) ∙ nobody_there in absurd (omega (arith, some, before)))
         (λ apart. ap name_of (number_stays k apart))
 
 -- a name that has gone nowhere
@@ -213,7 +215,7 @@ module _ (names : List NumberedName) (mounts : List Mount) (last : ℕ) (are : A
   entry = record { name = name; number = number }
 
   abbrev pub mount : Mount
-  mount = record { number = number; name = name; sitting = 0 }
+  mount = record { number = number; name = name; sitting = 0; naming = 0 }
 
   abbrev pub names_then : List NumberedName
   names_then = placed (λ (a b : NumberedName). slice_cmp nat_cmp a.name b.name) entry names
@@ -294,15 +296,17 @@ module _ (names : List NumberedName) (mounts : List Mount) (last : ℕ) (are : A
         or_false true = refl
         or_false false = refl
 
-  pub sitting_then : (k : ℕ) → sitting_in mounts_then k ≡ sitting_in mounts k
-  sitting_then k = by_number number k
-      (λ same. ap sitting_of (here_then k same) ∙ sym (ap (sitting_in mounts) (sym same) ∙ ap sitting_of free_number))
-      (λ apart. ap sitting_of (there_then k apart))
+  -- it counts as many as one that is not there
+  pub count_then : (count : Option Mount → ℕ) → count (Some mount) ≡ count None → (k : ℕ)
+      → count (find (is_numbered k) mounts_then) ≡ count (find (is_numbered k) mounts)
+  count_then count none k = by_number number k
+      (λ same. ap count (here_then k same) ∙ none ∙ sym (ap (λ n. count (find (is_numbered n) mounts)) (sym same) ∙ ap count free_number))
+      (λ apart. ap count (there_then k apart))
 
-  pub name_in_then : (k : ℕ) → 0 < sitting_in mounts k → name_in mounts_then k ≡ name_in mounts k
+  pub name_in_then : (k : ℕ) → 0 < naming_in mounts k → name_in mounts_then k ≡ name_in mounts k
   name_in_then k some = by_number number k
       (λ same.
-      let none : sitting_in mounts k ≡ 0 = ap (sitting_in mounts) (sym same) ∙ ap sitting_of free_number in absurd (omega (arith, some, none)))
+      let none : naming_in mounts k ≡ 0 = ap (naming_in mounts) (sym same) ∙ ap naming_of free_number in absurd (omega (arith, some, none)))
       (λ apart. ap name_of (there_then k apart))
 
   -- taken back, nothing has changed

@@ -29,7 +29,7 @@ module _ {X : Type 0} (p q : X → Bool) where
 -- one sits at the mount exactly where he counts there
 held_seat : (mount : List ℕ) (seating : Seating) → one (is_seat_at mount seating) ≡ one (option_map_or (λ seat. bytes_eq seat.mount mount) (seat_held seating) false)
 held_seat mount (Sits seat) = refl
-held_seat mount (Finished rule) = refl
+held_seat mount (Finished rule last) = refl
 
 held_listener : (mount : List ℕ) (listener : Option Listener)
     → held (λ (x : Listener). is_seat_at mount x.seating) listener ≡ one (option_map_or (λ seat. bytes_eq seat.mount mount) (seat_in listener) false)

@@ -1,5 +1,5 @@
--- what rows show, and how the counts of mounts follow them
-use Rattle.std.proofs.Common.{◌≡◌, Bool, true, false, ℕ, ◌+◌, ◌-◌, ◌<◌, ◌≤◌, ◌==◌, Option, Some, None, List, [], ◌∷◌, length, not, refl, ap, sym, subst, ◌∙◌, arith}
+-- what rows show
+use Rattle.std.proofs.Common.{◌≡◌, Bool, true, false, ℕ, ◌+◌, ◌<◌, ◌==◌, Option, Some, None, List, [], ◌∷◌, length, not, refl, ap, sym, subst, ◌∙◌, arith}
 use Rattle.std.specs.Prelude.{◌&&◌, find, filter, map, if◌then◌else◌}
 use Rattle.std.specs.List.{list_any}
 use Rattle.std.specs.List.Sorted.{IsStrictlySortedBy}
@@ -13,6 +13,7 @@ use Rattle.radio_policy.specs.declared.rule.Rule.{Rule}
 use Rattle.radio_tables.specs.Lists.{update_first, placed}
 use Rattle.radio_seats.specs.declared.mounts.Mount.{Mount}
 use Rattle.radio_seats.specs.declared.row.ListenerRow.{ListenerRow}
+use Rattle.radio_seats.specs.declared.row.NumberedSeat.{NumberedSeat}
 use Rattle.radio_seats.specs.declared.row.RowState.{RowState}
 use Rattle.radio_seats.specs.declared.row.RowState.TheVariants.{Seated, Ended}
 use Rattle.radio_seats.specs.declared.seat.Guest.{Guest}
@@ -22,74 +23,65 @@ use Rattle.radio_seats.specs.declared.seat.Seating.{Seating}
 use Rattle.radio_seats.specs.declared.seat.Seating.TheVariants.{Sits, Finished}
 use Rattle.radio_seats.specs.Board.{Board}
 use Rattle.radio_seats.specs.Guests.{passes_in, passes_at, seat_of_guest}
-use Rattle.radio_seats.specs.Mounts.{name_in, sitting_in, one_at}
+use Rattle.radio_seats.specs.Mounts.{name_in, naming_in}
 use Rattle.radio_seats.specs.Rests.{how_many}
-use Rattle.radio_seats.specs.Rows.{is_row, named, named_state, state_at, sits_by, number_of, number_in, holds_at, ended_where, user_state, seated_row, heard, shifted, ended, with_state, AreCounted}
-use Rattle.radio_seats.specs.Seats.{is_listener, listener_of, by_listener, with_seat, advanced, with_place, moved, with_move, lost_by, loses, with_end, without_listener, heard_to, moved_to, AreByNumber, is_seat_at, count_at, holds_of, ended_if, finished_if, with_ended, has_user, is_user_at, sits_there}
-use Rattle.radio_seats.proofs.Lists.{passing, one, held, passing_more, passing_updated, passing_fits, found_counts, passing_mapped}
+use Rattle.radio_seats.specs.Rows.{is_row, named, named_state, state_at, sits_by, last_number, names_by, holds_at, ended_where, user_state, seated_row, heard, shifted, ended, with_state, AreCounted}
+use Rattle.radio_seats.specs.Seats.{is_listener, listener_of, by_listener, with_seat, advanced, with_place, moved, with_move, lost_by, loses, with_end, without_listener, heard_to, moved_to, AreByNumber, is_seat_at, count_at, last_mount, last_mount_of, named_at, holds_of, ended_if, finished_if, with_ended, has_user, is_user_at, sits_there}
+use Rattle.radio_seats.proofs.Lists.{passing, one, passing_more, passing_mapped}
 use Rattle.radio_seats.proofs.Lists.{none_changes, map_found, map_counted, map_both, map_any, map_placed, map_filtered, map_updated}
 
 pub same_number : (k : ℕ) → (k == k) ≡ true
 same_number k = grind (arith, nat_tests)
 
--- where nobody sits whose mount's name has changed, all is shown as before
+-- where no row names a mount whose name has changed, all is shown as before
 module _ (name later : ℕ → List ℕ) where
-  shown_at : (row : ListenerRow) (rows : List ListenerRow) → ((k : ℕ) → 0 < passing (sits_by k) (row ∷ rows) → later k ≡ name k)
+  shown_at : (row : ListenerRow) (rows : List ListenerRow) → ((k : ℕ) → 0 < passing (names_by k) (row ∷ rows) → later k ≡ name k)
       → named later row ≡ named name row
-  shown_at row rows same = by_state row.state refl where
-    by_state : (state : RowState) → row.state ≡ state → named later row ≡ named name row
-    by_state (Ended rule) e = rw e refl
-    by_state (Seated seat) e =
-        let there : one (sits_by seat.mount row) ≡ 1 = ap one (ap (state_at seat.mount) e ∙ same_number seat.mount) in
-        let here : later seat.mount ≡ name seat.mount = same seat.mount (omega (arith, there, passing_more (sits_by seat.mount) row rows)) in
-        rw e (rw here refl)
+  shown_at row rows same = by_state row.state here where
+    here : later (last_number row.state) ≡ name (last_number row.state)
+    here =
+        let k = last_number row.state in
+        let there : one (names_by k row) ≡ 1 = ap one (same_number k) in
+        same k (omega (arith, there, passing_more (names_by k) row rows))
 
-  pub shown_alike : (rows : List ListenerRow) → ((k : ℕ) → 0 < passing (sits_by k) rows → later k ≡ name k) → map (named later) rows ≡ map (named name) rows
+    by_state : (state : RowState) → later (last_number state) ≡ name (last_number state)
+        → ◌≡◌ {A = Listener} (record { id = row.id; seating = named_state later state }) (record { id = row.id; seating = named_state name state })
+    by_state (Seated seat) e = ap (λ mount. record { id = row.id; seating = Sits (seat_of_guest seat.place mount seat.session seat.guest) }) e
+    by_state (Ended rule mount) e = ap (λ m. record { id = row.id; seating = Finished rule m }) e
+
+  pub shown_alike : (rows : List ListenerRow) → ((k : ℕ) → 0 < passing (names_by k) rows → later k ≡ name k) → map (named later) rows ≡ map (named name) rows
   shown_alike [] same = refl
   shown_alike (row ∷ rows) same =
       let here : named later row ≡ named name row = shown_at row rows same in
       let rest : map (named later) rows ≡ map (named name) rows
-      = shown_alike rows (λ k some. same k (omega (arith, some, passing_more (sits_by k) row rows))) in
+      = shown_alike rows (λ k some. same k (omega (arith, some, passing_more (names_by k) row rows))) in
       cc
-
--- where one sits
-pub held_number : (row : Option ListenerRow) (k : ℕ) → held (sits_by k) row ≡ one_at (number_in row) k
-held_number None k = refl
-held_number (Some row) k = by_state row.state where
-  at_number : (b : Bool) → one b ≡ (if b then 1 else 0)
-  at_number true = refl
-  at_number false = refl
-
-  by_state : (state : RowState) → one (state_at k state) ≡ one_at (number_of state) k
-  by_state (Seated seat) = at_number (seat.mount == k)
-  by_state (Ended rule) = refl
-
--- who is found is counted at his mount
-pub counted_there : (rows : List ListenerRow) (id k : ℕ) → one_at (number_in (find (is_row id) rows)) k ≤ passing (sits_by k) rows
-counted_there rows id k = by_found (find (is_row id) rows) refl where
-  by_count : (row : ListenerRow) → find (is_row id) rows ≡ Some row → (b : Bool) → sits_by k row ≡ b → held (sits_by k) (Some row) ≤ passing (sits_by k) rows
-  by_count row e true sits =
-      let some : 0 < passing (sits_by k) rows = found_counts (sits_by k) (is_row id) rows row e sits in
-      let here : one (sits_by k row) ≡ 1 = ap one sits in
-      omega (arith, some, here)
-  by_count row e false sits = let here : one (sits_by k row) ≡ 0 = ap one sits in omega (arith, here)
-
-  by_found : (row : Option ListenerRow) → find (is_row id) rows ≡ row → one_at (number_in row) k ≤ passing (sits_by k) rows
-  by_found None e = omega arith
-  by_found (Some row) e = let count = by_count row e (sits_by k row) refl in let number = held_number (Some row) k in omega (arith, count, number)
 
 -- names and rows of which nothing has changed
 pub shown_still : (mounts later : List Mount) (rows : List ListenerRow) → AreCounted mounts rows
-    → ((k : ℕ) → 0 < sitting_in mounts k → name_in later k ≡ name_in mounts k)
+    → ((k : ℕ) → 0 < naming_in mounts k → name_in later k ≡ name_in mounts k)
     → map (named (name_in later)) rows ≡ map (named (name_in mounts)) rows
 shown_still mounts later rows counted names =
-    shown_alike (name_in mounts) (name_in later) rows (λ k some. names k (omega (arith, some, counted.count k)))
+    shown_alike (name_in mounts) (name_in later) rows (λ k some. names k (omega (arith, some, counted.naming k)))
 
 pub shown_same : (name later : ℕ → List ℕ) (rows : List ListenerRow) → ((k : ℕ) → later k ≡ name k) → map (named later) rows ≡ map (named name) rows
 shown_same name later rows names = shown_alike name later rows (λ k some. names k)
 
 pub listener_shown : (name : ℕ → List ℕ) (rows : List ListenerRow) (id : ℕ) → listener_of (map (named name) rows) id ≡ option_map (named name) (find (is_row id) rows)
 listener_shown name rows id = map_found (named name) (is_row id) (is_listener id) (λ row. refl) rows
+
+-- where he sits, or sat last
+last_shown : (name : ℕ → List ℕ) (state : RowState) → last_mount (named_state name state) ≡ name (last_number state)
+last_shown name (Seated seat) = refl
+last_shown name (Ended rule mount) = refl
+
+pub last_found : (name : ℕ → List ℕ) (rows : List ListenerRow) (id : ℕ)
+    → last_mount_of (map (named name) rows) id ≡ option_map (λ (row : ListenerRow). name (last_number row.state)) (find (is_row id) rows)
+last_found name rows id = ap (option_map (λ (listener : Listener). last_mount listener.seating)) (listener_shown name rows id) ∙ shown (find (is_row id) rows) where
+  shown : (row : Option ListenerRow)
+      → option_map (λ (listener : Listener). last_mount listener.seating) (option_map (named name) row) ≡ option_map (λ (r : ListenerRow). name (last_number r.state)) row
+  shown None = refl
+  shown (Some row) = ap Some (last_shown name row.state)
 
 pub rising_shown : (name : ℕ → List ℕ) (rows : List ListenerRow) → IsStrictlySortedBy nat_cmp (map (λ (row : ListenerRow). row.id) rows)
     → AreByNumber (map (named name) rows)
@@ -98,58 +90,6 @@ rising_shown name rows rising = subst (IsStrictlySortedBy nat_cmp) (sym (ids row
   ids [] = refl
   ids (x ∷ xs) = ap (λ ns. x.id ∷ ns) (ids xs)
 
--- the listener's row is changed in its place
-module _ (mounts : List Mount) (rows : List ListenerRow) (id : ℕ) (f : ListenerRow → ListenerRow) where
-  -- he sits where he sat
-  pub counted_in_place : AreCounted mounts rows → ((row : ListenerRow) (k : ℕ) → sits_by k (f row) ≡ sits_by k row)
-      → AreCounted mounts (update_first (is_row id) f rows)
-  counted_in_place counted same = record {
-    count = λ k.
-        let law = passing_updated (sits_by k) (is_row id) f rows in
-        let alike : held (sits_by k) (option_map f (find (is_row id) rows)) ≡ held (sits_by k) (find (is_row id) rows) = held_alike k (find (is_row id) rows) in
-        omega (arith, counted.count k, law, alike);
-  } where
-    held_alike : (k : ℕ) (row : Option ListenerRow) → held (sits_by k) (option_map f row) ≡ held (sits_by k) row
-    held_alike k None = refl
-    held_alike k (Some row) = ap one (same row k)
-
-  -- he sits elsewhere, or nowhere
-  pub follows_him : (k : ℕ) → passing (sits_by k) (update_first (is_row id) f rows) + one_at (number_in (find (is_row id) rows)) k
-      ≡ passing (sits_by k) rows + one_at (number_in (option_map f (find (is_row id) rows))) k
-  follows_him k =
-      let law = passing_updated (sits_by k) (is_row id) f rows in
-      let before = held_number (find (is_row id) rows) k in
-      let after = held_number (option_map f (find (is_row id) rows)) k in
-      omega (arith, law, before, after)
-
--- what a listener's leaving makes of the counts
-pub counted_without : (mounts later : List Mount) (rows after : List ListenerRow) (from : Option ℕ) → AreCounted mounts rows
-    → ((k : ℕ) → passing (sits_by k) after + one_at from k ≡ passing (sits_by k) rows)
-    → ((k : ℕ) → sitting_in later k ≡ sitting_in mounts k - one_at from k)
-    → AreCounted later after
-counted_without mounts later rows after from counted law follows = record { count = λ k. omega (arith, counted.count k, law k, follows k) }
-
--- and what his coming to another mount does
-pub counted_with : (mounts left later : List Mount) (rows after : List ListenerRow) (from : Option ℕ) (number : ℕ) → AreCounted mounts rows
-    → ((k : ℕ) → one_at from k ≤ passing (sits_by k) rows)
-    → ((k : ℕ) → passing (sits_by k) after + one_at from k ≡ passing (sits_by k) rows + one_at (Some number) k)
-    → ((k : ℕ) → sitting_in left k ≡ sitting_in mounts k - one_at from k)
-    → ((k : ℕ) → sitting_in later k ≡ sitting_in left k + one_at (Some number) k)
-    → AreCounted later after
-counted_with mounts left later rows after from number counted some law leaves comes = record {
-  count = λ k. omega (arith, counted.count k, some k, law k, leaves k, comes k);
-}
-
-pub room_for_one : (mounts left : List Mount) (rows after : List ListenerRow) (from : Option ℕ) (number many : ℕ) → AreCounted mounts rows
-    → ((k : ℕ) → one_at from k ≤ passing (sits_by k) rows)
-    → ((k : ℕ) → passing (sits_by k) after + one_at from k ≡ passing (sits_by k) rows + one_at (Some number) k)
-    → ((k : ℕ) → sitting_in left k ≡ sitting_in mounts k - one_at from k)
-    → length after < many → sitting_in left number + 1 < many
-room_for_one mounts left rows after from number many counted some law leaves few =
-    let here : one_at (Some number) number ≡ 1 = rw (same_number number) refl in
-    let fits = passing_fits (sits_by number) after in
-    omega (arith, counted.count number, some number, law number, leaves number, here, fits, few)
-
 -- the mount of this name has this number
 module _ (name : ℕ → List ℕ) (mount : List ℕ) (number : ℕ) (only : (k : ℕ) → bytes_eq (name k) mount ≡ (k == number)) where
   pub is_called : name number ≡ mount
@@ -157,14 +97,22 @@ module _ (name : ℕ → List ℕ) (mount : List ℕ) (number : ℕ) (only : (k 
 
   at_mount : (state : RowState) → is_seat_at mount (named_state name state) ≡ state_at number state
   at_mount (Seated seat) = only seat.mount
-  at_mount (Ended rule) = refl
+  at_mount (Ended rule last) = refl
 
   pub counts_there : (rows : List ListenerRow) → count_at (map (named name) rows) mount ≡ passing (sits_by number) rows
   counts_there rows = map_counted (named name) (sits_by number) (λ (listener : Listener). is_seat_at mount listener.seating) (λ row. at_mount row.state) rows
 
+  names_mount : (state : RowState) → bytes_eq (last_mount (named_state name state)) mount ≡ (last_number state == number)
+  names_mount (Seated seat) = only seat.mount
+  names_mount (Ended rule last) = only last
+
+  pub names_there : (rows : List ListenerRow) → named_at (map (named name) rows) mount ≡ passing (names_by number) rows
+  names_there rows =
+      map_counted (named name) (names_by number) (λ (listener : Listener). bytes_eq (last_mount listener.seating) mount) (λ row. names_mount row.state) rows
+
   pub user_at : (user : List ℕ) (state : RowState) → is_user_at mount user (named_state name state) ≡ user_state number user state
   user_at user (Seated seat) = ap (λ b. b && has_user user seat.guest.pair) (only seat.mount)
-  user_at user (Ended rule) = refl
+  user_at user (Ended rule last) = refl
 
   pub user_there : (user : List ℕ) (rows : List ListenerRow) → sits_there (map (named name) rows) mount user ≡ list_any (λ (row : ListenerRow). user_state number user row.state) rows
   user_there user rows =
@@ -172,20 +120,25 @@ module _ (name : ℕ → List ℕ) (mount : List ℕ) (number : ℕ) (only : (k 
       (λ row. user_at user row.state) rows
 
   module _ (p : ℕ → Guest → Bool) (rule : Rule) where
-    ends_by : (row : ListenerRow) (b : Bool)
-        → named name (record row { state = (if b then Ended rule else row.state) })
-        ≡ record { id = row.id; seating = (if b then Finished rule else named_state name row.state) }
-    ends_by row true = refl
-    ends_by row false = refl
-
     holds_there : (state : RowState) → holds_of (passes_at mount p) (named_state name state) ≡ holds_at p number state
     holds_there (Seated seat) = ap (λ b. b && p seat.place seat.guest) (only seat.mount)
-    holds_there (Ended rule) = refl
+    holds_there (Ended other last) = refl
+
+    seat_ends : (seat : NumberedSeat) (b c : Bool) → (seat.mount == number) ≡ b
+        → named_state name (if b && c then Ended rule number else Seated seat) ≡ (if b && c then Finished rule (name seat.mount) else named_state name (Seated seat))
+    seat_ends seat true true e = ap (λ n. Finished rule (name n)) (sym (eqb-true seat.mount number e))
+    seat_ends seat true false e = refl
+    seat_ends seat false c e = refl
+
+    state_ends : (state : RowState) → named_state name (if holds_at p number state then Ended rule number else state)
+        ≡ ended_if (passes_at mount p) rule (named_state name state)
+    state_ends (Seated seat) =
+        seat_ends seat (seat.mount == number) (p seat.place seat.guest) refl
+        ∙ ap (λ b. if b && p seat.place seat.guest then Finished rule (name seat.mount) else named_state name (Seated seat)) (sym (only seat.mount))
+    state_ends (Ended other last) = refl
 
     ends_there : (row : ListenerRow) → named name (ended_where p number rule row) ≡ finished_if (passes_at mount p) rule (named name row)
-    ends_there row =
-        ends_by row (holds_at p number row.state)
-        ∙ ap (λ b. record { id = row.id; seating = (if b then Finished rule else named_state name row.state) }) (sym (holds_there row.state))
+    ends_there row = ap (λ (seating : Seating). record { id = row.id; seating = seating }) (state_ends row.state)
 
     pub all_end_there : (rows : List ListenerRow)
         → map (named name) (map (ended_where p number rule) rows) ≡ with_ended (map (named name) rows) (passes_at mount p) rule
@@ -212,18 +165,28 @@ module _ (name : ℕ → List ℕ) (mount : List ℕ) (number : ℕ) (only : (k 
 module _ (name : ℕ → List ℕ) (mount : List ℕ) (only : (k : ℕ) → bytes_eq (name k) mount ≡ false) where
   not_at : (state : RowState) → is_seat_at mount (named_state name state) ≡ false
   not_at (Seated seat) = only seat.mount
-  not_at (Ended rule) = refl
+  not_at (Ended rule last) = refl
+
+  none_count : (rows : List ListenerRow) → length (filter (λ row. false) rows) ≡ 0
+  none_count [] = refl
+  none_count (row ∷ rows) = none_count rows
 
   pub nobody_there : (rows : List ListenerRow) → count_at (map (named name) rows) mount ≡ 0
   nobody_there rows =
-      map_counted (named name) (λ row. false) (λ (listener : Listener). is_seat_at mount listener.seating) (λ row. not_at row.state) rows ∙ none rows where
-        none : (xs : List ListenerRow) → length (filter (λ row. false) xs) ≡ 0
-        none [] = refl
-        none (x ∷ xs) = none xs
+      map_counted (named name) (λ row. false) (λ (listener : Listener). is_seat_at mount listener.seating) (λ row. not_at row.state) rows ∙ none_count rows
+
+  not_last : (state : RowState) → bytes_eq (last_mount (named_state name state)) mount ≡ false
+  not_last (Seated seat) = only seat.mount
+  not_last (Ended rule last) = only last
+
+  pub nobody_names : (rows : List ListenerRow) → named_at (map (named name) rows) mount ≡ 0
+  nobody_names rows =
+      map_counted (named name) (λ row. false) (λ (listener : Listener). bytes_eq (last_mount listener.seating) mount) (λ row. not_last row.state) rows
+      ∙ none_count rows
 
   pub no_user : (user : List ℕ) (state : RowState) → is_user_at mount user (named_state name state) ≡ false
   no_user user (Seated seat) = ap (λ b. b && has_user user seat.guest.pair) (only seat.mount)
-  no_user user (Ended rule) = refl
+  no_user user (Ended rule last) = refl
 
   pub no_user_there : (user : List ℕ) (rows : List ListenerRow) → sits_there (map (named name) rows) mount user ≡ false
   no_user_there user [] = refl
@@ -232,7 +195,7 @@ module _ (name : ℕ → List ℕ) (mount : List ℕ) (only : (k : ℕ) → byte
   module _ (p : ℕ → Guest → Bool) (rule : Rule) where
     holds_nowhere : (state : RowState) → holds_of (passes_at mount p) (named_state name state) ≡ false
     holds_nowhere (Seated seat) = ap (λ b. b && p seat.place seat.guest) (only seat.mount)
-    holds_nowhere (Ended rule) = refl
+    holds_nowhere (Ended other last) = refl
 
     pub nobody_ends : (rows : List ListenerRow) → map (named name) rows ≡ with_ended (map (named name) rows) (passes_at mount p) rule
     nobody_ends [] = refl
@@ -245,8 +208,7 @@ module _ (name : ℕ → List ℕ) (mount : List ℕ) (only : (k : ℕ) → byte
 -- where the listeners of one mount after another end
 module _ (p : ℕ → Guest → Bool) (rule : Rule) where
   seat_absorbs : (seat : Seat) (b c : Bool) → passes_in p seat ≡ c
-      → (if holds_of (passes_in p) (if b && c then Finished rule else Sits seat) then Finished rule else (if b && c then Finished rule else Sits seat))
-      ≡ (if c then Finished rule else Sits seat)
+      → ended_if (passes_in p) rule (if b && c then Finished rule seat.mount else Sits seat) ≡ (if c then Finished rule seat.mount else Sits seat)
   seat_absorbs seat true true e = refl
   seat_absorbs seat true false e = rw e refl
   seat_absorbs seat false true e = rw e refl
@@ -254,7 +216,7 @@ module _ (p : ℕ → Guest → Bool) (rule : Rule) where
 
   absorbs : (mount : List ℕ) (seating : Seating) → ended_if (passes_in p) rule (ended_if (passes_at mount p) rule seating) ≡ ended_if (passes_in p) rule seating
   absorbs mount (Sits seat) = seat_absorbs seat (bytes_eq seat.mount mount) (passes_in p seat) refl
-  absorbs mount (Finished other) = refl
+  absorbs mount (Finished other last) = refl
 
   pub end_at_one : (mount : List ℕ) (seats : List Listener)
       → with_ended (with_ended seats (passes_at mount p) rule) (passes_in p) rule ≡ with_ended seats (passes_in p) rule
@@ -264,7 +226,7 @@ module _ (p : ℕ → Guest → Bool) (rule : Rule) where
       let rest = end_at_one mount seats in
       cc
 
-  fewer_by : (seat : Seat) (b c : Bool) → passes_in p seat ≡ c → one (holds_of (passes_in p) (if b && c then Finished rule else Sits seat)) + one (b && c) ≡ one c
+  fewer_by : (seat : Seat) (b c : Bool) → passes_in p seat ≡ c → one (holds_of (passes_in p) (if b && c then Finished rule seat.mount else Sits seat)) + one (b && c) ≡ one c
   fewer_by seat true true e = refl
   fewer_by seat true false e = rw e refl
   fewer_by seat false true e = rw e refl
@@ -274,7 +236,7 @@ module _ (p : ℕ → Guest → Bool) (rule : Rule) where
       → one (holds_of (passes_in p) (ended_if (passes_at mount p) rule seating)) + one (holds_of (passes_at mount p) seating)
       ≡ one (holds_of (passes_in p) seating)
   fewer_at mount (Sits seat) = fewer_by seat (bytes_eq seat.mount mount) (passes_in p seat) refl
-  fewer_at mount (Finished other) = refl
+  fewer_at mount (Finished other last) = refl
 
   pub fewer_left : (mount : List ℕ) (seats : List Listener) → 0 < how_many (passes_at mount p) seats
       → how_many (passes_in p) (with_ended seats (passes_at mount p) rule) < how_many (passes_in p) seats
@@ -306,7 +268,7 @@ module _ (name later : ℕ → List ℕ) (rows : List ListenerRow) (same : (k : 
     by_state : (state : RowState)
         → named name (with_state (heard place state) row) ≡ record { id = row.id; seating = heard_to place (named_state name state) }
     by_state (Seated seat) = refl
-    by_state (Ended rule) = refl
+    by_state (Ended rule mount) = refl
 
   pub seats_heard : (id place : ℕ) → map (named later) (update_first (is_row id) (λ row. with_state (heard place row.state) row) rows)
       ≡ with_place (map (named name) rows) id place
@@ -319,7 +281,7 @@ module _ (name later : ℕ → List ℕ) (rows : List ListenerRow) (same : (k : 
   ended_shown rule row = by_state row.state where
     by_state : (state : RowState) → named name (with_state (ended rule state) row) ≡ record { id = row.id; seating = lost_by rule (named_state name state) }
     by_state (Seated seat) = refl
-    by_state (Ended other) = refl
+    by_state (Ended other mount) = refl
 
   pub seats_ended : (id : ℕ) (rule : Rule) → map (named later) (update_first (is_row id) (λ row. with_state (ended rule row.state) row) rows)
       ≡ with_end (map (named name) rows) id rule
@@ -335,7 +297,7 @@ module _ (name later : ℕ → List ℕ) (rows : List ListenerRow) (same : (k : 
           → named name (with_state (shifted number session place state) row) ≡ record { id = row.id; seating = moved_to mount session place (named_state name state) }
       by_state (Seated seat) =
           ap (λ m. record { id = row.id; seating = Sits (seat_of_guest place m session seat.guest) }) is
-      by_state (Ended rule) = refl
+      by_state (Ended rule last) = refl
 
     pub seats_moved : (id : ℕ) → map (named later) (update_first (is_row id) (λ row. with_state (shifted number session place row.state) row) rows)
         ≡ with_move (map (named name) rows) id mount session place
@@ -350,25 +312,3 @@ pub same_board : (names more : List (List ℕ)) (seats others : List Listener) �
 same_board names more seats others e f = ap (λ n. board n seats) e ∙ ap (board more) f where
   board : List (List ℕ) → List Listener → Board
   board n s = record { prepared = n; seats = s }
-
--- nobody sits at a mount at which none is counted
-pub nobody_by : (mounts : List Mount) (rows : List ListenerRow) (mount : List ℕ) → AreCounted mounts rows
-    → count_at (map (named (name_in mounts)) rows) mount ≡ 0 → (k : ℕ) → bytes_eq (name_in mounts k) mount ≡ true → sitting_in mounts k ≡ 0
-nobody_by mounts rows mount counted none k is =
-    let most = bounded rows in omega (arith, counted.count k, none, most) where
-      one_more : (b c : Bool) (row : ListenerRow) (listener : Listener) (xs : List ListenerRow) (ys : List Listener) → (b ≡ true → c ≡ true)
-          → length xs ≤ length ys → length (if b then row ∷ xs else xs) ≤ length (if c then listener ∷ ys else ys)
-      one_more true true row listener xs ys follows h = omega arith
-      one_more true false row listener xs ys follows h = let no_way : false ≡ true = follows refl in cc
-      one_more false true row listener xs ys follows h = omega arith
-      one_more false false row listener xs ys follows h = h
-
-      sits_there_by : (state : RowState) → state_at k state ≡ true → is_seat_at mount (named_state (name_in mounts) state) ≡ true
-      sits_there_by (Seated seat) e = ap (λ n. bytes_eq (name_in mounts n) mount) (eqb-true seat.mount k e) ∙ is
-      sits_there_by (Ended rule) e = cc
-
-      bounded : (xs : List ListenerRow) → passing (sits_by k) xs ≤ count_at (map (named (name_in mounts)) xs) mount
-      bounded [] = omega arith
-      bounded (row ∷ xs) =
-          one_more (sits_by k row) (is_seat_at mount (named_state (name_in mounts) row.state)) row (named (name_in mounts) row) (filter (sits_by k) xs)
-          (filter (λ (listener : Listener). is_seat_at mount listener.seating) (map (named (name_in mounts)) xs)) (sits_there_by row.state) (bounded xs)

@@ -58,4 +58,4 @@ has_heard seats id place seat has =
     ap seat_in (has_moved seats id place listener.0 listener.1) ∙ held listener.0.seating listener.2 where
       held : (seating : Seating) → seat_held seating ≡ Some seat → seat_held (heard_to place seating) ≡ Some (record seat { place = place })
       held (Sits old) e = let same : old ≡ seat = cc in ap (λ (x : Seat). Some (record x { place = place })) same
-      held (Finished rule) e = cc
+      held (Finished rule mount) e = cc

@@ -311,7 +311,7 @@ sent_mark user (Some pair) e = ap (λ u. Some (user_mark u)) ((bytes_eq-Decides 
 state_mark : (number : ℕ) (user : List ℕ) (mark : Option ℕ) (state : RowState)
     → IsMarkOf mark state → user_state number user state ≡ true → mark ≡ Some (user_mark user)
 state_mark number user mark (Seated seat) is e = is ∙ sent_mark user seat.guest.pair (and_right (seat.mount == number) (has_user user seat.guest.pair) e)
-state_mark number user mark (Ended rule) is e = cc
+state_mark number user mark (Ended rule mount) is e = cc
 
 -- whoever is asked for is found among those of the user's mark, and nobody else is
 module _ (seats : BTreeSet (ℕ × ℕ)) (rows : List ListenerRow) (own : Option ℕ) (number : ℕ) (user : List ℕ) (are : AreKept seats rows)

@@ -35,7 +35,7 @@ passes_at mount p seat = bytes_eq seat.mount mount && passes_in p seat
 -- the moment of the guest who has the seat, or the other where it is lost
 abbrev pub moment_in : (Guest → ℕ) → ℕ → Seating → ℕ
 moment_in moment other (Sits seat) = moment (guest_in seat)
-moment_in moment other (Finished rule) = other
+moment_in moment other (Finished rule mount) = other
 
 -- the first of these moments of those who sit, or the last one where nobody sits
 abbrev pub first_moment : (Guest → ℕ) → ℕ → List Listener → ℕ

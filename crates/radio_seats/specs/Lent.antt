@@ -16,7 +16,7 @@ lent_seat seat = seat_of_guest seat.place seat.mount.now seat.session seat.guest
 -- how one stands who is this listener
 abbrev pub standing_by : Seating → ListenerStanding
 standing_by (Sits seat) = HasSeat
-standing_by (Finished rule) = HasLost rule
+standing_by (Finished rule mount) = HasLost rule
 
 abbrev pub standing_in : Option Listener → Option ListenerStanding
 standing_in None = None

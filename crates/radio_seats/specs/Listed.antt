@@ -26,7 +26,7 @@ lent_guest listener = listed listener.id listener.guest.now
 -- the listener of this number, if he sits at the mount
 abbrev pub guest_sitting : List ℕ → ℕ → Seating → Option ListedGuest
 guest_sitting mount id (Sits seat) = if bytes_eq seat.mount mount then Some (listed id (guest_in seat)) else None
-guest_sitting mount id (Finished rule) = None
+guest_sitting mount id (Finished rule last) = None
 
 abbrev pub guest_at : List ℕ → Listener → Option ListedGuest
 guest_at mount listener = guest_sitting mount listener.id listener.seating
@@ -38,7 +38,7 @@ guests_at seats mount = filter_map (guest_at mount) seats
 -- the listener of a row, if he sits at the mount of this number
 abbrev pub row_sitting : ℕ → ℕ → RowState → Option ListedGuest
 row_sitting number id (Seated seat) = if seat.mount == number then Some (listed id seat.guest) else None
-row_sitting number id (Ended rule) = None
+row_sitting number id (Ended rule last) = None
 
 abbrev pub row_guest : ℕ → ListenerRow → Option ListedGuest
 row_guest number row = row_sitting number row.id row.state

@@ -1,4 +1,4 @@
--- The prepared mounts: each has a number, a name, and a count of those who sit there.
+-- The prepared mounts: each has a number, a name, and a count of those who sit there, and of those who sit there or sat there last.
 use Rattle.std.specs.Prelude.{◌≡◌, ℕ, ◌<◌, Bool, false, ◌==◌, if◌then◌else◌, List, [], Option, Some, None, find}
 use Rattle.std.specs.Str.{bytes_eq}
 use Rattle.radio_seats.specs.declared.mounts.Mount.{Mount}
@@ -30,6 +30,14 @@ sitting_of (Some mount) = mount.sitting
 -- how many sit at the mount of this number
 abbrev pub sitting_in : List Mount → ℕ → ℕ
 sitting_in mounts number = sitting_of (find (is_numbered number) mounts)
+
+abbrev pub naming_of : Option Mount → ℕ
+naming_of None = 0
+naming_of (Some mount) = mount.naming
+
+-- how many sit at the mount of this number, or sat there last
+abbrev pub naming_in : List Mount → ℕ → ℕ
+naming_in mounts number = naming_of (find (is_numbered number) mounts)
 
 -- it is the number that was found
 abbrev pub is_number : Option ℕ → ℕ → Bool

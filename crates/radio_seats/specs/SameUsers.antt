@@ -13,28 +13,28 @@ pub heard_same : (place : ℕ) (row : ListenerRow) → IsSameUser row (with_stat
 heard_same place row = record { mark = refl; marked = by_state row.state } where
   by_state : (state : RowState) → IsMarkOf row.mark state → IsMarkOf row.mark (heard place state)
   by_state (Seated seat) is = is
-  by_state (Ended rule) is = is
+  by_state (Ended rule mount) is = is
 
 pub shifted_same : (number session place : ℕ) (row : ListenerRow) → IsSameUser row (with_state (shifted number session place row.state) row)
 shifted_same number session place row = record { mark = refl; marked = by_state row.state } where
   by_state : (state : RowState) → IsMarkOf row.mark state → IsMarkOf row.mark (shifted number session place state)
   by_state (Seated seat) is = is
-  by_state (Ended rule) is = is
+  by_state (Ended rule mount) is = is
 
 pub hears_same : (number session : ℕ) (row : ListenerRow) → IsSameUser row (with_state (hears number session row.state) row)
 hears_same number session row = record { mark = refl; marked = by_state row.state } where
   by_state : (state : RowState) → IsMarkOf row.mark state → IsMarkOf row.mark (hears number session state)
   by_state (Seated seat) is = is
-  by_state (Ended rule) is = is
+  by_state (Ended rule mount) is = is
 
 pub ended_same : (rule : Rule) (row : ListenerRow) → IsSameUser row (with_state (ended rule row.state) row)
 ended_same rule row = record { mark = refl; marked = by_state row.state } where
   by_state : (state : RowState) → IsMarkOf row.mark state → IsMarkOf row.mark (ended rule state)
   by_state (Seated seat) is = tt
-  by_state (Ended other) is = is
+  by_state (Ended other mount) is = is
 
 pub ended_where_same : (p : ℕ → Guest → Bool) (number : ℕ) (rule : Rule) (row : ListenerRow) → IsSameUser row (ended_where p number rule row)
 ended_where_same p number rule row = record { mark = refl; marked = by_test (holds_at p number row.state) } where
-  by_test : (b : Bool) → IsMarkOf row.mark row.state → IsMarkOf row.mark (if b then Ended rule else row.state)
+  by_test : (b : Bool) → IsMarkOf row.mark row.state → IsMarkOf row.mark (if b then Ended rule number else row.state)
   by_test true is = tt
   by_test false is = is

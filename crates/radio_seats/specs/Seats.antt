@@ -1,4 +1,4 @@
--- The listeners, each with his seat, or with the rule by which he has lost it.
+-- The listeners, each with his seat, or with the rule by which he has lost it and the mount where that was.
 use Rattle.std.specs.Prelude.{◌≡◌, ℕ, Bool, true, false, ◌==◌, ◌&&◌, not, if◌then◌else◌, List, length, Option, Some, None, find, filter, map}
 use Rattle.std.specs.Option.{option_map, option_map_or}
 use Rattle.std.specs.declared.cmp.Ordering.{Ordering}
@@ -25,7 +25,7 @@ listener_of seats id = find (is_listener id) seats
 -- the seat of one who sits; one who has finished has none
 abbrev pub seat_held : Seating → Option Seat
 seat_held (Sits seat) = Some seat
-seat_held (Finished rule) = None
+seat_held (Finished rule mount) = None
 
 abbrev pub seat_in : Option Listener → Option Seat
 seat_in None = None
@@ -54,7 +54,7 @@ with_seat seats id seat = placed by_listener (seated id seat) seats
 -- a seat from which the stream was heard up to this place
 abbrev pub heard_to : ℕ → Seating → Seating
 heard_to place (Sits seat) = Sits (record seat { place = place })
-heard_to place (Finished rule) = Finished rule
+heard_to place (Finished rule mount) = Finished rule mount
 
 abbrev pub advanced : ℕ → Listener → Listener
 advanced place listener = record listener { seating = heard_to place listener.seating }
@@ -66,7 +66,7 @@ with_place seats id place = update_first (is_listener id) (advanced place) seats
 -- a seat at this mount, in this session and from this place on
 abbrev pub moved_to : List ℕ → ℕ → ℕ → Seating → Seating
 moved_to mount session place (Sits seat) = Sits (record seat { mount = mount; session = session; place = place })
-moved_to mount session place (Finished rule) = Finished rule
+moved_to mount session place (Finished rule last) = Finished rule last
 
 abbrev pub moved : List ℕ → ℕ → ℕ → Listener → Listener
 moved mount session place listener = record listener { seating = moved_to mount session place listener.seating }
@@ -78,7 +78,7 @@ with_move seats id mount session place = update_first (is_listener id) (moved mo
 -- a seat at the mount is one in this session
 abbrev pub in_session_at : List ℕ → ℕ → Seating → Seating
 in_session_at mount session (Sits seat) = Sits (record seat { session = (if bytes_eq seat.mount mount then session else seat.session) })
-in_session_at mount session (Finished rule) = Finished rule
+in_session_at mount session (Finished rule last) = Finished rule last
 
 abbrev pub hears_session : List ℕ → ℕ → Listener → Listener
 hears_session mount session listener = record listener { seating = in_session_at mount session listener.seating }
@@ -87,10 +87,10 @@ hears_session mount session listener = record listener { seating = in_session_at
 abbrev pub with_session_at : List Listener → List ℕ → ℕ → List Listener
 with_session_at seats mount session = map (hears_session mount session) seats
 
--- a seat is lost by the rule; who has finished before has finished by his own
+-- a seat is lost by the rule, at its mount; who has finished before has finished by his own
 abbrev pub lost_by : Rule → Seating → Seating
-lost_by rule (Sits seat) = Finished rule
-lost_by rule (Finished other) = Finished other
+lost_by rule (Sits seat) = Finished rule seat.mount
+lost_by rule (Finished other mount) = Finished other mount
 
 abbrev pub loses : Rule → Listener → Listener
 loses rule listener = record listener { seating = lost_by rule listener.seating }
@@ -102,11 +102,11 @@ with_end seats id rule = update_first (is_listener id) (loses rule) seats
 -- it is a seat of which this holds
 abbrev pub holds_of : (Seat → Bool) → Seating → Bool
 holds_of p (Sits seat) = p seat
-holds_of p (Finished rule) = false
+holds_of p (Finished rule mount) = false
 
 -- such a seat ends by the rule; any other stays
 abbrev pub ended_if : (Seat → Bool) → Rule → Seating → Seating
-ended_if p rule seating = (if holds_of p seating then Finished rule else seating)
+ended_if p rule seating = (if holds_of p seating then lost_by rule seating else seating)
 
 abbrev pub finished_if : (Seat → Bool) → Rule → Listener → Listener
 finished_if p rule listener = record listener { seating = ended_if p rule listener.seating }
@@ -117,7 +117,7 @@ with_ended seats p rule = map (finished_if p rule) seats
 
 abbrev pub is_seat_at : List ℕ → Seating → Bool
 is_seat_at mount (Sits seat) = bytes_eq seat.mount mount
-is_seat_at mount (Finished rule) = false
+is_seat_at mount (Finished rule last) = false
 
 -- nothing is left of the listener
 abbrev pub without_listener : List Listener → ℕ → List Listener
@@ -131,6 +131,19 @@ seats_at seats mount = filter (λ listener. is_seat_at mount listener.seating) s
 abbrev pub count_at : List Listener → List ℕ → ℕ
 count_at seats mount = length (seats_at seats mount)
 
+-- where he sits, or sat last
+abbrev pub last_mount : Seating → List ℕ
+last_mount (Sits seat) = seat.mount
+last_mount (Finished rule mount) = mount
+
+-- the mount where the listener of this number sits, or sat last, if he is one
+abbrev pub last_mount_of : List Listener → ℕ → Option (List ℕ)
+last_mount_of seats id = option_map (λ listener. last_mount listener.seating) (listener_of seats id)
+
+-- how many sit there, or sat there last
+abbrev pub named_at : List Listener → List ℕ → ℕ
+named_at seats mount = length (filter (λ listener. bytes_eq (last_mount listener.seating) mount) seats)
+
 -- the pair that was sent has this user; without a pair there is none
 abbrev pub has_user : List ℕ → Option Credentials → Bool
 has_user user None = false
@@ -143,7 +156,7 @@ SitsAs seats id mount user = (seat : Seat) × (seat_of seats id ≡ Some seat) �
 -- it is a seat at the mount, of one who sent this user
 abbrev pub is_user_at : List ℕ → List ℕ → Seating → Bool
 is_user_at mount user (Sits seat) = bytes_eq seat.mount mount && has_user user seat.pair
-is_user_at mount user (Finished rule) = false
+is_user_at mount user (Finished rule last) = false
 
 -- somebody sits at the mount who sent this user
 abbrev pub sits_there : List Listener → List ℕ → List ℕ → Bool

@@ -30,7 +30,7 @@ mark_in (Some row) = row.mark
 
 abbrev pub IsMarkOf : Option ℕ → RowState → Type 0
 IsMarkOf mark (Seated seat) = mark ≡ mark_sent seat.guest.pair
-IsMarkOf mark (Ended rule) = Unit {0}
+IsMarkOf mark (Ended rule mount) = Unit {0}
 
 -- whoever sits there has the mark of the user that he sent
 abbrev pub IsMarked : ListenerRow → Type 0

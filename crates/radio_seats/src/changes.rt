@@ -133,8 +133,11 @@ impl Change<ListenerRow> for Ends {
     ghost keeps_key = { λ change row. refl };
 
     fn apply(&self, row: &mut ListenerRow) {
-        if row.state.mount().is_some() {
-            row.state = RowState::Ended(self.rule);
+        if let Some(mount) = row.state.mount() {
+            row.state = RowState::Ended {
+                rule: self.rule,
+                mount,
+            };
         }
     }
 }
@@ -190,7 +193,10 @@ impl<T: SeatTest> Change<ListenerRow> for FinishesAt<'_, T> {
 
     fn apply(&self, row: &mut ListenerRow) {
         if row.state.passes_at(self.number, self.test) {
-            row.state = RowState::Ended(self.rule);
+            row.state = RowState::Ended {
+                rule: self.rule,
+                mount: self.number,
+            };
         }
     }
 }

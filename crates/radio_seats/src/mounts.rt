@@ -4,7 +4,7 @@ ghost use Rattle.std.specs.Prelude.{◌≡◌, ◌+◌, ◌-◌, ◌<◌, ◌^�
 ghost use Rattle.std.specs.Option.{option_copied};
 ghost use Rattle.std.specs.Str.{bytes_eq};
 ghost use Rattle.radio_seats.specs.Board.{is_prepared};
-ghost use Rattle.radio_seats.specs.Mounts.{is_numbered, name_in, sitting_in, is_number, one_at, IsThere};
+ghost use Rattle.radio_seats.specs.Mounts.{is_numbered, name_in, sitting_in, naming_in, is_number, one_at, IsThere};
 
 use crate::OutOfMemory;
 use radio_settings::MountName;
@@ -19,6 +19,8 @@ pub(crate) struct Mount {
     pub(crate) name: MountName,
     /// How many sit there.
     pub(crate) sitting: u64,
+    /// How many sit there, or sat there last: their rows name it.
+    pub(crate) naming: u64,
 }
 
 impl Row for Mount {
@@ -62,21 +64,23 @@ impl Row for NumberedName {
     }
 }
 
-/// So many sit at the mount.
+/// So many sit at the mount, and so many rows name it.
 #[derive(Drop)]
 struct Counts {
     sitting: u64,
+    naming: u64,
 }
 
 impl Change<Mount> for Counts {
     ghost use Rattle.std.specs.Prelude.{refl};
 
-    ghost gives = { λ change mount. record mount { sitting = change.sitting } };
+    ghost gives = { λ change mount. record mount { sitting = change.sitting; naming = change.naming } };
 
     ghost keeps_key = { λ change mount. refl };
 
     fn apply(&self, row: &mut Mount) {
         row.sitting = self.sitting;
+        row.naming = self.naming;
     }
 }
 
@@ -137,9 +141,10 @@ impl Mounts {
     /// memory was refused, and where the numbers are spent; nothing has changed then.
     pub(crate) fn prepare(&mut self, name: &MountName) -> Result<(), OutOfMemory>
         ensures prepared { OnOk result ((other : _) → is_prepared self.new.names other ≡ (is_prepared self.old.names other || bytes_eq name.now other)) }
-        // who sits at a mount of a number sits there still
+        // who sits at a mount of a number, or sat there last, does so still
         ensures sitting { (number : _) → sitting_in self.new.mounts number ≡ sitting_in self.old.mounts number }
-        ensures names { (number : _) → 0 < sitting_in self.old.mounts number → name_in self.new.mounts number ≡ name_in self.old.mounts number }
+        ensures naming { (number : _) → naming_in self.new.mounts number ≡ naming_in self.old.mounts number }
+        ensures names { (number : _) → 0 < naming_in self.old.mounts number → name_in self.new.mounts number ≡ name_in self.old.mounts number }
         ensures err { OnErr result (self.new ≡ self.old) }
     {
         match self.number(name) {
@@ -154,7 +159,8 @@ impl Mounts {
         requires { is_prepared self.old.names name.now ≡ false }
         ensures prepared { OnOk result ((other : _) → is_prepared self.new.names other ≡ (is_prepared self.old.names other || bytes_eq name.now other)) }
         ensures sitting { (number : _) → sitting_in self.new.mounts number ≡ sitting_in self.old.mounts number }
-        ensures names { (number : _) → 0 < sitting_in self.old.mounts number → name_in self.new.mounts number ≡ name_in self.old.mounts number }
+        ensures naming { (number : _) → naming_in self.new.mounts number ≡ naming_in self.old.mounts number }
+        ensures names { (number : _) → 0 < naming_in self.old.mounts number → name_in self.new.mounts number ≡ name_in self.old.mounts number }
         ensures err { OnErr result (self.new ≡ self.old) }
     {
         let Some(number) = self.last.checked_add(1) else {
@@ -164,6 +170,7 @@ impl Mounts {
             number,
             name: *name,
             sitting: 0,
+            naming: 0,
         })?;
         match self.names.insert(NumberedName {
             name: *name,
@@ -182,11 +189,13 @@ impl Mounts {
 
     /// The mount is not prepared any more. It takes no memory.
     pub(crate) fn release(&mut self, name: &MountName)
-        // nobody sits there
-        requires { (number : _) → bytes_eq (name_in self.old.mounts number) name.now ≡ true → sitting_in self.old.mounts number ≡ 0 }
+        // nobody sits there, or sat there last
+        requires sitting { (number : _) → bytes_eq (name_in self.old.mounts number) name.now ≡ true → sitting_in self.old.mounts number ≡ 0 }
+        requires naming { (number : _) → bytes_eq (name_in self.old.mounts number) name.now ≡ true → naming_in self.old.mounts number ≡ 0 }
         ensures prepared { (other : _) → is_prepared self.new.names other ≡ (is_prepared self.old.names other && not (bytes_eq name.now other)) }
         ensures sitting { (number : _) → sitting_in self.new.mounts number ≡ sitting_in self.old.mounts number }
-        ensures names { (number : _) → 0 < sitting_in self.old.mounts number → name_in self.new.mounts number ≡ name_in self.old.mounts number }
+        ensures naming { (number : _) → naming_in self.new.mounts number ≡ naming_in self.old.mounts number }
+        ensures names { (number : _) → 0 < naming_in self.old.mounts number → name_in self.new.mounts number ≡ name_in self.old.mounts number }
     {
         if let Some(entry) = self.names.remove(name) {
             self.mounts.remove(&entry.number);
@@ -196,39 +205,63 @@ impl Mounts {
     /// One more sits at the mount of this number.
     pub(crate) fn gain(&mut self, number: u64)
         requires there { IsThere self.old.mounts number }
-        requires room { sitting_in self.old.mounts number + 1 < 2 ^ 64 }
+        requires room_to_sit { sitting_in self.old.mounts number + 1 < 2 ^ 64 }
+        requires room_to_name { naming_in self.old.mounts number + 1 < 2 ^ 64 }
         ensures sitting { (other : _) → sitting_in self.new.mounts other ≡ sitting_in self.old.mounts other + (if number == other then 1 else 0) }
+        ensures naming { (other : _) → naming_in self.new.mounts other ≡ naming_in self.old.mounts other + (if number == other then 1 else 0) }
         ensures names { (other : _) → name_in self.new.mounts other ≡ name_in self.old.mounts other }
         ensures prepared { self.new.names ≡ self.old.names }
     {
         if let Some(mount) = self.mounts.get(&number) {
             let sitting = mount.sitting + 1;
-            self.mounts.change(&number, &Counts { sitting });
+            let naming = mount.naming + 1;
+            self.mounts.change(&number, &Counts { sitting, naming });
         }
     }
 
-    /// So many have lost their seats at the mount of this number.
+    /// So many have lost their seats at the mount of this number, and sat there last.
     pub(crate) fn lose(&mut self, number: u64, count: u64)
         ensures sitting { (other : _) → sitting_in self.new.mounts other ≡ sitting_in self.old.mounts other - (if number == other then count else 0) }
+        ensures naming { (other : _) → naming_in self.new.mounts other ≡ naming_in self.old.mounts other }
         ensures names { (other : _) → name_in self.new.mounts other ≡ name_in self.old.mounts other }
         ensures prepared { self.new.names ≡ self.old.names }
         ensures there { (other : _) → IsThere self.old.mounts other → IsThere self.new.mounts other }
     {
         if let Some(mount) = self.mounts.get(&number) {
             let sitting = mount.sitting.saturating_sub(count);
-            self.mounts.change(&number, &Counts { sitting });
+            let naming = mount.naming;
+            self.mounts.change(&number, &Counts { sitting, naming });
         }
     }
 
-    /// One has left his seat at the mount of this number, if he had one.
+    /// One has left his seat at the mount of this number, if he had one, and sat there last.
     pub(crate) fn leave(&mut self, number: Option<u64>)
         ensures sitting { (other : _) → sitting_in self.new.mounts other ≡ sitting_in self.old.mounts other - one_at number other }
+        ensures naming { (other : _) → naming_in self.new.mounts other ≡ naming_in self.old.mounts other }
         ensures names { (other : _) → name_in self.new.mounts other ≡ name_in self.old.mounts other }
         ensures prepared { self.new.names ≡ self.old.names }
         ensures there { (other : _) → IsThere self.old.mounts other → IsThere self.new.mounts other }
     {
         if let Some(number) = number {
             self.lose(number, 1);
+        }
+    }
+
+    /// One row less names the mount of this number, if it named one.
+    pub(crate) fn give_up(&mut self, number: Option<u64>)
+        ensures sitting { (other : _) → sitting_in self.new.mounts other ≡ sitting_in self.old.mounts other }
+        ensures naming { (other : _) → naming_in self.new.mounts other ≡ naming_in self.old.mounts other - one_at number other }
+        ensures names { (other : _) → name_in self.new.mounts other ≡ name_in self.old.mounts other }
+        ensures prepared { self.new.names ≡ self.old.names }
+        ensures there { (other : _) → IsThere self.old.mounts other → IsThere self.new.mounts other }
+    {
+        let Some(number) = number else {
+            return;
+        };
+        if let Some(mount) = self.mounts.get(&number) {
+            let sitting = mount.sitting;
+            let naming = mount.naming.saturating_sub(1);
+            self.mounts.change(&number, &Counts { sitting, naming });
         }
     }
 }

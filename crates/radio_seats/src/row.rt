@@ -1,7 +1,7 @@
 //! The rows of the table, in which a mount is a number.
 
 ghost use Rattle.std.specs.Prelude.{◌≡◌};
-ghost use Rattle.radio_seats.specs.Rows.{number_of, state_at, holds_in, holds_at, user_state, state_moment};
+ghost use Rattle.radio_seats.specs.Rows.{number_of, last_number, state_at, holds_in, holds_at, user_state, state_moment};
 
 use crate::{Guest, GuestMoment, SeatTest};
 use radio_blocks::Place;
@@ -23,8 +23,8 @@ pub(crate) struct NumberedSeat {
 pub(crate) enum RowState {
     /// He has this seat.
     Seated(NumberedSeat),
-    /// He has lost his seat by the rule.
-    Ended(Rule),
+    /// He has lost his seat at the mount of this number by the rule.
+    Ended { rule: Rule, mount: u64 },
 }
 
 impl RowState {
@@ -34,7 +34,17 @@ impl RowState {
     {
         match self {
             RowState::Seated(seat) => Some(seat.mount),
-            RowState::Ended(_) => None,
+            RowState::Ended { .. } => None,
+        }
+    }
+
+    /// The number of the mount where he sits, or sat last.
+    pub(crate) fn last_mount(&self) -> u64
+        ensures { result ≡ last_number self.now }
+    {
+        match self {
+            RowState::Seated(seat) => seat.mount,
+            RowState::Ended { mount, .. } => *mount,
         }
     }
 
@@ -44,7 +54,7 @@ impl RowState {
     {
         match self {
             RowState::Seated(seat) => test.passes(seat.place, &seat.guest),
-            RowState::Ended(_) => false,
+            RowState::Ended { .. } => false,
         }
     }
 
@@ -56,7 +66,7 @@ impl RowState {
             RowState::Seated(seat) => {
                 seat.mount == number && test.passes(seat.place, &seat.guest)
             }
-            RowState::Ended(_) => false,
+            RowState::Ended { .. } => false,
         }
     }
 
@@ -66,7 +76,7 @@ impl RowState {
     {
         match self {
             RowState::Seated(seat) => moment.moment(&seat.guest),
-            RowState::Ended(_) => other,
+            RowState::Ended { .. } => other,
         }
     }
 
@@ -76,7 +86,7 @@ impl RowState {
     {
         match self {
             RowState::Seated(seat) => seat.mount == number && seat.guest.has_user(user),
-            RowState::Ended(_) => false,
+            RowState::Ended { .. } => false,
         }
     }
 }

@@ -35,8 +35,13 @@ pub struct Seat {
 pub enum Seating {
     /// He has this seat.
     Sits(Seat),
-    /// He has lost his seat by the rule, and is told it at his next event.
-    Finished(Rule),
+    /// He has lost his seat at the mount by the rule, and is told it at his next event.
+    Finished {
+        /// The rule.
+        rule: Rule,
+        /// The mount where he sat last.
+        mount: MountName,
+    },
 }
 
 /// A client who was admitted as a listener, and has not left.

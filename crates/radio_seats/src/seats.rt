@@ -7,12 +7,12 @@ ghost use Rattle.std.specs.Ordering.{nat_cmp};
 ghost use Rattle.radio_seats.specs.declared.row.ListenerRow.{ListenerRow as RowOf};
 ghost use Rattle.std.specs.Str.{bytes_eq};
 ghost use Rattle.radio_seats.specs.Seats.{listener_of, seat_of, with_seat, with_place, with_move, with_end, with_ended, with_session_at, without_listener};
-ghost use Rattle.radio_seats.specs.Seats.{count_at, sits_there, AreByNumber};
+ghost use Rattle.radio_seats.specs.Seats.{count_at, named_at, sits_there, AreByNumber};
 ghost use Rattle.radio_seats.specs.Board.{is_prepared};
 ghost use Rattle.radio_seats.specs.Guests.{passes_in, passes_at, first_moment};
 ghost use Rattle.radio_seats.specs.Lent.{lent_seat, standing_in};
 ghost use Rattle.radio_seats.specs.Rests.{how_many};
-ghost use Rattle.radio_seats.specs.Rows.{is_row, number_in, holds_in, holds_at, state_moment};
+ghost use Rattle.radio_seats.specs.Rows.{is_row, number_in, last_in, holds_in, holds_at, state_moment};
 
 use crate::changes::{Advances, Ends, FinishesAt, Hears, Moves};
 use crate::mounts::Mounts;
@@ -68,13 +68,14 @@ impl Seats {
         self.mounts.prepare(mount)
     }
 
-    /// The mount is not prepared any more, if nobody sits there. It takes no memory.
+    /// The mount is not prepared any more, if no listener sits there or sat there last. It takes no
+    /// memory.
     pub fn release(&mut self, mount: &MountName)
         ensures prepared { (other : _) → is_prepared self.new.prepared other
-            ≡ (is_prepared self.old.prepared other && not (bytes_eq mount.now other && (count_at self.old.seats mount.now == 0))) }
+            ≡ (is_prepared self.old.prepared other && not (bytes_eq mount.now other && (named_at self.old.seats mount.now == 0))) }
         ensures seats { self.new.seats ≡ self.old.seats }
     {
-        if self.count(mount) == 0 {
+        if self.named_at(mount) == 0 {
             self.mounts.release(mount);
         }
     }
@@ -96,7 +97,7 @@ impl Seats {
                 }),
                 None => unreachable!(),
             },
-            RowState::Ended(_) => None,
+            RowState::Ended { .. } => None,
         }
     }
 
@@ -109,7 +110,7 @@ impl Seats {
         };
         Some(match &row.state {
             RowState::Seated(_) => ListenerStanding::HasSeat,
-            RowState::Ended(rule) => ListenerStanding::HasLost(*rule),
+            RowState::Ended { rule, .. } => ListenerStanding::HasLost(*rule),
         })
     }
 
@@ -124,10 +125,12 @@ impl Seats {
             unreachable!();
         };
         let from = number_of(&self.rows, id);
+        let last = last_of(&self.rows, id);
         self.rows.insert(id, number, seat)?;
         // so many fit
         let _ = self.rows.len();
         self.mounts.leave(from);
+        self.mounts.give_up(last);
         self.mounts.gain(number);
         Ok(())
     }
@@ -173,11 +176,12 @@ impl Seats {
         // so many fit
         let _ = self.rows.len();
         self.mounts.leave(from);
+        self.mounts.give_up(from);
         self.mounts.gain(number);
     }
 
-    /// The listener loses his seat by the rule. Nothing changes where he has none. It takes no
-    /// memory.
+    /// The listener loses his seat by the rule, and sat there last. Nothing changes where he has
+    /// none. It takes no memory.
     pub fn end(&mut self, id: u64, rule: Rule)
         ensures { self.new ≡ record self.old { seats = with_end self.old.seats id rule } }
     {
@@ -191,8 +195,10 @@ impl Seats {
         ensures { self.new ≡ record self.old { seats = without_listener self.old.seats id } }
     {
         let from = number_of(&self.rows, id);
+        let last = last_of(&self.rows, id);
         self.rows.remove(id);
         self.mounts.leave(from);
+        self.mounts.give_up(last);
     }
 
     /// All who sit at the mount, and of whom the test holds, lose their seats by the rule; how many they
@@ -295,6 +301,16 @@ fn number_of(rows: &Rows, id: u64) -> Option<u64>
     let _ = rows.len();
     match rows.get(id) {
         Some(row) => row.state.mount(),
+        None => None,
+    }
+}
+
+/// The number of the mount where the listener sits, or sat last.
+fn last_of(rows: &Rows, id: u64) -> Option<u64>
+    ensures { result ≡ last_in (find (is_row id) rows.now) }
+{
+    match rows.get(id) {
+        Some(row) => Some(row.state.last_mount()),
         None => None,
     }
 }

@@ -1,11 +1,11 @@
-use Rattle.std.proofs.Common.{◌≡◌, ◌<◌, ◌||◌, List, ap, sym, subst, ◌∙◌}
+use Rattle.std.proofs.Common.{◌≡◌, ◌<◌, ◌||◌, List, refl, ap, sym, subst, ◌∙◌}
 use Rattle.std.specs.Prelude.{filter, map, not}
 use Rattle.std.specs.Str.{bytes_eq}
 use Rattle.radio_seats.specs.declared.mounts.Mount.{Mount}
 use Rattle.radio_seats.specs.declared.mounts.NumberedName.{NumberedName}
 use Rattle.radio_seats.specs.Board.{is_prepared}
-use Rattle.radio_seats.specs.Mounts.{Prepared, is_numbered, name_in, sitting_in, AreMounts}
-use Rattle.radio_seats.proofs.MountLemmas.{entry_name, mounts_then, more_mounts, not_prepared, prepared_then, sitting_then, name_in_then, taken_back}
+use Rattle.radio_seats.specs.Mounts.{Prepared, is_numbered, name_in, sitting_of, sitting_in, naming_of, naming_in, AreMounts}
+use Rattle.radio_seats.proofs.MountLemmas.{entry_name, mounts_then, more_mounts, not_prepared, prepared_then, count_then, name_in_then, taken_back}
 use Rattle.radio_seats.proofs.mounts.Mounts.prepare_new.Goals as goal
 
 abbrev shown : List Mount → List NumberedName → Prepared
@@ -36,17 +36,26 @@ returns-in-Ok-clause-sitting c = λ number.
     let none = not_prepared inside.names name (ap (λ (m : Prepared). is_prepared m.names name) c.self.view_is ∙ c.requires) in
     subst (λ (m : Prepared). sitting_in c.insert.new.self number ≡ sitting_in m.mounts number) c.self.view_is
     (ap (λ (ms : List Mount). sitting_in ms number) c.in_ok-insert.ensures.ok
-    ∙ sitting_then inside.names inside.mounts inside.last c.self.invariant name c.in-Some.number none c.in-Some.ensures.1 number)
+    ∙ count_then inside.names inside.mounts inside.last c.self.invariant name c.in-Some.number none c.in-Some.ensures.1 sitting_of refl number)
+
+pub returns-in-Ok-clause-naming : goal.returns-in-Ok-clause-naming
+returns-in-Ok-clause-naming c = λ number.
+    let inside = c.self.inside in
+    let name = c.args.name.now in
+    let none = not_prepared inside.names name (ap (λ (m : Prepared). is_prepared m.names name) c.self.view_is ∙ c.requires) in
+    subst (λ (m : Prepared). naming_in c.insert.new.self number ≡ naming_in m.mounts number) c.self.view_is
+    (ap (λ (ms : List Mount). naming_in ms number) c.in_ok-insert.ensures.ok
+    ∙ count_then inside.names inside.mounts inside.last c.self.invariant name c.in-Some.number none c.in-Some.ensures.1 naming_of refl number)
 
 pub returns-in-Ok-clause-names : goal.returns-in-Ok-clause-names
 returns-in-Ok-clause-names c = λ number some.
     let inside = c.self.inside in
     let name = c.args.name.now in
     let none = not_prepared inside.names name (ap (λ (m : Prepared). is_prepared m.names name) c.self.view_is ∙ c.requires) in
-    let sits = subst (λ (m : Prepared). 0 < sitting_in m.mounts number) (sym c.self.view_is) some in
+    let named = subst (λ (m : Prepared). 0 < naming_in m.mounts number) (sym c.self.view_is) some in
     subst (λ (m : Prepared). name_in c.insert.new.self number ≡ name_in m.mounts number) c.self.view_is
     (ap (λ (ms : List Mount). name_in ms number) c.in_ok-insert.ensures.ok
-    ∙ name_in_then inside.names inside.mounts inside.last c.self.invariant name c.in-Some.number none c.in-Some.ensures.1 number sits)
+    ∙ name_in_then inside.names inside.mounts inside.last c.self.invariant name c.in-Some.number none c.in-Some.ensures.1 number named)
 
 -- where the second is refused the first is taken back
 pub invariant_of-self-in-Err : goal.invariant_of-self-in-Err
@@ -69,6 +78,16 @@ returns-in-Err-clause-sitting c = λ number.
     ∙ ap (filter (λ (mount : Mount). not (is_numbered c.in-Some.number mount))) c.in_ok-insert.ensures.ok
     ∙ taken_back inside.names inside.mounts inside.last c.self.invariant name c.in-Some.number none c.in-Some.ensures.1 in
     ap (λ (ms : List Mount). sitting_in ms number) back ∙ ap (λ (m : Prepared). sitting_in m.mounts number) c.self.view_is
+
+pub returns-in-Err-clause-naming : goal.returns-in-Err-clause-naming
+returns-in-Err-clause-naming c = λ number.
+    let inside = c.self.inside in
+    let name = c.args.name.now in
+    let none = not_prepared inside.names name (ap (λ (m : Prepared). is_prepared m.names name) c.self.view_is ∙ c.requires) in
+    let back : c.remove.new.self ≡ inside.mounts = c.remove.ensures.removed
+    ∙ ap (filter (λ (mount : Mount). not (is_numbered c.in-Some.number mount))) c.in_ok-insert.ensures.ok
+    ∙ taken_back inside.names inside.mounts inside.last c.self.invariant name c.in-Some.number none c.in-Some.ensures.1 in
+    ap (λ (ms : List Mount). naming_in ms number) back ∙ ap (λ (m : Prepared). naming_in m.mounts number) c.self.view_is
 
 pub returns-in-Err-clause-names : goal.returns-in-Err-clause-names
 returns-in-Err-clause-names c = λ number some.

@@ -1,23 +1,38 @@
-use Rattle.std.proofs.Common.{◌≡◌, ℕ, refl, ap, sym, subst, ◌∙◌}
-use Rattle.std.specs.Prelude.{map}
+use Rattle.std.proofs.Common.{◌≡◌, ℕ, Option, Some, None, refl, ap, sym, subst, ◌∙◌}
+use Rattle.std.specs.Prelude.{find, map}
+use Rattle.std.specs.Option.{option_map}
+use Rattle.radio_seats.specs.declared.row.ListenerRow.{ListenerRow}
 use Rattle.radio_seats.specs.declared.row.RowState.{RowState}
 use Rattle.radio_seats.specs.declared.row.RowState.TheVariants.{Seated, Ended}
 use Rattle.radio_seats.specs.Board.{Board}
 use Rattle.radio_seats.specs.Mounts.{name_in}
-use Rattle.radio_seats.specs.Rows.{heard, named, state_at, with_state, AreCounted}
+use Rattle.radio_seats.specs.Rows.{heard, is_row, named, sits_by, names_by, number_of, number_in, last_number, last_in, with_state, AreCounted}
 use Rattle.radio_seats.specs.Seats.{with_place}
-use Rattle.radio_seats.proofs.RowLemmas.{counted_in_place, same_board, seats_heard}
+use Rattle.radio_seats.proofs.RowCounts.{held_number, held_last, stays_there}
+use Rattle.radio_seats.proofs.RowLemmas.{same_board, seats_heard}
 use Rattle.radio_seats.proofs.seats.Seats.advance.Goals as goal
 
-sits_still : (place k : ℕ) (state : RowState) → state_at k (heard place state) ≡ state_at k state
-sits_still place k (Seated seat) = refl
-sits_still place k (Ended rule) = refl
+abbrev hearing : ℕ → ListenerRow → ListenerRow
+hearing place row = with_state (heard place row.state) row
+
+-- he sits where he sat, and names the mount that he named
+sits_still : (place : ℕ) (row : Option ListenerRow) → (number_in (option_map (hearing place) row) ≡ number_in row) × (last_in (option_map (hearing place) row) ≡ last_in row)
+sits_still place None = (refl, refl)
+sits_still place (Some row) = by_state row.state where
+  by_state : (state : RowState)
+      → (number_of (heard place state) ≡ number_of state) × (Some (last_number (heard place state)) ≡ Some (last_number state))
+  by_state (Seated seat) = (refl, refl)
+  by_state (Ended rule mount) = (refl, refl)
 
 pub invariant_of-self : goal.invariant_of-self
 invariant_of-self c =
-    subst (AreCounted c.self.inside.mounts.mounts) (sym c.change.ensures)
-    (counted_in_place c.self.inside.mounts.mounts c.self.inside.rows c.args.id (λ row. with_state (heard c.args.place row.state) row) c.self.invariant
-    (λ row k. sits_still c.args.place k row.state))
+    let mounts = c.self.inside.mounts.mounts in
+    let rows = c.self.inside.rows in
+    let still = sits_still c.args.place (find (is_row c.args.id) rows) in
+    subst (AreCounted mounts) (sym c.change.ensures) (record {
+      sitting = λ k. c.self.invariant.sitting k ∙ sym (stays_there sits_by number_in held_number rows c.args.id (hearing c.args.place) still.0 k);
+      naming = λ k. c.self.invariant.naming k ∙ sym (stays_there names_by last_in held_last rows c.args.id (hearing c.args.place) still.1 k);
+    })
 
 pub returns : goal.returns
 returns c =

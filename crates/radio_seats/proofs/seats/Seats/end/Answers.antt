@@ -1,38 +1,44 @@
-use Rattle.std.proofs.Common.{◌≡◌, ℕ, Option, None, Some, refl, ap, ◌∙◌, List, arith}
+use Rattle.std.proofs.Common.{◌≡◌, Option, None, Some, refl, ap, sym, subst, ◌∙◌}
 use Rattle.std.specs.Prelude.{find, map}
 use Rattle.std.specs.Option.{option_map}
 use Rattle.radio_policy.specs.declared.rule.Rule.{Rule}
+use Rattle.radio_tables.specs.Lists.{update_first}
 use Rattle.radio_seats.specs.declared.row.ListenerRow.{ListenerRow}
 use Rattle.radio_seats.specs.declared.row.RowState.{RowState}
 use Rattle.radio_seats.specs.declared.row.RowState.TheVariants.{Seated, Ended}
 use Rattle.radio_seats.specs.Board.{Board}
-use Rattle.radio_seats.specs.Mounts.{name_in, one_at}
-use Rattle.radio_seats.specs.Rows.{is_row, sits_by, ended, named, number_in, number_of, with_state}
+use Rattle.radio_seats.specs.Mounts.{name_in, sitting_in}
+use Rattle.radio_seats.specs.Rows.{is_row, sits_by, names_by, ended, named, number_in, number_of, last_in, last_number, with_state, AreCounted}
 use Rattle.radio_seats.specs.Seats.{with_end}
-use Rattle.radio_seats.proofs.Lists.{passing}
-use Rattle.radio_seats.proofs.RowLemmas.{counted_without, follows_him, same_board, seats_ended}
+use Rattle.radio_seats.proofs.RowCounts.{held_number, held_last, goes_from, stays_there, one_less}
+use Rattle.radio_seats.proofs.RowLemmas.{same_board, seats_ended}
 use Rattle.radio_seats.proofs.seats.Seats.end.Goals as goal
 
--- who has lost his seat sits nowhere
-nowhere : (rule : Rule) (k : ℕ) (row : Option ListenerRow) → one_at (number_in (option_map (λ (r : ListenerRow). with_state (ended rule r.state) r) row)) k ≡ 0
-nowhere rule k None = refl
-nowhere rule k (Some row) = by_state row.state where
-  by_state : (state : RowState) → one_at (number_of (ended rule state)) k ≡ 0
-  by_state (Seated seat) = refl
-  by_state (Ended other) = refl
+abbrev ending : Rule → ListenerRow → ListenerRow
+ending rule row = with_state (ended rule row.state) row
+
+-- who has lost his seat sits nowhere, and names the mount where he sat
+nowhere : (rule : Rule) (row : Option ListenerRow) → (number_in (option_map (ending rule) row) ≡ None) × (last_in (option_map (ending rule) row) ≡ last_in row)
+nowhere rule None = (refl, refl)
+nowhere rule (Some row) = by_state row.state where
+  by_state : (state : RowState) → (number_of (ended rule state) ≡ None) × (Some (last_number (ended rule state)) ≡ Some (last_number state))
+  by_state (Seated seat) = (refl, refl)
+  by_state (Ended other mount) = (refl, refl)
 
 pub invariant_of-self : goal.invariant_of-self
 invariant_of-self c =
     let mounts = c.self.inside.mounts.mounts in
     let rows = c.self.inside.rows in
-    counted_without mounts c.leave.new.self.mounts rows c.change.new.self c.number_of-from.result c.self.invariant
-    (λ k.
-    let rest = follows_him mounts rows c.args.id (λ row. with_state (ended c.args.rule row.state) row) k in
-    let none = nowhere c.args.rule k (find (is_row c.args.id) rows) in
-    let from = ap (λ n. one_at n k) c.number_of-from.ensures.number in
-    let after = ap (λ (xs : List ListenerRow). passing (sits_by k) xs) c.change.ensures in
-    omega (arith, rest, none, from, after))
-    c.leave.ensures.sitting
+    let id = c.args.id in
+    let none = nowhere c.args.rule (find (is_row id) rows) in
+    let from = c.number_of-from.result in
+    subst (AreCounted c.leave.new.self.mounts) (sym c.change.ensures) (record {
+      sitting = one_less sits_by (sitting_in mounts) rows (update_first (is_row id) (ending c.args.rule) rows) from c.self.invariant.sitting (sitting_in c.leave.new.self.mounts)
+          (goes_from sits_by number_in held_number rows id (ending c.args.rule) from c.number_of-from.ensures.number none.0) c.leave.ensures.sitting;
+      naming = λ k.
+          c.leave.ensures.naming k ∙ c.self.invariant.naming k
+          ∙ sym (stays_there names_by last_in held_last rows id (ending c.args.rule) none.1 k);
+    })
 
 pub returns : goal.returns
 returns c =

@@ -7,7 +7,7 @@ use Rattle.radio_seats.specs.Rows.{named, AreCounted}
 use Rattle.radio_seats.specs.Seats.{with_ended}
 use Rattle.radio_seats.specs.Rests.{how_many}
 use Rattle.radio_seats.proofs.RowLemmas.{all_end_there, none_end_there, nobody_ends, none_to_end, how_many_there, same_board, shown_same}
-use Rattle.radio_seats.proofs.EndedRows.{counted_ended}
+use Rattle.radio_seats.proofs.RowCounts.{counted_ended}
 use Rattle.radio_seats.proofs.seats.Seats.finish_at_if.Goals as goal
 
 pub returns-in_default-clause-seats : goal.returns-in_default-clause-seats
@@ -36,7 +36,7 @@ invariant_of-self g c =
     let p = g.T.SeatTest.passes c.args.test.now in
     subst (AreCounted c.lose.new.self.mounts) (sym c.change_all.ensures)
     (counted_ended p c.args.rule c.in-Some.number c.self.inside.mounts.mounts c.lose.new.self.mounts c.self.inside.rows c.count_where-count.result
-    c.self.invariant c.count_where-count.ensures c.lose.ensures.sitting)
+    c.self.invariant c.count_where-count.ensures c.lose.ensures.sitting c.lose.ensures.naming)
 
 pub returns-clause-seats : goal.returns-clause-seats
 returns-clause-seats g c =

@@ -2,7 +2,7 @@ use Rattle.std.proofs.Common.{ap, ◌∙◌}
 use Rattle.radio_seats.specs.Board.{Board}
 use Rattle.radio_seats.specs.Guests.{first_moment}
 use Rattle.radio_seats.specs.Mounts.{name_in}
-use Rattle.radio_seats.proofs.EndedRows.{moments_shown}
+use Rattle.radio_seats.proofs.TestedRows.{moments_shown}
 use Rattle.radio_seats.proofs.seats.Seats.first_moment.Goals as goal
 
 pub returns : goal.returns

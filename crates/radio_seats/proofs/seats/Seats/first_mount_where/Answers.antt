@@ -4,7 +4,7 @@ use Rattle.radio_seats.specs.Board.{Board}
 use Rattle.radio_seats.specs.Guests.{passes_in, passes_at}
 use Rattle.radio_seats.specs.Mounts.{name_of, name_in, sitting_of}
 use Rattle.radio_seats.specs.Rests.{how_many}
-use Rattle.radio_seats.proofs.EndedRows.{none_pass, passes_seated, some_pass, some_sit}
+use Rattle.radio_seats.proofs.TestedRows.{none_pass, passes_seated, some_pass, some_sit}
 use Rattle.radio_seats.proofs.seats.Seats.first_mount_where.Goals as goal
 
 pub returns-in_default : goal.returns-in_default
@@ -27,7 +27,7 @@ unreachable-requires-in-None g c =
     let found = sym c.first_where.ensures ∙ ap option_copied c.in-Some.is in
     let none = ap sitting_of (sym c.get.ensures ∙ ap option_copied c.in-None.is) in
     let some = some_sit p (name_in c.self.inside.mounts.mounts) rows c.in-Some.row.now c.in-Some-mount.number found (sym c.mount.ensures ∙ c.in-Some-mount.is) in
-    absurd (omega (arith, none, some, c.self.invariant.count c.in-Some-mount.number))
+    absurd (omega (arith, none, some, c.self.invariant.sitting c.in-Some-mount.number))
 
 pub returns : goal.returns
 returns g c =

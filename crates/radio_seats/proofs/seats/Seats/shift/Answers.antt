@@ -1,21 +1,25 @@
-use Rattle.std.proofs.Common.{◌<◌, None, ap, refl, ◌∙◌, arith}
-use Rattle.std.specs.Prelude.{length, map}
+use Rattle.std.proofs.Common.{◌<◌, ◌-◌, ap, refl, sym, subst, ◌∙◌, arith}
+use Rattle.std.specs.Prelude.{find, length, map}
+use Rattle.radio_tables.specs.Lists.{update_first}
 use Rattle.radio_seats.specs.Board.{Board}
-use Rattle.radio_seats.specs.Mounts.{is_number, name_in}
-use Rattle.radio_seats.specs.Rows.{named}
+use Rattle.radio_seats.specs.Mounts.{is_number, name_in, sitting_in, naming_in, one_at}
+use Rattle.radio_seats.specs.Rows.{is_row, named, number_in, last_in, sits_by, names_by, AreCounted}
 use Rattle.radio_seats.specs.Seats.{with_move}
-use Rattle.radio_seats.proofs.RowLemmas.{counted_with, counted_without, is_called, room_for_one, same_board, seats_moved}
-use Rattle.radio_seats.proofs.EndedRows.{he_counts, nobody_moves, one_moves}
+use Rattle.radio_seats.proofs.RowCounts.{held_number, held_last, his_counts, goes_to, stays_there, move, none_moves, some_moves, sits_last, one_more, room_for_one}
+use Rattle.radio_seats.proofs.RowLemmas.{is_called, same_board, seats_moved}
 use Rattle.radio_seats.proofs.seats.Seats.shift.Goals as goal
 
 pub invariant_of-self : goal.invariant_of-self
 invariant_of-self c =
     let mounts = c.self.inside.mounts.mounts in
     let rows = c.self.inside.rows in
-    counted_without mounts mounts rows c.change.new.self None c.self.invariant
-    (nobody_moves rows c.change.new.self c.args.id c.in-Some.number c.number_of-from.result c.number_of-from.ensures.number c.args.session c.args.place
-    c.change.ensures c.in_default-from.is)
-    (λ k. omega arith)
+    let id = c.args.id in
+    let moves = move c.in-Some.number c.args.session c.args.place in
+    let still = none_moves c.in-Some.number c.args.session c.args.place (find (is_row id) rows) (sym c.number_of-from.ensures.number ∙ c.in_default-from.is) in
+    subst (AreCounted mounts) (sym c.change.ensures) (record {
+      sitting = λ k. c.self.invariant.sitting k ∙ sym (stays_there sits_by number_in held_number rows id moves still.0 k);
+      naming = λ k. c.self.invariant.naming k ∙ sym (stays_there names_by last_in held_last rows id moves still.1 k);
+    })
 
 pub returns-in_default-from : goal.returns-in_default-from
 returns-in_default-from c =
@@ -28,26 +32,59 @@ returns-in_default-from c =
     ∙ seats_moved name name c.self.inside.rows (λ k. refl) mount c.in-Some.number c.args.session c.args.place called c.args.id
     ∙ ap (λ (b : Board). with_move b.seats c.args.id mount c.args.session c.args.place) c.self.view_is)
 
-pub gain-requires-clause-room : goal.gain-requires-clause-room
-gain-requires-clause-room c =
-    let mounts = c.self.inside.mounts.mounts in
+pub gain-requires-clause-room_to_sit : goal.gain-requires-clause-room_to_sit
+gain-requires-clause-room_to_sit c =
     let rows = c.self.inside.rows in
-    let some = he_counts rows c.change.new.self c.args.id c.in-Some.number c.number_of-from.result c.number_of-from.ensures.number in
-    let law = one_moves rows c.change.new.self c.args.id c.in-Some.number c.number_of-from.result c.number_of-from.ensures.number c.args.session c.args.place
-    c.change.ensures c.in-Some-from.field-0 c.in-Some-from.is in
+    let id = c.args.id in
+    let number = c.in-Some.number in
+    let moves = move number c.args.session c.args.place in
+    let from = c.number_of-from.result in
+    let his = c.number_of-from.ensures.number in
+    let there = some_moves number c.args.session c.args.place (find (is_row id) rows) c.in-Some-from.field-0 (sym his ∙ c.in-Some-from.is) in
     let few : length c.change.new.self < 18446744073709551616 = omega (arith, c.len.ensures.count, c.len.type_inv) in
-    room_for_one mounts c.leave.new.self.mounts rows c.change.new.self c.number_of-from.result c.in-Some.number 18446744073709551616 c.self.invariant some law
-    c.leave.ensures.sitting few
+    room_for_one sits_by (sitting_in c.self.inside.mounts.mounts) rows _ from c.self.invariant.sitting (sitting_in c.give_up.new.self.mounts) number
+    (his_counts sits_by number_in held_number rows id from his) (goes_to sits_by number_in held_number rows id moves from number his there.0)
+    (λ k. c.give_up.ensures.sitting k ∙ c.leave.ensures.sitting k)
+    18446744073709551616 (subst (λ xs. length xs < 18446744073709551616) c.change.ensures few)
+
+pub gain-requires-clause-room_to_name : goal.gain-requires-clause-room_to_name
+gain-requires-clause-room_to_name c =
+    let rows = c.self.inside.rows in
+    let id = c.args.id in
+    let number = c.in-Some.number in
+    let moves = move number c.args.session c.args.place in
+    let from = c.number_of-from.result in
+    let sits = sym c.number_of-from.ensures.number ∙ c.in-Some-from.is in
+    let his = c.in-Some-from.is ∙ sym (sits_last (find (is_row id) rows) c.in-Some-from.field-0 sits) in
+    let there = some_moves number c.args.session c.args.place (find (is_row id) rows) c.in-Some-from.field-0 sits in
+    let few : length c.change.new.self < 18446744073709551616 = omega (arith, c.len.ensures.count, c.len.type_inv) in
+    room_for_one names_by (naming_in c.self.inside.mounts.mounts) rows _ from c.self.invariant.naming (naming_in c.give_up.new.self.mounts) number
+    (his_counts names_by last_in held_last rows id from his) (goes_to names_by last_in held_last rows id moves from number his there.1)
+    (λ k. c.give_up.ensures.naming k ∙ ap (λ n. n - one_at from k) (c.leave.ensures.naming k))
+    18446744073709551616 (subst (λ xs. length xs < 18446744073709551616) c.change.ensures few)
 
 pub invariant_of-self-2 : goal.invariant_of-self-2
 invariant_of-self-2 c =
     let mounts = c.self.inside.mounts.mounts in
     let rows = c.self.inside.rows in
-    let some = he_counts rows c.change.new.self c.args.id c.in-Some.number c.number_of-from.result c.number_of-from.ensures.number in
-    let law = one_moves rows c.change.new.self c.args.id c.in-Some.number c.number_of-from.result c.number_of-from.ensures.number c.args.session c.args.place
-    c.change.ensures c.in-Some-from.field-0 c.in-Some-from.is in
-    counted_with mounts c.leave.new.self.mounts c.gain.new.self.mounts rows c.change.new.self c.number_of-from.result c.in-Some.number c.self.invariant some law
-    c.leave.ensures.sitting c.gain.ensures.sitting
+    let id = c.args.id in
+    let number = c.in-Some.number in
+    let moves = move number c.args.session c.args.place in
+    let from = c.number_of-from.result in
+    let his = c.number_of-from.ensures.number in
+    let sits = sym his ∙ c.in-Some-from.is in
+    let last = c.in-Some-from.is ∙ sym (sits_last (find (is_row id) rows) c.in-Some-from.field-0 sits) in
+    let there = some_moves number c.args.session c.args.place (find (is_row id) rows) c.in-Some-from.field-0 sits in
+    let left = c.give_up.new.self.mounts in
+    let later = c.gain.new.self.mounts in
+    subst (AreCounted later) (sym c.change.ensures) (record {
+      sitting = one_more sits_by (sitting_in mounts) rows (update_first (is_row id) moves rows) from c.self.invariant.sitting (sitting_in left) number
+          (his_counts sits_by number_in held_number rows id from his) (goes_to sits_by number_in held_number rows id moves from number his there.0)
+          (λ k. c.give_up.ensures.sitting k ∙ c.leave.ensures.sitting k) (sitting_in later) c.gain.ensures.sitting;
+      naming = one_more names_by (naming_in mounts) rows (update_first (is_row id) moves rows) from c.self.invariant.naming (naming_in left) number
+          (his_counts names_by last_in held_last rows id from last) (goes_to names_by last_in held_last rows id moves from number last there.1)
+          (λ k. c.give_up.ensures.naming k ∙ ap (λ n. n - one_at from k) (c.leave.ensures.naming k)) (naming_in later) c.gain.ensures.naming;
+    })
 
 pub returns : goal.returns
 returns c =
@@ -56,8 +93,9 @@ returns c =
     let mount = c.args.mount.now in
     let called = is_called name mount c.in-Some.number (λ k. c.number.ensures.only k ∙ ap (λ n. is_number n k) c.in-Some.is) in
     let later = c.gain.new.self in
-    same_board later.names c.args.self.now.prepared _ _ (c.gain.ensures.prepared ∙ c.leave.ensures.prepared ∙ ap (λ (b : Board). b.prepared) c.self.view_is)
+    same_board later.names c.args.self.now.prepared _ _
+    (c.gain.ensures.prepared ∙ c.give_up.ensures.prepared ∙ c.leave.ensures.prepared ∙ ap (λ (b : Board). b.prepared) c.self.view_is)
     (ap (map (named (name_in later.mounts))) c.change.ensures
-    ∙ seats_moved name (name_in later.mounts) c.self.inside.rows (λ k. c.gain.ensures.names k ∙ c.leave.ensures.names k) mount c.in-Some.number c.args.session
-    c.args.place called c.args.id
+    ∙ seats_moved name (name_in later.mounts) c.self.inside.rows (λ k. c.gain.ensures.names k ∙ c.give_up.ensures.names k ∙ c.leave.ensures.names k) mount
+    c.in-Some.number c.args.session c.args.place called c.args.id
     ∙ ap (λ (b : Board). with_move b.seats c.args.id mount c.args.session c.args.place) c.self.view_is)
