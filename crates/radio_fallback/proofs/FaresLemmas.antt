@@ -81,7 +81,7 @@ module _ (sight : Sight) (seats : List Listener) (him : ℕ) (to : List ℕ) whe
   seating_then : (seating : Seating) (old : Seat) → seat_held seating ≡ Some old
       → seat_held (moved_to to (sight.stream_end to).session (sight.stream_end to).place seating) ≡ Some (seat_at_end sight to old)
   seating_then (Sits seat) old e = let same : seat ≡ old = cc in ap (λ (x : Seat). Some (seat_at_end sight to x)) same
-  seating_then (Finished rule) old e = cc
+  seating_then (Finished rule mount) old e = cc
 
   listener_then : (listener : Option Listener) (old : Seat) → seat_in listener ≡ Some old
       → seat_in (option_map shifted_one listener) ≡ Some (seat_at_end sight to old)
@@ -99,7 +99,7 @@ module _ (sight : Sight) (seats : List Listener) (him : ℕ) (to : List ℕ) whe
 module _ (seats : List Listener) (him : ℕ) (rule : Rule) where
   no_seat : (seating : Seating) → seat_held (lost_by rule seating) ≡ None
   no_seat (Sits seat) = refl
-  no_seat (Finished other) = refl
+  no_seat (Finished other mount) = refl
 
   no_seat_in : (listener : Option Listener) → seat_in (option_map (loses rule) listener) ≡ None
   no_seat_in None = refl
@@ -176,7 +176,7 @@ module _ (sight : Sight) (seats : List Listener) (him : ℕ) (mount : List ℕ) 
     by_seating : (seating : Seating)
         → one (is_seat_at mount (moved_to to (sight.stream_end to).session (sight.stream_end to).place seating)) ≤ one (bytes_eq to mount)
     by_seating (Sits seat) = omega arith
-    by_seating (Finished rule) = omega arith
+    by_seating (Finished rule last) = omega arith
 
   pub count_shifted : (to : List ℕ) → AreByNumber seats
       → count_at (shifted_there sight seats him to) mount ≤ count_at (without_listener seats him) mount + one (bytes_eq to mount)
@@ -191,7 +191,7 @@ module _ (sight : Sight) (seats : List Listener) (him : ℕ) (mount : List ℕ) 
 
   not_there : (rule : Rule) (seating : Seating) → is_seat_at mount (lost_by rule seating) ≡ true → is_seat_at mount seating ≡ true
   not_there rule (Sits seat) e = cc
-  not_there rule (Finished other) e = cc
+  not_there rule (Finished other last) e = cc
 
   pub count_out : (rule : Rule) → count_at (with_end seats him rule) mount ≤ count_at seats mount
   count_out rule = no_more_updated at_mount (is_listener him) (loses rule) (λ listener. not_there rule listener.seating) seats

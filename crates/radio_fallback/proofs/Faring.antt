@@ -50,7 +50,7 @@ module _ (sight : Sight) (move : Move) (id : ℕ) where
 pub sits_as_before : (sight : Sight) (move : Move) (seats : List Listener) (id : ℕ) → listener_of (at_his_turn sight move seats id) id ≡ listener_of seats id
 sits_as_before sight move seats id = waits sight move id (numbers_of seats) (at_first seats)
 
--- how he fares: he stays, goes on at the end of a mount's stream where he may sit, or loses his seat
+-- how he fares: he stays, goes on at the end of a mount's stream where he may sit, or loses his seat where he sat
 pub data Faring (sight : Sight) (move : Move) (seats : List Listener) (id : ℕ) : Type 0 where
   HasStayed : listener_of (carried sight move seats).seats id ≡ listener_of seats id
       → ((seat : Seat) → seat_of seats id ≡ Some seat → turn_of sight move (at_his_turn sight move seats id) id ≡ Stays) → Faring sight move seats id
@@ -59,7 +59,7 @@ pub data Faring (sight : Sight) (move : Move) (seats : List Listener) (id : ℕ)
       → listener_of (carried sight move seats).seats id ≡ Some (record { id = id; seating = Sits (seat_at_end sight to seat) }) → Faring sight move seats id
   HasLost : (seat : Seat) (rule : Rule) → turn_of sight move (at_his_turn sight move seats id) id ≡ IsOut rule → seat_of seats id ≡ Some seat
       → concerns move seat.mount seat.home ≡ true
-      → listener_of (carried sight move seats).seats id ≡ Some (record { id = id; seating = Finished rule }) → Faring sight move seats id
+      → listener_of (carried sight move seats).seats id ≡ Some (record { id = id; seating = Finished rule seat.mount }) → Faring sight move seats id
 
 -- whom a turn takes his seat the move concerns
 out_by : (sight : Sight) (others : List Listener) (move : Move) (seat : Seat) (rule : Rule) (b : Bool) → concerns move seat.mount seat.home ≡ b
@@ -75,7 +75,7 @@ out_in sight others move (Some seat) rule e = (seat, refl, out_by sight others m
 -- the listener who holds a seat
 holds : (seating : Seating) (seat : Seat) → seat_held seating ≡ Some seat → seating ≡ Sits seat
 holds (Sits held) seat e = let same : held ≡ seat = cc in ap (λ (x : Seat). Sits x) same
-holds (Finished rule) seat e = cc
+holds (Finished rule mount) seat e = cc
 
 module _ (sight : Sight) (move : Move) (seats : List Listener) (rising : AreByNumber seats) (id : ℕ) where
   abbrev then_seats : List Listener

@@ -22,7 +22,7 @@ module _ (mount : List ℕ) (session place id : ℕ) (seat : Seat) (away : bytes
   his_place (Sits own) e =
       let same : own ≡ seat = cc in
       (ap (λ (x : Seat). bytes_eq x.mount mount) same ∙ away, (bytes_eq-Decides mount mount).1 refl)
-  his_place (Finished rule) e = cc
+  his_place (Finished rule last) e = cc
 
   beside : (there : Bool) (x : Listener) (xs ys : List Listener) → length ys ≡ suc (length xs)
       → length (if there then x ∷ ys else ys) ≡ suc (length (if there then x ∷ xs else xs))

@@ -9,7 +9,7 @@ use Rattle.radio_settings.specs.Options.{options_for}
 use Rattle.radio_tables.specs.Lists.{Each}
 use Rattle.radio_seats.specs.declared.seat.Seating.{Seating}
 use Rattle.radio_seats.specs.declared.seat.Seating.TheVariants.{Sits, Finished}
-use Rattle.radio_seats.specs.Seats.{advanced, moved, loses, holds_of}
+use Rattle.radio_seats.specs.Seats.{advanced, moved, lost_by, loses, holds_of}
 use Rattle.radio_parts.specs.Due.{last_moment, due_at, listener_due, earliest}
 use Rattle.radio_parts.specs.Timeouts.{lies_back, has_sat_out}
 
@@ -30,7 +30,7 @@ pub has_not_sat_out : (settings : Settings) (ms : ℕ) (seating : Seating) (id :
     → holds_of (has_sat_out settings ms) seating ≡ false
 has_not_sat_out settings ms (Sits seat) id before =
     sits_yet (options_for settings seat.home).listeners.max_listener_duration seat.since ms before
-has_not_sat_out settings ms (Finished rule) id before = refl
+has_not_sat_out settings ms (Finished rule mount) id before = refl
 
 -- all is due at the earliest moment or later
 
@@ -59,23 +59,24 @@ duration_by_last (Some seconds) since = due_by_last seconds since
 module _ (moment : ℕ) (last : moment ≤ last_moment) where
   -- who loses his seat is due no more, and anybody else as before
   pub ended_due : (settings : Settings) (rule : Rule) (id : ℕ) (seating : Seating) (ends : Bool) → moment ≤ listener_due settings (record { id = id; seating = seating })
-      → moment ≤ listener_due settings (record { id = id; seating = (if ends then Finished rule else seating) })
-  ended_due settings rule id seating true h = last
+      → moment ≤ listener_due settings (record { id = id; seating = (if ends then lost_by rule seating else seating) })
+  ended_due settings rule id (Sits seat) true h = last
+  ended_due settings rule id (Finished other mount) true h = last
   ended_due settings rule id seating false h = h
 
   pub heard_due : (settings : Settings) (place id : ℕ) (seating : Seating) → moment ≤ listener_due settings (record { id = id; seating = seating })
       → moment ≤ listener_due settings (advanced place (record { id = id; seating = seating }))
   heard_due settings place id (Sits seat) h = h
-  heard_due settings place id (Finished rule) h = h
+  heard_due settings place id (Finished rule mount) h = h
 
   -- who is carried along is due as before, since his home and the moment of his seat stay
   pub moved_due : (settings : Settings) (to : List ℕ) (session place id : ℕ) (seating : Seating)
       → moment ≤ listener_due settings (record { id = id; seating = seating })
       → moment ≤ listener_due settings (moved to session place (record { id = id; seating = seating }))
   moved_due settings to session place id (Sits seat) h = h
-  moved_due settings to session place id (Finished rule) h = h
+  moved_due settings to session place id (Finished rule mount) h = h
 
   pub lost_due : (settings : Settings) (rule : Rule) (id : ℕ) (seating : Seating) → moment ≤ listener_due settings (record { id = id; seating = seating })
       → moment ≤ listener_due settings (loses rule (record { id = id; seating = seating }))
   lost_due settings rule id (Sits seat) h = last
-  lost_due settings rule id (Finished other) h = h
+  lost_due settings rule id (Finished other mount) h = h

@@ -68,7 +68,7 @@ pub more_prepared : (live : List Session) (old prepared : List (List ℕ)) (name
     → LiveArePrepared live prepared
 more_prepared live old prepared name more are = record { each = λ mount lives. more mount ∙ rw (are.each mount lives) refl }
 
--- a mount that is not live is released, if nobody sits there
+-- a mount that is not live is released, if no listener sits there or sat there last
 pub idle_released : (live : List Session) (old prepared : List (List ℕ)) (name : List ℕ) (nobody : Bool) → session_of live name ≡ None
     → ((mount : List ℕ) → is_prepared prepared mount ≡ (is_prepared old mount && not (bytes_eq name mount && nobody)))
     → LiveArePrepared live old → LiveArePrepared live prepared
