@@ -102,7 +102,7 @@ module _ (C : ℕ → Rule → Type 0) (M : ℕ → Session → Type 0) (S : ℕ
     fate_by (HasLost seat rule turn had concerned now) =
         let sat : standing_of w id ≡ Sits = s.sitting id seat had in
         IsEnded rule (causes seat rule had turn) (active_sitter (standing_of w id) sat)
-        (stands ∙ stands_by (Some (record { id = id; seating = HasLostIt rule })) now ∙ lost_in relay (listener_of w.seats id) id rule client sat)
+        (stands ∙ stands_by (Some (record { id = id; seating = HasLostIt rule seat.mount })) now ∙ lost_in relay (listener_of w.seats id) id rule seat.mount client sat)
         (seats ∙ ap seat_in now) (λ mount e. cc)
 
     pub carried_fate : Fate C M S L w later id

@@ -9,7 +9,7 @@ use Rattle.radio_tables.proofs.EachLaws.{Each_each, Each_kept, Each_updated, Eac
 use Rattle.radio_seats.specs.declared.seat.Seat.{Seat}
 use Rattle.radio_seats.specs.declared.seat.Seating.TheVariants.{Finished, Sits}
 use Rattle.radio_seats.specs.declared.seat.Listener.{Listener}
-use Rattle.radio_seats.specs.Seats.{is_listener, by_listener, seated, advanced, loses, holds_of, finished_if, with_ended, hears_session, in_session_at, with_session_at}
+use Rattle.radio_seats.specs.Seats.{is_listener, by_listener, seated, advanced, lost_by, loses, holds_of, finished_if, with_ended, hears_session, in_session_at, with_session_at}
 use Rattle.radio_events.specs.declared.command.Command.{Command}
 use Rattle.radio_events.specs.declared.command.Command.TheVariants.{MoveClients, KillClient, KillSource, SetTitle as NewTitle, SetFallback, AddUser, DeleteUser}
 use Rattle.radio_house.specs.declared.clients.ClientState.{ClientState}
@@ -70,7 +70,7 @@ module _ (w : World) (moment ms : ℕ) (due : IsDueFrom moment w) (before : ms <
       map_same (finished_if (has_sat_out w.house.settings ms) TimeOver) w.seats
       (Each_each (λ listener. moment ≤ listener_due w.house.settings listener)
       (λ listener. finished_if (has_sat_out w.house.settings ms) TimeOver listener ≡ listener)
-      (λ listener h. ap (λ (b : Bool). record listener { seating = (if b then Finished TimeOver else listener.seating) })
+      (λ listener h. ap (λ (b : Bool). record listener { seating = (if b then lost_by TimeOver listener.seating else listener.seating) })
       (has_not_sat_out w.house.settings ms listener.seating listener.id (omega (arith, before, h)))) w.seats due.listeners)
 
   nobody_is_silent : filter (is_silent w.house.settings.limits.source_timeout ms) w.house.live ≡ []
@@ -149,7 +149,7 @@ module _ (moment : ℕ) (last : moment ≤ last_moment) where
     by_seating : (seating : Seating) → listener_due w.house.settings (record { id = listener.id; seating = in_session_at mount session seating })
         ≡ listener_due w.house.settings (record { id = listener.id; seating = seating })
     by_seating (Sits seat) = refl
-    by_seating (Finished rule) = refl
+    by_seating (Finished rule last) = refl
 
   given_are_due : (w : World) (mount : List ℕ) (session : ℕ) → ListenersAreDue w w.seats → ListenersAreDue w (with_session_at w.seats mount session)
   given_are_due w mount session all =

@@ -242,19 +242,19 @@ module _ (C : ℕ → Rule → Type 0) (M : ℕ → Session → Type 0) (w betwe
   }
 
 -- one who sits and has lost his seat has finished
-lost_by : (listener : Option Listener) (number : ℕ) (rule : Rule) (client : Client) (state : ClientState)
+lost_by : (listener : Option Listener) (number : ℕ) (rule : Rule) (last : List ℕ) (client : Client) (state : ClientState)
     → standing_by listener client.peer state ≡ Sits
-    → standing_by (Some (record { id = number; seating = HasLostIt rule })) client.peer state ≡ Finished rule
-lost_by listener number rule client IsNew e = cc
-lost_by listener number rule client (IsSource mount) e = cc
-lost_by listener number rule client Listens e = refl
-lost_by listener number rule client HasHisAnswer e = cc
-lost_by listener number rule client (Ended by) e = cc
+    → standing_by (Some (record { id = number; seating = HasLostIt rule last })) client.peer state ≡ Finished rule
+lost_by listener number rule last client IsNew e = cc
+lost_by listener number rule last client (IsSource mount) e = cc
+lost_by listener number rule last client Listens e = refl
+lost_by listener number rule last client HasHisAnswer e = cc
+lost_by listener number rule last client (Ended by) e = cc
 
-pub lost_in : (relay : Option Relay) (listener : Option Listener) (number : ℕ) (rule : Rule) (client : Option Client)
-    → standing_in relay listener client ≡ Sits → standing_in relay (Some (record { id = number; seating = HasLostIt rule })) client ≡ Finished rule
-lost_in relay listener number rule None e = absurd (no_relay_sits relay e)
-lost_in relay listener number rule (Some client) e = lost_by listener number rule client client.state e
+pub lost_in : (relay : Option Relay) (listener : Option Listener) (number : ℕ) (rule : Rule) (last : List ℕ) (client : Option Client)
+    → standing_in relay listener client ≡ Sits → standing_in relay (Some (record { id = number; seating = HasLostIt rule last })) client ≡ Finished rule
+lost_in relay listener number rule last None e = absurd (no_relay_sits relay e)
+lost_in relay listener number rule last (Some client) e = lost_by listener number rule last client client.state e
 
 pub active_sitter : (now : Standing) → now ≡ Sits → IsActive now
 active_sitter now e = subst (λ (x : Standing). IsActive x) (sym e) tt
@@ -275,7 +275,7 @@ module _ (C : ℕ → Rule → Type 0) (M : ℕ → Session → Type 0) (S : ℕ
         let sat : standing_of w id ≡ Sits = s.sitting id loses.seat loses.had_a_seat in
         IsEnded rule (causes id loses.seat loses.had_a_seat loses.holds) (active_sitter (standing_of w id) sat)
         (ap (λ l. standing_in (relay_of w.house.relays id) l (client_of w.house.clients id)) loses.finished
-        ∙ lost_in (relay_of w.house.relays id) (listener_of w.seats id) loses.id rule (client_of w.house.clients id) sat)
+        ∙ lost_in (relay_of w.house.relays id) (listener_of w.seats id) loses.id rule loses.seat.mount (client_of w.house.clients id) sat)
         (ap seat_in loses.finished) (λ mount e. cc)
 
   pub seats_fates : Fates C M S L w (record w { seats = with_ended w.seats p rule })

@@ -150,7 +150,7 @@ seat_unless_lost w him rule id seat e =
 
       none_held : (seating : Seating) → seat_held (lost_by rule seating) ≡ None
       none_held (HasSeat own) = refl
-      none_held (HasFinished by) = refl
+      none_held (HasFinished by last) = refl
 
       by_found : him ≡ id → (found : Option Listener) → listener_of w.seats him ≡ found → seat_of w.seats id ≡ Some seat
       by_found same None none =

@@ -107,7 +107,7 @@ turned_free w later him now t none before id yet =
 -- whoever has yet to ask does so whoever listens
 no_yet_seating : (seating : Seating) → IsYetToAsk (standing_seated seating) → ⊥
 no_yet_seating (HasSeat seat) asks = asks
-no_yet_seating (HasFinished rule) asks = asks
+no_yet_seating (HasFinished rule mount) asks = asks
 
 no_yet_listener : (listener : Option Listener) → IsYetToAsk (standing_of_listener listener) → ⊥
 no_yet_listener None asks = asks

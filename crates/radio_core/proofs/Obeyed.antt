@@ -164,18 +164,19 @@ module _ (w : World) (s : IsSound w) (event : Event) where
     abbrev KilledFate : ℕ → Type 0
     KilledFate id = Fate (Cause w killed_world event) (Takes w event) Nobody (LeavesFor w event) (heard c) killed_world id
 
-    loses_it : (seating : Seating) (seat : Seat) → seat_held seating ≡ Some seat → lost_by Killed seating ≡ HasLostIt Killed
-    loses_it (HasSeat own) seat e = refl
-    loses_it (HasLostIt rule) seat e = cc
+    loses_it : (seating : Seating) (seat : Seat) → seat_held seating ≡ Some seat → lost_by Killed seating ≡ HasLostIt Killed seat.mount
+    loses_it (HasSeat own) seat e = let same : own ≡ seat = cc in ap (λ (x : Seat). HasLostIt Killed x.mount) same
+    loses_it (HasLostIt rule last) seat e = cc
 
-    his_row : (found : Option Listener) → seat_in found ≡ Some his_seat.0 → (row : Listener) × (found ≡ Some row) × (lost_by Killed row.seating ≡ HasLostIt Killed)
+    his_row : (found : Option Listener) → seat_in found ≡ Some his_seat.0
+        → (row : Listener) × (found ≡ Some row) × (lost_by Killed row.seating ≡ HasLostIt Killed his_seat.0.mount)
     his_row None e = cc
     his_row (Some row) e = (row, refl, loses_it row.seating his_seat.0 e)
 
-    held : (row : Listener) × (listener_of w.seats listener ≡ Some row) × (lost_by Killed row.seating ≡ HasLostIt Killed)
+    held : (row : Listener) × (listener_of w.seats listener ≡ Some row) × (lost_by Killed row.seating ≡ HasLostIt Killed his_seat.0.mount)
     held = his_row (listener_of w.seats listener) his_seat.1
 
-    then_so : listener_of killed_world.seats listener ≡ Some (record { id = held.0.id; seating = HasLostIt Killed })
+    then_so : listener_of killed_world.seats listener ≡ Some (record { id = held.0.id; seating = HasLostIt Killed his_seat.0.mount })
     then_so =
         find_same (is_listener listener) (loses Killed) (λ x. refl) w.seats held.0 held.1
         ∙ ap (λ (seating : Seating). Some (record { id = held.0.id; seating = seating })) held.2
@@ -186,7 +187,7 @@ module _ (w : World) (s : IsSound w) (event : Event) where
     pub has_been_killed : standing_of killed_world listener ≡ Finished Killed
     has_been_killed =
         ap (λ l. standing_in (relay_of w.house.relays listener) l (client_of (heard c).house.clients listener)) then_so
-        ∙ lost_in (relay_of w.house.relays listener) (listener_of w.seats listener) held.0.id Killed (client_of (heard c).house.clients listener) sat
+        ∙ lost_in (relay_of w.house.relays listener) (listener_of w.seats listener) held.0.id Killed his_seat.0.mount (client_of (heard c).house.clients listener) sat
 
     pub sits_no_more : seat_of killed_world.seats listener ≡ None
     sits_no_more = ap seat_in then_so

@@ -17,7 +17,7 @@ use Rattle.radio_house.specs.World.{World, standing_of, standing_in, standing_by
 -- who sits has a seat
 held_seat : (seating : Seating) → standing_seated seating ≡ Sits → (seat : Seat) × (seat_held seating ≡ Some seat)
 held_seat (HasSeat seat) e = (seat, refl)
-held_seat (HasFinished rule) e = cc
+held_seat (HasFinished rule mount) e = cc
 
 listener_seat : (listener : Option Listener) → standing_of_listener listener ≡ Sits → (seat : Seat) × (seat_in listener ≡ Some seat)
 listener_seat None e = cc

@@ -256,7 +256,7 @@ module _ (w : World) (s : IsSound w) (him room : ℕ) (seat : Seat) (session : S
             → seat_held (heard_to (seat.place + length (data_at session.stream seat.place room)) seating) ≡ Some
             (record seat { place = seat.place + length (data_at session.stream seat.place room) })
         held (HasSeat old) e = let same : old ≡ seat = cc in ap (λ (x : Seat). Some (record x { place = behind })) same
-        held (HasFinished rule) e = cc
+        held (HasFinished rule mount) e = cc
 
   pub others_seats : (id : ℕ) → (him == id) ≡ false → seat_of after_draw.seats id ≡ seat_of w.seats id
   others_seats id other = ap seat_in (beside_moved w.seats him id other behind)

@@ -50,7 +50,7 @@ no_relay_asks (Some relay) peer e = by_state relay.state e where
 -- each client stands somehow
 no_unknown_seating : (seating : Seating) → standing_seated seating ≡ Unknown → ⊥
 no_unknown_seating (HasSeat seat) e = cc
-no_unknown_seating (HasFinished rule) e = cc
+no_unknown_seating (HasFinished rule mount) e = cc
 
 no_unknown_listener : (listener : Option Listener) → standing_of_listener listener ≡ Unknown → ⊥
 no_unknown_listener None e = cc
@@ -204,7 +204,7 @@ module _ (w : World) (id : ℕ) where
 -- a listener hears on, and stands as before
 heard_on : (place : ℕ) (seating : Seating) → standing_seated (heard_to place seating) ≡ standing_seated seating
 heard_on place (HasSeat seat) = refl
-heard_on place (HasFinished rule) = refl
+heard_on place (HasFinished rule mount) = refl
 
 heard_by : (place : ℕ) (listener : Listener) (peer : Peer) (state : ClientState)
     → standing_by (Some (advanced place listener)) peer state ≡ standing_by (Some listener) peer state
@@ -238,7 +238,7 @@ stays_hearing w him place listener found id = by_number him id his others where
 -- who hears a session that begins at his mount stands as before
 given_seated : (mount : List ℕ) (session : ℕ) (seating : Seating) → standing_seated (in_session_at mount session seating) ≡ standing_seated seating
 given_seated mount session (HasSeat seat) = refl
-given_seated mount session (HasFinished rule) = refl
+given_seated mount session (HasFinished rule last) = refl
 
 given_by : (mount : List ℕ) (session : ℕ) (listener : Listener) (peer : Peer) (state : ClientState)
     → standing_by (Some (hears_session mount session listener)) peer state ≡ standing_by (Some listener) peer state
@@ -270,7 +270,7 @@ turns_given w house mount session him now t = record {
 -- who feeds feeds whoever listens
 no_source : (seating : Seating) (mount : List ℕ) → standing_seated seating ≡ IsFeeding mount → ⊥
 no_source (HasSeat seat) mount e = cc
-no_source (HasFinished rule) mount e = cc
+no_source (HasFinished rule last) mount e = cc
 
 feeds_by : (listener other : Option Listener) (peer : Peer) (state : ClientState) (mount : List ℕ) → standing_by listener peer state ≡ IsFeeding mount
     → standing_by other peer state ≡ IsFeeding mount

@@ -39,7 +39,7 @@ opening settings lists = record {
 -- one who was admitted as a listener sits, or has finished by a rule
 abbrev pub standing_seated : Seating → Standing
 standing_seated (HasSeat seat) = Sits
-standing_seated (HasFinished rule) = Finished rule
+standing_seated (HasFinished rule mount) = Finished rule
 
 abbrev pub standing_of_listener : Option Listener → Standing
 standing_of_listener None = IsAnswered
