@@ -85,6 +85,13 @@ fn has_lost(seats: &Seats, id: u64, rule: Rule) -> bool {
     }
 }
 
+fn sat_last_at(seats: &Seats, id: u64, mount: &MountName) -> bool {
+    match seats.last_mount(id) {
+        Some(last) => *last == *mount,
+        None => false,
+    }
+}
+
 /// The two mounts.
 #[derive(Clone, Copy)]
 struct Mounts {
@@ -122,7 +129,8 @@ fn has_moved(seats: &mut Seats, mounts: &Mounts) -> Result<bool, OutOfMemory> {
 fn are_gone(seats: &mut Seats, mounts: &Mounts) -> bool {
     seats.end(8, Rule::Lagged);
     seats.remove(9);
-    are_there(seats, mounts, (27, 21)) && has_lost(seats, 8, Rule::Lagged)
+    let lost = has_lost(seats, 8, Rule::Lagged) && sat_last_at(seats, 8, &mounts.one);
+    are_there(seats, mounts, (27, 21)) && lost && seats.last_mount(9).is_none()
 }
 
 /// Two mounts of 30 and 20 listeners: what moves, ends and goes is counted where it was.
@@ -152,6 +160,29 @@ fn are_finished(seats: &mut Seats) -> Result<bool, OutOfMemory> {
     let last = finishes_at(seats, &mounts.other, 51, Rule::NotLive);
     let all = last == 10 && are_there(seats, &mounts, (0, 0));
     Ok(some && more && all && has_lost(seats, 50, Rule::NotLive))
+}
+
+/// A mount whose listener has finished stays prepared until he has gone.
+fn is_kept_for_the_finished(alloc: Global, seats: &mut Seats) -> Result<bool, OutOfMemory> {
+    let mounts = two_mounts()?;
+    sit_down(alloc, seats, mounts.one, 1)?;
+    seats.prepare(&mounts.other)?;
+    seats.shift(1, &mounts.other, 2, Place::new(0));
+    seats.end(1, Rule::NotLive);
+    seats.release(&mounts.one);
+    seats.release(&mounts.other);
+    let kept = seats.is_prepared(&mounts.other) && sat_last_at(seats, 1, &mounts.other);
+    seats.remove(1);
+    seats.release(&mounts.other);
+    let gone = !seats.is_prepared(&mounts.one) && !seats.is_prepared(&mounts.other);
+    Ok(kept && gone)
+}
+
+#[test]
+fn a_mount_is_kept_for_the_finished(rt: HostRuntime) -> Result<(), Fail> {
+    let mut seats = Seats::new(rt.alloc());
+    assert!(rt; is_kept_for_the_finished(rt.alloc(), &mut seats) == Ok(true));
+    Ok(())
 }
 
 #[test]

@@ -70,6 +70,17 @@ found_by : (found : Option Session) → is_some found ≡ true → (session : Se
 found_by None e = cc
 found_by (Some session) e = (session, refl)
 
+-- whom a command finishes sits at the mount
+sits_by : (mount : List ℕ) (found : Option Seat) → option_map_or (λ (seat : Seat). bytes_eq seat.mount mount) found false ≡ true
+    → (seat : Seat) × (found ≡ Some seat) × (seat.mount ≡ mount)
+sits_by mount None e = cc
+sits_by mount (Some seat) e = (seat, refl, (bytes_eq-Decides seat.mount mount).0 e)
+
+pub killed_seat : (w : World) (event : Event) (mount : List ℕ) (listener : ℕ) → IsCommanded w event (KillClient mount listener)
+    → (seat : Seat) × (seat_of w.seats listener ≡ Some seat) × (seat.mount ≡ mount)
+killed_seat w event mount listener c =
+    sits_by mount (seat_of w.seats listener) (may_kill (is_live w.house mount) (sits_at w.seats mount listener) (needs_hold w event c))
+
 module _ (w : World) (s : IsSound w) (event : Event) where
   -- what holds of the world where the client has had his answer
   module _ {command : Command} (c : IsCommanded w event command) where
@@ -153,13 +164,8 @@ module _ (w : World) (s : IsSound w) (event : Event) where
     abbrev killed_world : World
     killed_world = changed w (Obey c.asked.id (KillClient mount listener))
 
-    sits_by : (found : Option Seat) → option_map_or (λ (seat : Seat). bytes_eq seat.mount mount) found false ≡ true
-        → (seat : Seat) × (found ≡ Some seat) × (seat.mount ≡ mount)
-    sits_by None e = cc
-    sits_by (Some seat) e = (seat, refl, (bytes_eq-Decides seat.mount mount).0 e)
-
     pub his_seat : (seat : Seat) × (seat_of w.seats listener ≡ Some seat) × (seat.mount ≡ mount)
-    his_seat = sits_by (seat_of w.seats listener) (may_kill (is_live w.house mount) (sits_at w.seats mount listener) (needs_hold w event c))
+    his_seat = killed_seat w event mount listener c
 
     abbrev KilledFate : ℕ → Type 0
     KilledFate id = Fate (Cause w killed_world event) (Takes w event) Nobody (LeavesFor w event) (heard c) killed_world id

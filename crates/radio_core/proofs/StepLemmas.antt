@@ -32,7 +32,7 @@ use Rattle.radio_core.proofs.KeptSteps.{changed_kept, rise_changed}
 use Rattle.radio_core.proofs.PlannedLemmas.{planned_so, completed_so}
 use Rattle.radio_core.proofs.SoundRuns.{sound_after, sound_opening}
 use Rattle.radio_seats.specs.declared.seat.Seat.{Seat}
-use Rattle.radio_seats.specs.Seats.{seat_of}
+use Rattle.radio_seats.specs.Seats.{seat_of, last_mount_of}
 use Rattle.radio_house.specs.Wanted.{wanted}
 
 -- its reply has no text, and its change needs no memory
@@ -104,6 +104,11 @@ keeps_settings core w stands = ap (λ (x : World). x.house.settings) stands.show
 pub wants_alike : (core w : World) → Represents core w → wanted core ≡ wanted w
 unfolding Represents
 wants_alike core w stands = ap wanted stands.shows
+
+-- and each listener sits, or sat last, where he does there
+pub last_alike : (core w : World) → Represents core w → (id : ℕ) → last_mount_of core.seats id ≡ last_mount_of w.seats id
+unfolding Represents
+last_alike core w stands id = ap (λ (x : World). last_mount_of x.seats id) stands.shows
 
 pub opening_stands : (settings : Settings) (lists : Lists) → StandsForSome (opening settings lists)
 unfolding StandsForSome

@@ -3,6 +3,8 @@
 
 ghost use Rattle.std.specs.Prelude.{◌≡◌, [], ◌∷◌, IsOk, IfOk, OnOk, OnErr};
 ghost use Rattle.radio_events.specs.declared.reply.Reply.{Reply as ReplyOf};
+ghost use Rattle.std.specs.Option.{option_copied};
+ghost use Rattle.radio_seats.specs.Seats.{last_mount_of};
 ghost use Rattle.radio_house.specs.Wanted.{wanted};
 ghost use Rattle.radio_house.specs.World.{World, opening};
 ghost use Rattle.radio_events.specs.Replies.{HoldsNoText};
@@ -94,6 +96,15 @@ impl Core {
         ensures { (w : World) → Represents self.now w → IfOk result (λ mounts. mounts.items ≡ wanted w) }
     {
         self.state.wanted()
+    }
+
+    /// The mount where the listener of this number sits, or sat last if he has finished; none where
+    /// there is no such listener.
+    pub fn last_mount(&self, id: u64) -> Option<&MountName>
+        // it is that of whatever state it stands for
+        ensures { (w : World) → Represents self.now w → option_copied result ≡ last_mount_of w.seats id }
+    {
+        self.state.last_mount(id)
     }
 
     /// One event. `OutOfMemory` where memory was refused; nothing has changed then.

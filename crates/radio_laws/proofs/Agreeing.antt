@@ -172,15 +172,6 @@ module _ (within : List ℕ → Bool) where
     with_place_alike id place =
         agree_updated (ListenersAgree within) (is_listener id) (is_alike id) (advanced place) xs ys (λ a b agree found. heard_alike place a b agree) r
 
-    -- he loses his seat, wherever he sits
-    lost_alike : (rule : Rule) (a b : Listener) → ListenersAgree within a b → ListenersAgree within (loses rule a) (loses rule b)
-    lost_alike rule a b (SameListener same) = SameListener (ap (loses rule) same)
-    lost_alike rule a b (SitsBeyond id one other sits out his away) = SameListener (rw (sits, his, id) refl)
-
-    pub with_end_alike : (id : ℕ) (rule : Rule) → ListenersDo (with_end xs id rule) (with_end ys id rule)
-    with_end_alike id rule =
-        agree_updated (ListenersAgree within) (is_listener id) (is_alike id) (loses rule) xs ys (λ a b agree found. lost_alike rule a b agree) r
-
     -- as many seats are there of which something holds, where it holds of none beyond reach
     module _ (p : Seat → Bool) (none : (seat : Seat) → within seat.mount ≡ false → p seat ≡ false) where
       holds_alike : (a b : Listener) → ListenersAgree within a b → (a ≡ b) ⊎ ((holds_of p a.seating ≡ false) × (holds_of p b.seating ≡ false))
@@ -212,16 +203,19 @@ module _ (within : List ℕ → Bool) where
       pub given_alike : ListenersDo (with_session_at xs mount session) (with_session_at ys mount session)
       given_alike = agree_each (ListenersAgree within) (hears_session mount session) hearing_alike xs ys r
 
-    -- who has one seat in both moves
-    module _ (id : ℕ) (mount : List ℕ) (session place : ℕ) (near : (seat : Seat) → seat_of ys id ≡ Some seat → within seat.mount ≡ true) where
-      moved_alike : (a b : Listener) → ListenersAgree within a b → listener_of ys id ≡ Some b
-          → ListenersAgree within (moved mount session place a) (moved mount session place b)
-      moved_alike a b (SameListener same) found = SameListener (ap (moved mount session place) same)
-      moved_alike a b (SitsBeyond same one other sits out his away) found =
+    -- who has one seat in both moves, or loses it
+    module _ (id : ℕ) (near : (seat : Seat) → seat_of ys id ≡ Some seat → within seat.mount ≡ true) where
+      near_alike : (f : Listener → Listener) (a b : Listener) → ListenersAgree within a b → listener_of ys id ≡ Some b → ListenersAgree within (f a) (f b)
+      near_alike f a b (SameListener same) found = SameListener (ap f same)
+      near_alike f a b (SitsBeyond same one other sits out his away) found =
           let clash = near other (ap seat_in found ∙ ap seat_held his) in cc
 
-      pub with_move_alike : ListenersDo (with_move xs id mount session place) (with_move ys id mount session place)
-      with_move_alike = agree_updated (ListenersAgree within) (is_listener id) (is_alike id) (moved mount session place) xs ys moved_alike r
+      pub with_move_alike : (mount : List ℕ) (session place : ℕ) → ListenersDo (with_move xs id mount session place) (with_move ys id mount session place)
+      with_move_alike mount session place =
+          agree_updated (ListenersAgree within) (is_listener id) (is_alike id) (moved mount session place) xs ys (near_alike (moved mount session place)) r
+
+      pub with_end_alike : (rule : Rule) → ListenersDo (with_end xs id rule) (with_end ys id rule)
+      with_end_alike rule = agree_updated (ListenersAgree within) (is_listener id) (is_alike id) (loses rule) xs ys (near_alike (loses rule)) r
 
     pub all_listeners : IsAll within → xs ≡ ys
     all_listeners all = agree_equal (ListenersAgree within) one xs ys r where

@@ -183,6 +183,15 @@ module _ (within : List ℕ → Bool) (w : World) (live : List Session) (r : Ses
             (goes_by move near seat.pair to goes, λ his same. let one_seat : seat ≡ his = cc in ap (λ (x : Seat). within x.mount) (sym one_seat) ∙ concerned move near seat is)
         by_test false is goes = cc
 
+    -- and so sits whoever is left out
+    pub out_within : (seats : List Listener) (id : ℕ) (rule : Rule) (seat : Seat) → turn_of other move seats id ≡ IsOut rule → seat_of seats id ≡ Some seat
+        → within seat.mount ≡ true
+    out_within seats id rule seat e has = by_test (concerns move seat.mount seat.home) refl (ap (turn_in other (without_listener seats id) move) (sym has) ∙ e) where
+      by_test : (b : Bool) → concerns move seat.mount seat.home ≡ b
+          → (if b then turn_by other (without_listener seats id) seat.pair move else Stays) ≡ IsOut rule → within seat.mount ≡ true
+      by_test true is out = concerned move near seat is
+      by_test false is out = cc
+
     record CarriesDo (a b : Carry) : Type 0 where
       seats : ListenersDo within a.seats b.seats
       counts : a.counts ≡ b.counts
@@ -194,11 +203,14 @@ module _ (within : List ℕ → Bool) (w : World) (live : List Session) (r : Ses
         let goes = goes_in a.seats b.seats both.seats id (seat_of b.seats id) to e in
         let its = session_alike within live w.house.live r to goes.0 in
         record {
-          seats = rw its (with_move_alike within a.seats b.seats both.seats id to (other.stream_end to).session (other.stream_end to).place goes.1);
+          seats = rw its (with_move_alike within a.seats b.seats both.seats id goes.1 to (other.stream_end to).session (other.stream_end to).place);
           counts = ap (λ (c : Carried). record c { moved = c.moved + 1 }) both.counts;
         }
     one_turn a b both id (IsOut rule) e =
-        record { seats = with_end_alike within a.seats b.seats both.seats id rule; counts = ap (λ (c : Carried). record c { ended = c.ended + 1 }) both.counts }
+        record {
+          seats = with_end_alike within a.seats b.seats both.seats id (λ seat has. out_within b.seats id rule seat e has) rule;
+          counts = ap (λ (c : Carried). record c { ended = c.ended + 1 }) both.counts;
+        }
 
     all_turns : (ids : List ℕ) (a b : Carry) → CarriesDo a b → CarriesDo (turns one move ids a) (turns other move ids b)
     all_turns [] a b both = both
@@ -217,17 +229,10 @@ module _ (within : List ℕ → Bool) (w : World) (live : List Session) (r : Ses
       pub counts_alike : (carried one move here).counts ≡ (carried other move there).counts
       counts_alike = carries.counts
 
-    -- whom the move takes to a mount sits within reach, and the mount is; and so sits whom it leaves out
+    -- the mount to which the move takes one is within reach
     module _ (seats : List Listener) (id : ℕ) where
       itself : ListenersDo within seats seats
       itself = agree_all (ListenersAgree within) (λ a. SameListener refl) seats
 
       pub goes_within : (to : List ℕ) → turn_of other move seats id ≡ GoesTo to → within to ≡ true
       goes_within to e = (goes_in seats seats itself id (seat_of seats id) to e).0
-
-      pub out_within : (rule : Rule) (seat : Seat) → turn_of other move seats id ≡ IsOut rule → seat_of seats id ≡ Some seat → within seat.mount ≡ true
-      out_within rule seat e has = by_test (concerns move seat.mount seat.home) refl (ap (turn_in other (without_listener seats id) move) (sym has) ∙ e) where
-        by_test : (b : Bool) → concerns move seat.mount seat.home ≡ b
-            → (if b then turn_by other (without_listener seats id) seat.pair move else Stays) ≡ IsOut rule → within seat.mount ≡ true
-        by_test true is out = concerned move near seat is
-        by_test false is out = cc

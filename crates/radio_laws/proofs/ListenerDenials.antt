@@ -109,7 +109,7 @@ pub seat_there : (mount user : List ℕ) (seating : Seating) → is_user_at moun
 seat_there mount user (HasSeat seat) e =
     let is = both (bytes_eq seat.mount mount) (has_user user seat.pair) e in
     (seat, refl, (bytes_eq-Decides seat.mount mount).0 is.0, sent_by user seat.pair is.1)
-seat_there mount user (HasLostIt rule) e = cc
+seat_there mount user (HasLostIt rule last) e = cc
 
 there_already : (w : World) (mount : List ℕ) (pair : Option Credentials) (allows : Bool) → allows_duplicates_at w mount ≡ allows
     → (not allows && sits_already w.seats mount pair) ≡ true → HasUserAt w mount pair

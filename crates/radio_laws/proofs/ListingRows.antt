@@ -86,7 +86,7 @@ module _ (w : World) where
     by_mount seat false e at = rw (e, at) rest
 
     tell_first : (seating : Seating) → listener.seating ≡ seating → TellOfListeners w (seats_at (listener ∷ seats) mount) (rows_at (listener ∷ seats) mount)
-    tell_first (Finished rule) e = rw e rest
+    tell_first (Finished rule last) e = rw e rest
     tell_first (Sits seat) e = by_mount seat (bytes_eq seat.mount mount) e refl
 
   tell_listeners : (mount : List ℕ) (seats : List Listener) → TellOfListeners w (seats_at seats mount) (rows_at seats mount)

@@ -34,6 +34,7 @@ use Rattle.radio_core.specs.Step.{outcome, reply_to, world_after}
 use Rattle.radio_core.specs.Ways.{Way, Misplaced, IsFinished, IsDenied, IsRefused, IsAdmitted, Begins, ComesUp, Receives, SetsTitle, TakesSeat, HandsOut, Ends}
 use Rattle.radio_core.specs.Ways.{EndsAndLeaves, Leaves, GoesDown, Obeys, Shows, HasPassed, Ticks}
 use Rattle.radio_house.specs.World.{World, standing_of}
+use Rattle.radio_core.proofs.Obeyed.{killed_seat}
 use Rattle.radio_core.proofs.Ways.{way_of}
 use Rattle.radio_laws.specs.Locality.{AgreeWithin, SessionsAgree, SameSession, ListenersAgree, SameListener, IsAll, IsWithin, AsksWithin, ComesUpWithin, WalksWithin}
 use Rattle.radio_laws.specs.Locality.{AnswersAlike}
@@ -136,14 +137,25 @@ module _ (within : List ℕ → Bool) (w : World) (live : List Session) (seats :
       with_ended_alike within seats w.seats s (is_shut_out lists mount) ListenerPassword (λ seat out. none_out within lists mount seat out near)
 
   -- a command is done
-  obeys : (id : ℕ) (command : TheCommand) → AsksWithin w within (Asks command) → Agree (Obey id command)
-  obeys id (MoveClients mount destination) near = record {
+  obeys : (event : Event) (id : ℕ) (command : TheCommand) → IsCommanded w event command → AsksWithin w within (Asks command) → Agree (Obey id command)
+  obeys event id (MoveClients mount destination) c near = record {
     house = refl;
     sessions = r;
     listeners = carried_alike within (answered w id) live r (To mount destination) near seats w.seats s;
   }
-  obeys id (KillClient mount listener) near = record { house = refl; sessions = r; listeners = with_end_alike within seats w.seats s listener Killed }
-  obeys id (KillSource mount) near =
+  obeys event id (KillClient mount listener) c near =
+      let his = killed_seat w event mount listener c in
+      record {
+        house = refl;
+        sessions = r;
+        listeners = with_end_alike within seats w.seats s listener
+            (λ seat has.
+            let both : Some his.0 ≡ Some seat = sym his.1 ∙ has in
+            let one : his.0 ≡ seat = cc in
+            ap (λ (x : Seat). within x.mount) (sym one) ∙ ap within his.2 ∙ near)
+            Killed;
+      }
+  obeys event id (KillSource mount) c near =
       rw (session_alike within live w.house.live r mount near.there) (by_session (session_of w.house.live mount) refl) where
         by_session : (session : Option Session) → session_of w.house.live mount ≡ session
             → AgreeWithin within (session_killed (answered v id) session) (session_killed (answered w id) session)
@@ -155,14 +167,14 @@ module _ (within : List ℕ → Bool) (w : World) (live : List Session) (seats :
               sessions = over session.mount;
               listeners = walked session.mount (record { there = ap within named ∙ near.there; onward = near.onward });
             }
-  obeys id (NewTitle mount title) near = record { house = refl; sessions = titled_alike within live w.house.live r mount title; listeners = s }
-  obeys id (SetFallback mount fallback) near = record { house = refl; sessions = r; listeners = s }
-  obeys id (AddUser mount user password) near = record {
+  obeys event id (NewTitle mount title) c near = record { house = refl; sessions = titled_alike within live w.house.live r mount title; listeners = s }
+  obeys event id (SetFallback mount fallback) c near = record { house = refl; sessions = r; listeners = s }
+  obeys event id (AddUser mount user password) c near = record {
     house = refl;
     sessions = r;
     listeners = outsiders_alike (with_user_at w.house.lists mount user password) mount near;
   }
-  obeys id (DeleteUser mount user) near = record {
+  obeys event id (DeleteUser mount user) c near = record {
     house = refl;
     sessions = r;
     listeners = outsiders_alike (without_user_at w.house.lists mount user) mount near;
@@ -204,7 +216,7 @@ module _ (within : List ℕ → Bool) (w : World) (live : List Session) (seats :
   by_way event o (EndsAndLeaves _ him mount closing feeding) near = ends_and_leaves him mount (closes event him mount closing feeding near)
   by_way event o (Leaves him no_relay other) near = record { house = refl; sessions = r; listeners = without_alike within seats w.seats s him }
   by_way event o (GoesDown him by relay over_by) near = record { house = refl; sessions = r; listeners = without_alike within seats w.seats s him }
-  by_way event o (Obeys _ command c) near = obeys c.asked.id command (asks_within within w event command c near)
+  by_way event o (Obeys _ command c) near = obeys event c.asked.id command c (asks_within within w event command c near)
   by_way event o (Shows _ him peer text its undecided what) near = record { house = refl; sessions = r; listeners = s }
   by_way event o (HasPassed ms past) near = unchanged
   by_way event o (Ticks ms past) near = all_agree near (Tick ms)

@@ -48,7 +48,7 @@ module _ (w : World) (event : Event) (command : TheCommand) (c : IsCommanded w e
 module _ (him : ℕ) (rule : Rule) (mount : List ℕ) where
   not_there : (seating : Seating) → is_seat_at mount (lost_by rule seating) ≡ false
   not_there (HasSeat seat) = refl
-  not_there (HasLostIt by) = refl
+  not_there (HasLostIt by last) = refl
 
   at_most : (there : Bool) (x : Listener) (xs : List Listener) → length xs ≤ length (if there then x ∷ xs else xs)
   at_most true x xs = omega arith

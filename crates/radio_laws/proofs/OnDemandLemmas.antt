@@ -117,7 +117,7 @@ sat_at (listener ∷ seats) mount e = by_seating (sat_at seats mount) listener.s
   by_seating : (nat_lt 0 (count_at seats mount) ≡ true → IsSatAt seats mount) → (seating : Seating) → listener.seating ≡ seating
       → nat_lt 0 (length (if is_seat_at mount seating then listener ∷ seats_at seats mount else seats_at seats mount)) ≡ true
       → IsSatAt (listener ∷ seats) mount
-  by_seating rest (Finished rule) is h = later (rest h)
+  by_seating rest (Finished rule last) is h = later (rest h)
   by_seating rest (Sits seat) is h = by_test (bytes_eq seat.mount mount) refl h where
     by_test : (b : Bool) → bytes_eq seat.mount mount ≡ b
         → nat_lt 0 (length (if b then listener ∷ seats_at seats mount else seats_at seats mount)) ≡ true → IsSatAt (listener ∷ seats) mount

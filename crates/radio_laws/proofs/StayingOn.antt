@@ -74,7 +74,7 @@ module _ (mount : List ℕ) where
 
   one_seat : (seating : Seating) (seat : Seat) → seat_held seating ≡ Some seat → bytes_eq seat.mount mount ≡ true → one (is_seat_at mount seating) ≡ 1
   one_seat (Sits held) seat e at = let same : held ≡ seat = cc in ap (λ (x : Seat). one (bytes_eq x.mount mount)) same ∙ ap one at
-  one_seat (Finished rule) seat e at = cc
+  one_seat (Finished rule last) seat e at = cc
 
   held_there : (listener : Option Listener) (seat : Seat) → seat_in listener ≡ Some seat → bytes_eq seat.mount mount ≡ true → held at_mount listener ≡ 1
   held_there None seat e at = cc

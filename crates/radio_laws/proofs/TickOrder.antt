@@ -108,17 +108,18 @@ module _ (w : World) (s : IsSound w) (ms : ℕ) where
       sits : standing_of (timed w s ms) id ≡ Sits
       sits = (sound_timed w s ms).sitting id seat has
 
-      ends : (b : Bool) (him : ℕ) (other : Seating) → b ≡ true
-          → standing_in (relay_of w.house.relays id) (Some (record { id = him; seating = (if b then HasLostIt TimeOver else other) })) client ≡ Finished TimeOver
-      ends true him other e = lost_in (relay_of w.house.relays id) (listener_of w.seats id) him TimeOver client sits
-      ends false him other e = cc
+      ends : (b : Bool) (him : ℕ) (own : Seat) → b ≡ true
+          → standing_in (relay_of w.house.relays id) (Some (record { id = him; seating = (if b then HasLostIt TimeOver own.mount else HasSeat own) })) client
+          ≡ Finished TimeOver
+      ends true him own e = lost_in (relay_of w.house.relays id) (listener_of w.seats id) him TimeOver own.mount client sits
+      ends false him own e = cc
 
       by_seating : (seating : Seating) → seat_held seating ≡ Some seat
           → standing_in (relay_of w.house.relays id) (Some (record { id = listener.0.id; seating = ended_if test TimeOver seating })) client ≡ Finished TimeOver
       by_seating (HasSeat held) e =
           let same : held ≡ seat = cc in
-          ends (test held) listener.0.id (HasSeat held) (ap test same ∙ out)
-      by_seating (HasLostIt rule) e = cc
+          ends (test held) listener.0.id held (ap test same ∙ out)
+      by_seating (HasLostIt rule mount) e = cc
 
   -- no session is left that was silent
   not_silent : (mount : List ℕ) (session : Session) → session_of (ticked w ms).house.live mount ≡ Some session

@@ -60,7 +60,7 @@ module _ (lists : Lists) (mount : List ℕ) (seats : List Listener) where
   left = with_ended seats (is_shut_out lists mount) ListenerPassword
 
   one_at : (seat : Seat) (b c : Bool) → bytes_eq seat.mount mount ≡ b
-      → one (is_seat_at mount (if b && c then HasLostIt ListenerPassword else HasSeat seat)) + one (b && c) ≡ one b
+      → one (is_seat_at mount (if b && c then HasLostIt ListenerPassword seat.mount else HasSeat seat)) + one (b && c) ≡ one b
   one_at seat true true e = refl
   one_at seat true false e = rw e refl
   one_at seat false c e = rw e refl
@@ -68,7 +68,7 @@ module _ (lists : Lists) (mount : List ℕ) (seats : List Listener) where
   one_here : (seating : Seating) → one (is_seat_at mount (ended_if (is_shut_out lists mount) ListenerPassword seating)) + one (holds_of (is_shut_out lists mount) seating)
       ≡ one (is_seat_at mount seating)
   one_here (HasSeat seat) = one_at seat (bytes_eq seat.mount mount) (not (lets_in lists mount seat.pair)) refl
-  one_here (HasLostIt rule) = refl
+  one_here (HasLostIt rule last) = refl
 
   pub counted_out : count_at left mount + how_many (is_shut_out lists mount) seats ≡ count_at seats mount
   counted_out =

@@ -106,13 +106,17 @@ module _ (before : World) (move : Move) (order : AreByNumber before.seats) (plac
   goes_by (HasLost old rule turn had concerned now) mount e = let both : GoesTo mount ≡ IsOut rule = sym e ∙ turn in cc
 
   out_by : FaringHere → (rule : Rule) → his_turn before move id ≡ IsOut rule
-      → listener_of (carried_along before move).seats id ≡ Some (record { id = id; seating = HasFinished rule })
+      → listener_of (carried_along before move).seats id ≡ Some (record { id = id; seating = HasFinished rule seat.mount })
   out_by (HasStayed same turn) rule e = let both : IsOut rule ≡ Stays = sym e ∙ turn seat has in cc
   out_by (HasGone old to turn had concerned fits now) rule e = let both : IsOut rule ≡ GoesTo to = sym e ∙ turn in cc
   out_by (HasLost old by turn had concerned now) rule e =
       let both : IsOut by ≡ IsOut rule = sym turn ∙ e in
       let one : by ≡ rule = cc in
-      now ∙ ap (λ (r : Rule). Some (record { id = id; seating = HasFinished r })) one
+      let held : Some old ≡ Some seat = sym had ∙ has in
+      let his : old ≡ seat = cc in
+      now
+      ∙ ap (λ (r : Rule). Some (record { id = id; seating = HasFinished r old.mount })) one
+      ∙ ap (λ (s : Seat). Some (record { id = id; seating = HasFinished rule s.mount })) his
 
   stays_by : FaringHere → his_turn before move id ≡ Stays → seat_of (carried_along before move).seats id ≡ Some seat
   stays_by (HasStayed same turn) e = ap seat_in same ∙ has

@@ -22,14 +22,14 @@ use Rattle.radio_parts.specs.Stream.{end_of}
 use Rattle.radio_house.specs.World.{World}
 use Rattle.radio_house.specs.Waiting.{heard_at, is_on_demand}
 
--- one who had this seat before the move: he goes on at the end of the stream of the mount to which his turn takes him, or has finished by the rule that leaves
--- him out, or keeps his seat; and where the session of his mount has ended he does not stay as he was, but at a mount that a relay feeds on demand he goes
+-- one who had this seat before the move: he goes on at the end of the stream of the mount to which his turn takes him, or has finished where he
+-- sat, by the rule that leaves him out, or keeps his seat; and where the session of his mount has ended he does not stay as he was, but at a mount that a relay feeds on demand he goes
 -- on, to wait there for the next one
 pub record FaresByHisTurn (before : World) (move : Move) (id : ℕ) (seat : Seat) : Type 0 where
   pub goes : (mount : List ℕ) → his_turn before move id ≡ GoesTo mount → (session : Session) × (heard_at before.house mount ≡ Some session)
       × (seat_of (carried_along before move).seats id ≡ Some (record seat { mount = mount; session = session.number; place = end_of session.stream }))
   pub is_out : (rule : Rule) → his_turn before move id ≡ IsOut rule
-      → listener_of (carried_along before move).seats id ≡ Some (record { id = id; seating = Finished rule })
+      → listener_of (carried_along before move).seats id ≡ Some (record { id = id; seating = Finished rule seat.mount })
   pub stays : his_turn before move id ≡ Stays → seat_of (carried_along before move).seats id ≡ Some seat
   pub leaves : (mount : List ℕ) → move ≡ Ended mount → seat.mount ≡ mount → his_turn before move id ≡ Stays → ⊥
   pub waits : (mount : List ℕ) → move ≡ Ended mount → seat.mount ≡ mount → is_on_demand before.house.settings mount ≡ true

@@ -1,7 +1,5 @@
 ghost use Rattle.std.specs.Prelude.{◌≡◌, IsOk, IfOk, OnOk, OnErr};
-ghost use Rattle.std.specs.Option.{option_map};
-ghost use Rattle.radio_seats.specs.declared.seat.Seat.{Seat as SeatOf};
-ghost use Rattle.radio_seats.specs.Seats.{seat_of, with_ended, with_session_at};
+ghost use Rattle.radio_seats.specs.Seats.{with_ended, with_session_at};
 ghost use Rattle.radio_parts.specs.Timeouts.{lags_behind};
 ghost use Rattle.radio_core.specs.Changes.{changed, carried_along, called_home, session_ended, client_gone};
 ghost use Rattle.radio_core.specs.Counts.{nobody, counted, counts_along, counts_home, counts_ended};
@@ -149,8 +147,8 @@ impl State {
         }
     }
 
-    /// A mount that is not live, and waits for no session, and where nobody sits, is not prepared any
-    /// more. It takes no memory.
+    /// A mount that is not live, and waits for no session, and where no listener sits or sat last, is
+    /// not prepared any more. It takes no memory.
     pub(super) fn release_idle(&mut self, mount: &MountName)
         ensures { self.new ≡ self.old }
     {
@@ -211,21 +209,11 @@ impl State {
     fn forget(&mut self, id: u64)
         ensures { self.new ≡ client_gone self.old id }
     {
-        let mount = self.mount_of(id);
+        let mount = self.last_mount(id).copied();
         self.seats.remove(id);
         self.house.forget(id);
         if let Some(mount) = mount {
             self.release_idle(&mount);
-        }
-    }
-
-    /// The mount where the listener sits, if he does.
-    fn mount_of(&self, id: u64) -> Option<MountName>
-        ensures { result ≡ option_map (λ (seat : SeatOf). seat.mount) (seat_of self.now.seats id) }
-    {
-        match self.seats.seat(id) {
-            Some(seat) => Some(*seat.mount),
-            None => None,
         }
     }
 }

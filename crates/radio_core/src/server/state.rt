@@ -1,6 +1,8 @@
 //! All of the server's state, and what an event does to it.
 
 ghost use Rattle.std.specs.Prelude.{◌≡◌, IsOk, IfOk};
+ghost use Rattle.std.specs.Option.{option_copied};
+ghost use Rattle.radio_seats.specs.Seats.{last_mount_of};
 ghost use Rattle.radio_house.specs.Wanted.{wanted};
 ghost use Rattle.radio_house.specs.World.{opening, standing_of, has_relay};
 ghost use Rattle.radio_core.specs.Planned.{planned};
@@ -91,6 +93,14 @@ impl State {
         ensures { result ≡ standing_of self.now id }
     {
         self.house.standing(&self.seats, id)
+    }
+
+    /// The mount where the listener of this number sits, or sat last; none where there is no such
+    /// listener.
+    pub(super) fn last_mount(&self, id: u64) -> Option<&MountName>
+        ensures { option_copied result ≡ last_mount_of self.now.seats id }
+    {
+        self.seats.last_mount(id)
     }
 
     /// Whether there is a relay of this number.

@@ -9,6 +9,8 @@ ghost use Rattle.radio_core.specs.KeptChanges.{kept_changed};
 ghost use Rattle.radio_core.specs.Planned.{planned, with_counts};
 ghost use Rattle.radio_events.specs.declared.reply.Reply.{Reply as ReplyOf};
 ghost use Rattle.radio_core.specs.Step.{StandsForSome, NeedsNoMemory};
+ghost use Rattle.std.specs.Option.{option_copied};
+ghost use Rattle.radio_seats.specs.Seats.{last_mount_of};
 ghost use Rattle.radio_house.specs.Wanted.{wanted};
 ghost use Rattle.radio_house.specs.World.{opening};
 ghost use Rattle.radio_events.specs.Events.{TakesNoMemory};
@@ -74,6 +76,14 @@ impl TimedState {
         ensures { IfOk result (λ mounts. mounts.items ≡ wanted self.now) }
     {
         self.state.wanted()
+    }
+
+    /// The mount where the listener of this number sits, or sat last; none where there is no such
+    /// listener.
+    pub(super) fn last_mount(&self, id: u64) -> Option<&MountName>
+        ensures { option_copied result ≡ last_mount_of self.now.seats id }
+    {
+        self.state.last_mount(id)
     }
 
     /// What comes of an event, before its change is made. `OutOfMemory` where memory was refused.

@@ -1,0 +1,10 @@
+use Rattle.std.proofs.Common.{◌∙◌, subst, sym}
+use Rattle.radio_core.specs.Step.{Represents}
+use Rattle.radio_house.specs.World.{World}
+use Rattle.radio_core.proofs.StepLemmas.{last_alike}
+use Rattle.radio_core.proofs.server.Core.last_mount.Goals as goal
+
+pub returns : goal.returns
+returns c w stands =
+    c.last_mount.ensures
+    ∙ last_alike c.self.inside.state w (subst (λ (core : World). Represents core w) (sym c.self.view_is) stands) c.args.id
