@@ -1,7 +1,7 @@
 //! What no clause says: that calls with ample memory succeed, and what they answer to real clients.
 
 use radio_admin::{AdminFault, Command, OutOfMemory, RawText, read_command, read_path};
-use radio_settings::MountName;
+use radio_values::MountName;
 use std::alloc::Global;
 use std::test::Fail;
 

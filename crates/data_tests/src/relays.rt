@@ -7,7 +7,8 @@ mod pulls;
 mod requests;
 
 use radio_relay::{OutOfMemory, PullFault, PullItem};
-use radio_settings::{Settings, Shown};
+use radio_settings::Settings;
+use radio_values::Shown;
 use std::alloc::{AllocError, Global};
 use std::process::Abort;
 

@@ -4,7 +4,7 @@ use radio_addr::Peer;
 use radio_blocks::Place;
 use radio_policy::Rule;
 use radio_seats::{Guest, KeptName, ListenerStanding, OutOfMemory, Seat, SeatTest, Seats};
-use radio_settings::MountName;
+use radio_values::MountName;
 use std::alloc::{AllocError, Global};
 use std::test::Fail;
 

@@ -5,7 +5,8 @@ ghost use Rattle.std.specs.Str.{bytes_eq};
 ghost use Rattle.radio_access.specs.SourcePair.{is_source_pair, is_login, is_user_with};
 
 use radio_creds::{Pair, is_same_secret};
-use radio_settings::{Login, MountName, Settings, Text};
+use radio_settings::{Login, Settings};
+use radio_values::{MountName, Text};
 
 /// Whether a pair, or none, is the one that the mount's source sends: the user and the password that the mount sets,
 /// else `source` and the station's source password (Icecast 2.4 documentation, mount settings).

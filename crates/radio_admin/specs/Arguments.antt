@@ -5,7 +5,7 @@ use Rattle.std.specs.Option.{option_map, option_and_then}
 use Rattle.std.specs.Str.{bytes_eq}
 use Rattle.std.specs.Str.Lossy.{utf8_lossy}
 use Rattle.form_urlencoded.specs.Form.{decode, raw_pairs}
-use Rattle.radio_settings.specs.MountName.{is_mount_name}
+use Rattle.radio_values.specs.MountName.{is_mount_name}
 use Rattle.radio_texts.specs.Numbers.{number_of}
 
 -- the text that an encoded name or value stands for: `+` is a space, escapes are decoded, what is no UTF-8 is U+FFFD

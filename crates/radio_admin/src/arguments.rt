@@ -7,7 +7,7 @@ ghost use Rattle.radio_admin.specs.Arguments.{argument, as_fallback, fallback_in
 
 use crate::OutOfMemory;
 use crate::query::argument;
-use radio_settings::MountName;
+use radio_values::MountName;
 use radio_texts::read_number;
 use std::alloc::Global;
 

@@ -3,7 +3,7 @@ ghost use Rattle.std.specs.Prelude.{◌≡◌};
 ghost use Rattle.radio_admin.specs.Commands.{kind_in, mount_named};
 
 use crate::CommandKind;
-use radio_settings::MountName;
+use radio_values::MountName;
 use std::marker::Model;
 
 /// A command, with its arguments.

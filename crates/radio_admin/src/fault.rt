@@ -2,7 +2,7 @@
 ghost use Rattle.std.specs.Prelude.{◌≡◌};
 
 use crate::{CommandKind, OutOfMemory};
-use radio_settings::MountName;
+use radio_values::MountName;
 use std::error::Error;
 use std::fmt;
 

@@ -12,7 +12,7 @@ use crate::{
     OutOfMemory, RawText,
 };
 use percent_encoding::percent_decode;
-use radio_settings::MountName;
+use radio_values::MountName;
 use std::alloc::Global;
 
 /// The path that the path of a target stands for: each `%` with two hexadecimal digits is the byte that they write

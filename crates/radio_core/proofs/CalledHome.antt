@@ -17,7 +17,7 @@ use Rattle.radio_fallback.proofs.Faring.{comes_home, never_out}
 use Rattle.radio_core.specs.declared.outcome.Change.TheVariants.{Begin, Raise}
 use Rattle.radio_house.specs.declared.standing.Standing.TheVariants.{Undecided, Feeds}
 use Rattle.radio_addr.specs.declared.peer.Peer.{Peer}
-use Rattle.radio_settings.specs.declared.field.Shown.{Shown}
+use Rattle.radio_values.specs.declared.field.Shown.{Shown}
 use Rattle.radio_core.specs.Changes.{changed, carried_along, called_home, session_begun, session_raised}
 use Rattle.radio_house.specs.HouseChanges.{begun, raised}
 use Rattle.radio_house.specs.Facts.{sight_of}

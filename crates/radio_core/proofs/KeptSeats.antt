@@ -10,7 +10,7 @@ use Rattle.std.proofs.lemmas.Slice.Eq.{bytes_eq-Decides}
 use Rattle.radio_policy.specs.declared.rule.Rule.{Rule}
 use Rattle.radio_policy.specs.declared.rule.Rule.TheVariants.{Lagged, TimeOver, Killed, ListenerPassword}
 use Rattle.radio_addr.specs.declared.peer.Peer.{Peer}
-use Rattle.radio_settings.specs.declared.field.Shown.{Shown}
+use Rattle.radio_values.specs.declared.field.Shown.{Shown}
 use Rattle.radio_tables.proofs.FindLaws.{find_here, find_later, find_apart}
 use Rattle.radio_tables.proofs.KeyLaws.{by_number, by_name}
 use Rattle.radio_seats.specs.declared.seat.Listener.{Listener}

@@ -25,7 +25,7 @@ use Rattle.radio_parts.specs.Sessions.{Session, session_of, is_of, by_mount, ope
 use Rattle.radio_parts.specs.Stream.{end_of, with_block}
 use Rattle.radio_parts.specs.Timeouts.{lags_behind}
 use Rattle.radio_house.specs.World.{World}
-use Rattle.radio_settings.specs.declared.field.Shown.{Shown}
+use Rattle.radio_values.specs.declared.field.Shown.{Shown}
 use Rattle.radio_fallback.specs.declared.moves.Move.TheVariants.{Ended as HasEnded, To}
 use Rattle.radio_core.proofs.CalledHome.{house_called}
 use Rattle.radio_core.proofs.KeptSights.{carried_alike, called_alike}

@@ -21,7 +21,7 @@ use Rattle.radio_core.specs.declared.outcome.Outcome.{Outcome}
 use Rattle.radio_events.specs.Events.{client_in}
 use Rattle.radio_house.specs.declared.standing.Standing.{Standing}
 use Rattle.radio_house.specs.declared.standing.Standing.TheVariants.{Unknown, Undecided, Feeds, Answered}
-use Rattle.radio_settings.specs.declared.field.Shown.{Shown}
+use Rattle.radio_values.specs.declared.field.Shown.{Shown}
 use Rattle.radio_tables.specs.Lists.{placed, Each}
 use Rattle.radio_tables.proofs.EachLaws.{Each_each, Each_kept, Each_placed}
 use Rattle.radio_house.specs.Clients.{Client, client_of, newcomer}

@@ -15,7 +15,7 @@ use Rattle.radio_core.specs.declared.outcome.Change.TheVariants.{Begin, Obey}
 use Rattle.radio_house.specs.Clients.{Client, is_client, in_state, with_state}
 use Rattle.radio_house.specs.Relays.{Relay, is_relay, ended, with_relay_ended}
 use Rattle.radio_settings.specs.Options.{options_for}
-use Rattle.radio_settings.specs.declared.field.Shown.{Shown}
+use Rattle.radio_values.specs.declared.field.Shown.{Shown}
 use Rattle.radio_fallback.specs.declared.moves.Move.{Move}
 use Rattle.radio_fallback.specs.declared.moves.Move.TheVariants.{Ended as SessionEnds, Up, To}
 use Rattle.radio_fallback.proofs.FaresLemmas.{numbers_kept}

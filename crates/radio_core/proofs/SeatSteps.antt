@@ -63,7 +63,7 @@ use Rattle.radio_core.proofs.HeardLemmas.{heard_cases, heard_live}
 use Rattle.radio_core.proofs.HeardApart.{apart_sessions, apart_then}
 use Rattle.radio_seats.proofs.GivenLaws.{seat_hearing, seat_of_hearing}
 use Rattle.radio_core.proofs.GivenSeats.{sat_elsewhere}
-use Rattle.radio_settings.specs.declared.field.Shown.{Shown}
+use Rattle.radio_values.specs.declared.field.Shown.{Shown}
 
 -- all that an event can do to a seat: nothing, hand out what stands at its place, give one to who had none, carry it along, take it away
 data Turn (w later : World) (event : Event) (id : ℕ) : Option Seat → List ℕ → Option Seat → Type 0 where

@@ -9,7 +9,7 @@ use Rattle.radio_policy.specs.Table.{row, source_rows, relay_rows, listen_rows}
 use Rattle.radio_policy.specs.Verdicts.{verdict_in}
 use Rattle.radio_addr.specs.declared.peer.Peer.{Peer}
 use Rattle.radio_settings.specs.declared.web.WebPath.{WebPath}
-use Rattle.radio_settings.specs.MountName.{is_mount_name}
+use Rattle.radio_values.specs.MountName.{is_mount_name}
 use Rattle.radio_settings.specs.Web.{web_path}
 use Rattle.radio_access.specs.Lists.{passes}
 use Rattle.radio_events.specs.declared.event.SourceRequest.{SourceRequest}
@@ -17,7 +17,7 @@ use Rattle.radio_events.specs.declared.event.ListenRequest.{ListenRequest}
 use Rattle.radio_events.specs.declared.event.Event.{Event}
 use Rattle.radio_events.specs.declared.event.Event.TheVariants.{Arrive, Source, Push, SourceEnd, Title, Listen, Draw, Command, Leave}
 use Rattle.radio_events.specs.declared.event.Event.TheVariants.{RelayUp, RelayDown, Clock}
-use Rattle.radio_settings.specs.declared.field.Shown.{Shown}
+use Rattle.radio_values.specs.declared.field.Shown.{Shown}
 use Rattle.radio_house.specs.House.{House}
 use Rattle.radio_core.specs.declared.outcome.Change.{Change}
 use Rattle.radio_core.specs.declared.outcome.Change.TheVariants.{Nothing, Answer, End, Tick}

@@ -14,7 +14,7 @@ use Rattle.radio_core.specs.declared.outcome.Change.TheVariants.{Nothing, Answer
 use Rattle.radio_core.specs.declared.outcome.Change.TheVariants.{EndAndLeave, Forget, Tick, Obey}
 use Rattle.radio_house.specs.Clients.{without_client}
 use Rattle.radio_house.specs.Relays.{without_relay}
-use Rattle.radio_settings.specs.declared.field.Shown.{Shown}
+use Rattle.radio_values.specs.declared.field.Shown.{Shown}
 use Rattle.radio_house.specs.HouseChanges.{now_in_state, admitted, begun, raised, finished_in, received, retitled, falling_back, timed_out_by, with_user, without_user}
 use Rattle.radio_house.specs.Outsiders.{is_shut_out}
 use Rattle.radio_parts.specs.Sessions.{Session, session_of, without_session}

@@ -6,7 +6,7 @@ use radio_events::{Command, Reply};
 use radio_icy::Title;
 use radio_policy::Rule;
 use radio_seats::Seat;
-use radio_settings::{MountName, Shown};
+use radio_values::{MountName, Shown};
 
 /// What an event changes.
 #[derive(Drop)]

@@ -8,7 +8,7 @@ use bytes::Bytes;
 use radio_blocks::Block;
 use radio_creds::Pair;
 use radio_icy::Title;
-use radio_settings::{MountName, Shown};
+use radio_values::{MountName, Shown};
 
 impl Event {
     /// An equal event. `OutOfMemory` where memory was refused.

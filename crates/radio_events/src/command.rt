@@ -3,7 +3,7 @@
 use bytes::Bytes;
 use radio_creds::Pair;
 use radio_icy::Title;
-use radio_settings::MountName;
+use radio_values::MountName;
 
 /// What a client sends who gives a command.
 #[derive(Drop)]

@@ -6,7 +6,7 @@ use radio_addr::Peer;
 use radio_blocks::Block;
 use radio_creds::Pair;
 use radio_icy::Title;
-use radio_settings::Shown;
+use radio_values::Shown;
 
 /// What a client sends who wants to feed a mount.
 #[derive(Drop)]

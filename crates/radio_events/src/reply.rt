@@ -4,7 +4,7 @@ use crate::{OutOfMemory, Text};
 use radio_blocks::Pieces;
 use radio_icy::Title;
 use radio_policy::Rule;
-use radio_settings::{AllowedOrigin, Shown};
+use radio_values::{AllowedOrigin, Shown};
 
 /// What the head of a listener's stream says.
 #[derive(Drop)]

@@ -11,7 +11,7 @@ use crate::same_values::{
 };
 use crate::{CommandRequest, Event, ListenRequest, Reply, SourceRequest, StreamHead, Text};
 use radio_addr::Peer;
-use radio_settings::Shown;
+use radio_values::Shown;
 
 impl Event {
     /// Whether the two events are equal.

@@ -5,7 +5,7 @@ ghost use Rattle.radio_events.specs.declared.command.Command.{Command as Command
 
 use crate::same_values::{is_same_bytes, is_same_mount, is_same_name, is_same_pair};
 use crate::{Asked, Command, CommandRequest, Listing, OpenedBy};
-use radio_settings::MountName;
+use radio_values::MountName;
 
 pub(crate) fn is_same_request(a: &CommandRequest, b: &CommandRequest) -> bool
     ensures { IsTrue result ↔ a.now ≡ b.now }

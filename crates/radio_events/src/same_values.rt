@@ -6,7 +6,7 @@ use radio_addr::Peer;
 use radio_creds::Pair;
 use radio_icy::Title;
 use radio_policy::Rule;
-use radio_settings::{AllowedOrigin, MountName, Shown};
+use radio_values::{AllowedOrigin, MountName, Shown};
 
 pub(crate) fn is_same_name(a: &MountName, b: &MountName) -> bool
     ensures { IsTrue result ↔ a.now ≡ b.now }

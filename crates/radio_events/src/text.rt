@@ -6,7 +6,7 @@ ghost use Rattle.radio_events.specs.declared.text.Text.{Text as TextOf};
 
 use crate::OutOfMemory;
 use bytes::Bytes;
-use radio_settings::AllowedOrigin;
+use radio_values::AllowedOrigin;
 
 /// What the server answers a command that it has done, or one who is shown something of the station.
 #[derive(Drop)]

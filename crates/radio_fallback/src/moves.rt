@@ -9,7 +9,7 @@ use crate::walker::{MOST_MOUNTS, Walker};
 use crate::{Landing, View};
 use radio_creds::Pair;
 use radio_policy::Rule;
-use radio_settings::MountName;
+use radio_values::MountName;
 
 /// A move of listeners.
 #[derive(Clone, Copy)]

@@ -6,7 +6,7 @@ ghost use Rattle.radio_fallback.specs.Walk.{Sight};
 
 use radio_blocks::Place;
 use radio_creds::Pair;
-use radio_settings::MountName;
+use radio_values::MountName;
 
 /// The end of the stream of a mount where one may sit.
 #[derive(Clone, Copy)]

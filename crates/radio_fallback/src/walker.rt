@@ -9,7 +9,7 @@ use crate::{Found, Landing, View};
 use radio_creds::Pair;
 use radio_policy::Rule;
 use radio_seats::Seats;
-use radio_settings::MountName;
+use radio_values::MountName;
 
 /// At how many mounts a walk looks at the most.
 pub(crate) const MOST_MOUNTS: u8 = 10;

@@ -9,7 +9,7 @@ use crate::walker::{MOST_MOUNTS, Walker, landed};
 use radio_creds::Pair;
 use radio_policy::Rule;
 use radio_seats::Seats;
-use radio_settings::MountName;
+use radio_values::MountName;
 
 /// What a walk finds at a mount.
 #[derive(Clone, Copy)]

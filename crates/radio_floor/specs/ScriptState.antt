@@ -11,7 +11,7 @@ use Rattle.radio_icy.specs.Cleaning.{cleaned}
 use Rattle.radio_icy.specs.Limits.{max_title}
 use Rattle.radio_settings.specs.declared.settings.Settings.{Settings}
 use Rattle.radio_settings.specs.declared.settings.RelaySetting.{RelaySetting}
-use Rattle.radio_settings.specs.MountName.{is_mount_name}
+use Rattle.radio_values.specs.MountName.{is_mount_name}
 use Rattle.radio_relay.specs.Request.{request_text}
 use Rattle.radio_pull.specs.Pulling.{Pulling, Standing, begun}
 use Rattle.radio_pull.specs.Course.{AsksIf, GoesDown, Takes}

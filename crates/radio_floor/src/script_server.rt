@@ -21,7 +21,8 @@ use radio_pull::RelayPull;
 use radio_relay::request_text;
 use radio_script::push_answer;
 use radio_session::{Session, State};
-use radio_settings::{MountName, RelaySetting, Settings};
+use radio_settings::{RelaySetting, Settings};
+use radio_values::MountName;
 use radio_tables::Table;
 use std::alloc::Global;
 

@@ -5,7 +5,7 @@ use Rattle.std.specs.List.{concat}
 use Rattle.std.proofs.lemmas.List.{append-nil, drop-append-le}
 use Rattle.std.proofs.lemmas.List.Concat.{flat_map-append}
 use Rattle.radio_blocks.specs.Cutting.{blocks_of}
-use Rattle.radio_settings.specs.declared.field.Shown.{Shown}
+use Rattle.radio_values.specs.declared.field.Shown.{Shown}
 use Rattle.radio_icy.specs.Unweaving.{Atom, SoundByte, WholeText, heard}
 use Rattle.radio_icy.specs.Titles.{title_of}
 use Rattle.radio_events.specs.declared.event.Event.{Event}

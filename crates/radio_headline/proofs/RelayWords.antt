@@ -1,6 +1,6 @@
 -- Words of what a relay asks for.
 use Rattle.std.proofs.Common.{◌≡◌, ℕ, List, [], ◌∷◌, ◌++◌, Option, None, Some, refl, sym, subst}
-use Rattle.radio_settings.specs.declared.field.Shown.{Shown}
+use Rattle.radio_values.specs.declared.field.Shown.{Shown}
 use Rattle.radio_events.specs.declared.event.Event.{Event}
 use Rattle.radio_events.specs.declared.event.Event.TheVariants.{Arrive, Source, Push, SourceEnd, Title, Listen, Draw, Command, Leave, RelayUp, RelayDown, Clock}
 use Rattle.radio_events.specs.declared.reply.Reply.{Reply}

@@ -2,7 +2,7 @@
 use Rattle.std.specs.Prelude.{ℕ, List, Option, map}
 use Rattle.radio_policy.specs.declared.rule.Rule.{Rule}
 use Rattle.radio_addr.specs.declared.peer.Peer.{Peer}
-use Rattle.radio_settings.specs.declared.field.Shown.{Shown}
+use Rattle.radio_values.specs.declared.field.Shown.{Shown}
 use Rattle.radio_parts.specs.Kept.{kept_fed}
 use Rattle.radio_parts.specs.Sessions.{opened, with_session, fed, titled}
 use Rattle.radio_access.specs.Lists.{with_user_at, without_user_at}

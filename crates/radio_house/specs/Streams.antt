@@ -1,6 +1,6 @@
 -- What the settings make of a stream, and of a listener's.
 use Rattle.std.specs.Prelude.{ℕ, min, Bool, if◌then◌else◌, List, Option, Some, None, unwrap_or}
-use Rattle.radio_settings.specs.declared.field.Shown.{Shown}
+use Rattle.radio_values.specs.declared.field.Shown.{Shown}
 use Rattle.radio_settings.specs.Options.{options_for}
 use Rattle.radio_events.specs.declared.reply.StreamHead.{StreamHead}
 use Rattle.radio_house.specs.House.{House}

@@ -4,8 +4,8 @@ use Rattle.std.specs.Option.{option_map_or, option_or}
 use Rattle.std.specs.Str.{bytes_eq}
 use Rattle.radio_settings.specs.declared.settings.RelaySetting.{RelaySetting}
 use Rattle.radio_settings.specs.declared.settings.Settings.{Settings}
-use Rattle.radio_settings.specs.declared.field.Shown.{Shown}
-use Rattle.radio_settings.specs.Shown.{shown_of}
+use Rattle.radio_values.specs.declared.field.Shown.{Shown}
+use Rattle.radio_values.specs.Shown.{shown_of}
 use Rattle.radio_house.specs.House.{House}
 use Rattle.radio_house.specs.Streams.{shown_for}
 use Rattle.radio_parts.specs.Sessions.{Session, session_of, opened}

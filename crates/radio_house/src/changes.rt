@@ -19,7 +19,7 @@ use radio_blocks::Block;
 use radio_icy::Title;
 use radio_parts::{NewTitle, Session, deliver};
 use radio_policy::Rule;
-use radio_settings::{MountName, Shown};
+use radio_values::{MountName, Shown};
 use radio_tables::Table;
 use std::alloc::Global;
 

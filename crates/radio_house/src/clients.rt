@@ -2,7 +2,7 @@
 
 use radio_addr::Peer;
 use radio_policy::Rule;
-use radio_settings::MountName;
+use radio_values::MountName;
 use radio_tables::{Change, Row};
 use std::marker::Model;
 

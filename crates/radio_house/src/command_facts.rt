@@ -12,7 +12,8 @@ use radio_creds::Pair;
 use radio_events::{Asked, Command, Listing, OpenedBy};
 use radio_policy::{CommandAccess, CommandFacts, CommandNeeds, DestinationFacts, Opener};
 use radio_seats::Seats;
-use radio_settings::{MountName, Settings};
+use radio_settings::Settings;
+use radio_values::MountName;
 
 impl House {
     /// What is looked up for one who sends this pair, or none, and whose path and arguments ask for

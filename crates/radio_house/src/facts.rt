@@ -14,7 +14,8 @@ use radio_events::SourceRequest;
 use radio_fallback::{Landing, StreamEnd, View, Walk, walk_from};
 use radio_policy::{ArriveFacts, ListenFacts, PushFacts, RelayFacts, SourceFacts};
 use radio_seats::Seats;
-use radio_settings::{MountName, Settings, Shown};
+use radio_settings::Settings;
+use radio_values::{MountName, Shown};
 
 impl House {
     /// The mount that a path names; `None` where it names none, or is one of the web site's.

@@ -1,6 +1,6 @@
 //! The fallbacks that commands have set.
 
-use radio_settings::MountName;
+use radio_values::MountName;
 use radio_tables::Row;
 use std::marker::Model;
 

@@ -22,7 +22,7 @@ use radio_listing::{
 };
 use radio_parts::Session;
 use radio_seats::{LentListener, Seats};
-use radio_settings::MountName;
+use radio_values::MountName;
 use std::alloc::Global;
 
 /// How many milliseconds a second has.

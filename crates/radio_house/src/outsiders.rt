@@ -11,7 +11,7 @@ use radio_access::Lists;
 use radio_blocks::Place;
 use radio_policy::Rule;
 use radio_seats::{Guest, SeatTest, Seats};
-use radio_settings::MountName;
+use radio_values::MountName;
 
 /// The users of the mount do not let the guest in.
 #[derive(Drop)]

@@ -1,7 +1,7 @@
 //! The relays that are there.
 
 use radio_policy::Rule;
-use radio_settings::MountName;
+use radio_values::MountName;
 use radio_tables::{Change, Row};
 use std::marker::Model;
 

@@ -11,7 +11,7 @@ use crate::relays::RelayState;
 use radio_addr::Peer;
 use radio_policy::Rule;
 use radio_seats::{ListenerStanding, Seats};
-use radio_settings::MountName;
+use radio_values::MountName;
 
 /// How a client or a relay stands: what decides which of his events count.
 #[derive(Clone, Copy)]

@@ -6,7 +6,7 @@ ghost use Rattle.radio_house.specs.Streams.{shown_for, burst_of, interval_for, h
 use crate::OutOfMemory;
 use crate::house::House;
 use radio_events::StreamHead;
-use radio_settings::{Field, MountName, Shown};
+use radio_values::{Field, MountName, Shown};
 
 impl House {
     /// What a stream on the mount shows, which itself shows this. `OutOfMemory` where memory was

@@ -11,7 +11,8 @@ use crate::OutOfMemory;
 use crate::house::House;
 use radio_parts::Session;
 use radio_seats::Seats;
-use radio_settings::{MountName, RelaySetting, Shown};
+use radio_settings::RelaySetting;
+use radio_values::{MountName, Shown};
 use std::alloc::Global;
 use std::collections::BTreeSet;
 

@@ -1,6 +1,6 @@
 -- what holds of each session where one has begun
 use Rattle.std.proofs.Common.{◌≡◌, ℕ, ◌+◌, Some, None, List, refl, ap, sym, subst, ◌∙◌, arith}
-use Rattle.radio_settings.specs.declared.field.Shown.{Shown}
+use Rattle.radio_values.specs.declared.field.Shown.{Shown}
 use Rattle.radio_events.specs.declared.event.SourceRequest.{SourceRequest}
 use Rattle.radio_house.specs.House.{House}
 use Rattle.radio_house.specs.declared.standing.Standing.TheVariants.{Feeds}

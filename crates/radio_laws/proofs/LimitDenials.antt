@@ -13,7 +13,7 @@ use Rattle.radio_events.specs.declared.event.Event.{Event}
 use Rattle.radio_events.specs.declared.event.Event.TheVariants.{Arrive, Source, Push, SourceEnd, Title, Listen, Draw, Command, Leave}
 use Rattle.radio_events.specs.declared.event.Event.TheVariants.{RelayUp, RelayDown, Clock}
 use Rattle.radio_addr.specs.declared.peer.Peer.{Peer}
-use Rattle.radio_settings.specs.declared.field.Shown.{Shown}
+use Rattle.radio_values.specs.declared.field.Shown.{Shown}
 use Rattle.radio_events.specs.declared.reply.Reply.{Reply}
 use Rattle.radio_events.specs.declared.event.SourceRequest.{SourceRequest}
 use Rattle.radio_events.specs.declared.event.ListenRequest.{ListenRequest}

@@ -3,7 +3,7 @@ use Rattle.std.proofs.Common.{◌≡◌, Bool, true, false, ℕ, Option, Some, N
 use Rattle.std.specs.Prelude.{◌+◌, length}
 use Rattle.std.proofs.lemmas.Slice.Eq.{bytes_eq-Decides}
 use Rattle.radio_tables.proofs.FindLaws.{found_passes}
-use Rattle.radio_settings.specs.declared.field.Shown.{Shown}
+use Rattle.radio_values.specs.declared.field.Shown.{Shown}
 use Rattle.radio_settings.specs.Options.{options_for}
 use Rattle.radio_policy.specs.declared.rule.Rule.TheVariants.{Lagged, Killed}
 use Rattle.radio_seats.specs.declared.seat.Listener.{Listener}

@@ -54,7 +54,7 @@ use Rattle.radio_core.proofs.Standings.{asks, turns_sitting, turns_admitted}
 use Rattle.radio_core.proofs.Ways.{way_of, may_begin, lands_at, may_be_raised, no_path}
 use Rattle.radio_core.specs.RelayUp.{raises}
 use Rattle.radio_core.specs.RelayDown.{goes_down_from}
-use Rattle.radio_settings.specs.declared.field.Shown.{Shown}
+use Rattle.radio_values.specs.declared.field.Shown.{Shown}
 use Rattle.radio_core.specs.Pages.{asks_by}
 use Rattle.radio_core.proofs.HeardLemmas.{heard_named}
 use Rattle.radio_house.specs.Waiting.{heard_at}

@@ -20,7 +20,7 @@ use Rattle.radio_seats.proofs.SeatLaws.{beside_left}
 use Rattle.radio_events.specs.declared.event.Event.{Event}
 use Rattle.radio_events.specs.declared.event.Event.TheVariants.{Source, SourceEnd, Command, RelayUp, Clock}
 use Rattle.radio_events.specs.declared.command.CommandRequest.{CommandRequest}
-use Rattle.radio_settings.specs.declared.field.Shown.{Shown}
+use Rattle.radio_values.specs.declared.field.Shown.{Shown}
 use Rattle.radio_core.specs.Closing.{Closes, OfClient, OfRelay}
 use Rattle.radio_core.proofs.ClosingLemmas.{closes_his}
 use Rattle.radio_events.specs.declared.event.SourceRequest.{SourceRequest}

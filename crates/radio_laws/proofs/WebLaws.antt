@@ -7,7 +7,7 @@ use Rattle.radio_policy.specs.declared.rule.Rule.TheVariants.{BadMount}
 use Rattle.radio_policy.specs.Table.{source_rows}
 use Rattle.radio_policy.specs.Verdicts.{verdict_in}
 use Rattle.radio_addr.specs.declared.peer.Peer.{Peer}
-use Rattle.radio_settings.specs.MountName.{is_mount_name}
+use Rattle.radio_values.specs.MountName.{is_mount_name}
 use Rattle.radio_settings.specs.Web.{web_path}
 use Rattle.radio_settings.specs.declared.web.WebPath.{WebPath}
 use Rattle.radio_settings.specs.declared.web.WebPath.TheVariants.{IcecastStatus, Page as AtPage}

@@ -20,7 +20,7 @@ use Rattle.radio_parts.specs.Stream.{end_of, data_at}
 use Rattle.radio_house.specs.Clients.{client_of}
 use Rattle.radio_house.specs.declared.clients.ClientState.TheVariants.{Undecided as IsNew}
 use Rattle.radio_house.specs.World.{World, standing_of, has_relay}
-use Rattle.radio_settings.specs.declared.field.Shown.{Shown}
+use Rattle.radio_values.specs.declared.field.Shown.{Shown}
 use Rattle.radio_laws.specs.Walks.{ComesBy}
 use Rattle.radio_house.specs.Waiting.{heard_at}
 

@@ -4,7 +4,7 @@ use Rattle.radio_policy.specs.declared.rule.Rule.{Rule}
 use Rattle.radio_fallback.specs.declared.moves.Move.{Move}
 use Rattle.radio_fallback.specs.declared.moves.Move.TheVariants.{Ended, To}
 use Rattle.radio_fallback.specs.declared.moves.Turn.TheVariants.{Stays, GoesTo, IsOut}
-use Rattle.radio_settings.specs.declared.field.Shown.{Shown}
+use Rattle.radio_values.specs.declared.field.Shown.{Shown}
 use Rattle.radio_seats.specs.declared.seat.Seat.{Seat}
 use Rattle.radio_seats.specs.declared.seat.Seating.TheVariants.{Finished}
 use Rattle.radio_seats.specs.Seats.{listener_of, seat_of}

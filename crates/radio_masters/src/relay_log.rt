@@ -6,7 +6,8 @@ use radio_log::{Fact, RelayFailed, RelayGone, RelayUp, Text, Title};
 use radio_notes::Log;
 use radio_policy::Rule;
 use radio_session::Ending;
-use radio_settings::{MountName, RelaySetting};
+use radio_settings::RelaySetting;
+use radio_values::MountName;
 use std::alloc::Global;
 
 /// What is to be told of an event, if the server does what it asks for.

@@ -4,7 +4,7 @@ use crate::{Account, Log, OutOfMemory, Told};
 use radio_addr::Peer;
 use radio_events::{Asked, Command, CommandRequest, Event, SourceRequest};
 use radio_log::{Command as CommandTold, Fact, Text, Title};
-use radio_settings::MountName;
+use radio_values::MountName;
 use std::alloc::Global;
 
 /// What is to be told of an event, if the server does what it asks for.

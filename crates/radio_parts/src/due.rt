@@ -4,7 +4,8 @@ ghost use Rattle.std.specs.Prelude.{◌≡◌};
 ghost use Rattle.radio_parts.specs.Due.{due_at, home_due, seat_due};
 
 use radio_seats::{Guest, GuestMoment, Seat};
-use radio_settings::{MountName, Settings};
+use radio_settings::Settings;
+use radio_values::MountName;
 
 /// The last moment that there is, for what is due at none.
 pub const LAST_MOMENT: u64 = u64::MAX;

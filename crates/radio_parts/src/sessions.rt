@@ -18,7 +18,7 @@ use crate::timeouts::lies_back;
 use radio_blocks::Block;
 use radio_icy::Title;
 use radio_seats::KeptName;
-use radio_settings::{MountName, Shown};
+use radio_values::{MountName, Shown};
 use radio_tables::{Row, Swap, Table, Visit};
 use std::alloc::Global;
 use std::marker::Model;

@@ -1,6 +1,6 @@
 -- Laws on pulls, for callers.
 use Rattle.std.specs.Prelude.{◌≡◌, ℕ, List, Option, None, Some}
-use Rattle.radio_settings.specs.declared.field.Shown.{Shown}
+use Rattle.radio_values.specs.declared.field.Shown.{Shown}
 use Rattle.radio_events.specs.declared.event.Event.{Event}
 use Rattle.radio_events.specs.declared.event.Event.TheVariants.{Push, RelayUp, Title}
 use Rattle.radio_relay.specs.declared.items.PullItem.TheVariants.{Sound, Title as TitleItem, Up}

@@ -11,7 +11,7 @@ use radio_events::{Event, Reply};
 use radio_icy::Title;
 use radio_relay::{Pull, PullItem};
 use radio_session::{Ending, State};
-use radio_settings::{MountName, Shown};
+use radio_values::{MountName, Shown};
 use std::alloc::Global;
 use std::marker::Model;
 

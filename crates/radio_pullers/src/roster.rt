@@ -2,7 +2,8 @@
 
 use crate::OutOfMemory;
 use crate::running::RunningRelay;
-use radio_settings::{MountName, RelaySetting};
+use radio_settings::RelaySetting;
+use radio_values::MountName;
 use std::alloc::Global;
 use std::sync::Arc;
 

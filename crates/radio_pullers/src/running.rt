@@ -1,6 +1,8 @@
 //! A relay that runs, and what its thread and the one that started it tell each other.
 
-use radio_settings::{MountName, RelaySetting};
+use radio_settings::RelaySetting;
+
+use radio_values::MountName;
 use std::sync::atomic::{AtomicBool, Ordering};
 
 /// A relay that runs, whether it is to stop, and whether its thread has ended.

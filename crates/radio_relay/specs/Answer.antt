@@ -2,8 +2,8 @@
 use Rattle.std.specs.Prelude.{ℕ, zero, suc, not, ◌==◌, List, [], codes, Option, None, Some, is_some, unwrap_or, Result, Ok, Err, if◌then◌else◌}
 use Rattle.radio_heads.specs.Headers.{value_of}
 use Rattle.radio_heads.specs.Response.{ResponseParts}
-use Rattle.radio_settings.specs.declared.field.Shown.{Shown}
-use Rattle.radio_settings.specs.Shown.{shown_of}
+use Rattle.radio_values.specs.declared.field.Shown.{Shown}
+use Rattle.radio_values.specs.Shown.{shown_of}
 use Rattle.radio_texts.specs.Numbers.{number_of}
 use Rattle.radio_relay.specs.declared.fault.PullFault.{PullFault}
 use Rattle.radio_relay.specs.declared.fault.PullFault.TheVariants.{Status, BadHead, BadMetaint}

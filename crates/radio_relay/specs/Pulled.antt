@@ -10,7 +10,7 @@ use Rattle.radio_icy.specs.Cleaning.{cleaned}
 use Rattle.radio_icy.specs.Limits.{max_title}
 use Rattle.radio_icy.specs.Titles.{title_of}
 use Rattle.radio_icy.specs.Unweaving.{Atom, SoundByte, WholeText, new_unweaving, heard, after_feeding}
-use Rattle.radio_settings.specs.declared.field.Shown.{Shown}
+use Rattle.radio_values.specs.declared.field.Shown.{Shown}
 use Rattle.radio_relay.specs.declared.fault.PullFault.{PullFault}
 use Rattle.radio_relay.specs.declared.fault.PullFault.TheVariants.{BadHead, Failed}
 use Rattle.radio_relay.specs.declared.pull.Stage.{Stage}

@@ -4,7 +4,7 @@ use Rattle.std.specs.Cmp.Lexicographic.{slice_cmp}
 use Rattle.std.specs.Ordering.{nat_cmp}
 use Rattle.std.specs.declared.cmp.Ordering.{Ordering}
 use Rattle.std.specs.BTreeSet.{insert_key}
-use Rattle.radio_settings.specs.MountName.{is_mount_name}
+use Rattle.radio_values.specs.MountName.{is_mount_name}
 use Rattle.radio_texts.specs.Cuts.{fields_at}
 use Rattle.radio_texts.specs.Lines.{without_return}
 

@@ -5,7 +5,7 @@ ghost use Rattle.radio_relay.specs.Answer.{interval_in, interval_of, max_interva
 
 use crate::{OutOfMemory, PullFault};
 use radio_heads::ResponseHead;
-use radio_settings::Shown;
+use radio_values::Shown;
 use radio_texts::read_number;
 use std::alloc::Global;
 

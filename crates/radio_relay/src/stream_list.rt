@@ -3,7 +3,7 @@ ghost use Rattle.std.specs.Prelude.{◌≡◌, IfOk, OnOk};
 ghost use Rattle.radio_relay.specs.StreamList.{names_listed, with_name};
 
 use crate::OutOfMemory;
-use radio_settings::MountName;
+use radio_values::MountName;
 use radio_texts::laws::fields;
 use radio_texts::{cut, without_return};
 use std::alloc::Global;

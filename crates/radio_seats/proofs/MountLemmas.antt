@@ -9,7 +9,7 @@ use Rattle.std.proofs.lemmas.Bool.{eqb-true}
 use Rattle.std.proofs.lemmas.Bool.Decides.{nat_tests}
 use Rattle.std.proofs.lemmas.Cmp.{nat_cmp_total, nat_list_cmp_total}
 use Rattle.std.proofs.lemmas.Slice.Eq.{bytes_eq-Decides}
-use Rattle.radio_settings.specs.MountName.{is_mount_name}
+use Rattle.radio_values.specs.MountName.{is_mount_name}
 use Rattle.radio_tables.specs.Lists.{placed}
 use Rattle.radio_tables.proofs.FindLaws.{find_removed, find_others, found_passes}
 use Rattle.radio_tables.proofs.KeyLaws.{by_number, by_name, number_is, name_is, find_placed}

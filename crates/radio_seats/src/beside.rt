@@ -6,7 +6,7 @@ ghost use Rattle.radio_seats.specs.Seats.{others_of, without_listener, count_at,
 
 use crate::Seats;
 use crate::users::UserAt;
-use radio_settings::MountName;
+use radio_values::MountName;
 
 impl Seats {
     /// How many listeners there are, with those who have finished.

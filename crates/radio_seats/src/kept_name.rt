@@ -3,7 +3,7 @@
 ghost use Rattle.std.specs.Prelude.{◌≡◌, IfOk};
 
 use crate::OutOfMemory;
-use radio_settings::MountName;
+use radio_values::MountName;
 use std::alloc::Global;
 use std::marker::Model;
 use std::sync::Arc;

@@ -7,7 +7,7 @@ ghost use Rattle.radio_seats.specs.Listed.{lent_guest, guests_at, row_guest};
 use crate::row::{ListenerRow, RowState};
 use crate::rows::Rows;
 use crate::{Guest, OutOfMemory, Seats};
-use radio_settings::MountName;
+use radio_values::MountName;
 use std::alloc::Global;
 
 /// A listener who sits, as the table lends him.

@@ -7,7 +7,7 @@ use radio_addr::Peer;
 use radio_blocks::Place;
 use radio_creds::Pair;
 use radio_policy::Rule;
-use radio_settings::MountName;
+use radio_values::MountName;
 
 /// A listener's seat at a mount.
 #[derive(Drop)]

@@ -22,7 +22,7 @@ use crate::users::UserAt;
 use crate::{GuestMoment, LentSeat, ListenerStanding, OutOfMemory, Seat, SeatTest};
 use radio_blocks::Place;
 use radio_policy::Rule;
-use radio_settings::MountName;
+use radio_values::MountName;
 use std::alloc::Global;
 use std::marker::Model;
 

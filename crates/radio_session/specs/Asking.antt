@@ -6,8 +6,8 @@ use Rattle.std.specs.Option.{option_and_then}
 use Rattle.percent_encoding.specs.Percent.{percent_decode}
 use Rattle.radio_creds.specs.Authorization.{basic_pair}
 use Rattle.radio_creds.specs.Credentials.{Credentials}
-use Rattle.radio_settings.specs.declared.field.Shown.{Shown}
-use Rattle.radio_settings.specs.Shown.{shown_of}
+use Rattle.radio_values.specs.declared.field.Shown.{Shown}
+use Rattle.radio_values.specs.Shown.{shown_of}
 use Rattle.radio_heads.specs.Head.{RequestParts}
 use Rattle.radio_heads.specs.Headers.{value_of}
 use Rattle.radio_session.specs.Framing.{is_word}

@@ -1,4 +1,3 @@
-mod NameLemmas
 mod RepeatLemmas
 mod PlaceLemmas
 mod TableLemmas

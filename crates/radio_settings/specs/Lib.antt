@@ -1,9 +1,4 @@
 pub mod Keys
-pub mod MountName
-pub mod MountNameInside
-pub mod Field
-pub mod Shown
-pub mod AllowedOrigin
 pub mod Lookup
 pub mod Rows
 pub mod Logins

@@ -5,8 +5,8 @@ use Rattle.toml.specs.Data.{Data, Members, as_str, as_integer, as_bool, as_table
 use Rattle.radio_settings.specs.declared.key.Key.{Key}
 use Rattle.radio_settings.specs.declared.fault.SettingsFault.{SettingsFault}
 use Rattle.radio_settings.specs.declared.fault.SettingsFault.TheVariants.{Missing, WrongKind, OutOfRange, BadName}
-use Rattle.radio_settings.specs.AllowedOrigin.{is_allowed_origin}
-use Rattle.radio_settings.specs.MountName.{is_mount_name}
+use Rattle.radio_values.specs.AllowedOrigin.{is_allowed_origin}
+use Rattle.radio_values.specs.MountName.{is_mount_name}
 use Rattle.radio_settings.specs.Lookup.{value_at, natural, list_at}
 
 -- what a value must be

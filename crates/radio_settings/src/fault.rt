@@ -4,7 +4,9 @@ ghost use Rattle.std.specs.Fmt.{WritesOnOk};
 ghost use Rattle.radio_settings.specs.Words.{fault_text};
 ghost use Rattle.radio_settings.specs.declared.fault.SettingsFault.TheVariants.{OutOfMemory as NoMemory};
 
-use crate::{Key, MountName, OutOfMemory};
+use crate::{Key, OutOfMemory};
+
+use radio_values::MountName;
 use std::alloc::AllocFailed;
 use std::error::Error;
 use std::fmt;

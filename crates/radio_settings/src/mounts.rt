@@ -7,7 +7,8 @@ ghost use Rattle.radio_settings.specs.Reading.{Reads, ReadsAs};
 ghost use Rattle.radio_settings.specs.Repeats.{first_repeat};
 
 use crate::places::{item_at, places_of};
-use crate::{MountName, MountSetting, RelaySetting, SettingsFault};
+use crate::{MountSetting, RelaySetting, SettingsFault};
+use radio_values::MountName;
 use std::alloc::Global;
 use std::collections::BTreeMap;
 use std::marker::Model;

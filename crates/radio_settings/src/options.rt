@@ -1,5 +1,6 @@
 //! What holds for one mount.
-use crate::{MountName, MountOptions, Settings};
+use crate::{MountOptions, Settings};
+use radio_values::MountName;
 
 impl Settings {
     ghost use Rattle.std.specs.Prelude.{◌≡◌};

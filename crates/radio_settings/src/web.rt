@@ -2,7 +2,7 @@
 ghost use Rattle.std.specs.Prelude.{◌≡◌};
 ghost use Rattle.radio_settings.specs.Web.{is_web_path, web_path};
 
-use crate::AllowedOrigin;
+use radio_values::AllowedOrigin;
 
 /// The table `[web]`: what browsers are told, and the scripts of web sites. Where it is absent nothing of it is on.
 #[derive(Drop)]

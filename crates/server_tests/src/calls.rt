@@ -10,7 +10,7 @@ use radio_events::{
     Asked, Command, CommandRequest, Event, ListenRequest, Listing, OpenedBy, Reply, SourceRequest,
 };
 use radio_icy::Title;
-use radio_settings::{MountName, Shown};
+use radio_values::{MountName, Shown};
 use std::alloc::Global;
 
 /// How many calls a caller makes: a source and a listener arrive and say what they want, and two who

@@ -7,7 +7,7 @@ use radio_creds::{Pair, basic};
 use radio_fallback::{Carried, Move, carry};
 use radio_policy::Rule;
 use radio_seats::{KeptName, ListenerStanding, OutOfMemory, Seat, Seats};
-use radio_settings::MountName;
+use radio_values::MountName;
 use std::alloc::Global;
 use std::test::Fail;
 

@@ -10,7 +10,7 @@ use radio_blocks::Place;
 use radio_creds::Pair;
 use radio_fallback::{StreamEnd, View};
 use radio_seats::{OutOfMemory, Seats};
-use radio_settings::MountName;
+use radio_values::MountName;
 use std::alloc::AllocError;
 
 /// A mount of the station.

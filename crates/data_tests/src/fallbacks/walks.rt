@@ -4,7 +4,7 @@ use crate::fallbacks::station::{Mount, Station, name, plain};
 use radio_fallback::{Landing, walk_from};
 use radio_policy::Rule;
 use radio_seats::{OutOfMemory, Seats};
-use radio_settings::MountName;
+use radio_values::MountName;
 use std::alloc::Global;
 use std::test::Fail;
 

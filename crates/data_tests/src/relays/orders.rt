@@ -2,7 +2,8 @@
 
 use super::*;
 use radio_relay::{RelayOrder, plan, read_stream_list};
-use radio_settings::{MountName, RelaySetting};
+use radio_settings::RelaySetting;
+use radio_values::MountName;
 use std::collections::BTreeSet;
 
 /// A slave of a station with a mount and two relays.

@@ -1,7 +1,7 @@
 //! Names of mounts: how they are ordered, and that bytes which are no text name none. Other paths that name mounts, or
 //! none, are rows of the end-to-end scripts.
 
-use radio_settings::MountName;
+use radio_values::MountName;
 use std::cmp::Ordering;
 
 /// How the first path's name stands to the second's; `None` where one of them names no mount.

@@ -16,7 +16,7 @@ use radio_icy::Title;
 use radio_parts::LagsBehind;
 use radio_policy::Rule;
 use radio_seats::Seat;
-use radio_settings::{MountName, Shown};
+use radio_values::{MountName, Shown};
 
 /// What a change answers that carries nobody along.
 pub(super) const NOBODY: Carried = Carried { moved: 0, ended: 0 };

@@ -15,7 +15,7 @@ use radio_blocks::{Pieces, Place};
 use radio_events::Reply;
 use radio_house::Standing;
 use radio_seats::LentSeat;
-use radio_settings::MountName;
+use radio_values::MountName;
 
 impl State {
     /// A listener has room for so many bytes. Whoever has a seat is a client who sits, so only of

@@ -15,7 +15,7 @@ use radio_house::Standing;
 use radio_parts::Session;
 use radio_policy::{Action, Rule, Verdict, judge};
 use radio_seats::Seat;
-use radio_settings::MountName;
+use radio_values::MountName;
 
 /// One who may hear the mount that he asked for.
 #[derive(Clone, Copy)]

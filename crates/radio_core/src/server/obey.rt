@@ -15,7 +15,7 @@ use radio_events::Command;
 use radio_fallback::{Carried, Move};
 use radio_house::ClientState;
 use radio_policy::Rule;
-use radio_settings::MountName;
+use radio_values::MountName;
 
 impl State {
     /// The command is done, and the client who gave it has had his answer; how many it has moved or finished.

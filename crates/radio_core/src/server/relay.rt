@@ -15,7 +15,7 @@ use radio_events::Reply;
 use radio_fallback::Carried;
 use radio_house::Standing;
 use radio_policy::{Action, Rule, Verdict, judge};
-use radio_settings::{MountName, Shown};
+use radio_values::{MountName, Shown};
 
 impl State {
     /// A relay wants to feed the mount of this name. `OutOfMemory` where memory was refused.

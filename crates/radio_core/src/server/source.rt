@@ -11,7 +11,7 @@ use crate::outcome::{Change, Outcome};
 use radio_events::{Reply, SourceRequest};
 use radio_house::Standing;
 use radio_policy::{Action, Rule, Verdict, judge};
-use radio_settings::{MountName, Shown};
+use radio_values::{MountName, Shown};
 
 impl State {
     /// A client wants to feed a mount. `OutOfMemory` where memory was refused.

@@ -7,7 +7,7 @@ use super::state::State;
 use crate::outcome::{Change, Outcome};
 use radio_events::Reply;
 use radio_house::Standing;
-use radio_settings::MountName;
+use radio_values::MountName;
 
 impl State {
     /// A source has come to the end of its data.

@@ -15,7 +15,8 @@ use radio_access::Lists;
 use radio_events::Event;
 use radio_house::{House, Standing};
 use radio_seats::Seats;
-use radio_settings::{MountName, Settings};
+use radio_settings::Settings;
+use radio_values::MountName;
 use std::alloc::Global;
 use std::marker::Model;
 

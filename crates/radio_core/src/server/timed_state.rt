@@ -24,7 +24,8 @@ use radio_access::Lists;
 use radio_events::{Event, Reply};
 use radio_fallback::Carried;
 use radio_parts::{LAST_MOMENT, due_at, seat_due};
-use radio_settings::{MountName, Settings};
+use radio_settings::Settings;
+use radio_values::MountName;
 use std::alloc::Global;
 use std::marker::Model;
 

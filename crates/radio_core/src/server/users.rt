@@ -7,7 +7,7 @@ ghost use Rattle.radio_core.specs.Counts.{counts_out};
 use super::state::State;
 use crate::OutOfMemory;
 use radio_fallback::Carried;
-use radio_settings::MountName;
+use radio_values::MountName;
 
 impl State {
     /// The users of the mount let this one in with this password from now on, and those lose their

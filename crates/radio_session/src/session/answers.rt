@@ -15,7 +15,7 @@ use crate::session::saying::{tell, tell_pages};
 use radio_events::Text;
 use radio_heads::{Answer, TextKind, WebAnswer};
 use radio_page::page;
-use radio_settings::AllowedOrigin;
+use radio_values::AllowedOrigin;
 use std::alloc::Global;
 
 /// Appends the answer to a command, or to one who is shown something of the station.

@@ -12,7 +12,7 @@ use radio_admin::read_path;
 use radio_creds::{Pair, basic};
 use radio_events::{CommandRequest, Event, ListenRequest, SourceRequest};
 use radio_heads::Head;
-use radio_settings::Shown;
+use radio_values::Shown;
 use std::alloc::Global;
 
 /// What a session shows whose source names no content type (Icecast 2.4 documentation).

@@ -9,7 +9,7 @@ use bytes::Bytes;
 use radio_admin::{AdminFault, Command as Read, CommandKind, NewUser, read_command};
 use radio_events::{Asked, Command, Listing, OpenedBy};
 use radio_icy::Title;
-use radio_settings::MountName;
+use radio_values::MountName;
 use std::alloc::{AllocError, Global};
 
 /// The path of what everybody may see of the station.

@@ -18,7 +18,7 @@ use radio_heads::{
     Answer, FieldValue, TextKind, WebAnswer, Welcome, write_answer, write_web_answer,
 };
 use radio_policy::Rule;
-use radio_settings::AllowedOrigin;
+use radio_values::AllowedOrigin;
 use std::alloc::{AllocError, Global};
 
 impl Session {

@@ -11,7 +11,8 @@ ghost use Rattle.radio_settings.specs.Reading.{Reads, ReadsAs};
 use super::masters::master;
 use super::tables::tables_at;
 use super::values::{flag_or, name_or, required_name, text_with};
-use crate::{Key, Login, MountName, RelaySetting, SettingsFault, Text};
+use crate::{Key, Login, RelaySetting, SettingsFault};
+use radio_values::{MountName, Text};
 use std::alloc::Global;
 use toml::Table;
 

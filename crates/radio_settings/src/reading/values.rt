@@ -8,7 +8,9 @@ ghost use Rattle.radio_settings.specs.Lookup.{value_at, text_at, text_or, field_
 ghost use Rattle.radio_settings.specs.Rows.{text, number, flag, mount_name, origin, required, optional, required_with, row, fault_at, is_between};
 ghost use Rattle.radio_settings.specs.Reading.{Reads, ReadsAs};
 
-use crate::{AllowedOrigin, Field, Key, MountName, SettingsFault, Text, Within};
+use crate::{Key, SettingsFault};
+
+use radio_values::{AllowedOrigin, Field, MountName, Text, Within};
 use std::alloc::Global;
 use toml::{Table, Value};
 

@@ -7,7 +7,8 @@ use radio_access::Lists;
 use radio_blocks::Pieces;
 use radio_core::{Core, OutOfMemory};
 use radio_events::{Asked, Command, Event, Listing, OpenedBy, Reply, Text};
-use radio_settings::{MountName, Settings, SettingsFault, Shown};
+use radio_settings::{Settings, SettingsFault};
+use radio_values::{MountName, Shown};
 use std::alloc::Global;
 
 /// The settings of a station.

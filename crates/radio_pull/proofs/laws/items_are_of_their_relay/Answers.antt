@@ -1,5 +1,5 @@
 use Rattle.std.proofs.Common.{◌≡◌, ℕ, List, Option, None, Some, refl}
-use Rattle.radio_settings.specs.declared.field.Shown.{Shown}
+use Rattle.radio_values.specs.declared.field.Shown.{Shown}
 use Rattle.radio_events.specs.declared.event.Event.TheVariants.{RelayUp}
 use Rattle.radio_relay.specs.declared.items.PullItem.TheVariants.{Up}
 use Rattle.radio_pull.specs.Pulling.{event_for}

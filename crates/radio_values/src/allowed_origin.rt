@@ -1,7 +1,7 @@
 //! Whose pages may read what the server answers.
 ghost use Rattle.std.specs.Prelude.{◌≡◌, IfOk, MatchOption, true, false};
 ghost use Rattle.std.specs.List.{list_all};
-ghost use Rattle.radio_settings.specs.AllowedOrigin.{is_allowed_origin, is_visible};
+ghost use Rattle.radio_values.specs.AllowedOrigin.{is_allowed_origin, is_visible};
 
 use crate::OutOfMemory;
 use std::alloc::Global;
@@ -23,7 +23,7 @@ pub struct AllowedOrigin {
 impl Model for AllowedOrigin {
     ghost use Rattle.std.specs.Prelude.{◌≡◌, ℕ, List, true};
     ghost use Rattle.std.specs.Arc.{arc_str_bytes};
-    ghost use Rattle.radio_settings.specs.AllowedOrigin.{is_allowed_origin};
+    ghost use Rattle.radio_values.specs.AllowedOrigin.{is_allowed_origin};
 
     ghost Value = { List ℕ };
 

@@ -5,7 +5,7 @@ use Rattle.std.proofs.lemmas.Bool.{and_parts}
 use Rattle.std.specs.Prelude.{◌&&◌, not, nat_le, nat_eq, codes}
 use Rattle.std.specs.List.{starts_with, list_all}
 use Rattle.std.specs.Str.{is_utf8}
-use Rattle.radio_settings.specs.MountName.{is_mount_name, is_name_byte, has_reserved_path}
+use Rattle.radio_values.specs.MountName.{is_mount_name, is_name_byte, has_reserved_path}
 
 -- zeros, one at a time
 zeros_one : (n m : ℕ) → n ≡ suc m → replicate {A = ℕ} n 0 ≡ 0 ∷ replicate m 0

@@ -7,7 +7,7 @@ ghost use Rattle.std.specs.Str.{bytes_eq, is_utf8, IsUtf8};
 ghost use Rattle.std.proofs.Common.{rules};
 ghost use Rattle.std.specs.Cmp.{partial_order_from_own_ties};
 ghost use Rattle.std.specs.Cmp.Rules.{comparing};
-ghost use Rattle.radio_settings.specs.MountName.{is_mount_name, is_name_byte, has_reserved_path};
+ghost use Rattle.radio_values.specs.MountName.{is_mount_name, is_name_byte, has_reserved_path};
 
 use std::cmp::Ordering;
 use std::fmt;
@@ -35,8 +35,8 @@ impl Model for MountName {
 
     ghost coded = { coded_list coded_ℕ };
 
-    ghost use Rattle.radio_settings.specs.MountName.{HoldsName};
-    ghost use Rattle.radio_settings.specs.MountNameInside.{inverse_of_view};
+    ghost use Rattle.radio_values.specs.MountName.{HoldsName};
+    ghost use Rattle.radio_values.specs.MountNameInside.{inverse_of_view};
 
     ghost view = { λ n. take n.len n.bytes };
 

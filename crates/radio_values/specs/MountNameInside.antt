@@ -1,8 +1,8 @@
 -- A name gives its fields back.
 use Rattle.std.proofs.Common.{◌≡◌, ℕ, ◌-◌, List, ◌++◌, length, take, replicate, ap, sym, arith}
 use Rattle.std.proofs.lemmas.List.{length-take-le}
-use Rattle.radio_settings.specs.declared.mount_name.MountName.TheInside.{Inside}
-use Rattle.radio_settings.specs.MountName.{HoldsName}
+use Rattle.radio_values.specs.declared.mount_name.MountName.TheInside.{Inside}
+use Rattle.radio_values.specs.MountName.{HoldsName}
 
 pub inverse_of_view : (n : Inside) → HoldsName n.len n.bytes
     → (let name = take n.len n.bytes in let back : Inside = record { len = length name; bytes = name ++ replicate (255 - length name) 0 } in back ≡ n)

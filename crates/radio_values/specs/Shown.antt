@@ -2,7 +2,7 @@
 use Rattle.std.specs.Prelude.{ℕ, List}
 use Rattle.radio_icy.specs.Cleaning.{cleaned}
 use Rattle.radio_icy.specs.Limits.{max_field}
-use Rattle.radio_settings.specs.declared.field.Shown.{Shown}
+use Rattle.radio_values.specs.declared.field.Shown.{Shown}
 
 -- a type, a name and a genre, each cleaned
 abbrev pub shown_of : List ℕ → List ℕ → List ℕ → Shown

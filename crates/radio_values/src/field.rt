@@ -3,7 +3,7 @@ ghost use Rattle.std.specs.Prelude.{◌≡◌, IfOk, true};
 ghost use Rattle.std.specs.List.{list_all};
 ghost use Rattle.radio_icy.specs.Cleaning.{cleaned, is_shown};
 ghost use Rattle.radio_icy.specs.Limits.{max_field};
-ghost use Rattle.radio_settings.specs.Field.{IsClean};
+ghost use Rattle.radio_values.specs.Field.{IsClean};
 
 use crate::OutOfMemory;
 use radio_icy::clean_field;
@@ -23,7 +23,7 @@ pub struct Field {
 impl Model for Field {
     ghost use Rattle.std.specs.Prelude.{ℕ, List};
     ghost use Rattle.std.specs.Arc.{arc_str_bytes};
-    ghost use Rattle.radio_settings.specs.Field.{IsClean};
+    ghost use Rattle.radio_values.specs.Field.{IsClean};
 
     ghost Value = { List ℕ };
 
@@ -86,7 +86,7 @@ pub struct Shown {
 }
 
 impl Shown {
-    ghost use Rattle.radio_settings.specs.Shown.{shown_of};
+    ghost use Rattle.radio_values.specs.Shown.{shown_of};
 
     /// A type, a name and a genre from outside, each cleaned. An `Err` means that memory ran out.
     pub fn clean(

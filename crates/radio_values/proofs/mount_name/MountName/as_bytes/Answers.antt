@@ -1,8 +1,8 @@
 use Rattle.std.proofs.Common.{◌≡◌, ap, sym, ◌∙◌, true}
 use Rattle.std.proofs.lemmas.Str.{IsUtf8-from_is_utf8}
-use Rattle.radio_settings.specs.MountName.{is_mount_name}
-use Rattle.radio_settings.proofs.NameLemmas.{name-is_utf8}
-use Rattle.radio_settings.proofs.mount_name.MountName.as_bytes.Goals as goal
+use Rattle.radio_values.specs.MountName.{is_mount_name}
+use Rattle.radio_values.proofs.NameLemmas.{name-is_utf8}
+use Rattle.radio_values.proofs.mount_name.MountName.as_bytes.Goals as goal
 
 pub returns-clause-utf8 : goal.returns-clause-utf8
 returns-clause-utf8 c =
