@@ -85,6 +85,42 @@ pub enum Rule {
     SourceKilled,
 }
 
+/// The names of the rules, in the order in which `Rule` has them.
+const WORDS: [&str; 32] = [
+    "address-denied",
+    "address-not-allowed",
+    "too-many-clients",
+    "bad-mount",
+    "source-password",
+    "too-many-sources",
+    "mount-in-use",
+    "content-type",
+    "listener-password",
+    "no-mount",
+    "user-twice",
+    "not-live",
+    "mount-full",
+    "fallback-depth",
+    "no-command",
+    "admin-password",
+    "relay-password",
+    "missing-argument",
+    "no-destination",
+    "same-mount",
+    "no-client",
+    "no-users",
+    "no-user",
+    "numbers-spent",
+    "bad-head",
+    "bad-method",
+    "lagged",
+    "time-over",
+    "header-timeout",
+    "source-silent",
+    "killed",
+    "source-killed",
+];
+
 impl Rule {
     ghost use Rattle.radio_policy.specs.Words.{word_of, status_of};
 
@@ -92,40 +128,7 @@ impl Rule {
     pub fn word(self) -> &'static str
         ensures { result.now ≡ word_of self }
     {
-        match self {
-            Rule::AddressDenied => "address-denied",
-            Rule::AddressNotAllowed => "address-not-allowed",
-            Rule::TooManyClients => "too-many-clients",
-            Rule::BadMount => "bad-mount",
-            Rule::SourcePassword => "source-password",
-            Rule::TooManySources => "too-many-sources",
-            Rule::MountInUse => "mount-in-use",
-            Rule::ContentType => "content-type",
-            Rule::ListenerPassword => "listener-password",
-            Rule::NoMount => "no-mount",
-            Rule::UserTwice => "user-twice",
-            Rule::NotLive => "not-live",
-            Rule::MountFull => "mount-full",
-            Rule::FallbackDepth => "fallback-depth",
-            Rule::NoCommand => "no-command",
-            Rule::AdminPassword => "admin-password",
-            Rule::RelayPassword => "relay-password",
-            Rule::MissingArgument => "missing-argument",
-            Rule::NoDestination => "no-destination",
-            Rule::SameMount => "same-mount",
-            Rule::NoClient => "no-client",
-            Rule::NoUsers => "no-users",
-            Rule::NoUser => "no-user",
-            Rule::NumbersSpent => "numbers-spent",
-            Rule::BadHead => "bad-head",
-            Rule::BadMethod => "bad-method",
-            Rule::Lagged => "lagged",
-            Rule::TimeOver => "time-over",
-            Rule::HeaderTimeout => "header-timeout",
-            Rule::SourceSilent => "source-silent",
-            Rule::Killed => "killed",
-            Rule::SourceKilled => "source-killed",
-        }
+        WORDS[self as usize]
     }
 
     /// The status of the answer that tells a denial by this rule; `None` where it has no answer.
