@@ -7,7 +7,7 @@ ghost use Rattle.radio_access.specs.Lists.{no_lists};
 ghost use Rattle.radio_house.specs.World.{opening};
 
 use crate::lines::{write_line, write_named};
-use crate::times::{Measured, Work, nanos_each, time_turns, write_ratio};
+use crate::times::{Measured, measured_since, nanos_each, write_ratio};
 use anyhow::{Context, Result};
 use bytes::Bytes;
 use radio_access::Lists;
@@ -25,6 +25,7 @@ use std::marker::Brand;
 use std::rt::Clock;
 use std::sync::Wait;
 use std::sync::ledger::Blank;
+use std::time::Instant;
 
 /// How many listeners draw in turn.
 const LISTENERS: u32 = 1000;
@@ -99,22 +100,6 @@ fn answer_in(reply: Reply) -> Answer {
 pub struct Station {
     pub source: u64,
     pub listeners: Vec<u64>,
-}
-
-/// Each listener draws.
-#[derive(Drop)]
-struct Drawing<'a, A: Answers> {
-    who: &'a mut A,
-    listeners: &'a [u64],
-}
-
-impl<A: Answers> Work for Drawing<'_, A> {
-    type Fault = OutOfMemory;
-
-    /// How many were handed a block.
-    fn turn(&mut self, _number: u64) -> Result<u64, OutOfMemory> {
-        draw_all(self.who, self.listeners)
-    }
 }
 
 /// The settings of a station that lets enough clients in.
@@ -238,7 +223,9 @@ fn time_round<A: Answers>(
     listeners: &[u64],
     before: &Measured,
 ) -> Result<Measured> {
-    let drawn = time_turns(rt, &mut Drawing { who, listeners }, 1)?;
+    let start = Instant::now(rt)?;
+    let count = draw_all(who, listeners)?;
+    let drawn = measured_since(rt, start, count)?;
     Ok(Measured {
         count: before.count.saturating_add(drawn.count),
         micros: before.micros.saturating_add(drawn.micros),

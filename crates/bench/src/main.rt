@@ -1,4 +1,4 @@
-//! Benchmarks: `bench [full] [creds] [delivery] [house] [icy] [queue] [settings] [source] [threads]`, and `bench fanout`.
+//! Benchmarks: `bench [full] [house] [threads]`, and `bench fanout`.
 //!
 //! Each subject that is named is measured, and all where none is. Without `full` little is done, and only counts
 //! and sizes are written, which never change. With it much is done, and times are written too.
@@ -6,15 +6,9 @@
 //! `bench fanout` serves, until it is killed, beside which `scripts/bench_serve` measures a station.
 #![tactic(auto)]
 
-mod creds;
-mod delivery;
 mod fanout;
 mod house;
-mod icy;
 mod lines;
-mod queue;
-mod settings;
-mod source;
 mod threads;
 mod times;
 
@@ -28,13 +22,7 @@ use std::thread::Threads;
 /// What can be measured.
 #[derive(Clone, Copy)]
 enum Subject {
-    Creds,
-    Delivery,
     House,
-    Icy,
-    Queue,
-    Settings,
-    Source,
     Threads,
 }
 
@@ -44,16 +32,7 @@ const FULL: &str = "full";
 /// The word that asks for a bare fan-out.
 const FANOUT: &str = "fanout";
 
-const ALL: [Subject; 8] = [
-    Subject::Creds,
-    Subject::Delivery,
-    Subject::House,
-    Subject::Icy,
-    Subject::Queue,
-    Subject::Settings,
-    Subject::Source,
-    Subject::Threads,
-];
+const ALL: [Subject; 2] = [Subject::House, Subject::Threads];
 
 fn main(rt: HostRuntime) -> Result<()> {
     let words = words(&rt)?;
@@ -97,13 +76,7 @@ fn has_subject(words: &[String]) -> bool {
 /// The subject of a word.
 fn subject_of(word: &str) -> Option<Subject> {
     match word {
-        "creds" => Some(Subject::Creds),
-        "delivery" => Some(Subject::Delivery),
         "house" => Some(Subject::House),
-        "icy" => Some(Subject::Icy),
-        "queue" => Some(Subject::Queue),
-        "settings" => Some(Subject::Settings),
-        "source" => Some(Subject::Source),
         "threads" => Some(Subject::Threads),
         _ => None,
     }
@@ -150,13 +123,7 @@ fn measure<R: Clock + Print + AllocGlobal + Threads + Wait + Sync>(
     is_full: bool,
 ) -> Result<()> {
     match subject {
-        Subject::Creds => creds::measure(rt, is_full),
-        Subject::Delivery => delivery::measure(rt, is_full),
         Subject::House => house::measure(rt, is_full),
-        Subject::Icy => icy::measure(rt, is_full),
-        Subject::Queue => queue::measure(rt, is_full),
-        Subject::Settings => settings::measure(rt, is_full),
-        Subject::Source => source::measure(rt, is_full),
         Subject::Threads => threads::measure(rt, is_full),
     }
 }

@@ -5,13 +5,17 @@
 //! - [`SocketLine`]: the line of a socket, or of any stream that never waits and can [`Shut`].
 //! - [`Activity`]: what the lines of a thread share with its loop; [`Pace`]: how fast they give what sources send.
 //! - [`Reach`], [`SystemNet`]: the net; [`moment`]: the clock.
+//! - [`accept_next`]: the next connection of an [`Entrance`]; [`Accepts`]: when one is accepted, and how many in a row
+//!   could not be.
 //!
 //! No clause says what a socket gives or takes, since the system holds it: what is proved is that a
 //! line tells its worker the bytes that the system has told it, and no others.
 #![tactic(auto)]
 
+mod accepts;
 mod activity;
 mod clock;
+mod entrance;
 mod line;
 mod pace;
 mod reach;
@@ -19,8 +23,10 @@ mod readiness;
 mod sockets;
 mod stream;
 
+pub use accepts::{Accepts, Tried};
 pub use activity::Activity;
 pub use clock::moment;
+pub use entrance::{AcceptFault, Accepted, Entrance, accept_next};
 pub use line::SocketLine;
 pub use pace::Pace;
 pub use reach::{Reach, SystemNet};

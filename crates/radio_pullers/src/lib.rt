@@ -13,6 +13,7 @@ mod puller;
 mod relays;
 mod roster;
 mod running;
+mod station;
 
 pub use relays::{has_relays, keep_relays};
 

@@ -2,10 +2,11 @@
 
 use crate::master::{MOST_SILENT_MS, addresses_of};
 use crate::running::RunningRelay;
+use crate::station::Station;
 use mio::net::TcpStream;
 use radio_board::Board;
 use radio_book::{Chronicle, House};
-use radio_hall::{Caller, Hall, Server, Watched};
+use radio_hall::{Caller, Server, Watched};
 use radio_lines::{Reach, SocketLine, Sockets, moment};
 use radio_masters::{Asked, MountPull, PullTurn, RelayEnd};
 use std::io;
@@ -43,13 +44,12 @@ struct Puller<'a, R: Clock + Wait, N: Reach, S: Server + Drop> {
 /// seconds.
 pub(crate) fn pull_relay<R: Clock + Wait, N: Reach, C: Chronicle, H: House>(
     rt: &R,
-    net: &N,
-    hall: &Hall<C, H>,
-    board: &Board,
+    station: &Station<'_, N, C, H>,
     relay: &RunningRelay,
 ) {
-    if let Some(pass) = hall.pass(rt) {
-        pull_as(rt, net, board, relay, Caller::new(rt, hall, pass));
+    if let Some(pass) = station.hall.pass(rt) {
+        let caller = Caller::new(rt, station.hall, pass);
+        pull_as(rt, station.net, station.board, relay, caller);
     }
     relay.note_end();
 }

@@ -7,6 +7,7 @@ use crate::list_fetch::Listed;
 use crate::puller::pull_relay;
 use crate::roster::Roster;
 use crate::running::RunningRelay;
+use crate::station::Station;
 use radio_board::Board;
 use radio_book::{Chronicle, House};
 use radio_hall::Hall;
@@ -17,7 +18,7 @@ use radio_values::MountName;
 use std::alloc::Global;
 use std::sync::{Arc, Wait};
 use std::thread;
-use std::thread::{Threads, sleep};
+use std::thread::{Scope, Threads, sleep};
 use std::time::{Clock, Duration};
 
 /// How often it is looked which relays are wished, in milliseconds.
@@ -51,16 +52,13 @@ impl Keeper {
     fn await_start<R: Clock + Wait, N: Reach, C: Chronicle, H: House>(
         &mut self,
         rt: &R,
-        net: &N,
-        hall: &Hall<C, H>,
-        board: &Board,
-        settings: &Settings,
+        station: &Station<'_, N, C, H>,
     ) -> Option<Arc<RunningRelay>> {
         'rounds: for _ in rt.forever() {
-            if board.is_over() {
+            if station.board.is_over() {
                 return None;
             }
-            if let Some(relay) = self.next_start(rt, net, hall, board, settings) {
+            if let Some(relay) = self.next_start(rt, station) {
                 return Some(relay);
             }
             let _ = sleep(rt, Duration::from_millis(ROUND_MS));
@@ -73,20 +71,38 @@ impl Keeper {
     fn next_start<R: Clock + Wait, N: Reach, C: Chronicle, H: House>(
         &mut self,
         rt: &R,
-        net: &N,
-        hall: &Hall<C, H>,
-        board: &Board,
-        settings: &Settings,
+        station: &Station<'_, N, C, H>,
     ) -> Option<Arc<RunningRelay>> {
         if self.has_failed {
             self.has_failed = false;
             return None;
         }
-        if let Some(slave) = &settings.slave {
-            self.listed.refresh(rt, net, board, slave);
+        self.refresh_list(rt, station);
+        match station.hall.wanted(rt) {
+            Ok(wanted) => self.start_for(station.board.alloc(), station.settings, wanted),
+            Err(_) => None,
         }
-        let wanted = hall.wanted(rt).ok()?;
-        let orders = self.orders(board.alloc(), settings, wanted).ok()?;
+    }
+
+    /// Asks the slave's master for its list, if there is one and it is time.
+    fn refresh_list<R: Clock + Wait, N: Reach, C: Chronicle, H: House>(
+        &mut self,
+        rt: &R,
+        station: &Station<'_, N, C, H>,
+    ) {
+        if let Some(slave) = &station.settings.slave {
+            self.listed.refresh(rt, station.net, station.board, slave);
+        }
+    }
+
+    /// The relay that is to start now, where these mounts are wanted.
+    fn start_for(
+        &mut self,
+        alloc: Global,
+        settings: &Settings,
+        wanted: Vec<MountName>,
+    ) -> Option<Arc<RunningRelay>> {
+        let orders = self.orders(alloc, settings, wanted).ok()?;
         let relay = self.first_start(orders)?;
         self.roster.add(relay).ok()
     }
@@ -141,21 +157,41 @@ where
 {
     let mut keeper = Keeper::new(board.alloc());
     let kept = &mut keeper;
+    let station = &Station {
+        net,
+        hall,
+        board,
+        settings,
+    };
     thread::scope(
         thread::scope_env(),
         rt,
         move |scope|
             requires { IsSync R.row × IsSync N.row × IsSend C.row × IsSync C.row × IsSend H.row × IsSync H.row }
-        {
-            'rounds: for _ in rt.forever() {
-                let Some(relay) = kept.await_start(rt, net, hall, board, settings) else {
-                    return;
-                };
-                let has_begun = scope
-                    .spawn(move || pull_relay(rt, net, hall, board, &relay))
-                    .is_ok();
-                kept.note_start(has_begun);
-            }
-        },
+        { start_relays(scope, kept, rt, station) },
     )
+}
+
+/// Starts each relay when it is to start, in a thread of this scope, until all are to stop.
+fn start_relays<'s, E, R, N, C, H>(
+    scope: &Scope<'s, E>,
+    keeper: &mut Keeper,
+    rt: &'s R,
+    station: &'s Station<'s, N, C, H>,
+)
+where
+    R: Clock + Threads + Wait + Sync,
+    N: Reach + Sync,
+    C: Chronicle + Send + Sync,
+    H: House + Send + Sync,
+{
+    'rounds: for _ in rt.forever() {
+        let Some(relay) = keeper.await_start(rt, station) else {
+            return;
+        };
+        let has_begun = scope
+            .spawn(move || pull_relay(rt, station, &relay))
+            .is_ok();
+        keeper.note_start(has_begun);
+    }
 }

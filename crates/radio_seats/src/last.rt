@@ -5,7 +5,7 @@ ghost use Rattle.std.specs.Option.{option_copied};
 ghost use Rattle.radio_seats.specs.Seats.{last_mount_of, named_at};
 
 use crate::Seats;
-use radio_settings::MountName;
+use radio_values::MountName;
 
 impl Seats {
     /// The mount where the listener of this number sits, or sat last if he has finished; none where

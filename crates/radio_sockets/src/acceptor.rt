@@ -3,13 +3,11 @@
 ghost use Rattle.std.specs.Prelude.{◌≡◌};
 
 use crate::ServeFault;
-use crate::accepts::Accepts;
 use crate::doors::{Coming, Doors};
-use crate::entrance::next_of;
 use mio::Waker;
 use radio_board::{Board, LogOutput, Outlet, ServedTime};
 use radio_intake::{Intake, IntakePass, ROOM};
-use radio_lines::moment;
+use radio_lines::{Accepts, accept_next, moment};
 use std::alloc::Global;
 use std::io;
 use std::io::Write;
@@ -134,7 +132,10 @@ impl<O: Write + Drop> Acceptor<O> {
             let Some(number) = board.next_desk(self.next) else {
                 return Ok(());
             };
-            let accepted = next_of(&mut self.doors, &mut self.accepts, self.time.served_ms())?;
+            let served_ms = self.time.served_ms();
+            let Ok(accepted) = accept_next(&mut self.doors, &mut self.accepts, served_ms) else {
+                return Err(ServeFault::Accept);
+            };
             board.set_wants_closing(self.accepts.is_short());
             let Some(coming) = accepted else {
                 return Ok(());

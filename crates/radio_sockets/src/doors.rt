@@ -1,12 +1,12 @@
 //! The bound socket, as the system tells of it.
 
 use crate::address::{address_of, peer_at};
-use crate::entrance::{Accepted, Entrance};
 use crate::{BindFault, OutOfMemory, ServeFault};
 use mio::net::{TcpListener, TcpStream};
 use mio::{Events, Interest, Poll, Registry, Token, Waker};
 use radio_addr::Peer;
 use radio_board::OUTLET;
+use radio_lines::{Accepted, Entrance};
 use std::alloc::Global;
 use std::io;
 use std::io::ErrorKind;

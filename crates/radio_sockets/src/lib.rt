@@ -2,7 +2,6 @@
 //!
 //! - [`Listening`]: a bound socket. [`Listening::serve`] accepts connections, and serves them, until a fault; [`Service`]
 //!   says how.
-//! - [`Accepts`]: when connections are accepted, and how many in a row could not be.
 //! - [`BindFault`], [`ServeFault`]: why nothing was bound, and why a server ends.
 //!
 //! What radiod needs of the crates below to call it is here too: the net as relays reach it ([`Reach`], [`SystemNet`]),
@@ -10,16 +9,13 @@
 #![tactic(auto)]
 
 mod acceptor;
-mod accepts;
 mod address;
 mod doors;
-mod entrance;
 mod fault;
 mod listening;
 mod post;
 mod seats;
 
-pub use accepts::{Accepts, Tried};
 pub use fault::{BindFault, ServeFault};
 pub use listening::{Listening, Service};
 pub use radio_board::{LogOutput, write_at_once};

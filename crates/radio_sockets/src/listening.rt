@@ -174,7 +174,8 @@ where
     fault
 }
 
-/// The same, without the rest of the log.
+/// Serves connections through an intake, until all stop. `OutOfMemory` where memory was refused for it, or for the
+/// workers' seats.
 fn serve_all<R, N, C, H, O>(
     rt: &R,
     station: &Station<'_, N, C, H>,
@@ -189,17 +190,17 @@ where
     O: Write + Drop + Send,
 {
     match Intake::new(station.board.alloc()) {
-        Ok((intake, mut pass)) => serve_from(rt, station, &intake, &mut pass, sockets, acceptor),
+        Ok((intake, pass)) => serve_through(rt, station, intake, pass, sockets, acceptor),
         Err(_) => ServeFault::OutOfMemory,
     }
 }
 
-/// The acceptor puts connections into this intake, and workers with these sockets take them out, until all stop.
-fn serve_from<R, N, C, H, O>(
+/// Serves connections through this intake, whose pass the acceptor and the workers share.
+fn serve_through<R, N, C, H, O>(
     rt: &R,
     station: &Station<'_, N, C, H>,
-    intake: &Intake<Coming>,
-    pass: &mut IntakePass<Coming>,
+    intake: Intake<Coming>,
+    mut pass: IntakePass<Coming>,
     sockets: &mut Vec<Sockets>,
     acceptor: &mut Acceptor<O>,
 ) -> ServeFault
@@ -209,24 +210,50 @@ where
     C: Chronicle + Send + Sync,
     H: House + Send + Sync,
     O: Write + Drop + Send,
-    requires own { pass.old.intake ≡ intake.now }
-    requires parts { all_parts ≤ pass.old.parts }
+    requires own { pass.intake ≡ intake }
+    requires parts { all_parts ≤ pass.parts }
 {
-    let mut hand = intake.split(pass);
-    let (fault, are_seated) = join_mut(
-        rt,
-        &mut || -> ServeFault
-            requires { hand.intake ≡ intake.now }
-        { acceptor.work(rt, station.board, intake, &mut hand) },
-        &mut || -> bool
-            requires { (pass.now.intake ≡ intake.now) × (all_parts ≤ pass.now.parts + 1) }
-        { work_beside_relays(rt, station, intake, pass, sockets) },
+    let mut hand = intake.split(&mut pass);
+    let (fault, are_seated) = work_together(
+        rt, station, &intake, &mut hand, &mut pass, sockets, acceptor,
     );
     if are_seated {
         fault
     } else {
         ServeFault::OutOfMemory
     }
+}
+
+/// The acceptor puts connections into this intake by his hand, and workers with these sockets take them out by their pass,
+/// until all stop. His fault, and whether there was memory for the workers' seats.
+fn work_together<R, N, C, H, O>(
+    rt: &R,
+    station: &Station<'_, N, C, H>,
+    intake: &Intake<Coming>,
+    hand: &mut IntakePass<Coming>,
+    pass: &mut IntakePass<Coming>,
+    sockets: &mut Vec<Sockets>,
+    acceptor: &mut Acceptor<O>,
+) -> (ServeFault, bool)
+where
+    R: Clock + Threads + Wait + Sync,
+    N: Reach + Sync,
+    C: Chronicle + Send + Sync,
+    H: House + Send + Sync,
+    O: Write + Drop + Send,
+    requires hand { hand.old.intake ≡ intake.now }
+    requires own { pass.old.intake ≡ intake.now }
+    requires parts { all_parts ≤ pass.old.parts + 1 }
+{
+    join_mut(
+        rt,
+        &mut || -> ServeFault
+            requires { hand.now.intake ≡ intake.now }
+        { acceptor.work(rt, station.board, intake, hand) },
+        &mut || -> bool
+            requires { (pass.now.intake ≡ intake.now) × (all_parts ≤ pass.now.parts + 1) }
+        { work_beside_relays(rt, station, intake, pass, sockets) },
+    )
 }
 
 /// The workers with these sockets work, and relays are kept running beside them, if the settings wish some. Whether there

@@ -27,8 +27,13 @@
 //! - `faults`: lines that fail, at each call; and memory that is refused.
 //! - `masters`: relays and a slave over such lines, turn after turn.
 //! - `told`: what the log tells of all that, line by line.
+//!
+//! Of a bound socket:
+//! - `accepting`: a listener that fails, and one that has no descriptor for anybody.
 #![tactic(auto)]
 
+#[cfg(test)]
+mod accepting;
 #[cfg(test)]
 mod calls;
 #[cfg(test)]

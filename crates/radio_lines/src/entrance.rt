@@ -1,11 +1,10 @@
 //! Where connections come from.
 
-use crate::ServeFault;
 use crate::accepts::{Accepts, Tried};
 
 /// What came of a try to accept.
 #[derive(Drop)]
-pub(crate) enum Accepted<T: Drop> {
+pub enum Accepted<T: Drop> {
     /// A connection.
     One(T),
     /// None waits.
@@ -17,18 +16,22 @@ pub(crate) enum Accepted<T: Drop> {
 }
 
 /// Where connections come from.
-pub(crate) trait Entrance<T: Drop> {
+pub trait Entrance<T: Drop> {
     /// Tries to accept the next one.
     fn accept(&mut self) -> Accepted<T>;
 }
 
-/// The next connection at this moment, if there is one and it may be tried: after a failure nothing
+/// A hundred connections in a row could not be accepted.
+#[derive(Clone, Copy)]
+pub struct AcceptFault;
+
+/// The next connection at this moment, in milliseconds, if there is one and it may be tried: after a failure nothing
 /// is tried for a tenth of a second. The hundredth failure in a row is the fault.
-pub(crate) fn next_of<T: Drop, E: Entrance<T>>(
+pub fn accept_next<T: Drop, E: Entrance<T>>(
     entrance: &mut E,
     accepts: &mut Accepts,
     ms: u64,
-) -> Result<Option<T>, ServeFault> {
+) -> Result<Option<T>, AcceptFault> {
     if !accepts.may_try(ms) {
         return Ok(None);
     }
@@ -46,11 +49,8 @@ pub(crate) fn next_of<T: Drop, E: Entrance<T>>(
             if accepts.note(Tried::Failed, ms) {
                 Ok(None)
             } else {
-                Err(ServeFault::Accept)
+                Err(AcceptFault)
             }
         }
     }
 }
-
-#[cfg(test)]
-mod tests;

@@ -1,6 +1,6 @@
-use super::{Accepted, Entrance, next_of};
-use crate::ServeFault;
-use crate::accepts::Accepts;
+//! A listener that fails, and one that has no descriptor for anybody: when they are tried, and when they are given up.
+
+use radio_lines::{Accepted, Accepts, Entrance, accept_next};
 use std::process::Abort;
 use std::test::Fail;
 
@@ -45,7 +45,7 @@ fn tries<E: Entrance<u64>>(
     last_ms: u64,
 ) -> Option<u64> {
     for ms in first_ms..last_ms {
-        if next_of(entrance, accepts, ms).is_err() {
+        if accept_next(entrance, accepts, ms).is_err() {
             return Some(ms);
         }
     }
@@ -87,7 +87,7 @@ fn ninety_nine_failures_do_not(rt: HostRuntime) -> Result<(), Fail> {
     };
     let mut accepts = Accepts::new();
     assert!(rt; tries(&mut listener, &mut accepts, 0, 9_899).is_none());
-    assert!(rt; matches!(next_of(&mut listener, &mut accepts, 9_900), Ok(Some(100))));
+    assert!(rt; matches!(accept_next(&mut listener, &mut accepts, 9_900), Ok(Some(100))));
     Ok(())
 }
 
