@@ -6,7 +6,7 @@ use crate::OutOfMemory;
 use crate::relay_log::{RelayEnd, RelayLog};
 use radio_events::{Event, Reply};
 use radio_session::Server;
-use radio_settings::RelaySetting;
+use radio_settings::{MountName, RelaySetting};
 use std::alloc::Global;
 use std::marker::Model;
 
@@ -73,5 +73,9 @@ impl<S: Server + Drop> Server for Asked<S> {
             }
             Err(refused) => Err(refused),
         }
+    }
+
+    fn last_mount(&self, id: u64) -> Option<MountName> {
+        self.server.last_mount(id)
     }
 }
