@@ -1,5 +1,5 @@
 -- Histories that go on.
-use Rattle.std.proofs.Common.{◌≡◌, ◌+◌, ℕ, Bool, true, false, List, [], ◌∷◌, ◌++◌, Result, Ok, Err, IfOk, OnErr, length, length-append, refl, sym, ap, subst, ◌∙◌}
+use Rattle.std.proofs.Common.{◌≡◌, ◌+◌, ℕ, Bool, true, false, List, [], ◌∷◌, ◌++◌, Option, Result, Ok, Err, IfOk, OnErr, length, length-append, refl, sym, ap, subst, ◌∙◌}
 use Rattle.std.proofs.lemmas.Bool.{false≢true}
 use Rattle.std.proofs.lemmas.Result.{IfErr-at_err, IfOk-at_ok}
 use Rattle.std.proofs.Math.Logic.{∥∥₁_map, ∥∥₁_elim}
@@ -13,7 +13,9 @@ use Rattle.radio_book.specs.declared.entry.Entry.{Entry}
 use Rattle.radio_book.specs.Stamp.{Stamp}
 use Rattle.radio_book.specs.History.{entry, entry_of, world_of, IsLegal, IsRun, IsTold}
 use Rattle.radio_book.specs.Wanted.{AreWanted}
+use Rattle.radio_book.specs.LastMounts.{WasAt}
 use Rattle.radio_house.specs.Wanted.{wanted}
+use Rattle.radio_seats.specs.Seats.{last_mount_of}
 
 world_of_more : (w : World) (history : List Entry) (e : Entry) → world_of w (history ++ e ∷ []) ≡ world_after (world_of w history) e.event
 world_of_more w [] e = refl
@@ -145,3 +147,15 @@ are_wanted names keeps opening stored core (Ok mounts) step told =
       are = step (world_of opening t.history) t.represents;
     } in are)
 are_wanted names keeps opening stored core (Err refused) step told = tt
+
+-- where a listener was last in whatever state the core stands for is where he was last after a history
+pub was_at : (keeps : Bool) (opening : World) (stored : List Entry) (core : World) (id : ℕ) (mount : Option (List ℕ))
+    → ((w : World) → Represents core w → mount ≡ last_mount_of w.seats id)
+    → ∥ IsTold keeps opening stored core ∥₁ → ∥ WasAt opening id mount ∥₁
+was_at keeps opening stored core id mount step told =
+    ∥∥₁_map told (λ (t : IsTold keeps opening stored core).
+    let was : WasAt opening id mount = record {
+      history = t.history;
+      run = t.run;
+      was = step (world_of opening t.history) t.represents;
+    } in was)

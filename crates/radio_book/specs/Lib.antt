@@ -6,3 +6,4 @@ pub mod Settling
 pub mod Totals
 pub mod Words
 pub mod Wanted
+pub mod LastMounts

@@ -6,6 +6,8 @@ ghost use Rattle.radio_core.specs.Step.{Represents, reply_to, world_after};
 ghost use Rattle.radio_events.specs.Events.{TakesNoMemory};
 ghost use Rattle.radio_book.specs.History.{IsLegal, IsTold, entry_of};
 ghost use Rattle.radio_book.specs.Wanted.{AreWanted};
+ghost use Rattle.radio_book.specs.LastMounts.{WasAt};
+ghost use Rattle.radio_seats.specs.Seats.{last_mount_of};
 ghost use Rattle.radio_house.specs.Wanted.{wanted};
 ghost use Rattle.radio_book.specs.Newcomers.{is_here, leaver_of};
 ghost use Rattle.radio_book.specs.declared.newcomer.Newcomer.{Newcomer};
@@ -117,6 +119,18 @@ impl<C: Chronicle, H: House> Book<C, H> {
     {
         let story = &self.accounts.story;
         story.core.wanted()
+    }
+
+    /// The mount where the listener of this number sits, or sat last, if he is one. It makes no entry,
+    /// and takes no memory.
+    pub fn last_mount(&self, id: u64) -> Option<MountName>
+        // it is that of whatever state the core stands for
+        ensures step { (w : World) → Represents self.now.core w → result ≡ last_mount_of w.seats id }
+        // whatever was called, there is a history that is a run from the opening state, and it is that of the state after it
+        ensures legal { ∥ WasAt H.opening id result ∥₁ }
+    {
+        let story = &self.accounts.story;
+        story.core.last_mount(id).copied()
     }
 
     /// Whatever was called, there is a history that is a run from the opening state, and the core

@@ -6,6 +6,7 @@ use crate::{Hall, OutOfMemory};
 use radio_book::{Chronicle, House, Pass};
 use radio_events::{Event, Reply};
 use radio_session::Server;
+use radio_values::MountName;
 use std::marker::Model;
 use std::sync::Wait;
 
@@ -54,5 +55,9 @@ impl<'a, R: Wait, C: Chronicle, H: House> Server for Caller<'a, R, C, H> {
     fn apply(&mut self, event: Event) -> Result<Reply, OutOfMemory> {
         let receipt = self.hall.apply(self.rt, &mut self.pass, event)?;
         Ok(receipt.into_reply())
+    }
+
+    fn last_mount(&self, id: u64) -> Option<MountName> {
+        self.hall.last_mount(self.rt, id)
     }
 }

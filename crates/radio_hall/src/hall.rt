@@ -9,6 +9,7 @@ ghost use Rattle.radio_book.specs.declared.newcomer.Newcomer.{Newcomer};
 ghost use Rattle.radio_book.specs.Newcomers.{is_here, leaver_of};
 ghost use Rattle.radio_book.specs.History.{IsLegal, IsRun, StandsIn};
 ghost use Rattle.radio_book.specs.Wanted.{AreWanted};
+ghost use Rattle.radio_book.specs.LastMounts.{WasAt};
 ghost use Rattle.radio_book.specs.Settling.{Rises, Shows, all_serials, serials};
 
 use radio_access::Lists;
@@ -87,6 +88,15 @@ impl<C: Chronicle, H: House> Hall<C, H> {
         ensures { IfOk result (λ mounts. ∥ AreWanted H.opening mounts.items ∥₁) }
     {
         self.book.lock(rt).wanted()
+    }
+
+    /// The mount where the listener of this number sits, or sat last, if he is one: a look under the
+    /// lock, which makes no entry and no receipt. It takes no memory.
+    pub fn last_mount<R: Wait>(&self, rt: &R, id: u64) -> Option<MountName>
+        // whoever called before, there is a history that is a run from the opening state, and it is that of the state after it
+        ensures { ∥ WasAt H.opening id result ∥₁ }
+    {
+        self.book.lock(rt).last_mount(id)
     }
 
     /// The book, which no thread calls any more.

@@ -3,6 +3,7 @@
 use crate::serving::drawing::fills_room;
 use crate::{OutOfMemory, Server};
 use radio_events::{Event, Reply};
+use radio_values::MountName;
 use std::alloc::Global;
 use std::cell::Cell;
 use std::marker::Model;
@@ -160,5 +161,9 @@ impl<S: Server + Drop> Server for Watched<S> {
             }
             Err(refused) => Err(refused),
         }
+    }
+
+    fn last_mount(&self, id: u64) -> Option<MountName> {
+        self.server.last_mount(id)
     }
 }

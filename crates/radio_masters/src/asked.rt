@@ -7,6 +7,7 @@ use crate::relay_log::{RelayEnd, RelayLog};
 use radio_events::{Event, Reply};
 use radio_session::Server;
 use radio_settings::RelaySetting;
+use radio_values::MountName;
 use std::alloc::Global;
 use std::marker::Model;
 
@@ -73,5 +74,9 @@ impl<S: Server + Drop> Server for Asked<S> {
             }
             Err(refused) => Err(refused),
         }
+    }
+
+    fn last_mount(&self, id: u64) -> Option<MountName> {
+        self.server.last_mount(id)
     }
 }

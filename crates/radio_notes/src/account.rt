@@ -9,6 +9,7 @@ use radio_heads::{Progress, read_request};
 use radio_log::{ClientEnded, Fact, SourceGone, SourceUp, Text};
 use radio_policy::{Rule, Status};
 use radio_session::{Ending, State};
+use radio_values::MountName;
 use std::alloc::Global;
 use std::cell::Cell;
 
@@ -61,6 +62,8 @@ pub struct Account {
     is_told: Cell<bool>,
     end: Cell<Option<End>>,
     heard: Cell<Heard>,
+    /// Where he was last, if it is not the mount that he asked for.
+    last_mount: Cell<Option<Vec<u8>>>,
 }
 
 impl Account {
@@ -78,7 +81,22 @@ impl Account {
             is_told: Cell::new(false),
             end: Cell::new(None),
             heard: Cell::new(Heard::Nothing),
+            last_mount: Cell::new(None),
         }
+    }
+
+    /// Whether he hears a mount, or has heard one.
+    pub fn is_listener(&self) -> bool {
+        self.part.get() == Part::Listener
+    }
+
+    /// He was at this mount at last. Where memory is refused for it, the mount that he asked for is told.
+    pub fn note_last_mount(&self, mount: &MountName) {
+        let heard = self.heard.replace(Heard::Nothing);
+        if heard.path() != mount.as_bytes() {
+            self.last_mount.set(copy_of(self.alloc, mount));
+        }
+        self.heard.set(heard);
     }
 
     /// These bytes have come, and mean these events. Up to the first events they are kept, and then what the head asks for.
@@ -286,11 +304,12 @@ impl Account {
             return;
         }
         let heard = self.heard.replace(Heard::Nothing);
+        let last = self.last_mount.replace(None);
         log.note(Fact::ClientEnded(ClientEnded {
             peer,
             method: Text::of(heard.method()),
             path: Text::of(heard.path()),
-            mount: Text::of(self.mount_in(&heard)),
+            mount: Text::of(self.mount_in(&heard, &last)),
             status: self.status.get(),
             why: Text::of(self.why().as_bytes()),
             user: Text::of(heard.user()),
@@ -301,11 +320,13 @@ impl Account {
         self.heard.set(heard);
     }
 
-    /// The mount that he asked for and was let in to, empty where he was not.
-    fn mount_in<'a>(&self, heard: &'a Heard) -> &'a [u8] {
-        match self.part.get() {
-            Part::Neither => b"",
-            Part::Listener | Part::Source => heard.path(),
+    /// The mount where he was last; it is the one that he asked for, if no other was noted. Empty where he was
+    /// let in to none.
+    fn mount_in<'a>(&self, heard: &'a Heard, last: &'a Option<Vec<u8>>) -> &'a [u8] {
+        match (self.part.get(), last) {
+            (Part::Neither, _) => b"",
+            (Part::Listener, Some(mount)) => mount.as_slice(),
+            (Part::Listener, None) | (Part::Source, _) => heard.path(),
         }
     }
 
@@ -367,5 +388,14 @@ fn code_of(rule: Rule) -> u16 {
         Some(Status::Forbidden) => 403,
         Some(Status::NotFound) => 404,
         None => 0,
+    }
+}
+
+/// The bytes of the mount's name, if memory was not refused for them.
+fn copy_of(alloc: Global, mount: &MountName) -> Option<Vec<u8>> {
+    let mut copy = Vec::new(alloc);
+    match copy.extend_from_slice(mount.as_bytes()) {
+        Ok(()) => Some(copy),
+        Err(_) => None,
     }
 }

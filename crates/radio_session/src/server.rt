@@ -6,6 +6,7 @@ ghost use Rattle.radio_events.specs.declared.event.Event.{Event as EventOf};
 use crate::OutOfMemory;
 use radio_core::Core;
 use radio_events::{Event, Reply};
+use radio_values::MountName;
 
 /// Who applies the events of connections: a core, or whoever has one.
 pub trait Server {
@@ -22,6 +23,9 @@ pub trait Server {
         ensures ok { IfOk result (λ reply. steps self.old event reply self.new) }
         ensures err { OnErr result (self.new ≡ self.old) }
         ensures refused { OnErr result (refuses self.old event) };
+
+    /// The mount where the listener of this number sits, or sat last, if he is one. It takes no memory.
+    fn last_mount(&self, id: u64) -> Option<MountName>;
 }
 
 impl Server for Core {
@@ -35,5 +39,9 @@ impl Server for Core {
     fn apply(&mut self, event: Event) -> Result<Reply, OutOfMemory> {
         self.stands();
         self.step(event)
+    }
+
+    fn last_mount(&self, id: u64) -> Option<MountName> {
+        Core::last_mount(self, id).copied()
     }
 }

@@ -8,6 +8,7 @@ use radio_core::{Core, OutOfMemory};
 use radio_events::{Event, Reply};
 use radio_hall::{Conn, Gate, OpenGate, Server, Turn, Worker};
 use radio_settings::{Settings, SettingsFault};
+use radio_values::MountName;
 use std::alloc::{AllocError, Global};
 use std::marker::Model;
 
@@ -56,6 +57,10 @@ impl<S: Server + Drop> Server for Refusing<S> {
             return Err(AllocError);
         }
         self.server.apply(event)
+    }
+
+    fn last_mount(&self, id: u64) -> Option<MountName> {
+        self.server.last_mount(id)
     }
 }
 
@@ -111,6 +116,10 @@ impl Server for Titled {
             }
             Err(refused) => Err(refused),
         }
+    }
+
+    fn last_mount(&self, id: u64) -> Option<MountName> {
+        self.core.last_mount(id).copied()
     }
 }
 

@@ -19,8 +19,19 @@ pub(crate) fn leave<S: Server, L: Line>(server: &mut S, conn: &mut Conn<L>)
     if conn.status.has_left {
         return;
     }
+    note_mount(server, conn);
     if asks_to_leave(server, &mut conn.refusals, conn.id) {
         conn.status.has_left = true;
+    }
+}
+
+/// Notes, for the log, where the listener was last, who is forgotten when he has left.
+fn note_mount<S: Server, L: Line>(server: &S, conn: &Conn<L>) {
+    if !conn.account.is_listener() {
+        return;
+    }
+    if let Some(mount) = server.last_mount(conn.id) {
+        conn.account.note_last_mount(&mount);
     }
 }
 
