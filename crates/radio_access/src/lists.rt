@@ -6,8 +6,8 @@ ghost use Rattle.radio_access.specs.Lists.{no_lists, is_denied, is_allowed, user
 use crate::OutOfMemory;
 use radio_addr::{AddressList, Peer};
 use radio_creds::{Pair, Users};
-use radio_values::MountName;
 use radio_tables::{Change, Row, Table, TryChange};
+use radio_values::MountName;
 use std::alloc::Global;
 use std::marker::Model;
 

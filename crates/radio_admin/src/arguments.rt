@@ -7,8 +7,8 @@ ghost use Rattle.radio_admin.specs.Arguments.{argument, as_fallback, fallback_in
 
 use crate::OutOfMemory;
 use crate::query::argument;
-use radio_values::MountName;
 use radio_texts::read_number;
+use radio_values::MountName;
 use std::alloc::Global;
 
 /// The mode in which `/admin/metadata` sets a title, the only one that there is.

@@ -22,8 +22,8 @@ use radio_relay::request_text;
 use radio_script::push_answer;
 use radio_session::{Session, State};
 use radio_settings::{RelaySetting, Settings};
-use radio_values::MountName;
 use radio_tables::Table;
+use radio_values::MountName;
 use std::alloc::Global;
 
 /// The server behind a script.

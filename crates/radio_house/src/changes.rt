@@ -19,8 +19,8 @@ use radio_blocks::Block;
 use radio_icy::Title;
 use radio_parts::{NewTitle, Session, deliver};
 use radio_policy::Rule;
-use radio_values::{MountName, Shown};
 use radio_tables::Table;
+use radio_values::{MountName, Shown};
 use std::alloc::Global;
 
 impl House {

@@ -2,8 +2,8 @@
 
 use radio_addr::Peer;
 use radio_policy::Rule;
-use radio_values::MountName;
 use radio_tables::{Change, Row};
+use radio_values::MountName;
 use std::marker::Model;
 
 /// What a client does.

@@ -1,7 +1,7 @@
 //! The fallbacks that commands have set.
 
-use radio_values::MountName;
 use radio_tables::Row;
+use radio_values::MountName;
 use std::marker::Model;
 
 /// The listeners of a mount fall back to another one, or to none, whatever the settings say.

@@ -18,8 +18,8 @@ use radio_access::Lists;
 use radio_parts::{Session, first_silent};
 use radio_seats::KeptName;
 use radio_settings::Settings;
-use radio_values::MountName;
 use radio_tables::Table;
+use radio_values::MountName;
 use std::alloc::Global;
 use std::marker::Model;
 

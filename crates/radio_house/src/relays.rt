@@ -1,8 +1,8 @@
 //! The relays that are there.
 
 use radio_policy::Rule;
-use radio_values::MountName;
 use radio_tables::{Change, Row};
+use radio_values::MountName;
 use std::marker::Model;
 
 /// What a relay does.

@@ -9,8 +9,8 @@ ghost use Rattle.radio_masters.specs.ListAnswers.{IsListBody, body_by, body_in, 
 use crate::OutOfMemory;
 use radio_heads::{Progress, ResponseHead, read_response};
 use radio_relay::read_stream_list;
-use radio_values::MountName;
 use radio_texts::read_number;
+use radio_values::MountName;
 use std::alloc::Global;
 use std::collections::BTreeSet;
 use thiserror::Error;

@@ -1,7 +1,6 @@
 //! A relay that runs, and what its thread and the one that started it tell each other.
 
 use radio_settings::RelaySetting;
-
 use radio_values::MountName;
 use std::sync::atomic::{AtomicBool, Ordering};
 

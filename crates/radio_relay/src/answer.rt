@@ -5,8 +5,8 @@ ghost use Rattle.radio_relay.specs.Answer.{interval_in, interval_of, max_interva
 
 use crate::{OutOfMemory, PullFault};
 use radio_heads::ResponseHead;
-use radio_values::Shown;
 use radio_texts::read_number;
+use radio_values::Shown;
 use std::alloc::Global;
 
 /// The longest metadata interval that a master may tell, in bytes.

@@ -3,9 +3,9 @@ ghost use Rattle.std.specs.Prelude.{◌≡◌, IfOk, OnOk};
 ghost use Rattle.radio_relay.specs.StreamList.{names_listed, with_name};
 
 use crate::OutOfMemory;
-use radio_values::MountName;
 use radio_texts::laws::fields;
 use radio_texts::{cut, without_return};
+use radio_values::MountName;
 use std::alloc::Global;
 use std::collections::BTreeSet;
 

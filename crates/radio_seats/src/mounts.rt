@@ -7,8 +7,8 @@ ghost use Rattle.radio_seats.specs.Board.{is_prepared};
 ghost use Rattle.radio_seats.specs.Mounts.{is_numbered, name_in, sitting_in, naming_in, is_number, one_at, IsThere};
 
 use crate::OutOfMemory;
-use radio_values::MountName;
 use radio_tables::{Change, Row, Table};
+use radio_values::MountName;
 use std::alloc::{AllocError, Global};
 use std::marker::Model;
 

@@ -5,7 +5,6 @@ ghost use Rattle.radio_settings.specs.Words.{fault_text};
 ghost use Rattle.radio_settings.specs.declared.fault.SettingsFault.TheVariants.{OutOfMemory as NoMemory};
 
 use crate::{Key, OutOfMemory};
-
 use radio_values::MountName;
 use std::alloc::AllocFailed;
 use std::error::Error;

@@ -8,7 +8,6 @@ ghost use Rattle.radio_settings.specs.Repeats.{first_repeat};
 ghost use Rattle.radio_settings.specs.declared.fault.SettingsFault.TheVariants.{OutOfMemory as NoMemory};
 
 use crate::SettingsFault;
-
 use radio_values::MountName;
 use std::alloc::Global;
 use std::collections::BTreeMap;

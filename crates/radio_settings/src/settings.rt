@@ -1,7 +1,6 @@
 //! The settings, table by table. Keys are named and meant as in the Icecast 2.4 documentation, where it has them.
 
 use crate::{MountSettings, RelaySettings, WebSettings};
-
 use radio_values::{Field, MountName, Text, Within};
 
 /// A number of bytes, from 1 to 2^30.

@@ -1,7 +1,8 @@
 //! Every key given once and read back, and every default.
 
-use radio_settings::{Login, MountOptions, RelaySetting, Settings, SlaveSetting, WebPath, WebSettings};
-
+use radio_settings::{
+    Login, MountOptions, RelaySetting, Settings, SlaveSetting, WebPath, WebSettings,
+};
 use radio_values::{Field, MountName, Text, Within};
 use std::alloc::Global;
 

@@ -9,7 +9,6 @@ ghost use Rattle.radio_settings.specs.Rows.{text, number, flag, mount_name, orig
 ghost use Rattle.radio_settings.specs.Reading.{Reads, ReadsAs};
 
 use crate::{Key, SettingsFault};
-
 use radio_values::{AllowedOrigin, Field, MountName, Text, Within};
 use std::alloc::Global;
 use toml::{Table, Value};
