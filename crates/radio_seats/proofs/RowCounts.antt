@@ -39,7 +39,7 @@ held_last None k = refl
 held_last (Some row) k = at_number (last_number row.state == k)
 
 -- whoever sits somewhere names it
-pub sits_last : (row : Option ListenerRow) (number : ℕ) → number_in row ≡ Some number → last_in row ≡ Some number
+sits_last : (row : Option ListenerRow) (number : ℕ) → number_in row ≡ Some number → last_in row ≡ Some number
 sits_last None number e = cc
 sits_last (Some row) number e = by_state row.state e where
   by_state : (state : RowState) → number_of state ≡ Some number → Some (last_number state) ≡ Some number
@@ -227,7 +227,7 @@ module _ (number session place : ℕ) where
     by_state (Seated seat) h = cc
     by_state (Ended rule mount) h = (refl, refl)
 
-  pub some_moves : (row : Option ListenerRow) (from : ℕ) → number_in row ≡ Some from
+  some_moves : (row : Option ListenerRow) (from : ℕ) → number_in row ≡ Some from
       → (number_in (option_map move row) ≡ Some number) × (last_in (option_map move row) ≡ Some number)
   some_moves None from e = cc
   some_moves (Some row) from e = by_state row.state e where
@@ -235,6 +235,23 @@ module _ (number session place : ℕ) where
         → (number_of (shifted number session place state) ≡ Some number) × (Some (last_number (shifted number session place state)) ≡ Some number)
     by_state (Seated seat) h = (refl, refl)
     by_state (Ended rule mount) h = cc
+
+  -- one who sits goes there, and his row names it from then on
+  module _ (rows : List ListenerRow) (id : ℕ) (from : Option ℕ) (old : ℕ) (his : from ≡ number_in (find (is_row id) rows)) (sits : from ≡ Some old) where
+    last : from ≡ last_in (find (is_row id) rows)
+    last = sits ∙ sym (sits_last (find (is_row id) rows) old (sym his ∙ sits))
+
+    there : (number_in (option_map move (find (is_row id) rows)) ≡ Some number) × (last_in (option_map move (find (is_row id) rows)) ≡ Some number)
+    there = some_moves (find (is_row id) rows) old (sym his ∙ sits)
+
+    pub his_name : (k : ℕ) → one_at from k ≤ passing (names_by k) rows
+    his_name = his_counts names_by last_in held_last rows id from last
+
+    pub seat_goes : (k : ℕ) → passing (sits_by k) (update_first (is_row id) move rows) + one_at from k ≡ passing (sits_by k) rows + one_at (Some number) k
+    seat_goes = goes_to sits_by number_in held_number rows id move from number his there.0
+
+    pub name_goes : (k : ℕ) → passing (names_by k) (update_first (is_row id) move rows) + one_at from k ≡ passing (names_by k) rows + one_at (Some number) k
+    name_goes = goes_to names_by last_in held_last rows id move from number last there.1
 
 -- no row names a mount at which none is counted
 module _ (mounts : List Mount) (rows : List ListenerRow) (mount : List ℕ) (counted : AreCounted mounts rows)

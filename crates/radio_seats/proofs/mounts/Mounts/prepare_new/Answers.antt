@@ -58,53 +58,34 @@ returns-in-Ok-clause-names c = λ number some.
     ∙ name_in_then inside.names inside.mounts inside.last c.self.invariant name c.in-Some.number none c.in-Some.ensures.1 number named)
 
 -- where the second is refused the first is taken back
-pub invariant_of-self-in-Err : goal.invariant_of-self-in-Err
-invariant_of-self-in-Err c =
+back : (c : goal.After-remove) → c.remove.new.self ≡ c.self.inside.mounts
+back c =
     let inside = c.self.inside in
     let name = c.args.name.now in
     let none = not_prepared inside.names name (ap (λ (m : Prepared). is_prepared m.names name) c.self.view_is ∙ c.requires) in
-    let back : c.remove.new.self ≡ inside.mounts = c.remove.ensures.removed
+    c.remove.ensures.removed
     ∙ ap (filter (λ (mount : Mount). not (is_numbered c.in-Some.number mount))) c.in_ok-insert.ensures.ok
-    ∙ taken_back inside.names inside.mounts inside.last c.self.invariant name c.in-Some.number none c.in-Some.ensures.1 in
-    subst (λ (ms : List Mount). AreMounts c.insert-2.new.self ms inside.last) (sym back)
+    ∙ taken_back inside.names inside.mounts inside.last c.self.invariant name c.in-Some.number none c.in-Some.ensures.1
+
+pub invariant_of-self-in-Err : goal.invariant_of-self-in-Err
+invariant_of-self-in-Err c =
+    let inside = c.self.inside in
+    subst (λ (ms : List Mount). AreMounts c.insert-2.new.self ms inside.last) (sym (back c))
     (subst (λ (ns : List NumberedName). AreMounts ns inside.mounts inside.last) (sym c.in-Err.ensures.err) c.self.invariant)
 
 pub returns-in-Err-clause-sitting : goal.returns-in-Err-clause-sitting
 returns-in-Err-clause-sitting c = λ number.
-    let inside = c.self.inside in
-    let name = c.args.name.now in
-    let none = not_prepared inside.names name (ap (λ (m : Prepared). is_prepared m.names name) c.self.view_is ∙ c.requires) in
-    let back : c.remove.new.self ≡ inside.mounts = c.remove.ensures.removed
-    ∙ ap (filter (λ (mount : Mount). not (is_numbered c.in-Some.number mount))) c.in_ok-insert.ensures.ok
-    ∙ taken_back inside.names inside.mounts inside.last c.self.invariant name c.in-Some.number none c.in-Some.ensures.1 in
-    ap (λ (ms : List Mount). sitting_in ms number) back ∙ ap (λ (m : Prepared). sitting_in m.mounts number) c.self.view_is
+    ap (λ (ms : List Mount). sitting_in ms number) (back c) ∙ ap (λ (m : Prepared). sitting_in m.mounts number) c.self.view_is
 
 pub returns-in-Err-clause-naming : goal.returns-in-Err-clause-naming
 returns-in-Err-clause-naming c = λ number.
-    let inside = c.self.inside in
-    let name = c.args.name.now in
-    let none = not_prepared inside.names name (ap (λ (m : Prepared). is_prepared m.names name) c.self.view_is ∙ c.requires) in
-    let back : c.remove.new.self ≡ inside.mounts = c.remove.ensures.removed
-    ∙ ap (filter (λ (mount : Mount). not (is_numbered c.in-Some.number mount))) c.in_ok-insert.ensures.ok
-    ∙ taken_back inside.names inside.mounts inside.last c.self.invariant name c.in-Some.number none c.in-Some.ensures.1 in
-    ap (λ (ms : List Mount). naming_in ms number) back ∙ ap (λ (m : Prepared). naming_in m.mounts number) c.self.view_is
+    ap (λ (ms : List Mount). naming_in ms number) (back c) ∙ ap (λ (m : Prepared). naming_in m.mounts number) c.self.view_is
 
 pub returns-in-Err-clause-names : goal.returns-in-Err-clause-names
 returns-in-Err-clause-names c = λ number some.
-    let inside = c.self.inside in
-    let name = c.args.name.now in
-    let none = not_prepared inside.names name (ap (λ (m : Prepared). is_prepared m.names name) c.self.view_is ∙ c.requires) in
-    let back : c.remove.new.self ≡ inside.mounts = c.remove.ensures.removed
-    ∙ ap (filter (λ (mount : Mount). not (is_numbered c.in-Some.number mount))) c.in_ok-insert.ensures.ok
-    ∙ taken_back inside.names inside.mounts inside.last c.self.invariant name c.in-Some.number none c.in-Some.ensures.1 in
-    ap (λ (ms : List Mount). name_in ms number) back ∙ ap (λ (m : Prepared). name_in m.mounts number) c.self.view_is
+    ap (λ (ms : List Mount). name_in ms number) (back c) ∙ ap (λ (m : Prepared). name_in m.mounts number) c.self.view_is
 
 pub returns-in-Err-clause-err : goal.returns-in-Err-clause-err
 returns-in-Err-clause-err c =
     let inside = c.self.inside in
-    let name = c.args.name.now in
-    let none = not_prepared inside.names name (ap (λ (m : Prepared). is_prepared m.names name) c.self.view_is ∙ c.requires) in
-    let back : c.remove.new.self ≡ inside.mounts = c.remove.ensures.removed
-    ∙ ap (filter (λ (mount : Mount). not (is_numbered c.in-Some.number mount))) c.in_ok-insert.ensures.ok
-    ∙ taken_back inside.names inside.mounts inside.last c.self.invariant name c.in-Some.number none c.in-Some.ensures.1 in
-    ap (λ (ms : List Mount). shown ms c.insert-2.new.self) back ∙ ap (shown inside.mounts) c.in-Err.ensures.err ∙ c.self.view_is
+    ap (λ (ms : List Mount). shown ms c.insert-2.new.self) (back c) ∙ ap (shown inside.mounts) c.in-Err.ensures.err ∙ c.self.view_is

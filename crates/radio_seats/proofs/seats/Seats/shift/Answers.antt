@@ -5,7 +5,7 @@ use Rattle.radio_seats.specs.Board.{Board}
 use Rattle.radio_seats.specs.Mounts.{is_number, name_in, sitting_in, naming_in, one_at}
 use Rattle.radio_seats.specs.Rows.{is_row, named, number_in, last_in, sits_by, names_by, AreCounted}
 use Rattle.radio_seats.specs.Seats.{with_move}
-use Rattle.radio_seats.proofs.RowCounts.{held_number, held_last, his_counts, goes_to, stays_there, move, none_moves, some_moves, sits_last, one_more, room_for_one}
+use Rattle.radio_seats.proofs.RowCounts.{held_number, held_last, his_counts, stays_there, move, none_moves, his_name, seat_goes, name_goes, one_more, room_for_one}
 use Rattle.radio_seats.proofs.RowLemmas.{is_called, same_board, seats_moved}
 use Rattle.radio_seats.proofs.seats.Seats.shift.Goals as goal
 
@@ -35,31 +35,26 @@ returns-in_default-from c =
 pub gain-requires-clause-room_to_sit : goal.gain-requires-clause-room_to_sit
 gain-requires-clause-room_to_sit c =
     let rows = c.self.inside.rows in
-    let id = c.args.id in
     let number = c.in-Some.number in
-    let moves = move number c.args.session c.args.place in
     let from = c.number_of-from.result in
     let his = c.number_of-from.ensures.number in
-    let there = some_moves number c.args.session c.args.place (find (is_row id) rows) c.in-Some-from.field-0 (sym his ∙ c.in-Some-from.is) in
     let few : length c.change.new.self < 18446744073709551616 = omega (arith, c.len.ensures.count, c.len.type_inv) in
     room_for_one sits_by (sitting_in c.self.inside.mounts.mounts) rows _ from c.self.invariant.sitting (sitting_in c.give_up.new.self.mounts) number
-    (his_counts sits_by number_in held_number rows id from his) (goes_to sits_by number_in held_number rows id moves from number his there.0)
+    (his_counts sits_by number_in held_number rows c.args.id from his)
+    (seat_goes number c.args.session c.args.place rows c.args.id from c.in-Some-from.field-0 his c.in-Some-from.is)
     (λ k. c.give_up.ensures.sitting k ∙ c.leave.ensures.sitting k)
     18446744073709551616 (subst (λ xs. length xs < 18446744073709551616) c.change.ensures few)
 
 pub gain-requires-clause-room_to_name : goal.gain-requires-clause-room_to_name
 gain-requires-clause-room_to_name c =
     let rows = c.self.inside.rows in
-    let id = c.args.id in
     let number = c.in-Some.number in
-    let moves = move number c.args.session c.args.place in
     let from = c.number_of-from.result in
-    let sits = sym c.number_of-from.ensures.number ∙ c.in-Some-from.is in
-    let his = c.in-Some-from.is ∙ sym (sits_last (find (is_row id) rows) c.in-Some-from.field-0 sits) in
-    let there = some_moves number c.args.session c.args.place (find (is_row id) rows) c.in-Some-from.field-0 sits in
+    let his = c.number_of-from.ensures.number in
     let few : length c.change.new.self < 18446744073709551616 = omega (arith, c.len.ensures.count, c.len.type_inv) in
     room_for_one names_by (naming_in c.self.inside.mounts.mounts) rows _ from c.self.invariant.naming (naming_in c.give_up.new.self.mounts) number
-    (his_counts names_by last_in held_last rows id from his) (goes_to names_by last_in held_last rows id moves from number his there.1)
+    (his_name number c.args.session c.args.place rows c.args.id from c.in-Some-from.field-0 his c.in-Some-from.is)
+    (name_goes number c.args.session c.args.place rows c.args.id from c.in-Some-from.field-0 his c.in-Some-from.is)
     (λ k. c.give_up.ensures.naming k ∙ ap (λ n. n - one_at from k) (c.leave.ensures.naming k))
     18446744073709551616 (subst (λ xs. length xs < 18446744073709551616) c.change.ensures few)
 
@@ -69,20 +64,19 @@ invariant_of-self-2 c =
     let rows = c.self.inside.rows in
     let id = c.args.id in
     let number = c.in-Some.number in
-    let moves = move number c.args.session c.args.place in
     let from = c.number_of-from.result in
     let his = c.number_of-from.ensures.number in
-    let sits = sym his ∙ c.in-Some-from.is in
-    let last = c.in-Some-from.is ∙ sym (sits_last (find (is_row id) rows) c.in-Some-from.field-0 sits) in
-    let there = some_moves number c.args.session c.args.place (find (is_row id) rows) c.in-Some-from.field-0 sits in
+    let old = c.in-Some-from.field-0 in
     let left = c.give_up.new.self.mounts in
     let later = c.gain.new.self.mounts in
+    let moved = update_first (is_row id) (move number c.args.session c.args.place) rows in
     subst (AreCounted later) (sym c.change.ensures) (record {
-      sitting = one_more sits_by (sitting_in mounts) rows (update_first (is_row id) moves rows) from c.self.invariant.sitting (sitting_in left) number
-          (his_counts sits_by number_in held_number rows id from his) (goes_to sits_by number_in held_number rows id moves from number his there.0)
+      sitting = one_more sits_by (sitting_in mounts) rows moved from c.self.invariant.sitting (sitting_in left) number
+          (his_counts sits_by number_in held_number rows id from his) (seat_goes number c.args.session c.args.place rows id from old his c.in-Some-from.is)
           (λ k. c.give_up.ensures.sitting k ∙ c.leave.ensures.sitting k) (sitting_in later) c.gain.ensures.sitting;
-      naming = one_more names_by (naming_in mounts) rows (update_first (is_row id) moves rows) from c.self.invariant.naming (naming_in left) number
-          (his_counts names_by last_in held_last rows id from last) (goes_to names_by last_in held_last rows id moves from number last there.1)
+      naming = one_more names_by (naming_in mounts) rows moved from c.self.invariant.naming (naming_in left) number
+          (his_name number c.args.session c.args.place rows id from old his c.in-Some-from.is)
+          (name_goes number c.args.session c.args.place rows id from old his c.in-Some-from.is)
           (λ k. c.give_up.ensures.naming k ∙ ap (λ n. n - one_at from k) (c.leave.ensures.naming k)) (naming_in later) c.gain.ensures.naming;
     })
 
