@@ -1,6 +1,7 @@
 //! What is noted of one connection.
 
 use crate::agent::agent_in;
+use crate::heard::Heard;
 use crate::request::Request;
 use crate::{Log, Notice, OutOfMemory, Told};
 use radio_addr::Peer;
@@ -12,17 +13,6 @@ use radio_session::{Ending, State};
 use radio_values::MountName;
 use std::alloc::Global;
 use std::cell::Cell;
-
-/// What is heard on a connection.
-#[derive(Drop)]
-enum Heard {
-    /// These first bytes of a head.
-    Part(Vec<u8>),
-    /// A request.
-    Request(Request),
-    /// Nothing that is known.
-    Nothing,
-}
 
 /// How a conversation has ended.
 #[derive(Clone, Copy)]
@@ -347,36 +337,6 @@ impl Account {
         }));
         self.heard.set(heard);
         line
-    }
-}
-
-impl Heard {
-    fn method(&self) -> &[u8] {
-        match self {
-            Heard::Request(request) => request.method(),
-            _ => b"",
-        }
-    }
-
-    fn path(&self) -> &[u8] {
-        match self {
-            Heard::Request(request) => request.path(),
-            _ => b"",
-        }
-    }
-
-    fn user(&self) -> &[u8] {
-        match self {
-            Heard::Request(request) => request.user(),
-            _ => b"",
-        }
-    }
-
-    fn agent(&self) -> &[u8] {
-        match self {
-            Heard::Request(request) => request.agent(),
-            _ => b"",
-        }
     }
 }
 

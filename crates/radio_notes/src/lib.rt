@@ -11,6 +11,7 @@
 
 mod account;
 mod agent;
+mod heard;
 mod log;
 mod notice;
 mod request;
