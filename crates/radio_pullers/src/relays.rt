@@ -188,9 +188,7 @@ where
         let Some(relay) = keeper.await_start(rt, station) else {
             return;
         };
-        let has_begun = scope
-            .spawn(move || pull_relay(rt, station, &relay))
-            .is_ok();
+        let has_begun = scope.spawn(move || pull_relay(rt, station, &relay)).is_ok();
         keeper.note_start(has_begun);
     }
 }

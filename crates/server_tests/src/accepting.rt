@@ -87,7 +87,12 @@ fn ninety_nine_failures_do_not(rt: HostRuntime) -> Result<(), Fail> {
     };
     let mut accepts = Accepts::new();
     assert!(rt; tries(&mut listener, &mut accepts, 0, 9_899).is_none());
-    assert!(rt; matches!(accept_next(&mut listener, &mut accepts, 9_900), Ok(Some(100))));
+    assert!(rt;
+        matches!(
+            accept_next(&mut listener, &mut accepts, 9_900),
+            Ok(Some(100))
+        )
+    );
     Ok(())
 }
 
