@@ -264,7 +264,7 @@ module _ (w : World) (s : IsSound w) (ms : ℕ) where
         let both : IsOut NotLive ≡ IsOut rule = sym (out_by_turn during mount same set has there) ∙ turn in
         let one : NotLive ≡ rule = cc in
         ap (λ l. standing_in (relay_of during.house.relays id) l (client_of during.house.clients id)) now
-        ∙ lost_in (relay_of during.house.relays id) (listener_of during.seats id) id rule (client_of during.house.clients id) (sound.sitting id seat has)
+        ∙ lost_in (relay_of during.house.relays id) (listener_of during.seats id) id rule old.mount (client_of during.house.clients id) (sound.sitting id seat has)
         ∙ ap (λ (r : Rule). Finished r) (sym one)
 
     -- after a silent session has ended

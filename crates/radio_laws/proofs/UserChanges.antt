@@ -113,7 +113,7 @@ module _ (w : World) (s : IsSound w) (event : Event) {command : TheCommand} (c :
         ∙ (shut_out_there lists mount loses.seat loses.holds).1)
         (ap seat_in loses.finished)
         (ap (λ (l : Option Listener). standing_in (relay_of w.house.relays id) l (client_of (answered w c.asked.id).house.clients id)) loses.finished
-        ∙ lost_in (relay_of w.house.relays id) (listener_of w.seats id) loses.id ListenerPassword (client_of (answered w c.asked.id).house.clients id) sat)
+        ∙ lost_in (relay_of w.house.relays id) (listener_of w.seats id) loses.id ListenerPassword loses.seat.mount (client_of (answered w c.asked.id).house.clients id) sat)
 
   pub have_changed : world_after w event ≡ then_so → reply_to w event ≡ SaysText (Ended (how_many (is_shut_out lists mount) w.seats)) → HaveChanged w event mount
   have_changed later told = record {
