@@ -26,8 +26,3 @@ fn made_and_written(rt: HostRuntime) {
         assert!(rt; is_written(rt.alloc(), *number, text));
     }
 }
-
-#[test]
-fn made_of_four_bytes(rt: HostRuntime) {
-    assert!(rt; Peer::of_v6(0xffff_0a00_00ff) == Peer::of_v4(0x0a00_00ff));
-}

@@ -1,8 +1,7 @@
-//! Values that no head can hold, what is answered without memory, what is shown of secrets, and users who
-//! change.
-//! Pairs and user lists are rows of the end-to-end scripts.
+//! Values that no head can hold, what is answered without memory, and what is shown of secrets. Pairs and user lists are
+//! rows of the end-to-end scripts, and users who change are cases of them.
 
-use radio_creds::{OutOfMemory, Pair, Users, basic};
+use radio_creds::{Pair, Users, basic};
 use std::alloc::Global;
 use std::fmt;
 
@@ -78,48 +77,4 @@ fn no_secret_is_shown(rt: HostRuntime) {
 fn no_memory(rt: HostRuntime) {
     assert!(rt; is_pair_read(rt.alloc(), true));
     assert!(rt; are_users_read(rt.alloc(), true));
-}
-
-/// What `ann` sends with the password `abc`.
-const ANN: &[u8] = b"Basic YW5uOmFiYw==";
-
-/// What she sends with the password `new`.
-const NEW_ANN: &[u8] = b"Basic YW5uOm5ldw==";
-
-/// What `bob` sends with the password `abc`.
-const BOB: &[u8] = b"Basic Ym9iOmFiYw==";
-
-/// Whether the users accept what was sent.
-fn are_accepted(alloc: Global, users: &Users, sent: &[u8]) -> bool {
-    match basic(alloc, sent) {
-        Ok(Some(pair)) => users.accepts(&pair),
-        _ => false,
-    }
-}
-
-/// Whether a user is accepted with the password that was set last, beside one who was not listed.
-fn are_set(alloc: Global, users: &mut Users) -> Result<bool, OutOfMemory> {
-    users.set(alloc, b"ann", b"new")?;
-    users.set(alloc, b"bob", b"abc")?;
-    let changed = are_accepted(alloc, users, NEW_ANN) && !are_accepted(alloc, users, ANN);
-    Ok(changed && are_accepted(alloc, users, BOB))
-}
-
-/// Whether a user who is taken away is accepted no more, and the other still.
-fn is_taken_away(alloc: Global, users: &mut Users) -> bool {
-    let once = users.remove(b"ann") && !users.remove(b"ann");
-    once && !are_accepted(alloc, users, NEW_ANN) && are_accepted(alloc, users, BOB)
-}
-
-/// Whether a user with two lines changes so.
-fn do_users_change(alloc: Global) -> Result<bool, OutOfMemory> {
-    let lines = b"ann:900150983cd24fb0d6963f7d28e17f72\nann:0cc175b9c0f1b6a831c399e269772661\n";
-    let mut users = Users::read(alloc, lines)?;
-    let before = are_accepted(alloc, &users, ANN);
-    Ok(before && are_set(alloc, &mut users)? && is_taken_away(alloc, &mut users))
-}
-
-#[test]
-fn users_change(rt: HostRuntime) {
-    assert!(rt; do_users_change(rt.alloc()) == Ok(true));
 }

@@ -2,14 +2,13 @@
 //! with ample memory, and the definitions mean what the standards and the rules say, on examples from outside. More such
 //! examples are rows and cases of the end-to-end scripts.
 //!
-//! - `seats`: listeners at prepared mounts; `tables`: rows by number and by name; `blocks`: the memory of blocks; `queue`: the blocks that are kept.
-//! - `fallbacks`: walks along fallbacks, and listeners whom a move carries along.
+//! - `tables`: rows by number; `blocks`: the memory of blocks; `queue`: the blocks that are kept.
 //! - `bodies`: feeds behind an end or a fault; `icy`: sound with titles woven into it and taken out.
 //! - `addresses`: peers as texts; `credentials`: values that no head can hold, and secrets.
 //! - `log_lines`: lines of the log, and the calendar.
 //! - `intake`: connections that are put, taken and counted, also by two threads.
 //! - `commands`: paths and queries as commands; `listings`: what is written of rows; `relays`: what masters answer, and which relays run.
-//! - `heads`: queries, faults, heads of responses, and answers with a body.
+//! - `heads`: queries, faults, and answers with a body.
 //! - `settings`: every key read back, names and want of memory; `scripts`: whole scripts over devices that fail, and
 //!   lists of deliveries.
 #![tactic(auto)]
@@ -24,8 +23,6 @@ mod bodies;
 mod commands;
 #[cfg(test)]
 mod credentials;
-#[cfg(test)]
-mod fallbacks;
 #[cfg(test)]
 mod heads;
 #[cfg(test)]
@@ -42,8 +39,6 @@ mod queue;
 mod relays;
 #[cfg(test)]
 mod scripts;
-#[cfg(test)]
-mod seats;
 #[cfg(test)]
 mod settings;
 #[cfg(test)]

@@ -1,4 +1,4 @@
-//! Tables with ample memory, and with memory refused, by number and by name.
+//! Tables by number, with ample memory and with memory refused. Those by name are the server's.
 
 ghost use Rattle.std.specs.Prelude.{◌≡◌, ◌==◌, List, ℕ, find};
 ghost use Rattle.std.specs.Option.{option_copied};
@@ -75,33 +75,6 @@ impl TryChange<Listener> for MoreSeconds {
         }
         row.seconds = self.0;
         Ok(())
-    }
-}
-
-// Two letters, in the order of their bytes.
-#[derive(Clone, Copy, PartialEq, Eq, PartialOrd, Ord)]
-struct Name([u8; 2]);
-
-#[derive(Clone, Copy)]
-struct Station {
-    name: Name,
-}
-
-impl Row for Station {
-    type Key = Name;
-
-    ghost use Rattle.std.specs.Prelude.{refl};
-    ghost use Rattle.std.specs.Ordering.{is_eq, nat_cmp};
-    ghost use Rattle.std.specs.Cmp.Lexicographic.{slice_cmp};
-
-    ghost key = { λ station. station.name };
-
-    ghost has_key = { λ name station. is_eq (slice_cmp nat_cmp name.0 station.name.0) };
-
-    ghost has_key_is = { λ name station. refl };
-
-    fn key(&self) -> Name {
-        self.name
     }
 }
 
@@ -205,42 +178,4 @@ fn refused_rows_leave_the_others(rt: HostRuntime) {
     assert!(rt;
         listeners.len() as u64 == count && listeners.iter().all(|listener| listener.id < count)
     );
-}
-
-#[test]
-fn the_first_row_is_pushed(rt: HostRuntime) -> Result<(), Fail> {
-    let mut listeners = Table::new(rt.alloc());
-    listeners.push(Listener { id: 3, seconds: 1 })?;
-    assert!(rt; has_seconds(&listeners, 3, 1));
-    Ok(())
-}
-
-const NAMES: [[u8; 2]; 4] = [*b"zz", *b"ab", *b"aa", *b"b "];
-
-fn insert_named(stations: &mut Table<Station>, names: &[[u8; 2]]) -> Result<(), OutOfMemory> {
-    for name in names {
-        let name = Name(*name);
-        stations.insert(Station { name })?;
-    }
-    Ok(())
-}
-
-fn have_names(stations: &Table<Station>, names: &[[u8; 2]]) -> bool {
-    stations
-        .iter()
-        .zip(names)
-        .all(|(station, name)| station.name.0 == *name)
-}
-
-fn are_told_apart(stations: &Table<Station>) -> bool {
-    stations.get(&Name(*b"ab")).is_some() && stations.get(&Name(*b"ac")).is_none()
-}
-
-#[test]
-fn rows_by_name_stand_in_order_of_bytes(rt: HostRuntime) -> Result<(), Fail> {
-    let mut stations = Table::new(rt.alloc());
-    insert_named(&mut stations, &NAMES)?;
-    assert!(rt; have_names(&stations, &[*b"aa", *b"ab", *b"b ", *b"zz"]));
-    assert!(rt; are_told_apart(&stations));
-    Ok(())
 }

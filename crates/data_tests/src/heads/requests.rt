@@ -1,6 +1,5 @@
 //! What the server tells nobody of a request: its query, and which fault it has.
 
-use super::{Seen, seen_of};
 use radio_heads::{HeadFault, Progress, read_request};
 use std::alloc::Global;
 
@@ -43,16 +42,16 @@ a:b\na:b\na:b\na:b\na:b\na:b\na:b\na:b\na:b\na:b\na:b\na:b\na:b\n\
 a:b\na:b\na:b\na:b\na:b\na:b\na:b\na:b\na:b\na:b\na:b\na:b\na:b\n\
 \n";
 
-fn seen_in_request(bytes: &[u8]) -> Seen {
-    seen_of(read_request(bytes))
+fn fault_of(bytes: &[u8]) -> Option<HeadFault> {
+    read_request(bytes).err()
 }
 
 /// The server answers both as bad heads.
 #[test]
 fn too_many_headers_and_bytes(rt: HostRuntime) {
     let bytes = [b'x'; 8192];
-    assert!(rt; seen_in_request(HEADERS_65) == Err(HeadFault::TooManyHeaders));
-    assert!(rt; seen_in_request(&bytes) == Err(HeadFault::HeadTooLong));
+    assert!(rt; fault_of(HEADERS_65) == Some(HeadFault::TooManyHeaders));
+    assert!(rt; fault_of(&bytes) == Some(HeadFault::HeadTooLong));
 }
 
 const MESSAGES: &[(HeadFault, &str)] = &[
