@@ -2,11 +2,10 @@
 
 use radio_addr::Peer;
 use radio_listing::{
-    ListenerRow, MountRow, PublicRow, Server, Text, base_url, icecast_status, list_clients,
-    list_mounts, stats, status, stream_list,
+    ListenerRow, MountRow, OutOfMemory, PublicRow, Server, Text, base_url, icecast_status,
+    list_clients, list_mounts, stats, status, stream_list,
 };
 use std::alloc::Global;
-use std::test::Fail;
 
 fn mount<'a>(name: &'a [u8], title: &'a [u8], hidden: bool) -> MountRow<'a> {
     let public = PublicRow {
@@ -25,34 +24,58 @@ fn mount<'a>(name: &'a [u8], title: &'a [u8], hidden: bool) -> MountRow<'a> {
     }
 }
 
+/// Whether a listing was written, and is this one.
+fn is_written(listing: Result<Vec<u8>, OutOfMemory>, want: &[u8]) -> bool {
+    match listing {
+        Ok(bytes) => bytes.as_slice() == want,
+        Err(_) => false,
+    }
+}
+
+/// What everybody may see of `/a`.
+const SHOWN: &[u8] =
+    br#"{"mounts":[{"genre":"","listeners":1,"mount":"/a","name":"","title":"X","type":"audio/mpeg"}]}"#;
+
 #[test]
-fn public_listings_are_written(rt: HostRuntime) -> Result<(), Fail> {
+fn public_listings_are_written(rt: HostRuntime) {
     let rows = [mount(b"/a", b"X", false), mount(b"/h", b"", true)];
-    let want =
-        br#"{"mounts":[{"genre":"","listeners":1,"mount":"/a","name":"","title":"X","type":"audio/mpeg"}]}"#;
-    assert!(rt; status(rt.alloc(), &rows)?.as_slice() == want.as_slice());
-    assert!(rt; stream_list(rt.alloc(), &rows)?.as_slice() == b"/a\r\n".as_slice());
-    assert!(rt; status(rt.alloc(), &[])?.as_slice() == br#"{"mounts":[]}"#.as_slice());
-    let odd = [mount(b"/b", b"\"\\\t\xe2\x80\xa8\xe2\x80", false)];
-    let want =
-        b"{\"mounts\":[{\"genre\":\"\",\"listeners\":1,\"mount\":\"/b\",\"name\":\"\",\"title\":\"\\\"\\\\\\t\xe2\x80\xa8\xef\xbf\xbd\",\"type\":\"audio/mpeg\"}]}";
-    assert!(rt; status(rt.alloc(), &odd)?.as_slice() == want.as_slice());
-    Ok(())
+    assert!(rt; is_written(status(rt.alloc(), &rows), SHOWN));
+    assert!(rt; is_written(stream_list(rt.alloc(), &rows), b"/a\r\n"));
 }
 
+/// A title with characters that JSON escapes, one that it does not, and bytes that are no text.
+const ODD_TITLE: &[u8] = b"\"\\\t\xe2\x80\xa8\xe2\x80";
+
+/// What everybody may see of `/b` with that title.
+const ODD_SHOWN: &[u8] =
+    b"{\"mounts\":[{\"genre\":\"\",\"listeners\":1,\"mount\":\"/b\",\"name\":\"\",\"title\":\"\\\"\\\\\\t\xe2\x80\xa8\xef\xbf\xbd\",\"type\":\"audio/mpeg\"}]}";
+
 #[test]
-fn admin_listings_are_written(rt: HostRuntime) -> Result<(), Fail> {
+fn odd_titles_are_written(rt: HostRuntime) {
+    let rows = [mount(b"/b", ODD_TITLE, false)];
+    assert!(rt; is_written(status(rt.alloc(), &rows), ODD_SHOWN));
+    assert!(rt; is_written(status(rt.alloc(), &[]), br#"{"mounts":[]}"#));
+}
+
+/// What the admin may see of `/h`, and of the mounts.
+const STATS: &[u8] =
+    br#"{"clients":2,"listeners":1,"mounts":[{"genre":"","hidden":true,"listeners":1,"mount":"/h","name":"","session":1,"title":"","type":"audio/mpeg"}],"sources":1}"#;
+
+const MOUNTS: &[u8] = br#"{"mounts":[{"fallback":"","hidden":true,"listeners":1,"mount":"/h"}]}"#;
+
+#[test]
+fn admin_listings_are_written(rt: HostRuntime) {
     let rows = [mount(b"/h", b"", true)];
-    let want =
-        br#"{"clients":2,"listeners":1,"mounts":[{"genre":"","hidden":true,"listeners":1,"mount":"/h","name":"","session":1,"title":"","type":"audio/mpeg"}],"sources":1}"#;
-    assert!(rt; stats(rt.alloc(), 2, &rows)?.as_slice() == want.as_slice());
-    let want = br#"{"mounts":[{"fallback":"","hidden":true,"listeners":1,"mount":"/h"}]}"#;
-    assert!(rt; list_mounts(rt.alloc(), &rows)?.as_slice() == want.as_slice());
-    Ok(())
+    assert!(rt; is_written(stats(rt.alloc(), 2, &rows), STATS));
+    assert!(rt; is_written(list_mounts(rt.alloc(), &rows), MOUNTS));
 }
 
+/// What the admin may see of two listeners.
+const LISTENERS: &[u8] =
+    b"{\"listeners\":[{\"home\":\"/a\",\"id\":3,\"mount\":\"/a\",\"peer\":\"10.0.0.3\",\"seconds\":0,\"user\":\"\"},{\"home\":\"/b\",\"id\":4,\"mount\":\"/a\",\"peer\":\"0:0:0:0:0:0:0:1\",\"seconds\":9,\"user\":\"\xef\xbf\xbd\"}],\"mount\":\"/a\"}";
+
 #[test]
-fn listeners_are_written(rt: HostRuntime) -> Result<(), Fail> {
+fn listeners_are_written(rt: HostRuntime) {
     let quad = ListenerRow {
         home: Text::of(b"/a"),
         id: 3,
@@ -67,40 +90,39 @@ fn listeners_are_written(rt: HostRuntime) -> Result<(), Fail> {
         seconds: 9,
         user: Some(Text::of(b"\xff")),
     };
-    let want =
-        b"{\"listeners\":[{\"home\":\"/a\",\"id\":3,\"mount\":\"/a\",\"peer\":\"10.0.0.3\",\"seconds\":0,\"user\":\"\"},{\"home\":\"/b\",\"id\":4,\"mount\":\"/a\",\"peer\":\"0:0:0:0:0:0:0:1\",\"seconds\":9,\"user\":\"\xef\xbf\xbd\"}],\"mount\":\"/a\"}";
-    assert!(rt;
-        list_clients(rt.alloc(), &Text::of(b"/a"), &[quad, groups])?.as_slice() == want.as_slice()
-    );
-    Ok(())
+    let listing = list_clients(rt.alloc(), &Text::of(b"/a"), &[quad, groups]);
+    assert!(rt; is_written(listing, LISTENERS));
 }
 
-#[test]
-fn icecast_listings_are_written(rt: HostRuntime) -> Result<(), Fail> {
-    let server = Server {
+fn server<'a>(base_url: &'a [u8]) -> Server<'a> {
+    Server {
         name: Text::of(b"radiod"),
-        base_url: Text::of(b"http://r:8000"),
-    };
-    let want = br#"{"icestats":{"server_id":"radiod","source":[]}}"#;
-    assert!(rt; icecast_status(rt.alloc(), &server, &[])?.as_slice() == want.as_slice());
+        base_url: Text::of(base_url),
+    }
+}
+
+/// What Icecast's status has of no source, of one, and of two.
+const NO_SOURCE: &[u8] = br#"{"icestats":{"server_id":"radiod","source":[]}}"#;
+
+const ONE_SOURCE: &[u8] =
+    br#"{"icestats":{"server_id":"radiod","source":{"genre":"","listeners":1,"listenurl":"http://r:8000/a","server_name":"","server_type":"audio/mpeg","title":"X"}}}"#;
+
+const TWO_SOURCES: &str =
+    "{\"icestats\":{\"server_id\":\"radiod\",\"source\":[{\"genre\":\"\",\"listeners\":1,\"listenurl\":\"http://r/a\",\"server_name\":\"\",\"server_type\":\"audio/mpeg\",\"title\":\"\u{fffd}\\\"\"},{\"genre\":\"\",\"listeners\":1,\"listenurl\":\"http://r/b c\",\"server_name\":\"\",\"server_type\":\"audio/mpeg\",\"title\":\"\"}]}}";
+
+#[test]
+fn icecast_listings_are_written(rt: HostRuntime) {
+    let server = server(b"http://r:8000");
     let rows = [mount(b"/a", b"X", false), mount(b"/h", b"", true)];
-    let want =
-        br#"{"icestats":{"server_id":"radiod","source":{"genre":"","listeners":1,"listenurl":"http://r:8000/a","server_name":"","server_type":"audio/mpeg","title":"X"}}}"#;
-    assert!(rt; icecast_status(rt.alloc(), &server, &rows)?.as_slice() == want.as_slice());
-    Ok(())
+    assert!(rt; is_written(icecast_status(rt.alloc(), &server, &[]), NO_SOURCE));
+    assert!(rt; is_written(icecast_status(rt.alloc(), &server, &rows), ONE_SOURCE));
 }
 
 #[test]
-fn icecast_lists_are_written(rt: HostRuntime) -> Result<(), Fail> {
-    let server = Server {
-        name: Text::of(b"radiod"),
-        base_url: Text::of(b"http://r"),
-    };
+fn icecast_lists_are_written(rt: HostRuntime) {
     let rows = [mount(b"/a", b"\xff\"", false), mount(b"/b c", b"", false)];
-    let want =
-        "{\"icestats\":{\"server_id\":\"radiod\",\"source\":[{\"genre\":\"\",\"listeners\":1,\"listenurl\":\"http://r/a\",\"server_name\":\"\",\"server_type\":\"audio/mpeg\",\"title\":\"\u{fffd}\\\"\"},{\"genre\":\"\",\"listeners\":1,\"listenurl\":\"http://r/b c\",\"server_name\":\"\",\"server_type\":\"audio/mpeg\",\"title\":\"\"}]}}";
-    assert!(rt; icecast_status(rt.alloc(), &server, &rows)?.as_slice() == want.as_bytes());
-    Ok(())
+    let listing = icecast_status(rt.alloc(), &server(b"http://r"), &rows);
+    assert!(rt; is_written(listing, TWO_SOURCES.as_bytes()));
 }
 
 /// A `Host`, the address where the server listens, and where it is reached; the port is 8000.

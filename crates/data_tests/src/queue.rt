@@ -70,14 +70,20 @@ fn bursts_and_lag_of_three_blocks(rt: HostRuntime) {
     assert!(rt; starts_and_lag(rt.alloc()) == Ok([4, 12, 5]));
 }
 
+/// Pushes so many handles on a block.
+fn push_shared(queue: &mut BlockQueue, block: &Block, count: u32) -> Result<(), OutOfMemory> {
+    for _ in 0..count {
+        queue.push(block.share()?)?;
+    }
+    Ok(())
+}
+
 /// The place behind so many blocks of 4096 bytes, of which the last ones are kept.
-fn end_of_many(alloc: Global, blocks: u32) -> Result<u64, OutOfMemory> {
+fn end_of_many(alloc: Global, count: u32) -> Result<u64, OutOfMemory> {
     let mut queue = BlockQueue::new(alloc, 8192);
     let shared = bytes::Bytes::copy_from_slice(alloc, [7; 4096].as_slice())?;
     if let Some(block) = Block::new(shared) {
-        for _ in 0..blocks {
-            queue.push(block.share()?)?;
-        }
+        push_shared(&mut queue, &block, count)?;
     }
     Ok(queue.end().bytes_before())
 }
