@@ -5,7 +5,7 @@ ghost use Rattle.radio_workers.specs.Hands.{HasTakenMore};
 
 use crate::leaving::leave_all;
 use crate::{Call, Post, Seat, Seen, Workplace};
-use radio_book::{Chronicle, House};
+use radio_book::{Chronicle, House, Pass};
 use radio_hall::{
     Caller, Conn, Gate, Line, Server, Watched, Worker, close_first_lingering, count_lingering,
 };
@@ -32,14 +32,35 @@ pub(crate) fn work<R: Wait, C: Chronicle, H: House, T: Drop, L: Line, P: Post<T,
     ensures taken { HasTakenMore seat.old.hand seat.new.hand }
 {
     if let Some(pass) = seat.pass.take() {
-        let server = Caller::new(rt, place.hall, pass);
-        let server = work_as(rt, alloc, place, &mut seat.post, &mut seat.hand, server);
-        seat.pass = Some(server.into_pass());
+        let pass = work_with(rt, alloc, place, &mut seat.post, &mut seat.hand, pass);
+        put_back(&mut seat.pass, pass);
     }
 }
 
-/// The same as this server's worker, who answers the server.
-fn work_as<R, S, C, H, T, L, P, G>(
+/// The pass stands at its seat again.
+fn put_back<C: Chronicle, H: House>(own: &mut Option<Pass<C, H>>, pass: Pass<C, H>) {
+    *own = Some(pass);
+}
+
+/// Works with this pass of the hall, which comes back with the receipts of all that was applied.
+fn work_with<R: Wait, C: Chronicle, H: House, T: Drop, L: Line, P: Post<T, L>, G: Gate>(
+    rt: &R,
+    alloc: Global,
+    place: &Workplace<'_, C, H, T, G>,
+    post: &mut P,
+    hand: &mut IntakePass<T>,
+    pass: Pass<C, H>,
+) -> Pass<C, H>
+    requires own { hand.old.intake ≡ place.now.intake.now }
+    ensures taken { HasTakenMore hand.old hand.new }
+{
+    let server = Caller::new(rt, place.hall, pass);
+    serve(rt, alloc, place, post, hand, server).into_pass()
+}
+
+/// Serves connections over this server, turn after turn, until all have been made or the post says stop; gives the server
+/// back once all clients have left.
+fn serve<R, S, C, H, T, L, P, G>(
     rt: &R,
     alloc: Global,
     place: &Workplace<'_, C, H, T, G>,
@@ -105,12 +126,29 @@ impl<S: Server + Drop, L: Line> Shift<S, L> {
         requires own { hand.old.intake ≡ place.now.intake.now }
         ensures taken { HasTakenMore hand.old hand.new }
     {
-        let Some(call) = post.next(self.worker.log()) else {
-            return false;
-        };
+        match post.next(self.worker.log()) {
+            Some(call) => {
+                self.follow(rt, place, post, hand, call);
+                true
+            }
+            None => false,
+        }
+    }
+
+    /// Does what he is called to: takes in those who wait, and makes the turn.
+    fn follow<R: Wait, C: Chronicle, H: House, T: Drop, P: Post<T, L>, G: Gate>(
+        &mut self,
+        rt: &R,
+        place: &Workplace<'_, C, H, T, G>,
+        post: &mut P,
+        hand: &mut IntakePass<T>,
+        call: Call,
+    )
+        requires own { hand.old.intake ≡ place.now.intake.now }
+        ensures taken { HasTakenMore hand.old hand.new }
+    {
         self.take_in(rt, place.intake, post, hand, call);
         self.make_turn(place.gate, post, call);
-        true
     }
 
     /// Takes in of those who wait as many as he is called to.
