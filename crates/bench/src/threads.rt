@@ -12,7 +12,7 @@ use crate::lines::write_line;
 use crate::times::{micros, micros_since, nanos_each};
 use anyhow::Result;
 use radio_access::Lists;
-use radio_book::{Chronicle, House, Kept, OutOfMemory, PASSES, Pass, Unkept};
+use radio_book::{Chronicle, House, Kept, OutOfMemory, PASSES, Pass, SettleFault, Unkept};
 use radio_hall::{Hall, settle};
 use radio_settings::Settings;
 use std::alloc::{AllocError, Global};
@@ -165,13 +165,22 @@ fn settle_all<H: House>(
     passes: Vec<Pass<Kept, H>>,
     worked: &Worked,
 ) -> Result<Settled> {
-    let entries = settle(rt.alloc(), hall, passes)?.len() as u64;
+    let entries = count_settled(rt.alloc(), hall, passes)?;
     let settling = micros_since(rt, worked.end)?;
     Ok(Settled {
         entries,
         calls: worked.micros,
         settling,
     })
+}
+
+/// How many entries the history has, once all passes are settled.
+fn count_settled<H: House>(
+    alloc: Global,
+    hall: Hall<Kept, H>,
+    passes: Vec<Pass<Kept, H>>,
+) -> Result<u64, SettleFault> {
+    Ok(settle(alloc, hall, passes)?.len() as u64)
 }
 
 /// The calls of four threads, each of which adds its pass.
@@ -220,11 +229,7 @@ where
         blocks,
         done: AtomicUsize::new(0),
     };
-    work_all(&shift, passes.as_mut_slice());
-    if shift.done.load(Ordering::SeqCst) < THREADS {
-        return Err(AllocError);
-    }
-    Ok(())
+    work_all(&shift, passes.as_mut_slice())
 }
 
 /// A pass for each thread.
@@ -242,8 +247,11 @@ fn add_passes<C: Chronicle, H: House>(
     Ok(())
 }
 
-/// Works with each pass in a thread of its own.
-fn work_all<C, H, R>(shift: &Shift<'_, C, H, R>, passes: &mut [Pass<C, H>])
+/// Works with each pass in a thread of its own. `OutOfMemory` where a thread did not make all its calls.
+fn work_all<C, H, R>(
+    shift: &Shift<'_, C, H, R>,
+    passes: &mut [Pass<C, H>],
+) -> Result<(), OutOfMemory>
 where
     C: Chronicle + Send + Sync,
     H: House + Send + Sync,
@@ -255,6 +263,10 @@ where
         THREADS,
         &|number, pass| { work(shift, number, pass) },
     );
+    if shift.done.load(Ordering::SeqCst) < THREADS {
+        return Err(AllocError);
+    }
+    Ok(())
 }
 
 /// Makes the calls of one thread.
