@@ -138,7 +138,9 @@ impl<'a, R: Clock + Wait, N: Reach, S: Server + Drop> Puller<'a, R, N, S> {
 
     fn pull_through(&mut self, pull: MountPull<SocketLine<TcpStream>>) -> RelayEnd {
         let mut pull = pull;
-        self.pull_to_end(&mut pull)
+        let why = self.pull_to_end(&mut pull);
+        drop(pull);
+        why
     }
 
     /// Turn after turn, until the pull has ended; then the relay goes down, if it is up. Why.

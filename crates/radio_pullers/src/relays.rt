@@ -48,24 +48,6 @@ impl Keeper {
         }
     }
 
-    /// Waits for a relay that is to start; those are told that are to stop. `None` where all are to stop.
-    fn await_start<R: Clock + Wait, N: Reach, C: Chronicle, H: House>(
-        &mut self,
-        rt: &R,
-        station: &Station<'_, N, C, H>,
-    ) -> Option<Arc<RunningRelay>> {
-        'rounds: for _ in rt.forever() {
-            if station.board.is_over() {
-                return None;
-            }
-            if let Some(relay) = self.next_start(rt, station) {
-                return Some(relay);
-            }
-            let _ = sleep(rt, Duration::from_millis(ROUND_MS));
-        }
-        None
-    }
-
     /// A relay that is to start now; those are told that are to stop. `None` where none is to start, or memory is refused
     /// for it.
     fn next_start<R: Clock + Wait, N: Reach, C: Chronicle, H: House>(
@@ -186,10 +168,52 @@ where
     H: House + Send + Sync,
 {
     'rounds: for _ in rt.forever() {
-        let Some(relay) = keeper.await_start(rt, station) else {
+        if station.board.is_over() {
             return;
-        };
-        let has_begun = scope.spawn(move || pull_relay(rt, station, &relay)).is_ok();
-        keeper.note_start(has_begun);
+        }
+        make_round(scope, keeper, rt, station);
     }
+}
+
+/// Starts the relay that is to start now, or rests where none is.
+fn make_round<'s, E, R, N, C, H>(
+    scope: &Scope<'s, E>,
+    keeper: &mut Keeper,
+    rt: &'s R,
+    station: &'s Station<'s, N, C, H>,
+)
+where
+    R: Clock + Threads + Wait + Sync,
+    N: Reach + Sync,
+    C: Chronicle + Send + Sync,
+    H: House + Send + Sync,
+{
+    match keeper.next_start(rt, station) {
+        Some(relay) => keeper.note_start(begin(scope, rt, station, relay)),
+        None => rest(rt),
+    }
+}
+
+/// Pulls this relay in by a thread of the scope. Whether there is one for it.
+fn begin<'s, E, R, N, C, H>(
+    scope: &Scope<'s, E>,
+    rt: &'s R,
+    station: &'s Station<'s, N, C, H>,
+    relay: Arc<RunningRelay>,
+) -> bool
+where
+    R: Clock + Threads + Wait + Sync,
+    N: Reach + Sync,
+    C: Chronicle + Send + Sync,
+    H: House + Send + Sync,
+{
+    let thread = scope.spawn(move || pull_relay(rt, station, &relay));
+    let has_begun = thread.is_ok();
+    drop(thread);
+    has_begun
+}
+
+/// Waits until it is to be looked again which relays are wished.
+fn rest(clock: &impl Clock) {
+    sleep(clock, Duration::from_millis(ROUND_MS));
 }
