@@ -1,6 +1,6 @@
 //! A bound socket, and the service behind it.
 
-ghost use Rattle.std.specs.Prelude.{◌≡◌, ◌+◌, ◌≤◌, All};
+ghost use Rattle.std.specs.Prelude.{◌≡◌, ◌≤◌, All};
 ghost use Rattle.radio_intake.specs.Passes.{all_parts};
 
 use crate::acceptor::Acceptor;
@@ -91,7 +91,9 @@ impl Listening {
     {
         let Listening { alloc, doors } = self;
         let mut acceptor = Acceptor::new(alloc, doors, output);
-        serve_by(rt, net, alloc, hall, settings, service, &mut acceptor)
+        let fault = serve_by(rt, net, alloc, hall, settings, service, &mut acceptor);
+        drop(acceptor);
+        fault
     }
 }
 
@@ -113,15 +115,20 @@ where
     O: Write + Drop + Send,
 {
     match open_board(net, alloc, acceptor, service) {
-        Ok((board, sockets)) => {
-            let station = Station {
-                net,
-                hall,
-                settings,
-                service,
-                board: &board,
+        Ok((board, mut sockets)) => {
+            let fault = {
+                let station = Station {
+                    net,
+                    hall,
+                    settings,
+                    service,
+                    board: &board,
+                };
+                serve_at(rt, &station, &mut sockets, acceptor)
             };
-            serve_at(rt, &station, sockets, acceptor)
+            drop(sockets);
+            drop(board);
+            fault
         }
         Err(fault) => fault,
     }
@@ -159,7 +166,7 @@ struct Station<'a, N: Reach, C: Chronicle, H: House> {
 fn serve_at<R, N, C, H, O>(
     rt: &R,
     station: &Station<'_, N, C, H>,
-    mut sockets: Vec<Sockets>,
+    sockets: &mut Vec<Sockets>,
     acceptor: &mut Acceptor<O>,
 ) -> ServeFault
 where
@@ -169,7 +176,7 @@ where
     H: House + Send + Sync,
     O: Write + Drop + Send,
 {
-    let fault = serve_all(rt, station, &mut sockets, acceptor);
+    let fault = serve_all(rt, station, sockets, acceptor);
     acceptor.write_rest(rt, station.board);
     fault
 }
@@ -190,17 +197,23 @@ where
     O: Write + Drop + Send,
 {
     match Intake::new(station.board.alloc()) {
-        Ok((intake, pass)) => serve_through(rt, station, intake, pass, sockets, acceptor),
+        Ok((intake, mut pass)) => {
+            let fault = serve_through(rt, station, &intake, &mut pass, sockets, acceptor);
+            drop(pass);
+            drop(intake);
+            fault
+        }
         Err(_) => ServeFault::OutOfMemory,
     }
 }
 
-/// Serves connections through this intake, whose pass the acceptor and the workers share.
+/// Serves connections through this intake: the acceptor has a hand of it, and workers with these sockets have the rest.
+/// `OutOfMemory` where memory was refused for their seats.
 fn serve_through<R, N, C, H, O>(
     rt: &R,
     station: &Station<'_, N, C, H>,
-    intake: Intake<Coming>,
-    mut pass: IntakePass<Coming>,
+    intake: &Intake<Coming>,
+    pass: &mut IntakePass<Coming>,
     sockets: &mut Vec<Sockets>,
     acceptor: &mut Acceptor<O>,
 ) -> ServeFault
@@ -210,31 +223,28 @@ where
     C: Chronicle + Send + Sync,
     H: House + Send + Sync,
     O: Write + Drop + Send,
-    requires own { pass.intake ≡ intake }
-    requires parts { all_parts ≤ pass.parts }
+    requires own { pass.old.intake ≡ intake.now }
+    requires parts { all_parts ≤ pass.old.parts }
 {
-    let mut hand = intake.split(&mut pass);
-    let (fault, are_seated) = work_together(
-        rt, station, &intake, &mut hand, &mut pass, sockets, acceptor,
-    );
-    if are_seated {
-        fault
-    } else {
-        ServeFault::OutOfMemory
-    }
+    let mut hand = intake.split(pass);
+    let fault = match seats_of(rt, station.hall, station.board, intake, pass, sockets) {
+        Ok(mut seats) => work_together(rt, station, intake, &mut hand, &mut seats, acceptor),
+        Err(_) => ServeFault::OutOfMemory,
+    };
+    drop(hand);
+    fault
 }
 
-/// The acceptor puts connections into this intake by his hand, and workers with these sockets take them out by their pass,
-/// until all stop. His fault, and whether there was memory for the workers' seats.
+/// The acceptor puts connections into this intake by his hand, and workers at these seats take them out, until all stop. His
+/// fault.
 fn work_together<R, N, C, H, O>(
     rt: &R,
     station: &Station<'_, N, C, H>,
     intake: &Intake<Coming>,
     hand: &mut IntakePass<Coming>,
-    pass: &mut IntakePass<Coming>,
-    sockets: &mut Vec<Sockets>,
+    seats: &mut Vec<Seat<C, H, Coming, SocketPost<'_, R>>>,
     acceptor: &mut Acceptor<O>,
-) -> (ServeFault, bool)
+) -> ServeFault
 where
     R: Clock + Threads + Wait + Sync,
     N: Reach + Sync,
@@ -242,41 +252,39 @@ where
     H: House + Send + Sync,
     O: Write + Drop + Send,
     requires hand { hand.old.intake ≡ intake.now }
-    requires own { pass.old.intake ≡ intake.now }
-    requires parts { all_parts ≤ pass.old.parts + 1 }
+    requires seats { All (λ seat. seat.hand.intake ≡ intake.now) seats.old.items }
 {
-    join_mut(
+    let (fault, _) = join_mut(
         rt,
         &mut || -> ServeFault
             requires { hand.now.intake ≡ intake.now }
         { acceptor.work(rt, station.board, intake, hand) },
-        &mut || -> bool
-            requires { (pass.now.intake ≡ intake.now) × (all_parts ≤ pass.now.parts + 1) }
-        { work_beside_relays(rt, station, intake, pass, sockets) },
-    )
+        &mut ||
+            requires { All (λ seat. seat.hand.intake ≡ intake.now) seats.now.items }
+        { work_beside_relays(rt, station, intake, seats) },
+    );
+    fault
 }
 
-/// The workers with these sockets work, and relays are kept running beside them, if the settings wish some. Whether there
-/// was memory for the workers' seats.
+/// The workers at these seats work, and relays are kept running beside them, if the settings wish some.
 fn work_beside_relays<R, N, C, H>(
     rt: &R,
     station: &Station<'_, N, C, H>,
     intake: &Intake<Coming>,
-    pass: &mut IntakePass<Coming>,
-    sockets: &mut Vec<Sockets>,
-) -> bool
+    seats: &mut Vec<Seat<C, H, Coming, SocketPost<'_, R>>>,
+)
 where
     R: Clock + Threads + Wait + Sync,
     N: Reach + Sync,
     C: Chronicle + Send + Sync,
     H: House + Send + Sync,
-    requires own { pass.old.intake ≡ intake.now }
-    requires parts { all_parts ≤ pass.old.parts + 1 }
+    requires { All (λ seat. seat.hand.intake ≡ intake.now) seats.old.items }
 {
     if !has_relays(station.settings) {
-        return work_at(rt, station, intake, pass, sockets);
+        run_at(rt, station, intake, seats);
+        return;
     }
-    let (_, are_seated) = join_mut(
+    join_mut(
         rt,
         &mut || keep_relays(
             rt,
@@ -285,39 +293,10 @@ where
             station.board,
             station.settings,
         ),
-        &mut || -> bool
-            requires { (pass.now.intake ≡ intake.now) × (all_parts ≤ pass.now.parts + 1) }
-        { work_at(rt, station, intake, pass, sockets) },
+        &mut ||
+            requires { All (λ seat. seat.hand.intake ≡ intake.now) seats.now.items }
+        { run_at(rt, station, intake, seats) },
     );
-    are_seated
-}
-
-/// The workers with these sockets work, until all are to stop. Whether there was memory for their seats.
-fn work_at<R, N, C, H>(
-    rt: &R,
-    station: &Station<'_, N, C, H>,
-    intake: &Intake<Coming>,
-    pass: &mut IntakePass<Coming>,
-    sockets: &mut Vec<Sockets>,
-) -> bool
-where
-    R: Clock + Threads + Wait + Sync,
-    N: Reach + Sync,
-    C: Chronicle + Send + Sync,
-    H: House + Send + Sync,
-    requires own { pass.old.intake ≡ intake.now }
-    requires parts { all_parts ≤ pass.old.parts + 1 }
-{
-    match seats_of(rt, station.hall, station.board, intake, pass, sockets) {
-        Ok(mut seats) => {
-            run_at(rt, station, intake, seats.as_mut_slice());
-            true
-        }
-        Err(_) => {
-            station.board.stop();
-            false
-        }
-    }
 }
 
 /// Workers at these seats work, until all are to stop.
@@ -325,14 +304,14 @@ fn run_at<R, N, C, H>(
     rt: &R,
     station: &Station<'_, N, C, H>,
     intake: &Intake<Coming>,
-    seats: &mut [Seat<C, H, Coming, SocketPost<'_, R>>],
+    seats: &mut Vec<Seat<C, H, Coming, SocketPost<'_, R>>>,
 )
 where
     R: Clock + Threads + Wait + Sync,
     N: Reach + Sync,
     C: Chronicle + Send + Sync,
     H: House + Send + Sync,
-    requires { All (λ seat. seat.hand.intake ≡ intake.now) seats.old }
+    requires { All (λ seat. seat.hand.intake ≡ intake.now) seats.old.items }
 {
     let place = Workplace {
         hall: station.hall,
@@ -345,6 +324,6 @@ where
         rt,
         station.board.alloc(),
         &place,
-        seats,
+        seats.as_mut_slice(),
     );
 }
