@@ -70,7 +70,20 @@ pub enum Visit {
 }
 
 impl Visit {
-    /// Whether the passes are settled as they are to be.
+    /// Settles the passes of this hall. Whether they are settled as they are to be.
+    fn settles<H: House>(
+        self,
+        alloc: Global,
+        hall: Hall<Kept, H>,
+        passes: Vec<Pass<Kept, H>>,
+    ) -> bool {
+        let settled = settle(alloc, hall, passes);
+        let is_settled = self.is_settled(alloc, &settled);
+        drop(settled);
+        is_settled
+    }
+
+    /// Whether that is what the passes are to be settled as.
     fn is_settled(self, alloc: Global, settled: &Result<Vec<Entry>, SettleFault>) -> bool {
         match settled {
             Ok(history) => self.leaves(alloc, history.as_slice()),
@@ -114,11 +127,7 @@ fn visit_with<H: House + Send + Sync, R: Clock + Net + Threads + Wait + Sync>(
 ) -> bool {
     match visit {
         Visit::TwoCallers => are_served(rt, alloc, hall, passes),
-        Visit::LeftOut => {
-            let are_served = are_served(rt, alloc, hall, passes);
-            passes.truncate(1);
-            are_served
-        }
+        Visit::LeftOut => leaves_one_out(rt, alloc, hall, passes),
         Visit::Unused => takes_pass(rt, hall, passes),
         Visit::Titling => is_title_heard(rt, alloc, hall, passes),
         Visit::Knocking => is_lock_free(rt, alloc, hall, passes),
@@ -126,6 +135,18 @@ fn visit_with<H: House + Send + Sync, R: Clock + Net + Threads + Wait + Sync>(
         Visit::Rush(rush) => workers::are_served(rt, alloc, hall, passes, rush),
         Visit::Loopback => are_heard(rt, alloc, hall, passes),
     }
+}
+
+/// Two threads make their calls, and of their passes only the first is added. Whether the calls were made.
+fn leaves_one_out<H: House + Send + Sync, R: Threads + Wait + Sync>(
+    rt: &R,
+    alloc: Global,
+    hall: &Hall<Kept, H>,
+    passes: &mut Vec<Pass<Kept, H>>,
+) -> bool {
+    let are_served = are_served(rt, alloc, hall, passes);
+    passes.truncate(1);
+    are_served
 }
 
 /// Takes a pass, and adds it. Whether there was one, and memory for it.
@@ -140,6 +161,7 @@ pub fn takes_pass<H: House, R: Wait>(
     }
 }
 
+/// The visit at a hall of these settings. Whether it went as it is to go.
 fn goes_well<H: House + Send + Sync, R: Clock + Net + Threads + Wait + Sync>(
     rt: &R,
     alloc: Global,
@@ -153,10 +175,7 @@ fn goes_well<H: House + Send + Sync, R: Clock + Net + Threads + Wait + Sync>(
     let hall: Hall<Kept, H> = Hall::new(alloc, settings, Lists::new(alloc), blank);
     let mut passes = Vec::new(alloc);
     let went = visit_with(rt, alloc, &hall, &mut passes, visit);
-    let settled = settle(alloc, hall, passes);
-    let is_settled = visit.is_settled(alloc, &settled);
-    drop(settled);
-    went && is_settled
+    visit.settles(alloc, hall, passes) && went
 }
 
 fn went_well<R: Clock + Net + Threads + Wait + Sync>(

@@ -90,7 +90,7 @@ fn have_left(history: &[Entry], ids: &[u64]) -> bool {
     count == ids.len()
 }
 
-/// Whether a row is played by a worker whose pass is added.
+/// Whether a row is played by a worker over a hall, whose pass is added.
 pub fn is_row_played<H: House, R: Wait>(
     rt: &R,
     alloc: Global,
@@ -98,14 +98,34 @@ pub fn is_row_played<H: House, R: Wait>(
     passes: &mut Vec<Pass<Kept, H>>,
     kept: KeptRow,
 ) -> bool {
-    let Some(pass) = hall.pass(rt) else {
-        return false;
-    };
-    let caller = Refusing::new(Caller::new(rt, hall, pass), kept.row.refuses_at());
-    let mut station = Station::new(alloc, caller);
-    let is_played = kept.row.is_played(&mut station);
-    let pass = station.into_server().into_server().into_pass();
-    passes.push(pass).is_ok() && is_played
+    match hall.pass(rt) {
+        Some(pass) => is_played_by(alloc, Caller::new(rt, hall, pass), passes, kept.row),
+        None => false,
+    }
+}
+
+/// A caller of a hall who is refused memory at one call.
+type RefusedCaller<'a, R, H> = Refusing<Caller<'a, R, Kept, H>>;
+
+/// Whether a row is played by a worker who asks this caller, whose pass is added.
+fn is_played_by<H: House, R: Wait>(
+    alloc: Global,
+    caller: Caller<'_, R, Kept, H>,
+    passes: &mut Vec<Pass<Kept, H>>,
+    row: Row,
+) -> bool {
+    let mut station = Station::new(alloc, Refusing::new(caller, row.refuses_at()));
+    let is_played = row.is_played(&mut station);
+    adds_pass(station.into_server(), passes) && is_played
+}
+
+/// Adds the pass of this caller. Whether there was memory for it.
+fn adds_pass<H: House, R: Wait>(
+    caller: RefusedCaller<'_, R, H>,
+    passes: &mut Vec<Pass<Kept, H>>,
+) -> bool {
+    let pass = caller.into_server().into_pass();
+    passes.push(pass).is_ok()
 }
 
 /// Steps at a hall with these settings more.

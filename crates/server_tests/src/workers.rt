@@ -1,58 +1,24 @@
 //! Workers in threads of their own over one hall, who take lines in memory from an intake.
 
-ghost use Rattle.std.specs.Prelude.{◌≡◌, ◌-◌, ◌<◌, All, IfOk, OnOk};
+mod seats;
+
+ghost use Rattle.std.specs.Prelude.{◌≡◌, All};
 ghost use Rattle.radio_intake.specs.Passes.{all_parts};
 
 use crate::halls::{Visit, visit_hall};
 use crate::memory_line::{Manners, MemoryLine, SILENT};
 use crate::rows::{LISTENER, SOURCE, TITLED};
-use radio_addr::Peer;
+use crate::workers::seats::{MemoryPost, add_passes, seats_for};
 use radio_book::{Entry, House, Kept, Pass};
 use radio_events::{Event, Reply};
-use radio_hall::{Gate, Hall, Turn};
+use radio_hall::{Gate, Hall};
 use radio_intake::{Intake, IntakePass, ROOM};
-use radio_notes::Log;
-use radio_workers::{Call, OutOfMemory, Post, Seat, Seen, Workplace, add_seat, run_workers};
+use radio_workers::{Seat, Workplace, run_workers};
 use std::alloc::Global;
 use std::sync::Wait;
 use std::sync::atomic::{AtomicBool, AtomicU64, Ordering};
 use std::test::Fail;
 use std::thread::{Threads, yield_now};
-
-/// Where a worker's turns come from: a turn in each millisecond, and one who waits is taken before each.
-#[derive(Drop)]
-struct MemoryPost {
-    alloc: Global,
-    ms: u64,
-}
-
-impl Post<Manners, MemoryLine> for MemoryPost {
-    fn next(&mut self, _log: &Log) -> Option<Call> {
-        self.ms = self.ms.saturating_add(1);
-        Some(Call {
-            turn: Turn {
-                ms: self.ms,
-                news: true,
-            },
-            comings: 1,
-        })
-    }
-
-    fn open(&mut self, coming: Manners) -> Option<(MemoryLine, Peer)> {
-        Some((
-            MemoryLine::new(self.alloc, coming),
-            Peer::of_v4(0x7f00_0001),
-        ))
-    }
-
-    fn most_lingering(&mut self, _lingering: usize) -> usize {
-        usize::MAX
-    }
-
-    fn note(&mut self, _seen: Seen, log: &Log) {
-        drop(log.take());
-    }
-}
 
 /// How often a thread gives way to others before it gives up.
 const MOST_WAITS: u64 = 50_000_000;
@@ -176,85 +142,6 @@ fn count(history: &[Entry], wanted: Wanted) -> usize {
     count
 }
 
-/// Seats of workers over lines in memory.
-type Seats<H> = Vec<Seat<Kept, H, Manners, MemoryPost>>;
-
-/// Seats for two workers.
-fn add_two<H: House, R: Wait>(
-    rt: &R,
-    alloc: Global,
-    hall: &Hall<Kept, H>,
-    intake: &Intake<Manners>,
-    pass: &mut IntakePass<Manners>,
-    seats: &mut Seats<H>,
-) -> Result<(), OutOfMemory>
-    requires own { pass.old.intake ≡ intake.now }
-    requires parts { 2 < pass.old.parts }
-    requires seats { All (λ seat. seat.hand.intake ≡ intake.now) seats.old.items }
-    ensures own { pass.new.intake ≡ intake.now }
-    ensures parts { OnOk result (pass.new.parts ≡ pass.old.parts - 2) }
-    ensures seats { OnOk result (All (λ seat. seat.hand.intake ≡ intake.now) seats.new.items) }
-{
-    add_seat(
-        seats,
-        intake,
-        pass,
-        hall.pass(rt),
-        MemoryPost { alloc, ms: 0 },
-    )?;
-    add_seat(
-        seats,
-        intake,
-        pass,
-        hall.pass(rt),
-        MemoryPost { alloc, ms: 0 },
-    )
-}
-
-/// Seats for two workers, or for four.
-fn seats_for<H: House, R: Wait>(
-    rt: &R,
-    alloc: Global,
-    hall: &Hall<Kept, H>,
-    intake: &Intake<Manners>,
-    pass: &mut IntakePass<Manners>,
-    are_four: bool,
-) -> Result<Seats<H>, OutOfMemory>
-    requires own { pass.old.intake ≡ intake.now }
-    requires parts { pass.old.parts ≡ all_parts }
-    ensures own { pass.new.intake ≡ intake.now }
-    ensures seats { IfOk result (λ seats. All (λ seat. seat.hand.intake ≡ intake.now) seats.items) }
-{
-    let mut seats = Vec::new(alloc);
-    add_two(rt, alloc, hall, intake, pass, &mut seats)?;
-    if are_four {
-        add_two(rt, alloc, hall, intake, pass, &mut seats)?;
-    }
-    Ok(seats)
-}
-
-/// Adds the passes of these workers. Whether each has had his back.
-fn add_passes<H: House>(seats: Seats<H>, passes: &mut Vec<Pass<Kept, H>>) -> bool {
-    let mut are_added = true;
-    for seat in seats {
-        if !add_pass(seat, passes) {
-            are_added = false;
-        }
-    }
-    are_added
-}
-
-fn add_pass<H: House>(
-    seat: Seat<Kept, H, Manners, MemoryPost>,
-    passes: &mut Vec<Pass<Kept, H>>,
-) -> bool {
-    let Seat { pass, .. } = seat;
-    match pass {
-        Some(pass) => passes.push(pass).is_ok(),
-        None => false,
-    }
-}
-
 /// Whether all who come are taken and served, each worker with a pass that is added, while the first write is held.
 pub fn are_served<H: House + Send + Sync, R: Threads + Wait + Sync>(
     rt: &R,
@@ -263,16 +150,53 @@ pub fn are_served<H: House + Send + Sync, R: Threads + Wait + Sync>(
     passes: &mut Vec<Pass<Kept, H>>,
     rush: Rush,
 ) -> bool {
-    let Ok((intake, mut pass)) = Intake::new(alloc) else {
-        return false;
-    };
-    let Ok(mut seats) = seats_for(rt, alloc, hall, &intake, &mut pass, rush.are_four) else {
-        return false;
-    };
-    let is_filled = rush.fill(rt, &intake, &mut pass);
-    let has_seen_others = work(rt, alloc, hall, &intake, seats.as_mut_slice(), rush);
-    let is_empty = intake.take(rt, &mut pass).is_none();
-    add_passes(seats, passes) && is_filled && has_seen_others && is_empty
+    match Intake::new(alloc) {
+        Ok((intake, mut pass)) => is_staffed(rt, alloc, hall, &intake, &mut pass, passes, rush),
+        Err(_) => false,
+    }
+}
+
+/// Whether there are seats for the workers, who serve all that come through this intake, and whose passes are added then.
+fn is_staffed<H: House + Send + Sync, R: Threads + Wait + Sync>(
+    rt: &R,
+    alloc: Global,
+    hall: &Hall<Kept, H>,
+    intake: &Intake<Manners>,
+    pass: &mut IntakePass<Manners>,
+    passes: &mut Vec<Pass<Kept, H>>,
+    rush: Rush,
+) -> bool
+    requires own { pass.old.intake ≡ intake.now }
+    requires parts { pass.old.parts ≡ all_parts }
+{
+    match seats_for(rt, alloc, hall, intake, pass, rush.are_four) {
+        Ok(mut seats) => {
+            let workers = seats.as_mut_slice();
+            let is_emptied = is_emptied(rt, alloc, hall, intake, pass, workers, rush);
+            add_passes(seats, passes) && is_emptied
+        }
+        Err(_) => false,
+    }
+}
+
+/// All come, and the workers at these seats work. Whether there was room for all, the other writes were made while the first
+/// was held, and nobody is left in the intake.
+fn is_emptied<H: House + Send + Sync, R: Threads + Wait + Sync>(
+    rt: &R,
+    alloc: Global,
+    hall: &Hall<Kept, H>,
+    intake: &Intake<Manners>,
+    pass: &mut IntakePass<Manners>,
+    seats: &mut [Seat<Kept, H, Manners, MemoryPost>],
+    rush: Rush,
+) -> bool
+    requires own { pass.old.intake ≡ intake.now }
+    requires seats { All (λ seat. seat.hand.intake ≡ intake.now) seats.old }
+{
+    let is_filled = rush.fill(rt, intake, pass);
+    let has_seen_others = work(rt, alloc, hall, intake, seats, rush);
+    let is_empty = intake.take(rt, pass).is_none();
+    is_filled && has_seen_others && is_empty
 }
 
 /// The workers work. Whether the other writes were made while the first was held.
