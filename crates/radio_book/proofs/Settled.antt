@@ -12,7 +12,7 @@ use Rattle.std.proofs.lemmas.Result.{IfErr-weaker}
 use Rattle.std.proofs.lemmas.List.Sums.{sum_by_more, sum_by-take-le}
 use Rattle.std.proofs.lemmas.List.Concat.{flat_map-append, length-flat_map}
 use Rattle.std.proofs.Math.Path.{fun_ext}
-use Rattle.radio_book.specs.declared.entry.Entry.{Entry}
+use Rattle.radio_events.specs.declared.entry.Entry.{Entry}
 use Rattle.radio_book.specs.declared.settling.SettleFault.{SettleFault}
 use Rattle.radio_book.specs.declared.settling.SettleFault.TheVariants.{Strange, Twice, OutOfOrder, Count, OutOfMemory}
 use Rattle.radio_book.specs.Stamp.{Stamp}

@@ -9,9 +9,10 @@ use Rattle.radio_events.specs.declared.event.Event.{Event}
 use Rattle.radio_events.specs.declared.reply.Reply.{Reply}
 use Rattle.radio_house.specs.World.{World}
 use Rattle.radio_core.specs.Step.{Step, reply_to, world_after, Represents}
-use Rattle.radio_book.specs.declared.entry.Entry.{Entry}
+use Rattle.radio_events.specs.declared.entry.Entry.{Entry}
 use Rattle.radio_book.specs.Stamp.{Stamp}
-use Rattle.radio_book.specs.History.{entry, entry_of, world_of, IsLegal, IsRun, IsTold}
+use Rattle.radio_events.specs.Events.{entry}
+use Rattle.radio_book.specs.History.{entry_of, world_of, IsLegal, IsRun, IsTold}
 use Rattle.radio_book.specs.Wanted.{AreWanted}
 use Rattle.radio_book.specs.LastMounts.{WasAt}
 use Rattle.radio_house.specs.Wanted.{wanted}

@@ -1,16 +1,13 @@
 -- Histories: events with their replies, in the order in which they happened.
 use Rattle.std.specs.Prelude.{◌≡◌, ◌+◌, ◌-◌, ◌<◌, Bool, true, List, [], ◌∷◌, Some, length, map, slice_get}
-use Rattle.radio_events.specs.declared.event.Event.{Event}
-use Rattle.radio_events.specs.declared.reply.Reply.{Reply}
+use Rattle.radio_events.specs.Events.{entry}
 use Rattle.radio_house.specs.World.{World}
 use Rattle.radio_core.specs.Run.{world_after_all}
 use Rattle.radio_core.specs.Step.{reply_to, world_after, Represents}
-use Rattle.radio_book.specs.declared.entry.Entry.{Entry}
+use Rattle.radio_events.specs.declared.entry.Entry.{Entry}
 use Rattle.radio_book.specs.Stamp.{Stamp}
 
-abbrev pub entry : Event → Reply → Entry
-entry event reply = record { event = event; reply = reply }
-
+-- the receipt's event, with its reply
 abbrev pub entry_of : Stamp → Entry
 entry_of stamp = entry stamp.event stamp.reply
 

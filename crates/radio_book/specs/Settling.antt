@@ -1,7 +1,7 @@
 -- What it means that all passes of a book are settled.
 use Rattle.std.specs.Prelude.{◌≡◌, ◌≢◌, ◌⊎◌, ℕ, ◌+◌, ◌<◌, ◌≤◌, ◌==◌, List, [], ◌∷◌, All, Any, count_by, get_or, length, map, sum_by}
 use Rattle.std.specs.List.{flat_map}
-use Rattle.radio_book.specs.declared.entry.Entry.{Entry}
+use Rattle.radio_events.specs.declared.entry.Entry.{Entry}
 use Rattle.radio_book.specs.declared.settling.SettleFault.{SettleFault}
 use Rattle.radio_book.specs.declared.settling.SettleFault.TheVariants.{Strange, Twice, OutOfOrder, Count, OutOfMemory}
 use Rattle.radio_book.specs.History.{StandsIn}

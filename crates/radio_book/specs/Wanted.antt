@@ -2,7 +2,7 @@
 use Rattle.std.specs.Prelude.{◌≡◌, ℕ, List}
 use Rattle.radio_house.specs.Wanted.{wanted}
 use Rattle.radio_house.specs.World.{World}
-use Rattle.radio_book.specs.declared.entry.Entry.{Entry}
+use Rattle.radio_events.specs.declared.entry.Entry.{Entry}
 use Rattle.radio_book.specs.History.{IsRun, world_of}
 
 -- they are wanted in the state after a history that is a run from the opening state

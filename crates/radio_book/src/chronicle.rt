@@ -6,7 +6,7 @@ use std::alloc::Global;
 /// Where the entries of a history go.
 pub trait Chronicle: Drop {
     ghost use Rattle.std.specs.Prelude.{◌≡◌, ◌+◌, ◌≤◌, ◌<◌, ◌^◌, ◌∷◌, [], ◌++◌, ℕ, Bool, true, false, List, length, IsOk, OnOk};
-    ghost use Rattle.radio_book.specs.declared.entry.Entry.{Entry as EntryOf};
+    ghost use Rattle.radio_events.specs.declared.entry.Entry.{Entry as EntryOf};
 
     ghost KEEPS: { Bool };
 

@@ -4,7 +4,7 @@ ghost use Rattle.std.specs.Prelude.{List};
 ghost use Rattle.radio_settings.specs.declared.settings.Settings.{Settings};
 ghost use Rattle.radio_access.specs.Lists.{Lists};
 ghost use Rattle.radio_house.specs.World.{opening};
-ghost use Rattle.radio_book.specs.declared.entry.Entry.{Entry};
+ghost use Rattle.radio_events.specs.declared.entry.Entry.{Entry};
 ghost use Rattle.radio_book.specs.History.{IsRun};
 ghost use Rattle.radio_book.specs.Totals.{AddsUp};
 

@@ -13,7 +13,6 @@ mod accounts;
 mod book;
 mod chronicle;
 mod debt;
-mod entry;
 mod holdings;
 mod house;
 mod laws;
@@ -25,11 +24,11 @@ mod story;
 
 pub use book::{Book, PASSES};
 pub use chronicle::{Chronicle, Kept, Unkept};
-pub use entry::Entry;
 pub use house::House;
 pub use laws::histories_add_up;
 pub use newcomer::Newcomer;
 pub use pass::Pass;
+pub use radio_events::Entry;
 pub use receipt::Receipt;
 pub use settling::{SettleFault, settle};
 

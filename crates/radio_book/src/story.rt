@@ -3,8 +3,8 @@
 ghost use Rattle.std.specs.Prelude.{◌≡◌, ◌+◌, ◌≤◌, ◌<◌, ◌∷◌, [], ◌++◌, ℕ, true, false, IsOk, IfOk, OnErr};
 ghost use Rattle.radio_house.specs.World.{World};
 ghost use Rattle.radio_core.specs.Step.{Represents, reply_to, world_after};
-ghost use Rattle.radio_events.specs.Events.{TakesNoMemory};
-ghost use Rattle.radio_book.specs.History.{IsTold, entry};
+ghost use Rattle.radio_events.specs.Events.{TakesNoMemory, entry};
+ghost use Rattle.radio_book.specs.History.{IsTold};
 
 use crate::{Chronicle, Entry, House, Kept, OutOfMemory};
 use radio_core::Core;

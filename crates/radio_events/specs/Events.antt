@@ -1,8 +1,10 @@
--- Whose events are, and which take no memory.
+-- Whose events are, which take no memory, and an event with its reply.
 use Rattle.std.specs.Prelude.{ℕ, Option, Some, None}
 use Rattle.radio_events.specs.declared.event.Event.{Event}
 use Rattle.radio_events.specs.declared.event.Event.TheVariants.{Arrive, Source, Push, SourceEnd, Title, Listen, Draw, Command, Leave}
 use Rattle.radio_events.specs.declared.event.Event.TheVariants.{RelayUp, RelayDown, Clock}
+use Rattle.radio_events.specs.declared.entry.Entry.{Entry}
+use Rattle.radio_events.specs.declared.reply.Reply.{Reply}
 
 -- the client or relay of an event; one that comes, and the clock, have none
 abbrev pub client_in : Event → Option ℕ
@@ -26,3 +28,7 @@ TakesNoMemory (Leave id) = Unit {0}
 TakesNoMemory (RelayDown id) = Unit {0}
 TakesNoMemory (Clock ms) = Unit {0}
 TakesNoMemory _ = ⊥
+
+-- this event, with this reply
+abbrev pub entry : Event → Reply → Entry
+entry event reply = record { event = event; reply = reply }

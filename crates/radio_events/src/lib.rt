@@ -4,12 +4,14 @@
 //!   client asks for.
 //! - [`Reply`]: what the server replies; a [`Text`] is its answer to a command, or to one who
 //!   is shown something of the station.
+//! - [`Entry`]: one event with its reply, of which histories are made.
 //! - `again` of either is an equal copy, `same` tells whether two are equal.
 #![tactic(auto)]
 
 mod again;
 mod command;
 mod data;
+mod entry;
 mod event;
 mod reply;
 mod same;
@@ -18,6 +20,7 @@ mod same_values;
 mod text;
 
 pub use command::{Asked, Command, CommandRequest, Listing, OpenedBy};
+pub use entry::Entry;
 pub use event::{Event, ListenRequest, SourceRequest};
 pub use reply::{Reply, StreamHead};
 pub use text::Text;

@@ -1,13 +1,2 @@
 pub mod Settled
-mod Calling
-mod Standing
-mod Deeds
-mod Moments
-mod Lingerings
-mod Askings
-pub mod DeedChains
-mod Workings
-mod TurnDeeds
-mod Comings
-mod Courses
 mod PassLemmas

@@ -5,7 +5,7 @@ use Rattle.radio_events.specs.declared.event.Event.{Event}
 use Rattle.radio_events.specs.declared.reply.Reply.{Reply}
 use Rattle.radio_house.specs.World.{World}
 use Rattle.radio_book.specs.History.{IsLegal}
-use Rattle.radio_book.specs.declared.entry.Entry.{Entry}
+use Rattle.radio_events.specs.declared.entry.Entry.{Entry}
 use Rattle.radio_book.specs.Stamp.{Stamp, stamped}
 use Rattle.radio_hall.specs.Callers.{IsCalled, IsReplied, PassesGainWhatWasApplied}
 

@@ -7,10 +7,10 @@ use Rattle.radio_core.specs.Step.{reply_to}
 use Rattle.radio_house.specs.World.{World}
 use Rattle.radio_book.specs.declared.newcomer.Newcomer.{Newcomer}
 use Rattle.radio_book.specs.Newcomers.{is_here, leaver_of}
-use Rattle.radio_book.specs.declared.entry.Entry.{Entry}
+use Rattle.radio_events.specs.declared.entry.Entry.{Entry}
 use Rattle.radio_book.specs.History.{IsRun, entry_of, world_of}
 use Rattle.radio_book.specs.Stamp.{Stamp, stamped}
-use Rattle.radio_hall.specs.Turns.{Chain}
+use Rattle.radio_serving.specs.Turns.{Chain}
 
 -- the event is not the end of one who was let in by these receipts, and has not gone by them
 abbrev pub IsNotHisEnd : List Stamp → Event → Type 0

@@ -4,7 +4,7 @@ ghost use Rattle.std.specs.Prelude.{◌≡◌, ◌^◌, ◌∷◌, [], ◌++◌,
 ghost use Rattle.std.specs.List.{range_with_len};
 ghost use Rattle.radio_events.specs.Events.{TakesNoMemory};
 ghost use Rattle.radio_house.specs.World.{opening};
-ghost use Rattle.radio_book.specs.declared.entry.Entry.{Entry as EntryOf};
+ghost use Rattle.radio_events.specs.declared.entry.Entry.{Entry as EntryOf};
 ghost use Rattle.radio_book.specs.declared.newcomer.Newcomer.{Newcomer};
 ghost use Rattle.radio_book.specs.Newcomers.{is_here, leaver_of};
 ghost use Rattle.radio_book.specs.History.{IsLegal, IsRun, StandsIn};

@@ -1,14 +1,14 @@
 //! A connection's socket as a line.
 
 ghost use Rattle.std.specs.Prelude.{◌≡◌, ◌<◌, length};
-ghost use Rattle.radio_hall.specs.Lines.{HasGiven, HasTaken};
+ghost use Rattle.radio_serving.specs.Lines.{HasGiven, HasTaken};
 ghost use Rattle.radio_lines.specs.Streams.{IsGivenBy, IsTakenBy};
 
 use crate::activity::Activity;
 use crate::pace::Pace;
 use crate::readiness::Readiness;
 use crate::stream::{Shut, read_once, write_once};
-use radio_hall::{CallCount, History, Line, Received, Sent};
+use radio_serving::{CallCount, History, Line, Received, Sent};
 use std::alloc::Global;
 use std::io::{Read, Write};
 use std::sync::Arc;

@@ -10,7 +10,7 @@ ghost use Rattle.radio_masters.specs.Pulls.{IsWritten};
 use crate::OutOfMemory;
 use crate::asking::Asking;
 use crate::list_answer::{ListFault, MAX_LIST, read_list_answer};
-use radio_hall::{Line, Received};
+use radio_serving::{Line, Received};
 use radio_relay::list_request;
 use radio_settings::SlaveSetting;
 use radio_values::MountName;

@@ -8,7 +8,7 @@ ghost use Rattle.radio_masters.specs.Pulls.{Comes, GoesOnHere, IsTurn, turn_of};
 
 use crate::OutOfMemory;
 use crate::asking::Asking;
-use radio_hall::{Line, Received};
+use radio_serving::{Line, Received};
 use radio_pull::{RelayPull, ask, close, take};
 use radio_relay::request_text;
 use radio_session::{Ending, Server, State};

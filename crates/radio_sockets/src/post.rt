@@ -4,7 +4,7 @@ use crate::doors::Coming;
 use mio::net::TcpStream;
 use radio_addr::Peer;
 use radio_board::{Board, Desk, ServedTime};
-use radio_hall::Turn;
+use radio_serving::Turn;
 use radio_lines::{Heard, SocketLine, Sockets, moment};
 use radio_notes::Log;
 use radio_workers::{Call, Post, Seen};

@@ -3,7 +3,7 @@
 ghost use Rattle.radio_workers.specs.Leaving.{LeavesAll, LeavesIfHere, AsksToLeave};
 
 use radio_events::Event;
-use radio_hall::{Conn, Line, Server};
+use radio_serving::{Conn, Line, Server};
 
 /// Whoever has not left leaves, in order.
 pub(crate) fn leave_all<S: Server, L: Line>(server: &mut S, conns: &[Conn<L>])

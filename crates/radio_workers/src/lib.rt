@@ -5,7 +5,7 @@
 //! - [`Seat`]: what one worker has: a pass of the hall, one of the intake, and a post. [`add_seat`] makes one.
 //! - [`Post`]: where a worker's turns come from, and whom he tells what came of them ([`Call`], [`Seen`]).
 //!
-//! A worker's turns are those of [`radio_hall::Worker`], whose contracts hold of each worker.
+//! A worker's turns are those of [`radio_serving::Worker`], whose contracts hold of each worker.
 #![tactic(auto)]
 
 mod leaving;

@@ -1,7 +1,7 @@
 //! Where a worker's turns come from.
 
 use radio_addr::Peer;
-use radio_hall::{Line, Turn};
+use radio_serving::{Line, Turn};
 use radio_notes::Log;
 
 /// What a worker is told before a turn.

@@ -6,7 +6,7 @@ ghost use Rattle.radio_workers.specs.Hands.{HasTakenMore};
 use crate::shift::work;
 use crate::{Post, Seat, Workplace};
 use radio_book::{Chronicle, House};
-use radio_hall::{Gate, Line};
+use radio_serving::{Gate, Line};
 use std::alloc::Global;
 use std::sync::Wait;
 use std::thread::{Threads, for_each_mut};

@@ -6,9 +6,8 @@ ghost use Rattle.radio_workers.specs.Hands.{HasTakenMore};
 use crate::leaving::leave_all;
 use crate::{Call, Post, Seat, Seen, Workplace};
 use radio_book::{Chronicle, House, Pass};
-use radio_hall::{
-    Caller, Conn, Gate, Line, Server, Watched, Worker, close_first_lingering, count_lingering,
-};
+use radio_hall::Caller;
+use radio_serving::{Conn, Gate, Line, Server, Watched, Worker, close_first_lingering, count_lingering};
 use radio_intake::{Intake, IntakePass};
 use std::alloc::Global;
 use std::sync::Wait;

@@ -4,7 +4,8 @@ ghost use Rattle.std.specs.Prelude.{◌≡◌, ◌-◌, ◌<◌, All, OnOk, OnEr
 
 use crate::OutOfMemory;
 use radio_book::{Chronicle, House, Pass};
-use radio_hall::{Gate, Hall};
+use radio_hall::Hall;
+use radio_serving::Gate;
 use radio_intake::{Intake, IntakePass};
 
 /// What all workers share.

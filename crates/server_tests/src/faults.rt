@@ -4,7 +4,7 @@ use crate::memory_line::{Look, Manners, SILENT};
 use crate::rows::*;
 use crate::stations::{Meddling, NO_MEDDLING, Station, make_station};
 use crate::steps::{Step, play};
-use radio_hall::Server;
+use radio_serving::Server;
 use radio_settings::SettingsFault;
 use std::alloc::Global;
 use std::process::Abort;

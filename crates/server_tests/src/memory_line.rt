@@ -1,9 +1,9 @@
 //! A line in memory.
 
 ghost use Rattle.std.specs.Prelude.{◌≡◌, ◌<◌, [], length};
-ghost use Rattle.radio_hall.specs.Lines.{HasGiven, HasTaken};
+ghost use Rattle.radio_serving.specs.Lines.{HasGiven, HasTaken};
 
-use radio_hall::{CallCount, Line, Received, Sent};
+use radio_serving::{CallCount, Line, Received, Sent};
 use std::alloc::Global;
 
 /// What a line does.

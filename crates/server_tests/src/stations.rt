@@ -6,7 +6,7 @@ use radio_access::Lists;
 use radio_addr::Peer;
 use radio_core::{Core, OutOfMemory};
 use radio_events::{Event, Reply};
-use radio_hall::{Conn, Gate, OpenGate, Server, Turn, Worker};
+use radio_serving::{Conn, Gate, OpenGate, Server, Turn, Worker};
 use radio_settings::{Settings, SettingsFault};
 use radio_values::MountName;
 use std::alloc::{AllocError, Global};

@@ -2,7 +2,7 @@
 
 use crate::memory_line::{Look, Manners};
 use crate::stations::{NO_MEDDLING, Station, make_station};
-use radio_hall::Server;
+use radio_serving::Server;
 use radio_settings::SettingsFault;
 use std::alloc::Global;
 use std::process::Abort;

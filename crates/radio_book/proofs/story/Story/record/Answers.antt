@@ -1,7 +1,7 @@
 use Rattle.std.proofs.Common.{[], ◌∷◌, ◌++◌, sym, ap, ◌∙◌}
 use Rattle.radio_events.specs.declared.event.Event.{Event}
 use Rattle.radio_events.specs.declared.reply.Reply.{Reply}
-use Rattle.radio_book.specs.History.{entry}
+use Rattle.radio_events.specs.Events.{entry}
 use Rattle.radio_book.proofs.Telling.{alike, core_steps3, goes_on}
 use Rattle.radio_book.proofs.story.Story.record.Goals as goal
 

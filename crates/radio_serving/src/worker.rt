@@ -1,0 +1,136 @@
+//! A worker, who serves connections.
+
+ghost use Rattle.std.specs.Prelude.{◌≡◌, ◌*◌, IfOk, OnOk, OnErr};
+ghost use Rattle.radio_events.specs.declared.event.Event.TheVariants.{Arrive};
+ghost use Rattle.radio_events.specs.declared.reply.Reply.{Reply};
+ghost use Rattle.radio_serving.specs.Turns.{Ticks, IsTurn};
+ghost use Rattle.radio_serving.specs.Admission.{IsAdmission, IsTakenIn, IsTurnedOff};
+
+use crate::serving::Now;
+use crate::serving::leaving::apply_quietly;
+use crate::serving::round::serve_each;
+use crate::{Conn, Gate, Line, OutOfMemory, Server, Turn};
+use radio_addr::Peer;
+use radio_events::Event;
+use radio_notes::Log;
+use std::alloc::Global;
+use std::marker::Model;
+
+/// After how long the server is told the time again, in milliseconds.
+const TELL_AFTER_MS: u64 = 50;
+
+/// A worker: whom he asks, when he last told him the time, and for how long he keeps a line that
+/// takes nothing. In contracts he is these three.
+#[derive(Drop)]
+pub struct Worker<S: Server + Drop> {
+    alloc: Global,
+    server: S,
+    told_ms: u64,
+    patience_ms: u64,
+    log: Log,
+}
+
+impl<S: Server + Drop> Model for Worker<S> {
+    ghost use Rattle.radio_serving.specs.Workers.{WorkerOf};
+
+    ghost Value = { WorkerOf S };
+
+    ghost view = { λ w. record { server = w.server; told_ms = w.told_ms; patience_ms = w.patience_ms } };
+}
+
+impl<S: Server + Drop> Worker<S> {
+    /// A worker who asks this server, and gives up a line that takes nothing of what it is owed for
+    /// so many seconds (the settings' `source-timeout`).
+    pub fn new(alloc: Global, server: S, patience_s: u32) -> Worker<S>
+        ensures server { result.server ≡ server }
+        ensures told { result.told_ms ≡ 0 }
+        ensures patience { result.patience_ms ≡ patience_s * 1000 }
+    {
+        Worker {
+            alloc,
+            server,
+            told_ms: 0,
+            patience_ms: patience_s as u64 * 1000,
+            log: Log::new(alloc),
+        }
+    }
+
+    /// Whom he asks.
+    pub fn server(&self) -> &S
+        ensures { result.now ≡ self.now.server }
+    {
+        &self.server
+    }
+
+    /// The log of what he has served: whoever has him takes its lines, and tells it the time.
+    pub fn log(&self) -> &Log {
+        &self.log
+    }
+
+    /// Whom he asked, when he serves no more.
+    pub fn into_server(self) -> S
+        ensures { result ≡ self.server }
+    {
+        self.server
+    }
+
+    /// A connection comes from this peer. It is added to the others, if the server lets it in; if it
+    /// is denied, to be told so and closed by the next turns.
+    ///
+    /// `OutOfMemory` where memory was refused: the line is closed without a byte, the other
+    /// connections are as they were, and the server has let nobody in.
+    pub fn admit<L: Line>(
+        &mut self,
+        conns: &mut Vec<Conn<L>>,
+        line: L,
+        peer: Peer,
+        ms: u64,
+    ) -> Result<(), OutOfMemory>
+        ensures ok { OnOk result (IsAdmission S.steps peer (L.given line) (L.taken line) self.old.server conns.old.items self.new.server conns.new.items) }
+        ensures err { OnErr result (conns.new.items ≡ conns.old.items) }
+        ensures nobody { OnErr result (IsTurnedOff S.steps peer self.old.server self.new.server) }
+        ensures told { (self.new.told_ms ≡ self.old.told_ms) × (self.new.patience_ms ≡ self.old.patience_ms) }
+    {
+        conns.reserve(1)?;
+        let conn = self.arrival(line, peer, ms)?;
+        conns.push_reserved(conn);
+        Ok(())
+    }
+
+    /// The connection of a peer who has come, as the server replies to his arrival.
+    fn arrival<L: Line>(&mut self, line: L, peer: Peer, ms: u64) -> Result<Conn<L>, OutOfMemory>
+        ensures applied { IfOk result (λ conn. (reply : Reply) × S.steps self.old.server (Arrive peer) reply self.new.server
+            × IsTakenIn peer reply (L.given line) (L.taken line) conn) }
+        ensures nobody { OnErr result (IsTurnedOff S.steps peer self.old.server self.new.server) }
+        ensures told { (self.new.told_ms ≡ self.old.told_ms) × (self.new.patience_ms ≡ self.old.patience_ms) }
+    {
+        let reply = self.server.apply(Event::Arrive { peer })?;
+        Conn::admitted(self.alloc, peer, line, reply, ms)
+    }
+
+    /// Serves each connection once, at the turn's moment, and closes those that are over. The server
+    /// is told the time if a twentieth of a second has passed since it last was.
+    pub fn serve_turn<L: Line, G: Gate>(&mut self, conns: &mut Vec<Conn<L>>, gate: &G, turn: Turn)
+        ensures { IsTurn S.steps S.refuses turn.ms turn.news self.old conns.old.items self.new conns.new.items }
+    {
+        self.tick(turn.ms);
+        let now = Now {
+            ms: turn.ms,
+            patience_ms: self.patience_ms,
+            news: turn.news,
+        };
+        serve_each(&mut self.server, conns, gate, now, &self.log);
+        conns.retain(|conn| conn.stays());
+    }
+
+    fn tick(&mut self, ms: u64)
+        ensures { Ticks S.steps S.refuses ms self.old self.new }
+    {
+        if ms.saturating_sub(self.told_ms) < TELL_AFTER_MS {
+            return;
+        }
+        if apply_quietly(&mut self.server, Event::Clock { ms }) {
+            self.told_ms = ms;
+        }
+    }
+}
