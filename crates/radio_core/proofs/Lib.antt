@@ -20,6 +20,7 @@ mod SourceReplyLemmas
 pub mod ArrivalLemmas
 pub mod CalledHome
 pub mod CarriedFates
+pub mod CommandedSeats
 pub mod ClosingLemmas
 pub mod ClientSteps
 pub mod Effects

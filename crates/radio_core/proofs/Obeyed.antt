@@ -1,6 +1,5 @@
 -- how each client fares where a command is done
 use Rattle.std.proofs.Common.{◌≡◌, true, false, ℕ, ◌==◌, Option, Some, None, is_some, List, refl, ap, sym, subst, ◌∙◌, arith}
-use Rattle.std.specs.Option.{option_map_or}
 use Rattle.std.specs.Str.{bytes_eq}
 use Rattle.std.proofs.lemmas.Bool.Decides.{nat_tests}
 use Rattle.std.proofs.lemmas.Slice.Eq.{bytes_eq-Decides}
@@ -29,7 +28,7 @@ use Rattle.radio_house.specs.Relays.{relay_of}
 use Rattle.radio_access.specs.Lists.{Lists, with_user_at, without_user_at}
 use Rattle.radio_core.specs.Allowed.{IsCommanded, ChangesUsers, Adds, Deletes}
 use Rattle.radio_core.proofs.ChangedUsers.{with_lists, sound_set, users_fates}
-use Rattle.radio_house.specs.CommandFacts.{is_live, sits_at, opens}
+use Rattle.radio_house.specs.CommandFacts.{is_live, opens}
 use Rattle.radio_house.specs.Facts.{sight_of}
 use Rattle.radio_core.specs.Finishes.{Cause, SessionIsOver, IsKilled, HisSessionIsKilled}
 use Rattle.radio_core.specs.Moves.{TakesTo, ByKilling, ByMoving}
@@ -37,7 +36,8 @@ use Rattle.radio_core.specs.SeatSteps.{IsSent, HisSessionIsOver, IsCommandedTher
 use Rattle.radio_parts.specs.Sessions.{Session, session_of}
 use Rattle.radio_core.specs.Sound.{IsSound}
 use Rattle.radio_house.specs.World.{World, standing_of, standing_in}
-use Rattle.radio_core.proofs.AllowedCommands.{may_act, may_kill, may_move, needs_hold, may_go}
+use Rattle.radio_core.proofs.AllowedCommands.{may_act, may_move, needs_hold, may_go}
+use Rattle.radio_core.proofs.CommandedSeats.{found_there, killed_seat}
 use Rattle.radio_core.proofs.CarriedFates.{order_carried, carried_fate}
 use Rattle.radio_core.proofs.Fates.{IsActive, Fate, GoesOn, IsEnded, HasStopped, IsMoved, Fates, HasEnded, Nobody, sound_fates, fates_none, lost_in, active_sitter}
 use Rattle.radio_parts.proofs.SessionLookups.{found_named, is_over}
@@ -64,22 +64,6 @@ pub record IsObeyed (w : World) (event : Event) (him : ℕ) (later : World) : Ty
   pub seats : (id : ℕ) → seat_of base.seats id ≡ seat_of w.seats id
   pub sound : IsSound base
   pub fates : Fates (Cause w later event) (Takes w event) Nobody (LeavesFor w event) base later
-
--- what is looked up is there
-found_by : (found : Option Session) → is_some found ≡ true → (session : Session) × (found ≡ Some session)
-found_by None e = cc
-found_by (Some session) e = (session, refl)
-
--- whom a command finishes sits at the mount
-sits_by : (mount : List ℕ) (found : Option Seat) → option_map_or (λ (seat : Seat). bytes_eq seat.mount mount) found false ≡ true
-    → (seat : Seat) × (found ≡ Some seat) × (seat.mount ≡ mount)
-sits_by mount None e = cc
-sits_by mount (Some seat) e = (seat, refl, (bytes_eq-Decides seat.mount mount).0 e)
-
-pub killed_seat : (w : World) (event : Event) (mount : List ℕ) (listener : ℕ) → IsCommanded w event (KillClient mount listener)
-    → (seat : Seat) × (seat_of w.seats listener ≡ Some seat) × (seat.mount ≡ mount)
-killed_seat w event mount listener c =
-    sits_by mount (seat_of w.seats listener) (may_kill (is_live w.house mount) (sits_at w.seats mount listener) (needs_hold w event c))
 
 module _ (w : World) (s : IsSound w) (event : Event) where
   -- what holds of the world where the client has had his answer
@@ -223,7 +207,7 @@ module _ (w : World) (s : IsSound w) (event : Event) where
     cut_world = changed w (Obey c.asked.id (KillSource mount))
 
     pub live : (session : Session) × (session_of w.house.live mount ≡ Some session)
-    live = found_by (session_of w.house.live mount) (may_act (is_live w.house mount) (needs_hold w event c))
+    live = found_there (session_of w.house.live mount) (may_act (is_live w.house mount) (needs_hold w event c))
 
     abbrev cut : Session
     cut = live.0
@@ -306,7 +290,7 @@ module _ (w : World) (s : IsSound w) (event : Event) where
 
     pub title_live : (session : Session) × (session_of w.house.live mount ≡ Some session)
     title_live =
-        found_by (session_of w.house.live mount) (may_act (is_live w.house mount) (needs_hold w event c))
+        found_there (session_of w.house.live mount) (may_act (is_live w.house mount) (needs_hold w event c))
 
     sound_text : IsSound titled_world
     sound_text =

@@ -34,7 +34,7 @@ use Rattle.radio_core.specs.Step.{outcome, reply_to, world_after}
 use Rattle.radio_core.specs.Ways.{Way, Misplaced, IsFinished, IsDenied, IsRefused, IsAdmitted, Begins, ComesUp, Receives, SetsTitle, TakesSeat, HandsOut, Ends}
 use Rattle.radio_core.specs.Ways.{EndsAndLeaves, Leaves, GoesDown, Obeys, Shows, HasPassed, Ticks}
 use Rattle.radio_house.specs.World.{World, standing_of}
-use Rattle.radio_core.proofs.Obeyed.{killed_seat}
+use Rattle.radio_core.proofs.CommandedSeats.{killed_seat}
 use Rattle.radio_core.proofs.Ways.{way_of}
 use Rattle.radio_laws.specs.Locality.{AgreeWithin, SessionsAgree, SameSession, ListenersAgree, SameListener, IsAll, IsWithin, AsksWithin, ComesUpWithin, WalksWithin}
 use Rattle.radio_laws.specs.Locality.{AnswersAlike}
